@@ -1,0 +1,6 @@
+use Rattle.std.proofs.Common.{◌≡◌, take, map}
+use Rattle.rows.specs.Tables.{value_at}
+use Rattle.rows.proofs.tables.Table.key.Given as goal
+
+abbrev pub invariant-loop-column : goal.invariant-loop-column
+invariant-loop-column l = l.parts.items ≡ map (value_at l.row) (take l.column-index l.column-items)

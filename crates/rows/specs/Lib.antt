@@ -1,0 +1,11 @@
+pub mod Order
+pub mod OrderLaws
+pub mod Log
+pub mod Tables
+pub mod Fits
+pub mod Faults
+pub mod Versions
+pub mod Writes
+pub mod Commits
+pub mod Memory
+pub mod Laws

@@ -1,0 +1,23 @@
+-- Tables by their numbers, and the values of their columns by theirs: both are numbered from 1.
+use Rattle.std.specs.Prelude.{ℕ, ◌-◌, ◌==◌, List, Bool, Option, None, if◌then◌else◌}
+use Rattle.std.specs.List.{slice_get, list_any}
+use Rattle.std.specs.Option.{unwrap_or}
+use Rattle.rows.specs.declared.values.Value.{Value}
+use Rattle.rows.specs.declared.values.Value.TheVariants.{Null}
+use Rattle.rows.specs.declared.tables.Column.{Column}
+use Rattle.rows.specs.declared.tables.Table.{Table}
+use Rattle.rows.specs.declared.tables.Schema.{Schema}
+
+abbrev pub table_at : Schema → ℕ → Option Table
+table_at schema number = if number == 0 then None else slice_get schema.tables (number - 1)
+
+abbrev pub column_at : Table → ℕ → Option Column
+column_at table number = if number == 0 then None else slice_get table.columns (number - 1)
+
+-- the column is one of the key's
+abbrev pub is_key_column : Table → ℕ → Bool
+is_key_column table number = list_any (λ k. k == number) table.key
+
+-- a row's value of a column, NULL past its end
+abbrev pub value_at : List Value → ℕ → Value
+value_at row number = unwrap_or (slice_get row (number - 1)) Null

@@ -1,0 +1,21 @@
+//! Values, rows, keys, tables, refusals, and the words that speak of what was committed.
+#![tactic(auto)]
+
+mod fits;
+mod keys;
+mod laws;
+mod queries;
+mod refusals;
+mod sequences;
+mod tables;
+mod texts;
+mod values;
+
+pub use keys::{Instant, Key, LAST, Net, Point, Transaction};
+pub use laws::{as_of_shows_the_state, empty_net_leaves_the_log, states_are_versions};
+pub use queries::{Comparison, Form, Keys, Operator, Rows, Set, Sets, Shown, ShownRows};
+pub use refusals::{Mem, Refusal};
+pub use sequences::Sequence;
+pub use tables::{Column, ColumnType, Schema, Table};
+pub use texts::Chars;
+pub use values::{Row, Value, Values};
