@@ -33,6 +33,7 @@ impl Chars {
         self.text.as_str()
     }
 }
+
 impl Clone for Chars {
     ghost use Rattle.std.specs.Prelude.{◌≡◌};
 
