@@ -2,6 +2,7 @@ pub mod Order
 pub mod OrderLaws
 pub mod Log
 pub mod Tables
+pub mod Names
 pub mod Fits
 pub mod Faults
 pub mod Versions

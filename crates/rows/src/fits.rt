@@ -4,7 +4,7 @@ ghost use Rattle.rows.specs.Tables.{column_at, is_key_column};
 ghost use Rattle.rows.specs.Fits.{is_line_break, continues, character_count, text_limit, fits_text, fits_type, fits_value, row_fault, first_fault, rows_fault, key_fault, part_fault, parts_fault, can_compare, comparison_fault, comparisons_fault, set_fault, sets_fault};
 ghost use Rattle.rows.specs.Faults.{no_fault};
 
-use crate::queries::{Comparison, Set};
+use crate::queries::{ColumnNumber, Comparison, Set};
 use crate::refusals::Refusal;
 use crate::tables::{Column, ColumnType, Table};
 use crate::values::{Row, Value};
@@ -89,24 +89,21 @@ fn no_fault(fault: Option<usize>) -> Result<(), Refusal>
 }
 
 impl Table {
-    /// The user column with a number, from 1.
-    pub fn column_at(&self, number: u8) -> Option<&Column>
+    /// A user column.
+    pub fn column_at(&self, number: ColumnNumber) -> Option<&Column>
         ensures { option_copied result ≡ column_at self.now number }
     {
         if number == 0 {
             return None;
         }
-        self.columns.items().get(number as usize - 1)
+        self.columns.items().get(number - 1)
     }
 
-    /// Whether the column with this number, from 1, is one of the key's.
-    pub fn is_key_column(&self, number: usize) -> bool
+    /// Whether a column is one of the key's.
+    pub fn is_key_column(&self, number: ColumnNumber) -> bool
         ensures { result ≡ is_key_column self.now number }
     {
-        self.key
-            .items()
-            .iter()
-            .any(|column| *column as usize == number)
+        self.key.items().iter().any(|column| *column == number)
     }
 
     /// Refuses a row that does not fit by the number of its first column that does not, or by 0 for its width, which comes first.
@@ -183,7 +180,7 @@ impl Table {
         None
     }
 
-    fn parts_fault(&self, columns: &[u8], parts: &[Value]) -> Option<usize>
+    fn parts_fault(&self, columns: &[ColumnNumber], parts: &[Value]) -> Option<usize>
         requires { length columns.now ≡ length parts.now }
         ensures { result ≡ parts_fault self.now columns.now parts.now }
     {
@@ -195,7 +192,7 @@ impl Table {
         None
     }
 
-    fn part_fault(&self, number: u8, part: &Value) -> Option<usize>
+    fn part_fault(&self, number: ColumnNumber, part: &Value) -> Option<usize>
         ensures { result ≡ part_fault self.now number part.now }
     {
         match self.column_at(number) {
@@ -204,7 +201,7 @@ impl Table {
                 if fits_value(true, column, part) {
                     None
                 } else {
-                    Some(number as usize)
+                    Some(number)
                 }
             }
         }
@@ -213,8 +210,8 @@ impl Table {
     fn comparison_fault(&self, comparison: &Comparison) -> Option<usize>
         ensures { result ≡ comparison_fault self.now comparison.now }
     {
-        let number = comparison.column as usize;
-        match self.column_at(comparison.column) {
+        let number = comparison.column;
+        match self.column_at(number) {
             None => Some(0),
             Some(column) => {
                 if self.is_key_column(number) && can_compare(column.of, &comparison.value) {
@@ -229,11 +226,11 @@ impl Table {
     fn set_fault(&self, earlier: &[Set], set: &Set) -> Option<usize>
         ensures { result ≡ set_fault self.now earlier.now set.now }
     {
-        let number = set.column as usize;
-        let Some(column) = self.column_at(set.column) else {
+        let number = set.column;
+        let Some(column) = self.column_at(number) else {
             return Some(0);
         };
-        if sets_column(earlier, set.column) {
+        if sets_column(earlier, number) {
             Some(0)
         } else if self.is_key_column(number) || !fits_value(false, column, &set.value) {
             Some(number)
@@ -244,7 +241,7 @@ impl Table {
 }
 
 /// Whether an entry sets the column.
-fn sets_column(sets: &[Set], column: u8) -> bool
+fn sets_column(sets: &[Set], column: ColumnNumber) -> bool
     ensures { result ≡ list_any (λ s. s.column == column) sets.now }
 {
     sets.iter().any(|set| set.column == column)

@@ -13,9 +13,11 @@ mod values;
 
 pub use keys::{Instant, Key, LAST, Net, Point, Transaction};
 pub use laws::{as_of_shows_the_state, empty_net_leaves_the_log, states_are_versions};
-pub use queries::{Comparison, Form, Keys, Operator, Rows, Set, Sets, Shown, ShownRows};
+pub use queries::{
+    ColumnNumber, Comparison, Form, Keys, Operator, Rows, Set, Sets, Shown, ShownRows,
+};
 pub use refusals::{Mem, Refusal};
 pub use sequences::Sequence;
-pub use tables::{Column, ColumnType, Schema, Table};
+pub use tables::{Column, ColumnType, Schema, Table, same_name};
 pub use texts::Chars;
 pub use values::{Row, Value, Values};

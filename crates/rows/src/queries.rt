@@ -25,10 +25,13 @@ pub enum Operator {
     AtLeast,
 }
 
-/// A column's number, from 1, compared with a value.
+/// A user column's number, from 1. A name that is no column of its table is 0.
+pub type ColumnNumber = usize;
+
+/// A column compared with a value.
 #[derive(Debug, Drop)]
 pub struct Comparison {
-    pub column: u8,
+    pub column: ColumnNumber,
     pub operator: Operator,
     pub value: Value,
 }
@@ -40,10 +43,10 @@ pub struct Keys {
     pub comparisons: Sequence<Comparison>,
 }
 
-/// A column's number, from 1, and its new value.
+/// A column and its new value.
 #[derive(Debug, Drop)]
 pub struct Set {
-    pub column: u8,
+    pub column: ColumnNumber,
     pub value: Value,
 }
 

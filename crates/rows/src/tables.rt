@@ -1,8 +1,10 @@
 ghost use Rattle.std.specs.Prelude.{◌≡◌, IfOk, option_copied};
 ghost use Rattle.rows.specs.Tables.{table_at, value_at};
+ghost use Rattle.rows.specs.Names.{same_name, table_number, column_number};
 ghost use Rattle.rows.specs.Writes.{key_of};
 
 use crate::keys::Key;
+use crate::queries::ColumnNumber;
 use crate::refusals::Mem;
 use crate::sequences::Sequence;
 use crate::texts::Chars;
@@ -37,8 +39,8 @@ pub struct Table {
     pub number: u8,
     pub name: Chars,
     pub columns: Sequence<Column>,
-    /// The numbers of the key columns, in the key's order.
-    pub key: Sequence<u8>,
+    /// The key columns, in the key's order.
+    pub key: Sequence<ColumnNumber>,
     /// The name of the ROW START column.
     pub row_start: Chars,
     /// The name of the ROW END column.
@@ -52,6 +54,18 @@ pub struct Schema {
 }
 
 impl Schema {
+    /// The number of the table with a name, in any case.
+    pub fn table(&self, name: &[u8]) -> Option<u8>
+        ensures { result ≡ table_number self.now name.now }
+    {
+        for table in self.tables.items() {
+            if same_name(table.name.text().as_bytes(), name) {
+                return Some(table.number);
+            }
+        }
+        None
+    }
+
     /// The table with a number, from 1.
     pub fn table_at(&self, number: u8) -> Option<&Table>
         ensures { option_copied result ≡ table_at self.now number }
@@ -64,6 +78,18 @@ impl Schema {
 }
 
 impl Table {
+    /// The number of the user column with a name, in any case.
+    pub fn column(&self, name: &[u8]) -> Option<ColumnNumber>
+        ensures { result ≡ column_number self.now name.now }
+    {
+        for (i, column) in self.columns.items().iter().enumerate() {
+            if same_name(column.name.text().as_bytes(), name) {
+                return Some(i + 1);
+            }
+        }
+        None
+    }
+
     /// The values of a row's key columns: the key of a row that fits the table.
     pub fn key(&self, alloc: Global, row: &Row) -> Mem<Key>
         ensures { IfOk result (λ k. k ≡ key_of self.now row.now) }
@@ -79,12 +105,27 @@ impl Table {
     }
 }
 
-/// The value of a column, by its number from 1; NULL past the end.
-fn value_at(values: &[Value], column: u8) -> Result<Value, AllocError>
+/// The value of a column; NULL past the end.
+fn value_at(values: &[Value], column: ColumnNumber) -> Result<Value, AllocError>
     ensures { IfOk result (λ v. v ≡ value_at values.now column) }
 {
-    match values.get((column as usize).saturating_sub(1)) {
+    match values.get(column.saturating_sub(1)) {
         Some(value) => value.clone(),
         None => Ok(Value::Null),
     }
+}
+
+/// Whether two names are the same but for the case of their letters.
+pub fn same_name(name: &[u8], other: &[u8]) -> bool
+    ensures { result ≡ same_name name.now other.now }
+{
+    if name.len() != other.len() {
+        return false;
+    }
+    for (i, letter) in name.iter().enumerate() {
+        if !letter.eq_ignore_ascii_case(&other[i]) {
+            return false;
+        }
+    }
+    true
 }
