@@ -5,5 +5,5 @@ mod laws;
 mod misfits;
 mod steps;
 
-pub use laws::opens_at_its_begin;
+pub use laws::{log_only_grows, opens_at_its_begin, past_stays, worked_examples_hold};
 pub use steps::{Line, Listing, Reply, Step};
