@@ -1,2 +1,4 @@
 pub mod Opens
 pub mod Growth
+pub mod Fronts
+pub mod Quotes

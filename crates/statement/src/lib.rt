@@ -3,7 +3,11 @@
 
 mod laws;
 mod misfits;
+mod print;
+mod puts;
 mod steps;
 
 pub use laws::{log_only_grows, opens_at_its_begin, past_stays, worked_examples_hold};
+pub use print::{print_refusal, print_reply};
+pub use puts::{WriteFault, put_all};
 pub use steps::{Line, Listing, Reply, Step};
