@@ -2,3 +2,4 @@ pub mod Opens
 pub mod Growth
 pub mod Fronts
 pub mod Quotes
+pub mod Feeding
