@@ -9,4 +9,6 @@ pub mod Versions
 pub mod Writes
 pub mod Commits
 pub mod Memory
+pub mod KeyEncoding
+pub mod KeyEncodingLaws
 pub mod Laws

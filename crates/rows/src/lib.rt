@@ -2,6 +2,10 @@
 #![tactic(auto)]
 
 mod fits;
+mod key_encoding;
+mod key_laws;
+#[cfg(test)]
+mod key_tests;
 mod keys;
 mod laws;
 mod queries;
@@ -11,6 +15,8 @@ mod tables;
 mod texts;
 mod values;
 
+pub use key_encoding::{KeyBytes, key_bytes};
+pub use key_laws::{bytes_stand_for_keys, fitting_keys_have_bytes};
 pub use keys::{Instant, Key, LAST, Net, Point, Transaction};
 pub use laws::{as_of_shows_the_state, empty_net_leaves_the_log, states_are_versions};
 pub use queries::{
