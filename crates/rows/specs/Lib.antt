@@ -12,3 +12,4 @@ pub mod Memory
 pub mod KeyEncoding
 pub mod KeyEncodingLaws
 pub mod Laws
+pub mod Sample

@@ -10,6 +10,7 @@ mod keys;
 mod laws;
 mod queries;
 mod refusals;
+mod samples;
 mod sequences;
 mod tables;
 mod texts;

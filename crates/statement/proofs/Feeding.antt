@@ -45,9 +45,10 @@ module _ (schema : Schema) (read : Reading) where
     marks = m ∷ [];
     out = f.out;
     wrote = f.wrote;
-    front = λ more rest. subst (λ c. (left : List ℕ) × (transcript schema read (m ∷ more) p line (c ∷ rest) ≡ f.out ++ left)) (sym is_end)
-        (f.left ++ transcript schema read more (line_leaves schema read m p (ended line)) (Some []) rest,
-        ap (λ l. l ++ transcript schema read more (line_leaves schema read m p (ended line)) (Some []) rest) f.front ∙ append_assoc f.out f.left _);
+    front = λ more rest. subst (λ c. (left : List ℕ) × (transcript schema read (m ∷ more) p line (c ∷ rest) ≡ f.out ++ left)) (sym is_end) (
+      f.left ++ transcript schema read more (line_leaves schema read m p (ended line)) (Some []) rest,
+      ap (λ l. l ++ transcript schema read more (line_leaves schema read m p (ended line)) (Some []) rest) f.front ∙ append_assoc f.out f.left _,
+    );
   }
 
   pub feeds_byte : (a : Option (List ℕ)) (p : Progress) (byte : ℕ) (line line' : Partial) → line' ≡ add line byte → byte ≢ 10 → Feeds schema read a a p line p line' (byte ∷ [])

@@ -1,14 +1,13 @@
 -- Worked examples, each a list of steps with its replies.
 use Rattle.std.specs.Prelude.{◌≡◌, ℕ, List, [], ◌∷◌, ◌++◌, Option, Some, None, true, false, codes, pos}
 use Rattle.rows.specs.declared.values.Value.TheVariants.{Int, Text}
-use Rattle.rows.specs.declared.tables.ColumnType.TheVariants.{Int as IsInt, Text as IsText}
-use Rattle.rows.specs.declared.tables.Schema.{Schema}
 use Rattle.rows.specs.declared.queries.Form.TheVariants.{Plain, AsOf, FromTo, Between}
 use Rattle.rows.specs.declared.queries.Operator.TheVariants.{Equal}
 use Rattle.rows.specs.declared.queries.Keys.{Keys}
 use Rattle.rows.specs.declared.queries.Set.{Set}
 use Rattle.rows.specs.declared.queries.Shown.{Shown}
 use Rattle.rows.specs.declared.refusals.Refusal.TheVariants.{NoTable, BadRow, NoTransaction, InTransaction, DuplicateKey, Conflict, ClockEnd}
+use Rattle.rows.specs.Sample.{sample}
 use Rattle.rows.specs.Log.{Row}
 use Rattle.rows.specs.Commits.{last_instant}
 use Rattle.rows.specs.declared.keys.Key.{Key}
@@ -18,18 +17,6 @@ use Rattle.statement.specs.declared.steps.Listing.TheVariants.{Rows, Periods}
 use Rattle.statement.specs.declared.steps.Reply.{Reply}
 use Rattle.statement.specs.declared.steps.Reply.TheVariants.{Begun, Inserted, Updated, Deleted, Shown as Shows, Committed, RolledBack, Refused}
 use Rattle.statement.specs.History.{replies}
-
-abbrev pub sample : Schema
-sample = record {
-  tables = record {
-    number = 1;
-    name = codes "emp";
-    columns = record { name = codes "no"; of = IsInt; not_null = false } ∷ record { name = codes "name"; of = IsText; not_null = false } ∷ [];
-    key = 1 ∷ [];
-    row_start = codes "sys_start";
-    row_end = codes "sys_end";
-  } ∷ [];
-}
 
 abbrev pub emp : ℕ → List ℕ → Row
 emp n name = Int (pos n) ∷ Text name ∷ []
