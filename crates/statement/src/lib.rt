@@ -2,8 +2,13 @@
 #![tactic(auto)]
 
 mod laws;
+mod lists;
+mod literals;
 mod misfits;
 mod steps;
+mod tokens;
+mod wheres;
+mod words;
 
 pub use laws::opens_at_its_begin;
 pub use steps::{Line, Listing, Reply, Step};
