@@ -4,7 +4,9 @@
 mod laws;
 mod lists;
 mod literals;
+mod meanings;
 mod misfits;
+mod statements;
 mod steps;
 mod tokens;
 mod wheres;
