@@ -1,5 +1,5 @@
 -- Digits and the numbers that they write.
-use Rattle.std.proofs.Common.{◌≡◌, ℕ, ◌≤◌, ◌<◌, ◌*◌, ◌+◌, Bool, true, false, List, [], ◌∷◌, take, drop, length, get_or, arith, refl, subst, ap, sym, ◌∙◌, suc, cond, None, ◌-◌}
+use Rattle.std.proofs.Common.{◌≡◌, ℕ, ◌≤◌, ◌<◌, ◌*◌, ◌+◌, Bool, true, false, List, [], ◌∷◌, take, drop, length, get_or, arith, refl, subst, ap, suc, cond, ◌-◌}
 use Rattle.std.specs.List.{prefix_len}
 use Rattle.std.specs.Char.{is_ascii_digit, digit_value}
 use Rattle.std.specs.Str.Parse.{AllDigits, digits_value_after, digits_value}

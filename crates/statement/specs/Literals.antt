@@ -1,5 +1,5 @@
 -- Numbers, instants, texts, and the literals of rows and comparisons.
-use Rattle.std.specs.Prelude.{ℕ, List, [], ◌∷◌, ◌++◌, ◌==◌, ◌-◌, ◌^◌, ◌||◌, nat_lt, Bool, true, false, Option, Some, None, Result, Ok, Err, ℤ, pos, neg_ℤ, take, drop, codes, if◌then◌else◌}
+use Rattle.std.specs.Prelude.{ℕ, List, [], ◌∷◌, ◌++◌, ◌==◌, ◌-◌, ◌^◌, ◌||◌, nat_lt, Bool, true, false, Option, Some, None, Ok, Err, ℤ, pos, neg_ℤ, take, drop, codes, if◌then◌else◌}
 use Rattle.std.specs.List.{prefix_len}
 use Rattle.std.specs.Option.{option_map}
 use Rattle.std.specs.Char.{is_ascii_digit}

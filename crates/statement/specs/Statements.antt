@@ -1,11 +1,11 @@
 -- Statements as they are written: names by their numbers, and rows in the order in which their values stand.
-use Rattle.std.specs.Prelude.{ℕ, List, Option, Some, None, Result, Ok, Err, codes}
+use Rattle.std.specs.Prelude.{ℕ, List, Option, Some, None, Ok, Err, codes}
 use Rattle.rows.specs.declared.tables.Schema.{Schema}
 use Rattle.rows.specs.declared.queries.Form.{Form}
 use Rattle.rows.specs.declared.queries.Form.TheVariants.{Plain, AsOf}
 use Rattle.statement.specs.declared.statements.Statement.{Statement}
 use Rattle.statement.specs.declared.statements.Statement.TheVariants.{Begin, Insert, Update, Delete, Select, Commit, Rollback}
-use Rattle.statement.specs.Tokens.{Read, ◌>>=◌, next, symbol_at}
+use Rattle.statement.specs.Tokens.{Read, ◌>>=◌, symbol_at}
 use Rattle.statement.specs.Words.{word_at, after_word}
 use Rattle.statement.specs.Literals.{digits_at, rows_at}
 use Rattle.statement.specs.Wheres.{table_name_at, columns_at, sets_at, keys_at}

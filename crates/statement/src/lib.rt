@@ -2,6 +2,7 @@
 #![tactic(auto)]
 
 mod laws;
+mod lines;
 mod lists;
 mod literals;
 mod meanings;
@@ -13,4 +14,5 @@ mod wheres;
 mod words;
 
 pub use laws::opens_at_its_begin;
+pub use lines::read_line;
 pub use steps::{Line, Listing, Reply, Step};

@@ -1,6 +1,6 @@
-use Rattle.std.proofs.Common.{◌≡◌, ℕ, ◌+◌, List, [], ◌∷◌, ◌++◌, drop, ap, sym, ◌∙◌, Ok, Err, refl}
+use Rattle.std.proofs.Common.{◌≡◌, ◌+◌, drop, ap, sym, ◌∙◌, Ok}
 use Rattle.std.proofs.lemmas.Result.{err_from_is_err_and}
-use Rattle.statement.specs.Tokens.{Read, Makes, Stops, more_at, list_at}
+use Rattle.statement.specs.Tokens.{more_at, list_at}
 use Rattle.statement.proofs.Turns.{stops_alike, more_next, more_stops, more_ends, more_none}
 use Rattle.statement.proofs.lists.list_at.Goals as goal
 use Rattle.statement.proofs.lists.list_at.Goals.{else-loop-turn-test, then-loop-turn-test+in_default}

@@ -1,7 +1,5 @@
-use Rattle.std.proofs.Common.{◌≡◌, ℕ, ◌≤◌, ◌^◌, Some, pos, neg_ℤ, ◌-ℤ◌, ap, sym, ◌∙◌, arith, w64}
-use Rattle.std.proofs.lemmas.Int.{ints, to_z-of_z}
-use Rattle.std.specs.Option.{option_map}
-use Rattle.statement.specs.Literals.{below_nought}
+use Rattle.std.proofs.Common.{◌≡◌, ℕ, ◌≤◌, ◌^◌, pos, neg_ℤ, ◌-ℤ◌, arith, w64}
+use Rattle.std.proofs.lemmas.Int.{ints}
 use Rattle.statement.proofs.literals.below_nought.Goals as goal
 use mir.Syntax.{w128}
 use mir.Val.{to_z, of_z}

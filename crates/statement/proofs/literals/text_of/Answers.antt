@@ -1,4 +1,4 @@
-use Rattle.std.proofs.Common.{◌≡◌, ℕ, List, Bool, true, false, Some, None, ap, sym, ◌∙◌, subst, refl, IsOk, Result, if◌then◌else◌}
+use Rattle.std.proofs.Common.{◌≡◌, ℕ, List, Bool, true, false, Some, None, ap, sym, subst, refl, if◌then◌else◌}
 use Rattle.std.specs.Prelude.{String, Option}
 use Rattle.std.specs.String.{string_bytes}
 use Rattle.std.proofs.lemmas.Bool.{false≢true}
