@@ -3,3 +3,5 @@ pub mod Growth
 pub mod Fronts
 pub mod Quotes
 pub mod Feeding
+pub mod Digits
+pub mod Turns

@@ -1,5 +1,5 @@
 -- What is written for a text of lines.
-use Rattle.std.specs.Prelude.{◌≡◌, ℕ, List, [], ◌∷◌, ◌++◌, ◌-◌, ◌==◌, Bool, true, false, Option, Some, None, Result, Ok, Err, if◌then◌else◌, length, nat_lt, slice_index, take, codes}
+use Rattle.std.specs.Prelude.{◌≡◌, ℕ, List, [], ◌∷◌, ◌++◌, ◌==◌, Bool, true, false, Option, Some, None, Result, Ok, Err, if◌then◌else◌, length, nat_lt, codes}
 use Rattle.std.specs.Io.KnownBytes.{Appends, Consumes}
 use Rattle.rows.specs.declared.tables.Schema.{Schema}
 use Rattle.rows.specs.declared.refusals.Refusal.{Refusal}
@@ -18,10 +18,6 @@ abbrev pub add : Partial → ℕ → Partial
 add None byte = None
 add (Some bytes) byte = if nat_lt (length bytes) 8192 then Some (bytes ++ byte ∷ []) else None
 
--- a carriage return right before the line feed is no part of the line
-abbrev pub without_return : List ℕ → List ℕ
-without_return bytes = if slice_index bytes (length bytes - 1) == 13 then take (length bytes - 1) bytes else bytes
-
 -- what lines leave: the steps that were answered, the newest first, and the reading of the last CLOCK line
 pub record Progress : Type 0 where
   pub history : History
@@ -38,10 +34,10 @@ abbrev pub read_at : Reading → ℕ → Partial → Result Line Refusal
 read_at read reading None = Err LineTooLong
 read_at read reading (Some bytes) = read reading bytes
 
--- at a line feed
+-- a line with its line feed
 abbrev pub ended : Partial → Partial
 ended None = None
-ended (Some bytes) = Some (without_return bytes)
+ended (Some bytes) = Some (bytes ++ 10 ∷ [])
 
 module _ (schema : Schema) where
   -- the reply to what was read: a blank line and a comment have none

@@ -2,12 +2,21 @@
 #![tactic(auto)]
 
 mod laws;
+mod lines;
+mod lists;
+mod literals;
+mod meanings;
 mod misfits;
 mod print;
 mod puts;
+mod statements;
 mod steps;
+mod tokens;
+mod wheres;
+mod words;
 
 pub use laws::{log_only_grows, opens_at_its_begin, past_stays, worked_examples_hold};
+pub use lines::read_line;
 pub use print::{print_refusal, print_reply};
 pub use puts::{WriteFault, put_all};
 pub use steps::{Line, Listing, Reply, Step};

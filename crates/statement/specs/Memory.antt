@@ -1,0 +1,9 @@
+-- Want of memory.
+use Rattle.std.specs.Prelude.{◌≡◌, Result, Err}
+use Rattle.rows.specs.declared.refusals.Refusal.{Refusal}
+use Rattle.rows.specs.declared.refusals.Refusal.TheVariants.{Memory}
+
+-- the answer, unless memory ran out
+abbrev pub UnlessMemory : {A : Type 0} → Result A Refusal → Result A Refusal → Type 0
+UnlessMemory (Err Memory) answer = Unit {0}
+UnlessMemory result answer = answer ≡ result

@@ -1,0 +1,150 @@
+ghost use Rattle.std.specs.Prelude.{◌≡◌, ◌≤◌, length};
+ghost use Rattle.std.specs.List.{list_any};
+ghost use Rattle.rows.specs.Names.{same_name};
+ghost use Rattle.statement.specs.Tokens.{Leaves};
+ghost use Rattle.statement.specs.Words.{is_name_byte, word_length, word_at, after_word, is_reserved, is_name, name_at, GivesName};
+
+use crate::tokens::{After, Read, next};
+use rows::same_name;
+
+/// The words that no name is.
+static RESERVED: [&str; 56] = [
+    "ADD",
+    "ALTER",
+    "ALWAYS",
+    "AND",
+    "AS",
+    "AT",
+    "BEGIN",
+    "BETWEEN",
+    "BIGINT",
+    "BOOLEAN",
+    "CLOCK",
+    "COLUMN",
+    "COMMIT",
+    "CREATE",
+    "DELETE",
+    "END",
+    "FALSE",
+    "FOR",
+    "FROM",
+    "GENERATED",
+    "INSERT",
+    "INT",
+    "INTEGER",
+    "INTO",
+    "KEY",
+    "MIGRATE",
+    "NOT",
+    "NULL",
+    "OF",
+    "OVERLAPS",
+    "PERIOD",
+    "PORTION",
+    "PRIMARY",
+    "ROLLBACK",
+    "ROW",
+    "SELECT",
+    "SET",
+    "SPLIT",
+    "START",
+    "SYSTEM",
+    "SYSTEM_TIME",
+    "TABLE",
+    "TEXT",
+    "TIME",
+    "TIMESTAMP",
+    "TO",
+    "TRANSACTION",
+    "TRUE",
+    "UPDATE",
+    "VALUES",
+    "VARCHAR",
+    "VERSIONING",
+    "WHERE",
+    "WITH",
+    "WITHOUT",
+    "WORK",
+];
+
+/// The bytes that a name may have.
+const NAME: usize = 64;
+
+fn is_name_byte(byte: u8) -> bool
+    ensures { result ≡ is_name_byte byte }
+{
+    byte.is_ascii_alphanumeric() || byte == b'_'
+}
+
+/// The number of bytes that a word or a name at the front has.
+fn word_length(bytes: &[u8]) -> usize
+    ensures length { result ≡ word_length bytes.now }
+    ensures within { result ≤ length bytes.now }
+{
+    for (i, byte) in bytes.iter().enumerate() {
+        if !is_name_byte(*byte) {
+            return i;
+        }
+    }
+    bytes.len()
+}
+
+/// The bytes after a word, which is read in any case.
+#[tactic(auto, unfolding(crate::specs::Words::word_at))]
+pub fn word_at<'a>(word: &[u8], bytes: &'a [u8]) -> After<'a>
+    ensures { Leaves result (word_at word.now bytes.now) }
+{
+    let at = next(bytes);
+    let (found, rest) = at.split_at(word_length(at));
+    if same_name(word, found) {
+        Ok(rest)
+    } else {
+        Err(at)
+    }
+}
+
+/// The bytes after a word that may stand there.
+pub fn after_word<'a>(word: &[u8], bytes: &'a [u8]) -> &'a [u8]
+    ensures { result.now ≡ after_word word.now bytes.now }
+{
+    match word_at(word, bytes) {
+        Ok(rest) => rest,
+        Err(_) => bytes,
+    }
+}
+
+#[tactic(auto, unfolding(crate::specs::Words::is_reserved))]
+fn is_reserved(name: &[u8]) -> bool
+    ensures { result ≡ is_reserved name.now }
+{
+    is_one_of(&RESERVED, name)
+}
+
+fn is_one_of(words: &[&str], name: &[u8]) -> bool
+    ensures { result ≡ list_any (λ word. same_name word.now name.now) words.now }
+{
+    words.iter().any(|word| same_name(word.as_bytes(), name))
+}
+
+#[tactic(auto, unfolding(crate::specs::Words::is_name))]
+fn is_name(name: &[u8]) -> bool
+    ensures { result ≡ is_name name.now }
+{
+    match name {
+        [first, ..] => !first.is_ascii_digit() && name.len() <= NAME && !is_reserved(name),
+        [] => false,
+    }
+}
+
+#[tactic(auto, unfolding(crate::specs::Words::name_at))]
+pub fn name_at(bytes: &[u8]) -> Read<'_, &[u8]>
+    ensures { GivesName result (name_at bytes.now) }
+{
+    let at = next(bytes);
+    let (name, rest) = at.split_at(word_length(at));
+    if is_name(name) {
+        Ok((name, rest))
+    } else {
+        Err(at)
+    }
+}
