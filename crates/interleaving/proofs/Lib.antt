@@ -11,3 +11,5 @@ pub mod Shown
 pub mod Idle
 pub mod Turned
 pub mod Ran
+pub mod Scripting
+pub mod Running

@@ -3,3 +3,4 @@ pub mod World
 pub mod Stands
 pub mod Turns
 pub mod Runs
+pub mod Scripts

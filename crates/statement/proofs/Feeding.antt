@@ -7,22 +7,8 @@ use Rattle.std.specs.Io.KnownBytes.{Appends, Consumes, Keeps, IsAtEnd}
 use Rattle.rows.specs.declared.tables.Schema.{Schema}
 use Rattle.statement.specs.Puts.{AppendsFront}
 use Rattle.statement.specs.Transcript.{Partial, Progress, Reading, beginning, add, ended, line_reply, line_leaves, last_reply, mark, marks_after, transcript, IsTranscript, IsStopped}
+use Rattle.statement.specs.Taking.{Feeds, Breaks}
 use Rattle.statement.proofs.Fronts.{front_then}
-
-module _ (schema : Schema) (read : Reading) where
-  -- these bytes of a text were taken: what was written is what the transcript has for them, whatever follows
-  pub record Feeds (old new : Option (List ℕ)) (p : Progress) (line : Partial) (p' : Progress) (line' : Partial) (bytes : List ℕ) : Type 0 where
-    pub marks : List Bool
-    pub out : List ℕ
-    pub wrote : Appends old new out
-    pub goes_on : (more : List Bool) (rest : List ℕ) → transcript schema read (marks ++ more) p line (bytes ++ rest) ≡ out ++ transcript schema read more p' line' rest
-
-  -- the writer failed in these bytes: what was written is a front of the transcript, whatever follows
-  pub record Breaks (old new : Option (List ℕ)) (p : Progress) (line : Partial) (bytes : List ℕ) : Type 0 where
-    pub marks : List Bool
-    pub out : List ℕ
-    pub wrote : Appends old new out
-    pub front : (more : List Bool) (rest : List ℕ) → (left : List ℕ) × (transcript schema read (marks ++ more) p line (bytes ++ rest) ≡ out ++ left)
 
 not_end : (byte : ℕ) → byte ≢ 10 → (byte == 10) ≡ false
 not_end byte other = grind (arith, nat_tests)
