@@ -81,11 +81,7 @@ fn answer<W: Write>(
 }
 
 /// Takes a step, and writes the reply.
-fn take_step<W: Write>(
-    writer: &mut W,
-    script: &mut Script,
-    step: Step,
-) -> Result<(), WriteFault>
+fn take_step<W: Write>(writer: &mut W, script: &mut Script, step: Step) -> Result<(), WriteFault>
     requires { read_at (line_says script.old.system.schema) script.old.reading (line_of script.old) ≡ Ok (Line.Step step) }
     ensures ok { OnOk result ((schema : Schema) (p : Progress) → IsAt script.old schema p → Answered (W.contents writer.old) (W.contents writer.new) script.new schema p (line_of script.old)) }
     ensures err { OnErr result ((schema : Schema) (p : Progress) → IsAt script.old schema p → Broken (W.contents writer.old) (W.contents writer.new) schema p (line_of script.old)) }
@@ -105,11 +101,7 @@ fn refuse<W: Write>(writer: &mut W, script: &Script, refusal: &Refusal) -> Resul
 }
 
 /// Ends the line: writes its reply, and begins the next one.
-fn end_line<W: Write>(
-    alloc: Global,
-    writer: &mut W,
-    script: &mut Script,
-) -> Result<(), WriteFault>
+fn end_line<W: Write>(alloc: Global, writer: &mut W, script: &mut Script) -> Result<(), WriteFault>
     requires { LINE + 1 ≤ vec_capacity script.old.line }
     ensures ok { OnOk result ((schema : Schema) (p : Progress) → IsAt script.old schema p → Answered (W.contents writer.old) (W.contents writer.new) script.new schema p (line_of script.old)) }
     ensures err { OnErr result ((schema : Schema) (p : Progress) → IsAt script.old schema p → Broken (W.contents writer.old) (W.contents writer.new) schema p (line_of script.old)) }
@@ -199,11 +191,7 @@ fn has_byte(script: &Script) -> bool
 }
 
 /// Ends the script: a last line without a line feed is answered where it has a byte.
-fn finish<W: Write>(
-    alloc: Global,
-    writer: &mut W,
-    script: &mut Script,
-) -> Result<(), WriteFault>
+fn finish<W: Write>(alloc: Global, writer: &mut W, script: &mut Script) -> Result<(), WriteFault>
     requires { HasRoom script.old }
     ensures ok { OnOk result ((schema : Schema) (p : Progress) → IsAt script.old schema p → Finished (W.contents writer.old) (W.contents writer.new) script.old schema p) }
     ensures err { OnErr result ((schema : Schema) (p : Progress) → IsAt script.old schema p → Unfinished (W.contents writer.old) (W.contents writer.new) script.old schema p) }
