@@ -11,4 +11,8 @@ pub mod Commits
 pub mod Memory
 pub mod KeyEncoding
 pub mod KeyEncodingLaws
+pub mod SchemaTokens
+pub mod SchemaSyntax
+pub mod SchemaTables
+pub mod SchemaLaws
 pub mod Laws

@@ -1,6 +1,7 @@
 //! Values, rows, keys, tables, refusals, and the words that speak of what was committed.
 #![tactic(auto)]
 
+mod declarations;
 mod fits;
 mod key_encoding;
 mod key_laws;
@@ -10,6 +11,12 @@ mod keys;
 mod laws;
 mod queries;
 mod refusals;
+mod schema_laws;
+mod schema_reading;
+mod schema_tables;
+#[cfg(test)]
+mod schema_tests;
+mod schema_tokens;
 mod sequences;
 mod tables;
 mod texts;
@@ -23,6 +30,8 @@ pub use queries::{
     ColumnNumber, Comparison, Form, Keys, Operator, Rows, Set, Sets, Shown, ShownRows,
 };
 pub use refusals::{Mem, Refusal};
+pub use schema_laws::sample_is_a_schema;
+pub use schema_reading::{SAMPLE, SchemaFault};
 pub use sequences::Sequence;
 pub use tables::{Column, ColumnType, Schema, Table, same_name};
 pub use texts::Chars;
