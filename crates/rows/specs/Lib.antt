@@ -16,3 +16,6 @@ pub mod SchemaSyntax
 pub mod SchemaTables
 pub mod SchemaLaws
 pub mod Laws
+pub mod RowEncoding
+pub mod RowReading
+pub mod RowLaws

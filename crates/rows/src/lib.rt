@@ -11,6 +11,10 @@ mod keys;
 mod laws;
 mod queries;
 mod refusals;
+mod row_encoding;
+mod row_laws;
+#[cfg(test)]
+mod row_tests;
 mod schema_laws;
 mod schema_reading;
 mod schema_tables;
@@ -30,6 +34,8 @@ pub use queries::{
     ColumnNumber, Comparison, Form, Keys, Operator, Rows, Set, Sets, Shown, ShownRows,
 };
 pub use refusals::{Mem, Refusal};
+pub use row_encoding::{read_row, row_bytes};
+pub use row_laws::{bytes_stand_for_rows, fitting_rows_have_bytes};
 pub use schema_laws::sample_is_a_schema;
 pub use schema_reading::{SAMPLE, SchemaFault};
 pub use sequences::Sequence;
