@@ -11,11 +11,11 @@ mod keys;
 mod laws;
 mod queries;
 mod refusals;
-mod samples;
 mod row_encoding;
 mod row_laws;
 #[cfg(test)]
 mod row_tests;
+mod samples;
 mod schema_laws;
 mod schema_reading;
 mod schema_tables;
