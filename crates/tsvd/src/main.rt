@@ -2,6 +2,8 @@
 #![tactic(auto)]
 
 mod program;
+#[cfg(test)]
+mod tests;
 
 use crate::program::{FAULT, program};
 use std::env;
