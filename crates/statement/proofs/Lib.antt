@@ -6,3 +6,5 @@ pub mod Sound
 pub mod SoundLiterals
 pub mod SoundLists
 pub mod SoundLines
+pub mod Whole
+pub mod WholeLiterals

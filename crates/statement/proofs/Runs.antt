@@ -36,7 +36,7 @@ module _ (p : ℕ → Bool) where
   run_length [] rest all ends = no_run rest ends
   run_length (b ∷ bs) rest all ends = ap (λ t. cond t (1 + prefix_len p (bs ++ rest)) 0) all.0 ∙ ap (λ n. 1 + n) (run_length bs rest all.1 ends) ∙ one_more (length bs)
 
-  length_of : {run bytes rest : List ℕ} → Run p run bytes rest → prefix_len p bytes ≡ length run
+  pub length_of : {run bytes rest : List ℕ} → Run p run bytes rest → prefix_len p bytes ≡ length run
   length_of {run} {bytes} {rest} r = ap (prefix_len p) r.spelled ∙ run_length run rest r.all r.ends
 
   pub run_taken : {run bytes rest : List ℕ} → Run p run bytes rest → take (prefix_len p bytes) bytes ≡ run
