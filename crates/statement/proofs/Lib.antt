@@ -8,3 +8,5 @@ pub mod SoundLists
 pub mod SoundLines
 pub mod Whole
 pub mod WholeLiterals
+pub mod Lengths
+pub mod WholeLists
