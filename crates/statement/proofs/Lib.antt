@@ -5,3 +5,13 @@ pub mod Quotes
 pub mod Feeding
 pub mod Digits
 pub mod Turns
+pub mod Runs
+pub mod Holds
+pub mod Sound
+pub mod SoundLiterals
+pub mod SoundLists
+pub mod SoundLines
+pub mod Whole
+pub mod WholeLiterals
+pub mod Lengths
+pub mod WholeLists

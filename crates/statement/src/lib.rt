@@ -2,6 +2,8 @@
 #![tactic(auto)]
 
 mod laws;
+#[cfg(test)]
+mod line_tests;
 mod lines;
 mod lists;
 mod literals;

@@ -1,0 +1,48 @@
+-- What is read is of the grammar.
+use Rattle.std.proofs.Common.{◌≡◌, ℕ, Bool, true, false, List, [], ◌∷◌, ◌++◌, length, take, drop, Ok, Err, refl, ap, sym, ◌∙◌, subst, arith}
+use Rattle.std.specs.Prelude.{Result, ◌==◌, if◌then◌else◌}
+use Rattle.std.specs.List.{prefix_len}
+use Rattle.std.proofs.lemmas.Bool.Decides.{nat_tests}
+use Rattle.rows.specs.Names.{same_name}
+use Rattle.statement.specs.Tokens.{After, Read, ◌>>=◌, is_blank, next, symbol_at}
+use Rattle.statement.specs.Words.{is_name_byte, word_length, word_at, is_name, name_at}
+use Rattle.statement.specs.Grammar.{Piece, ◌⋯◌, AllBytes, Ends, Blanks, Run, Symbol, Word, Name}
+use Rattle.statement.proofs.Runs.{run_of, blanks_before, next_ends}
+use Rattle.statement.proofs.Holds.{Holds, Leaves, holds, holds_then, leaves_then}
+
+pub same_byte : (a b : ℕ) → (a == b) ≡ true → a ≡ b
+same_byte a b e = grind (arith, nat_tests)
+
+symbol_found : (symbol : ℕ) (bytes at : List ℕ) → Blanks bytes at → Leaves (elim at [ [] ↦ Err [] | b ∷ bs ↦ if b == symbol then Ok bs else Err (b ∷ bs) ]) (λ rest. Symbol symbol bytes rest)
+symbol_found symbol bytes [] blanks = record { it = tt }
+symbol_found symbol bytes (b ∷ bs) blanks = by_test (b == symbol) refl
+  where
+    by_test : (t : Bool) → (b == symbol) ≡ t → Leaves (if t then Ok bs else Err (b ∷ bs)) (λ rest. Symbol symbol bytes rest)
+    by_test true is = record { it = (b ∷ bs, (blanks, ap (λ (c : ℕ). c ∷ bs) (same_byte b symbol is))) }
+    by_test false is = record { it = tt }
+
+pub symbol_sound : (symbol : ℕ) (bytes : List ℕ) → Leaves (symbol_at symbol bytes) (λ rest. Symbol symbol bytes rest)
+unfolding symbol_at
+symbol_sound symbol bytes = symbol_found symbol bytes (next bytes) (blanks_before bytes)
+
+chosen_after : {P : List ℕ → Type 0} (t : Bool) (rest at : List ℕ) → (t ≡ true → P rest) → Leaves (if t then Ok rest else Err at) P
+chosen_after true rest at h = record { it = h refl }
+chosen_after false rest at h = record { it = tt }
+
+chosen : {A : Type 0} {P : A → List ℕ → Type 0} (t : Bool) (x : A) (rest at : List ℕ) → (t ≡ true → P x rest) → Holds (if t then Ok (x, rest) else Err at) P
+chosen true x rest at h = record { it = h refl }
+chosen false x rest at h = record { it = tt }
+
+pub word_sound : (word bytes : List ℕ) → Leaves (word_at word bytes) (λ rest. Word word bytes rest)
+unfolding word_at
+word_sound word bytes =
+    let at = next bytes in
+    chosen_after (same_name word (take (word_length at) at)) (drop (word_length at) at) at
+      (λ is. (at, (blanks_before bytes, (take (word_length at) at, (run_of is_name_byte at, is)))))
+
+pub name_sound : (bytes : List ℕ) → Holds (name_at bytes) (λ name rest. Name name bytes rest)
+unfolding name_at
+name_sound bytes =
+    let at = next bytes in
+    chosen (is_name (take (word_length at) at)) (take (word_length at) at) (drop (word_length at) at) at
+      (λ is. (at, (blanks_before bytes, (run_of is_name_byte at, is))))

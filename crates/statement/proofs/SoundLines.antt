@@ -1,0 +1,143 @@
+-- What is read as a statement or as a line is one.
+use Rattle.std.proofs.Common.{◌≡◌, ◌⊎◌, ℕ, Bool, true, false, List, [], ◌∷◌, Ok, Err, Some, None, inl, inr, refl, ap, sym, ◌∙◌, subst}
+use Rattle.std.specs.Prelude.{Result, Option, ◌-◌, ◌^◌, if◌then◌else◌, codes}
+use Rattle.rows.specs.declared.tables.Schema.{Schema}
+use Rattle.rows.specs.declared.queries.Comparison.{Comparison}
+use Rattle.rows.specs.declared.queries.Keys.{Keys}
+use Rattle.rows.specs.declared.queries.Set.{Set}
+use Rattle.statement.specs.declared.lines.Written.TheVariants.{Clock, Session}
+use Rattle.statement.specs.declared.statements.Statement.TheVariants.{Begin, Insert, Update, Delete, Select, Commit, Rollback}
+use Rattle.statement.specs.Tokens.{After, Read, next, symbol_at, end_at, after_semicolon}
+use Rattle.statement.specs.Words.{word_at, after_word}
+use Rattle.statement.specs.Wheres.{keys_at}
+use Rattle.statement.specs.Statements.{start_at, listed_at, insert_at, update_at, delete_at, select_at, data_at, statement_at}
+use Rattle.statement.specs.Lines.{begins_digit, clock_at, session_at, written_at}
+use Rattle.statement.specs.Grammar.{Piece, ◌⋯◌, ◌∣◌, Empty, Blanks, Symbol, Word, Listed, IsRow, IsTable, IsSet, IsComparison, IsColumnList, IsWhere, IsStatement, IsLine}
+use Rattle.statement.proofs.Runs.{blanks_before}
+use Rattle.statement.proofs.Sound.{symbol_sound, word_sound}
+use Rattle.statement.proofs.SoundLiterals.{digits_sound}
+use Rattle.statement.proofs.SoundLists.{rows_sound, instant_sound, form_sound, table_sound, sets_sound, comparisons_sound, columns_sound}
+use Rattle.statement.proofs.Holds.{Holds, Leaves, holds, holds_then, leaves_then, leaves_either, holds_weaker}
+
+optional_sound : {P : List ℕ → Type 0} (bytes : List ℕ) (r : After) → Leaves r P → (bytes ≡ elim r [ Ok rest ↦ rest | Err at ↦ bytes ]) ⊎ P (elim r [ Ok rest ↦ rest | Err at ↦ bytes ])
+optional_sound bytes (Ok rest) h = inr h.it
+optional_sound bytes (Err at) h = inl refl
+
+work_sound : (bytes : List ℕ) → (Empty ∣ Word (codes "WORK")) bytes (after_word (codes "WORK") bytes)
+work_sound bytes = optional_sound bytes (word_at (codes "WORK") bytes) (word_sound (codes "WORK") bytes)
+
+semicolon_sound : (bytes : List ℕ) → (Empty ∣ Symbol 59) bytes (after_semicolon bytes)
+semicolon_sound bytes = optional_sound bytes (symbol_at 59 bytes) (symbol_sound 59 bytes)
+
+ended : (bytes at : List ℕ) → Blanks bytes at → Leaves (elim at [ [] ↦ Ok [] | b ∷ bs ↦ Err (b ∷ bs) ]) (λ rest. Blanks bytes [])
+ended bytes [] blanks = record { it = blanks }
+ended bytes (b ∷ bs) blanks = record { it = tt }
+
+end_sound : (bytes : List ℕ) → Leaves (end_at bytes) (λ rest. Blanks bytes [])
+unfolding end_at
+end_sound bytes = ended bytes (next bytes) (blanks_before bytes)
+
+module _ (schema : Schema) where
+  where_of : (table : ℕ) (cs : List Comparison) (bytes between rest : List ℕ) → Word (codes "WHERE") bytes between
+      → Listed (Word (codes "AND")) (IsComparison schema table) cs between rest → IsWhere schema table cs bytes rest
+  where_of table [] bytes between rest word list = absurd list
+  where_of table (c ∷ cs) bytes between rest word list = (between, (word, list))
+
+  keys_sound : (table : ℕ) (bytes : List ℕ) → Holds (keys_at schema table bytes) (λ keys rest. (table ≡ keys.table) × IsWhere schema keys.table keys.comparisons bytes rest)
+  unfolding keys_at
+  keys_sound table bytes = leaves_either _ _ _ (word_sound (codes "WHERE") bytes)
+      (λ between word. holds_then _ _ (comparisons_sound schema table between) (λ cs rest list. holds _ rest (refl, where_of table cs bytes between rest word list)))
+      (λ _. holds _ bytes (refl, refl))
+
+  listed_sound : (table : ℕ) (bytes : List ℕ) → Holds (listed_at schema table bytes) (λ columns rest. IsColumnList schema table columns bytes rest)
+  unfolding listed_at
+  listed_sound table bytes = leaves_either _ _ _ (symbol_sound 40 bytes)
+      (λ _ _. holds_then _ _ (columns_sound schema table bytes) (λ columns rest list. holds (Some columns) rest list))
+      (λ _. holds None bytes refl)
+
+  insert_sound : (start bytes : List ℕ) → Word (codes "INSERT") start bytes → Holds (insert_at schema bytes) (λ statement rest. IsStatement schema statement start rest)
+  unfolding insert_at
+  insert_sound start bytes first =
+      leaves_then _ _ (word_sound (codes "INTO") bytes) (λ a into.
+        holds_then _ _ (table_sound schema a) (λ table b named.
+          holds_then _ _ (listed_sound table b) (λ columns c list.
+            leaves_then _ _ (word_sound (codes "VALUES") c) (λ d values.
+              holds_then _ _ (rows_sound d) (λ rows rest are.
+                holds (Insert table columns rows) rest (bytes, (first, (a, (into, (b, (named, (c, (list, (d, (values, are)))))))))))))))
+
+  -- a table that two names of the grammar agree on
+  table_at_keys : (table : ℕ) (keys : Keys) (bytes rest : List ℕ) → table ≡ keys.table → IsTable schema table bytes rest → IsTable schema keys.table bytes rest
+  table_at_keys table keys bytes rest same is = subst (λ (t : ℕ). IsTable schema t bytes rest) same is
+
+  update_sound : (start bytes : List ℕ) → Word (codes "UPDATE") start bytes → Holds (update_at schema bytes) (λ statement rest. IsStatement schema statement start rest)
+  unfolding update_at
+  update_sound start bytes first =
+      holds_then _ _ (table_sound schema bytes) (λ table a named.
+        leaves_then _ _ (word_sound (codes "SET") a) (λ b set.
+          holds_then _ _ (sets_sound schema table b) (λ sets c are.
+            holds_then _ _ (keys_sound table c) (λ keys rest k.
+              holds (Update keys sets) rest
+                (bytes, (first, (a, (table_at_keys table keys bytes a k.0 named, (b, (set, (c, (subst (λ (t : ℕ). Listed (Symbol 44) (IsSet schema t) sets b c) k.0 are, k.1))))))))))))
+
+  delete_sound : (start bytes : List ℕ) → Word (codes "DELETE") start bytes → Holds (delete_at schema bytes) (λ statement rest. IsStatement schema statement start rest)
+  unfolding delete_at
+  delete_sound start bytes first =
+      leaves_then _ _ (word_sound (codes "FROM") bytes) (λ a from.
+        holds_then _ _ (table_sound schema a) (λ table b named.
+          holds_then _ _ (keys_sound table b) (λ keys rest k.
+            holds (Delete keys) rest (bytes, (first, (a, (from, (b, (table_at_keys table keys a b k.0 named, k.1)))))))))
+
+  select_sound : (start bytes : List ℕ) → Word (codes "SELECT") start bytes → Holds (select_at schema bytes) (λ statement rest. IsStatement schema statement start rest)
+  unfolding select_at
+  select_sound start bytes first =
+      leaves_then _ _ (symbol_sound 42 bytes) (λ a star.
+        leaves_then _ _ (word_sound (codes "FROM") a) (λ b from.
+          holds_then _ _ (table_sound schema b) (λ table c named.
+            holds_then _ _ (form_sound c) (λ form d is.
+              holds_then _ _ (keys_sound table d) (λ keys rest k.
+                holds (Select form keys) rest (bytes, (first, (a, (star, (b, (from, (c, (table_at_keys table keys b c k.0 named, (d, (is, k.1)))))))))))))))
+
+  data_sound : (bytes : List ℕ) → Holds (data_at schema bytes) (λ statement rest. IsStatement schema statement bytes rest)
+  unfolding data_at
+  data_sound bytes =
+      leaves_either _ _ _ (word_sound (codes "INSERT") bytes) (λ rest first. insert_sound bytes rest first) (λ _.
+        leaves_either _ _ _ (word_sound (codes "UPDATE") bytes) (λ rest first. update_sound bytes rest first) (λ _.
+          leaves_either _ _ _ (word_sound (codes "DELETE") bytes) (λ rest first. delete_sound bytes rest first) (λ _.
+            leaves_either _ _ _ (word_sound (codes "SELECT") bytes) (λ rest first. select_sound bytes rest first) (λ at. record { it = tt }))))
+
+  start_sound : (start bytes : List ℕ) → Word (codes "START") start bytes → Holds (start_at bytes) (λ statement rest. IsStatement schema statement start rest)
+  unfolding start_at
+  start_sound start bytes first = leaves_then _ _ (word_sound (codes "TRANSACTION") bytes) (λ rest second. holds Begin rest (inr (bytes, (first, second))))
+
+  statement_sound : (bytes : List ℕ) → Holds (statement_at schema bytes) (λ statement rest. IsStatement schema statement bytes rest)
+  unfolding statement_at
+  statement_sound bytes =
+      leaves_either _ _ _ (word_sound (codes "BEGIN") bytes) (λ rest first. holds Begin rest (inl first)) (λ _.
+        leaves_either _ _ _ (word_sound (codes "START") bytes) (λ rest first. start_sound bytes rest first) (λ _.
+          leaves_either _ _ _ (word_sound (codes "COMMIT") bytes) (λ rest first. holds Commit _ (rest, (first, work_sound rest))) (λ _.
+            leaves_either _ _ _ (word_sound (codes "ROLLBACK") bytes) (λ rest first. holds Rollback _ (rest, (first, work_sound rest))) (λ _. data_sound bytes))))
+
+  session_sound : (bytes : List ℕ) → Holds (session_at schema bytes) (λ written rest. IsLine schema written bytes)
+  unfolding session_at
+  session_sound bytes =
+      holds_then _ _ (digits_sound (2 ^ 63 - 1) bytes) (λ session a number.
+        leaves_then _ _ (symbol_sound 58 a) (λ b colon.
+          holds_then _ _ (statement_sound b) (λ statement c is.
+            leaves_then _ _ (end_sound (after_semicolon c)) (λ rest blank.
+              holds (Session session statement) rest (a, (number, (b, (colon, (c, (is, (after_semicolon c, (semicolon_sound c, blank))))))))))))
+
+  clock_sound : (bytes : List ℕ) → Holds (clock_at bytes) (λ written rest. IsLine schema written bytes)
+  unfolding clock_at
+  clock_sound bytes =
+      leaves_then _ _ (word_sound (codes "CLOCK") bytes) (λ a word.
+        leaves_then _ _ (symbol_sound 58 a) (λ b colon.
+          holds_then _ _ (instant_sound b) (λ instant c number.
+            leaves_then _ _ (end_sound c) (λ rest blank. holds (Clock instant) rest (a, (word, (b, (colon, (c, (number, blank))))))))))
+
+  pub written_sound : (bytes : List ℕ) → Holds (written_at schema bytes) (λ written rest. IsLine schema written bytes)
+  unfolding written_at
+  written_sound bytes = by_test (begins_digit (next bytes))
+    where
+      by_test : (t : Bool) → Holds (if t then session_at schema bytes else clock_at bytes) (λ written rest. IsLine schema written bytes)
+      by_test true = session_sound bytes
+      by_test false = clock_sound bytes

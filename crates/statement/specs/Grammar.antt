@@ -1,0 +1,177 @@
+-- The grammar of lines: which bytes may stand, and what they say. A piece of a line is a relation between the bytes from its front on and those after it.
+use Rattle.std.specs.Prelude.{◌≡◌, ℕ, ◌<◌, ◌≤◌, ◌-◌, ◌^◌, ◌==◌, List, [], ◌∷◌, ◌++◌, Bool, true, false, Option, Some, None, ℤ, pos, neg_ℤ, ◌⊎◌, flat_map, length, codes, if◌then◌else◌, IsUtf8}
+use Rattle.std.specs.Char.{is_ascii_digit}
+use Rattle.std.specs.Str.Parse.{digits_value}
+use Rattle.rows.specs.declared.values.Value.{Value}
+use Rattle.rows.specs.declared.values.Value.TheVariants.{Int, Text, Bool as Truth, Null}
+use Rattle.rows.specs.declared.tables.Schema.{Schema}
+use Rattle.rows.specs.declared.queries.Comparison.{Comparison}
+use Rattle.rows.specs.declared.queries.Form.{Form}
+use Rattle.rows.specs.declared.queries.Form.TheVariants.{Plain, AsOf, FromTo, Between}
+use Rattle.rows.specs.declared.queries.Keys.{Keys}
+use Rattle.rows.specs.declared.queries.Operator.{Operator}
+use Rattle.rows.specs.declared.queries.Operator.TheVariants.{Equal, Below, AtMost, Above, AtLeast}
+use Rattle.rows.specs.declared.queries.Set.{Set}
+use Rattle.rows.specs.Log.{Row}
+use Rattle.rows.specs.Names.{same_name}
+use Rattle.statement.specs.declared.lines.Written.{Written}
+use Rattle.statement.specs.declared.lines.Written.TheVariants.{Clock, Session}
+use Rattle.statement.specs.declared.statements.Statement.{Statement}
+use Rattle.statement.specs.declared.statements.Statement.TheVariants.{Begin, Insert, Update, Delete, Select, Commit, Rollback}
+use Rattle.statement.specs.Tokens.{is_blank}
+use Rattle.statement.specs.Words.{is_name_byte, is_name}
+use Rattle.statement.specs.Wheres.{table_of, column_of}
+
+abbrev pub Piece : Type 1
+Piece = List ℕ → List ℕ → Type 0
+
+-- one piece, and then another
+infixr 5 ◌⋯◌
+abbrev pub ◌⋯◌ : Piece → Piece → Piece
+(P ⋯ Q) bytes rest = (between : List ℕ) × (P bytes between × Q between rest)
+
+-- one piece or another
+infixr 4 ◌∣◌
+abbrev pub ◌∣◌ : Piece → Piece → Piece
+(P ∣ Q) bytes rest = P bytes rest ⊎ Q bytes rest
+
+abbrev pub Empty : Piece
+Empty bytes rest = bytes ≡ rest
+
+-- each byte passes the test
+abbrev pub AllBytes : (ℕ → Bool) → List ℕ → Type 0
+AllBytes p [] = Unit {0}
+AllBytes p (b ∷ bytes) = (p b ≡ true) × AllBytes p bytes
+
+-- no byte that passes the test comes next
+abbrev pub Ends : (ℕ → Bool) → List ℕ → Type 0
+Ends p [] = Unit {0}
+Ends p (b ∷ bytes) = p b ≡ false
+
+-- spaces and tabs, or none
+pub record Blanks (bytes rest : List ℕ) : Type 0 where
+  pub blanks : List ℕ
+  pub are_blank : AllBytes is_blank blanks
+  pub spelled : bytes ≡ blanks ++ rest
+
+-- these bytes
+abbrev pub Exactly : List ℕ → Piece
+Exactly text bytes rest = bytes ≡ text ++ rest
+
+-- a run of bytes that pass the test, as many as there are
+pub record Run (p : ℕ → Bool) (run bytes rest : List ℕ) : Type 0 where
+  pub all : AllBytes p run
+  pub ends : Ends p rest
+  pub spelled : bytes ≡ run ++ rest
+
+abbrev pub Symbol : ℕ → Piece
+Symbol symbol = Blanks ⋯ Exactly (symbol ∷ [])
+
+-- a word of the grammar, in any case
+abbrev pub Word : List ℕ → Piece
+Word word = Blanks ⋯ (λ bytes rest. (written : List ℕ) × (Run is_name_byte written bytes rest × (same_name word written ≡ true)))
+
+abbrev pub Name : List ℕ → Piece
+Name name = Blanks ⋯ (λ bytes rest. Run is_name_byte name bytes rest × (is_name name ≡ true))
+
+-- digits whose number is at most so great
+pub record Digits (most n : ℕ) (bytes rest : List ℕ) : Type 0 where
+  pub digits : List ℕ
+  pub some : 0 < length digits
+  pub run : Run is_ascii_digit digits bytes rest
+  pub value : digits_value 10 digits ≡ n
+  pub within : n ≤ most
+
+abbrev pub Number : ℤ → Piece
+Number z = (λ bytes rest. (n : ℕ) × ((z ≡ pos n) × Digits (2 ^ 63 - 1) n bytes rest))
+    ∣ (λ bytes rest. (n : ℕ) × ((z ≡ neg_ℤ (pos n)) × (Exactly (45 ∷ []) ⋯ Digits (2 ^ 63) n) bytes rest))
+
+-- between its quotes a text has each of its own quotes twice
+abbrev pub doubled : List ℕ → List ℕ
+doubled text = flat_map (λ b. if b == 39 then 39 ∷ 39 ∷ [] else b ∷ []) text
+
+abbrev pub is_quote : ℕ → Bool
+is_quote b = b == 39
+
+pub record Quoted (text bytes rest : List ℕ) : Type 0 where
+  pub utf8 : IsUtf8 text
+  pub ends : Ends is_quote rest
+  pub spelled : bytes ≡ 39 ∷ (doubled text ++ 39 ∷ rest)
+
+abbrev pub Literal : Value → Piece
+Literal (Int z) = Blanks ⋯ Number z
+Literal (Text text) = Blanks ⋯ Quoted text
+Literal (Truth true) = Word (codes "TRUE")
+Literal (Truth false) = Word (codes "FALSE")
+Literal Null = Word (codes "NULL")
+
+-- one item or more, with a separator between any two
+abbrev pub Listed : {A : Type 0} → Piece → (A → Piece) → List A → Piece
+Listed separator item [] = λ bytes rest. ⊥
+Listed separator item (x ∷ []) = item x
+Listed separator item (x ∷ y ∷ xs) = item x ⋯ separator ⋯ Listed separator item (y ∷ xs)
+
+abbrev pub Enclosed : {A : Type 0} → (A → Piece) → List A → Piece
+Enclosed item xs = Symbol 40 ⋯ Listed (Symbol 44) item xs ⋯ Symbol 41
+
+abbrev pub IsRow : Row → Piece
+IsRow row = Enclosed Literal row
+
+abbrev pub IsOperator : Operator → Piece
+IsOperator Equal = Symbol 61
+IsOperator Below = Blanks ⋯ (λ bytes rest. Exactly (60 ∷ []) bytes rest × Ends (λ b. b == 61) rest)
+IsOperator AtMost = Blanks ⋯ Exactly (60 ∷ 61 ∷ [])
+IsOperator Above = Blanks ⋯ (λ bytes rest. Exactly (62 ∷ []) bytes rest × Ends (λ b. b == 61) rest)
+IsOperator AtLeast = Blanks ⋯ Exactly (62 ∷ 61 ∷ [])
+
+abbrev pub IsInstant : ℕ → Piece
+IsInstant n = Blanks ⋯ Digits 999999999999999999 n
+
+-- which versions a SELECT asks for
+abbrev pub IsForm : Form → Piece
+IsForm Plain = Empty
+IsForm (AsOf instant) = Word (codes "FOR") ⋯ Word (codes "SYSTEM_TIME") ⋯ Word (codes "AS") ⋯ Word (codes "OF") ⋯ IsInstant instant
+IsForm (FromTo from to) = λ bytes rest. ⊥
+IsForm (Between from to) = λ bytes rest. ⊥
+
+module _ (schema : Schema) where
+  -- a name, which stands for the table that has it, or for none
+  abbrev pub IsTable : ℕ → Piece
+  IsTable number bytes rest = (name : List ℕ) × (Name name bytes rest × (table_of schema name ≡ number))
+
+  module _ (table : ℕ) where
+    -- a name, which stands for the user column that has it, or for none
+    abbrev pub IsColumn : ℕ → Piece
+    IsColumn number bytes rest = (name : List ℕ) × (Name name bytes rest × (column_of schema table name ≡ number))
+
+    abbrev pub IsSet : Set → Piece
+    IsSet set = IsColumn set.column ⋯ Symbol 61 ⋯ Literal set.value
+
+    abbrev pub IsComparison : Comparison → Piece
+    IsComparison comparison = IsColumn comparison.column ⋯ IsOperator comparison.operator ⋯ Literal comparison.value
+
+    abbrev pub IsColumnList : Option (List ℕ) → Piece
+    IsColumnList None = Empty
+    IsColumnList (Some columns) = Enclosed IsColumn columns
+
+    abbrev pub IsWhere : List Comparison → Piece
+    IsWhere [] = Empty
+    IsWhere (c ∷ cs) = Word (codes "WHERE") ⋯ Listed (Word (codes "AND")) IsComparison (c ∷ cs)
+
+  abbrev pub IsStatement : Statement → Piece
+  IsStatement Begin = Word (codes "BEGIN") ∣ Word (codes "START") ⋯ Word (codes "TRANSACTION")
+  IsStatement Commit = Word (codes "COMMIT") ⋯ (Empty ∣ Word (codes "WORK"))
+  IsStatement Rollback = Word (codes "ROLLBACK") ⋯ (Empty ∣ Word (codes "WORK"))
+  IsStatement (Insert table columns rows) =
+      Word (codes "INSERT") ⋯ Word (codes "INTO") ⋯ IsTable table ⋯ IsColumnList table columns ⋯ Word (codes "VALUES") ⋯ Listed (Symbol 44) IsRow rows
+  IsStatement (Update keys sets) =
+      Word (codes "UPDATE") ⋯ IsTable keys.table ⋯ Word (codes "SET") ⋯ Listed (Symbol 44) (IsSet keys.table) sets ⋯ IsWhere keys.table keys.comparisons
+  IsStatement (Delete keys) = Word (codes "DELETE") ⋯ Word (codes "FROM") ⋯ IsTable keys.table ⋯ IsWhere keys.table keys.comparisons
+  IsStatement (Select form keys) =
+      Word (codes "SELECT") ⋯ Symbol 42 ⋯ Word (codes "FROM") ⋯ IsTable keys.table ⋯ IsForm form ⋯ IsWhere keys.table keys.comparisons
+
+  -- a line up to its end
+  abbrev pub IsLine : Written → List ℕ → Type 0
+  IsLine (Clock instant) bytes = (Word (codes "CLOCK") ⋯ Symbol 58 ⋯ IsInstant instant ⋯ Blanks) bytes []
+  IsLine (Session session statement) bytes =
+      ((Blanks ⋯ Digits (2 ^ 63 - 1) session) ⋯ Symbol 58 ⋯ IsStatement statement ⋯ (Empty ∣ Symbol 59) ⋯ Blanks) bytes []

@@ -1,0 +1,527 @@
+use crate::{Line, Step, read_line};
+use rows::{Chars, Column, ColumnType, Form, Operator, Refusal, Schema, Sequence, Table, Value};
+use std::alloc::{AllocError, Global};
+use std::test::Fail;
+
+/// Lines, and the byte of the first token that cannot stand.
+static WRONG_TOKENS: [(&str, usize); 183] = [
+    ("- no comment", 0),
+    ("-1: BEGIN", 0),
+    ("+1: BEGIN", 0),
+    ("1", 1),
+    ("1:", 2),
+    ("1: ", 3),
+    ("1:  ", 4),
+    ("1 BEGIN", 2),
+    ("BEGIN", 0),
+    (":", 0),
+    (";", 0),
+    ("1;", 1),
+    ("1: ;", 3),
+    ("1: 1", 3),
+    ("1: BEGI", 3),
+    ("1: BEGIN_", 3),
+    ("1: COMM", 3),
+    ("1: BEGIN;;", 9),
+    ("1: BEGIN; ;", 10),
+    ("1: BEGIN BEGIN", 9),
+    ("1: BEGIN; BEGIN", 10),
+    ("1: BEGIN -- none", 9),
+    ("1: BEGIN; --", 10),
+    ("1: BEGIN :", 9),
+    ("1: BEGIN 1", 9),
+    ("1: BEGIN.", 8),
+    ("9223372036854775808: COMMIT", 0),
+    ("99999999999999999999999999: COMMIT", 0),
+    ("9223372036854775808: COMM", 0),
+    ("65: COMM", 4),
+    ("65: COMMIT 1", 11),
+    ("0: SELECT * FROM nosuch ,", 24),
+    ("clock", 5),
+    ("clock:", 6),
+    ("clock: ", 7),
+    ("clock 5", 6),
+    ("clock: -5", 7),
+    ("clock: - 5", 7),
+    ("clock: +5", 7),
+    ("clock: 5;", 8),
+    ("clock: 5 5", 9),
+    ("clock: 5.0", 8),
+    ("clock: 5 --", 9),
+    ("clock: 1000000000000000000", 7),
+    ("clock: 0001000000000000000000", 7),
+    ("clock: 9223372036854775808", 7),
+    ("1: INSERT", 9),
+    ("1: INSERT emp", 10),
+    ("1: INSERT INTO", 14),
+    ("1: INSERT INTO (", 15),
+    ("1: INSERT INTO emp", 18),
+    ("1: INSERT INTO emp VALUE", 19),
+    ("1: INSERT INTO emp ,", 19),
+    ("1: INSERT INTO emp VALUES", 25),
+    ("1: INSERT INTO emp VALUES 1", 26),
+    ("1: INSERT INTO emp VALUES (", 27),
+    ("1: INSERT INTO emp VALUES ()", 27),
+    ("1: INSERT INTO emp VALUES (, 1)", 27),
+    ("1: INSERT INTO emp VALUES (1", 28),
+    ("1: INSERT INTO emp VALUES (1,", 29),
+    ("1: INSERT INTO emp VALUES (1, )", 30),
+    ("1: INSERT INTO emp VALUES (1 2)", 29),
+    ("1: INSERT INTO emp VALUES (1, no)", 30),
+    ("1: INSERT INTO emp VALUES (2, 'a'", 33),
+    ("1: INSERT INTO emp VALUES (2, 'a'),", 35),
+    ("1: INSERT INTO emp VALUES (2, 'a'), ;", 36),
+    ("1: INSERT INTO emp VALUES (2, 'a') (3, 'b')", 35),
+    ("1: INSERT INTO emp VALUES (2, 'a'), (", 37),
+    ("1: INSERT INTO emp VALUES (2, 'a');,", 35),
+    ("1: INSERT INTO emp VALUES (2, 'a)", 30),
+    ("1: INSERT INTO emp VALUES (2, 'a'')", 30),
+    ("1: INSERT INTO emp VALUES (2, '", 30),
+    ("1: INSERT INTO emp VALUES (2, 'a''", 30),
+    ("1: INSERT INTO emp VALUES (2, 'a' 'b')", 34),
+    ("1: INSERT INTO emp VALUES (- 1, 'a')", 27),
+    ("1: INSERT INTO emp VALUES (--1, 'a')", 27),
+    ("1: INSERT INTO emp VALUES (-, 'a')", 27),
+    ("1: INSERT INTO emp VALUES (1-1, 'a')", 28),
+    ("1: INSERT INTO emp VALUES (1.5, 'a')", 28),
+    ("1: INSERT INTO emp VALUES (1e5, 'a')", 28),
+    ("1: INSERT INTO emp VALUES (9223372036854775808, 'a')", 27),
+    ("1: INSERT INTO emp VALUES (-9223372036854775809, 'a')", 27),
+    ("1: INSERT INTO emp VALUES (DEFAULT, 1)", 27),
+    ("1: INSERT INTO emp VALUES (NOT, 1)", 27),
+    ("1: SELECT emp", 10),
+    ("1: SELECT*FROM *", 15),
+    ("1: SELECT * emp", 12),
+    ("1: SELECT *", 11),
+    ("1: SELECT * FROM", 16),
+    ("1: SELECT no FROM emp", 10),
+    ("1: SELECT *, no FROM emp", 11),
+    ("1: SELECT * FROM emp FOR", 24),
+    ("1: SELECT * FROM emp FOR AS", 25),
+    ("1: SELECT * FROM emp FOR SYSTEM_TIME", 36),
+    ("1: SELECT * FROM emp FOR SYSTEM_TIME ALL", 37),
+    ("1: SELECT * FROM emp FOR SYSTEM_TIME OF", 37),
+    ("1: SELECT * FROM emp FOR SYSTEM_TIME AS", 39),
+    ("1: SELECT * FROM emp FOR SYSTEM_TIME AS OF", 42),
+    ("1: SELECT * FROM emp FOR SYSTEM_TIME AS OF -1", 43),
+    ("1: SELECT * FROM emp FOR SYSTEM_TIME AS OF NULL", 43),
+    (
+        "1: SELECT * FROM emp FOR SYSTEM_TIME AS OF 1000000000000000000",
+        43,
+    ),
+    ("1: SELECT * FROM emp FOR SYSTEM_TIME AS OF 1 2", 45),
+    ("1: SELECT * FROM emp FOR SYSTEM_TIME AS OF 1.0", 44),
+    ("1: INSERT INTO nosuch VALUES (1", 31),
+    ("1: COMMIT COMMIT", 10),
+    ("1: COMMIT,", 9),
+    ("1: INSERT INTO t () VALUES (1)", 18),
+    ("1: INSERT INTO t (k", 19),
+    ("1: INSERT INTO t (k,", 20),
+    ("1: INSERT INTO t (k, ) VALUES (1)", 21),
+    ("1: INSERT INTO t (k n) VALUES (1)", 20),
+    ("1: INSERT INTO t ('k') VALUES (1)", 18),
+    ("1: INSERT INTO t (k) (1)", 21),
+    ("1: INSERT INTO t (key) VALUES (1)", 18),
+    ("1: SELECT * FROM t WHERE", 24),
+    ("1: SELECT * FROM t WHERE = 1", 25),
+    ("1: SELECT * FROM t WHERE n", 26),
+    ("1: SELECT * FROM t WHERE n =", 28),
+    ("1: SELECT * FROM t WHERE n 1", 27),
+    ("1: SELECT * FROM t WHERE n <> 1", 28),
+    ("1: SELECT * FROM t WHERE n != 1", 27),
+    ("1: SELECT * FROM t WHERE n == 1", 28),
+    ("1: SELECT * FROM t WHERE n =< 1", 28),
+    ("1: SELECT * FROM t WHERE n => 1", 28),
+    ("1: SELECT * FROM t WHERE n < = 1", 29),
+    ("1: SELECT * FROM t WHERE n <== 1", 29),
+    ("1: SELECT * FROM t WHERE n <=> 1", 29),
+    ("1: SELECT * FROM t WHERE n >< 1", 28),
+    ("1: SELECT * FROM t WHERE n = n", 29),
+    ("1: SELECT * FROM t WHERE n = 1 OR n = 2", 31),
+    ("1: SELECT * FROM t WHERE n = 1 AND", 34),
+    ("1: SELECT * FROM t WHERE n = 1 AND AND", 35),
+    ("1: SELECT * FROM t WHERE n = 1, n = 2", 30),
+    ("1: SELECT * FROM t WHERE n IS NULL", 27),
+    ("1: SELECT * FROM t WHERE k LIKE 1", 27),
+    ("1: SELECT * FROM t WHERE n BETWEEN 1 AND 2", 27),
+    ("1: SELECT * FROM t WHERE (n = 1)", 25),
+    ("1: SELECT * FROM t WHERE 1", 25),
+    (
+        "1: SELECT * FROM nnnnnnnnnnnnnnnnnnnnnnnnnnnnnnnnnnnnnnnnnnnnnnnnnnnnnnnnnnnnnnnnn",
+        17,
+    ),
+    (
+        "1: SELECT * FROM _________________________________________________________________",
+        17,
+    ),
+    ("1: SELECT * FROM 1emp", 17),
+    ("1: SELECT * FROM \"emp\"", 17),
+    ("1: SELECT * FROM emp.emp", 20),
+    ("1: SELECT * FROM emp -", 21),
+    ("1: SELECT * FROM emp emp", 21),
+    ("1: SELECT * FROM 'emp'", 17),
+    ("1: SELECT * FROM 5", 17),
+    ("1: SELECT * FROM emp FOR SYSTEM_TIME WHERE no = 1", 37),
+    (
+        "1: SELECT * FROM emp WHERE no = 1 FOR SYSTEM_TIME AS OF 1",
+        34,
+    ),
+    ("1: UPDATE", 9),
+    ("1: UPDATE emp", 13),
+    ("1: UPDATE emp WHERE no = 1", 14),
+    ("1: UPDATE emp SET", 17),
+    ("1: UPDATE emp SET name", 22),
+    ("1: UPDATE emp SET name =", 24),
+    ("1: UPDATE emp SET name = 1,", 27),
+    ("1: UPDATE emp SET name = 'a' name = 'b'", 29),
+    ("1: UPDATE emp SET name > 1", 23),
+    ("1: UPDATE emp SET name = DEFAULT", 25),
+    ("1: UPDATE emp SET name = 1 AND no = 1", 27),
+    ("1: DELETE emp", 10),
+    ("1: DELETE FROM emp SET name = 1", 19),
+    ("1: DELETE FROM emp no = 1", 19),
+    ("1: START", 8),
+    ("1: START WORK", 9),
+    ("1: START TRANSACTION WORK", 21),
+    ("1: ROLLBACK WORK WORK", 17),
+    ("1: BEGIN WORK", 9),
+    ("1: BEGIN TRANSACTION", 9),
+    ("1: INSERT INTO emp VALUES (1, 'Ann", 30),
+    ("SPLIT: KEY emp (1)", 0),
+    ("migrate:", 0),
+    ("1: SELECT * FROM emp FOR SYSTEM_TIME FROM 1 TO 2", 37),
+    ("1: SELECT * FROM emp FOR SYSTEM_TIME BETWEEN 1 AND 2", 37),
+    ("1: ALTER TABLE emp ADD COLUMN x INT", 3),
+    ("1: SELECT * FROM emp WHERE no = 99999999999999999999", 32),
+    ("SPLIT: TIME emp (1) AT 5", 0),
+    (
+        "1: UPDATE emp FOR PORTION OF valid FROM 1 TO 2 SET name = 'x'",
+        14,
+    ),
+    ("1: DELETE FROM emp FOR PORTION OF valid FROM 1 TO 2", 19),
+    ("1: SELECT * FROM Select", 17),
+    ("1: SELECT * FROM overlaps", 17),
+    ("1: DELETE FROM t WHERE n=1ANDn>0", 26),
+    ("1: INSERT INTO t (k, key) VALUES ('a', 1)", 21),
+];
+
+static WRONG_BYTES: [(&[u8], usize); 28] = [
+    (b"1: SELECT * FROM emp\xc3\xa9", 20),
+    (b"1: SELECT * FROM \xc3\xa9", 17),
+    (b"1: BEGIN\r\r\n", 8),
+    (b"1: BEGIN\r ", 8),
+    (b"\r\r\n", 0),
+    (b"\r1: BEGIN", 0),
+    (b"1:\r\rBEGIN", 2),
+    (b"1: \r\n", 3),
+    (b"1: COMMIT\x00", 9),
+    (b"1: COMMIT\x0b", 9),
+    (b"1: COMMIT \xc2\xa0", 10),
+    (b"\xef\xbb\xbf1: BEGIN", 0),
+    (b"\xff", 0),
+    (b"1:\xa0BEGIN", 2),
+    (b"1: INSERT INTO emp VALUES (3, '\xff')", 30),
+    (b"1: INSERT INTO emp VALUES (3, 'Zo\xc3')", 30),
+    (b"1: INSERT INTO emp VALUES (3, '\xc3''\xab')", 30),
+    (b"1: INSERT INTO emp VALUES (3, '\xed\xa0\x80')", 30),
+    (b"1: INSERT INTO emp VALUES (3, '\xc0\x80')", 30),
+    (b"1: INSERT INTO emp VALUES (3, '\xf4\x90\x80\x80')", 30),
+    (b"1: INSERT INTO emp VALUES (3, '\xf8\x88\x80\x80\x80')", 30),
+    (b"1: INSERT INTO emp VALUES (x, '\xff')", 27),
+    (b"1: INSERT INTO emp VALUES (3 '\xff')", 29),
+    (b"1: INSERT INTO emp VALUES (3, 'a\r\n", 30),
+    (b"1: BEGIN\r", 8),
+    (b"1: \nBEGIN", 3),
+    (b"1:\n", 2),
+    (b"1: \r\n", 3),
+];
+
+fn chars(alloc: Global, text: &str) -> Result<Chars, AllocError> {
+    Ok(Chars::new(String::from_str(alloc, text)?))
+}
+
+fn table(
+    alloc: Global,
+    number: u8,
+    name: &str,
+    columns: &[(&str, ColumnType)],
+    key: &[usize],
+) -> Result<Table, Fail> {
+    let mut list = Vec::new(alloc);
+    for (column, of) in columns {
+        list.push(Column {
+            name: chars(alloc, column)?,
+            of: *of,
+            not_null: false,
+        })?;
+    }
+    Ok(Table {
+        number,
+        name: chars(alloc, name)?,
+        columns: Sequence::new(list),
+        key: Sequence::new(Vec::from_slice(alloc, key)?),
+        row_start: chars(alloc, "s")?,
+        row_end: chars(alloc, "e")?,
+    })
+}
+
+fn schema(alloc: Global) -> Result<Schema, Fail> {
+    let mut tables = Vec::new(alloc);
+    let emp = [("no", ColumnType::Int), ("name", ColumnType::Text)];
+    tables.push(table(alloc, 1, "emp", &emp, &[1])?)?;
+    let t = [
+        ("k", ColumnType::Text),
+        ("n", ColumnType::Int),
+        ("f", ColumnType::Boolean),
+    ];
+    tables.push(table(alloc, 2, "t", &t, &[1, 2])?)?;
+    Ok(Schema {
+        tables: Sequence::new(tables),
+    })
+}
+
+#[test]
+fn a_line_outside_the_grammar_names_its_first_wrong_byte(rt: HostRuntime) -> Result<(), Fail> {
+    let alloc = rt.alloc();
+    let schema = schema(alloc)?;
+    for (line, byte) in &WRONG_TOKENS {
+        let refusal = read_line(alloc, line.as_bytes(), &schema, 0).err();
+        assert_eq!(rt; refusal, Some(Refusal::Syntax(*byte)), "{line}");
+    }
+    for (line, byte) in &WRONG_BYTES {
+        let refusal = read_line(alloc, line, &schema, 0).err();
+        assert_eq!(rt; refusal, Some(Refusal::Syntax(*byte)), "{line:?}");
+    }
+    Ok(())
+}
+
+#[test]
+fn a_line_that_does_not_fit_names_the_first_reason(rt: HostRuntime) -> Result<(), Fail> {
+    let alloc = rt.alloc();
+    let schema = schema(alloc)?;
+    let long = "k".repeat(alloc, 201)?;
+    let compared = format!(in alloc; "1: SELECT * FROM t WHERE k < '{long}'")?;
+    let inserted = format!(in alloc; "1: INSERT INTO t VALUES ('{long}', 1, TRUE)")?;
+    for (line, refusal) in [
+        ("0: BEGIN", Refusal::NoSession),
+        ("65: BEGIN", Refusal::NoSession),
+        ("9223372036854775807: COMMIT", Refusal::NoSession),
+        ("65: INSERT INTO nosuch VALUES (1)", Refusal::NoSession),
+        ("0: INSERT INTO t (k, k) VALUES (1)", Refusal::NoSession),
+        ("1: SELECT * FROM dept", Refusal::NoTable),
+        ("1: SELECT * FROM nosuch WHERE x = 1", Refusal::NoTable),
+        ("1: INSERT INTO nosuch (x) VALUES (1, 2)", Refusal::NoTable),
+        ("1: UPDATE dept SET x = 1", Refusal::NoTable),
+        ("1: INSERT INTO emp VALUES ('x', 'Ann')", Refusal::BadRow(1)),
+        ("1: INSERT INTO emp VALUES (1)", Refusal::BadRow(0)),
+        (
+            "1: INSERT INTO emp VALUES (1, 5), (TRUE, 5)",
+            Refusal::BadRow(2),
+        ),
+        (
+            "1: INSERT INTO emp VALUES (1, 'a'), (1)",
+            Refusal::BadRow(0),
+        ),
+        ("1: INSERT INTO emp VALUES (3, 'a\rb')", Refusal::BadRow(2)),
+        ("1: INSERT INTO t (k, x) VALUES (1)", Refusal::BadRow(0)),
+        (
+            "1: INSERT INTO t (k, s) VALUES ('a', 1)",
+            Refusal::BadRow(0),
+        ),
+        (
+            "1: INSERT INTO t (k, n, K) VALUES ('a', 1, 'b')",
+            Refusal::BadRow(0),
+        ),
+        ("1: INSERT INTO t (k, n) VALUES ('a')", Refusal::BadRow(0)),
+        ("1: INSERT INTO t (n) VALUES (4)", Refusal::BadRow(1)),
+        (
+            "1: INSERT INTO t (n, k) VALUES ('a', 'a')",
+            Refusal::BadRow(2),
+        ),
+        (
+            "1: INSERT INTO t (f, k, n) VALUES (1, 'a', 1)",
+            Refusal::BadRow(3),
+        ),
+        (
+            "1: INSERT INTO t (k, n) VALUES ('a', 1), ('b', 2, 3)",
+            Refusal::BadRow(0),
+        ),
+        (
+            "1: INSERT INTO t (k, n) VALUES ('a', NULL), ('b', 2, 3)",
+            Refusal::BadRow(2),
+        ),
+        (inserted.as_str(), Refusal::BadRow(1)),
+        ("1: SELECT * FROM t WHERE s = 1", Refusal::BadRow(0)),
+        ("1: SELECT * FROM t WHERE f = TRUE", Refusal::BadRow(3)),
+        ("1: SELECT * FROM t WHERE n = NULL", Refusal::BadRow(2)),
+        (
+            "1: SELECT * FROM t WHERE k = 1 AND x = 1",
+            Refusal::BadRow(1),
+        ),
+        (
+            "1: DELETE FROM t WHERE k = 'a' AND n = 1 AND f = TRUE",
+            Refusal::BadRow(3),
+        ),
+        (compared.as_str(), Refusal::BadRow(1)),
+        ("1: UPDATE emp SET no = 1", Refusal::BadRow(1)),
+        ("1: UPDATE emp SET x = 1, no = 2", Refusal::BadRow(0)),
+        ("1: UPDATE emp SET name = 'a', NAME = 5", Refusal::BadRow(0)),
+        ("1: UPDATE emp SET name = 5 WHERE x = 1", Refusal::BadRow(2)),
+        (
+            "1: UPDATE emp SET name = 'a' WHERE x = 1",
+            Refusal::BadRow(0),
+        ),
+    ] {
+        let answer = read_line(alloc, line.as_bytes(), &schema, 0).err();
+        assert_eq!(rt; answer, Some(refusal), "{line}");
+    }
+    Ok(())
+}
+
+#[test]
+fn a_line_has_8192_bytes_at_most(rt: HostRuntime) -> Result<(), Fail> {
+    let alloc = rt.alloc();
+    let schema = schema(alloc)?;
+    for (blanks, end, too_long) in [
+        (8184, "\n", false),
+        (8184, "", false),
+        (8183, "\r\n", false),
+        (8184, "\r\n", true),
+        (8185, "\n", true),
+        (8185, "", true),
+    ] {
+        let blank = " ".repeat(alloc, blanks)?;
+        let line = format!(in alloc; "1:{blank}COMMIT{end}")?;
+        match read_line(alloc, line.as_bytes(), &schema, 0) {
+            Ok(Line::Step(Step::Commit(1, 0))) => assert!(rt; !too_long, "{blanks}"),
+            answer => {
+                assert_eq!(rt; answer.err(), Some(Refusal::LineTooLong));
+                assert!(rt; too_long, "{blanks}");
+            }
+        }
+    }
+    Ok(())
+}
+
+/// What a line says, in short.
+fn kind_of(line: &Line) -> &'static str {
+    match line {
+        Line::Nothing => "nothing",
+        Line::Clock(0) => "clock 0",
+        Line::Clock(_) => "clock",
+        Line::Step(Step::Begin(_)) => "begin",
+        Line::Step(Step::Insert(..)) => "insert",
+        Line::Step(Step::Update(..)) => "update",
+        Line::Step(Step::Delete(..)) => "delete",
+        Line::Step(Step::Select(_, Form::Plain, _)) => "select",
+        Line::Step(Step::Select(..)) => "select at an instant",
+        Line::Step(Step::Commit(_, 7)) => "commit at 7",
+        Line::Step(Step::Rollback(_)) => "rollback",
+        Line::Step(_) => "another",
+    }
+}
+
+#[test]
+fn lines_are_read_in_any_case_and_with_any_blanks(rt: HostRuntime) -> Result<(), Fail> {
+    let alloc = rt.alloc();
+    let schema = schema(alloc)?;
+    for (line, kind) in [
+        ("", "nothing"),
+        ("\n", "nothing"),
+        (" \t \r\n", "nothing"),
+        ("-- a comment", "nothing"),
+        ("\t-- 1: BEGIN\n", "nothing"),
+        ("1: BEGIN", "begin"),
+        ("1: begin;", "begin"),
+        ("1:BEGIN ;", "begin"),
+        (" 1 : Begin\t;\t \r\n", "begin"),
+        (
+            "0000000000000000000000000000064: START TRANSACTION",
+            "begin",
+        ),
+        ("1:sTART tRANSACTION;", "begin"),
+        ("1: COMMIT", "commit at 7"),
+        ("1: COMMIT WORK;\n", "commit at 7"),
+        ("1: rollback", "rollback"),
+        ("1: ROLLBACK work", "rollback"),
+        ("CLOCK:0", "clock 0"),
+        (
+            "Clock : 0000000000000000000000000000000000000000",
+            "clock 0",
+        ),
+        ("clock:000999999999999999999", "clock"),
+        ("1: INSERT INTO EMP VALUES (1, 'a'), (2, NULL)", "insert"),
+        ("1: INSERT INTO t (F, K, N) VALUES (NULL, 'k', 1)", "insert"),
+        (
+            "1: UPDATE emp SET name = 'x' WHERE no >= 1 AND NO < 5",
+            "update",
+        ),
+        ("1: DELETE FROM emp", "delete"),
+        ("1: delete from t where n=1AND n>0", "delete"),
+        ("1: select * from eMp", "select"),
+        (
+            "1: SELECT*FROM emp FOR SYSTEM_TIME AS OF 1;",
+            "select at an instant",
+        ),
+        (
+            "1: SELECT * FROM emp FOR SYSTEM_TIME AS OF 999999999999999999WHERE no=1",
+            "select at an instant",
+        ),
+    ] {
+        let read = read_line(alloc, line.as_bytes(), &schema, 7).ok();
+        assert_eq!(rt; read.as_ref().map(kind_of), Some(kind), "{line}");
+    }
+    Ok(())
+}
+
+#[test]
+fn a_row_has_its_values_in_the_order_of_the_table(rt: HostRuntime) -> Result<(), Fail> {
+    let alloc = rt.alloc();
+    let schema = schema(alloc)?;
+    let line = "1: INSERT INTO t (n, k) VALUES (-9223372036854775808, ''''), (-0, 'O''Hara')";
+    let Ok(Line::Step(Step::Insert(1, 2, rows))) = read_line(alloc, line.as_bytes(), &schema, 0)
+    else {
+        return Err("no INSERT")?;
+    };
+    assert_eq!(rt; rows.items().len(), 2);
+    for (row, (text, number)) in rows.items().iter().zip([("'", i64::MIN), ("O'Hara", 0)]) {
+        let values = [
+            Value::Text(chars(alloc, text)?),
+            Value::Int(number),
+            Value::Null,
+        ];
+        assert_eq!(rt; row.values(), values.as_slice());
+    }
+    Ok(())
+}
+
+#[test]
+fn comparisons_keep_their_operators(rt: HostRuntime) -> Result<(), Fail> {
+    let alloc = rt.alloc();
+    let schema = schema(alloc)?;
+    let line = "64: SELECT * FROM t WHERE n=1 AND n<2 AND n<=3 AND n>4 AND n>=5 AND K = 'a'";
+    let Ok(Line::Step(Step::Select(64, Form::Plain, keys))) = read_line(
+        alloc,
+        line.as_bytes(),
+        &schema,
+        0,
+    ) else {
+        return Err("no SELECT")?;
+    };
+    let operators = [
+        (2, Operator::Equal, Value::Int(1)),
+        (2, Operator::Below, Value::Int(2)),
+        (2, Operator::AtMost, Value::Int(3)),
+        (2, Operator::Above, Value::Int(4)),
+        (2, Operator::AtLeast, Value::Int(5)),
+        (1, Operator::Equal, Value::Text(chars(alloc, "a")?)),
+    ];
+    assert_eq!(rt; keys.table, 2);
+    assert_eq!(rt; keys.comparisons.items().len(), 6);
+    for (comparison, (column, operator, value)) in keys.comparisons.items().iter().zip(operators) {
+        assert_eq!(rt; comparison.column, column);
+        assert_eq!(rt; comparison.operator, operator);
+        assert_eq!(rt; comparison.value, value);
+    }
+    Ok(())
+}
