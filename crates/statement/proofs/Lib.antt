@@ -10,3 +10,4 @@ pub mod Whole
 pub mod WholeLiterals
 pub mod Lengths
 pub mod WholeLists
+pub mod WholeStatements
