@@ -11,3 +11,4 @@ pub mod WholeLiterals
 pub mod Lengths
 pub mod WholeLists
 pub mod WholeStatements
+pub mod WholeLines

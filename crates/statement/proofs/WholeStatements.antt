@@ -74,7 +74,7 @@ form_whole (AsOf instant) bytes rest is none = ap (on_for bytes) (word_whole (co
 form_whole (FromTo from to) bytes rest is none = absurd is
 form_whole (Between from to) bytes rest is none = absurd is
 
-work_whole : (bytes rest : List ℕ) → (Empty ∣ Word (codes "WORK")) bytes rest → Closing rest → after_word (codes "WORK") bytes ≡ rest
+pub work_whole : (bytes rest : List ℕ) → (Empty ∣ Word (codes "WORK")) bytes rest → Closing rest → after_word (codes "WORK") bytes ≡ rest
 work_whole bytes rest (inl is) closing =
     ap (λ (r : After). elim r as (λ _. List ℕ) [ Ok rest ↦ rest | Err at ↦ bytes ]) (ap (word_at (codes "WORK")) is ∙ (closing.word (codes "WORK") (lit< tt)).is) ∙ is
 work_whole bytes rest (inr is) closing = ap (λ (r : After). elim r as (λ _. List ℕ) [ Ok rest ↦ rest | Err at ↦ bytes ]) (word_whole (codes "WORK") (lit< tt) bytes rest is)
@@ -150,7 +150,7 @@ module _ (schema : Schema) where
     no_for_before [] bytes rest is closing = let none = closing.word (codes "FOR") (lit< tt) in record { at = none.at; is = ap (word_at (codes "FOR")) is ∙ none.is }
     no_for_before (c ∷ cs) bytes rest is closing = other_word_refused (codes "FOR") (codes "WHERE") refl (lit< tt) bytes is.0 is.1.0
 
-  insert_whole : (table : ℕ) (columns : Option (List ℕ)) (rows : List Row) (bytes rest : List ℕ)
+  pub insert_whole : (table : ℕ) (columns : Option (List ℕ)) (rows : List Row) (bytes rest : List ℕ)
       → (Word (codes "INTO") ⋯ IsTable schema table ⋯ IsColumnList schema table columns ⋯ Word (codes "VALUES") ⋯ Listed (Symbol 44) IsRow rows) bytes rest
       → Closing rest → insert_at schema bytes ≡ Ok (Insert table columns rows, rest)
   unfolding insert_at
@@ -165,7 +165,7 @@ module _ (schema : Schema) where
             (ok_then _ _ (word_whole (codes "VALUES") (lit< tt) c d is.1.1.1.1.1.1.1.0)
               (ok_then _ _ (rows_whole rows d rest is.1.1.1.1.1.1.1.1 closing) refl))))
 
-  update_whole : (keys : Keys) (sets : List Set) (bytes rest : List ℕ)
+  pub update_whole : (keys : Keys) (sets : List Set) (bytes rest : List ℕ)
       → (IsTable schema keys.table ⋯ Word (codes "SET") ⋯ Listed (Symbol 44) (IsSet schema keys.table) sets ⋯ IsWhere schema keys.table keys.comparisons) bytes rest
       → Closing rest → update_at schema bytes ≡ Ok (Update keys sets, rest)
   unfolding update_at
@@ -178,7 +178,7 @@ module _ (schema : Schema) where
           (ok_then _ _ (sets_whole keys.table sets b c is.1.1.1.1.1.0 (no_comma_before keys.table keys.comparisons c rest is.1.1.1.1.1.1 closing))
             (ok_then _ _ (where_whole keys.table keys.comparisons c rest is.1.1.1.1.1.1 closing) refl)))
 
-  delete_whole : (keys : Keys) (bytes rest : List ℕ) → (Word (codes "FROM") ⋯ IsTable schema keys.table ⋯ IsWhere schema keys.table keys.comparisons) bytes rest
+  pub delete_whole : (keys : Keys) (bytes rest : List ℕ) → (Word (codes "FROM") ⋯ IsTable schema keys.table ⋯ IsWhere schema keys.table keys.comparisons) bytes rest
       → Closing rest → delete_at schema bytes ≡ Ok (Delete keys, rest)
   unfolding delete_at
   delete_whole keys bytes rest is closing =
@@ -188,7 +188,7 @@ module _ (schema : Schema) where
         (ok_then _ _ (table_whole keys.table a b is.1.1.1.0)
           (ok_then _ _ (where_whole keys.table keys.comparisons b rest is.1.1.1.1 closing) refl))
 
-  select_whole : (form : Form) (keys : Keys) (bytes rest : List ℕ)
+  pub select_whole : (form : Form) (keys : Keys) (bytes rest : List ℕ)
       → (Symbol 42 ⋯ Word (codes "FROM") ⋯ IsTable schema keys.table ⋯ IsForm form ⋯ IsWhere schema keys.table keys.comparisons) bytes rest
       → Closing rest → select_at schema bytes ≡ Ok (Select form keys, rest)
   unfolding select_at
