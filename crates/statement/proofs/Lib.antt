@@ -12,3 +12,4 @@ pub mod Lengths
 pub mod WholeLists
 pub mod WholeStatements
 pub mod WholeLines
+pub mod ByTheGrammar

@@ -1,6 +1,7 @@
 //! Steps, replies, and what a history of steps comes to.
 #![tactic(auto)]
 
+mod grammar_laws;
 mod laws;
 #[cfg(test)]
 mod line_tests;
@@ -15,6 +16,7 @@ mod tokens;
 mod wheres;
 mod words;
 
+pub use grammar_laws::lines_are_read_by_the_grammar;
 pub use laws::opens_at_its_begin;
 pub use lines::read_line;
 pub use steps::{Line, Listing, Reply, Step};
