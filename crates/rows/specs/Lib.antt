@@ -9,4 +9,14 @@ pub mod Versions
 pub mod Writes
 pub mod Commits
 pub mod Memory
+pub mod KeyEncoding
+pub mod KeyEncodingLaws
+pub mod SchemaTokens
+pub mod SchemaSyntax
+pub mod SchemaTables
+pub mod SchemaLaws
 pub mod Laws
+pub mod Sample
+pub mod RowEncoding
+pub mod RowReading
+pub mod RowLaws

@@ -1,4 +1,5 @@
 ghost use Rattle.std.specs.Prelude.{◌≡◌, IfOk};
+ghost use Rattle.rows.specs.Memory.{OnlyMemory};
 
 use crate::refusals::Mem;
 use crate::sequences::Sequence;
@@ -21,7 +22,8 @@ pub struct Key {
 impl Key {
     /// An equal key.
     pub fn copy(&self) -> Mem<Key>
-        ensures { IfOk result (λ k. k ≡ self.now) }
+        ensures ok { IfOk result (λ k. k ≡ self.now) }
+        ensures err { OnlyMemory result }
     {
         Ok(self.clone()?)
     }

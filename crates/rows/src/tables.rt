@@ -2,6 +2,7 @@ ghost use Rattle.std.specs.Prelude.{◌≡◌, IfOk, option_copied};
 ghost use Rattle.rows.specs.Tables.{table_at, value_at};
 ghost use Rattle.rows.specs.Names.{same_name, table_number, column_number};
 ghost use Rattle.rows.specs.Writes.{key_of};
+ghost use Rattle.rows.specs.Memory.{OnlyMemory};
 
 use crate::keys::Key;
 use crate::queries::ColumnNumber;
@@ -92,7 +93,8 @@ impl Table {
 
     /// The values of a row's key columns: the key of a row that fits the table.
     pub fn key(&self, alloc: Global, row: &Row) -> Mem<Key>
-        ensures { IfOk result (λ k. k ≡ key_of self.now row.now) }
+        ensures ok { IfOk result (λ k. k ≡ key_of self.now row.now) }
+        ensures err { OnlyMemory result }
     {
         let mut parts = Vec::new(alloc);
         for column in self.key.items() {

@@ -1,4 +1,5 @@
 ghost use Rattle.std.specs.Prelude.{◌≡◌, IfOk};
+ghost use Rattle.rows.specs.Memory.{OnlyMemory};
 
 use crate::refusals::Mem;
 use crate::texts::Chars;
@@ -33,7 +34,8 @@ impl Clone for Value {
 impl Value {
     /// An equal value.
     pub fn copy(&self) -> Mem<Value>
-        ensures { IfOk result (λ v. v ≡ self.now) }
+        ensures ok { IfOk result (λ v. v ≡ self.now) }
+        ensures err { OnlyMemory result }
     {
         Ok(self.clone()?)
     }
@@ -171,7 +173,8 @@ impl Row {
 impl Row {
     /// An equal row.
     pub fn copy(&self) -> Mem<Row>
-        ensures { IfOk result (λ r. r ≡ self.now) }
+        ensures ok { IfOk result (λ r. r ≡ self.now) }
+        ensures err { OnlyMemory result }
     {
         Ok(self.clone()?)
     }

@@ -1,3 +1,8 @@
+pub mod Opens
+pub mod Growth
+pub mod Fronts
+pub mod Quotes
+pub mod Feeding
 pub mod Digits
 pub mod Turns
 pub mod Runs

@@ -1,33 +1,22 @@
--- Worked examples.
-use Rattle.std.specs.Prelude.{◌≡◌, ℕ, List, [], ◌∷◌, ◌++◌, Option, Some, None, true, false, refl, codes, pos}
+-- Worked examples, each a list of steps with its replies.
+use Rattle.std.specs.Prelude.{◌≡◌, ℕ, List, [], ◌∷◌, ◌++◌, Option, Some, None, true, false, codes, pos}
 use Rattle.rows.specs.declared.values.Value.TheVariants.{Int, Text}
-use Rattle.rows.specs.declared.tables.ColumnType.TheVariants.{Int as IsInt, Text as IsText}
-use Rattle.rows.specs.declared.tables.Schema.{Schema}
-use Rattle.rows.specs.declared.queries.Form.TheVariants.{AsOf, FromTo, Between}
+use Rattle.rows.specs.declared.queries.Form.TheVariants.{Plain, AsOf, FromTo, Between}
 use Rattle.rows.specs.declared.queries.Operator.TheVariants.{Equal}
 use Rattle.rows.specs.declared.queries.Keys.{Keys}
 use Rattle.rows.specs.declared.queries.Set.{Set}
 use Rattle.rows.specs.declared.queries.Shown.{Shown}
-use Rattle.rows.specs.declared.refusals.Refusal.TheVariants.{Conflict}
+use Rattle.rows.specs.declared.refusals.Refusal.TheVariants.{NoTable, BadRow, NoTransaction, InTransaction, DuplicateKey, Conflict, ClockEnd}
+use Rattle.rows.specs.Sample.{sample}
 use Rattle.rows.specs.Log.{Row}
+use Rattle.rows.specs.Commits.{last_instant}
+use Rattle.rows.specs.declared.keys.Key.{Key}
 use Rattle.statement.specs.declared.steps.Step.{Step}
-use Rattle.statement.specs.declared.steps.Step.TheVariants.{Begin, Insert, Update, Delete, Select, Commit}
+use Rattle.statement.specs.declared.steps.Step.TheVariants.{Begin, Insert, Update, Delete, Select, Commit, Rollback}
 use Rattle.statement.specs.declared.steps.Listing.TheVariants.{Rows, Periods}
 use Rattle.statement.specs.declared.steps.Reply.{Reply}
-use Rattle.statement.specs.declared.steps.Reply.TheVariants.{Begun, Inserted, Updated, Deleted, Shown as Shows, Committed, Refused}
+use Rattle.statement.specs.declared.steps.Reply.TheVariants.{Begun, Inserted, Updated, Deleted, Shown as Shows, Committed, RolledBack, Refused}
 use Rattle.statement.specs.History.{replies}
-
-abbrev pub sample : Schema
-sample = record {
-  tables = record {
-    number = 1;
-    name = codes "emp";
-    columns = record { name = codes "no"; of = IsInt; not_null = false } ∷ record { name = codes "name"; of = IsText; not_null = false } ∷ [];
-    key = 1 ∷ [];
-    row_start = codes "sys_start";
-    row_end = codes "sys_end";
-  } ∷ [];
-}
 
 abbrev pub emp : ℕ → List ℕ → Row
 emp n name = Int (pos n) ∷ Text name ∷ []
@@ -44,49 +33,94 @@ rename name = record { column = 2; value = Text name } ∷ []
 abbrev pub version : Row → ℕ → Option ℕ → Shown
 version row from to = record { row = row; from = from; to = to }
 
-abbrev pub row_1 : List Step
-row_1 = Begin 1 ∷ Insert 1 1 (emp 1 (codes "Ann") ∷ []) ∷ Commit 1 100 ∷ Select 1 (AsOf 99) all ∷ Select 1 (AsOf 100) all ∷ []
+abbrev pub number_key : ℕ → Key
+number_key n = record { table = 1; parts = Int (pos n) ∷ [] }
 
-abbrev pub replies_1 : List Reply
-replies_1 = Begun 0 ∷ Inserted 1 ∷ Committed (Some 100) ∷ Shows (Rows []) ∷ Shows (Rows (emp 1 (codes "Ann") ∷ [])) ∷ []
+abbrev pub rows : List Row → Reply
+rows shown = Shows (Rows shown)
 
-pub row_1-replies : replies sample [] row_1 ≡ replies_1
-row_1-replies = refl
+-- from an empty store on, these steps have these replies
+abbrev pub Answers : List Step → List Reply → Type 0
+Answers steps expected = replies sample [] steps ≡ expected
 
-abbrev pub row_2 : List Step
-row_2 = Begin 1 ∷ Update 1 (number 1) (rename (codes "Bea")) ∷ Commit 1 200 ∷ Select 1 (AsOf 199) all ∷ Select 1 (AsOf 200) all ∷ Select 1 (FromTo 100 200) all ∷ Select 1 (Between 100 200) all ∷ []
+-- a period is closed at its start
+abbrev pub first : List Step
+first = Begin 1 ∷ Insert 1 1 (emp 1 (codes "Ann") ∷ []) ∷ Commit 1 100 ∷ Select 1 (AsOf 99) all ∷ Select 1 (AsOf 100) all ∷ []
 
-abbrev pub replies_2 : List Reply
-replies_2 = Begun 100 ∷ Updated 1 ∷ Committed (Some 200) ∷ Shows (Rows (emp 1 (codes "Ann") ∷ [])) ∷ Shows (Rows (emp 1 (codes "Bea") ∷ []))
+abbrev pub first_replies : List Reply
+first_replies = Begun 0 ∷ Inserted 1 ∷ Committed (Some 100) ∷ rows [] ∷ rows (emp 1 (codes "Ann") ∷ []) ∷ []
+
+abbrev pub ClosedStart : Type 0
+ClosedStart = Answers first first_replies
+
+-- and open at its end
+abbrev pub second : List Step
+second = first ++ Begin 1 ∷ Update 1 (number 1) (rename (codes "Bea")) ∷ Commit 1 200 ∷ Select 1 (AsOf 199) all ∷ Select 1 (AsOf 200) all ∷ Select 1 (FromTo 100 200) all ∷ Select 1 (Between 100 200) all ∷ []
+
+abbrev pub second_replies : List Reply
+second_replies = first_replies ++ Begun 100 ∷ Updated 1 ∷ Committed (Some 200) ∷ rows (emp 1 (codes "Ann") ∷ []) ∷ rows (emp 1 (codes "Bea") ∷ [])
     ∷ Shows (Periods (version (emp 1 (codes "Ann")) 100 (Some 200) ∷ [])) ∷ Shows (Periods (version (emp 1 (codes "Ann")) 100 (Some 200) ∷ version (emp 1 (codes "Bea")) 200 None ∷ [])) ∷ []
 
-pub row_2-replies : replies sample [] (row_1 ++ row_2) ≡ replies_1 ++ replies_2
-row_2-replies = refl
+abbrev pub OpenEnd : Type 0
+OpenEnd = Answers second second_replies
 
-abbrev pub row_4 : List Step
-row_4 = Begin 1 ∷ Insert 1 1 (emp 2 (codes "Cy") ∷ []) ∷ Commit 1 50 ∷ []
+-- a time that ends where it begins, or before, has no rows, but for one that counts its end in
+abbrev pub third : List Step
+third = second ++ Select 1 (FromTo 150 150) all ∷ Select 1 (Between 200 200) all ∷ Select 1 (FromTo 300 100) all ∷ []
 
-abbrev pub replies_4 : List Reply
-replies_4 = Begun 200 ∷ Inserted 1 ∷ Committed (Some 201) ∷ []
+abbrev pub third_replies : List Reply
+third_replies = second_replies ++ Shows (Periods []) ∷ Shows (Periods (version (emp 1 (codes "Bea")) 200 None ∷ [])) ∷ Shows (Periods []) ∷ []
 
-pub row_4-replies : replies sample [] (row_1 ++ row_2 ++ row_4) ≡ replies_1 ++ replies_2 ++ replies_4
-row_4-replies = refl
+abbrev pub DegeneratePeriods : Type 0
+DegeneratePeriods = Answers third third_replies
 
-abbrev pub row_5 : List Step
-row_5 = Begin 1 ∷ Begin 2 ∷ Update 1 (number 1) (rename (codes "Cat")) ∷ Update 2 (number 1) (rename (codes "Dan")) ∷ Commit 1 200 ∷ Commit 2 200 ∷ []
+-- a clock that runs back does not take the instants back
+abbrev pub fourth : List Step
+fourth = third ++ Begin 1 ∷ Insert 1 1 (emp 2 (codes "Cy") ∷ []) ∷ Commit 1 50 ∷ []
 
-abbrev pub replies_5 : List Reply
-replies_5 = Begun 200 ∷ Begun 200 ∷ Updated 1 ∷ Updated 1 ∷ Committed (Some 201) ∷ Refused (Conflict (record { table = 1; parts = Int (pos 1) ∷ [] }) 201) ∷ []
+abbrev pub fourth_replies : List Reply
+fourth_replies = third_replies ++ Begun 200 ∷ Inserted 1 ∷ Committed (Some 201) ∷ []
 
-pub row_5-replies : replies sample [] (row_1 ++ row_2 ++ row_5) ≡ replies_1 ++ replies_2 ++ replies_5
-row_5-replies = refl
+abbrev pub ClockRunsBack : Type 0
+ClockRunsBack = Answers fourth fourth_replies
 
-abbrev pub row_6 : List Step
-row_6 = Begin 1 ∷ Begin 2 ∷ Update 1 (number 2) (rename (codes "Cat")) ∷ Update 2 (number 1) (rename (codes "Dan")) ∷ Commit 1 50 ∷ Commit 2 50 ∷ []
+-- of two transactions that change one key, the first to commit wins
+abbrev pub FirstCommitter : Type 0
+FirstCommitter = Answers (third ++ Begin 1 ∷ Begin 2 ∷ Update 1 (number 1) (rename (codes "Cat")) ∷ Update 2 (number 1) (rename (codes "Dan")) ∷ Commit 1 200 ∷ Commit 2 200 ∷ [])
+    (third_replies ++ Begun 200 ∷ Begun 200 ∷ Updated 1 ∷ Updated 1 ∷ Committed (Some 201) ∷ Refused (Conflict (number_key 1) 201) ∷ [])
 
-abbrev pub row_7 : List Step
-row_7 = Begin 1 ∷ Insert 1 1 (emp 9 (codes "tmp") ∷ []) ∷ Delete 1 (number 9) ∷ Commit 1 50 ∷ Begin 1 ∷ []
+-- two that change different keys both commit
+abbrev pub sixth : List Step
+sixth = fourth ++ Begin 1 ∷ Begin 2 ∷ Update 1 (number 2) (rename (codes "Cat")) ∷ Update 2 (number 1) (rename (codes "Dan")) ∷ Commit 1 50 ∷ Commit 2 50 ∷ []
 
-pub row_7-replies : replies sample [] (row_1 ++ row_2 ++ row_4 ++ row_6 ++ row_7) ≡ replies_1 ++ replies_2 ++ replies_4
-    ++ (Begun 201 ∷ Begun 201 ∷ Updated 1 ∷ Updated 1 ∷ Committed (Some 202) ∷ Committed (Some 203) ∷ []) ++ (Begun 203 ∷ Inserted 1 ∷ Deleted 1 ∷ Committed None ∷ Begun 203 ∷ [])
-row_7-replies = refl
+abbrev pub sixth_replies : List Reply
+sixth_replies = fourth_replies ++ Begun 201 ∷ Begun 201 ∷ Updated 1 ∷ Updated 1 ∷ Committed (Some 202) ∷ Committed (Some 203) ∷ []
+
+abbrev pub WriteSkew : Type 0
+WriteSkew = Answers sixth sixth_replies
+
+-- a row that was inserted and deleted leaves no change, and takes no instant
+abbrev pub NetChange : Type 0
+NetChange = Answers (sixth ++ Begin 1 ∷ Insert 1 1 (emp 9 (codes "tmp") ∷ []) ∷ Delete 1 (number 9) ∷ Commit 1 50 ∷ Begin 1 ∷ [])
+    (sixth_replies ++ Begun 203 ∷ Inserted 1 ∷ Deleted 1 ∷ Committed None ∷ Begun 203 ∷ [])
+
+-- so such a transaction meets no other
+abbrev pub NoChangeNoConflict : Type 0
+NoChangeNoConflict = Answers (fourth ++ Begin 1 ∷ Begin 2 ∷ Insert 1 1 (emp 8 (codes "a") ∷ []) ∷ Delete 1 (number 8) ∷ Insert 2 1 (emp 8 (codes "b") ∷ []) ∷ Commit 2 50 ∷ Commit 1 50 ∷ [])
+    (fourth_replies ++ Begun 201 ∷ Begun 201 ∷ Inserted 1 ∷ Deleted 1 ∷ Inserted 1 ∷ Committed (Some 202) ∷ Committed None ∷ [])
+
+-- own writes have no instant
+abbrev pub OwnWrites : Type 0
+OwnWrites = Answers (fourth ++ Begin 1 ∷ Insert 1 1 (emp 5 (codes "Gus") ∷ []) ∷ Select 1 Plain (number 5) ∷ Select 1 (AsOf 201) (number 5) ∷ Rollback 1 ∷ [])
+    (fourth_replies ++ Begun 201 ∷ Inserted 1 ∷ rows (emp 5 (codes "Gus") ∷ []) ∷ rows [] ∷ RolledBack ∷ [])
+
+-- after the last instant there is none
+abbrev pub LargestInstant : Type 0
+LargestInstant = Answers (Begin 1 ∷ Insert 1 1 (emp 1 (codes "Ann") ∷ []) ∷ Commit 1 last_instant ∷ Begin 1 ∷ Update 1 (number 1) (rename (codes "Bea")) ∷ Commit 1 last_instant ∷ [])
+    (Begun 0 ∷ Inserted 1 ∷ Committed (Some last_instant) ∷ Begun last_instant ∷ Updated 1 ∷ Refused ClockEnd ∷ [])
+
+-- of several refusals the first of their order is answered
+abbrev pub RefusalsInOrder : Type 0
+RefusalsInOrder = Answers (Select 1 Plain (record { table = 2; comparisons = [] }) ∷ Insert 1 1 ((Text (codes "x") ∷ Text (codes "Ann") ∷ []) ∷ []) ∷ Insert 1 1 ((Int (pos 1) ∷ []) ∷ []) ∷ Insert 1 1 (emp 1 (codes "Ann") ∷ [])
+    ∷ Begin 1 ∷ Begin 1 ∷ Insert 1 1 (emp 1 (codes "a") ∷ emp 1 (codes "b") ∷ []) ∷ Select 1 Plain all ∷ [])
+    (Refused NoTable ∷ Refused (BadRow 1) ∷ Refused (BadRow 0) ∷ Refused NoTransaction ∷ Begun 0 ∷ Refused InTransaction ∷ Refused (DuplicateKey (number_key 1)) ∷ rows [] ∷ [])

@@ -10,6 +10,8 @@ mod lists;
 mod literals;
 mod meanings;
 mod misfits;
+mod print;
+mod puts;
 mod statements;
 mod steps;
 mod tokens;
@@ -17,6 +19,8 @@ mod wheres;
 mod words;
 
 pub use grammar_laws::lines_are_read_by_the_grammar;
-pub use laws::opens_at_its_begin;
+pub use laws::{log_only_grows, opens_at_its_begin, past_stays, worked_examples_hold};
 pub use lines::read_line;
+pub use print::{print_refusal, print_reply};
+pub use puts::{WriteFault, put_all};
 pub use steps::{Line, Listing, Reply, Step};

@@ -1,0 +1,61 @@
+-- What a run of a script keeps, by what contracts see of it.
+use Rattle.std.specs.Prelude.{◌≡◌, ◌≤◌, ℕ, List, [], ◌∷◌, Option, Some, None, Bool, true, false, if◌then◌else◌, vec_capacity, length}
+use Rattle.std.specs.Io.KnownBytes.{Appends}
+use Rattle.rows.specs.declared.tables.Schema.{Schema}
+use Rattle.statement.specs.Lines.{line_says}
+use Rattle.statement.specs.Puts.{AppendsFront}
+use Rattle.statement.specs.Transcript.{Partial, Progress, Reading, line_reply, line_leaves, last_reply}
+use Rattle.statement.specs.Taking.{Feeds}
+use Rattle.interleaving.specs.declared.scripts.Script.{Script}
+use Rattle.interleaving.specs.Stands.{Stands}
+
+-- the line as far as it was read
+abbrev pub line_of : Script → Partial
+line_of s = if s.is_too_long then None else Some s.line.items
+
+-- a run that has a schema's tables is as far as this
+pub record IsAt (s : Script) (schema : Schema) (p : Progress) : Type 0 where
+  pub schema_is : s.system.schema ≡ schema
+  pub stands : Stands s.system p.history
+  pub reading_is : s.reading ≡ p.reading
+
+-- a run that differs in its line alone
+pub record SameRun (s s' : Script) : Type 0 where
+  pub system : s'.system ≡ s.system
+  pub reading : s'.reading ≡ s.reading
+
+-- a line was answered, or memory ran out at it
+pub record Answered (old new : Option (List ℕ)) (s : Script) (schema : Schema) (p : Progress) (line : Partial) : Type 0 where
+  pub out : Bool
+  pub wrote : Appends old new (line_reply schema (line_says schema) out p line)
+  pub left : IsAt s schema (line_leaves schema (line_says schema) out p line)
+
+-- the writer failed in the reply to a line
+pub record Broken (old new : Option (List ℕ)) (schema : Schema) (p : Progress) (line : Partial) : Type 0 where
+  pub out : Bool
+  pub wrote : AppendsFront old new (line_reply schema (line_says schema) out p line)
+
+-- the line's buffer has room for the longest line and its line feed, and the line has at most that length
+pub record HasRoom (s : Script) : Type 0 where
+  pub room : 8193 ≤ vec_capacity s.line
+  pub fits : length s.line.items ≤ 8192
+
+abbrev pub has_byte : Partial → Bool
+has_byte None = true
+has_byte (Some []) = false
+has_byte (Some (b ∷ bytes)) = true
+
+-- some bytes of the script were taken and answered
+pub record Fed (old new : Option (List ℕ)) (s s' : Script) (schema : Schema) (p : Progress) (bytes : List ℕ) : Type 0 where
+  pub later : Progress
+  pub left : IsAt s' schema later
+  pub fed : Feeds schema (line_says schema) old new p (line_of s) later (line_of s') bytes
+
+-- what was due after the last byte was written
+pub record Finished (old new : Option (List ℕ)) (s : Script) (schema : Schema) (p : Progress) : Type 0 where
+  pub out : Bool
+  pub wrote : Appends old new (last_reply schema (line_says schema) out p (line_of s))
+
+pub record Unfinished (old new : Option (List ℕ)) (s : Script) (schema : Schema) (p : Progress) : Type 0 where
+  pub out : Bool
+  pub wrote : AppendsFront old new (last_reply schema (line_says schema) out p (line_of s))

@@ -1,0 +1,22 @@
+use Rattle.std.proofs.Common.{◌≡◌, List, ℕ, Bool, true, false, ◌&&◌, IsUtf8, refl, ap, ◌∙◌, rules}
+use Rattle.std.specs.Str.{is_utf8}
+use Rattle.std.proofs.lemmas.Str.{IsUtf8-from_is_utf8, is_utf8-from_IsUtf8}
+use Rattle.rows.specs.Fits.{fits_text}
+use Rattle.rows.proofs.row_encoding.stored_text.Goals as goal
+
+not_utf8 : (bs : List ℕ) (t : Bool) → is_utf8 bs ≡ t → ¬ (IsUtf8 bs) → t ≡ false
+not_utf8 bs true e n = absurd (n (IsUtf8-from_is_utf8 bs e))
+not_utf8 bs false e n = refl
+
+both : (a b : Bool) → a ≡ true → (a && b) ≡ b
+both a b e = ap (λ t. t && b) e
+
+pub returns-in-Ok-clause-some : goal.returns-in-Ok-clause-some
+returns-in-Ok-clause-some c =
+    let fits : fits_text 1000 c.args.bytes.now ≡ true = search rules in
+    (c.in-Ok.ensures.cases.0, both _ _ fits ∙ is_utf8-from_IsUtf8 c.args.bytes.now c.in-Ok.ensures.cases.1)
+
+pub returns-in-Err-clause-none : goal.returns-in-Err-clause-none
+returns-in-Err-clause-none c =
+    let fits : fits_text 1000 c.args.bytes.now ≡ true = search rules in
+    both _ _ fits ∙ not_utf8 c.args.bytes.now (is_utf8 c.args.bytes.now) refl c.in-Err.ensures.cases.0

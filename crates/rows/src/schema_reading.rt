@@ -1,0 +1,89 @@
+//! Reads schemas.
+
+ghost use Rattle.std.specs.Prelude.{[]};
+ghost use Rattle.rows.specs.SchemaTables.{tables_from, read_schema, IsOrMemory};
+
+use crate::declarations::{Declaration, creates_at};
+use crate::schema_tables::next_table;
+use crate::schema_tokens::Stop;
+use crate::sequences::Sequence;
+use crate::tables::Schema;
+use std::alloc::{AllocError, AllocFailed, Global};
+
+/// The bytes that a schema's text may have.
+const SCHEMA: usize = 65_536;
+
+/// The schema of a program that is given none.
+pub const SAMPLE: &str = "CREATE TABLE emp (
+  no INT,
+  name TEXT,
+  sys_start TIMESTAMP(12) GENERATED ALWAYS AS ROW START,
+  sys_end TIMESTAMP(12) GENERATED ALWAYS AS ROW END,
+  PERIOD FOR SYSTEM_TIME (sys_start, sys_end),
+  PRIMARY KEY (no)
+) WITH SYSTEM VERSIONING;
+";
+
+/// Why a text is no schema.
+#[derive(Debug, PartialEq, Eq, Drop)]
+pub enum SchemaFault {
+    /// The text is not of the grammar: the offset, from 0, of the first byte of the first token that cannot stand.
+    Syntax(usize),
+    /// The number, from 1, of the first table that breaks a rule of tables.
+    BadTable(usize),
+    Memory,
+}
+
+impl From<AllocError> for SchemaFault {
+    ghost use Rattle.std.specs.Prelude.{◌≡◌};
+    ghost use Rattle.rows.specs.declared.schema_reading.SchemaFault.TheVariants.{Memory};
+
+    ghost from_gives = { λ _ e. e ≡ Memory };
+
+    fn from(_error: AllocError) -> SchemaFault {
+        SchemaFault::Memory
+    }
+}
+
+impl<T: Drop> From<AllocFailed<T>> for SchemaFault {
+    ghost use Rattle.std.specs.Prelude.{◌≡◌};
+    ghost use Rattle.rows.specs.declared.schema_reading.SchemaFault.TheVariants.{Memory};
+
+    ghost from_gives = { λ _ e. e ≡ Memory };
+
+    fn from(_error: AllocFailed<T>) -> SchemaFault {
+        SchemaFault::Memory
+    }
+}
+
+impl Schema {
+    /// Reads CREATE TABLE statements. A text of over 65,536 bytes is a fault of syntax at that byte, and syntax is looked for in the whole text before any table is.
+    #[tactic(auto, unfolding(crate::specs::SchemaTables::read_schema))]
+    pub fn read(alloc: Global, text: &[u8]) -> Result<Schema, SchemaFault>
+        ensures { IsOrMemory result (read_schema text.now) }
+    {
+        if text.len() > SCHEMA {
+            return Err(SchemaFault::Syntax(SCHEMA));
+        }
+        match creates_at(alloc, text) {
+            Ok((declarations, _)) => tables_of(alloc, declarations.items()),
+            Err(Stop::At(at)) => Err(SchemaFault::Syntax(text.len().saturating_sub(at.len()))),
+            Err(Stop::Memory) => Err(SchemaFault::Memory),
+        }
+    }
+}
+
+fn tables_of(alloc: Global, declarations: &[Declaration]) -> Result<Schema, SchemaFault>
+    ensures { IsOrMemory result (tables_from [] declarations.now) }
+{
+    let mut tables = Vec::new(alloc);
+    for declaration in declarations {
+        match next_table(alloc, &tables, declaration)? {
+            Some(table) => tables.push(table)?,
+            None => return Err(SchemaFault::BadTable(tables.len() + 1)),
+        }
+    }
+    Ok(Schema {
+        tables: Sequence::new(tables),
+    })
+}

@@ -1,0 +1,72 @@
+use crate::schema_reading::{SAMPLE, SchemaFault};
+use crate::tables::Schema;
+use std::test::Fail;
+
+fn is_syntax_at(read: &Result<Schema, SchemaFault>, offset: usize) -> bool {
+    matches!(read, Err(SchemaFault::Syntax(at)) if *at == offset)
+}
+
+fn is_bad_table(read: &Result<Schema, SchemaFault>, number: usize) -> bool {
+    matches!(read, Err(SchemaFault::BadTable(n)) if *n == number)
+}
+
+#[test]
+fn the_sample_has_one_table(rt: HostRuntime) -> Result<(), Fail> {
+    let read = Schema::read(rt.alloc(), SAMPLE.as_bytes());
+    let schema = read.expect(&rt, "the sample is a schema");
+    assert_eq!(rt; schema.tables.items().len(), 1);
+    assert!(rt; schema.table(b"EMP") == Some(1));
+    let table = schema.table_at(1).expect(&rt, "it has a table");
+    assert!(rt; table.column(b"No") == Some(1) && table.column(b"name") == Some(2));
+    assert!(rt; table.column(b"sys_end").is_none());
+    Ok(())
+}
+
+#[test]
+fn a_fault_of_syntax_has_its_tokens_first_byte(rt: HostRuntime) -> Result<(), Fail> {
+    let faults = [
+        ("", 0),
+        ("-- a comment alone", 18),
+        (";", 0),
+        ("CREATE TABLE (a INT)", 13),
+        ("CREATE TABLE key (a INT)", 13),
+        ("CREATE TABLE t (a INT,, b INT)", 22),
+        ("CREATE TABLE t (a VARCHAR(-5))", 26),
+        ("CREATE TABLE t (a INT -- ) WITH\n!", 32),
+        ("CREATE TABLE t (PRIMARY KEY (a b))", 31),
+        ("CREATE TABLE t (PERIOD FOR valid (a, b))", 27),
+    ];
+    for (text, offset) in faults {
+        let read = Schema::read(rt.alloc(), text.as_bytes());
+        assert!(rt; is_syntax_at(&read, offset), "{text}");
+    }
+    let blanks = vec![in rt.alloc(); b' '; 65_537]?;
+    assert!(rt; is_syntax_at(&Schema::read(rt.alloc(), &blanks), 65_536));
+    Ok(())
+}
+
+#[test]
+fn a_bad_table_is_told_by_its_number(rt: HostRuntime) -> Result<(), Fail> {
+    let times =
+        "s TIMESTAMP GENERATED ALWAYS AS ROW START, e TIMESTAMP GENERATED ALWAYS AS ROW END, PERIOD FOR SYSTEM_TIME (s, e)";
+    let columns = [
+        ("a INT", 1),
+        ("a INT PRIMARY KEY, A TEXT", 1),
+        ("a INT PRIMARY KEY PRIMARY KEY", 1),
+        ("a INT NOT NULL PRIMARY KEY NOT NULL", 1),
+        ("a VARCHAR(0) PRIMARY KEY", 1),
+        ("a VARCHAR(99999999999999999999) PRIMARY KEY", 1),
+        ("a INT, PRIMARY KEY (x)", 1),
+        ("a INT, PRIMARY KEY (a, A)", 1),
+        ("a INT PRIMARY KEY", 2),
+    ];
+    for (column, number) in columns {
+        let table = format!(in rt.alloc();
+            "CREATE TABLE t ({column}, {times}) WITH SYSTEM VERSIONING"
+        )?;
+        let text = format!(in rt.alloc(); "{table}; {table};")?;
+        let read = Schema::read(rt.alloc(), text.as_bytes());
+        assert!(rt; is_bad_table(&read, number), "{column}");
+    }
+    Ok(())
+}

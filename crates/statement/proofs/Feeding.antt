@@ -1,0 +1,137 @@
+-- What the bytes of a text do, one after another.
+use Rattle.std.proofs.Common.{◌≡◌, ◌≢◌, ℕ, List, [], ◌∷◌, ◌++◌, Bool, true, false, Option, Some, None, append_assoc, append-nil, sym, ◌∙◌, ap, refl, subst, arith}
+use Rattle.std.specs.Prelude.{if◌then◌else◌, ◌==◌, IfSome}
+use Rattle.std.proofs.lemmas.Bool.Decides.{nat_tests}
+use Rattle.std.proofs.KnownBytes.{Appends-trans, Appends-nil, Consumes-nil, Consumes-trans, Consumes-kept}
+use Rattle.std.specs.Io.KnownBytes.{Appends, Consumes, Keeps, IsAtEnd}
+use Rattle.rows.specs.declared.tables.Schema.{Schema}
+use Rattle.statement.specs.Puts.{AppendsFront}
+use Rattle.statement.specs.Transcript.{Partial, Progress, Reading, beginning, add, ended, line_reply, line_leaves, last_reply, mark, marks_after, transcript, IsTranscript, IsStopped}
+use Rattle.statement.specs.Taking.{Feeds, Breaks}
+use Rattle.statement.proofs.Fronts.{front_then}
+
+not_end : (byte : ℕ) → byte ≢ 10 → (byte == 10) ≡ false
+not_end byte other = grind (arith, nat_tests)
+
+module _ (schema : Schema) (read : Reading) where
+  pub feeds_none : (a : Option (List ℕ)) (p : Progress) (line : Partial) → Feeds schema read a a p line p line []
+  feeds_none a p line = record { marks = []; out = []; wrote = Appends-nil a; goes_on = λ more rest. refl }
+
+  pub feeds_end : (a b : Option (List ℕ)) (m : Bool) (p : Progress) (byte : ℕ) (line : Partial) → Appends a b (line_reply schema read m p (ended line)) → byte ≡ 10
+      → Feeds schema read a b p line (line_leaves schema read m p (ended line)) (Some []) (byte ∷ [])
+  feeds_end a b m p byte line wrote is_end = record {
+    marks = m ∷ [];
+    out = line_reply schema read m p (ended line);
+    wrote = wrote;
+    goes_on = λ more rest. subst (λ c. transcript schema read (m ∷ more) p line (c ∷ rest) ≡ line_reply schema read m p (ended line) ++ transcript schema read more (line_leaves schema read m p (ended line)) (Some []) rest) (sym is_end) refl;
+  }
+
+  pub breaks_end : (a b : Option (List ℕ)) (m : Bool) (p : Progress) (byte : ℕ) (line : Partial) → AppendsFront a b (line_reply schema read m p (ended line)) → byte ≡ 10 → Breaks schema read a b p line (byte ∷ [])
+  breaks_end a b m p byte line f is_end = record {
+    marks = m ∷ [];
+    out = f.out;
+    wrote = f.wrote;
+    front = λ more rest. subst (λ c. (left : List ℕ) × (transcript schema read (m ∷ more) p line (c ∷ rest) ≡ f.out ++ left)) (sym is_end) (
+      f.left ++ transcript schema read more (line_leaves schema read m p (ended line)) (Some []) rest,
+      ap (λ l. l ++ transcript schema read more (line_leaves schema read m p (ended line)) (Some []) rest) f.front ∙ append_assoc f.out f.left _,
+    );
+  }
+
+  pub feeds_byte : (a : Option (List ℕ)) (p : Progress) (byte : ℕ) (line line' : Partial) → line' ≡ add line byte → byte ≢ 10 → Feeds schema read a a p line p line' (byte ∷ [])
+  feeds_byte a p byte line line' is_line other = record {
+    marks = [];
+    out = [];
+    wrote = Appends-nil a;
+    goes_on = λ more rest. ap (λ t. if t then line_reply schema read (mark more) p (ended line) ++ transcript schema read (marks_after more) (line_leaves schema read (mark more) p (ended line)) (Some []) rest else transcript schema read more p (add line byte) rest) (not_end byte other)
+        ∙ (λ i. transcript schema read more p (sym is_line i) rest);
+  }
+
+  pub feeds_join : (a b c : Option (List ℕ)) (p p' p'' : Progress) (l l' l'' : Partial) (xs ys : List ℕ) → Feeds schema read a b p l p' l' xs → Feeds schema read b c p' l' p'' l'' ys → Feeds schema read a c p l p'' l'' (xs ++ ys)
+  feeds_join a b c p p' p'' l l' l'' xs ys f g = record {
+    marks = f.marks ++ g.marks;
+    out = f.out ++ g.out;
+    wrote = Appends-trans a b c f.out g.out f.wrote g.wrote;
+    goes_on = λ more rest.
+        (λ i. transcript schema read (append_assoc f.marks g.marks more i) p l (append_assoc xs ys rest i)) ∙ f.goes_on (g.marks ++ more) (ys ++ rest)
+        ∙ ap (λ o. f.out ++ o) (g.goes_on more rest) ∙ sym (append_assoc f.out g.out _);
+  }
+
+  pub breaks_join : (a b c : Option (List ℕ)) (p p' : Progress) (l l' : Partial) (xs ys zs : List ℕ) → Feeds schema read a b p l p' l' xs → Breaks schema read b c p' l' ys → Breaks schema read a c p l ((xs ++ ys) ++ zs)
+  breaks_join a b c p p' l l' xs ys zs f g = record {
+    marks = f.marks ++ g.marks;
+    out = f.out ++ g.out;
+    wrote = Appends-trans a b c f.out g.out f.wrote g.wrote;
+    front = λ more rest.
+        let later = g.front more (zs ++ rest) in (
+          later.0,
+          (λ i. transcript schema read (append_assoc f.marks g.marks more i) p l ((append_assoc (xs ++ ys) zs rest ∙ append_assoc xs ys (zs ++ rest)) i)) ∙ f.goes_on (g.marks ++ more) (ys ++ (zs ++ rest))
+              ∙ ap (λ o. f.out ++ o) later.1 ∙ sym (append_assoc f.out g.out later.0),
+        );
+  }
+
+-- ---- a run over a reader and a writer
+
+module _ (schema : Schema) (read : Reading) where
+  -- these bytes were read and answered
+  pub record Taken (unread left old new : Option (List ℕ)) (p : Progress) (line : Partial) : Type 0 where
+    pub bytes : List ℕ
+    pub took : Consumes unread left bytes
+    pub fed : Feeds schema read old new beginning (Some []) p line bytes
+
+module _ (schema : Schema) (read : Reading) where
+  pub taken_none : (r w : Option (List ℕ)) (line : Partial) → line ≡ Some [] → Taken schema read r r w w beginning line
+  taken_none r w line e = subst (Taken schema read r r w w beginning) (sym e) (record { bytes = []; took = Consumes-nil r; fed = feeds_none schema read w beginning (Some []) })
+
+  pub taken_more : (r s t a b c : Option (List ℕ)) (p p' : Progress) (line line' : Partial) (ys : List ℕ) → Taken schema read r s a b p line → Consumes s t ys → Feeds schema read b c p line p' line' ys → Taken schema read r t a c p' line'
+  taken_more r s t a b c p p' line line' ys so took fed = record {
+    bytes = so.bytes ++ ys;
+    took = Consumes-trans r s t so.bytes ys so.took took;
+    fed = feeds_join schema read a b c beginning p p' (Some []) line line' so.bytes ys so.fed fed;
+  }
+
+  -- what the transcript has for bytes that were answered and for no more
+  whole : (a b : Option (List ℕ)) (p : Progress) (line : Partial) (bytes : List ℕ) (m : Bool) (f : Feeds schema read a b beginning (Some []) p line bytes)
+      → transcript schema read (f.marks ++ m ∷ []) beginning (Some []) bytes ≡ f.out ++ last_reply schema read m p line
+  whole a b p line bytes m f = ap (transcript schema read (f.marks ++ m ∷ []) beginning (Some [])) (sym (append-nil bytes)) ∙ f.goes_on (m ∷ []) []
+
+  pub stopped_between : (r s t a b : Option (List ℕ)) (p : Progress) (line : Partial) (m : Bool) → Taken schema read r s a b p line → Keeps s t → IsStopped schema read r t a b
+  stopped_between r s t a b p line m so kept = record {
+    bytes = so.bytes;
+    took = Consumes-kept r s t so.bytes so.took kept;
+    marks = so.fed.marks ++ m ∷ [];
+    wrote = record { out = so.fed.out; left = last_reply schema read m p line; wrote = so.fed.wrote; front = whole a b p line so.bytes m so.fed };
+  }
+
+  pub stopped_at_end : (r s t a b c : Option (List ℕ)) (p : Progress) (line : Partial) (m : Bool) → Taken schema read r s a b p line → Consumes s t [] → AppendsFront b c (last_reply schema read m p line) → IsStopped schema read r t a c
+  stopped_at_end r s t a b c p line m so took front = record {
+    bytes = so.bytes;
+    took = subst (Consumes r t) (append-nil so.bytes) (Consumes-trans r s t so.bytes [] so.took took);
+    marks = so.fed.marks ++ m ∷ [];
+    wrote = subst (AppendsFront a c) (sym (whole a b p line so.bytes m so.fed)) (front_then a b c so.fed.out (last_reply schema read m p line) so.fed.wrote front);
+  }
+
+  pub stopped_inside : (r s t a b c : Option (List ℕ)) (p : Progress) (line : Partial) (ys : List ℕ) → Taken schema read r s a b p line → Consumes s t ys → Breaks schema read b c p line ys → IsStopped schema read r t a c
+  stopped_inside r s t a b c p line ys so took breaks =
+      let all = breaks_join schema read a b c beginning p (Some []) line so.bytes ys [] so.fed breaks in
+      let left = all.front [] [] in
+      record {
+        bytes = so.bytes ++ ys;
+        took = Consumes-trans r s t so.bytes ys so.took took;
+        marks = all.marks ++ [];
+        wrote = record { out = all.out; left = left.0; wrote = all.wrote; front = ap (transcript schema read (all.marks ++ []) beginning (Some [])) (sym (append-nil ((so.bytes ++ ys) ++ []) ∙ append-nil (so.bytes ++ ys))) ∙ left.1 };
+      }
+
+  -- at the end of the reader all was answered
+  pub done_all : (r s t a b c : Option (List ℕ)) (p : Progress) (line : Partial) (m : Bool) → Taken schema read r s a b p line → Consumes s t [] → IsAtEnd t → Appends b c (last_reply schema read m p line) → IfSome r (λ text. IsTranscript schema read a c text)
+  done_all r s t a b c p line m so took end wrote = at_end r t (subst (Consumes r t) (append-nil so.bytes) (Consumes-trans r s t so.bytes [] so.took took)) end
+    where
+      done : IsTranscript schema read a c so.bytes
+      done = record {
+        marks = so.fed.marks ++ m ∷ [];
+        wrote = subst (Appends a c) (sym (whole a b p line so.bytes m so.fed)) (Appends-trans a b c so.fed.out (last_reply schema read m p line) so.fed.wrote wrote);
+      }
+
+      at_end : (r t : Option (List ℕ)) → Consumes r t so.bytes → IsAtEnd t → IfSome r (λ text. IsTranscript schema read a c text)
+      at_end None t took end = tt
+      at_end (Some text) None took end = absurd took
+      at_end (Some text) (Some left) took end = subst (IsTranscript schema read a c) (sym (took ∙ ap (λ l. so.bytes ++ l) end ∙ append-nil so.bytes)) done

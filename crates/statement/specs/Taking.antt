@@ -1,0 +1,20 @@
+-- What taking some bytes of a text does, whatever follows them.
+use Rattle.std.specs.Prelude.{◌≡◌, ℕ, List, ◌++◌, Bool, Option}
+use Rattle.std.specs.Io.KnownBytes.{Appends}
+use Rattle.rows.specs.declared.tables.Schema.{Schema}
+use Rattle.statement.specs.Transcript.{Partial, Progress, Reading, transcript}
+
+module _ (schema : Schema) (read : Reading) where
+  -- these bytes of a text were taken: what was written is what the transcript has for them, whatever follows
+  pub record Feeds (old new : Option (List ℕ)) (p : Progress) (line : Partial) (p' : Progress) (line' : Partial) (bytes : List ℕ) : Type 0 where
+    pub marks : List Bool
+    pub out : List ℕ
+    pub wrote : Appends old new out
+    pub goes_on : (more : List Bool) (rest : List ℕ) → transcript schema read (marks ++ more) p line (bytes ++ rest) ≡ out ++ transcript schema read more p' line' rest
+
+  -- the writer failed in these bytes: what was written is a front of the transcript, whatever follows
+  pub record Breaks (old new : Option (List ℕ)) (p : Progress) (line : Partial) (bytes : List ℕ) : Type 0 where
+    pub marks : List Bool
+    pub out : List ℕ
+    pub wrote : Appends old new out
+    pub front : (more : List Bool) (rest : List ℕ) → (left : List ℕ) × (transcript schema read (marks ++ more) p line (bytes ++ rest) ≡ out ++ left)
