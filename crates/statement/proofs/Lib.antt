@@ -15,3 +15,6 @@ pub mod Whole
 pub mod WholeLiterals
 pub mod Lengths
 pub mod WholeLists
+pub mod WholeStatements
+pub mod WholeLines
+pub mod ByTheGrammar

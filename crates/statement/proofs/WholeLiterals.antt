@@ -24,7 +24,7 @@ pub no_blanks : (bytes : List ℕ) → Blanks bytes bytes
 no_blanks bytes = record { blanks = []; are_blank = tt; spelled = refl }
 
 -- digits begin with one
-record FirstDigit (bytes : List ℕ) : Type 0 where
+pub record FirstDigit (bytes : List ℕ) : Type 0 where
   pub first : ℕ
   pub others : List ℕ
   pub spelled : bytes ≡ first ∷ others
@@ -34,16 +34,16 @@ first_of : (digits bytes rest : List ℕ) → 0 < length digits → AllBytes is_
 first_of [] bytes rest some all is = absurd (omega arith)
 first_of (d ∷ ds) bytes rest some all is = record { first = d; others = ds ++ rest; spelled = is; digit = all.0 }
 
-first_digit : {most n : ℕ} {bytes rest : List ℕ} → Digits most n bytes rest → FirstDigit bytes
+pub first_digit : {most n : ℕ} {bytes rest : List ℕ} → Digits most n bytes rest → FirstDigit bytes
 first_digit {most} {n} {bytes} {rest} d = first_of d.digits bytes rest d.some d.run.all d.run.spelled
 
 digit_is_no_blank : (d : ℕ) → is_ascii_digit d ≡ true → is_blank d ≡ false
 digit_is_no_blank d is = grind (arith, nat_tests)
 
-digit_is_no_other : (d b : ℕ) → b < 48 → is_ascii_digit d ≡ true → (d == b) ≡ false
+pub digit_is_no_other : (d b : ℕ) → b < 48 → is_ascii_digit d ≡ true → (d == b) ≡ false
 digit_is_no_other d b below is = grind (arith, nat_tests)
 
-digits_not_blank : {bytes : List ℕ} → FirstDigit bytes → Ends is_blank bytes
+pub digits_not_blank : {bytes : List ℕ} → FirstDigit bytes → Ends is_blank bytes
 digits_not_blank f = subst (Ends is_blank) (sym f.spelled) (digit_is_no_blank f.first f.digit)
 
 not_none : (n : ℕ) → 0 < n → (n == 0) ≡ false
@@ -141,13 +141,13 @@ text_here_whole text at rest q =
     ∙ ap (λ (o : Option Value). elim o as (λ _. Read Value) [ None ↦ Err (next at) | Some value ↦ Ok (value, rest) ]) (text_is text q.utf8)
 
 -- a word whose first letter this is
-record Lettered (letter : ℕ) (bytes : List ℕ) : Type 0 where
+pub record Lettered (letter : ℕ) (bytes : List ℕ) : Type 0 where
   pub first : ℕ
   pub others : List ℕ
   pub spelled : bytes ≡ first ∷ others
   pub same : to_ascii_lowercase first ≡ to_ascii_lowercase letter
 
-letter_of : (letter : ℕ) (letters written at rest : List ℕ) → same_name (letter ∷ letters) written ≡ true → at ≡ written ++ rest → Lettered letter at
+pub letter_of : (letter : ℕ) (letters written at rest : List ℕ) → same_name (letter ∷ letters) written ≡ true → at ≡ written ++ rest → Lettered letter at
 letter_of letter letters [] at rest same spelled = absurd (let e = some_written (letter ∷ letters) [] (omega arith) same in omega arith)
 letter_of letter letters (b ∷ written) at rest same spelled =
     let p = and_parts (length (letter ∷ letters) == length (b ∷ written)) (same_letters (letter ∷ letters) (b ∷ written)) same in
@@ -160,10 +160,10 @@ letter_of letter letters (b ∷ written) at rest same spelled =
 letter_is_no_quote : (b : ℕ) → 97 ≤ to_ascii_lowercase b → (b == 39) ≡ false
 letter_is_no_quote b is = grind (arith, nat_tests)
 
-letter_is_no_minus : (b : ℕ) → 97 ≤ to_ascii_lowercase b → (b == 45) ≡ false
+pub letter_is_no_minus : (b : ℕ) → 97 ≤ to_ascii_lowercase b → (b == 45) ≡ false
 letter_is_no_minus b is = grind (arith, nat_tests)
 
-letter_is_no_digit : (b : ℕ) → 97 ≤ to_ascii_lowercase b → is_ascii_digit b ≡ false
+pub letter_is_no_digit : (b : ℕ) → 97 ≤ to_ascii_lowercase b → is_ascii_digit b ≡ false
 letter_is_no_digit b is = grind (arith, nat_tests)
 
 literal_of : List ℕ → Read Value

@@ -175,3 +175,7 @@ module _ (schema : Schema) where
   IsLine (Clock instant) bytes = (Word (codes "CLOCK") ⋯ Symbol 58 ⋯ IsInstant instant ⋯ Blanks) bytes []
   IsLine (Session session statement) bytes =
       ((Blanks ⋯ Digits (2 ^ 63 - 1) session) ⋯ Symbol 58 ⋯ IsStatement statement ⋯ (Empty ∣ Symbol 59) ⋯ Blanks) bytes []
+
+-- a blank line, or a comment
+abbrev pub IsNothing : List ℕ → Type 0
+IsNothing bytes = Blanks bytes [] ⊎ ((rest : List ℕ) × (Blanks ⋯ Exactly (45 ∷ 45 ∷ [])) bytes rest)

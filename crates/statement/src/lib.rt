@@ -1,6 +1,7 @@
 //! Steps, replies, and what a history of steps comes to.
 #![tactic(auto)]
 
+mod grammar_laws;
 mod laws;
 #[cfg(test)]
 mod line_tests;
@@ -17,6 +18,7 @@ mod tokens;
 mod wheres;
 mod words;
 
+pub use grammar_laws::lines_are_read_by_the_grammar;
 pub use laws::{log_only_grows, opens_at_its_begin, past_stays, worked_examples_hold};
 pub use lines::read_line;
 pub use print::{print_refusal, print_reply};

@@ -1,0 +1,202 @@
+-- What is of the grammar is read: lines.
+use Rattle.std.proofs.Common.{◌≡◌, ◌<◌, ◌≤◌, ℕ, Bool, true, false, List, [], ◌∷◌, length, Ok, Err, inl, inr, refl, ap, sym, ◌∙◌, subst, arith, lit<, lit≤}
+use Rattle.std.specs.Prelude.{Result, ◌==◌, ◌&&◌, ◌-◌, ◌^◌, if◌then◌else◌, codes}
+use Rattle.std.specs.Char.{is_ascii_digit, to_ascii_lowercase}
+use Rattle.rows.specs.declared.tables.Schema.{Schema}
+use Rattle.rows.specs.Names.{same_name}
+use Rattle.statement.specs.declared.lines.Written.{Written}
+use Rattle.statement.specs.declared.lines.Written.TheVariants.{Clock, Session}
+use Rattle.statement.specs.declared.statements.Statement.{Statement}
+use Rattle.statement.specs.declared.statements.Statement.TheVariants.{Begin, Insert, Update, Delete, Select, Commit, Rollback}
+use Rattle.statement.specs.Tokens.{After, Read, ◌>>=◌, is_blank, next, symbol_at, end_at, after_semicolon}
+use Rattle.statement.specs.Words.{word_at, after_word}
+use Rattle.statement.specs.Statements.{start_at, insert_at, update_at, delete_at, select_at, data_at, statement_at}
+use Rattle.statement.specs.Lines.{is_nothing, begins_digit, clock_at, session_at, written_at}
+use Rattle.statement.specs.Grammar.{Piece, ◌⋯◌, ◌∣◌, Empty, Blanks, Symbol, Word, Digits, IsInstant, IsStatement, IsLine}
+use Rattle.statement.proofs.Runs.{next_is}
+use Rattle.statement.proofs.Whole.{Refused, word_whole, symbol_whole, next_symbol, next_run, some_written, other_word_refused, symbol_refused, symbol_refused_at_end, word_refused, word_refused_at_end}
+use Rattle.statement.proofs.WholeLiterals.{Lettered, letter_of, letter_is_no_digit, letter_is_no_minus, FirstDigit, first_digit, digits_not_blank, digit_is_no_other, digits_whole}
+use Rattle.statement.proofs.WholeLists.{ok_then}
+use Rattle.statement.proofs.WholeStatements.{Closing, instant_whole, work_whole, insert_whole, update_whole, delete_whole, select_whole}
+
+-- the end of a line closes its statement
+closing_at_end : (rest : List ℕ) → next rest ≡ [] → Closing rest
+closing_at_end rest here = record { word = λ word some. word_refused_at_end word some rest here; comma = symbol_refused_at_end 44 rest here }
+
+closing : (bytes between : List ℕ) → (Empty ∣ Symbol 59) bytes between → Blanks between [] → Closing bytes
+closing bytes between (inl is) blanks = closing_at_end bytes (ap next is ∙ next_is blanks tt)
+closing bytes between (inr is) blanks =
+    let here = next_symbol 59 refl bytes between is in
+    record { word = λ word some. word_refused word some 59 between bytes here refl; comma = symbol_refused 44 59 between bytes here refl }
+
+semicolon_whole : (bytes between : List ℕ) → (Empty ∣ Symbol 59) bytes between → Blanks between [] → after_semicolon bytes ≡ between
+semicolon_whole bytes between (inl is) blanks =
+    ap (λ (r : After). elim r as (λ _. List ℕ) [ Ok rest ↦ rest | Err at ↦ bytes ]) (symbol_refused_at_end 59 bytes (ap next is ∙ next_is blanks tt)).is ∙ is
+semicolon_whole bytes between (inr is) blanks = ap (λ (r : After). elim r as (λ _. List ℕ) [ Ok rest ↦ rest | Err at ↦ bytes ]) (symbol_whole 59 refl bytes between is)
+
+end_whole : (bytes : List ℕ) → Blanks bytes [] → end_at bytes ≡ Ok []
+unfolding end_at
+end_whole bytes blanks = ap (λ (at : List ℕ). elim at as (λ _. After) [ [] ↦ Ok [] | b ∷ bs ↦ Err (b ∷ bs) ]) (next_is blanks tt)
+
+module _ (schema : Schema) where
+  abbrev on_select : After → Read Statement
+  on_select r = elim r [ Ok rest ↦ select_at schema rest | Err at ↦ Err at ]
+
+  abbrev on_delete : List ℕ → After → Read Statement
+  on_delete bytes r = elim r [ Ok rest ↦ delete_at schema rest | Err _ ↦ on_select (word_at (codes "SELECT") bytes) ]
+
+  abbrev on_update : List ℕ → After → Read Statement
+  on_update bytes r = elim r [ Ok rest ↦ update_at schema rest | Err _ ↦ on_delete bytes (word_at (codes "DELETE") bytes) ]
+
+  abbrev on_insert : List ℕ → After → Read Statement
+  on_insert bytes r = elim r [ Ok rest ↦ insert_at schema rest | Err _ ↦ on_update bytes (word_at (codes "UPDATE") bytes) ]
+
+  abbrev on_rollback : List ℕ → After → Read Statement
+  on_rollback bytes r = elim r [ Ok rest ↦ Ok (Rollback, after_word (codes "WORK") rest) | Err _ ↦ data_at schema bytes ]
+
+  abbrev on_commit : List ℕ → After → Read Statement
+  on_commit bytes r = elim r [ Ok rest ↦ Ok (Commit, after_word (codes "WORK") rest) | Err _ ↦ on_rollback bytes (word_at (codes "ROLLBACK") bytes) ]
+
+  abbrev on_start : List ℕ → After → Read Statement
+  on_start bytes r = elim r [ Ok rest ↦ start_at rest | Err _ ↦ on_commit bytes (word_at (codes "COMMIT") bytes) ]
+
+  abbrev on_begin : List ℕ → After → Read Statement
+  on_begin bytes r = elim r [ Ok rest ↦ Ok (Begin, rest) | Err _ ↦ on_start bytes (word_at (codes "START") bytes) ]
+
+  -- a word that no statement without rows begins with
+  data_reached : (w : List ℕ) → 0 < length w → same_name (codes "BEGIN") w ≡ false → same_name (codes "START") w ≡ false → same_name (codes "COMMIT") w ≡ false → same_name (codes "ROLLBACK") w ≡ false
+      → (bytes rest : List ℕ) → Word w bytes rest → statement_at schema bytes ≡ data_at schema bytes
+  unfolding statement_at
+  data_reached w some begin start commit rollback bytes rest is =
+      ap (on_begin bytes) (other_word_refused (codes "BEGIN") w begin some bytes rest is).is
+      ∙ ap (on_start bytes) (other_word_refused (codes "START") w start some bytes rest is).is
+      ∙ ap (on_commit bytes) (other_word_refused (codes "COMMIT") w commit some bytes rest is).is
+      ∙ ap (on_rollback bytes) (other_word_refused (codes "ROLLBACK") w rollback some bytes rest is).is
+
+  start_whole : (bytes rest : List ℕ) → Word (codes "TRANSACTION") bytes rest → start_at bytes ≡ Ok (Begin, rest)
+  unfolding start_at
+  start_whole bytes rest is = ok_then _ _ (word_whole (codes "TRANSACTION") (lit< tt) bytes rest is) refl
+
+  insert_reached : (bytes rest : List ℕ) → Word (codes "INSERT") bytes rest → data_at schema bytes ≡ insert_at schema rest
+  unfolding data_at
+  insert_reached bytes rest is = ap (on_insert bytes) (word_whole (codes "INSERT") (lit< tt) bytes rest is)
+
+  update_reached : (bytes rest : List ℕ) → Word (codes "UPDATE") bytes rest → data_at schema bytes ≡ update_at schema rest
+  unfolding data_at
+  update_reached bytes rest is =
+      ap (on_insert bytes) (other_word_refused (codes "INSERT") (codes "UPDATE") refl (lit< tt) bytes rest is).is
+      ∙ ap (on_update bytes) (word_whole (codes "UPDATE") (lit< tt) bytes rest is)
+
+  delete_reached : (bytes rest : List ℕ) → Word (codes "DELETE") bytes rest → data_at schema bytes ≡ delete_at schema rest
+  unfolding data_at
+  delete_reached bytes rest is =
+      ap (on_insert bytes) (other_word_refused (codes "INSERT") (codes "DELETE") refl (lit< tt) bytes rest is).is
+      ∙ ap (on_update bytes) (other_word_refused (codes "UPDATE") (codes "DELETE") refl (lit< tt) bytes rest is).is
+      ∙ ap (on_delete bytes) (word_whole (codes "DELETE") (lit< tt) bytes rest is)
+
+  select_reached : (bytes rest : List ℕ) → Word (codes "SELECT") bytes rest → data_at schema bytes ≡ select_at schema rest
+  unfolding data_at
+  select_reached bytes rest is =
+      ap (on_insert bytes) (other_word_refused (codes "INSERT") (codes "SELECT") refl (lit< tt) bytes rest is).is
+      ∙ ap (on_update bytes) (other_word_refused (codes "UPDATE") (codes "SELECT") refl (lit< tt) bytes rest is).is
+      ∙ ap (on_delete bytes) (other_word_refused (codes "DELETE") (codes "SELECT") refl (lit< tt) bytes rest is).is
+      ∙ ap on_select (word_whole (codes "SELECT") (lit< tt) bytes rest is)
+
+  statement_whole : (statement : Statement) (bytes rest : List ℕ) → IsStatement schema statement bytes rest → Closing rest → statement_at schema bytes ≡ Ok (statement, rest)
+  unfolding statement_at
+  statement_whole Begin bytes rest (inl is) closed = ap (on_begin bytes) (word_whole (codes "BEGIN") (lit< tt) bytes rest is)
+  statement_whole Begin bytes rest (inr is) closed =
+      ap (on_begin bytes) (other_word_refused (codes "BEGIN") (codes "START") refl (lit< tt) bytes is.0 is.1.0).is
+      ∙ ap (on_start bytes) (word_whole (codes "START") (lit< tt) bytes is.0 is.1.0)
+      ∙ start_whole is.0 rest is.1.1
+  statement_whole Commit bytes rest is closed =
+      ap (on_begin bytes) (other_word_refused (codes "BEGIN") (codes "COMMIT") refl (lit< tt) bytes is.0 is.1.0).is
+      ∙ ap (on_start bytes) (other_word_refused (codes "START") (codes "COMMIT") refl (lit< tt) bytes is.0 is.1.0).is
+      ∙ ap (on_commit bytes) (word_whole (codes "COMMIT") (lit< tt) bytes is.0 is.1.0)
+      ∙ ap (λ (l : List ℕ). Ok (Commit, l)) (work_whole is.0 rest is.1.1 closed)
+  statement_whole Rollback bytes rest is closed =
+      ap (on_begin bytes) (other_word_refused (codes "BEGIN") (codes "ROLLBACK") refl (lit< tt) bytes is.0 is.1.0).is
+      ∙ ap (on_start bytes) (other_word_refused (codes "START") (codes "ROLLBACK") refl (lit< tt) bytes is.0 is.1.0).is
+      ∙ ap (on_commit bytes) (other_word_refused (codes "COMMIT") (codes "ROLLBACK") refl (lit< tt) bytes is.0 is.1.0).is
+      ∙ ap (on_rollback bytes) (word_whole (codes "ROLLBACK") (lit< tt) bytes is.0 is.1.0)
+      ∙ ap (λ (l : List ℕ). Ok (Rollback, l)) (work_whole is.0 rest is.1.1 closed)
+  statement_whole (Insert table columns rows) bytes rest is closed =
+      data_reached (codes "INSERT") (lit< tt) refl refl refl refl bytes is.0 is.1.0 ∙ insert_reached bytes is.0 is.1.0 ∙ insert_whole schema table columns rows is.0 rest is.1.1 closed
+  statement_whole (Update keys sets) bytes rest is closed =
+      data_reached (codes "UPDATE") (lit< tt) refl refl refl refl bytes is.0 is.1.0 ∙ update_reached bytes is.0 is.1.0 ∙ update_whole schema keys sets is.0 rest is.1.1 closed
+  statement_whole (Delete keys) bytes rest is closed =
+      data_reached (codes "DELETE") (lit< tt) refl refl refl refl bytes is.0 is.1.0 ∙ delete_reached bytes is.0 is.1.0 ∙ delete_whole schema keys is.0 rest is.1.1 closed
+  statement_whole (Select form keys) bytes rest is closed =
+      data_reached (codes "SELECT") (lit< tt) refl refl refl refl bytes is.0 is.1.0 ∙ select_reached bytes is.0 is.1.0 ∙ select_whole schema form keys is.0 rest is.1.1 closed
+
+  -- the first byte of a line's first token
+  record Begins (bytes : List ℕ) : Type 0 where
+    pub first : ℕ
+    pub others : List ℕ
+    pub here : next bytes ≡ first ∷ others
+    pub no_minus : (first == 45) ≡ false
+
+  number_first : (session : ℕ) (bytes rest : List ℕ) → (Blanks ⋯ Digits (2 ^ 63 - 1) session) bytes rest → FirstDigit (next bytes)
+  number_first session bytes rest is =
+      let f = first_digit is.1.1 in
+      record { first = f.first; others = f.others; spelled = next_is is.1.0 (digits_not_blank f) ∙ f.spelled; digit = f.digit }
+
+  clock_first : (bytes rest : List ℕ) → Word (codes "CLOCK") bytes rest → Lettered 67 (next bytes)
+  clock_first bytes rest is =
+      let at = is.0 in
+      let written = is.1.1.0 in
+      let run = is.1.1.1.0 in
+      let same = is.1.1.1.1 in
+      let l = letter_of 67 (codes "LOCK") written at rest same run.spelled in
+      record { first = l.first; others = l.others; spelled = next_run bytes at is.1.0 run (some_written (codes "CLOCK") written (lit< tt) same) ∙ l.spelled; same = l.same }
+
+  line_begins : (written : Written) (bytes : List ℕ) → IsLine schema written bytes → Begins bytes
+  line_begins (Clock instant) bytes is =
+      let l = clock_first bytes is.0 is.1.0 in
+      record { first = l.first; others = l.others; here = l.spelled; no_minus = letter_is_no_minus l.first (omega (arith, l.same)) }
+  line_begins (Session session statement) bytes is =
+      let f = number_first session bytes is.0 is.1.0 in
+      record { first = f.first; others = f.others; here = f.spelled; no_minus = digit_is_no_other f.first 45 (lit< tt) f.digit }
+
+  something : (first : ℕ) (others : List ℕ) → (first == 45) ≡ false → is_nothing (first ∷ others) ≡ false
+  something first [] none = refl
+  something first (b ∷ others) none = ap (λ t. t && (b == 45)) none
+
+  pub line_is_something : (written : Written) (bytes : List ℕ) → IsLine schema written bytes → is_nothing (next bytes) ≡ false
+  line_is_something written bytes is = let b = line_begins written bytes is in ap is_nothing b.here ∙ something b.first b.others b.no_minus
+
+  session_whole : (session : ℕ) (statement : Statement) (bytes : List ℕ) → IsLine schema (Session session statement) bytes → session_at schema bytes ≡ Ok (Session session statement, [])
+  unfolding session_at
+  session_whole session statement bytes is =
+      let a = is.0 in
+      let b = is.1.1.0 in
+      let c = is.1.1.1.1.0 in
+      let d = is.1.1.1.1.1.1.0 in
+      let semicolon = is.1.1.1.1.1.1.1.0 in
+      let blanks = is.1.1.1.1.1.1.1.1 in
+      ok_then _ _ (digits_whole (2 ^ 63 - 1) session bytes a is.1.0)
+        (ok_then _ _ (symbol_whole 58 refl a b is.1.1.1.0)
+          (ok_then _ _ (statement_whole statement b c is.1.1.1.1.1.0 (closing c d semicolon blanks))
+            (ok_then _ _ (ap end_at (semicolon_whole c d semicolon blanks) ∙ end_whole d blanks) refl)))
+
+  clock_whole : (instant : ℕ) (bytes : List ℕ) → IsLine schema (Clock instant) bytes → clock_at bytes ≡ Ok (Clock instant, [])
+  unfolding clock_at
+  clock_whole instant bytes is =
+      let a = is.0 in
+      let b = is.1.1.0 in
+      let c = is.1.1.1.1.0 in
+      ok_then _ _ (word_whole (codes "CLOCK") (lit< tt) bytes a is.1.0)
+        (ok_then _ _ (symbol_whole 58 refl a b is.1.1.1.0)
+          (ok_then _ _ (instant_whole instant b c is.1.1.1.1.1.0)
+            (ok_then _ _ (end_whole c is.1.1.1.1.1.1) refl)))
+
+  pub line_whole : (written : Written) (bytes : List ℕ) → IsLine schema written bytes → written_at schema bytes ≡ Ok (written, [])
+  unfolding written_at
+  line_whole (Clock instant) bytes is =
+      let l = clock_first bytes is.0 is.1.0 in
+      ap (λ t. if t then session_at schema bytes else clock_at bytes) (ap begins_digit l.spelled ∙ letter_is_no_digit l.first (omega (arith, l.same)))
+      ∙ clock_whole instant bytes is
+  line_whole (Session session statement) bytes is =
+      let f = number_first session bytes is.0 is.1.0 in
+      ap (λ t. if t then session_at schema bytes else clock_at bytes) (ap begins_digit f.spelled ∙ f.digit)
+      ∙ session_whole session statement bytes is

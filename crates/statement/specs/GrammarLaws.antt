@@ -1,0 +1,29 @@
+-- What reading from the left amounts to, in the words of the grammar.
+use Rattle.std.specs.Prelude.{◌≡◌, ℕ, List, ◌⊎◌, Ok, Err}
+use Rattle.rows.specs.declared.tables.Schema.{Schema}
+use Rattle.rows.specs.declared.refusals.Refusal.TheVariants.{Syntax}
+use Rattle.statement.specs.declared.steps.Line.TheVariants.{Nothing}
+use Rattle.statement.specs.declared.lines.Written.{Written}
+use Rattle.statement.specs.Lines.{meaning_of, body_says}
+use Rattle.statement.specs.Grammar.{IsNothing, IsLine}
+
+module _ (schema : Schema) where
+  -- every line of the grammar is read, as what it says
+  abbrev pub LinesAreRead : Type 0
+  LinesAreRead = (reading : ℕ) (bytes : List ℕ) (written : Written) → IsLine schema written bytes → body_says schema reading bytes ≡ meaning_of schema reading written
+
+  -- no line of the grammar says two things
+  abbrev pub LinesSayOneThing : Type 0
+  LinesSayOneThing = (bytes : List ℕ) (written other : Written) → IsLine schema written bytes → IsLine schema other bytes → written ≡ other
+
+  -- blank lines and comments are read, and no line of the grammar is one
+  abbrev pub NothingIsRead : Type 0
+  NothingIsRead = (reading : ℕ) (bytes : List ℕ) → IsNothing bytes → (body_says schema reading bytes ≡ Ok Nothing) × ((written : Written) → IsLine schema written bytes → ⊥)
+
+  -- the bytes are no line of the grammar, and are answered so
+  abbrev pub IsRefused : ℕ → List ℕ → Type 0
+  IsRefused reading bytes = (byte : ℕ) × ((body_says schema reading bytes ≡ Err (Syntax byte)) × ((written : Written) → IsLine schema written bytes → ⊥))
+
+  -- whatever is read is nothing or a line of the grammar, and all else is refused with a byte
+  abbrev pub OnlyLinesAreRead : Type 0
+  OnlyLinesAreRead = (reading : ℕ) (bytes : List ℕ) → IsNothing bytes ⊎ (((written : Written) × IsLine schema written bytes) ⊎ IsRefused reading bytes)

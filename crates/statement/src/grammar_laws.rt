@@ -1,0 +1,10 @@
+ghost use Rattle.rows.specs.declared.tables.Schema.{Schema};
+ghost use Rattle.statement.specs.GrammarLaws.{LinesAreRead, LinesSayOneThing, NothingIsRead, OnlyLinesAreRead};
+
+/// Reading from the left reads the lines of the grammar and no others.
+pub fn lines_are_read_by_the_grammar()
+    ensures read { (schema : Schema) → LinesAreRead schema }
+    ensures one_thing { (schema : Schema) → LinesSayOneThing schema }
+    ensures nothing { (schema : Schema) → NothingIsRead schema }
+    ensures only { (schema : Schema) → OnlyLinesAreRead schema }
+{}
