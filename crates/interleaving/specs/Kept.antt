@@ -1,5 +1,5 @@
 -- What a system keeps of its changes, and what single calls make of rows.
-use Rattle.std.specs.Prelude.{ℕ, ◌≤◌, List, [], ◌∷◌, map, filter}
+use Rattle.std.specs.Prelude.{ℕ, ◌≤◌, List, [], ◌∷◌, Option, Some, None, map, filter, nat_lt, length, if◌then◌else◌}
 use Rattle.std.specs.BTreeMap.{is_at}
 use Rattle.std.specs.Map.{remove_entry, set_value}
 use Rattle.rows.specs.declared.keys.Key.{Key}
@@ -15,6 +15,10 @@ use Rattle.rows.specs.Writes.{set_all}
 abbrev pub Upto : ℕ → Changes → Type 0
 Upto i [] = Unit {0}
 Upto i (c ∷ cs) = (c.0.instant ≤ i) × Upto i cs
+
+-- keys that are not too many to write, or none
+abbrev pub few : List Key → Option (List Key)
+few keys = if nat_lt 1000 (length keys) then None else Some keys
 
 -- rows without some keys
 abbrev pub remove_keys : List Key → State → State

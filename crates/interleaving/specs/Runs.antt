@@ -5,6 +5,7 @@ use Rattle.rows.specs.declared.tables.Schema.{Schema}
 use Rattle.rows.specs.declared.refusals.Refusal.{Refusal}
 use Rattle.rows.specs.declared.refusals.Refusal.TheVariants.{Memory}
 use Rattle.statement.specs.declared.steps.Step.{Step}
+use Rattle.statement.specs.declared.steps.Step.TheVariants.{Rollback}
 use Rattle.statement.specs.declared.steps.Reply.{Reply}
 use Rattle.statement.specs.declared.steps.Reply.TheVariants.{Refused}
 use Rattle.statement.specs.History.{History, reply, replies}
@@ -17,6 +18,11 @@ is_want _ = false
 abbrev pub is_out : Reply → Bool
 is_out (Refused refusal) = is_want refusal
 is_out _ = false
+
+-- a step that takes no memory, and so is never refused for want of it
+abbrev pub is_rollback : Step → Bool
+is_rollback (Rollback i) = true
+is_rollback step = false
 
 -- the replies without those that memory ran out
 abbrev pub AllAnswered : List Reply → Type 0

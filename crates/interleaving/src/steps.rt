@@ -1,7 +1,8 @@
 //! Each step in turn.
-ghost use Rattle.std.specs.Prelude.{◌≡◌, ◌≢◌, ◌∷◌, IfOk, OnErr, None};
+ghost use Rattle.std.specs.Prelude.{◌≡◌, ◌≢◌, ◌∷◌, IfOk, OnErr, None, is_ok, true, false};
 ghost use Rattle.statement.specs.History.{misfit};
 ghost use Rattle.interleaving.specs.Turns.{turn_in};
+ghost use Rattle.interleaving.specs.Runs.{is_out, is_rollback};
 
 use crate::system::System;
 use rows::Refusal;
@@ -17,6 +18,7 @@ impl System {
         ensures answers { (h : History) → Stands self.old h → result ≢ Reply.Refused Refusal.Memory → (result ≡ reply self.old.schema h step) × Stands self.new (step ∷ h) }
         ensures out_of_memory { (h : History) → Stands self.old h → result ≡ Reply.Refused Refusal.Memory → Stands self.new h }
         ensures schema { self.new.schema ≡ self.old.schema }
+        ensures rollback { is_rollback step ≡ true → is_out result ≡ false }
     {
         if let Some(refusal) = step.misfit(&self.schema) {
             return Reply::Refused(refusal);
@@ -32,6 +34,7 @@ impl System {
         requires { misfit self.old.schema step.now ≡ None }
         ensures ok { IfOk result (λ reply. (reply, self.new) ≡ turn_in self.old step.now) }
         ensures err { OnErr result (self.new ≡ self.old) }
+        ensures rollback { is_rollback step.now ≡ true → is_ok result ≡ true }
     {
         match step {
             Step::Begin(session) => self.begin(*session),

@@ -1,9 +1,10 @@
 //! What INSERT, UPDATE and DELETE share: the keys that a transaction writes.
-ghost use Rattle.std.specs.Prelude.{◌≡◌, ℕ, nat_lt, length, IfOk, OnOk, IfSome, MatchOption, true, false};
+ghost use Rattle.std.specs.Prelude.{◌≡◌, IfOk, OnOk};
 ghost use Rattle.std.specs.BTreeMap.{IsOrdered};
 ghost use Rattle.rows.specs.Order.{key_cmp};
 ghost use Rattle.rows.specs.Writes.{add_keys, met};
-ghost use Rattle.interleaving.specs.Kept.{remove_keys};
+ghost use Rattle.std.specs.Option.{option_map};
+ghost use Rattle.interleaving.specs.Kept.{few, remove_keys};
 
 use crate::answers::takes;
 use rows::{Key, Keys, Row, Table};
@@ -37,8 +38,7 @@ pub(crate) fn written_with(
     written: &BTreeSet<Key>,
     keys: &[Key],
 ) -> Result<Option<BTreeSet<Key>>, AllocError>
-    ensures few { IfOk result (λ found. MatchOption found (nat_lt 1000 (length (add_keys keys.now written.now.keys)) ≡ true) (λ w. nat_lt 1000 (length (add_keys keys.now written.now.keys)) ≡ false)) }
-    ensures all { IfOk result (λ found. IfSome found (λ w. w.keys ≡ add_keys keys.now written.now.keys)) }
+    ensures { IfOk result (λ found. option_map (λ w. w.keys) found ≡ few (add_keys keys.now written.now.keys)) }
 {
     let mut more = written.clone()?;
     add_keys(&mut more, keys)?;
