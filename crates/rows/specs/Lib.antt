@@ -19,3 +19,4 @@ pub mod Laws
 pub mod RowEncoding
 pub mod RowReading
 pub mod RowLaws
+pub mod KeyReading
