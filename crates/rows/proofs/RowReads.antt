@@ -3,6 +3,7 @@ use Rattle.std.proofs.Common.{◌≡◌, ℕ, ◌-◌, ◌^◌, ◌<◌, ◌≤�
 use Rattle.std.specs.Prelude.{ℤ, pos, negsuc}
 use Rattle.std.specs.Int.{w16, w64, to_be_bytes, from_be_bytes, cast_unsigned, cast_signed}
 use Rattle.std.specs.Int.RustNames.{FitsSigned}
+use Rattle.std.specs.Str.{is_utf8}
 use Rattle.std.specs.List.{flat_map}
 use Rattle.std.proofs.lemmas.Bool.Decides.{nat_tests}
 use Rattle.std.proofs.lemmas.Int.{to_z-of_z, of_z-to_z}
@@ -19,10 +20,14 @@ use Rattle.rows.specs.Log.{Row}
 use Rattle.rows.specs.RowEncoding.{value_bytes, bytes_of_row, IsStored, IsStoredRow, IsHeld, StandsIn, NoRowAt}
 use Rattle.rows.specs.RowReading.{Taken, int_from, is_stored_text, text_of, text_from, tagged_from, value_from, values_from, after, row_from}
 
-long : (xs ys : List ℕ) → nat_le (length xs) (length (xs ++ ys)) ≡ true
+pub not_utf8 : (bs : List ℕ) (t : Bool) → is_utf8 bs ≡ t → ¬ (IsUtf8 bs) → t ≡ false
+not_utf8 bs true e n = absurd (n (IsUtf8-from_is_utf8 bs e))
+not_utf8 bs false e n = refl
+
+pub long : (xs ys : List ℕ) → nat_le (length xs) (length (xs ++ ys)) ≡ true
 long xs ys = let e = length-append xs ys in let h : length xs ≤ length (xs ++ ys) = omega arith in grind (arith, nat_tests)
 
-chosen : {A : Type 0} (t : Bool) (a b : A) → t ≡ true → (if t then a else b) ≡ a
+pub chosen : {A : Type 0} (t : Bool) (a b : A) → t ≡ true → (if t then a else b) ≡ a
 chosen t a b e = ap (λ t. if t then a else b) e
 
 unsigned_below : (n : ℤ) → FitsSigned w64 n → cast_unsigned w64 n < 2 ^ 64
@@ -36,14 +41,14 @@ int_back n rest f =
     ∙ ap (λ m. Some (Int (cast_signed w64 m), rest)) (from_be_bytes-to_be_bytes_8 (cast_unsigned w64 n) (unsigned_below n f))
     ∙ ap (λ z. Some (Int z, rest)) (to_z-of_z w64 n f)
 
-both : (a b : Bool) → a ≡ true → b ≡ true → (a && b) ≡ true
+pub both : (a b : Bool) → a ≡ true → b ≡ true → (a && b) ≡ true
 both a b d e = ap (λ t. t && b) d ∙ e
 
-and_first : (a b : Bool) → (a && b) ≡ true → a ≡ true
+pub and_first : (a b : Bool) → (a && b) ≡ true → a ≡ true
 and_first true b e = refl
 and_first false b e = e
 
-and_second : (a b : Bool) → (a && b) ≡ true → b ≡ true
+pub and_second : (a b : Bool) → (a && b) ≡ true → b ≡ true
 and_second true b e = e
 and_second false b e = cc
 
@@ -96,7 +101,7 @@ row_back row rest s h =
     counted xs ys = omega (arith, length-append xs ys)
 
 -- the parts of what was taken
-same_taken : {A B : Type 0} (x y : A) (r s : B) → ◌≡◌ {A = Option (A × B)} (Some (x, r)) (Some (y, s)) → (x ≡ y) × (r ≡ s)
+pub same_taken : {A B : Type 0} (x y : A) (r s : B) → ◌≡◌ {A = Option (A × B)} (Some (x, r)) (Some (y, s)) → (x ≡ y) × (r ≡ s)
 same_taken x y r s e = (ap (λ o. elim o [ Some p ↦ p.0 | None ↦ x ]) e, ap (λ o. elim o [ Some p ↦ p.1 | None ↦ r ]) e)
 
 pub no_row_begins_another : (row other : Row) (more : List ℕ) → IsStoredRow row → All IsHeld row → IsStoredRow other → All IsHeld other
@@ -114,7 +119,7 @@ pub record Reads (bytes : List ℕ) (v : Value) (rest : List ℕ) : Type 0 where
 abbrev pub AreBytes : List ℕ → Type 0
 AreBytes = All (λ b. b < 256)
 
-byte_at : (bs : List ℕ) → AreBytes bs → (i : ℕ) → get_or bs i 0 < 256
+pub byte_at : (bs : List ℕ) → AreBytes bs → (i : ℕ) → get_or bs i 0 < 256
 byte_at bs h i = inside (nat_le (suc i) (length bs)) refl
   where
     inside : (t : Bool) → nat_le (suc i) (length bs) ≡ t → get_or bs i 0 < 256
@@ -125,13 +130,13 @@ byte_at bs h i = inside (nat_le (suc i) (length bs)) refl
 below_2 : (bs : List ℕ) → ((i : ℕ) → get_or bs i 0 < 256) → from_be_bytes w16 bs < 2 ^ 16
 below_2 bs h = omega (arith, h 0, h 1)
 
-below_8 : (bs : List ℕ) → ((i : ℕ) → get_or bs i 0 < 256) → from_be_bytes w64 bs < 2 ^ 64
+pub below_8 : (bs : List ℕ) → ((i : ℕ) → get_or bs i 0 < 256) → from_be_bytes w64 bs < 2 ^ 64
 below_8 bs h = omega (arith, h 0, h 1, h 2, h 3, h 4, h 5, h 6, h 7)
 
-taken_length : (n : ℕ) (bs : List ℕ) → n ≤ length bs → length (take n bs) ≡ n
+pub taken_length : (n : ℕ) (bs : List ℕ) → n ≤ length bs → length (take n bs) ≡ n
 taken_length n bs h = omega (arith, length-take n bs)
 
-at_least : (n : ℕ) (bs : List ℕ) → nat_le n (length bs) ≡ true → n ≤ length bs
+pub at_least : (n : ℕ) (bs : List ℕ) → nat_le n (length bs) ≡ true → n ≤ length bs
 at_least n bs e = grind (arith, nat_tests)
 
 int_found : (bytes : List ℕ) (v : Value) (rest : List ℕ) (t : Bool) → nat_le 8 (length bytes) ≡ t → AreBytes bytes

@@ -20,3 +20,4 @@ pub mod Sample
 pub mod RowEncoding
 pub mod RowReading
 pub mod RowLaws
+pub mod KeyReading

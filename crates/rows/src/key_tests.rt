@@ -2,7 +2,9 @@ ghost use Rattle.std.specs.Prelude.{IfOk, ◌≤◌, length};
 ghost use Rattle.rows.specs.KeyEncoding.{IsShortKey};
 
 use crate::key_encoding::{KeyBytes, key_bytes};
+use crate::key_reading::read_key;
 use crate::keys::Key;
+use crate::tables::Schema;
 use crate::texts::Chars;
 use crate::values::{Value, Values};
 use std::alloc::{AllocError, Global};
@@ -74,6 +76,38 @@ fn key_bytes_are_at_most_1609(rt: HostRuntime) -> Result<(), Fail> {
     for (length, stands) in [(0, true), (1609, true), (1610, false)] {
         let bytes = vec![in rt.alloc(); 255; length]?;
         assert_eq!(rt; KeyBytes::new(bytes).is_some(), stands, "at {length}");
+    }
+    Ok(())
+}
+
+const TEXTS: &str = "CREATE TABLE t (
+  a VARCHAR(2), b BOOLEAN, PRIMARY KEY (a, b),
+  s TIMESTAMP GENERATED ALWAYS AS ROW START, e TIMESTAMP GENERATED ALWAYS AS ROW END,
+  PERIOD FOR SYSTEM_TIME (s, e)
+) WITH SYSTEM VERSIONING";
+
+#[test]
+fn a_key_is_read_from_its_own_bytes_alone(rt: HostRuntime) -> Result<(), Fail> {
+    let read = Schema::read(rt.alloc(), TEXTS.as_bytes());
+    let schema = read.expect(&rt, "it is a schema");
+    let table = schema.table_at(1).expect(&rt, "it has a table");
+    let cases = [
+        (b"\x01\x61\x00\xff\x00\x00\x01".as_slice(), true),
+        (b"\x01\x00\x00\x00", true),
+        (b"\x02\x00\x00\x00", false),
+        (b"\x01\x00\x00\x02", false),
+        (b"\x01\x00\x00\x00\x00", false),
+        (b"\x01\x00\x00", false),
+        (b"\x01\x61\x62\x63\x00\x00\x00", false),
+        (b"\x01\x61\x00\xfe\x00\x00\x00", false),
+        (b"\x01\xff\x00\x00\x00", false),
+        (b"", false),
+    ];
+    for (i, (bytes, stands)) in cases.into_iter().enumerate() {
+        let copy = Vec::from_slice(rt.alloc(), bytes)?;
+        let bytes = KeyBytes::new(copy).expect(&rt, "they are few");
+        let key = read_key(rt.alloc(), table, &bytes)?;
+        assert_eq!(rt; key.is_some(), stands, "at {i}");
     }
     Ok(())
 }

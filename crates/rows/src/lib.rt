@@ -5,6 +5,7 @@ mod declarations;
 mod fits;
 mod key_encoding;
 mod key_laws;
+mod key_reading;
 #[cfg(test)]
 mod key_tests;
 mod keys;
@@ -29,6 +30,7 @@ mod values;
 
 pub use key_encoding::{KeyBytes, key_bytes};
 pub use key_laws::{bytes_stand_for_keys, fitting_keys_have_bytes};
+pub use key_reading::read_key;
 pub use keys::{Instant, Key, LAST, Net, Point, Transaction};
 pub use laws::{as_of_shows_the_state, empty_net_leaves_the_log, states_are_versions};
 pub use queries::{

@@ -1,12 +1,9 @@
-use Rattle.std.proofs.Common.{◌≡◌, List, ℕ, Bool, true, false, ◌&&◌, IsUtf8, refl, ap, ◌∙◌, rules}
+use Rattle.std.proofs.Common.{◌≡◌, Bool, true, ◌&&◌, refl, ap, ◌∙◌, rules}
 use Rattle.std.specs.Str.{is_utf8}
-use Rattle.std.proofs.lemmas.Str.{IsUtf8-from_is_utf8, is_utf8-from_IsUtf8}
+use Rattle.std.proofs.lemmas.Str.{is_utf8-from_IsUtf8}
 use Rattle.rows.specs.Fits.{fits_text}
+use Rattle.rows.proofs.RowReads.{not_utf8}
 use Rattle.rows.proofs.row_encoding.stored_text.Goals as goal
-
-not_utf8 : (bs : List ℕ) (t : Bool) → is_utf8 bs ≡ t → ¬ (IsUtf8 bs) → t ≡ false
-not_utf8 bs true e n = absurd (n (IsUtf8-from_is_utf8 bs e))
-not_utf8 bs false e n = refl
 
 both : (a b : Bool) → a ≡ true → (a && b) ≡ b
 both a b e = ap (λ t. t && b) e
