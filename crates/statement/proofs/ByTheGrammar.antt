@@ -10,7 +10,7 @@ use Rattle.statement.specs.declared.steps.Line.TheVariants.{Nothing}
 use Rattle.statement.specs.declared.lines.Written.{Written}
 use Rattle.statement.specs.Tokens.{Read, is_blank, next}
 use Rattle.statement.specs.Lines.{is_nothing, written_at, meaning_of, body_says}
-use Rattle.statement.specs.Grammar.{Ends, Blanks, Exactly, ◌⋯◌, IsNothing, IsLine}
+use Rattle.statement.specs.Grammar.{Ends, Blanks, IsNothing, IsLine}
 use Rattle.statement.specs.GrammarLaws.{LinesAreRead, LinesSayOneThing, NothingIsRead, IsRefused, OnlyLinesAreRead}
 use Rattle.statement.proofs.Runs.{blanks_before, next_is}
 use Rattle.statement.proofs.Sound.{same_byte}
@@ -51,9 +51,10 @@ module _ (schema : Schema) where
   pub nothing : NothingIsRead schema
   unfolding body_says
   nothing reading bytes is =
-      let none = nothing_whole bytes is in
-      (ap (λ t. if t then Ok Nothing else answered reading bytes (written_at schema bytes)) none,
-       λ written line. false≢true (sym (line_is_something schema written bytes line) ∙ none))
+      let none = nothing_whole bytes is in (
+        ap (λ t. if t then Ok Nothing else answered reading bytes (written_at schema bytes)) none,
+        λ written line. false≢true (sym (line_is_something schema written bytes line) ∙ none),
+      )
 
   refused_at : (bytes at : List ℕ) → written_at schema bytes ≡ Err at → (written : Written) → IsLine schema written bytes → ⊥
   refused_at bytes at is written line = let a = line_whole schema written bytes line in cc
@@ -62,9 +63,13 @@ module _ (schema : Schema) where
       → ((written : Written) × IsLine schema written bytes) ⊎ IsRefused schema reading bytes
   unfolding body_says
   by_reading reading bytes (Ok x) is something = inl (x.0, holds_at (written_sound schema bytes) is)
-  by_reading reading bytes (Err at) is something = inr (length bytes - length at,
-      (ap (λ t. if t then Ok Nothing else answered reading bytes (written_at schema bytes)) something ∙ ap (answered reading bytes) is,
-       refused_at bytes at is))
+  by_reading reading bytes (Err at) is something = inr (
+    length bytes - length at,
+    (
+      ap (λ t. if t then Ok Nothing else answered reading bytes (written_at schema bytes)) something ∙ ap (answered reading bytes) is,
+      refused_at bytes at is,
+    ),
+  )
 
   pub only : OnlyLinesAreRead schema
   only reading bytes = by_test (is_nothing (next bytes)) refl

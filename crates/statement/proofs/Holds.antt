@@ -1,6 +1,6 @@
 -- What holds of a value that was read and of the bytes after it.
-use Rattle.std.proofs.Common.{◌≡◌, List, ℕ, Ok, Err, subst, ap, sym, ◌∙◌, refl}
-use Rattle.std.specs.Prelude.{Result, Option, Some, None}
+use Rattle.std.proofs.Common.{◌≡◌, List, ℕ, Ok, Err, subst}
+use Rattle.std.specs.Prelude.{Option, Some, None}
 use Rattle.statement.specs.Tokens.{After, Read, ◌>>=◌}
 
 abbrev HoldsOf : {A : Type 0} → Read A → (A → List ℕ → Type 0) → Type 0

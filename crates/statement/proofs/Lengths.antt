@@ -1,6 +1,6 @@
 -- No piece of the grammar leaves more bytes than it had, and separators leave fewer.
-use Rattle.std.proofs.Common.{◌≡◌, ◌<◌, ◌≤◌, ◌+◌, ℕ, Bool, true, false, List, [], ◌∷◌, ◌++◌, length, Some, None, inl, inr, ap, arith, lit<, ℤ}
-use Rattle.std.specs.Prelude.{Option, codes}
+use Rattle.std.proofs.Common.{◌≡◌, ◌<◌, ◌≤◌, ◌+◌, ℕ, Bool, true, false, List, [], ◌∷◌, ◌++◌, length, inl, inr, ap, arith, lit<, ℤ}
+use Rattle.std.specs.Prelude.{codes}
 use Rattle.std.proofs.lemmas.List.{length-append}
 use Rattle.rows.specs.declared.tables.Schema.{Schema}
 use Rattle.rows.specs.declared.queries.Comparison.{Comparison}
@@ -39,10 +39,12 @@ digits_within : (most n : ℕ) → KeepsWithin (Digits most n)
 digits_within most n = record { within = λ bytes rest is. omega (arith, run_within _ is.digits bytes rest is.run) }
 
 number_within : (z : ℤ) → KeepsWithin (Number z)
-number_within z = record { within = λ bytes rest is. elim is [
-  | inl x ↦ (digits_within _ x.0).within bytes rest x.1.1
-  | inr x ↦ (then_within _ _ (exactly_within (45 ∷ [])) (digits_within _ x.0)).within bytes rest x.1.1
-] }
+number_within z = record {
+  within = λ bytes rest is. elim is [
+    | inl x ↦ (digits_within _ x.0).within bytes rest x.1.1
+    | inr x ↦ (then_within _ _ (exactly_within (45 ∷ [])) (digits_within _ x.0)).within bytes rest x.1.1
+  ];
+}
 
 quoted_within : (text : List ℕ) → KeepsWithin (Quoted text)
 quoted_within text = record { within = λ bytes rest is. omega (arith, ap length is.spelled, length-append (doubled text) (39 ∷ rest)) }
@@ -51,8 +53,10 @@ pub symbol_takes : (symbol : ℕ) → TakesSome (Symbol symbol)
 symbol_takes symbol = record { below = λ bytes rest is. omega (arith, blanks_within.within bytes is.0 is.1.0, ap length is.1.1) }
 
 pub word_takes : (word : List ℕ) → 0 < length word → TakesSome (Word word)
-word_takes word some = record { below = λ bytes rest is.
-  omega (arith, blanks_within.within bytes is.0 is.1.0, run_within is_name_byte is.1.1.0 is.0 rest is.1.1.1.0, some_written word is.1.1.0 some is.1.1.1.1) }
+word_takes word some = record {
+  below = λ bytes rest is.
+      omega (arith, blanks_within.within bytes is.0 is.1.0, run_within is_name_byte is.1.1.0 is.0 rest is.1.1.1.0, some_written word is.1.1.0 some is.1.1.1.1);
+}
 
 takes_within : (P : Piece) → TakesSome P → KeepsWithin P
 takes_within P takes = record { within = λ bytes rest is. omega (arith, takes.below bytes rest is) }

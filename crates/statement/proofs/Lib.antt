@@ -18,3 +18,4 @@ pub mod WholeLists
 pub mod WholeStatements
 pub mod WholeLines
 pub mod ByTheGrammar
+pub mod Printed

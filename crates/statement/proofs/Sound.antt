@@ -1,14 +1,13 @@
 -- What is read is of the grammar.
-use Rattle.std.proofs.Common.{◌≡◌, ℕ, Bool, true, false, List, [], ◌∷◌, ◌++◌, length, take, drop, Ok, Err, refl, ap, sym, ◌∙◌, subst, arith}
-use Rattle.std.specs.Prelude.{Result, ◌==◌, if◌then◌else◌}
-use Rattle.std.specs.List.{prefix_len}
+use Rattle.std.proofs.Common.{◌≡◌, ℕ, Bool, true, false, List, [], ◌∷◌, take, drop, Ok, Err, refl, ap, arith}
+use Rattle.std.specs.Prelude.{◌==◌, if◌then◌else◌}
 use Rattle.std.proofs.lemmas.Bool.Decides.{nat_tests}
 use Rattle.rows.specs.Names.{same_name}
-use Rattle.statement.specs.Tokens.{After, Read, ◌>>=◌, is_blank, next, symbol_at}
+use Rattle.statement.specs.Tokens.{next, symbol_at}
 use Rattle.statement.specs.Words.{is_name_byte, word_length, word_at, is_name, name_at}
-use Rattle.statement.specs.Grammar.{Piece, ◌⋯◌, AllBytes, Ends, Blanks, Run, Symbol, Word, Name}
-use Rattle.statement.proofs.Runs.{run_of, blanks_before, next_ends}
-use Rattle.statement.proofs.Holds.{Holds, Leaves, holds, holds_then, leaves_then}
+use Rattle.statement.specs.Grammar.{Blanks, Symbol, Word, Name}
+use Rattle.statement.proofs.Runs.{run_of, blanks_before}
+use Rattle.statement.proofs.Holds.{Holds, Leaves}
 
 pub same_byte : (a b : ℕ) → (a == b) ≡ true → a ≡ b
 same_byte a b e = grind (arith, nat_tests)
@@ -38,11 +37,11 @@ unfolding word_at
 word_sound word bytes =
     let at = next bytes in
     chosen_after (same_name word (take (word_length at) at)) (drop (word_length at) at) at
-      (λ is. (at, (blanks_before bytes, (take (word_length at) at, (run_of is_name_byte at, is)))))
+    (λ is. (at, (blanks_before bytes, (take (word_length at) at, (run_of is_name_byte at, is)))))
 
 pub name_sound : (bytes : List ℕ) → Holds (name_at bytes) (λ name rest. Name name bytes rest)
 unfolding name_at
 name_sound bytes =
     let at = next bytes in
     chosen (is_name (take (word_length at) at)) (take (word_length at) at) (drop (word_length at) at) at
-      (λ is. (at, (blanks_before bytes, (run_of is_name_byte at, is))))
+    (λ is. (at, (blanks_before bytes, (run_of is_name_byte at, is))))

@@ -1,23 +1,22 @@
 -- What is read as a statement or as a line is one.
-use Rattle.std.proofs.Common.{◌≡◌, ◌⊎◌, ℕ, Bool, true, false, List, [], ◌∷◌, Ok, Err, Some, None, inl, inr, refl, ap, sym, ◌∙◌, subst}
-use Rattle.std.specs.Prelude.{Result, Option, ◌-◌, ◌^◌, if◌then◌else◌, codes}
+use Rattle.std.proofs.Common.{◌≡◌, ◌⊎◌, ℕ, Bool, true, false, List, [], ◌∷◌, Ok, Err, Some, None, inl, inr, refl, subst}
+use Rattle.std.specs.Prelude.{◌-◌, ◌^◌, if◌then◌else◌, codes}
 use Rattle.rows.specs.declared.tables.Schema.{Schema}
 use Rattle.rows.specs.declared.queries.Comparison.{Comparison}
 use Rattle.rows.specs.declared.queries.Keys.{Keys}
-use Rattle.rows.specs.declared.queries.Set.{Set}
 use Rattle.statement.specs.declared.lines.Written.TheVariants.{Clock, Session}
 use Rattle.statement.specs.declared.statements.Statement.TheVariants.{Begin, Insert, Update, Delete, Select, Commit, Rollback}
-use Rattle.statement.specs.Tokens.{After, Read, next, symbol_at, end_at, after_semicolon}
+use Rattle.statement.specs.Tokens.{After, next, symbol_at, end_at, after_semicolon}
 use Rattle.statement.specs.Words.{word_at, after_word}
 use Rattle.statement.specs.Wheres.{keys_at}
 use Rattle.statement.specs.Statements.{start_at, listed_at, insert_at, update_at, delete_at, select_at, data_at, statement_at}
 use Rattle.statement.specs.Lines.{begins_digit, clock_at, session_at, written_at}
-use Rattle.statement.specs.Grammar.{Piece, ◌⋯◌, ◌∣◌, Empty, Blanks, Symbol, Word, Listed, IsRow, IsTable, IsSet, IsComparison, IsColumnList, IsWhere, IsStatement, IsLine}
+use Rattle.statement.specs.Grammar.{◌∣◌, Empty, Blanks, Symbol, Word, Listed, IsTable, IsSet, IsComparison, IsColumnList, IsWhere, IsStatement, IsLine}
 use Rattle.statement.proofs.Runs.{blanks_before}
 use Rattle.statement.proofs.Sound.{symbol_sound, word_sound}
 use Rattle.statement.proofs.SoundLiterals.{digits_sound}
 use Rattle.statement.proofs.SoundLists.{rows_sound, instant_sound, form_sound, table_sound, sets_sound, comparisons_sound, columns_sound}
-use Rattle.statement.proofs.Holds.{Holds, Leaves, holds, holds_then, leaves_then, leaves_either, holds_weaker}
+use Rattle.statement.proofs.Holds.{Holds, Leaves, holds, holds_then, leaves_then, leaves_either}
 
 optional_sound : {P : List ℕ → Type 0} (bytes : List ℕ) (r : After) → Leaves r P → (bytes ≡ elim r [ Ok rest ↦ rest | Err at ↦ bytes ]) ⊎ P (elim r [ Ok rest ↦ rest | Err at ↦ bytes ])
 optional_sound bytes (Ok rest) h = inr h.it
@@ -59,11 +58,11 @@ module _ (schema : Schema) where
   unfolding insert_at
   insert_sound start bytes first =
       leaves_then _ _ (word_sound (codes "INTO") bytes) (λ a into.
-        holds_then _ _ (table_sound schema a) (λ table b named.
-          holds_then _ _ (listed_sound table b) (λ columns c list.
-            leaves_then _ _ (word_sound (codes "VALUES") c) (λ d values.
-              holds_then _ _ (rows_sound d) (λ rows rest are.
-                holds (Insert table columns rows) rest (bytes, (first, (a, (into, (b, (named, (c, (list, (d, (values, are)))))))))))))))
+      holds_then _ _ (table_sound schema a) (λ table b named.
+      holds_then _ _ (listed_sound table b) (λ columns c list.
+      leaves_then _ _ (word_sound (codes "VALUES") c) (λ d values.
+      holds_then _ _ (rows_sound d) (λ rows rest are.
+      holds (Insert table columns rows) rest (bytes, (first, (a, (into, (b, (named, (c, (list, (d, (values, are)))))))))))))))
 
   -- a table that two names of the grammar agree on
   table_at_keys : (table : ℕ) (keys : Keys) (bytes rest : List ℕ) → table ≡ keys.table → IsTable schema table bytes rest → IsTable schema keys.table bytes rest
@@ -73,37 +72,37 @@ module _ (schema : Schema) where
   unfolding update_at
   update_sound start bytes first =
       holds_then _ _ (table_sound schema bytes) (λ table a named.
-        leaves_then _ _ (word_sound (codes "SET") a) (λ b set.
-          holds_then _ _ (sets_sound schema table b) (λ sets c are.
-            holds_then _ _ (keys_sound table c) (λ keys rest k.
-              holds (Update keys sets) rest
-                (bytes, (first, (a, (table_at_keys table keys bytes a k.0 named, (b, (set, (c, (subst (λ (t : ℕ). Listed (Symbol 44) (IsSet schema t) sets b c) k.0 are, k.1))))))))))))
+      leaves_then _ _ (word_sound (codes "SET") a) (λ b set.
+      holds_then _ _ (sets_sound schema table b) (λ sets c are.
+      holds_then _ _ (keys_sound table c) (λ keys rest k.
+      holds (Update keys sets) rest
+      (bytes, (first, (a, (table_at_keys table keys bytes a k.0 named, (b, (set, (c, (subst (λ (t : ℕ). Listed (Symbol 44) (IsSet schema t) sets b c) k.0 are, k.1))))))))))))
 
   delete_sound : (start bytes : List ℕ) → Word (codes "DELETE") start bytes → Holds (delete_at schema bytes) (λ statement rest. IsStatement schema statement start rest)
   unfolding delete_at
   delete_sound start bytes first =
       leaves_then _ _ (word_sound (codes "FROM") bytes) (λ a from.
-        holds_then _ _ (table_sound schema a) (λ table b named.
-          holds_then _ _ (keys_sound table b) (λ keys rest k.
-            holds (Delete keys) rest (bytes, (first, (a, (from, (b, (table_at_keys table keys a b k.0 named, k.1)))))))))
+      holds_then _ _ (table_sound schema a) (λ table b named.
+      holds_then _ _ (keys_sound table b) (λ keys rest k.
+      holds (Delete keys) rest (bytes, (first, (a, (from, (b, (table_at_keys table keys a b k.0 named, k.1)))))))))
 
   select_sound : (start bytes : List ℕ) → Word (codes "SELECT") start bytes → Holds (select_at schema bytes) (λ statement rest. IsStatement schema statement start rest)
   unfolding select_at
   select_sound start bytes first =
       leaves_then _ _ (symbol_sound 42 bytes) (λ a star.
-        leaves_then _ _ (word_sound (codes "FROM") a) (λ b from.
-          holds_then _ _ (table_sound schema b) (λ table c named.
-            holds_then _ _ (form_sound c) (λ form d is.
-              holds_then _ _ (keys_sound table d) (λ keys rest k.
-                holds (Select form keys) rest (bytes, (first, (a, (star, (b, (from, (c, (table_at_keys table keys b c k.0 named, (d, (is, k.1)))))))))))))))
+      leaves_then _ _ (word_sound (codes "FROM") a) (λ b from.
+      holds_then _ _ (table_sound schema b) (λ table c named.
+      holds_then _ _ (form_sound c) (λ form d is.
+      holds_then _ _ (keys_sound table d) (λ keys rest k.
+      holds (Select form keys) rest (bytes, (first, (a, (star, (b, (from, (c, (table_at_keys table keys b c k.0 named, (d, (is, k.1)))))))))))))))
 
   data_sound : (bytes : List ℕ) → Holds (data_at schema bytes) (λ statement rest. IsStatement schema statement bytes rest)
   unfolding data_at
   data_sound bytes =
       leaves_either _ _ _ (word_sound (codes "INSERT") bytes) (λ rest first. insert_sound bytes rest first) (λ _.
-        leaves_either _ _ _ (word_sound (codes "UPDATE") bytes) (λ rest first. update_sound bytes rest first) (λ _.
-          leaves_either _ _ _ (word_sound (codes "DELETE") bytes) (λ rest first. delete_sound bytes rest first) (λ _.
-            leaves_either _ _ _ (word_sound (codes "SELECT") bytes) (λ rest first. select_sound bytes rest first) (λ at. record { it = tt }))))
+      leaves_either _ _ _ (word_sound (codes "UPDATE") bytes) (λ rest first. update_sound bytes rest first) (λ _.
+      leaves_either _ _ _ (word_sound (codes "DELETE") bytes) (λ rest first. delete_sound bytes rest first) (λ _.
+      leaves_either _ _ _ (word_sound (codes "SELECT") bytes) (λ rest first. select_sound bytes rest first) (λ at. record { it = tt }))))
 
   start_sound : (start bytes : List ℕ) → Word (codes "START") start bytes → Holds (start_at bytes) (λ statement rest. IsStatement schema statement start rest)
   unfolding start_at
@@ -113,26 +112,26 @@ module _ (schema : Schema) where
   unfolding statement_at
   statement_sound bytes =
       leaves_either _ _ _ (word_sound (codes "BEGIN") bytes) (λ rest first. holds Begin rest (inl first)) (λ _.
-        leaves_either _ _ _ (word_sound (codes "START") bytes) (λ rest first. start_sound bytes rest first) (λ _.
-          leaves_either _ _ _ (word_sound (codes "COMMIT") bytes) (λ rest first. holds Commit _ (rest, (first, work_sound rest))) (λ _.
-            leaves_either _ _ _ (word_sound (codes "ROLLBACK") bytes) (λ rest first. holds Rollback _ (rest, (first, work_sound rest))) (λ _. data_sound bytes))))
+      leaves_either _ _ _ (word_sound (codes "START") bytes) (λ rest first. start_sound bytes rest first) (λ _.
+      leaves_either _ _ _ (word_sound (codes "COMMIT") bytes) (λ rest first. holds Commit _ (rest, (first, work_sound rest))) (λ _.
+      leaves_either _ _ _ (word_sound (codes "ROLLBACK") bytes) (λ rest first. holds Rollback _ (rest, (first, work_sound rest))) (λ _. data_sound bytes))))
 
   session_sound : (bytes : List ℕ) → Holds (session_at schema bytes) (λ written rest. IsLine schema written bytes)
   unfolding session_at
   session_sound bytes =
       holds_then _ _ (digits_sound (2 ^ 63 - 1) bytes) (λ session a number.
-        leaves_then _ _ (symbol_sound 58 a) (λ b colon.
-          holds_then _ _ (statement_sound b) (λ statement c is.
-            leaves_then _ _ (end_sound (after_semicolon c)) (λ rest blank.
-              holds (Session session statement) rest (a, (number, (b, (colon, (c, (is, (after_semicolon c, (semicolon_sound c, blank))))))))))))
+      leaves_then _ _ (symbol_sound 58 a) (λ b colon.
+      holds_then _ _ (statement_sound b) (λ statement c is.
+      leaves_then _ _ (end_sound (after_semicolon c)) (λ rest blank.
+      holds (Session session statement) rest (a, (number, (b, (colon, (c, (is, (after_semicolon c, (semicolon_sound c, blank))))))))))))
 
   clock_sound : (bytes : List ℕ) → Holds (clock_at bytes) (λ written rest. IsLine schema written bytes)
   unfolding clock_at
   clock_sound bytes =
       leaves_then _ _ (word_sound (codes "CLOCK") bytes) (λ a word.
-        leaves_then _ _ (symbol_sound 58 a) (λ b colon.
-          holds_then _ _ (instant_sound b) (λ instant c number.
-            leaves_then _ _ (end_sound c) (λ rest blank. holds (Clock instant) rest (a, (word, (b, (colon, (c, (number, blank))))))))))
+      leaves_then _ _ (symbol_sound 58 a) (λ b colon.
+      holds_then _ _ (instant_sound b) (λ instant c number.
+      leaves_then _ _ (end_sound c) (λ rest blank. holds (Clock instant) rest (a, (word, (b, (colon, (c, (number, blank))))))))))
 
   pub written_sound : (bytes : List ℕ) → Holds (written_at schema bytes) (λ written rest. IsLine schema written bytes)
   unfolding written_at

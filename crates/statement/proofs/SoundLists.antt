@@ -1,26 +1,21 @@
 -- What is read as a list, a statement or a line is one.
-use Rattle.std.proofs.Common.{◌≡◌, ℕ, Bool, true, false, List, [], ◌∷◌, ◌++◌, length, take, drop, Ok, Err, Some, None, inl, inr, refl, ap, sym, ◌∙◌, subst}
-use Rattle.std.specs.Prelude.{Result, Option, ◌==◌, ◌-◌, ◌^◌, if◌then◌else◌, codes}
+use Rattle.std.proofs.Common.{◌≡◌, ℕ, Bool, true, false, List, [], ◌∷◌, ◌++◌, Ok, Err, refl, ap, sym, ◌∙◌, subst}
+use Rattle.std.specs.Prelude.{◌==◌, if◌then◌else◌, codes}
 use Rattle.std.proofs.lemmas.List.{append-nil, append_assoc}
-use Rattle.std.proofs.lemmas.Bool.Decides.{nat_tests}
 use Rattle.rows.specs.declared.tables.Schema.{Schema}
 use Rattle.rows.specs.declared.queries.Form.TheVariants.{Plain, AsOf}
 use Rattle.rows.specs.declared.queries.Operator.{Operator}
 use Rattle.rows.specs.declared.queries.Operator.TheVariants.{Equal, Below, AtMost, Above, AtLeast}
-use Rattle.rows.specs.declared.queries.Comparison.{Comparison}
-use Rattle.statement.specs.declared.lines.Written.TheVariants.{Clock, Session}
-use Rattle.statement.specs.declared.statements.Statement.TheVariants.{Begin, Insert, Update, Delete, Select, Commit, Rollback}
-use Rattle.statement.specs.Tokens.{After, Read, ◌>>=◌, next, symbol_at, end_at, after_semicolon, more_at, list_at, enclosed_at}
-use Rattle.statement.specs.Words.{word_at, after_word, name_at}
-use Rattle.statement.specs.Literals.{digits_at, literal_at, row_at, rows_at}
-use Rattle.statement.specs.Wheres.{table_of, column_of, table_name_at, column_name_at, or_equal, operator_of, operator_at, set_at, comparison_at, sets_at, comparisons_at, columns_at, keys_at}
-use Rattle.statement.specs.Statements.{instant_at, as_of_at, form_at, start_at, listed_at, insert_at, update_at, delete_at, select_at, data_at, statement_at}
-use Rattle.statement.specs.Lines.{begins_digit, clock_at, session_at, written_at}
-use Rattle.statement.specs.Grammar.{Piece, ◌⋯◌, ◌∣◌, Empty, Ends, Blanks, Exactly, Symbol, Word, Name, Digits, Literal, Listed, Enclosed, IsRow, IsOperator, IsInstant, IsForm, IsTable, IsColumn, IsSet, IsComparison, IsColumnList, IsWhere, IsStatement, IsLine}
+use Rattle.statement.specs.Tokens.{After, Read, next, symbol_at, more_at, list_at, enclosed_at}
+use Rattle.statement.specs.Words.{word_at}
+use Rattle.statement.specs.Literals.{literal_at, row_at, rows_at}
+use Rattle.statement.specs.Wheres.{table_of, column_of, table_name_at, column_name_at, or_equal, operator_of, operator_at, set_at, comparison_at, sets_at, comparisons_at, columns_at}
+use Rattle.statement.specs.Statements.{instant_at, as_of_at, form_at}
+use Rattle.statement.specs.Grammar.{Piece, ◌⋯◌, Empty, Ends, Blanks, Symbol, Word, Literal, Listed, Enclosed, IsRow, IsOperator, IsInstant, IsForm, IsTable, IsColumn, IsSet, IsComparison}
 use Rattle.statement.proofs.Runs.{blanks_before}
 use Rattle.statement.proofs.Sound.{symbol_sound, word_sound, name_sound, same_byte}
 use Rattle.statement.proofs.SoundLiterals.{digits_sound, literal_sound}
-use Rattle.statement.proofs.Holds.{Holds, Leaves, holds, holds_then, holds_read, leaves_then, leaves_either, holds_weaker, leaves_weaker}
+use Rattle.statement.proofs.Holds.{Holds, Leaves, holds, holds_then, holds_read, leaves_then, leaves_either, holds_weaker}
 
 module _ {A : Type 0} (S : Piece) (P : A → Piece) where
   -- items after a first one, each behind a separator
@@ -45,25 +40,25 @@ module _ {A : Type 0} (S : Piece) (P : A → Piece) where
     more_sound [] front bytes = holds front bytes (record { more = []; is = sym (append-nil front); are = refl })
     more_sound (_ ∷ turns) front bytes =
         leaves_either _ _ _ (separator_sound bytes)
-          (λ rest is_separator. holds_read _ (λ x. more_at separator item turns (front ++ x.0 ∷ []) x.1) (item_sound rest) (λ x after is_item.
-            holds_weaker (more_sound turns (front ++ x ∷ []) after) (λ all end b. record {
-              more = x ∷ b.more;
-              is = b.is ∙ append_assoc front (x ∷ []) b.more;
-              are = (rest, (is_separator, (after, (is_item, b.are))));
-            })))
-          (λ _. holds front bytes (record { more = []; is = sym (append-nil front); are = refl }))
+        (λ rest is_separator. holds_read _ (λ x. more_at separator item turns (front ++ x.0 ∷ []) x.1) (item_sound rest) (λ x after is_item.
+        holds_weaker (more_sound turns (front ++ x ∷ []) after) (λ all end b. record {
+          more = x ∷ b.more;
+          is = b.is ∙ append_assoc front (x ∷ []) b.more;
+          are = (rest, (is_separator, (after, (is_item, b.are))));
+        })))
+        (λ _. holds front bytes (record { more = []; is = sym (append-nil front); are = refl }))
 
     pub list_sound : (bytes : List ℕ) → Holds (list_at separator item bytes) (λ xs rest. Listed S P xs bytes rest)
     list_sound bytes = holds_then _ _ (item_sound bytes) (λ x after first.
         holds_weaker (more_sound after (x ∷ []) after) (λ all end b.
-          subst (λ (l : List A). Listed S P l bytes end) (sym b.is) (joined x b.more bytes after end first b.are)))
+        subst (λ (l : List A). Listed S P l bytes end) (sym b.is) (joined x b.more bytes after end first b.are)))
 
 pub enclosed_sound : {A : Type 0} (P : A → Piece) (item : List ℕ → Read A) → ((bytes : List ℕ) → Holds (item bytes) (λ x rest. P x bytes rest))
     → (bytes : List ℕ) → Holds (enclosed_at (symbol_at 44) item bytes) (λ xs rest. Enclosed P xs bytes rest)
 enclosed_sound P item item_sound bytes =
     leaves_then _ _ (symbol_sound 40 bytes) (λ inside opened.
-      holds_then _ _ (list_sound (Symbol 44) P (symbol_at 44) item (symbol_sound 44) item_sound inside) (λ xs after list.
-        leaves_then _ _ (symbol_sound 41 after) (λ rest close. holds xs rest (inside, (opened, (after, (list, close)))))))
+    holds_then _ _ (list_sound (Symbol 44) P (symbol_at 44) item (symbol_sound 44) item_sound inside) (λ xs after list.
+    leaves_then _ _ (symbol_sound 41 after) (λ rest close. holds xs rest (inside, (opened, (after, (list, close)))))))
 
 pub row_sound : (bytes : List ℕ) → Holds (row_at bytes) (λ row rest. IsRow row bytes rest)
 unfolding row_at
@@ -90,6 +85,7 @@ operator_found bytes (b ∷ rest) blanks = by_tests (b == 61) (b == 60) (b == 62
   where
     is : (symbol : ℕ) → (b == symbol) ≡ true → b ∷ rest ≡ symbol ∷ rest
     is symbol same = ap (λ (c : ℕ). c ∷ rest) (same_byte b symbol same)
+
     by_tests : (t u v : Bool) → (b == 61) ≡ t → (b == 60) ≡ u → (b == 62) ≡ v
         → Holds (if t then Ok (Equal, rest) else if u then Ok (or_equal Below AtMost rest) else if v then Ok (or_equal Above AtLeast rest) else Err (b ∷ rest)) (λ operator rest. IsOperator operator bytes rest)
     by_tests true u v equal below above = record { it = (b ∷ rest, (blanks, is 61 equal)) }
@@ -111,9 +107,9 @@ as_of_sound : (bytes start : List ℕ) → Word (codes "FOR") start bytes → Ho
 unfolding as_of_at
 as_of_sound bytes start for =
     leaves_then _ _ (word_sound (codes "SYSTEM_TIME") bytes) (λ a one.
-      leaves_then _ _ (word_sound (codes "AS") a) (λ b two.
-        leaves_then _ _ (word_sound (codes "OF") b) (λ c three.
-          holds_then _ _ (instant_sound c) (λ n rest four. holds (AsOf n) rest (bytes, (for, (a, (one, (b, (two, (c, (three, four)))))))))))) 
+    leaves_then _ _ (word_sound (codes "AS") a) (λ b two.
+    leaves_then _ _ (word_sound (codes "OF") b) (λ c three.
+    holds_then _ _ (instant_sound c) (λ n rest four. holds (AsOf n) rest (bytes, (for, (a, (one, (b, (two, (c, (three, four))))))))))))
 
 pub form_sound : (bytes : List ℕ) → Holds (form_at bytes) (λ form rest. IsForm form bytes rest)
 unfolding form_at
@@ -133,13 +129,13 @@ module _ (schema : Schema) where
     unfolding set_at
     set_sound bytes = holds_then _ _ (column_sound bytes) (λ column a one.
         leaves_then _ _ (symbol_sound 61 a) (λ b two.
-          holds_then _ _ (literal_sound b) (λ value rest three. holds _ rest (a, (one, (b, (two, three)))))))
+        holds_then _ _ (literal_sound b) (λ value rest three. holds _ rest (a, (one, (b, (two, three)))))))
 
     pub comparison_sound : (bytes : List ℕ) → Holds (comparison_at schema table bytes) (λ comparison rest. IsComparison schema table comparison bytes rest)
     unfolding comparison_at
     comparison_sound bytes = holds_then _ _ (column_sound bytes) (λ column a one.
         holds_then _ _ (operator_sound a) (λ operator b two.
-          holds_then _ _ (literal_sound b) (λ value rest three. holds _ rest (a, (one, (b, (two, three)))))))
+        holds_then _ _ (literal_sound b) (λ value rest three. holds _ rest (a, (one, (b, (two, three)))))))
 
     pub sets_sound : (bytes : List ℕ) → Holds (sets_at schema table bytes) (λ sets rest. Listed (Symbol 44) (IsSet schema table) sets bytes rest)
     unfolding sets_at

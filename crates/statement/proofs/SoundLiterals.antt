@@ -1,10 +1,9 @@
 -- What is read as a literal is one.
-use Rattle.std.proofs.Common.{◌≡◌, ℕ, ◌<◌, ◌≤◌, ◌-◌, ◌^◌, ltb, Bool, true, false, List, [], ◌∷◌, ◌++◌, length, take, drop, Ok, Err, Some, None, ℤ, pos, neg_ℤ, inl, inr, refl, ap, sym, ◌∙◌, subst, arith}
-use Rattle.std.specs.Prelude.{Result, Option, ◌==◌, nat_lt, if◌then◌else◌, codes}
+use Rattle.std.proofs.Common.{◌≡◌, ℕ, ◌<◌, ◌≤◌, ◌-◌, ◌^◌, Bool, true, false, List, [], ◌∷◌, ◌++◌, length, take, drop, Ok, Err, Some, None, pos, neg_ℤ, inl, inr, refl, ap, sym, ◌∙◌, arith}
+use Rattle.std.specs.Prelude.{Option, ◌==◌, nat_lt, if◌then◌else◌, codes}
 use Rattle.std.specs.Option.{option_map}
-use Rattle.std.specs.List.{prefix_len}
 use Rattle.std.specs.Char.{is_ascii_digit}
-use Rattle.std.specs.Str.{IsUtf8, is_utf8}
+use Rattle.std.specs.Str.{is_utf8}
 use Rattle.std.specs.Str.Parse.{digits_value}
 use Rattle.std.proofs.lemmas.Str.{IsUtf8-from_is_utf8}
 use Rattle.std.proofs.lemmas.List.{append-nil, append_assoc}
@@ -12,13 +11,12 @@ use Rattle.std.proofs.lemmas.List.Folds.{length-prefix_len}
 use Rattle.std.proofs.lemmas.Bool.Decides.{nat_tests}
 use Rattle.rows.specs.declared.values.Value.{Value}
 use Rattle.rows.specs.declared.values.Value.TheVariants.{Int, Text, Bool as Truth, Null}
-use Rattle.statement.specs.Tokens.{After, Read, ◌>>=◌, is_blank, next, symbol_at}
-use Rattle.statement.specs.Literals.{digit_count, value_within, digits_here, digits_at, begins_with, above_nought, below_nought, number_at, quoted_from, quoted, text_of, text_at, constant_at, begins_number, literal_at}
-use Rattle.statement.specs.Words.{word_at}
-use Rattle.statement.specs.Grammar.{Piece, ◌⋯◌, AllBytes, Ends, Blanks, Run, Exactly, Symbol, Word, Digits, Number, doubled, is_quote, Quoted, Literal}
-use Rattle.statement.proofs.Runs.{run_of, blanks_before, next_ends, blanks_join}
+use Rattle.statement.specs.Tokens.{Read, ◌>>=◌, next}
+use Rattle.statement.specs.Literals.{digit_count, digits_here, digits_at, begins_with, above_nought, below_nought, number_at, quoted_from, quoted, text_of, text_at, constant_at, begins_number, literal_at}
+use Rattle.statement.specs.Grammar.{◌⋯◌, Ends, Blanks, Symbol, Digits, Number, doubled, is_quote, Literal}
+use Rattle.statement.proofs.Runs.{run_of, blanks_before, blanks_join}
 use Rattle.statement.proofs.Sound.{symbol_sound, word_sound, same_byte}
-use Rattle.statement.proofs.Holds.{Holds, Leaves, Found, found_weaker, holds, holds_then, leaves_then, leaves_either, holds_found, holds_weaker}
+use Rattle.statement.proofs.Holds.{Holds, Found, found_weaker, holds, holds_then, leaves_then, leaves_either, holds_found, holds_weaker}
 
 some_digits : (bytes : List ℕ) → (digit_count bytes == 0) ≡ false → 0 < length (take (digit_count bytes) bytes)
 some_digits bytes is = let e = length-prefix_len is_ascii_digit bytes in grind (arith, nat_tests, e)
@@ -32,17 +30,20 @@ digits_here_sound most bytes = by_tests (digit_count bytes == 0) (nat_lt most n)
   where
     n : ℕ
     n = digits_value 10 (take (digit_count bytes) bytes)
+
     by_tests : (t u : Bool) → (digit_count bytes == 0) ≡ t → nat_lt most n ≡ u
         → Found (if t then None else option_map (λ (m : ℕ). (m, drop (digit_count bytes) bytes)) (if u then None else Some n)) (λ n rest. Digits most n bytes rest)
     by_tests true u none over = record { it = tt }
     by_tests false true none over = record { it = tt }
-    by_tests false false none over = record { it = record {
-      digits = take (digit_count bytes) bytes;
-      some = some_digits bytes none;
-      run = run_of is_ascii_digit bytes;
-      value = refl;
-      within = not_above most n over;
-    } }
+    by_tests false false none over = record {
+      it = record {
+        digits = take (digit_count bytes) bytes;
+        some = some_digits bytes none;
+        run = run_of is_ascii_digit bytes;
+        value = refl;
+        within = not_above most n over;
+      };
+    }
 
 pub digits_sound : (most : ℕ) (bytes : List ℕ) → Holds (digits_at most bytes) (λ n rest. (Blanks ⋯ Digits most n) bytes rest)
 unfolding digits_at
@@ -116,11 +117,17 @@ text_found bytes at inside rest text opened blanks q = by_test (is_utf8 text) re
   where
     by_test : (t : Bool) → is_utf8 text ≡ t → Holds (elim (if t then Some (Text text) else None) [ None ↦ Err at | Some value ↦ Ok (value, rest) ]) (λ value rest. Literal value bytes rest)
     by_test false is = record { it = tt }
-    by_test true is = holds (Text text) rest (opened.0, (blanks_join blanks opened.1.0, record {
-      utf8 = IsUtf8-from_is_utf8 text is;
-      ends = q.ends;
-      spelled = opened.1.1 ∙ ap (λ (l : List ℕ). 39 ∷ l) (q.spelled ∙ ap (λ (l : List ℕ). doubled l ++ 39 ∷ rest) (sym q.is));
-    }))
+    by_test true is = holds (Text text) rest (
+      opened.0,
+      (
+        blanks_join blanks opened.1.0,
+        record {
+          utf8 = IsUtf8-from_is_utf8 text is;
+          ends = q.ends;
+          spelled = opened.1.1 ∙ ap (λ (l : List ℕ). 39 ∷ l) (q.spelled ∙ ap (λ (l : List ℕ). doubled l ++ 39 ∷ rest) (sym q.is));
+        },
+      ),
+    )
 
 text_sound : (bytes : List ℕ) → Holds (text_at bytes) (λ value rest. Literal value bytes rest)
 unfolding text_at
@@ -131,11 +138,11 @@ constant_sound : (bytes : List ℕ) → Holds (constant_at bytes) (λ value rest
 unfolding constant_at
 constant_sound bytes =
     leaves_either _ _ _ (word_sound (codes "TRUE") bytes) (λ rest is. holds (Truth true) rest is) (λ _.
-      leaves_either _ _ _ (word_sound (codes "FALSE") bytes) (λ rest is. holds (Truth false) rest is) (λ _.
-        leaves_either _ _ _ (word_sound (codes "NULL") bytes) (λ rest is. holds Null rest is) (λ at. record { it = tt })))
+    leaves_either _ _ _ (word_sound (codes "FALSE") bytes) (λ rest is. holds (Truth false) rest is) (λ _.
+    leaves_either _ _ _ (word_sound (codes "NULL") bytes) (λ rest is. holds Null rest is) (λ at. record { it = tt })))
 
 -- a literal may have blanks before it
-literal_behind : (value : Value) {bytes at : List ℕ} (rest : List ℕ) → Blanks bytes at → Literal value at rest → Literal value bytes rest
+pub literal_behind : (value : Value) {bytes at : List ℕ} (rest : List ℕ) → Blanks bytes at → Literal value at rest → Literal value bytes rest
 literal_behind (Int z) rest blanks is = (is.0, (blanks_join blanks is.1.0, is.1.1))
 literal_behind (Text t) rest blanks is = (is.0, (blanks_join blanks is.1.0, is.1.1))
 literal_behind (Truth true) rest blanks is = (is.0, (blanks_join blanks is.1.0, is.1.1))
@@ -148,8 +155,10 @@ literal_sound bytes = by_tests (begins_with 39 at) (begins_number at)
   where
     at : List ℕ
     at = next bytes
+
     behind : {r : Read Value} → Holds r (λ value rest. Literal value at rest) → Holds r (λ value rest. Literal value bytes rest)
     behind h = holds_weaker h (λ value rest is. literal_behind value rest (blanks_before bytes) is)
+
     by_tests : (t u : Bool) → Holds (if t then text_at at else if u then (number_at at >>= λ x. Ok (Int x.0, x.1)) else constant_at at) (λ value rest. Literal value bytes rest)
     by_tests true u = behind (text_sound at)
     by_tests false true = behind (holds_then _ _ (number_sound at) (λ z rest is. holds (Int z) rest is))

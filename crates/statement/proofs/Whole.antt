@@ -1,14 +1,14 @@
 -- What is of the grammar is read: tokens.
-use Rattle.std.proofs.Common.{◌≡◌, ◌<◌, ◌≤◌, ◌+◌, ℕ, Bool, true, false, List, [], ◌∷◌, ◌++◌, length, take, drop, Ok, Err, Some, None, cond, refl, ap, sym, ◌∙◌, subst, arith}
-use Rattle.std.specs.Prelude.{Result, Option, ◌==◌, ◌&&◌, nat_lt, if◌then◌else◌}
+use Rattle.std.proofs.Common.{◌≡◌, ◌<◌, ◌+◌, ℕ, Bool, true, false, List, [], ◌∷◌, ◌++◌, length, take, drop, Ok, Err, cond, refl, ap, sym, ◌∙◌, subst, arith}
+use Rattle.std.specs.Prelude.{Result, ◌==◌, if◌then◌else◌}
 use Rattle.std.specs.List.{prefix_len}
-use Rattle.std.specs.Char.{is_ascii_digit, to_ascii_lowercase, eq_ignore_ascii_case}
+use Rattle.std.specs.Char.{to_ascii_lowercase, eq_ignore_ascii_case}
 use Rattle.std.proofs.lemmas.Bool.{and_parts, and_from, and_left}
 use Rattle.std.proofs.lemmas.Bool.Decides.{nat_tests}
 use Rattle.rows.specs.Names.{same_name, same_letters}
-use Rattle.statement.specs.Tokens.{After, Read, is_blank, next, symbol_at}
+use Rattle.statement.specs.Tokens.{After, is_blank, next, symbol_at}
 use Rattle.statement.specs.Words.{is_name_byte, word_length, word_at, is_name, name_at}
-use Rattle.statement.specs.Grammar.{Piece, ◌⋯◌, AllBytes, Ends, Blanks, Run, Symbol, Word, Name}
+use Rattle.statement.specs.Grammar.{AllBytes, Ends, Blanks, Run, Symbol, Word, Name}
 use Rattle.statement.proofs.Runs.{next_is, run_taken, run_left}
 
 -- nothing is read
@@ -100,8 +100,8 @@ unfolding word_at word_of
 word_refused word some b bs bytes here other = record {
   at = b ∷ bs;
   is = ap (word_of word) here
-    ∙ ap (λ t. if same_name word (take (cond t (1 + prefix_len is_name_byte bs) 0) (b ∷ bs)) then Ok (drop (cond t (1 + prefix_len is_name_byte bs) 0) (b ∷ bs)) else Err (b ∷ bs)) other
-    ∙ ap (λ t. if t then Ok (b ∷ bs) else Err (b ∷ bs)) (none_same word some);
+      ∙ ap (λ t. if same_name word (take (cond t (1 + prefix_len is_name_byte bs) 0) (b ∷ bs)) then Ok (drop (cond t (1 + prefix_len is_name_byte bs) 0) (b ∷ bs)) else Err (b ∷ bs)) other
+      ∙ ap (λ t. if t then Ok (b ∷ bs) else Err (b ∷ bs)) (none_same word some);
 }
 
 -- two words that one is written as are the same word
@@ -113,7 +113,7 @@ letters_agree (x ∷ v) (y ∷ w) (z ∷ written) a b one two =
     let p = and_parts (eq_ignore_ascii_case x z) (same_letters v written) one in
     let q = and_parts (eq_ignore_ascii_case y z) (same_letters w written) two in
     and_from (eq_ignore_ascii_case x y) (same_letters v w) (through (to_ascii_lowercase x) (to_ascii_lowercase y) (to_ascii_lowercase z) p.0 q.0)
-      (letters_agree v w written (omega arith) (omega arith) p.1 q.1)
+    (letters_agree v w written (omega arith) (omega arith) p.1 q.1)
   where
     through : (k l m : ℕ) → (k == m) ≡ true → (l == m) ≡ true → (k == l) ≡ true
     through k l m one two = grind (arith, nat_tests)
@@ -146,8 +146,8 @@ other_word_refused v w apart some bytes rest is =
     record {
       at = at;
       is = ap (word_of v) here
-        ∙ ap (λ (x : List ℕ). if same_name v x then Ok (drop (word_length at) at) else Err at) (run_taken is_name_byte run)
-        ∙ ap (λ t. if t then Ok (drop (word_length at) at) else Err at) (not_same v w written (same_name v written) refl apart same);
+          ∙ ap (λ (x : List ℕ). if same_name v x then Ok (drop (word_length at) at) else Err at) (run_taken is_name_byte run)
+          ∙ ap (λ t. if t then Ok (drop (word_length at) at) else Err at) (not_same v w written (same_name v written) refl apart same);
     }
 
 -- the byte that comes next where a word stands

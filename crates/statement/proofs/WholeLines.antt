@@ -1,20 +1,19 @@
 -- What is of the grammar is read: lines.
-use Rattle.std.proofs.Common.{◌≡◌, ◌<◌, ◌≤◌, ℕ, Bool, true, false, List, [], ◌∷◌, length, Ok, Err, inl, inr, refl, ap, sym, ◌∙◌, subst, arith, lit<, lit≤}
-use Rattle.std.specs.Prelude.{Result, ◌==◌, ◌&&◌, ◌-◌, ◌^◌, if◌then◌else◌, codes}
-use Rattle.std.specs.Char.{is_ascii_digit, to_ascii_lowercase}
+use Rattle.std.proofs.Common.{◌≡◌, ◌<◌, ℕ, false, List, [], ◌∷◌, length, Ok, Err, inl, inr, refl, ap, ◌∙◌, arith, lit<}
+use Rattle.std.specs.Prelude.{◌==◌, ◌&&◌, ◌-◌, ◌^◌, if◌then◌else◌, codes}
 use Rattle.rows.specs.declared.tables.Schema.{Schema}
 use Rattle.rows.specs.Names.{same_name}
 use Rattle.statement.specs.declared.lines.Written.{Written}
 use Rattle.statement.specs.declared.lines.Written.TheVariants.{Clock, Session}
 use Rattle.statement.specs.declared.statements.Statement.{Statement}
 use Rattle.statement.specs.declared.statements.Statement.TheVariants.{Begin, Insert, Update, Delete, Select, Commit, Rollback}
-use Rattle.statement.specs.Tokens.{After, Read, ◌>>=◌, is_blank, next, symbol_at, end_at, after_semicolon}
+use Rattle.statement.specs.Tokens.{After, Read, next, end_at, after_semicolon}
 use Rattle.statement.specs.Words.{word_at, after_word}
 use Rattle.statement.specs.Statements.{start_at, insert_at, update_at, delete_at, select_at, data_at, statement_at}
 use Rattle.statement.specs.Lines.{is_nothing, begins_digit, clock_at, session_at, written_at}
-use Rattle.statement.specs.Grammar.{Piece, ◌⋯◌, ◌∣◌, Empty, Blanks, Symbol, Word, Digits, IsInstant, IsStatement, IsLine}
+use Rattle.statement.specs.Grammar.{◌⋯◌, ◌∣◌, Empty, Blanks, Symbol, Word, Digits, IsStatement, IsLine}
 use Rattle.statement.proofs.Runs.{next_is}
-use Rattle.statement.proofs.Whole.{Refused, word_whole, symbol_whole, next_symbol, next_run, some_written, other_word_refused, symbol_refused, symbol_refused_at_end, word_refused, word_refused_at_end}
+use Rattle.statement.proofs.Whole.{word_whole, symbol_whole, next_symbol, next_run, some_written, other_word_refused, symbol_refused, symbol_refused_at_end, word_refused, word_refused_at_end}
 use Rattle.statement.proofs.WholeLiterals.{Lettered, letter_of, letter_is_no_digit, letter_is_no_minus, FirstDigit, first_digit, digits_not_blank, digit_is_no_other, digits_whole}
 use Rattle.statement.proofs.WholeLists.{ok_then}
 use Rattle.statement.proofs.WholeStatements.{Closing, instant_whole, work_whole, insert_whole, update_whole, delete_whole, select_whole}
@@ -175,9 +174,9 @@ module _ (schema : Schema) where
       let semicolon = is.1.1.1.1.1.1.1.0 in
       let blanks = is.1.1.1.1.1.1.1.1 in
       ok_then _ _ (digits_whole (2 ^ 63 - 1) session bytes a is.1.0)
-        (ok_then _ _ (symbol_whole 58 refl a b is.1.1.1.0)
-          (ok_then _ _ (statement_whole statement b c is.1.1.1.1.1.0 (closing c d semicolon blanks))
-            (ok_then _ _ (ap end_at (semicolon_whole c d semicolon blanks) ∙ end_whole d blanks) refl)))
+      (ok_then _ _ (symbol_whole 58 refl a b is.1.1.1.0)
+      (ok_then _ _ (statement_whole statement b c is.1.1.1.1.1.0 (closing c d semicolon blanks))
+      (ok_then _ _ (ap end_at (semicolon_whole c d semicolon blanks) ∙ end_whole d blanks) refl)))
 
   clock_whole : (instant : ℕ) (bytes : List ℕ) → IsLine schema (Clock instant) bytes → clock_at bytes ≡ Ok (Clock instant, [])
   unfolding clock_at
@@ -186,9 +185,9 @@ module _ (schema : Schema) where
       let b = is.1.1.0 in
       let c = is.1.1.1.1.0 in
       ok_then _ _ (word_whole (codes "CLOCK") (lit< tt) bytes a is.1.0)
-        (ok_then _ _ (symbol_whole 58 refl a b is.1.1.1.0)
-          (ok_then _ _ (instant_whole instant b c is.1.1.1.1.1.0)
-            (ok_then _ _ (end_whole c is.1.1.1.1.1.1) refl)))
+      (ok_then _ _ (symbol_whole 58 refl a b is.1.1.1.0)
+      (ok_then _ _ (instant_whole instant b c is.1.1.1.1.1.0)
+      (ok_then _ _ (end_whole c is.1.1.1.1.1.1) refl)))
 
   pub line_whole : (written : Written) (bytes : List ℕ) → IsLine schema written bytes → written_at schema bytes ≡ Ok (written, [])
   unfolding written_at

@@ -1,9 +1,9 @@
 -- What is of the grammar is read: lists, and what is said of columns.
-use Rattle.std.proofs.Common.{◌≡◌, ◌<◌, ◌≤◌, ◌+◌, ℕ, Bool, true, false, List, [], ◌∷◌, ◌++◌, length, Ok, Err, Some, None, refl, ap, sym, ◌∙◌, subst, arith, lit<}
-use Rattle.std.specs.Prelude.{Result, Option, ◌==◌, if◌then◌else◌, codes}
+use Rattle.std.proofs.Common.{◌≡◌, ◌≤◌, ℕ, List, [], ◌∷◌, ◌++◌, length, Ok, Err, refl, ap, sym, ◌∙◌, arith}
+use Rattle.std.specs.Prelude.{Result}
 use Rattle.std.proofs.lemmas.List.{append-nil, append_assoc}
-use Rattle.statement.specs.Tokens.{After, Read, ◌>>=◌, next, symbol_at, more_at, list_at, enclosed_at}
-use Rattle.statement.specs.Grammar.{Piece, ◌⋯◌, Symbol, Listed, Enclosed}
+use Rattle.statement.specs.Tokens.{After, Read, ◌>>=◌, symbol_at, more_at, list_at, enclosed_at}
+use Rattle.statement.specs.Grammar.{Piece, Symbol, Listed, Enclosed}
 use Rattle.statement.proofs.Whole.{Refused, next_symbol, symbol_whole, symbol_refused}
 use Rattle.statement.proofs.SoundLists.{More}
 use Rattle.statement.proofs.Lengths.{KeepsWithin, TakesSome, symbol_takes}
@@ -52,7 +52,7 @@ module _ {A : Type 0} (S : Piece) (P : A → Piece) where
     list_whole (x ∷ xs) bytes rest is none =
         let parts = unjoined x xs bytes rest is in
         ok_then _ _ (item_whole x bytes parts.0 parts.1.0)
-          (more_whole xs parts.0 (x ∷ []) parts.0 rest (long xs parts.0 rest parts.1.1) parts.1.1 none)
+        (more_whole xs parts.0 (x ∷ []) parts.0 rest (long xs parts.0 rest parts.1.1) parts.1.1 none)
 
 pub no_comma : (bytes rest : List ℕ) → Symbol 41 bytes rest → Refused (symbol_at 44 bytes)
 no_comma bytes rest is = symbol_refused 44 41 rest bytes (next_symbol 41 refl bytes rest is) refl
@@ -63,5 +63,5 @@ enclosed_whole P item item_whole within xs bytes rest is =
     let inside = is.0 in
     let after = is.1.1.0 in
     ok_then _ _ (symbol_whole 40 refl bytes inside is.1.0)
-      (ok_then _ _ (list_whole (Symbol 44) P (symbol_at 44) item (symbol_whole 44 refl) item_whole (symbol_takes 44) within xs inside after is.1.1.1.0 (no_comma after rest is.1.1.1.1))
-        (ok_then _ _ (symbol_whole 41 refl after rest is.1.1.1.1) refl))
+    (ok_then _ _ (list_whole (Symbol 44) P (symbol_at 44) item (symbol_whole 44 refl) item_whole (symbol_takes 44) within xs inside after is.1.1.1.0 (no_comma after rest is.1.1.1.1))
+    (ok_then _ _ (symbol_whole 41 refl after rest is.1.1.1.1) refl))

@@ -1,11 +1,9 @@
 -- What is of the grammar is read: literals.
-use Rattle.std.proofs.Common.{◌≡◌, ◌<◌, ◌≤◌, ◌+◌, ◌-◌, ◌^◌, ℕ, ℤ, pos, neg_ℤ, Bool, true, false, List, [], ◌∷◌, ◌++◌, length, take, drop, Ok, Err, Some, None, inl, inr, refl, ap, sym, ◌∙◌, subst, arith, lit<, lit≤}
-use Rattle.std.specs.Prelude.{Result, Option, ◌==◌, ◌||◌, nat_lt, if◌then◌else◌, codes}
+use Rattle.std.proofs.Common.{◌≡◌, ◌<◌, ◌≤◌, ◌-◌, ◌^◌, ℕ, ℤ, pos, neg_ℤ, Bool, true, false, List, [], ◌∷◌, ◌++◌, length, take, drop, Ok, Err, Some, None, inl, inr, refl, ap, sym, ◌∙◌, subst, arith, lit<, lit≤}
+use Rattle.std.specs.Prelude.{Option, ◌==◌, ◌||◌, nat_lt, if◌then◌else◌, codes}
 use Rattle.std.specs.Option.{option_map}
-use Rattle.std.specs.List.{prefix_len}
 use Rattle.std.specs.Char.{is_ascii_digit, to_ascii_lowercase, eq_ignore_ascii_case}
-use Rattle.std.specs.Str.{IsUtf8, is_utf8}
-use Rattle.std.specs.Str.Parse.{digits_value}
+use Rattle.std.specs.Str.{IsUtf8}
 use Rattle.std.proofs.lemmas.Str.{is_utf8-from_IsUtf8}
 use Rattle.std.proofs.lemmas.List.{append-nil, append_assoc}
 use Rattle.std.proofs.lemmas.Bool.{and_parts}
@@ -14,11 +12,11 @@ use Rattle.rows.specs.Names.{same_name, same_letters}
 use Rattle.rows.specs.declared.values.Value.{Value}
 use Rattle.rows.specs.declared.values.Value.TheVariants.{Int, Text, Bool as Truth, Null}
 use Rattle.statement.specs.Tokens.{After, Read, ◌>>=◌, is_blank, next, symbol_at}
-use Rattle.statement.specs.Words.{is_name_byte, word_at}
+use Rattle.statement.specs.Words.{word_at}
 use Rattle.statement.specs.Literals.{digit_count, value_within, digits_here, digits_at, begins_with, above_nought, below_nought, number_at, quoted_from, quoted, text_of, text_at, constant_at, begins_number, literal_at}
-use Rattle.statement.specs.Grammar.{Piece, ◌⋯◌, AllBytes, Ends, Blanks, Run, Exactly, Symbol, Word, Digits, Number, doubled, is_quote, Quoted, Literal}
+use Rattle.statement.specs.Grammar.{◌⋯◌, AllBytes, Ends, Blanks, Word, Digits, Number, doubled, is_quote, Quoted, Literal}
 use Rattle.statement.proofs.Runs.{next_is, length_of, run_taken, run_left}
-use Rattle.statement.proofs.Whole.{Refused, same_number, word_whole, symbol_whole, other_word_refused, next_run, some_written}
+use Rattle.statement.proofs.Whole.{word_whole, symbol_whole, other_word_refused, next_run, some_written}
 
 pub no_blanks : (bytes : List ℕ) → Blanks bytes bytes
 no_blanks bytes = record { blanks = []; are_blank = tt; spelled = refl }
@@ -58,7 +56,7 @@ digits_here_whole most n bytes rest d =
     let left : List ℕ = drop (digit_count bytes) bytes in
     let counted : digit_count bytes ≡ length d.digits = length_of is_ascii_digit d.run in
     ap (λ t. if t then None else option_map (λ (m : ℕ). (m, left)) (value_within most (take (digit_count bytes) bytes)))
-      (ap (λ (c : ℕ). c == 0) counted ∙ not_none (length d.digits) d.some)
+    (ap (λ (c : ℕ). c == 0) counted ∙ not_none (length d.digits) d.some)
     ∙ ap (λ (ds : List ℕ). option_map (λ (m : ℕ). (m, left)) (value_within most ds)) (run_taken is_ascii_digit d.run)
     ∙ ap (λ (v : ℕ). option_map (λ (m : ℕ). (m, left)) (if nat_lt most v then None else Some v)) d.value
     ∙ ap (λ t. option_map (λ (m : ℕ). (m, left)) (if t then None else Some n)) (not_over most n d.within)
@@ -93,9 +91,10 @@ number_not_blank z at rest (inr is) = subst (Ends is_blank) (sym is.1.1.1.0) ref
 
 number_begins : (z : ℤ) (at rest : List ℕ) → Number z at rest → (begins_with 39 at ≡ false) × (begins_number at ≡ true)
 number_begins z at rest (inl is) =
-    let f = first_digit is.1.1 in
-    (ap (begins_with 39) f.spelled ∙ digit_is_no_other f.first 39 (lit< tt) f.digit,
-     ap begins_number f.spelled ∙ ap (λ t. t || is_ascii_digit f.first) (digit_is_no_other f.first 45 (lit< tt) f.digit) ∙ f.digit)
+    let f = first_digit is.1.1 in (
+      ap (begins_with 39) f.spelled ∙ digit_is_no_other f.first 39 (lit< tt) f.digit,
+      ap begins_number f.spelled ∙ ap (λ t. t || is_ascii_digit f.first) (digit_is_no_other f.first 45 (lit< tt) f.digit) ∙ f.digit,
+    )
 number_begins z at rest (inr is) = (ap (begins_with 39) is.1.1.1.0, ap begins_number is.1.1.1.0)
 
 number_whole : (z : ℤ) (bytes rest : List ℕ) → (Blanks ⋯ Number z) bytes rest → number_at bytes ≡ Ok (z, rest)
@@ -178,9 +177,9 @@ unfolding literal_of
 constant_chosen letter at low l =
     let low_first : 97 ≤ to_ascii_lowercase l.first = omega (arith, l.same) in
     ap (λ t. if t then text_at at else if begins_number at then (number_at at >>= λ x. Ok (Int x.0, x.1)) else constant_at at)
-      (ap (begins_with 39) l.spelled ∙ letter_is_no_quote l.first low_first)
+    (ap (begins_with 39) l.spelled ∙ letter_is_no_quote l.first low_first)
     ∙ ap (λ t. if t then (number_at at >>= λ x. Ok (Int x.0, x.1)) else constant_at at)
-      (ap begins_number l.spelled ∙ begins_no_number l.first (letter_is_no_minus l.first low_first) (letter_is_no_digit l.first low_first))
+    (ap begins_number l.spelled ∙ begins_no_number l.first (letter_is_no_minus l.first low_first) (letter_is_no_digit l.first low_first))
 
 abbrev third : List ℕ → After → Read Value
 third bytes r = elim r [ Ok rest ↦ Ok (Null, rest) | Err at ↦ Err at ]

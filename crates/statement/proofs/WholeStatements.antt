@@ -1,6 +1,6 @@
 -- What is of the grammar is read: statements.
-use Rattle.std.proofs.Common.{◌≡◌, ◌⊎◌, ◌<◌, ◌≤◌, ℕ, Bool, true, false, List, [], ◌∷◌, ◌++◌, length, Ok, Err, Some, None, inl, inr, refl, ap, sym, ◌∙◌, subst, arith, lit<}
-use Rattle.std.specs.Prelude.{Result, Option, ◌==◌, if◌then◌else◌, codes}
+use Rattle.std.proofs.Common.{◌≡◌, ◌<◌, ℕ, List, [], ◌∷◌, length, Ok, Err, Some, None, inl, inr, refl, ap, ◌∙◌, lit<}
+use Rattle.std.specs.Prelude.{Option, ◌==◌, if◌then◌else◌, codes}
 use Rattle.rows.specs.declared.tables.Schema.{Schema}
 use Rattle.rows.specs.declared.queries.Comparison.{Comparison}
 use Rattle.rows.specs.declared.queries.Form.{Form}
@@ -10,16 +10,13 @@ use Rattle.rows.specs.declared.queries.Operator.{Operator}
 use Rattle.rows.specs.declared.queries.Operator.TheVariants.{Equal, Below, AtMost, Above, AtLeast}
 use Rattle.rows.specs.declared.queries.Set.{Set}
 use Rattle.rows.specs.Log.{Row}
-use Rattle.rows.specs.Names.{same_name}
-use Rattle.statement.specs.declared.statements.Statement.{Statement}
-use Rattle.statement.specs.declared.statements.Statement.TheVariants.{Begin, Insert, Update, Delete, Select, Commit, Rollback}
-use Rattle.statement.specs.Tokens.{After, Read, ◌>>=◌, is_blank, next, symbol_at, list_at, enclosed_at}
-use Rattle.statement.specs.Words.{word_at, after_word, name_at}
+use Rattle.statement.specs.declared.statements.Statement.TheVariants.{Insert, Update, Delete, Select}
+use Rattle.statement.specs.Tokens.{After, Read, ◌>>=◌, symbol_at}
+use Rattle.statement.specs.Words.{word_at, after_word}
 use Rattle.statement.specs.Literals.{literal_at, row_at, rows_at}
-use Rattle.statement.specs.Wheres.{table_of, column_of, table_name_at, column_name_at, or_equal, operator_of, operator_at, set_at, comparison_at, sets_at, comparisons_at, columns_at, keys_at}
-use Rattle.statement.specs.Statements.{instant_at, as_of_at, form_at, start_at, listed_at, insert_at, update_at, delete_at, select_at, data_at, statement_at}
-use Rattle.statement.specs.Grammar.{Piece, ◌⋯◌, ◌∣◌, Empty, Ends, Blanks, Symbol, Word, Name, Literal, Listed, Enclosed, IsRow, IsOperator, IsInstant, IsForm, IsTable, IsColumn, IsSet, IsComparison, IsColumnList, IsWhere, IsStatement}
-use Rattle.statement.proofs.Runs.{next_is}
+use Rattle.statement.specs.Wheres.{table_name_at, column_name_at, or_equal, operator_of, operator_at, set_at, comparison_at, sets_at, comparisons_at, columns_at, keys_at}
+use Rattle.statement.specs.Statements.{instant_at, as_of_at, form_at, listed_at, insert_at, update_at, delete_at, select_at}
+use Rattle.statement.specs.Grammar.{◌⋯◌, ◌∣◌, Empty, Ends, Symbol, Word, Literal, Listed, Enclosed, IsRow, IsOperator, IsInstant, IsForm, IsTable, IsColumn, IsSet, IsComparison, IsColumnList, IsWhere}
 use Rattle.statement.proofs.Whole.{Refused, word_whole, name_whole, symbol_whole, next_symbol, begun, symbol_refused_at_word, other_word_refused}
 use Rattle.statement.proofs.WholeLiterals.{digits_whole, literal_whole}
 use Rattle.statement.proofs.Lengths.{literal_within, row_within, column_within, set_within, comparison_within, symbol_takes, word_takes}
@@ -30,7 +27,7 @@ pub record Closing (rest : List ℕ) : Type 0 where
   pub word : (word : List ℕ) → 0 < length word → Refused (word_at word rest)
   pub comma : Refused (symbol_at 44 rest)
 
-row_whole : (row : Row) (bytes rest : List ℕ) → IsRow row bytes rest → row_at bytes ≡ Ok (row, rest)
+pub row_whole : (row : Row) (bytes rest : List ℕ) → IsRow row bytes rest → row_at bytes ≡ Ok (row, rest)
 unfolding row_at
 row_whole row bytes rest is = enclosed_whole Literal literal_at literal_whole literal_within row bytes rest is
 
@@ -60,9 +57,9 @@ as_of_whole : (instant : ℕ) (bytes rest : List ℕ) → (Word (codes "SYSTEM_T
 unfolding as_of_at
 as_of_whole instant bytes rest is =
     ok_then _ _ (word_whole (codes "SYSTEM_TIME") (lit< tt) bytes is.0 is.1.0)
-      (ok_then _ _ (word_whole (codes "AS") (lit< tt) is.0 is.1.1.0 is.1.1.1.0)
-        (ok_then _ _ (word_whole (codes "OF") (lit< tt) is.1.1.0 is.1.1.1.1.0 is.1.1.1.1.1.0)
-          (ok_then _ _ (instant_whole instant is.1.1.1.1.0 rest is.1.1.1.1.1.1) refl)))
+    (ok_then _ _ (word_whole (codes "AS") (lit< tt) is.0 is.1.1.0 is.1.1.1.0)
+    (ok_then _ _ (word_whole (codes "OF") (lit< tt) is.1.1.0 is.1.1.1.1.0 is.1.1.1.1.1.0)
+    (ok_then _ _ (instant_whole instant is.1.1.1.1.0 rest is.1.1.1.1.1.1) refl)))
 
 abbrev on_for : List ℕ → After → Read Form
 on_for bytes r = elim r [ Err _ ↦ Ok (Plain, bytes) | Ok rest ↦ as_of_at rest ]
@@ -93,15 +90,15 @@ module _ (schema : Schema) where
     unfolding set_at
     set_whole set bytes rest is =
         ok_then _ _ (column_whole set.column bytes is.0 is.1.0)
-          (ok_then _ _ (symbol_whole 61 refl is.0 is.1.1.0 is.1.1.1.0)
-            (ok_then _ _ (literal_whole set.value is.1.1.0 rest is.1.1.1.1) refl))
+        (ok_then _ _ (symbol_whole 61 refl is.0 is.1.1.0 is.1.1.1.0)
+        (ok_then _ _ (literal_whole set.value is.1.1.0 rest is.1.1.1.1) refl))
 
     comparison_whole : (c : Comparison) (bytes rest : List ℕ) → IsComparison schema table c bytes rest → comparison_at schema table bytes ≡ Ok (c, rest)
     unfolding comparison_at
     comparison_whole c bytes rest is =
         ok_then _ _ (column_whole c.column bytes is.0 is.1.0)
-          (ok_then _ _ (operator_whole c.operator is.0 is.1.1.0 is.1.1.1.0)
-            (ok_then _ _ (literal_whole c.value is.1.1.0 rest is.1.1.1.1) refl))
+        (ok_then _ _ (operator_whole c.operator is.0 is.1.1.0 is.1.1.1.0)
+        (ok_then _ _ (literal_whole c.value is.1.1.0 rest is.1.1.1.1) refl))
 
     sets_whole : (sets : List Set) (bytes rest : List ℕ) → Listed (Symbol 44) (IsSet schema table) sets bytes rest → Refused (symbol_at 44 rest) → sets_at schema table bytes ≡ Ok (sets, rest)
     unfolding sets_at
@@ -113,7 +110,7 @@ module _ (schema : Schema) where
     unfolding comparisons_at
     comparisons_whole cs bytes rest is closing =
         list_whole (Word (codes "AND")) (IsComparison schema table) (word_at (codes "AND")) (comparison_at schema table) (word_whole (codes "AND") (lit< tt)) comparison_whole
-          (word_takes (codes "AND") (lit< tt)) (comparison_within schema table) cs bytes rest is (closing.word (codes "AND") (lit< tt))
+        (word_takes (codes "AND") (lit< tt)) (comparison_within schema table) cs bytes rest is (closing.word (codes "AND") (lit< tt))
 
     columns_whole : (columns : List ℕ) (bytes rest : List ℕ) → Enclosed (IsColumn schema table) columns bytes rest → columns_at schema table bytes ≡ Ok (columns, rest)
     unfolding columns_at
@@ -160,10 +157,10 @@ module _ (schema : Schema) where
       let c = is.1.1.1.1.0 in
       let d = is.1.1.1.1.1.1.0 in
       ok_then _ _ (word_whole (codes "INTO") (lit< tt) bytes a is.1.0)
-        (ok_then _ _ (table_whole table a b is.1.1.1.0)
-          (ok_then _ _ (listed_whole table columns b c is.1.1.1.1.1.0 (symbol_refused_at_word 40 refl c (begun (codes "VALUES") (lit< tt) c d is.1.1.1.1.1.1.1.0)))
-            (ok_then _ _ (word_whole (codes "VALUES") (lit< tt) c d is.1.1.1.1.1.1.1.0)
-              (ok_then _ _ (rows_whole rows d rest is.1.1.1.1.1.1.1.1 closing) refl))))
+      (ok_then _ _ (table_whole table a b is.1.1.1.0)
+      (ok_then _ _ (listed_whole table columns b c is.1.1.1.1.1.0 (symbol_refused_at_word 40 refl c (begun (codes "VALUES") (lit< tt) c d is.1.1.1.1.1.1.1.0)))
+      (ok_then _ _ (word_whole (codes "VALUES") (lit< tt) c d is.1.1.1.1.1.1.1.0)
+      (ok_then _ _ (rows_whole rows d rest is.1.1.1.1.1.1.1.1 closing) refl))))
 
   pub update_whole : (keys : Keys) (sets : List Set) (bytes rest : List ℕ)
       → (IsTable schema keys.table ⋯ Word (codes "SET") ⋯ Listed (Symbol 44) (IsSet schema keys.table) sets ⋯ IsWhere schema keys.table keys.comparisons) bytes rest
@@ -174,9 +171,9 @@ module _ (schema : Schema) where
       let b = is.1.1.0 in
       let c = is.1.1.1.1.0 in
       ok_then _ _ (table_whole keys.table bytes a is.1.0)
-        (ok_then _ _ (word_whole (codes "SET") (lit< tt) a b is.1.1.1.0)
-          (ok_then _ _ (sets_whole keys.table sets b c is.1.1.1.1.1.0 (no_comma_before keys.table keys.comparisons c rest is.1.1.1.1.1.1 closing))
-            (ok_then _ _ (where_whole keys.table keys.comparisons c rest is.1.1.1.1.1.1 closing) refl)))
+      (ok_then _ _ (word_whole (codes "SET") (lit< tt) a b is.1.1.1.0)
+      (ok_then _ _ (sets_whole keys.table sets b c is.1.1.1.1.1.0 (no_comma_before keys.table keys.comparisons c rest is.1.1.1.1.1.1 closing))
+      (ok_then _ _ (where_whole keys.table keys.comparisons c rest is.1.1.1.1.1.1 closing) refl)))
 
   pub delete_whole : (keys : Keys) (bytes rest : List ℕ) → (Word (codes "FROM") ⋯ IsTable schema keys.table ⋯ IsWhere schema keys.table keys.comparisons) bytes rest
       → Closing rest → delete_at schema bytes ≡ Ok (Delete keys, rest)
@@ -185,8 +182,8 @@ module _ (schema : Schema) where
       let a = is.0 in
       let b = is.1.1.0 in
       ok_then _ _ (word_whole (codes "FROM") (lit< tt) bytes a is.1.0)
-        (ok_then _ _ (table_whole keys.table a b is.1.1.1.0)
-          (ok_then _ _ (where_whole keys.table keys.comparisons b rest is.1.1.1.1 closing) refl))
+      (ok_then _ _ (table_whole keys.table a b is.1.1.1.0)
+      (ok_then _ _ (where_whole keys.table keys.comparisons b rest is.1.1.1.1 closing) refl))
 
   pub select_whole : (form : Form) (keys : Keys) (bytes rest : List ℕ)
       → (Symbol 42 ⋯ Word (codes "FROM") ⋯ IsTable schema keys.table ⋯ IsForm form ⋯ IsWhere schema keys.table keys.comparisons) bytes rest
@@ -198,7 +195,7 @@ module _ (schema : Schema) where
       let c = is.1.1.1.1.0 in
       let d = is.1.1.1.1.1.1.0 in
       ok_then _ _ (symbol_whole 42 refl bytes a is.1.0)
-        (ok_then _ _ (word_whole (codes "FROM") (lit< tt) a b is.1.1.1.0)
-          (ok_then _ _ (table_whole keys.table b c is.1.1.1.1.1.0)
-            (ok_then _ _ (form_whole form c d is.1.1.1.1.1.1.1.0 (no_for_before keys.table keys.comparisons d rest is.1.1.1.1.1.1.1.1 closing))
-              (ok_then _ _ (where_whole keys.table keys.comparisons d rest is.1.1.1.1.1.1.1.1 closing) refl))))
+      (ok_then _ _ (word_whole (codes "FROM") (lit< tt) a b is.1.1.1.0)
+      (ok_then _ _ (table_whole keys.table b c is.1.1.1.1.1.0)
+      (ok_then _ _ (form_whole form c d is.1.1.1.1.1.1.1.0 (no_for_before keys.table keys.comparisons d rest is.1.1.1.1.1.1.1.1 closing))
+      (ok_then _ _ (where_whole keys.table keys.comparisons d rest is.1.1.1.1.1.1.1.1 closing) refl))))

@@ -8,7 +8,6 @@ use Rattle.rows.specs.declared.tables.Schema.{Schema}
 use Rattle.rows.specs.declared.queries.Comparison.{Comparison}
 use Rattle.rows.specs.declared.queries.Form.{Form}
 use Rattle.rows.specs.declared.queries.Form.TheVariants.{Plain, AsOf, FromTo, Between}
-use Rattle.rows.specs.declared.queries.Keys.{Keys}
 use Rattle.rows.specs.declared.queries.Operator.{Operator}
 use Rattle.rows.specs.declared.queries.Operator.TheVariants.{Equal, Below, AtMost, Above, AtLeast}
 use Rattle.rows.specs.declared.queries.Set.{Set}

@@ -1,10 +1,15 @@
 -- What reading from the left amounts to, in the words of the grammar.
-use Rattle.std.specs.Prelude.{◌≡◌, ℕ, List, ◌⊎◌, Ok, Err}
+use Rattle.std.specs.Prelude.{◌≡◌, ℕ, ◌<◌, ◌^◌, List, [], ◌∷◌, ◌++◌, ◌⊎◌, Ok, Err, pos, negsuc, length, IsUtf8}
+use Rattle.rows.specs.declared.values.Value.{Value}
+use Rattle.rows.specs.declared.values.Value.TheVariants.{Int, Text, Bool as Truth, Null}
+use Rattle.rows.specs.Log.{Row}
 use Rattle.rows.specs.declared.tables.Schema.{Schema}
 use Rattle.rows.specs.declared.refusals.Refusal.TheVariants.{Syntax}
 use Rattle.statement.specs.declared.steps.Line.TheVariants.{Nothing}
 use Rattle.statement.specs.declared.lines.Written.{Written}
 use Rattle.statement.specs.Lines.{meaning_of, body_says}
+use Rattle.statement.specs.Literals.{row_at}
+use Rattle.statement.specs.Replies.{values_text}
 use Rattle.statement.specs.Grammar.{IsNothing, IsLine}
 
 module _ (schema : Schema) where
@@ -27,3 +32,19 @@ module _ (schema : Schema) where
   -- whatever is read is nothing or a line of the grammar, and all else is refused with a byte
   abbrev pub OnlyLinesAreRead : Type 0
   OnlyLinesAreRead = (reading : ℕ) (bytes : List ℕ) → IsNothing bytes ⊎ (((written : Written) × IsLine schema written bytes) ⊎ IsRefused reading bytes)
+
+-- a number of 64 bits, or any other value whose texts are UTF-8
+abbrev pub IsPlain : Value → Type 0
+IsPlain (Int (pos n)) = n < 2 ^ 63
+IsPlain (Int (negsuc n)) = n < 2 ^ 63
+IsPlain (Text text) = IsUtf8 text
+IsPlain (Truth t) = Unit {0}
+IsPlain Null = Unit {0}
+
+abbrev pub ArePlain : List Value → Type 0
+ArePlain [] = Unit {0}
+ArePlain (v ∷ vs) = IsPlain v × ArePlain vs
+
+-- the values of a row as they are printed are read as that row, whatever follows
+abbrev pub PrintedRowsAreRead : Type 0
+PrintedRowsAreRead = (row : Row) (rest : List ℕ) → 0 < length row → ArePlain row → row_at (values_text row ++ rest) ≡ Ok (row, rest)

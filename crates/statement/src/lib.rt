@@ -18,7 +18,7 @@ mod tokens;
 mod wheres;
 mod words;
 
-pub use grammar_laws::lines_are_read_by_the_grammar;
+pub use grammar_laws::{lines_are_read_by_the_grammar, printed_rows_are_read};
 pub use laws::{log_only_grows, opens_at_its_begin, past_stays, worked_examples_hold};
 pub use lines::read_line;
 pub use print::{print_refusal, print_reply};
