@@ -14,6 +14,7 @@ pub mod KeyEncodingLaws
 pub mod SchemaTokens
 pub mod SchemaSyntax
 pub mod SchemaTables
+pub mod SchemaGrammar
 pub mod SchemaLaws
 pub mod Laws
 pub mod Sample

@@ -1,8 +1,12 @@
 -- What the reading of schemas amounts to.
-use Rattle.std.specs.Prelude.{◌≡◌, ℕ, List, [], ◌∷◌, Ok, false, codes}
+use Rattle.std.specs.Prelude.{◌≡◌, ℕ, List, [], ◌∷◌, ◌⊎◌, Result, Ok, Err, false, codes}
 use Rattle.rows.specs.declared.tables.ColumnType.TheVariants.{Int, Text}
 use Rattle.rows.specs.declared.tables.Schema.{Schema}
-use Rattle.rows.specs.SchemaTables.{read_schema}
+use Rattle.rows.specs.declared.schema_reading.SchemaFault.{SchemaFault}
+use Rattle.rows.specs.declared.schema_reading.SchemaFault.TheVariants.{Syntax}
+use Rattle.rows.specs.declared.declarations.Declaration.{Declaration}
+use Rattle.rows.specs.SchemaTables.{tables_from, read_schema}
+use Rattle.rows.specs.SchemaGrammar.{SchemaText}
 
 -- the schema of a program that is given none: a table of employees, with their numbers and names
 abbrev pub sample_schema : Schema
@@ -20,3 +24,16 @@ sample_schema = record {
 -- it is what the text says
 abbrev pub SampleIsRead : List ℕ → Type 0
 SampleIsRead text = read_schema text ≡ Ok sample_schema
+
+abbrev pub HasSyntaxFault : Result Schema SchemaFault → Type 0
+HasSyntaxFault r = (at : ℕ) × (r ≡ Err (Syntax at))
+
+-- the text says some declarations, and they decide what is read
+pub record OfTheGrammar (text : List ℕ) (r : Result Schema SchemaFault) : Type 0 where
+  pub declarations : List Declaration
+  pub spelled : SchemaText declarations text
+  pub decided : r ≡ tables_from [] declarations
+
+-- where no fault of syntax is found, the text is of the grammar
+abbrev pub WhatIsReadIsOfTheGrammar : Type 0
+WhatIsReadIsOfTheGrammar = (text : List ℕ) → HasSyntaxFault (read_schema text) ⊎ OfTheGrammar text (read_schema text)
