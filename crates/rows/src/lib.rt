@@ -41,6 +41,7 @@ pub use row_encoding::{read_row, row_bytes};
 pub use row_laws::{bytes_stand_for_rows, fitting_rows_have_bytes};
 pub use schema_laws::{sample_is_a_schema, schemas_are_of_the_grammar};
 pub use schema_reading::{SAMPLE, SchemaFault};
+pub use schema_tokens::is_reserved;
 pub use sequences::Sequence;
 pub use tables::{Column, ColumnType, Schema, Table, same_name};
 pub use texts::Chars;

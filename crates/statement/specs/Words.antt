@@ -1,9 +1,10 @@
 -- Words of the grammar, which are read in any case, and names.
-use Rattle.std.specs.Prelude.{◌≡◌, ℕ, List, [], ◌∷◌, ◌==◌, ◌&&◌, ◌||◌, not, nat_le, Bool, false, Ok, Err, Result, length, take, drop, codes, if◌then◌else◌}
-use Rattle.std.specs.List.{prefix_len, list_any}
+use Rattle.std.specs.Prelude.{◌≡◌, ℕ, List, [], ◌∷◌, ◌==◌, ◌&&◌, ◌||◌, not, nat_le, Bool, false, Ok, Err, Result, length, take, drop, if◌then◌else◌}
+use Rattle.std.specs.List.{prefix_len}
 use Rattle.std.specs.Borrow.{Bor}
 use Rattle.std.specs.Char.{is_ascii_alphanumeric, is_ascii_digit}
 use Rattle.rows.specs.Names.{same_name}
+use Rattle.rows.specs.SchemaTokens.{is_reserved}
 use Rattle.statement.specs.Tokens.{After, Read, next}
 
 abbrev pub is_name_byte : ℕ → Bool
@@ -21,21 +22,6 @@ word_at word bytes =
 -- the bytes after a word that may stand there
 abbrev pub after_word : List ℕ → List ℕ → List ℕ
 after_word word bytes = elim (word_at word bytes) [ Ok rest ↦ rest | Err at ↦ bytes ]
-
--- the words that no name is
-abbrev pub reserved : List (List ℕ)
-reserved =
-    codes "ADD" ∷ codes "ALTER" ∷ codes "ALWAYS" ∷ codes "AND" ∷ codes "AS" ∷ codes "AT" ∷ codes "BEGIN" ∷ codes "BETWEEN"
-    ∷ codes "BIGINT" ∷ codes "BOOLEAN" ∷ codes "CLOCK" ∷ codes "COLUMN" ∷ codes "COMMIT" ∷ codes "CREATE" ∷ codes "DELETE"
-    ∷ codes "END" ∷ codes "FALSE" ∷ codes "FOR" ∷ codes "FROM" ∷ codes "GENERATED" ∷ codes "INSERT" ∷ codes "INT"
-    ∷ codes "INTEGER" ∷ codes "INTO" ∷ codes "KEY" ∷ codes "MIGRATE" ∷ codes "NOT" ∷ codes "NULL" ∷ codes "OF"
-    ∷ codes "OVERLAPS" ∷ codes "PERIOD" ∷ codes "PORTION" ∷ codes "PRIMARY" ∷ codes "ROLLBACK" ∷ codes "ROW" ∷ codes "SELECT"
-    ∷ codes "SET" ∷ codes "SPLIT" ∷ codes "START" ∷ codes "SYSTEM" ∷ codes "SYSTEM_TIME" ∷ codes "TABLE" ∷ codes "TEXT"
-    ∷ codes "TIME" ∷ codes "TIMESTAMP" ∷ codes "TO" ∷ codes "TRANSACTION" ∷ codes "TRUE" ∷ codes "UPDATE" ∷ codes "VALUES"
-    ∷ codes "VARCHAR" ∷ codes "VERSIONING" ∷ codes "WHERE" ∷ codes "WITH" ∷ codes "WITHOUT" ∷ codes "WORK" ∷ []
-
-unfoldable pub is_reserved : List ℕ → Bool
-is_reserved name = list_any (λ word. same_name word name) reserved
 
 -- bytes of names, of which the first is no digit, may be a name
 unfoldable pub is_name : List ℕ → Bool

@@ -1,71 +1,9 @@
 ghost use Rattle.std.specs.Prelude.{◌≡◌, ◌≤◌, length};
-ghost use Rattle.std.specs.List.{list_any};
-ghost use Rattle.rows.specs.Names.{same_name};
 ghost use Rattle.statement.specs.Tokens.{Leaves};
-ghost use Rattle.statement.specs.Words.{is_name_byte, word_length, word_at, after_word, is_reserved, is_name, name_at, GivesName};
+ghost use Rattle.statement.specs.Words.{is_name_byte, word_length, word_at, after_word, is_name, name_at, GivesName};
 
 use crate::tokens::{After, Read, next};
-use rows::same_name;
-
-/// The words that no name is.
-static RESERVED: [&str; 56] = [
-    "ADD",
-    "ALTER",
-    "ALWAYS",
-    "AND",
-    "AS",
-    "AT",
-    "BEGIN",
-    "BETWEEN",
-    "BIGINT",
-    "BOOLEAN",
-    "CLOCK",
-    "COLUMN",
-    "COMMIT",
-    "CREATE",
-    "DELETE",
-    "END",
-    "FALSE",
-    "FOR",
-    "FROM",
-    "GENERATED",
-    "INSERT",
-    "INT",
-    "INTEGER",
-    "INTO",
-    "KEY",
-    "MIGRATE",
-    "NOT",
-    "NULL",
-    "OF",
-    "OVERLAPS",
-    "PERIOD",
-    "PORTION",
-    "PRIMARY",
-    "ROLLBACK",
-    "ROW",
-    "SELECT",
-    "SET",
-    "SPLIT",
-    "START",
-    "SYSTEM",
-    "SYSTEM_TIME",
-    "TABLE",
-    "TEXT",
-    "TIME",
-    "TIMESTAMP",
-    "TO",
-    "TRANSACTION",
-    "TRUE",
-    "UPDATE",
-    "VALUES",
-    "VARCHAR",
-    "VERSIONING",
-    "WHERE",
-    "WITH",
-    "WITHOUT",
-    "WORK",
-];
+use rows::{is_reserved, same_name};
 
 /// The bytes that a name may have.
 const NAME: usize = 64;
@@ -111,19 +49,6 @@ pub fn after_word<'a>(word: &[u8], bytes: &'a [u8]) -> &'a [u8]
         Ok(rest) => rest,
         Err(_) => bytes,
     }
-}
-
-#[tactic(auto, unfolding(crate::specs::Words::is_reserved))]
-fn is_reserved(name: &[u8]) -> bool
-    ensures { result ≡ is_reserved name.now }
-{
-    is_one_of(&RESERVED, name)
-}
-
-fn is_one_of(words: &[&str], name: &[u8]) -> bool
-    ensures { result ≡ list_any (λ word. same_name word.now name.now) words.now }
-{
-    words.iter().any(|word| same_name(word.as_bytes(), name))
 }
 
 #[tactic(auto, unfolding(crate::specs::Words::is_name))]
