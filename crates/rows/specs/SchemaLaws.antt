@@ -1,12 +1,13 @@
 -- What the reading of schemas amounts to.
-use Rattle.std.specs.Prelude.{◌≡◌, ℕ, List, [], ◌∷◌, ◌⊎◌, Result, Ok, Err, false, codes}
+use Rattle.std.specs.Prelude.{◌≡◌, ℕ, List, [], ◌∷◌, ◌⊎◌, ◌↔◌, Result, Ok, Err, false, codes}
 use Rattle.rows.specs.declared.tables.ColumnType.TheVariants.{Int, Text}
 use Rattle.rows.specs.declared.tables.Schema.{Schema}
 use Rattle.rows.specs.declared.schema_reading.SchemaFault.{SchemaFault}
 use Rattle.rows.specs.declared.schema_reading.SchemaFault.TheVariants.{Syntax}
 use Rattle.rows.specs.declared.declarations.Declaration.{Declaration}
 use Rattle.rows.specs.SchemaTables.{tables_from, read_schema}
-use Rattle.rows.specs.SchemaGrammar.{SchemaText}
+use Rattle.rows.specs.SchemaTokens.{symbol_at, word_at, name_at, digits_at}
+use Rattle.rows.specs.SchemaGrammar.{Symbol, Word, Name, Digits, SchemaText}
 
 -- the schema of a program that is given none: a table of employees, with their numbers and names
 abbrev pub sample_schema : Schema
@@ -37,3 +38,10 @@ pub record OfTheGrammar (text : List ℕ) (r : Result Schema SchemaFault) : Type
 -- where no fault of syntax is found, the text is of the grammar
 abbrev pub WhatIsReadIsOfTheGrammar : Type 0
 WhatIsReadIsOfTheGrammar = (text : List ℕ) → HasSyntaxFault (read_schema text) ⊎ OfTheGrammar text (read_schema text)
+
+-- a symbol, a word, a name and digits are read where they come next, and nowhere else
+pub record TokensAreRead : Type 0 where
+  pub symbols : (symbol : ℕ) (x : Unit {0}) (bytes rest : List ℕ) → (symbol_at symbol bytes ≡ Ok (x, rest)) ↔ Symbol symbol x bytes rest
+  pub words : (word : List ℕ) (x : Unit {0}) (bytes rest : List ℕ) → (word_at word bytes ≡ Ok (x, rest)) ↔ Word word x bytes rest
+  pub names : (name bytes rest : List ℕ) → (name_at bytes ≡ Ok (name, rest)) ↔ Name name bytes rest
+  pub digits : (n : ℕ) (bytes rest : List ℕ) → (digits_at bytes ≡ Ok (n, rest)) ↔ Digits n bytes rest

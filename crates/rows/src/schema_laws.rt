@@ -1,4 +1,4 @@
-ghost use Rattle.rows.specs.SchemaLaws.{SampleIsRead, WhatIsReadIsOfTheGrammar};
+ghost use Rattle.rows.specs.SchemaLaws.{SampleIsRead, WhatIsReadIsOfTheGrammar, TokensAreRead};
 
 use crate::schema_reading::SAMPLE;
 
@@ -9,5 +9,6 @@ pub fn sample_is_a_schema()
 
 /// Where the reading of a schema finds no fault of syntax, the text is of the grammar, which knows nothing of reading.
 pub fn schemas_are_of_the_grammar()
-    ensures { WhatIsReadIsOfTheGrammar }
+    ensures grammar { WhatIsReadIsOfTheGrammar }
+    ensures tokens { TokensAreRead }
 {}
