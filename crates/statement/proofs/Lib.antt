@@ -19,3 +19,4 @@ pub mod WholeStatements
 pub mod WholeLines
 pub mod ByTheGrammar
 pub mod Printed
+pub mod LineEnds

@@ -7,7 +7,7 @@ use Rattle.rows.specs.declared.tables.Schema.{Schema}
 use Rattle.rows.specs.declared.refusals.Refusal.TheVariants.{Syntax}
 use Rattle.statement.specs.declared.steps.Line.TheVariants.{Nothing}
 use Rattle.statement.specs.declared.lines.Written.{Written}
-use Rattle.statement.specs.Lines.{meaning_of, body_says}
+use Rattle.statement.specs.Lines.{before_feed, body_of, meaning_of, body_says}
 use Rattle.statement.specs.Literals.{row_at}
 use Rattle.statement.specs.Replies.{values_text}
 use Rattle.statement.specs.Grammar.{IsNothing, IsLine}
@@ -32,6 +32,17 @@ module _ (schema : Schema) where
   -- whatever is read is nothing or a line of the grammar, and all else is refused with a byte
   abbrev pub OnlyLinesAreRead : Type 0
   OnlyLinesAreRead = (reading : ℕ) (bytes : List ℕ) → IsNothing bytes ⊎ (((written : Written) × IsLine schema written bytes) ⊎ IsRefused reading bytes)
+
+-- the bytes do not end with this one
+abbrev pub EndsOtherwise : ℕ → List ℕ → Type 0
+EndsOtherwise byte bytes = (front : List ℕ) → bytes ≡ front ++ byte ∷ [] → ⊥
+
+-- a line feed ends a line, with a carriage return or without one, and neither is among its tokens; a return without a feed is
+pub record LineEndsAreNoTokens : Type 0 where
+  pub returned : (body : List ℕ) → body_of (body ++ 13 ∷ 10 ∷ []) ≡ body
+  pub counted : (body : List ℕ) → before_feed (body ++ 13 ∷ 10 ∷ []) ≡ body ++ 13 ∷ []
+  pub fed : (body : List ℕ) → EndsOtherwise 13 body → body_of (body ++ 10 ∷ []) ≡ body
+  pub open_ended : (body : List ℕ) → EndsOtherwise 10 body → body_of body ≡ body
 
 -- a number of 64 bits, or any other value whose texts are UTF-8
 abbrev pub IsPlain : Value → Type 0

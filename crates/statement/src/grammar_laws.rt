@@ -1,5 +1,5 @@
 ghost use Rattle.rows.specs.declared.tables.Schema.{Schema};
-ghost use Rattle.statement.specs.GrammarLaws.{LinesAreRead, LinesSayOneThing, NothingIsRead, OnlyLinesAreRead, PrintedRowsAreRead};
+ghost use Rattle.statement.specs.GrammarLaws.{LinesAreRead, LinesSayOneThing, NothingIsRead, OnlyLinesAreRead, LineEndsAreNoTokens, PrintedRowsAreRead};
 
 /// Reading from the left reads the lines of the grammar and no others.
 pub fn lines_are_read_by_the_grammar()
@@ -7,6 +7,7 @@ pub fn lines_are_read_by_the_grammar()
     ensures one_thing { (schema : Schema) → LinesSayOneThing schema }
     ensures nothing { (schema : Schema) → NothingIsRead schema }
     ensures only { (schema : Schema) → OnlyLinesAreRead schema }
+    ensures ends { LineEndsAreNoTokens }
 {}
 
 /// A row that is printed is read again as the values of a row of an INSERT.

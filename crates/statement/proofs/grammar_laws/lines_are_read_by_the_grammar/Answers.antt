@@ -1,5 +1,6 @@
 use Rattle.statement.proofs.ByTheGrammar as by
+use Rattle.statement.proofs.LineEnds as ends
 use Rattle.statement.proofs.grammar_laws.lines_are_read_by_the_grammar.Goals as goal
 
 pub returns : goal.returns
-returns c = record { read = by.read; one_thing = by.one_thing; nothing = by.nothing; only = by.only }
+returns c = record { read = by.read; one_thing = by.one_thing; nothing = by.nothing; only = by.only; ends = ends.line_ends }
