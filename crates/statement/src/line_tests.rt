@@ -236,6 +236,96 @@ static WRONG_BYTES: [(&[u8], usize); 28] = [
     (b"1: \r\n", 3),
 ];
 
+/// Lines of sessions that there are not, whatever else is wrong with them.
+static NO_SESSION: [&str; 5] = [
+    "0: BEGIN",
+    "65: BEGIN",
+    "9223372036854775807: COMMIT",
+    "65: INSERT INTO nosuch VALUES (1)",
+    "0: INSERT INTO t (k, k) VALUES (1)",
+];
+
+/// Lines of tables that there are not.
+static NO_TABLE: [&str; 4] = [
+    "1: SELECT * FROM dept",
+    "1: SELECT * FROM nosuch WHERE x = 1",
+    "1: INSERT INTO nosuch (x) VALUES (1, 2)",
+    "1: UPDATE dept SET x = 1",
+];
+
+/// Lines that do not fit their table, and the column that is answered.
+static BAD_ROW: [(&str, usize); 24] = [
+    ("1: INSERT INTO emp VALUES ('x', 'Ann')", 1),
+    ("1: INSERT INTO emp VALUES (1)", 0),
+    ("1: INSERT INTO emp VALUES (1, 5), (TRUE, 5)", 2),
+    ("1: INSERT INTO emp VALUES (1, 'a'), (1)", 0),
+    ("1: INSERT INTO emp VALUES (3, 'a\rb')", 2),
+    ("1: INSERT INTO t (k, x) VALUES (1)", 0),
+    ("1: INSERT INTO t (k, s) VALUES ('a', 1)", 0),
+    ("1: INSERT INTO t (k, n, K) VALUES ('a', 1, 'b')", 0),
+    ("1: INSERT INTO t (k, n) VALUES ('a')", 0),
+    ("1: INSERT INTO t (n) VALUES (4)", 1),
+    ("1: INSERT INTO t (n, k) VALUES ('a', 'a')", 2),
+    ("1: INSERT INTO t (f, k, n) VALUES (1, 'a', 1)", 3),
+    ("1: INSERT INTO t (k, n) VALUES ('a', 1), ('b', 2, 3)", 0),
+    ("1: INSERT INTO t (k, n) VALUES ('a', NULL), ('b', 2, 3)", 2),
+    ("1: SELECT * FROM t WHERE s = 1", 0),
+    ("1: SELECT * FROM t WHERE f = TRUE", 3),
+    ("1: SELECT * FROM t WHERE n = NULL", 2),
+    ("1: SELECT * FROM t WHERE k = 1 AND x = 1", 1),
+    ("1: DELETE FROM t WHERE k = 'a' AND n = 1 AND f = TRUE", 3),
+    ("1: UPDATE emp SET no = 1", 1),
+    ("1: UPDATE emp SET x = 1, no = 2", 0),
+    ("1: UPDATE emp SET name = 'a', NAME = 5", 0),
+    ("1: UPDATE emp SET name = 5 WHERE x = 1", 2),
+    ("1: UPDATE emp SET name = 'a' WHERE x = 1", 0),
+];
+
+/// Lines, and what they say in short.
+static KINDS: [(&str, &str); 26] = [
+    ("", "nothing"),
+    ("\n", "nothing"),
+    (" \t \r\n", "nothing"),
+    ("-- a comment", "nothing"),
+    ("\t-- 1: BEGIN\n", "nothing"),
+    ("1: BEGIN", "begin"),
+    ("1: begin;", "begin"),
+    ("1:BEGIN ;", "begin"),
+    (" 1 : Begin\t;\t \r\n", "begin"),
+    (
+        "0000000000000000000000000000064: START TRANSACTION",
+        "begin",
+    ),
+    ("1:sTART tRANSACTION;", "begin"),
+    ("1: COMMIT", "commit at 7"),
+    ("1: COMMIT WORK;\n", "commit at 7"),
+    ("1: rollback", "rollback"),
+    ("1: ROLLBACK work", "rollback"),
+    ("CLOCK:0", "clock 0"),
+    (
+        "Clock : 0000000000000000000000000000000000000000",
+        "clock 0",
+    ),
+    ("clock:000999999999999999999", "clock"),
+    ("1: INSERT INTO EMP VALUES (1, 'a'), (2, NULL)", "insert"),
+    ("1: INSERT INTO t (F, K, N) VALUES (NULL, 'k', 1)", "insert"),
+    (
+        "1: UPDATE emp SET name = 'x' WHERE no >= 1 AND NO < 5",
+        "update",
+    ),
+    ("1: DELETE FROM emp", "delete"),
+    ("1: delete from t where n=1AND n>0", "delete"),
+    ("1: select * from eMp", "select"),
+    (
+        "1: SELECT*FROM emp FOR SYSTEM_TIME AS OF 1;",
+        "select at an instant",
+    ),
+    (
+        "1: SELECT * FROM emp FOR SYSTEM_TIME AS OF 999999999999999999WHERE no=1",
+        "select at an instant",
+    ),
+];
+
 fn chars(alloc: Global, text: &str) -> Result<Chars, AllocError> {
     Ok(Chars::new(String::from_str(alloc, text)?))
 }
@@ -299,81 +389,33 @@ fn a_line_outside_the_grammar_names_its_first_wrong_byte(rt: HostRuntime) -> Res
 fn a_line_that_does_not_fit_names_the_first_reason(rt: HostRuntime) -> Result<(), Fail> {
     let alloc = rt.alloc();
     let schema = schema(alloc)?;
-    let long = "k".repeat(alloc, 201)?;
-    let compared = format!(in alloc; "1: SELECT * FROM t WHERE k < '{long}'")?;
-    let inserted = format!(in alloc; "1: INSERT INTO t VALUES ('{long}', 1, TRUE)")?;
-    for (line, refusal) in [
-        ("0: BEGIN", Refusal::NoSession),
-        ("65: BEGIN", Refusal::NoSession),
-        ("9223372036854775807: COMMIT", Refusal::NoSession),
-        ("65: INSERT INTO nosuch VALUES (1)", Refusal::NoSession),
-        ("0: INSERT INTO t (k, k) VALUES (1)", Refusal::NoSession),
-        ("1: SELECT * FROM dept", Refusal::NoTable),
-        ("1: SELECT * FROM nosuch WHERE x = 1", Refusal::NoTable),
-        ("1: INSERT INTO nosuch (x) VALUES (1, 2)", Refusal::NoTable),
-        ("1: UPDATE dept SET x = 1", Refusal::NoTable),
-        ("1: INSERT INTO emp VALUES ('x', 'Ann')", Refusal::BadRow(1)),
-        ("1: INSERT INTO emp VALUES (1)", Refusal::BadRow(0)),
-        (
-            "1: INSERT INTO emp VALUES (1, 5), (TRUE, 5)",
-            Refusal::BadRow(2),
-        ),
-        (
-            "1: INSERT INTO emp VALUES (1, 'a'), (1)",
-            Refusal::BadRow(0),
-        ),
-        ("1: INSERT INTO emp VALUES (3, 'a\rb')", Refusal::BadRow(2)),
-        ("1: INSERT INTO t (k, x) VALUES (1)", Refusal::BadRow(0)),
-        (
-            "1: INSERT INTO t (k, s) VALUES ('a', 1)",
-            Refusal::BadRow(0),
-        ),
-        (
-            "1: INSERT INTO t (k, n, K) VALUES ('a', 1, 'b')",
-            Refusal::BadRow(0),
-        ),
-        ("1: INSERT INTO t (k, n) VALUES ('a')", Refusal::BadRow(0)),
-        ("1: INSERT INTO t (n) VALUES (4)", Refusal::BadRow(1)),
-        (
-            "1: INSERT INTO t (n, k) VALUES ('a', 'a')",
-            Refusal::BadRow(2),
-        ),
-        (
-            "1: INSERT INTO t (f, k, n) VALUES (1, 'a', 1)",
-            Refusal::BadRow(3),
-        ),
-        (
-            "1: INSERT INTO t (k, n) VALUES ('a', 1), ('b', 2, 3)",
-            Refusal::BadRow(0),
-        ),
-        (
-            "1: INSERT INTO t (k, n) VALUES ('a', NULL), ('b', 2, 3)",
-            Refusal::BadRow(2),
-        ),
-        (inserted.as_str(), Refusal::BadRow(1)),
-        ("1: SELECT * FROM t WHERE s = 1", Refusal::BadRow(0)),
-        ("1: SELECT * FROM t WHERE f = TRUE", Refusal::BadRow(3)),
-        ("1: SELECT * FROM t WHERE n = NULL", Refusal::BadRow(2)),
-        (
-            "1: SELECT * FROM t WHERE k = 1 AND x = 1",
-            Refusal::BadRow(1),
-        ),
-        (
-            "1: DELETE FROM t WHERE k = 'a' AND n = 1 AND f = TRUE",
-            Refusal::BadRow(3),
-        ),
-        (compared.as_str(), Refusal::BadRow(1)),
-        ("1: UPDATE emp SET no = 1", Refusal::BadRow(1)),
-        ("1: UPDATE emp SET x = 1, no = 2", Refusal::BadRow(0)),
-        ("1: UPDATE emp SET name = 'a', NAME = 5", Refusal::BadRow(0)),
-        ("1: UPDATE emp SET name = 5 WHERE x = 1", Refusal::BadRow(2)),
-        (
-            "1: UPDATE emp SET name = 'a' WHERE x = 1",
-            Refusal::BadRow(0),
-        ),
-    ] {
-        let answer = read_line(alloc, line.as_bytes(), &schema, 0).err();
-        assert_eq!(rt; answer, Some(refusal), "{line}");
+    for line in &NO_SESSION {
+        let refusal = read_line(alloc, line.as_bytes(), &schema, 0).err();
+        assert_eq!(rt; refusal, Some(Refusal::NoSession), "{line}");
+    }
+    for line in &NO_TABLE {
+        let refusal = read_line(alloc, line.as_bytes(), &schema, 0).err();
+        assert_eq!(rt; refusal, Some(Refusal::NoTable), "{line}");
+    }
+    for (line, column) in &BAD_ROW {
+        let refusal = read_line(alloc, line.as_bytes(), &schema, 0).err();
+        assert_eq!(rt; refusal, Some(Refusal::BadRow(*column)), "{line}");
+    }
+    Ok(())
+}
+
+#[test]
+fn a_text_of_a_key_has_200_bytes_at_most(rt: HostRuntime) -> Result<(), Fail> {
+    let alloc = rt.alloc();
+    let schema = schema(alloc)?;
+    for (bytes, refusal) in [(200, None), (201, Some(Refusal::BadRow(1)))] {
+        let text = "k".repeat(alloc, bytes)?;
+        let compared = format!(in alloc; "1: SELECT * FROM t WHERE k < '{text}'")?;
+        let answer = read_line(alloc, compared.as_bytes(), &schema, 0).err();
+        assert_eq!(rt; answer, refusal, "{bytes}");
+        let inserted = format!(in alloc; "1: INSERT INTO t VALUES ('{text}', 1, TRUE)")?;
+        let answer = read_line(alloc, inserted.as_bytes(), &schema, 0).err();
+        assert_eq!(rt; answer, refusal, "{bytes}");
     }
     Ok(())
 }
@@ -425,51 +467,9 @@ fn kind_of(line: &Line) -> &'static str {
 fn lines_are_read_in_any_case_and_with_any_blanks(rt: HostRuntime) -> Result<(), Fail> {
     let alloc = rt.alloc();
     let schema = schema(alloc)?;
-    for (line, kind) in [
-        ("", "nothing"),
-        ("\n", "nothing"),
-        (" \t \r\n", "nothing"),
-        ("-- a comment", "nothing"),
-        ("\t-- 1: BEGIN\n", "nothing"),
-        ("1: BEGIN", "begin"),
-        ("1: begin;", "begin"),
-        ("1:BEGIN ;", "begin"),
-        (" 1 : Begin\t;\t \r\n", "begin"),
-        (
-            "0000000000000000000000000000064: START TRANSACTION",
-            "begin",
-        ),
-        ("1:sTART tRANSACTION;", "begin"),
-        ("1: COMMIT", "commit at 7"),
-        ("1: COMMIT WORK;\n", "commit at 7"),
-        ("1: rollback", "rollback"),
-        ("1: ROLLBACK work", "rollback"),
-        ("CLOCK:0", "clock 0"),
-        (
-            "Clock : 0000000000000000000000000000000000000000",
-            "clock 0",
-        ),
-        ("clock:000999999999999999999", "clock"),
-        ("1: INSERT INTO EMP VALUES (1, 'a'), (2, NULL)", "insert"),
-        ("1: INSERT INTO t (F, K, N) VALUES (NULL, 'k', 1)", "insert"),
-        (
-            "1: UPDATE emp SET name = 'x' WHERE no >= 1 AND NO < 5",
-            "update",
-        ),
-        ("1: DELETE FROM emp", "delete"),
-        ("1: delete from t where n=1AND n>0", "delete"),
-        ("1: select * from eMp", "select"),
-        (
-            "1: SELECT*FROM emp FOR SYSTEM_TIME AS OF 1;",
-            "select at an instant",
-        ),
-        (
-            "1: SELECT * FROM emp FOR SYSTEM_TIME AS OF 999999999999999999WHERE no=1",
-            "select at an instant",
-        ),
-    ] {
+    for (line, kind) in &KINDS {
         let read = read_line(alloc, line.as_bytes(), &schema, 7).ok();
-        assert_eq!(rt; read.as_ref().map(kind_of), Some(kind), "{line}");
+        assert_eq!(rt; read.as_ref().map(kind_of), Some(*kind), "{line}");
     }
     Ok(())
 }
