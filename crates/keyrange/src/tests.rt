@@ -25,39 +25,61 @@ fn rect(
 
 #[test]
 fn a_rectangle_has_a_key_and_an_instant(rt: HostRuntime) -> Result<(), Fail> {
-    for (lo, hi, from, to, is_one) in [
-        (b"".as_slice(), b"".as_slice(), 1, None, true),
-        (b"a".as_slice(), b"b".as_slice(), 1, Some(2), true),
-        (b"a".as_slice(), b"a".as_slice(), 1, None, false),
-        (b"b".as_slice(), b"a".as_slice(), 1, None, false),
-        (b"".as_slice(), b"".as_slice(), 0, None, false),
-        (b"".as_slice(), b"".as_slice(), 5, Some(5), false),
-        (b"".as_slice(), b"".as_slice(), LAST, None, true),
-        (b"".as_slice(), b"".as_slice(), LAST, Some(LAST + 1), false),
-        (b"".as_slice(), b"".as_slice(), LAST + 1, None, false),
-    ] {
+    let cases: [(&[u8], &[u8], Instant, Option<Instant>, bool); 9] = [
+        (b"", b"", 1, None, true),
+        (b"a", b"b", 1, Some(2), true),
+        (b"a", b"a", 1, None, false),
+        (b"b", b"a", 1, None, false),
+        (b"", b"", 0, None, false),
+        (b"", b"", 5, Some(5), false),
+        (b"", b"", LAST, None, true),
+        (b"", b"", LAST, Some(LAST + 1), false),
+        (b"", b"", LAST + 1, None, false),
+    ];
+    for (lo, hi, from, to, is_one) in cases {
         let made = rect(&rt, lo, hi, from, to)?;
         assert_eq!(rt; made.is_some(), is_one, "from {from}");
     }
     Ok(())
 }
 
-#[test]
-fn a_cut_parts_the_points(rt: HostRuntime) -> Result<(), Fail> {
-    let all = rect(&rt, b"", b"", 1, None)?.ok_or("none")?;
-    let key = bytes(&rt, b"m")?.ok_or("none")?;
-    let (past, now) = all.cut_time(200)?.ok_or("none")?;
-    assert!(rt; past.contains(&key, 199) && !past.contains(&key, 200));
-    assert!(rt; now.contains(&key, 200) && !now.contains(&key, 199));
-    assert!(rt; !past.meets(&now) && past.meets(&all));
-    assert!(rt; all.cut_time(1)?.is_none());
+/// All keys from instant 1 on.
+fn all(rt: &HostRuntime) -> Result<Rect, Fail> {
+    Ok(rect(rt, b"", b"", 1, None)?.ok_or("no rectangle")?)
+}
 
-    let (below, above) = all.cut_key(&key)?.ok_or("none")?;
-    assert!(rt; !below.contains(&key, 7) && above.contains(&key, 7));
-    assert!(rt; !below.meets(&above) && below.meets(&past));
-    let empty = bytes(&rt, b"")?.ok_or("none")?;
-    assert!(rt; below.contains(&empty, 7) && all.cut_key(&empty)?.is_none());
-    let copy = above.copy()?;
-    assert!(rt; copy.meets(&above) && !copy.meets(&below));
+fn key(rt: &HostRuntime, text: &[u8]) -> Result<KeyBytes, Fail> {
+    Ok(bytes(rt, text)?.ok_or("no key")?)
+}
+
+#[test]
+fn a_cut_by_time_parts_the_instants(rt: HostRuntime) -> Result<(), Fail> {
+    let all = all(&rt)?;
+    let key = key(&rt, b"m")?;
+    let (past, now) = all.cut_time(200)?.ok_or("no halves")?;
+    assert!(rt; past.contains(&key, 199));
+    assert!(rt; !past.contains(&key, 200));
+    assert!(rt; now.contains(&key, 200));
+    assert!(rt; !past.meets(&now));
+    Ok(())
+}
+
+#[test]
+fn a_cut_by_key_parts_the_keys(rt: HostRuntime) -> Result<(), Fail> {
+    let all = all(&rt)?;
+    let key = key(&rt, b"m")?;
+    let (below, above) = all.cut_key(&key)?.ok_or("no halves")?;
+    assert!(rt; !below.contains(&key, 7));
+    assert!(rt; above.contains(&key, 7));
+    assert!(rt; !below.meets(&above));
+    Ok(())
+}
+
+#[test]
+fn a_cut_at_the_start_gives_none(rt: HostRuntime) -> Result<(), Fail> {
+    let all = all(&rt)?.copy()?;
+    let empty = key(&rt, b"")?;
+    assert!(rt; all.cut_key(&empty)?.is_none());
+    assert!(rt; all.cut_time(1)?.is_none());
     Ok(())
 }

@@ -15,9 +15,9 @@ pub mod SchemaTokens
 pub mod SchemaSyntax
 pub mod SchemaTables
 pub mod SchemaGrammar
+pub mod Sample
 pub mod SchemaLaws
 pub mod Laws
-pub mod Sample
 pub mod RowEncoding
 pub mod RowReading
 pub mod RowLaws

@@ -1,7 +1,7 @@
 -- What the reading of schemas amounts to.
-use Rattle.std.specs.Prelude.{◌≡◌, ℕ, List, [], ◌∷◌, ◌⊎◌, ◌↔◌, Result, Ok, Err, false, codes}
-use Rattle.rows.specs.declared.tables.ColumnType.TheVariants.{Int, Text}
+use Rattle.std.specs.Prelude.{◌≡◌, ℕ, List, [], ◌⊎◌, ◌↔◌, Result, Ok, Err}
 use Rattle.rows.specs.declared.tables.Schema.{Schema}
+use Rattle.rows.specs.Sample.{sample}
 use Rattle.rows.specs.declared.schema_reading.SchemaFault.{SchemaFault}
 use Rattle.rows.specs.declared.schema_reading.SchemaFault.TheVariants.{Syntax}
 use Rattle.rows.specs.declared.declarations.Declaration.{Declaration}
@@ -9,22 +9,9 @@ use Rattle.rows.specs.SchemaTables.{tables_from, read_schema}
 use Rattle.rows.specs.SchemaTokens.{symbol_at, word_at, name_at, digits_at}
 use Rattle.rows.specs.SchemaGrammar.{Symbol, Word, Name, Digits, SchemaText}
 
--- the schema of a program that is given none: a table of employees, with their numbers and names
-abbrev pub sample_schema : Schema
-sample_schema = record {
-  tables = record {
-    number = 1;
-    name = codes "emp";
-    columns = record { name = codes "no"; of = Int; not_null = false } ∷ record { name = codes "name"; of = Text; not_null = false } ∷ [];
-    key = 1 ∷ [];
-    row_start = codes "sys_start";
-    row_end = codes "sys_end";
-  } ∷ [];
-}
-
--- it is what the text says
+-- the sample schema is what the text says
 abbrev pub SampleIsRead : List ℕ → Type 0
-SampleIsRead text = read_schema text ≡ Ok sample_schema
+SampleIsRead text = read_schema text ≡ Ok sample
 
 abbrev pub HasSyntaxFault : Result Schema SchemaFault → Type 0
 HasSyntaxFault r = (at : ℕ) × (r ≡ Err (Syntax at))

@@ -1,5 +1,5 @@
 -- What the bytes of a text do, one after another.
-use Rattle.std.proofs.Common.{◌≡◌, ◌≢◌, ℕ, List, [], ◌∷◌, ◌++◌, Bool, true, false, Option, Some, None, append_assoc, append-nil, sym, ◌∙◌, ap, refl, subst, arith}
+use Rattle.std.proofs.Common.{◌≡◌, ◌≢◌, ℕ, List, [], ◌∷◌, ◌++◌, Bool, false, Option, Some, None, append_assoc, append-nil, sym, ◌∙◌, ap, refl, subst, arith}
 use Rattle.std.specs.Prelude.{if◌then◌else◌, ◌==◌, IfSome}
 use Rattle.std.proofs.lemmas.Bool.Decides.{nat_tests}
 use Rattle.std.proofs.KnownBytes.{Appends-trans, Appends-nil, Consumes-nil, Consumes-trans, Consumes-kept}

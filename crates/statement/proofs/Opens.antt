@@ -1,6 +1,6 @@
 -- A session's open transaction began at the log of the steps before its BEGIN.
 use Rattle.std.proofs.Common.{◌≡◌, ap, refl}
-use Rattle.std.specs.Prelude.{ℕ, ◌&&◌, Bool, true, false, Option, Some, None, is_none, if◌then◌else◌, [], ◌∷◌}
+use Rattle.std.specs.Prelude.{◌&&◌, Bool, true, false, Option, Some, None, is_none, if◌then◌else◌, [], ◌∷◌}
 use Rattle.std.specs.Option.{option_map}
 use Rattle.rows.specs.declared.tables.Schema.{Schema}
 use Rattle.rows.specs.Log.{Log}

@@ -1,5 +1,5 @@
 -- Worked examples, each a list of steps with its replies.
-use Rattle.std.specs.Prelude.{◌≡◌, ℕ, List, [], ◌∷◌, ◌++◌, Option, Some, None, true, false, codes, pos}
+use Rattle.std.specs.Prelude.{◌≡◌, ℕ, List, [], ◌∷◌, ◌++◌, Option, Some, None, codes, pos}
 use Rattle.rows.specs.declared.values.Value.TheVariants.{Int, Text}
 use Rattle.rows.specs.declared.queries.Form.TheVariants.{Plain, AsOf, FromTo, Between}
 use Rattle.rows.specs.declared.queries.Operator.TheVariants.{Equal}
