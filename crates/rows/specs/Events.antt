@@ -6,9 +6,8 @@ use Rattle.std.specs.declared.cmp.Ordering.{Ordering}
 use Rattle.rows.specs.declared.events.Event.{Event}
 use Rattle.rows.specs.declared.keys.Key.{Key}
 use Rattle.rows.specs.declared.keys.Point.{Point}
-use Rattle.rows.specs.declared.tables.Schema.{Schema}
 use Rattle.rows.specs.Log.{Changes, Net, Row}
-use Rattle.rows.specs.Tables.{table_at}
+use Rattle.rows.specs.Tables.{Schema, table_at}
 use Rattle.rows.specs.KeyEncoding.{bytes_of_key}
 use Rattle.rows.specs.KeyReading.{IsKeyOf}
 

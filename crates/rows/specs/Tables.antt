@@ -1,12 +1,12 @@
 -- Tables by their numbers, and the values of their columns by theirs: both are numbered from 1.
-use Rattle.std.specs.Prelude.{◌≡◌, ◌≤◌, All, length, ℕ, ◌-◌, ◌==◌, List, Bool, Option, None, if◌then◌else◌}
+use Rattle.std.specs.Prelude.{ℕ, ◌-◌, ◌==◌, List, Bool, Option, None, if◌then◌else◌}
 use Rattle.std.specs.List.{slice_get, list_any}
 use Rattle.std.specs.Option.{unwrap_or}
 use Rattle.rows.specs.declared.values.Value.{Value}
 use Rattle.rows.specs.declared.values.Value.TheVariants.{Null}
 use Rattle.rows.specs.declared.tables.Column.{Column}
 use Rattle.rows.specs.declared.tables.Table.{Table}
-pub use Rattle.rows.specs.declared.tables.Schema.{Schema}
+use Rattle.rows.specs.declared.tables.Schema.{Schema}
 
 abbrev pub table_at : Schema → ℕ → Option Table
 table_at schema number = if number == 0 then None else slice_get schema.tables (number - 1)
@@ -21,9 +21,3 @@ is_key_column table number = list_any (λ k. k == number) table.key
 -- a row's value of a column, NULL past its end
 abbrev pub value_at : List Value → ℕ → Value
 value_at row number = unwrap_or (slice_get row (number - 1)) Null
-
--- the table has its number, and at most four key columns, which are among its own
-pub record IsTable (number : ℕ) (table : Table) : Type 0 where
-  pub numbered : table.number ≡ number
-  pub few : length table.key ≤ 4
-  pub within : All (λ n. (1 ≤ n) × (n ≤ length table.columns)) table.key

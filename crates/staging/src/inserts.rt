@@ -1,7 +1,8 @@
 //! INSERT.
 ghost use Rattle.std.specs.Prelude.{◌≡◌, ◌≢◌, Result, Err, OnErr};
 ghost use Rattle.rows.specs.Log.{Changes};
-ghost use Rattle.rows.specs.Tables.{Schema, IsTable};
+ghost use Rattle.rows.specs.Tables.{IsTable};
+ghost use Rattle.rows.specs.Tables.{Schema};
 ghost use Rattle.staging.specs.Committed.{AreKeysIn};
 ghost use Rattle.staging.specs.Own.{Reads, own, insert_into};
 

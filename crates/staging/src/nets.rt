@@ -1,4 +1,6 @@
 //! Net changes.
+ghost use Rattle.std.specs.Prelude.{◌≡◌};
+
 use rows::{Key, Row};
 use std::marker::Model;
 
