@@ -2,10 +2,12 @@
 use Rattle.std.specs.Prelude.{◌≡◌, ℕ, List, [], ◌∷◌, Option, Some, None, Bool, ◌&&◌, nat_le, nat_lt, map, filter, All, if◌then◌else◌, option_and_then}
 use Rattle.std.specs.Ordering.{nat_cmp, ordering_then, eq_by_cmp, match_ordering}
 use Rattle.std.specs.Cmp.Lexicographic.{slice_cmp}
+use Rattle.std.specs.Map.{keys_of}
 use Rattle.std.specs.declared.cmp.Ordering.{Ordering}
 use Rattle.rows.specs.declared.events.Event.{Event}
 use Rattle.rows.specs.declared.keys.Key.{Key}
 use Rattle.rows.specs.declared.keys.Point.{Point}
+use Rattle.rows.specs.declared.tables.Table.{Table}
 use Rattle.rows.specs.Log.{Changes, Net, Row}
 use Rattle.rows.specs.Tables.{Schema, table_at}
 use Rattle.rows.specs.KeyEncoding.{bytes_of_key}
@@ -28,9 +30,22 @@ event_of c = record { key = bytes_of_key c.0.key; at = c.0.instant; row = c.1 }
 abbrev pub events_of : Changes → List Event
 events_of m = map event_of m
 
--- a key of one of the tables, which a row may have
+-- a key that a row of the table may have, where there is one
+abbrev pub IsKeyOfAny : Option Table → Key → Type 0
+IsKeyOfAny None key = ⊥
+IsKeyOfAny (Some table) key = IsKeyOf table key
+
+-- a key that a row of one of the tables may have
 abbrev pub IsKeyIn : Schema → Key → Type 0
-IsKeyIn schema key = elim (table_at schema key.table) [ None ↦ ⊥ | Some table ↦ IsKeyOf table key ]
+IsKeyIn schema key = IsKeyOfAny (table_at schema key.table) key
+
+-- the keys of the changes are of the schema
+abbrev pub AreChangesIn : Schema → Changes → Type 0
+AreChangesIn schema m = All (λ p. IsKeyIn schema p.key) (keys_of m)
+
+-- the keys of net changes are of the schema
+abbrev pub AreKeysIn : Schema → Net → Type 0
+AreKeysIn schema net = All (IsKeyIn schema) (keys_of net)
 
 -- ---- what events say of a key, by its bytes
 

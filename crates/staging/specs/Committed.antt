@@ -1,12 +1,13 @@
 -- What was committed, as contracts see a view of it.
 use Rattle.std.specs.Prelude.{◌≡◌, ℕ, ◌≤◌, List, ◌∷◌, [], Bool, true, false, ◌&&◌, ◌==◌, not, nat_le, nat_lt, Option, is_some, filter, All}
 use Rattle.std.specs.List.{list_any}
+use Rattle.std.specs.Map.{keys_of}
 use Rattle.std.specs.List.Sorted.{IsStrictlySortedBy}
 use Rattle.rows.specs.declared.events.Event.{Event}
 use Rattle.rows.specs.Tables.{Schema}
-use Rattle.rows.specs.Log.{Changes, Net, point_cmp}
+use Rattle.rows.specs.Log.{Changes, point_cmp}
 use Rattle.rows.specs.Commits.{last_instant}
-use Rattle.rows.specs.Events.{event_cmp, is_bytes, events_of, IsKeyIn}
+use Rattle.rows.specs.Events.{event_cmp, is_bytes, events_of, AreChangesIn}
 use Rattle.keyrange.specs.declared.ranges.KeyRange.{KeyRange}
 use Rattle.keyrange.specs.Points.{is_key_in}
 
@@ -21,15 +22,11 @@ pub record IsCommitted (events : List Event) (last : ℕ) : Type 0 where
   pub upto : All (λ e. e.at ≤ last) events
   pub within : last ≤ last_instant
 
--- the keys of net changes, or of a transaction's writes, are of the schema
-abbrev pub AreKeysIn : Schema → Net → Type 0
-AreKeysIn schema net = All (λ c. IsKeyIn schema c.0) net
-
 -- its events are those of the changes, in order, whose keys are of the schema
 pub record Holds (schema : Schema) (c : Committed) (m : Changes) : Type 0 where
   pub events_are : c.events ≡ events_of m
-  pub keys : All (λ x. IsKeyIn schema x.0.key) m
-  pub ordered : IsStrictlySortedBy (λ x y. point_cmp x.0 y.0) m
+  pub keys : AreChangesIn schema m
+  pub in_order : IsStrictlySortedBy point_cmp (keys_of m)
 
 -- the events of a range of keys, from an instant to another and with it
 abbrev pub events_in : List Event → KeyRange → ℕ → ℕ → List Event

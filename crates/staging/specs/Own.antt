@@ -10,7 +10,8 @@ use Rattle.rows.specs.Tables.{Schema, table_at}
 use Rattle.rows.specs.Log.{Changes, State, Net, Row, apply_net, rows_after}
 use Rattle.rows.specs.Fits.{rows_fault, comparisons_fault, sets_fault, first_of}
 use Rattle.rows.specs.Writes.{key_of, insert_rows, duplicate, update_rows, delete_rows, met, add_keys, net_of}
-use Rattle.staging.specs.Committed.{Committed, Holds, AreKeysIn}
+use Rattle.rows.specs.Events.{AreKeysIn}
+use Rattle.staging.specs.Committed.{Committed, Holds}
 
 -- the rows that a transaction sees, and the keys that it wrote
 pub record Own : Type 0 where

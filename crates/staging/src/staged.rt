@@ -4,7 +4,8 @@ ghost use Rattle.rows.specs.Log.{Changes};
 ghost use Rattle.rows.specs.Tables.{Schema};
 ghost use Rattle.rows.specs.Memory.{OnlyMemory};
 ghost use Rattle.rows.specs.Versions.{takes};
-ghost use Rattle.staging.specs.Committed.{AreKeysIn, Holds};
+ghost use Rattle.rows.specs.Events.{AreKeysIn};
+ghost use Rattle.staging.specs.Committed.{Holds};
 ghost use Rattle.staging.specs.Own.{Reads, seen, net_over};
 
 use crate::nets::Net;

@@ -3,7 +3,7 @@ ghost use Rattle.std.specs.Prelude.{◌≡◌, ◌≢◌, Result, Err, OnErr};
 ghost use Rattle.rows.specs.Log.{Changes};
 ghost use Rattle.rows.specs.Tables.{IsTable};
 ghost use Rattle.rows.specs.Tables.{Schema};
-ghost use Rattle.staging.specs.Committed.{AreKeysIn};
+ghost use Rattle.rows.specs.Events.{AreKeysIn};
 ghost use Rattle.staging.specs.Own.{Reads, own, update_in};
 
 use crate::staged::Staged;

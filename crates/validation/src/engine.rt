@@ -4,7 +4,8 @@ ghost use Rattle.rows.specs.Log.{Changes, add_net};
 ghost use Rattle.rows.specs.Tables.{Schema};
 ghost use Rattle.rows.specs.Commits.{outcome};
 ghost use Rattle.rows.specs.Memory.{OnlyMemory};
-ghost use Rattle.staging.specs.Committed.{Holds, AreKeysIn};
+ghost use Rattle.rows.specs.Events.{AreKeysIn};
+ghost use Rattle.staging.specs.Committed.{Holds};
 
 use commitclock::Clock;
 use rows::{Instant, Mem, Refusal};
