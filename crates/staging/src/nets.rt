@@ -1,5 +1,7 @@
 //! Net changes.
-ghost use Rattle.std.specs.Prelude.{◌≡◌};
+ghost use Rattle.std.specs.Prelude.{◌≡◌, All};
+ghost use Rattle.std.specs.Map.{keys_of};
+ghost use Rattle.rows.specs.KeyEncoding.{IsShortKey};
 
 use rows::{Key, Row};
 use std::marker::Model;
@@ -12,6 +14,7 @@ pub struct Net {
 
 impl Model for Net {
     ghost use Rattle.std.specs.Prelude.{All};
+    ghost use Rattle.std.specs.Map.{keys_of};
     ghost use Rattle.rows.specs.Log.{Net as Changed};
     ghost use Rattle.rows.specs.KeyEncoding.{IsShortKey};
 
@@ -19,13 +22,14 @@ impl Model for Net {
 
     ghost view = { λ n. n.changes.items };
 
-    ghost invariant = { λ n. All (λ c. IsShortKey c.0) n.changes.items };
+    ghost invariant = { λ n. All IsShortKey (keys_of n.changes.items) };
 }
 
 impl Net {
     /// The changes, by key.
     pub fn changes(&self) -> &[(Key, Option<Row>)]
-        ensures { result.now ≡ self.now }
+        ensures changes { result.now ≡ self.now }
+        ensures short { All IsShortKey (keys_of self.now) }
     {
         self.changes.as_slice()
     }
