@@ -6,7 +6,10 @@ use Rattle.rows.specs.declared.values.Value.{Value}
 use Rattle.rows.specs.declared.values.Value.TheVariants.{Null}
 use Rattle.rows.specs.declared.tables.Column.{Column}
 use Rattle.rows.specs.declared.tables.Table.{Table}
-use Rattle.rows.specs.declared.tables.Schema.{Schema}
+
+-- tables in order
+pub record Schema : Type 0 where
+  pub tables : List Table
 
 abbrev pub table_at : Schema → ℕ → Option Table
 table_at schema number = if number == 0 then None else slice_get schema.tables (number - 1)

@@ -11,6 +11,7 @@ use crate::sequences::Sequence;
 use crate::texts::Chars;
 use crate::values::{Row, Value, Values};
 use std::alloc::{AllocError, Global};
+use std::marker::Model;
 
 /// What a column may hold besides NULL.
 #[derive(Clone, Copy, Debug, PartialEq, Eq)]
@@ -48,10 +49,18 @@ pub struct Table {
     pub row_end: Chars,
 }
 
-/// Tables in order, numbered from 1.
+/// Tables in order, numbered from 1. Each has one to four key columns, which are among its user columns.
 #[derive(Drop)]
 pub struct Schema {
-    pub tables: Sequence<Table>,
+    tables: Vec<Table>,
+}
+
+impl Model for Schema {
+    ghost use Rattle.rows.specs.Tables.{Schema as Tables};
+
+    ghost Value = { Tables };
+
+    ghost view = { λ s. record { tables = s.tables.items } };
 }
 
 impl Schema {
@@ -59,7 +68,7 @@ impl Schema {
     pub fn table(&self, name: &[u8]) -> Option<u8>
         ensures { result ≡ table_number self.now name.now }
     {
-        for table in self.tables.items() {
+        for table in self.tables {
             if same_name(table.name.text().as_bytes(), name) {
                 return Some(table.number);
             }
@@ -74,7 +83,7 @@ impl Schema {
         if number == 0 {
             return None;
         }
-        self.tables.items().get(number as usize - 1)
+        self.tables.get(number as usize - 1)
     }
 }
 
