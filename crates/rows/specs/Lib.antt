@@ -22,3 +22,4 @@ pub mod RowEncoding
 pub mod RowReading
 pub mod RowLaws
 pub mod KeyReading
+pub mod KeyLaws
