@@ -4,7 +4,7 @@ use Rattle.std.specs.Prelude.{filter, map, is_some, ◌||◌, Result, Ok, Err, i
 use Rattle.std.proofs.lemmas.Bool.Decides.{nat_tests}
 use Rattle.std.proofs.lemmas.List.{get_or-set_same, get_or-set_other}
 use Rattle.std.proofs.Math.ListN.{length-set}
-use Rattle.rows.specs.declared.tables.Schema.{Schema}
+use Rattle.rows.specs.Tables.{Schema}
 use Rattle.rows.specs.declared.refusals.Refusal.{Refusal}
 use Rattle.rows.specs.declared.refusals.Refusal.TheVariants.{NoTransaction}
 use Rattle.rows.specs.declared.keys.Key.{Key}

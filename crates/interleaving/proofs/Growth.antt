@@ -6,7 +6,7 @@ use Rattle.rows.specs.declared.keys.Transaction.{Transaction}
 use Rattle.rows.specs.declared.keys.Key.{Key}
 use Rattle.rows.specs.declared.refusals.Refusal.{Refusal}
 use Rattle.rows.specs.declared.refusals.Refusal.TheVariants.{Conflict, ClockEnd}
-use Rattle.rows.specs.declared.tables.Schema.{Schema}
+use Rattle.rows.specs.Tables.{Schema}
 use Rattle.rows.specs.Log.{Log, Net, Changes, replay, last, last_from, upto, state, changes}
 use Rattle.rows.specs.Laws.{IsLog}
 use Rattle.rows.proofs.Now.{Rises-push}

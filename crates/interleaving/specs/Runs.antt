@@ -1,7 +1,7 @@
 -- The replies to a list of steps.
 use Rattle.std.specs.Prelude.{◌≡◌, List, [], ◌∷◌, Bool, true, false, if◌then◌else◌, not}
 use Rattle.std.specs.List.{list_all}
-use Rattle.rows.specs.declared.tables.Schema.{Schema}
+use Rattle.rows.specs.Tables.{Schema}
 use Rattle.rows.specs.declared.refusals.Refusal.{Refusal}
 use Rattle.rows.specs.declared.refusals.Refusal.TheVariants.{Memory}
 use Rattle.statement.specs.declared.steps.Step.{Step}

@@ -1,7 +1,7 @@
 -- What a run of a script keeps, by what contracts see of it.
 use Rattle.std.specs.Prelude.{◌≡◌, ◌≤◌, ℕ, List, [], ◌∷◌, Option, Some, None, Bool, true, false, if◌then◌else◌, vec_capacity, length}
 use Rattle.std.specs.Io.KnownBytes.{Appends}
-use Rattle.rows.specs.declared.tables.Schema.{Schema}
+use Rattle.rows.specs.Tables.{Schema}
 use Rattle.statement.specs.Lines.{line_says}
 use Rattle.statement.specs.Puts.{AppendsFront}
 use Rattle.statement.specs.Transcript.{Partial, Progress, Reading, line_reply, line_leaves, last_reply}

@@ -1,6 +1,6 @@
 -- When a system stands for a history.
 use Rattle.std.specs.Prelude.{◌≡◌, ℕ, ◌≤◌, List, Option, Some, None, slice_index_or, length}
-use Rattle.rows.specs.declared.tables.Schema.{Schema}
+use Rattle.rows.specs.Tables.{Schema}
 use Rattle.rows.specs.Log.{Log, last, changes}
 use Rattle.statement.specs.declared.steps.Step.{Step}
 use Rattle.statement.specs.History.{History, log, opened, own, mine_of, written_of}

@@ -1,7 +1,7 @@
 -- What contracts see of a system.
 use Rattle.std.specs.Prelude.{ℕ, List, Option}
 use Rattle.rows.specs.declared.keys.Key.{Key}
-use Rattle.rows.specs.declared.tables.Schema.{Schema}
+use Rattle.rows.specs.Tables.{Schema}
 use Rattle.rows.specs.Log.{Changes, State}
 
 -- an open transaction: its start, the rows that it sees, and the keys that it wrote

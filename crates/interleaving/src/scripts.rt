@@ -1,7 +1,7 @@
 //! Scripts: a line is read, its step taken and its reply written, and then the next one.
 ghost use Rattle.std.specs.Prelude.{◌≡◌, ◌≢◌, ◌≤◌, ◌^◌, Some, None, [], ◌∷◌, OnOk, OnErr, IfOk, IfErr, IfSome, Ok, Err, length, ◌+◌, vec_capacity};
 ghost use Rattle.std.specs.Io.KnownBytes.{Keeps};
-ghost use Rattle.rows.specs.declared.tables.Schema.{Schema};
+ghost use Rattle.rows.specs.Tables.{Schema};
 ghost use Rattle.statement.specs.Lines.{line_says};
 ghost use Rattle.statement.specs.Memory.{UnlessMemory};
 ghost use Rattle.statement.specs.Taking.{Breaks};

@@ -1,8 +1,8 @@
 //! Conversations with a store: each step beside what it must answer.
 use crate::System;
 use rows::{
-    Chars, Column, ColumnType, Comparison, Form, Instant, Keys, Operator, Refusal, Row, Rows,
-    Schema, Sequence, Set, Sets, Shown, Table, Value,
+    Chars, Comparison, Form, Instant, Keys, Operator, Refusal, Row, Rows, Schema, Sequence, Set,
+    Sets, Shown, Value,
 };
 use statement::{Listing, Reply, Step};
 use std::alloc::{AllocError, Global};
@@ -11,32 +11,6 @@ use std::test::Fail;
 
 fn chars(alloc: Global, text: &str) -> Result<Chars, AllocError> {
     Ok(Chars::new(String::from_str(alloc, text)?))
-}
-
-fn column(alloc: Global, name: &str, of: ColumnType) -> Result<Column, AllocError> {
-    Ok(Column {
-        name: chars(alloc, name)?,
-        of,
-        not_null: false,
-    })
-}
-
-/// The table `emp` with the columns `no INT` and `name TEXT`, and the key `no`.
-fn sample(alloc: Global) -> Result<Schema, AllocError> {
-    let mut columns = Vec::new(alloc);
-    columns.push(column(alloc, "no", ColumnType::Int)?)?;
-    columns.push(column(alloc, "name", ColumnType::Text)?)?;
-    let table = Table {
-        number: 1,
-        name: chars(alloc, "emp")?,
-        columns: Sequence::new(columns),
-        key: Sequence::new(vec![in alloc; 1usize]?),
-        row_start: chars(alloc, "sys_start")?,
-        row_end: chars(alloc, "sys_end")?,
-    };
-    Ok(Schema {
-        tables: Sequence::new(vec![in alloc; table]?),
-    })
 }
 
 fn emp(alloc: Global, number: i64, name: &str) -> Result<Row, AllocError> {
@@ -161,7 +135,7 @@ impl Talk {
             steps,
             wanted,
         } = self;
-        let replies = System::run(alloc, sample(alloc)?, steps)?;
+        let replies = System::run(alloc, Schema::sample(alloc)?, steps)?;
         assert_eq!(rt; replies.len(), wanted.len());
         for (i, reply) in replies.iter().enumerate() {
             assert!(rt; is_told(alloc, reply, wanted[i])?, "at step {i}");

@@ -4,7 +4,7 @@ use Rattle.std.specs.List.{position_from}
 use Rattle.std.specs.Option.{option_map}
 use Rattle.std.specs.Char.{eq_ignore_ascii_case}
 use Rattle.rows.specs.declared.tables.Table.{Table}
-use Rattle.rows.specs.declared.tables.Schema.{Schema}
+use Rattle.rows.specs.Tables.{Schema}
 
 -- letter by letter, as far as both go
 abbrev pub same_letters : List ℕ → List ℕ → Bool

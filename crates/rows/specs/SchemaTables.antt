@@ -6,7 +6,7 @@ use Rattle.rows.specs.declared.tables.ColumnType.{ColumnType}
 use Rattle.rows.specs.declared.tables.ColumnType.TheVariants.{Varchar}
 use Rattle.rows.specs.declared.tables.Column.{Column}
 use Rattle.rows.specs.declared.tables.Table.{Table}
-use Rattle.rows.specs.declared.tables.Schema.{Schema}
+use Rattle.rows.specs.Tables.{Schema}
 use Rattle.rows.specs.declared.declarations.Mark.{Mark}
 use Rattle.rows.specs.declared.declarations.Mark.TheVariants.{NotNull, PrimaryKey}
 use Rattle.rows.specs.declared.declarations.Side.{Side}

@@ -1,4 +1,5 @@
 ghost use Rattle.rows.specs.KeyEncodingLaws.{ByteOrderIsKeyOrder, BytesTellKeysApart, NoKeyBeginsAnother, FittingKeysAreShort, WorkedKeyBytes};
+ghost use Rattle.rows.specs.KeyLaws.{FittingRowsHaveKeys, KeysAreShort, KeysReadBack};
 
 /// Keys may be compared, and told apart, by their bytes.
 pub fn bytes_stand_for_keys()
@@ -11,4 +12,11 @@ pub fn bytes_stand_for_keys()
 /// What fits the key of a table has bytes.
 pub fn fitting_keys_have_bytes()
     ensures { FittingKeysAreShort }
+{}
+
+/// The key of a row that fits its table is one of the table's, has bytes, and is read back from them.
+pub fn fitting_rows_have_keys()
+    ensures keys { FittingRowsHaveKeys }
+    ensures short { KeysAreShort }
+    ensures back { KeysReadBack }
 {}

@@ -31,7 +31,7 @@ mod values;
 
 pub use events::{Event, SharedEvent};
 pub use key_encoding::{KeyBytes, key_bytes};
-pub use key_laws::{bytes_stand_for_keys, fitting_keys_have_bytes};
+pub use key_laws::{bytes_stand_for_keys, fitting_keys_have_bytes, fitting_rows_have_keys};
 pub use key_reading::read_key;
 pub use keys::{Instant, Key, LAST, Net, Point, Transaction};
 pub use laws::{as_of_shows_the_state, empty_net_leaves_the_log, states_are_versions};

@@ -25,9 +25,7 @@ impl Schema {
             row_start: chars(alloc, "sys_start")?,
             row_end: chars(alloc, "sys_end")?,
         };
-        Ok(Schema {
-            tables: Sequence::new(vec![in alloc; table]?),
-        })
+        Ok(Schema::of(vec![in alloc; table]?))
     }
 }
 

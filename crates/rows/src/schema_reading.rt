@@ -6,7 +6,6 @@ ghost use Rattle.rows.specs.SchemaTables.{tables_from, read_schema, IsOrMemory};
 use crate::declarations::{Declaration, creates_at};
 use crate::schema_tables::next_table;
 use crate::schema_tokens::Stop;
-use crate::sequences::Sequence;
 use crate::tables::Schema;
 use std::alloc::{AllocError, AllocFailed, Global};
 
@@ -83,7 +82,5 @@ fn tables_of(alloc: Global, declarations: &[Declaration]) -> Result<Schema, Sche
             None => return Err(SchemaFault::BadTable(tables.len() + 1)),
         }
     }
-    Ok(Schema {
-        tables: Sequence::new(tables),
-    })
+    Ok(Schema::of(tables))
 }

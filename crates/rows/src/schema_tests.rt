@@ -14,7 +14,7 @@ fn is_bad_table(read: &Result<Schema, SchemaFault>, number: usize) -> bool {
 fn the_sample_has_one_table(rt: HostRuntime) -> Result<(), Fail> {
     let read = Schema::read(rt.alloc(), SAMPLE.as_bytes());
     let schema = read.expect(&rt, "the sample is a schema");
-    assert_eq!(rt; schema.tables.items().len(), 1);
+    assert_eq!(rt; schema.tables().len(), 1);
     assert!(rt; schema.table(b"EMP") == Some(1));
     let table = schema.table_at(1).expect(&rt, "it has a table");
     assert!(rt; table.column(b"No") == Some(1) && table.column(b"name") == Some(2));

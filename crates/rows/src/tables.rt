@@ -1,7 +1,8 @@
-ghost use Rattle.std.specs.Prelude.{◌≡◌, IfOk, option_copied};
-ghost use Rattle.rows.specs.Tables.{table_at, value_at};
+ghost use Rattle.std.specs.Prelude.{◌≡◌, IfOk, IfSome, All, option_copied};
+ghost use Rattle.rows.specs.Tables.{table_at, value_at, IsTable, IsNumberIn, AreTables};
 ghost use Rattle.rows.specs.Names.{same_name, table_number, column_number};
 ghost use Rattle.rows.specs.Writes.{key_of};
+ghost use Rattle.rows.specs.RowEncoding.{IsHeld};
 ghost use Rattle.rows.specs.Memory.{OnlyMemory};
 
 use crate::keys::Key;
@@ -11,6 +12,7 @@ use crate::sequences::Sequence;
 use crate::texts::Chars;
 use crate::values::{Row, Value, Values};
 use std::alloc::{AllocError, Global};
+use std::marker::Model;
 
 /// What a column may hold besides NULL.
 #[derive(Clone, Copy, Debug, PartialEq, Eq)]
@@ -48,18 +50,44 @@ pub struct Table {
     pub row_end: Chars,
 }
 
-/// Tables in order, numbered from 1.
+/// Tables in order, numbered from 1. Each has at most four key columns, which are among its user columns.
 #[derive(Drop)]
 pub struct Schema {
-    pub tables: Sequence<Table>,
+    tables: Vec<Table>,
+}
+
+impl Model for Schema {
+    ghost use Rattle.rows.specs.Tables.{Schema as Tables, AreTables};
+
+    ghost Value = { Tables };
+
+    ghost view = { λ s. record { tables = s.tables.items } };
+
+    ghost invariant = { λ s. AreTables 1 s.tables.items };
 }
 
 impl Schema {
+    /// A schema of tables that are good, each in the place of its number.
+    pub(crate) fn of(tables: Vec<Table>) -> Schema
+        requires { AreTables 1 tables.items }
+        ensures { result ≡ record { tables = tables.items } }
+    {
+        Schema { tables }
+    }
+
+    pub fn tables(&self) -> &[Table]
+        ensures are { result.now ≡ self.now.tables }
+        ensures good { AreTables 1 result.now }
+    {
+        self.tables.as_slice()
+    }
+
     /// The number of the table with a name, in any case.
     pub fn table(&self, name: &[u8]) -> Option<u8>
-        ensures { result ≡ table_number self.now name.now }
+        ensures is { result ≡ table_number self.now name.now }
+        ensures known { IfSome result (IsNumberIn self.now) }
     {
-        for table in self.tables.items() {
+        for table in &self.tables {
             if same_name(table.name.text().as_bytes(), name) {
                 return Some(table.number);
             }
@@ -69,12 +97,13 @@ impl Schema {
 
     /// The table with a number, from 1.
     pub fn table_at(&self, number: u8) -> Option<&Table>
-        ensures { option_copied result ≡ table_at self.now number }
+        ensures is { option_copied result ≡ table_at self.now number }
+        ensures good { IfSome result (λ t. IsTable number t.now) }
     {
         if number == 0 {
             return None;
         }
-        self.tables.items().get(number as usize - 1)
+        self.tables.get(number as usize - 1)
     }
 }
 
@@ -94,6 +123,7 @@ impl Table {
     /// The values of a row's key columns: the key of a row that fits the table.
     pub fn key(&self, alloc: Global, row: &Row) -> Mem<Key>
         ensures ok { IfOk result (λ k. k ≡ key_of self.now row.now) }
+        ensures held { IfOk result (λ k. All IsHeld k.parts) }
         ensures err { OnlyMemory result }
     {
         let mut parts = Vec::new(alloc);
@@ -109,11 +139,31 @@ impl Table {
 
 /// The value of a column; NULL past the end.
 fn value_at(values: &[Value], column: ColumnNumber) -> Result<Value, AllocError>
-    ensures { IfOk result (λ v. v ≡ value_at values.now column) }
+    ensures is { IfOk result (λ v. v ≡ value_at values.now column) }
+    ensures held { IfOk result IsHeld }
 {
     match values.get(column.saturating_sub(1)) {
-        Some(value) => value.clone(),
+        Some(value) => held(value),
         None => Ok(Value::Null),
+    }
+}
+
+/// An equal value, which is one that a program holds.
+fn held(value: &Value) -> Result<Value, AllocError>
+    ensures is { IfOk result (λ v. v ≡ value.now) }
+    ensures held { IfOk result IsHeld }
+{
+    match value {
+        Value::Int(number) => {
+            let number = *number;
+            Ok(Value::Int(number))
+        }
+        Value::Text(text) => {
+            let _utf8 = text.text();
+            Ok(Value::Text(text.clone()?))
+        }
+        Value::Bool(truth) => Ok(Value::Bool(*truth)),
+        Value::Null => Ok(Value::Null),
     }
 }
 

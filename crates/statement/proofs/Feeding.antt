@@ -4,7 +4,7 @@ use Rattle.std.specs.Prelude.{if◌then◌else◌, ◌==◌, IfSome}
 use Rattle.std.proofs.lemmas.Bool.Decides.{nat_tests}
 use Rattle.std.proofs.KnownBytes.{Appends-trans, Appends-nil, Consumes-nil, Consumes-trans, Consumes-kept}
 use Rattle.std.specs.Io.KnownBytes.{Appends, Consumes, Keeps, IsAtEnd}
-use Rattle.rows.specs.declared.tables.Schema.{Schema}
+use Rattle.rows.specs.Tables.{Schema}
 use Rattle.statement.specs.Puts.{AppendsFront}
 use Rattle.statement.specs.Transcript.{Partial, Progress, Reading, beginning, add, ended, line_reply, line_leaves, last_reply, mark, marks_after, transcript, IsTranscript, IsStopped}
 use Rattle.statement.specs.Taking.{Feeds, Breaks}

@@ -4,7 +4,7 @@ use Rattle.std.specs.Prelude.{Result, Ok, Err, if◌then◌else◌, nat_lt, max}
 use Rattle.rows.specs.declared.keys.Key.{Key}
 use Rattle.rows.specs.declared.refusals.Refusal.{Refusal}
 use Rattle.rows.specs.declared.refusals.Refusal.TheVariants.{Conflict, ClockEnd}
-use Rattle.rows.specs.declared.tables.Schema.{Schema}
+use Rattle.rows.specs.Tables.{Schema}
 use Rattle.rows.specs.Log.{Log, Net, Changes, last, changes}
 use Rattle.rows.specs.Laws.{IsLog, shown_rows}
 use Rattle.rows.specs.declared.queries.Form.TheVariants.{AsOf}

@@ -2,7 +2,7 @@
 use Rattle.std.proofs.Common.{◌≡◌, ap, refl}
 use Rattle.std.specs.Prelude.{◌&&◌, Bool, true, false, Option, Some, None, is_none, if◌then◌else◌, [], ◌∷◌}
 use Rattle.std.specs.Option.{option_map}
-use Rattle.rows.specs.declared.tables.Schema.{Schema}
+use Rattle.rows.specs.Tables.{Schema}
 use Rattle.rows.specs.Log.{Log}
 use Rattle.statement.specs.History.{History, ends, begins, before_open, log, opened}
 use Rattle.statement.specs.Laws.{OpensAtItsBegin}

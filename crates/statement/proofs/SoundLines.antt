@@ -1,7 +1,7 @@
 -- What is read as a statement or as a line is one.
 use Rattle.std.proofs.Common.{◌≡◌, ◌⊎◌, ℕ, Bool, true, false, List, [], ◌∷◌, Ok, Err, Some, None, inl, inr, refl, subst}
 use Rattle.std.specs.Prelude.{◌-◌, ◌^◌, if◌then◌else◌, codes}
-use Rattle.rows.specs.declared.tables.Schema.{Schema}
+use Rattle.rows.specs.Tables.{Schema}
 use Rattle.rows.specs.declared.queries.Comparison.{Comparison}
 use Rattle.rows.specs.declared.queries.Keys.{Keys}
 use Rattle.statement.specs.declared.lines.Written.TheVariants.{Clock, Session}

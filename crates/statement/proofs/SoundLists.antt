@@ -2,7 +2,7 @@
 use Rattle.std.proofs.Common.{◌≡◌, ℕ, Bool, true, false, List, [], ◌∷◌, ◌++◌, Ok, Err, refl, ap, sym, ◌∙◌, subst}
 use Rattle.std.specs.Prelude.{◌==◌, if◌then◌else◌, codes}
 use Rattle.std.proofs.lemmas.List.{append-nil, append_assoc}
-use Rattle.rows.specs.declared.tables.Schema.{Schema}
+use Rattle.rows.specs.Tables.{Schema}
 use Rattle.rows.specs.declared.queries.Form.TheVariants.{Plain, AsOf}
 use Rattle.rows.specs.declared.queries.Operator.{Operator}
 use Rattle.rows.specs.declared.queries.Operator.TheVariants.{Equal, Below, AtMost, Above, AtLeast}

@@ -1,7 +1,7 @@
 -- What is of the grammar is read: lines.
 use Rattle.std.proofs.Common.{◌≡◌, ◌<◌, ℕ, false, List, [], ◌∷◌, length, Ok, Err, inl, inr, refl, ap, ◌∙◌, arith, lit<}
 use Rattle.std.specs.Prelude.{◌==◌, ◌&&◌, ◌-◌, ◌^◌, if◌then◌else◌, codes}
-use Rattle.rows.specs.declared.tables.Schema.{Schema}
+use Rattle.rows.specs.Tables.{Schema}
 use Rattle.rows.specs.Names.{same_name}
 use Rattle.statement.specs.declared.lines.Written.{Written}
 use Rattle.statement.specs.declared.lines.Written.TheVariants.{Clock, Session}

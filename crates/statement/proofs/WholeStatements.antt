@@ -1,7 +1,7 @@
 -- What is of the grammar is read: statements.
 use Rattle.std.proofs.Common.{◌≡◌, ◌<◌, ℕ, List, [], ◌∷◌, length, Ok, Err, Some, None, inl, inr, refl, ap, ◌∙◌, lit<}
 use Rattle.std.specs.Prelude.{Option, ◌==◌, if◌then◌else◌, codes}
-use Rattle.rows.specs.declared.tables.Schema.{Schema}
+use Rattle.rows.specs.Tables.{Schema}
 use Rattle.rows.specs.declared.queries.Comparison.{Comparison}
 use Rattle.rows.specs.declared.queries.Form.{Form}
 use Rattle.rows.specs.declared.queries.Form.TheVariants.{Plain, AsOf, FromTo, Between}

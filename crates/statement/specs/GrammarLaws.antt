@@ -3,7 +3,7 @@ use Rattle.std.specs.Prelude.{◌≡◌, ℕ, ◌<◌, ◌^◌, List, [], ◌∷
 use Rattle.rows.specs.declared.values.Value.{Value}
 use Rattle.rows.specs.declared.values.Value.TheVariants.{Int, Text, Bool as Truth, Null}
 use Rattle.rows.specs.Log.{Row}
-use Rattle.rows.specs.declared.tables.Schema.{Schema}
+use Rattle.rows.specs.Tables.{Schema}
 use Rattle.rows.specs.declared.refusals.Refusal.TheVariants.{Syntax}
 use Rattle.statement.specs.declared.steps.Line.TheVariants.{Nothing}
 use Rattle.statement.specs.declared.lines.Written.{Written}

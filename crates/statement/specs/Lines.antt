@@ -1,7 +1,7 @@
 -- Lines, and what each says.
 use Rattle.std.specs.Prelude.{ℕ, ◌-◌, ◌^◌, List, [], ◌∷◌, ◌==◌, ◌&&◌, nat_lt, Bool, true, false, Result, Ok, Err, slice_index, length, take, codes, if◌then◌else◌}
 use Rattle.std.specs.Char.{is_ascii_digit}
-use Rattle.rows.specs.declared.tables.Schema.{Schema}
+use Rattle.rows.specs.Tables.{Schema}
 use Rattle.rows.specs.declared.refusals.Refusal.{Refusal}
 use Rattle.rows.specs.declared.refusals.Refusal.TheVariants.{Syntax, LineTooLong}
 use Rattle.statement.specs.declared.steps.Line.{Line}

@@ -5,7 +5,7 @@ use Rattle.rows.specs.declared.values.Value.{Value}
 use Rattle.rows.specs.declared.values.Value.TheVariants.{Null}
 use Rattle.rows.specs.declared.tables.Column.{Column}
 use Rattle.rows.specs.declared.tables.Table.{Table}
-use Rattle.rows.specs.declared.tables.Schema.{Schema}
+use Rattle.rows.specs.Tables.{Schema}
 use Rattle.rows.specs.declared.refusals.Refusal.{Refusal}
 use Rattle.rows.specs.declared.refusals.Refusal.TheVariants.{NoSession, NoTable, BadRow}
 use Rattle.rows.specs.Log.{Row}

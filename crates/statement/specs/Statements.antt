@@ -1,6 +1,6 @@
 -- Statements as they are written: names by their numbers, and rows in the order in which their values stand.
 use Rattle.std.specs.Prelude.{ℕ, List, Option, Some, None, Ok, Err, codes}
-use Rattle.rows.specs.declared.tables.Schema.{Schema}
+use Rattle.rows.specs.Tables.{Schema}
 use Rattle.rows.specs.declared.queries.Form.{Form}
 use Rattle.rows.specs.declared.queries.Form.TheVariants.{Plain, AsOf}
 use Rattle.statement.specs.declared.statements.Statement.{Statement}

@@ -1,6 +1,7 @@
 use crate::{Line, Step, read_line};
-use rows::{Chars, Column, ColumnType, Form, Operator, Refusal, Schema, Sequence, Table, Value};
+use rows::{Chars, Form, Operator, Refusal, Schema, Value};
 use std::alloc::{AllocError, Global};
+use std::process::Abort;
 use std::test::Fail;
 
 /// Lines, and the byte of the first token that cannot stand.
@@ -330,50 +331,27 @@ fn chars(alloc: Global, text: &str) -> Result<Chars, AllocError> {
     Ok(Chars::new(String::from_str(alloc, text)?))
 }
 
-fn table(
-    alloc: Global,
-    number: u8,
-    name: &str,
-    columns: &[(&str, ColumnType)],
-    key: &[usize],
-) -> Result<Table, Fail> {
-    let mut list = Vec::new(alloc);
-    for (column, of) in columns {
-        list.push(Column {
-            name: chars(alloc, column)?,
-            of: *of,
-            not_null: false,
-        })?;
-    }
-    Ok(Table {
-        number,
-        name: chars(alloc, name)?,
-        columns: Sequence::new(list),
-        key: Sequence::new(Vec::from_slice(alloc, key)?),
-        row_start: chars(alloc, "s")?,
-        row_end: chars(alloc, "e")?,
-    })
-}
+const SCHEMA: &str = "CREATE TABLE emp (
+  no INT PRIMARY KEY, name TEXT,
+  s TIMESTAMP GENERATED ALWAYS AS ROW START, e TIMESTAMP GENERATED ALWAYS AS ROW END,
+  PERIOD FOR SYSTEM_TIME (s, e)
+) WITH SYSTEM VERSIONING;
+CREATE TABLE t (
+  k TEXT, n INT, f BOOLEAN, PRIMARY KEY (k, n),
+  s TIMESTAMP GENERATED ALWAYS AS ROW START, e TIMESTAMP GENERATED ALWAYS AS ROW END,
+  PERIOD FOR SYSTEM_TIME (s, e)
+) WITH SYSTEM VERSIONING;
+";
 
-fn schema(alloc: Global) -> Result<Schema, Fail> {
-    let mut tables = Vec::new(alloc);
-    let emp = [("no", ColumnType::Int), ("name", ColumnType::Text)];
-    tables.push(table(alloc, 1, "emp", &emp, &[1])?)?;
-    let t = [
-        ("k", ColumnType::Text),
-        ("n", ColumnType::Int),
-        ("f", ColumnType::Boolean),
-    ];
-    tables.push(table(alloc, 2, "t", &t, &[1, 2])?)?;
-    Ok(Schema {
-        tables: Sequence::new(tables),
-    })
+/// The tables `emp (no INT, name TEXT)` with the key `no`, and `t (k TEXT, n INT, f BOOLEAN)` with the key `k, n`.
+fn schema(rt: &impl Abort, alloc: Global) -> Schema {
+    Schema::read(alloc, SCHEMA.as_bytes()).expect(rt, "it is a schema")
 }
 
 #[test]
 fn a_line_outside_the_grammar_names_its_first_wrong_byte(rt: HostRuntime) -> Result<(), Fail> {
     let alloc = rt.alloc();
-    let schema = schema(alloc)?;
+    let schema = schema(&rt, alloc);
     for (line, byte) in &WRONG_TOKENS {
         let refusal = read_line(alloc, line.as_bytes(), &schema, 0).err();
         assert_eq!(rt; refusal, Some(Refusal::Syntax(*byte)), "{line}");
@@ -388,7 +366,7 @@ fn a_line_outside_the_grammar_names_its_first_wrong_byte(rt: HostRuntime) -> Res
 #[test]
 fn a_line_that_does_not_fit_names_the_first_reason(rt: HostRuntime) -> Result<(), Fail> {
     let alloc = rt.alloc();
-    let schema = schema(alloc)?;
+    let schema = schema(&rt, alloc);
     for line in &NO_SESSION {
         let refusal = read_line(alloc, line.as_bytes(), &schema, 0).err();
         assert_eq!(rt; refusal, Some(Refusal::NoSession), "{line}");
@@ -407,7 +385,7 @@ fn a_line_that_does_not_fit_names_the_first_reason(rt: HostRuntime) -> Result<()
 #[test]
 fn a_text_of_a_key_has_200_bytes_at_most(rt: HostRuntime) -> Result<(), Fail> {
     let alloc = rt.alloc();
-    let schema = schema(alloc)?;
+    let schema = schema(&rt, alloc);
     for (bytes, refusal) in [(200, None), (201, Some(Refusal::BadRow(1)))] {
         let text = "k".repeat(alloc, bytes)?;
         let compared = format!(in alloc; "1: SELECT * FROM t WHERE k < '{text}'")?;
@@ -423,7 +401,7 @@ fn a_text_of_a_key_has_200_bytes_at_most(rt: HostRuntime) -> Result<(), Fail> {
 #[test]
 fn a_line_has_8192_bytes_at_most(rt: HostRuntime) -> Result<(), Fail> {
     let alloc = rt.alloc();
-    let schema = schema(alloc)?;
+    let schema = schema(&rt, alloc);
     for (blanks, end, too_long) in [
         (8184, "\n", false),
         (8184, "", false),
@@ -466,7 +444,7 @@ fn kind_of(line: &Line) -> &'static str {
 #[test]
 fn lines_are_read_in_any_case_and_with_any_blanks(rt: HostRuntime) -> Result<(), Fail> {
     let alloc = rt.alloc();
-    let schema = schema(alloc)?;
+    let schema = schema(&rt, alloc);
     for (line, kind) in &KINDS {
         let read = read_line(alloc, line.as_bytes(), &schema, 7).ok();
         assert_eq!(rt; read.as_ref().map(kind_of), Some(*kind), "{line}");
@@ -477,7 +455,7 @@ fn lines_are_read_in_any_case_and_with_any_blanks(rt: HostRuntime) -> Result<(),
 #[test]
 fn a_row_has_its_values_in_the_order_of_the_table(rt: HostRuntime) -> Result<(), Fail> {
     let alloc = rt.alloc();
-    let schema = schema(alloc)?;
+    let schema = schema(&rt, alloc);
     let line = "1: INSERT INTO t (n, k) VALUES (-9223372036854775808, ''''), (-0, 'O''Hara')";
     let Ok(Line::Step(Step::Insert(1, 2, rows))) = read_line(alloc, line.as_bytes(), &schema, 0)
     else {
@@ -498,7 +476,7 @@ fn a_row_has_its_values_in_the_order_of_the_table(rt: HostRuntime) -> Result<(),
 #[test]
 fn comparisons_keep_their_operators(rt: HostRuntime) -> Result<(), Fail> {
     let alloc = rt.alloc();
-    let schema = schema(alloc)?;
+    let schema = schema(&rt, alloc);
     let line = "64: SELECT * FROM t WHERE n=1 AND n<2 AND n<=3 AND n>4 AND n>=5 AND K = 'a'";
     let Ok(Line::Step(Step::Select(64, Form::Plain, keys))) = read_line(
         alloc,

@@ -1,5 +1,5 @@
 use Rattle.std.proofs.Common.{take}
-use Rattle.rows.specs.declared.tables.Schema.{Schema}
+use Rattle.rows.specs.Tables.{Schema}
 use Rattle.statement.specs.Transcript.{Progress}
 use Rattle.interleaving.specs.Scripts.{IsAt, HasRoom, Fed}
 use Rattle.interleaving.proofs.scripts.feed.Given as goal

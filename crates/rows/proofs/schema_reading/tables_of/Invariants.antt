@@ -1,6 +1,10 @@
 use Rattle.std.proofs.Common.{◌≡◌, [], drop}
+use Rattle.rows.specs.Tables.{AreTables}
 use Rattle.rows.specs.SchemaTables.{tables_from}
 use Rattle.rows.proofs.schema_reading.tables_of.Given as goal
 
 abbrev pub invariant-loop-declaration : goal.invariant-loop-declaration
-invariant-loop-declaration l = tables_from l.tables.items (drop l.declaration-index l.declarations) ≡ tables_from [] l.declarations
+invariant-loop-declaration l = record {
+  to_come : tables_from l.tables.items (drop l.declaration-index l.declarations) ≡ tables_from [] l.declarations;
+  good : AreTables 1 l.tables.items;
+}

@@ -1,5 +1,5 @@
 use Rattle.std.proofs.Common.{ap, ◌∙◌}
-use Rattle.rows.specs.declared.tables.Schema.{Schema}
+use Rattle.rows.specs.Tables.{Schema}
 use Rattle.statement.specs.declared.steps.Reply.TheVariants.{Refused}
 use Rattle.statement.specs.History.{misfit}
 use Rattle.interleaving.specs.World.{World}

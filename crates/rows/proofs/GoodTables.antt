@@ -1,0 +1,170 @@
+-- The tables that declarations make are good, and stand in the places of their numbers.
+use Rattle.std.proofs.Common.{◌≡◌, ℕ, ◌+◌, ◌-◌, ◌<◌, ◌≤◌, List, [], ◌∷◌, ◌++◌, ◌==◌, ◌&&◌, ◌||◌, Bool, true, false, cond, Option, Some, None, IfSome, length, map, refl, sym, subst, ap, ◌∙◌, arith, nat_le, nat_lt, if◌then◌else◌, All, zero, suc, get_or}
+use Rattle.std.specs.Prelude.{not, option_and_then, is_some}
+use Rattle.std.specs.List.{list_any, filter_map, flat_map, position_from, slice_get}
+use Rattle.std.specs.Option.{unwrap_or}
+use Rattle.std.specs.Borrow.{Bor}
+use Rattle.std.proofs.lemmas.List.{length-map}
+use Rattle.std.proofs.lemmas.Option.{slice_get_read}
+use Rattle.std.proofs.lemmas.List.Elements.{All-cons, All-nil}
+use Rattle.std.proofs.lemmas.Bool.Decides.{nat_tests}
+use Rattle.rows.specs.declared.tables.Column.{Column}
+use Rattle.rows.specs.declared.tables.Table.{Table}
+use Rattle.rows.specs.declared.declarations.Side.TheVariants.{Start, End}
+use Rattle.rows.specs.declared.declarations.PeriodNames.{PeriodNames}
+use Rattle.rows.specs.declared.declarations.Declaration.{Declaration}
+use Rattle.rows.specs.Names.{same_name}
+use Rattle.rows.specs.Tables.{table_at, IsColumnOf, IsTable, AreTables, IsNumberIn}
+use Rattle.rows.specs.SchemaTables.{user_column, side_name, period_names, keys_in, only, number_in, are_distinct, is_good_key, is_good_period, is_good_width, are_good_entries, table_of, next_table}
+
+-- ---- places
+
+pub AreTables-push : (ts : List Table) (n : ℕ) (t : Table) → AreTables n ts → IsTable (n + length ts) t → AreTables n (ts ++ t ∷ [])
+AreTables-push [] n t h g = (subst (λ m. IsTable m t) (omega arith) g, tt)
+AreTables-push (u ∷ ts) n t h g = (h.0, AreTables-push ts (n + 1) t h.1 (subst (λ m. IsTable m t) (omega arith) g))
+
+at_place : (ts : List Table) (n i : ℕ) → AreTables n ts → IfSome (slice_get ts i) (IsTable (n + i))
+at_place [] n i h = tt
+at_place (t ∷ ts) n zero h = subst (λ m. IsTable m t) (omega arith) h.0
+at_place (t ∷ ts) n (suc i) h =
+    let e : (n + 1) + i ≡ n + suc i = omega arith in subst (λ m. IfSome (slice_get ts i) (IsTable m)) e (at_place ts (n + 1) i h.1)
+
+-- the table that is found by its number has it
+pub is_at_place : (ts : List Table) (number : ℕ) (found : Option (Bor Table)) → AreTables 1 ts → ¬ (number ≡ 0) → is_some found ≡ nat_lt (number - 1) (length ts)
+    → IfSome found (λ t. t.now ≡ get_or ts (number - 1) t.now) → IfSome found (λ t. IsTable number t.now)
+is_at_place ts number None h some within is = tt
+is_at_place ts number (Some t) h some within is =
+    let at : slice_get ts (number - 1) ≡ Some t.now = slice_get_read ts (length ts) (number - 1) t.now refl (below (number - 1) (length ts) (sym within)) is in
+    let here : IsTable (1 + (number - 1)) t.now = subst (λ o. IfSome o (IsTable (1 + (number - 1)))) at (at_place ts 1 (number - 1) h) in
+    subst (λ m. IsTable m t.now) (one_up number some) here
+  where
+    below : (n m : ℕ) → nat_lt n m ≡ true → n < m
+    below n m e = grind (arith, nat_tests)
+
+    one_up : (n : ℕ) → ¬ (n ≡ 0) → 1 + (n - 1) ≡ n
+    one_up n h = omega (arith, h)
+
+-- a schema's tables are known by their numbers
+pub is_known : (ts : List Table) (i : ℕ) (t : Table) → AreTables 1 ts → i < length ts → t ≡ get_or ts i t → IsNumberIn (record { tables = ts }) t.number
+is_known ts i t h lt is =
+    let at : slice_get ts i ≡ Some t = slice_get_read ts (length ts) i t refl lt is in
+    let good : IsTable (1 + i) t = subst (λ o. IfSome o (IsTable (1 + i))) at (at_place ts 1 i h) in
+    (t, numbered t.number i good.numbered at)
+  where
+    by_zero : (n : ℕ) (z : Bool) → (n == 0) ≡ z → 1 ≤ n → slice_get ts (n - 1) ≡ Some t → (if z then None else slice_get ts (n - 1)) ≡ Some t
+    by_zero n true e h is = let never : ⊥ = grind (arith, nat_tests) in absurd never
+    by_zero n false e h is = is
+
+    numbered : (n i : ℕ) → n ≡ 1 + i → slice_get ts i ≡ Some t → table_at (record { tables = ts }) n ≡ Some t
+    numbered n i e is =
+        let back : n - 1 ≡ i = omega arith in
+        by_zero n (n == 0) refl (omega arith) (ap (slice_get ts) back ∙ is)
+
+-- ---- what a declaration makes
+
+first : (a b : Bool) → (a && b) ≡ true → a ≡ true
+first true b e = refl
+first false b e = e
+
+second : (a b : Bool) → (a && b) ≡ true → b ≡ true
+second true b e = e
+second false b e = cc
+
+at_most : (n m : ℕ) → nat_le n m ≡ true → n ≤ m
+at_most n m e = grind (arith, nat_tests)
+
+no_zero : (n : ℕ) (ns : List ℕ) → not (list_any (λ n. n == 0) (n ∷ ns)) ≡ true → (1 ≤ n) × (not (list_any (λ n. n == 0) ns) ≡ true)
+no_zero n ns h = by_zero (n == 0) refl h
+  where
+    above : (n : ℕ) → (n == 0) ≡ false → 1 ≤ n
+    above n e = grind (arith, nat_tests)
+
+    by_zero : (z : Bool) → (n == 0) ≡ z → not (z || list_any (λ n. n == 0) ns) ≡ true → (1 ≤ n) × (not (list_any (λ n. n == 0) ns) ≡ true)
+    by_zero true e h = cc
+    by_zero false e h = (above n e, h)
+
+found_within : (name : List ℕ) (cs : List Column) (n : ℕ) → IfSome (position_from (λ c. same_name c.name name) n cs) (λ i. i < n + length cs)
+found_within name [] n = tt
+found_within name (c ∷ cs) n = by_name (same_name c.name name) (position_from (λ c. same_name c.name name) (n + 1) cs) (found_within name cs (n + 1))
+  where
+    by_name : (t : Bool) (o : Option ℕ) → IfSome o (λ i. i < (n + 1) + length cs) → IfSome (cond t (Some n) o) (λ i. i < n + length (c ∷ cs))
+    by_name true o h = omega arith
+    by_name false None h = tt
+    by_name false (Some i) h = omega arith
+
+number_within : (cs : List Column) (name : List ℕ) → number_in cs name ≤ length cs
+number_within cs name = found (position_from (λ c. same_name c.name name) 1 cs) (found_within name cs 1)
+  where
+    found : (o : Option ℕ) → IfSome o (λ i. i < 1 + length cs) → unwrap_or o 0 ≤ length cs
+    found None h = omega arith
+    found (Some i) h = omega arith
+
+own_columns : (table : Table) (names : List (List ℕ)) → not (list_any (λ n. n == 0) (map (number_in table.columns) names)) ≡ true
+    → All (IsColumnOf table) (map (number_in table.columns) names)
+own_columns table [] h = All-nil (IsColumnOf table)
+own_columns table (name ∷ names) h =
+    let both = no_zero (number_in table.columns name) (map (number_in table.columns) names) h in
+    All-cons (IsColumnOf table) _ _ (record { from_1 = both.0; within = number_within table.columns name }) (own_columns table names both.1)
+
+-- the table of these parts
+abbrev made : ℕ → Declaration → List ℕ → List ℕ → List (List ℕ) → Table
+made number d start end names =
+    let columns = filter_map user_column d.entries in
+    record { number = number; name = d.name; columns = columns; key = map (number_in columns) names; row_start = start; row_end = end }
+
+abbrev is_good : Declaration → List ℕ → List ℕ → PeriodNames → List (List ℕ) → Bool
+is_good d start end period names =
+    let columns = filter_map user_column d.entries in
+    is_good_period start end period && is_good_key names (map (number_in columns) names) && is_good_width columns && are_good_entries d.entries
+
+made_is : (number : ℕ) (d : Declaration) (start end : List ℕ) (period : PeriodNames) (names : List (List ℕ)) → is_good d start end period names ≡ true
+    → IsTable number (made number d start end names)
+made_is number d start end period names h =
+    let columns = filter_map user_column d.entries in
+    let key = map (number_in columns) names in
+    let three : (is_good_period start end period && is_good_key names key && is_good_width columns) ≡ true = first _ _ h in
+    let two : (is_good_period start end period && is_good_key names key) ≡ true = first _ _ three in
+    let wide : is_good_width columns ≡ true = second _ _ three in
+    let keyed : is_good_key names key ≡ true = second _ _ two in
+    let few : length names ≤ 4 = at_most (length names) 4 (first (nat_le (length names) 4) (are_distinct names) (first (nat_le (length names) 4 && are_distinct names) _ keyed)) in
+    let same : length key ≡ length names = length-map names (number_in columns) in
+    let none : not (list_any (λ n. n == 0) key) ≡ true = second _ _ keyed in
+    record {
+      numbered = refl;
+      some_columns = at_most 1 (length columns) (first _ _ wide);
+      few_columns = at_most (length columns) 16 (second _ _ wide);
+      few_key_columns = subst (λ n. n ≤ 4) (sym same) few;
+      own_key_columns = own_columns (made number d start end names) names none;
+    }
+
+kept : (number : ℕ) (d : Declaration) (start end : List ℕ) (period : PeriodNames) (names : List (List ℕ)) (t : Table) (good : Bool) → is_good d start end period names ≡ good
+    → (if good then Some (made number d start end names) else None) ≡ Some t → IsTable number t
+kept number d start end period names t true h e =
+    let is : made number d start end names ≡ t = cc in subst (IsTable number) is (made_is number d start end period names h)
+kept number d start end period names t false h e = cc
+
+of_parts : (number : ℕ) (d : Declaration) (t : Table) (start end : Option (List ℕ)) (period : Option PeriodNames) (names : Option (List (List ℕ)))
+    → option_and_then (λ s. option_and_then (λ e. option_and_then (λ p. option_and_then (λ ns. if is_good d s e p ns then Some (made number d s e ns) else None) names) period) end) start ≡ Some t
+    → IsTable number t
+of_parts number d t (Some s) (Some e) (Some p) (Some ns) is = kept number d s e p ns t (is_good d s e p ns) refl is
+of_parts number d t None e p ns is = cc
+of_parts number d t (Some s) None p ns is = cc
+of_parts number d t (Some s) (Some e) None ns is = cc
+of_parts number d t (Some s) (Some e) (Some p) None is = cc
+
+table_of_is : (number : ℕ) (d : Declaration) (t : Table) → table_of number d ≡ Some t → IsTable number t
+unfolding table_of
+table_of_is number d t is =
+    of_parts number d t (only (filter_map (side_name Start) d.entries)) (only (filter_map (side_name End) d.entries)) (only (filter_map period_names d.entries)) (only (flat_map keys_in d.entries)) is
+
+next_is : (ts : List Table) (d : Declaration) (t : Table) → next_table ts d ≡ Some t → IsTable (1 + length ts) t
+unfolding next_table
+next_is ts d t is = allowed (nat_lt (length ts) 16 && not (list_any (λ t. same_name t.name d.name) ts)) is
+  where
+    allowed : (b : Bool) → (if b then table_of (length ts + 1) d else None) ≡ Some t → IsTable (1 + length ts) t
+    allowed true is = let e : length ts + 1 ≡ 1 + length ts = omega arith in subst (λ n. IsTable n t) e (table_of_is (length ts + 1) d t is)
+    allowed false is = cc
+
+-- the tables with the next one
+pub with_next : (ts : List Table) (d : Declaration) (t : Table) → AreTables 1 ts → Some t ≡ next_table ts d → AreTables 1 (ts ++ t ∷ [])
+with_next ts d t h is = AreTables-push ts 1 t h (next_is ts d t (sym is))

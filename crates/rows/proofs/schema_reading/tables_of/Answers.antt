@@ -1,0 +1,14 @@
+use Rattle.std.proofs.Common.{◌≡◌, Some, subst, sym, arith}
+use Rattle.std.proofs.lemmas.Grind.{common_steps}
+use Rattle.rows.specs.Tables.{AreTables}
+use Rattle.rows.specs.SchemaTables.{next_table}
+use Rattle.rows.proofs.GoodTables.{with_next}
+use Rattle.rows.proofs.schema_reading.tables_of.Goals as goal
+
+pub loop-declaration-preserved : goal.loop-declaration-preserved
+loop-declaration-preserved c =
+    let next : Some c.in-Some.table ≡ next_table c.loop-declaration.tables.items c.declaration-item.result = cc (c.in_ok-table.ensures, c.deref.ensures.value) in
+    record {
+      to_come = grind (arith, common_steps);
+      good = subst (AreTables 1) (sym c.in_ok-push-in-Some.ensures.items) (with_next c.loop-declaration.tables.items c.declaration-item.result c.in-Some.table c.loop-declaration.invariant.good next);
+    }
