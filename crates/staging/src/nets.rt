@@ -1,6 +1,5 @@
 //! Net changes.
 ghost use Rattle.std.specs.Prelude.{◌≡◌, All};
-ghost use Rattle.std.specs.Map.{keys_of};
 ghost use Rattle.rows.specs.KeyEncoding.{IsShortKey};
 
 use rows::{Key, Row};
@@ -14,7 +13,6 @@ pub struct Net {
 
 impl Model for Net {
     ghost use Rattle.std.specs.Prelude.{All};
-    ghost use Rattle.std.specs.Map.{keys_of};
     ghost use Rattle.rows.specs.Log.{Net as Changed};
     ghost use Rattle.rows.specs.KeyEncoding.{IsShortKey};
 
@@ -22,14 +20,14 @@ impl Model for Net {
 
     ghost view = { λ n. n.changes.items };
 
-    ghost invariant = { λ n. All IsShortKey (keys_of n.changes.items) };
+    ghost invariant = { λ n. All (λ c. IsShortKey c.0) n.changes.items };
 }
 
 impl Net {
     /// The changes, by key.
     pub fn changes(&self) -> &[(Key, Option<Row>)]
         ensures changes { result.now ≡ self.now }
-        ensures short { All IsShortKey (keys_of self.now) }
+        ensures short { All (λ c. IsShortKey c.0) result.now }
     {
         self.changes.as_slice()
     }
