@@ -1,16 +1,17 @@
 -- What events say of the keys of net changes is what changes say.
-use Rattle.std.proofs.Common.{◌≡◌, ℕ, List, [], ◌∷◌, Option, Some, None, refl, ap, ◌∙◌, Result, Ok, Err, max, ◌+◌, nat_lt, if◌then◌else◌}
+use Rattle.std.proofs.Common.{◌≡◌, ◌≢◌, ℕ, List, [], ◌∷◌, Option, Some, None, refl, ap, ◌∙◌, Result, Ok, Err, max, ◌+◌, nat_lt, if◌then◌else◌}
 use Rattle.std.proofs.lemmas.List.Elements.{All-head, All-tail}
 use Rattle.std.specs.Map.{keys_of}
 use Rattle.rows.specs.Tables.{Schema}
 use Rattle.rows.specs.declared.keys.Key.{Key}
 use Rattle.rows.specs.Log.{Changes, Net}
 use Rattle.rows.specs.declared.refusals.Refusal.{Refusal}
-use Rattle.rows.specs.declared.refusals.Refusal.TheVariants.{Conflict, ClockEnd}
+use Rattle.rows.specs.declared.refusals.Refusal.TheVariants.{Conflict, ClockEnd, Memory}
 use Rattle.rows.specs.Commits.{changed_since, won, outcome, last_instant}
 use Rattle.rows.specs.KeyEncoding.{bytes_of_key}
 use Rattle.rows.specs.Events.{events_of, event_since, IsKeyIn, AreChangesIn, AreKeysIn}
 use Rattle.rows.proofs.EventKeys.{since_is}
+use Rattle.staging.specs.Committed.{Committed, Holds}
 use Rattle.validation.specs.Outcomes.{won_by, outcome_by}
 
 -- how a transaction that changes something ends, by the keys that were changed since
@@ -32,3 +33,9 @@ module _ (schema : Schema) where
   pub outcome_is : (m : Changes) (latest start : ℕ) (net : Net) (reading : ℕ) → AreChangesIn schema m → AreKeysIn schema net → outcome_by (events_of m) latest start net reading ≡ outcome m latest start net reading
   outcome_is m latest start [] reading ins h = refl
   outcome_is m latest start (c ∷ net) reading ins h = ap (by_won latest reading) (won_is m start (c ∷ net) ins h)
+
+-- what is said of events, said of the changes that they hold
+pub said_of_changes : (schema : Schema) (m : Changes) (c : Committed) (start : ℕ) (net : Net) (reading : ℕ) (r : Result (Option ℕ) Refusal)
+    → (r ≢ Err Memory → r ≡ outcome_by c.events c.last start net reading) → Holds schema c m → AreKeysIn schema net → r ≢ Err Memory → r ≡ outcome m c.last start net reading
+said_of_changes schema m c start net reading r is held keys remembers =
+    is remembers ∙ ap (λ es. outcome_by es c.last start net reading) held.events_are ∙ outcome_is schema m c.last start net reading held.keys keys
