@@ -2,14 +2,5 @@ pub mod Sorted
 pub mod Looks
 pub mod Undone
 pub mod Bounds
-pub mod Growth
-pub mod Nows
-pub mod Opens
-pub mod Ends
-pub mod Wrote
-pub mod Shown
-pub mod Idle
-pub mod Turned
-pub mod Ran
 pub mod Scripting
 pub mod Running

@@ -20,7 +20,7 @@ use Rattle.rows.proofs.Orders.{key_cmp_total, point_cmp_total, key_cmp-IsAntisym
 use Rattle.rows.proofs.Latest.{point}
 use Rattle.interleaving.specs.Kept.{Upto}
 use Rattle.rows.specs.Events.{later}
-use Rattle.interleaving.specs.Turns.{last_until}
+use Rattle.turns.specs.Turns.{last_until}
 use Rattle.std.specs.List.Sorted.{IsStrictlySortedBy}
 use Rattle.std.specs.Map.{keys_of}
 use Rattle.interleaving.proofs.Sorted.{is_less, below_less, turned, sorted_from}

@@ -18,7 +18,7 @@ use Rattle.statement.specs.Puts.{Puts, AppendsFront}
 use Rattle.statement.specs.Replies.{reply_text, refusal_text}
 use Rattle.statement.specs.Transcript.{Partial, Progress, read_at, answered, left_by, line_reply}
 use Rattle.interleaving.specs.declared.scripts.Script.{Script}
-use Rattle.interleaving.specs.Stands.{Stands}
+use Rattle.turns.specs.Stands.{Stands}
 use Rattle.interleaving.specs.Scripts.{IsAt, SameRun, Answered, Broken}
 
 pub puts_ok : {E P : Type 0} (a b : Option (List ℕ)) (r : Result (Unit {0}) E) (text : List ℕ) → Puts a b r text → (Appends a b text → P) → OnOk r P

@@ -1,6 +1,2 @@
 pub mod Kept
-pub mod World
-pub mod Stands
-pub mod Turns
-pub mod Runs
 pub mod Scripts

@@ -7,7 +7,7 @@ use Rattle.statement.specs.Puts.{AppendsFront}
 use Rattle.statement.specs.Transcript.{Partial, Progress, Reading, line_reply, line_leaves, last_reply}
 use Rattle.statement.specs.Taking.{Feeds}
 use Rattle.interleaving.specs.declared.scripts.Script.{Script}
-use Rattle.interleaving.specs.Stands.{Stands}
+use Rattle.turns.specs.Stands.{Stands}
 
 -- the line as far as it was read
 abbrev pub line_of : Script → Partial

@@ -7,7 +7,7 @@ ghost use Rattle.rows.specs.Commits.{changed_since, won, outcome};
 ghost use Rattle.statement.specs.History.{committed};
 ghost use Rattle.std.specs.Option.{option_map};
 ghost use Rattle.interleaving.specs.Kept.{Upto};
-ghost use Rattle.interleaving.specs.Turns.{applied, last_until, was_there, net_in, commit_turn};
+ghost use Rattle.turns.specs.Turns.{applied, last_until, was_there, net_in, commit_turn};
 
 use crate::answers::is_same;
 use crate::system::{Open, System};

@@ -1,6 +1,6 @@
 //! DELETE.
 ghost use Rattle.std.specs.Prelude.{◌≡◌, ◌≤◌, IfOk, OnErr};
-ghost use Rattle.interleaving.specs.Turns.{delete_from, write_turn};
+ghost use Rattle.turns.specs.Turns.{delete_from, write_turn};
 
 use crate::system::{Open, System};
 use crate::writes::{met, remove_keys, written_with};

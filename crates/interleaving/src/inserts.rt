@@ -5,7 +5,7 @@ ghost use Rattle.std.specs.BTreeMap.{insert_entry, IsOrdered};
 ghost use Rattle.rows.specs.Log.{row_at};
 ghost use Rattle.rows.specs.Order.{is_key, key_cmp};
 ghost use Rattle.rows.specs.Writes.{key_of, insert_rows, duplicate_from};
-ghost use Rattle.interleaving.specs.Turns.{insert_into, write_turn};
+ghost use Rattle.turns.specs.Turns.{insert_into, write_turn};
 
 use crate::answers::is_same;
 use crate::system::{Open, System};

@@ -2,7 +2,7 @@
 ghost use Rattle.std.specs.Prelude.{◌≡◌, [], IfOk};
 ghost use Rattle.rows.specs.Memory.{OnlyMemory};
 ghost use Rattle.statement.specs.History.{replies};
-ghost use Rattle.interleaving.specs.Runs.{AllAnswered, due};
+ghost use Rattle.turns.specs.Runs.{AllAnswered, due};
 
 use crate::system::System;
 use rows::{Mem, Schema};

@@ -1,8 +1,8 @@
 //! SELECT.
 ghost use Rattle.std.specs.Prelude.{◌≡◌, ◌≤◌, IfOk};
 ghost use Rattle.statement.specs.History.{rows_taken, rows_of};
-ghost use Rattle.interleaving.specs.Turns.{listing, select_reply, start_of};
-ghost use Rattle.interleaving.specs.Stands.{session_at};
+ghost use Rattle.turns.specs.Turns.{listing, select_reply, start_of};
+ghost use Rattle.turns.specs.Stands.{session_at};
 
 use crate::answers::{answer, takes};
 use crate::system::{Open, System};

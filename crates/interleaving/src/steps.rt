@@ -1,8 +1,8 @@
 //! Each step in turn.
 ghost use Rattle.std.specs.Prelude.{◌≡◌, ◌≢◌, ◌∷◌, IfOk, OnErr, None, is_ok, true, false};
 ghost use Rattle.statement.specs.History.{misfit};
-ghost use Rattle.interleaving.specs.Turns.{turn_in};
-ghost use Rattle.interleaving.specs.Runs.{is_out, is_rollback};
+ghost use Rattle.turns.specs.Turns.{turn_in};
+ghost use Rattle.turns.specs.Runs.{is_out, is_rollback};
 
 use crate::system::System;
 use rows::Refusal;
@@ -11,7 +11,7 @@ use std::alloc::AllocError;
 
 impl System {
     ghost use Rattle.statement.specs.History.{History, reply};
-    ghost use Rattle.interleaving.specs.Stands.{Stands};
+    ghost use Rattle.turns.specs.Stands.{Stands};
 
     /// Takes a step. Where memory runs out nothing has changed, and the step may be taken again.
     pub fn step(&mut self, step: Step) -> Reply

@@ -19,7 +19,7 @@ pub(crate) struct Open {
 }
 
 impl Model for Open {
-    ghost use Rattle.interleaving.specs.World.{Session};
+    ghost use Rattle.turns.specs.World.{Session};
 
     ghost Value = { Session };
 
@@ -38,7 +38,7 @@ pub struct System {
 
 impl Model for System {
     ghost use Rattle.std.specs.Prelude.{◌≡◌, ◌≤◌, length};
-    ghost use Rattle.interleaving.specs.World.{World};
+    ghost use Rattle.turns.specs.World.{World};
     ghost use Rattle.interleaving.specs.Kept.{Upto};
 
     ghost Value = { World };
@@ -50,7 +50,7 @@ impl Model for System {
 
 impl System {
     ghost use Rattle.std.specs.Prelude.{[]};
-    ghost use Rattle.interleaving.specs.Stands.{Stands};
+    ghost use Rattle.turns.specs.Stands.{Stands};
 
     /// A store in which nothing was committed.
     pub fn new(alloc: Global, schema: Schema) -> Mem<System>

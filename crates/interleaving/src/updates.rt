@@ -5,7 +5,7 @@ ghost use Rattle.std.specs.Map.{set_value};
 ghost use Rattle.rows.specs.Order.{key_cmp};
 ghost use Rattle.rows.specs.Writes.{set_all};
 ghost use Rattle.interleaving.specs.Kept.{updated, set_rows};
-ghost use Rattle.interleaving.specs.Turns.{update_in, write_turn};
+ghost use Rattle.turns.specs.Turns.{update_in, write_turn};
 
 use crate::answers::takes;
 use crate::system::{Open, System};

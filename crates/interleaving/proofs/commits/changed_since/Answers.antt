@@ -1,6 +1,6 @@
 use Rattle.std.proofs.Common.{◌≡◌, ◌≤◌, ◌<◌, ap, sym, ◌∙◌, Some, None, cond, ℕ, true, false, arith, nat_lt}
 use Rattle.std.proofs.lemmas.Bool.Decides.{nat_tests}
-use Rattle.interleaving.specs.Turns.{last_until}
+use Rattle.turns.specs.Turns.{last_until}
 use Rattle.interleaving.proofs.Looks.{since_from}
 use Rattle.interleaving.proofs.commits.changed_since.Goals as goal
 

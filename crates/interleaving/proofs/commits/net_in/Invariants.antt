@@ -1,6 +1,6 @@
 use Rattle.std.proofs.Common.{◌≡◌, ◌++◌, map, filter, is_some, ◌||◌}
 use Rattle.rows.specs.Log.{row_at}
-use Rattle.interleaving.specs.Turns.{was_there, net_in}
+use Rattle.turns.specs.Turns.{was_there, net_in}
 use Rattle.interleaving.proofs.commits.net_in.Given as goal
 
 abbrev pub invariant-loop-key : goal.invariant-loop-key

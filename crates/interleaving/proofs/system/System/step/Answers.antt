@@ -2,8 +2,8 @@ use Rattle.std.proofs.Common.{ap, ◌∙◌}
 use Rattle.rows.specs.Tables.{Schema}
 use Rattle.statement.specs.declared.steps.Reply.TheVariants.{Refused}
 use Rattle.statement.specs.History.{misfit}
-use Rattle.interleaving.specs.World.{World}
-use Rattle.interleaving.proofs.Turned.{stepped, refused_turn, fitting_turn, not_out}
+use Rattle.turns.specs.World.{World}
+use Rattle.turns.proofs.Turned.{stepped, refused_turn, fitting_turn, not_out}
 use Rattle.interleaving.proofs.system.System.step.Goals as goal
 
 pub returns-in-Some-clause-answers : goal.returns-in-Some-clause-answers

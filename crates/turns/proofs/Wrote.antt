@@ -15,10 +15,10 @@ use Rattle.statement.specs.declared.steps.Step.TheVariants.{Insert, Update, Dele
 use Rattle.statement.specs.declared.steps.Reply.{Reply}
 use Rattle.statement.specs.declared.steps.Reply.TheVariants.{Refused, Inserted, Updated, Deleted}
 use Rattle.statement.specs.History.{History, log, opened, own, reply_in, mine, written, mine_of, written_of, seen_of, write, writes, write_reply, rewrite_all, written_by, is_write_of, is_refused, ends, begins, misfit}
-use Rattle.interleaving.specs.World.{Session, World}
-use Rattle.interleaving.specs.Stands.{Stands, session, session_from, session_at}
-use Rattle.interleaving.specs.Turns.{put, Turn, insert_into, update_in, delete_from, write_turn}
-use Rattle.interleaving.proofs.Ends.{stands_put, stands_still, not_other, itself}
+use Rattle.turns.specs.World.{Session, World}
+use Rattle.turns.specs.Stands.{Stands, session, session_from, session_at}
+use Rattle.turns.specs.Turns.{put, Turn, insert_into, update_in, delete_from, write_turn}
+use Rattle.turns.proofs.Ends.{stands_put, stands_still, not_other, itself}
 
 rewrite_more : (schema : Schema) (own : List Step) (step : Step) (m : State) → rewrite_all schema (own ++ step ∷ []) m ≡ write schema step (rewrite_all schema own m)
 rewrite_more schema [] step m = refl

@@ -6,18 +6,18 @@ use Rattle.std.proofs.lemmas.List.{get_or-set_same, get_or-set_other}
 use Rattle.std.proofs.Math.ListN.{length-set}
 use Rattle.rows.specs.Tables.{Schema}
 use Rattle.rows.specs.Log.{Log, last, state}
-use Rattle.interleaving.proofs.Nows.{rows_now}
-use Rattle.interleaving.proofs.Growth.{log_rises}
+use Rattle.turns.proofs.Nows.{rows_now}
+use Rattle.turns.proofs.Growth.{log_rises}
 use Rattle.statement.specs.declared.steps.Step.{Step}
 use Rattle.statement.specs.declared.steps.Step.TheVariants.{Begin}
 use Rattle.statement.specs.declared.steps.Reply.{Reply}
 use Rattle.statement.specs.declared.steps.Reply.TheVariants.{Begun, Refused}
 use Rattle.rows.specs.declared.refusals.Refusal.TheVariants.{InTransaction}
 use Rattle.statement.specs.History.{History, log, opened, own, reply_in, ends, begins, is_write_of}
-use Rattle.interleaving.specs.World.{Session, World}
-use Rattle.interleaving.specs.Stands.{Stands, session, session_from, session_at}
+use Rattle.turns.specs.World.{Session, World}
+use Rattle.turns.specs.Stands.{Stands, session, session_from, session_at}
 use Rattle.rows.specs.Log.{rows_after}
-use Rattle.interleaving.specs.Turns.{put, Turn, begin_turn, opened_now}
+use Rattle.turns.specs.Turns.{put, Turn, begin_turn, opened_now}
 
 no_writes_step : (e b w r : Bool) (o : Option Log) (now : Log) (xs ys : List Step) → (o ≡ None → ys ≡ [])
     → ◌≡◌ {A = Option Log} (if e then None else (if b && is_none o then Some now else o)) None

@@ -11,17 +11,17 @@ use Rattle.rows.specs.declared.keys.Key.{Key}
 use Rattle.rows.specs.Log.{Log, Net, Changes, last, changes, add_net, state, row_at}
 use Rattle.rows.specs.Commits.{outcome, after, ended}
 use Rattle.rows.proofs.Now.{add_all-push}
-use Rattle.interleaving.proofs.Nows.{was_there_is}
+use Rattle.turns.proofs.Nows.{was_there_is}
 use Rattle.statement.specs.declared.steps.Step.{Step}
 use Rattle.statement.specs.declared.steps.Step.TheVariants.{Commit, Rollback}
 use Rattle.statement.specs.declared.steps.Reply.{Reply}
 use Rattle.statement.specs.declared.steps.Reply.TheVariants.{Refused, RolledBack}
 use Rattle.statement.specs.History.{History, log, opened, own, reply_in, net, net_change_of, committed, snap, snap_of, mine_of, written_of}
-use Rattle.interleaving.specs.World.{Session, World}
-use Rattle.interleaving.specs.Stands.{Stands, session, session_from, session_at}
-use Rattle.interleaving.specs.Turns.{put, Turn, rollback_turn, commit_turn, end_turn, net_in, was_there}
-use Rattle.interleaving.proofs.Growth.{log_rises, session_other_commit, last_push}
-use Rattle.interleaving.proofs.Opens.{decided}
+use Rattle.turns.specs.World.{Session, World}
+use Rattle.turns.specs.Stands.{Stands, session, session_from, session_at}
+use Rattle.turns.specs.Turns.{put, Turn, rollback_turn, commit_turn, end_turn, net_in, was_there}
+use Rattle.turns.proofs.Growth.{log_rises, session_other_commit, last_push}
+use Rattle.turns.proofs.Opens.{decided}
 
 pub stands_put : (w : World) (h : History) (step : Step) (i : ℕ) (o : Option Session) (m : Changes) (l : ℕ) → i ≤ 64 → Stands w h
     → m ≡ changes (log w.schema (step ∷ h)) → l ≡ last (log w.schema (step ∷ h)) → o ≡ session w.schema (step ∷ h) i

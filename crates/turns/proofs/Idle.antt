@@ -15,8 +15,8 @@ use Rattle.statement.specs.declared.steps.Step.{Step}
 use Rattle.statement.specs.declared.steps.Step.TheVariants.{Begin, Insert, Update, Delete, Select, Commit, Rollback, SplitKey, SplitTime, Migrate}
 use Rattle.statement.specs.declared.steps.Reply.TheVariants.{Refused}
 use Rattle.statement.specs.History.{History, log, opened, own, mine, written, write_reply, writes, write_count, duplicate_in, is_write_of, is_refused, ends, begins, misfit, misfit_of, bad_row, no_session, net_change_of}
-use Rattle.interleaving.specs.World.{World}
-use Rattle.interleaving.specs.Stands.{Stands, session, session_from}
+use Rattle.turns.specs.World.{World}
+use Rattle.turns.specs.Stands.{Stands, session, session_from}
 
 -- the system stands for the history with the step, where log and sessions stay
 pub idle_stands : (w : World) (h : History) (step : Step) → Stands w h → log w.schema (step ∷ h) ≡ log w.schema h → ((j : ℕ) → j ≤ 64 → session w.schema (step ∷ h) j ≡ session w.schema h j) → Stands w (step ∷ h)

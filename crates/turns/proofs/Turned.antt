@@ -15,15 +15,15 @@ use Rattle.statement.specs.declared.steps.Step.TheVariants.{Begin, Insert, Updat
 use Rattle.statement.specs.declared.steps.Reply.{Reply}
 use Rattle.statement.specs.declared.steps.Reply.TheVariants.{Begun, Inserted, Updated, Deleted, RolledBack, Refused}
 use Rattle.statement.specs.History.{History, reply, reply_in, misfit, bad_row}
-use Rattle.interleaving.specs.World.{Session, World}
-use Rattle.interleaving.specs.Stands.{Stands, session_at}
-use Rattle.interleaving.specs.Turns.{put, Turn, turn, turn_in, end_turn, net_in, opened_now, writing, insert_into, update_in, delete_from}
-use Rattle.interleaving.specs.Runs.{is_want, is_out}
-use Rattle.interleaving.proofs.Opens.{begin_answers}
-use Rattle.interleaving.proofs.Ends.{rollback_answers, commit_answers}
-use Rattle.interleaving.proofs.Wrote.{insert_answers, update_answers, delete_answers}
-use Rattle.interleaving.proofs.Shown.{select_is}
-use Rattle.interleaving.proofs.Idle.{idle_stands, misfit_stands, fits_session, fits_table}
+use Rattle.turns.specs.World.{Session, World}
+use Rattle.turns.specs.Stands.{Stands, session_at}
+use Rattle.turns.specs.Turns.{put, Turn, turn, turn_in, end_turn, net_in, opened_now, writing, insert_into, update_in, delete_from}
+use Rattle.turns.specs.Runs.{is_want, is_out}
+use Rattle.turns.proofs.Opens.{begin_answers}
+use Rattle.turns.proofs.Ends.{rollback_answers, commit_answers}
+use Rattle.turns.proofs.Wrote.{insert_answers, update_answers, delete_answers}
+use Rattle.turns.proofs.Shown.{select_is}
+use Rattle.turns.proofs.Idle.{idle_stands, misfit_stands, fits_session, fits_table}
 
 answers_in : (w : World) (h : History) (step : Step) → misfit w.schema step ≡ None → Stands w h → ((turn_in w step).0 ≡ reply_in w.schema h step) × Stands (turn_in w step).1 (step ∷ h)
 answers_in w h (Begin i) fits stands = begin_answers w h i (fits_session i fits) stands

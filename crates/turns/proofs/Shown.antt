@@ -16,9 +16,9 @@ use Rattle.statement.specs.declared.steps.Reply.TheVariants.{Refused, Shown}
 use Rattle.statement.specs.declared.steps.Step.TheVariants.{Select}
 use Rattle.statement.specs.History as history
 use Rattle.statement.specs.History.{History, log, opened, own, snap, snap_of, rows_taken, rows_of, mine_of, reply_in}
-use Rattle.interleaving.specs.World.{Session, World}
-use Rattle.interleaving.specs.Stands.{Stands, session, session_at, session_from}
-use Rattle.interleaving.specs.Turns.{start_of, listing, select_reply}
+use Rattle.turns.specs.World.{Session, World}
+use Rattle.turns.specs.Stands.{Stands, session, session_at, session_from}
+use Rattle.turns.specs.Turns.{start_of, listing, select_reply}
 
 start_is : (w : World) (h : History) (i : ℕ) (o : Option Log) → Stands w h → start_of w (session_from w.schema (log w.schema h) o (own w.schema h i)) ≡ snap_of (log w.schema h) o
 start_is w h i None stands = stands.latest_is

@@ -9,9 +9,9 @@ use Rattle.statement.specs.declared.steps.Step.{Step}
 use Rattle.statement.specs.declared.steps.Reply.{Reply}
 use Rattle.statement.specs.declared.steps.Reply.TheVariants.{Begun, Inserted, Updated, Deleted, Shown, Committed, RolledBack, Done, Refused}
 use Rattle.statement.specs.History.{History, reply, replies}
-use Rattle.interleaving.specs.World.{World}
-use Rattle.interleaving.specs.Stands.{Stands}
-use Rattle.interleaving.specs.Runs.{is_want, is_out, AllAnswered, due}
+use Rattle.turns.specs.World.{World}
+use Rattle.turns.specs.Stands.{Stands}
+use Rattle.turns.specs.Runs.{is_want, is_out, AllAnswered, due}
 
 -- a run so far: what the system stands for, and what is due of the rest
 pub record Ran (schema : Schema) (steps : List Step) (w : World) (done : List Reply) (rest : List Step) : Type 0 where

@@ -24,8 +24,8 @@ use Rattle.statement.specs.declared.steps.Listing.TheVariants.{Rows, Periods}
 use Rattle.statement.specs.declared.steps.Reply.{Reply}
 use Rattle.statement.specs.declared.steps.Reply.TheVariants.{Begun, Inserted, Updated, Deleted, Shown, Committed, RolledBack, Done, Refused}
 use Rattle.statement.specs.History.{misfit, rows_taken, rows_of}
-use Rattle.interleaving.specs.World.{Session, World}
-use Rattle.interleaving.specs.Stands.{session_at}
+use Rattle.turns.specs.World.{Session, World}
+use Rattle.turns.specs.Stands.{session_at}
 
 -- a reply, and the system after it
 abbrev pub Turn : Type 0

@@ -13,7 +13,7 @@ use Rattle.rows.proofs.Now.{Rises-push}
 use Rattle.rows.specs.Commits.{won, outcome, ended, after, last_instant}
 use Rattle.statement.specs.declared.steps.Step.{Step}
 use Rattle.statement.specs.declared.steps.Step.TheVariants.{Begin, Insert, Update, Delete, Select, Commit, Rollback, SplitKey, SplitTime, Migrate}
-use Rattle.interleaving.specs.Stands.{session, session_from}
+use Rattle.turns.specs.Stands.{session, session_from}
 use Rattle.statement.specs.History.{History, log, opened, own, ends, begins, net_change_of, rewrite_all, written_by}
 
 later_test : (a s : ℕ) → s < a → nat_le a s ≡ false

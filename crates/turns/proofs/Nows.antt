@@ -14,7 +14,7 @@ use Rattle.rows.proofs.Latest as last
 use Rattle.rows.proofs.Latest.{Upto, Upto-more}
 use Rattle.rows.specs.Log.{rows_after}
 use Rattle.rows.specs.Events.{later}
-use Rattle.interleaving.specs.Turns.{last_until, was_there}
+use Rattle.turns.specs.Turns.{last_until, was_there}
 
 -- ---- all changes made in turn
 

@@ -4,7 +4,7 @@ use Rattle.rows.specs.Tables.{Schema}
 use Rattle.rows.specs.Log.{Log, last, changes}
 use Rattle.statement.specs.declared.steps.Step.{Step}
 use Rattle.statement.specs.History.{History, log, opened, own, mine_of, written_of}
-use Rattle.interleaving.specs.World.{Session, World}
+use Rattle.turns.specs.World.{Session, World}
 
 abbrev pub session_from : Schema → Log → Option Log → List Step → Option Session
 session_from schema now None own = None

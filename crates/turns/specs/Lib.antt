@@ -1,0 +1,5 @@
+pub mod World
+pub mod Stands
+pub mod Turns
+pub mod Runs
+pub mod Laws
