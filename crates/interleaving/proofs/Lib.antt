@@ -1,4 +1,3 @@
-pub mod Sorted
 pub mod Looks
 pub mod Undone
 pub mod Bounds

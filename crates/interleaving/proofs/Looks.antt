@@ -23,7 +23,7 @@ use Rattle.rows.specs.Events.{later}
 use Rattle.turns.specs.Turns.{last_until}
 use Rattle.std.specs.List.Sorted.{IsStrictlySortedBy}
 use Rattle.std.specs.Map.{keys_of}
-use Rattle.interleaving.proofs.Sorted.{is_less, below_less, turned, sorted_from}
+use Rattle.rows.proofs.Sorted.{is_less, below_less, turned, sorted_from}
 
 -- ---- the next change of a key
 

@@ -25,7 +25,7 @@ use Rattle.rows.proofs.Latest.{point}
 use Rattle.interleaving.specs.Kept.{Upto, remove_keys, updated, set_rows}
 use Rattle.std.specs.List.Sorted.{IsStrictlySortedBy}
 use Rattle.std.specs.Map.{keys_of}
-use Rattle.interleaving.proofs.Sorted.{is_equal, above, itself, sorted_from}
+use Rattle.rows.proofs.Sorted.{is_equal, above, itself, sorted_from}
 
 -- ---- rows
 

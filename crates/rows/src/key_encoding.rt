@@ -40,6 +40,15 @@ impl KeyBytes {
         }
     }
 
+    /// The least: no bytes.
+    pub fn least(alloc: Global) -> KeyBytes
+        ensures { result ≡ [] }
+    {
+        KeyBytes {
+            bytes: Vec::new(alloc),
+        }
+    }
+
     pub fn bytes(&self) -> &[u8]
         ensures { result.now ≡ self.now }
     {

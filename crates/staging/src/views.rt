@@ -1,5 +1,5 @@
 //! What was committed until an instant.
-ghost use Rattle.std.specs.Prelude.{◌≡◌, ◌≤◌, ◌<◌, [], IfOk, OnOk, OnErr};
+ghost use Rattle.std.specs.Prelude.{◌≡◌, ◌≤◌, ◌<◌, [], All, IfOk, OnOk, OnErr};
 ghost use Rattle.rows.specs.Memory.{OnlyMemory};
 ghost use Rattle.rows.specs.Commits.{last_instant};
 ghost use Rattle.rows.specs.Events.{row_until, event_since, put_net};
@@ -43,6 +43,7 @@ impl View {
     pub fn last(&self) -> Instant
         ensures last { result ≡ self.now.last }
         ensures in_range { result ≤ last_instant }
+        ensures upto { All (λ e. e.at ≤ result) self.now.events }
     {
         self.last
     }

@@ -1,6 +1,6 @@
 use Rattle.std.proofs.Common.{ap, sym, ◌∙◌, Some, None, cond}
 use Rattle.rows.specs.Log.{point_cmp}
-use Rattle.interleaving.proofs.Sorted.{sorted_from}
+use Rattle.rows.proofs.Sorted.{sorted_from}
 use Rattle.interleaving.proofs.Looks.{next_is, next_of}
 use Rattle.interleaving.proofs.answers.next_change.Goals as goal
 

@@ -1,6 +1,6 @@
 use Rattle.std.proofs.Common.{ap, sym, ◌∙◌, Some, None, cond}
 use Rattle.rows.specs.Log.{point_cmp}
-use Rattle.interleaving.proofs.Sorted.{sorted_from}
+use Rattle.rows.proofs.Sorted.{sorted_from}
 use Rattle.interleaving.proofs.Looks.{last_is, none_is}
 use Rattle.interleaving.proofs.commits.last_until.Goals as goal
 

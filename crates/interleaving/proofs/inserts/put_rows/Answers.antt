@@ -2,7 +2,7 @@ use Rattle.std.proofs.Common.{arith, ap, ◌∙◌}
 use Rattle.std.proofs.lemmas.Grind.{common_steps}
 use Rattle.rows.specs.Order.{key_cmp}
 use Rattle.interleaving.specs.Kept.{remove_keys}
-use Rattle.interleaving.proofs.Sorted.{sorted_from}
+use Rattle.rows.proofs.Sorted.{sorted_from}
 use Rattle.interleaving.proofs.Undone.{new_removed, put_and_removed, is_among_rows}
 use Rattle.rows.specs.Writes.{key_of}
 use Rattle.std.proofs.Common.{refl, []}

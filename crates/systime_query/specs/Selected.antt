@@ -1,0 +1,34 @@
+-- Which versions a query selects, by events in order.
+use Rattle.std.specs.Prelude.{ℕ, List, [], ◌∷◌, Option, Some, None, Bool, false, ◌&&◌, if◌then◌else◌}
+use Rattle.rows.specs.declared.events.Event.{Event}
+use Rattle.rows.specs.declared.tables.Table.{Table}
+use Rattle.rows.specs.declared.queries.Form.{Form}
+use Rattle.rows.specs.declared.queries.Keys.{Keys}
+use Rattle.rows.specs.declared.queries.Shown.{Shown}
+use Rattle.rows.specs.Versions.{selects, takes}
+use Rattle.rows.specs.KeyReading.{key_from}
+use Rattle.rows.specs.Events.{is_bytes}
+
+-- the instant of the event behind, where it is of the same key
+abbrev pub next_of : Event → List Event → Option ℕ
+next_of e [] = None
+next_of e (d ∷ ds) = if is_bytes e.key d.key then Some d.at else None
+
+-- the bytes are of a key that the query takes
+abbrev pub is_taken : Table → Keys → List ℕ → Bool
+is_taken table keys bytes = elim (key_from table bytes) [ None ↦ false | Some key ↦ takes table keys key ]
+
+-- the version that an event begins, of those behind it, where the query selects it
+abbrev pub shown_of : Table → Form → Keys → Event → Option ℕ → Option Shown
+shown_of table form keys e to = elim e.row [
+  | None ↦ None
+  | Some row ↦ if selects form e.at to && is_taken table keys e.key then Some (record { row = row; from = e.at; to = to }) else None
+]
+
+abbrev pub before : {A : Type 0} → Option A → List A → List A
+before None xs = xs
+before (Some x) xs = x ∷ xs
+
+abbrev pub selected_by : Table → Form → Keys → List Event → List Shown
+selected_by table form keys [] = []
+selected_by table form keys (e ∷ es) = before (shown_of table form keys e (next_of e es)) (selected_by table form keys es)

@@ -1,0 +1,6 @@
+//! What a query shows of what was committed, in all forms of FOR SYSTEM_TIME.
+#![tactic(auto)]
+
+mod answers;
+
+pub use answers::answer;
