@@ -19,7 +19,8 @@ use Rattle.rows.specs.Commits.{or_else, changed_since}
 use Rattle.rows.proofs.Orders.{key_cmp_total, point_cmp_total, key_cmp-IsAntisymmetric, below, both, first, second}
 use Rattle.rows.proofs.Latest.{point}
 use Rattle.interleaving.specs.Kept.{Upto}
-use Rattle.interleaving.specs.Turns.{later, last_until}
+use Rattle.rows.specs.Events.{later}
+use Rattle.interleaving.specs.Turns.{last_until}
 use Rattle.std.specs.List.Sorted.{IsStrictlySortedBy}
 use Rattle.std.specs.Map.{keys_of}
 use Rattle.interleaving.proofs.Sorted.{is_less, below_less, turned, sorted_from}

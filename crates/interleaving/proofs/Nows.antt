@@ -12,7 +12,9 @@ use Rattle.rows.proofs.Maps.{same_map}
 use Rattle.rows.proofs.States.{state_matches, row_at-set_row, sorted_set_row, Upto-net}
 use Rattle.rows.proofs.Latest as last
 use Rattle.rows.proofs.Latest.{Upto, Upto-more}
-use Rattle.interleaving.specs.Turns.{rows_after, later, last_until, was_there}
+use Rattle.rows.specs.Log.{rows_after}
+use Rattle.rows.specs.Events.{later}
+use Rattle.interleaving.specs.Turns.{last_until, was_there}
 
 -- ---- all changes made in turn
 

@@ -16,7 +16,8 @@ use Rattle.rows.specs.declared.refusals.Refusal.TheVariants.{InTransaction}
 use Rattle.statement.specs.History.{History, log, opened, own, reply_in, ends, begins, is_write_of}
 use Rattle.interleaving.specs.World.{Session, World}
 use Rattle.interleaving.specs.Stands.{Stands, session, session_from, session_at}
-use Rattle.interleaving.specs.Turns.{put, Turn, begin_turn, opened_now, rows_after}
+use Rattle.rows.specs.Log.{rows_after}
+use Rattle.interleaving.specs.Turns.{put, Turn, begin_turn, opened_now}
 
 no_writes_step : (e b w r : Bool) (o : Option Log) (now : Log) (xs ys : List Step) → (o ≡ None → ys ≡ [])
     → ◌≡◌ {A = Option Log} (if e then None else (if b && is_none o then Some now else o)) None

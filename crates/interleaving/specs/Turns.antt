@@ -10,8 +10,9 @@ use Rattle.rows.specs.declared.queries.Shown.{Shown as Version}
 use Rattle.rows.specs.declared.refusals.Refusal.{Refusal}
 use Rattle.rows.specs.declared.refusals.Refusal.TheVariants.{NoTable, NoTransaction, InTransaction, DuplicateKey, TooManyWrites}
 use Rattle.rows.specs.Order.{is_key}
-use Rattle.rows.specs.Log.{Changes, State, Net, Row, row_at, set_row, add_net}
+use Rattle.rows.specs.Log.{Changes, State, Net, Row, row_at, add_net, rows_after}
 use Rattle.rows.specs.Laws.{changes_upto}
+use Rattle.rows.specs.Events.{later}
 use Rattle.rows.specs.Tables.{table_at}
 use Rattle.rows.specs.Versions.{answer}
 use Rattle.rows.specs.Writes.{key_of, insert_rows, duplicate, update_rows, delete_rows, met, add_keys}
@@ -34,11 +35,6 @@ abbrev pub put : World → ℕ → Option Session → World
 put w i session = record { schema = w.schema; changes = w.changes; latest = w.latest; sessions = slice_set w.sessions i session }
 
 -- ---- BEGIN and ROLLBACK
-
--- rows with the changes made in turn
-abbrev pub rows_after : State → Changes → State
-rows_after m [] = m
-rows_after m (c ∷ cs) = rows_after (set_row c.0.key c.1 m) cs
 
 -- a transaction that begins now
 abbrev pub opened_now : World → Session
@@ -104,10 +100,6 @@ abbrev pub select_reply : World → ℕ → Form → Keys → Reply
 select_reply w i form keys = elim (table_at w.schema keys.table) [ None ↦ Refused NoTable | Some table ↦ Shown (listing w (session_at w i) form table keys) ]
 
 -- ---- COMMIT
-
-abbrev pub later : {A : Type 0} → Option A → Option A → Option A
-later (Some x) o = Some x
-later None o = o
 
 -- the key's last change at the instant or before it
 abbrev pub last_until : Changes → ℕ → Key → Option (ℕ × Option Row)

@@ -1,6 +1,7 @@
 //! BEGIN and ROLLBACK.
 ghost use Rattle.std.specs.Prelude.{◌≡◌, ◌≤◌, [], IfOk, OnErr};
-ghost use Rattle.interleaving.specs.Turns.{rows_after, begin_turn, rollback_turn};
+ghost use Rattle.rows.specs.Log.{rows_after};
+ghost use Rattle.interleaving.specs.Turns.{begin_turn, rollback_turn};
 
 use crate::system::{Open, System};
 use rows::{Key, Point, Refusal, Row};

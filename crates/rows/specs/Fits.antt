@@ -100,3 +100,8 @@ set_fault table earlier s = elim (column_at table s.column) [
 abbrev pub sets_fault : Table → List Set → List Set → Option ℕ
 sets_fault table earlier [] = None
 sets_fault table earlier (s ∷ sets) = elim (set_fault table earlier s) [ Some n ↦ Some n | None ↦ sets_fault table (earlier ++ s ∷ []) sets ]
+
+-- one fault, or where there is none the next
+abbrev pub first_of : Option ℕ → Option ℕ → Option ℕ
+first_of (Some n) other = Some n
+first_of None other = other

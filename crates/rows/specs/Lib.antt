@@ -23,3 +23,4 @@ pub mod RowReading
 pub mod RowLaws
 pub mod KeyReading
 pub mod KeyLaws
+pub mod Events

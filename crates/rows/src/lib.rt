@@ -2,6 +2,7 @@
 #![tactic(auto)]
 
 mod declarations;
+mod events;
 mod fits;
 mod key_encoding;
 mod key_laws;
@@ -28,6 +29,7 @@ mod tables;
 mod texts;
 mod values;
 
+pub use events::{Event, SharedEvent};
 pub use key_encoding::{KeyBytes, key_bytes};
 pub use key_laws::{bytes_stand_for_keys, fitting_keys_have_bytes, fitting_rows_have_keys};
 pub use key_reading::read_key;

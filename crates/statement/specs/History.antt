@@ -13,7 +13,7 @@ use Rattle.rows.specs.Log.{Log, State, Net, Row, last, upto, state, changes}
 use Rattle.rows.specs.Versions.{takes, answer}
 use Rattle.rows.specs.Commits.{outcome, after}
 use Rattle.rows.specs.Tables.{table_at}
-use Rattle.rows.specs.Fits.{rows_fault, key_fault, comparisons_fault, sets_fault}
+use Rattle.rows.specs.Fits.{rows_fault, key_fault, comparisons_fault, sets_fault, first_of}
 use Rattle.std.specs.Option.{option_map}
 use Rattle.rows.specs.Writes.{key_of, insert_rows, duplicate, update_rows, delete_rows, met, add_keys, net_of}
 use Rattle.statement.specs.declared.steps.Step.{Step}
@@ -48,11 +48,6 @@ before_open i (step ∷ h) =
 -- the refusal of a column that does not fit
 abbrev pub bad_row : Option ℕ → Option Refusal
 bad_row fault = option_map BadRow fault
-
--- one fault, or where there is none the next
-abbrev pub first_of : Option ℕ → Option ℕ → Option ℕ
-first_of (Some n) other = Some n
-first_of None other = other
 
 -- sessions are numbered up to 64
 abbrev pub no_session : ℕ → Option Refusal

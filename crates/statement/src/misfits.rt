@@ -2,7 +2,8 @@ ghost use Rattle.std.specs.Prelude.{◌≡◌, ℕ, [], Option, IfOk, IfErr};
 ghost use Rattle.rows.specs.declared.tables.Table.{Table};
 ghost use Rattle.rows.specs.Tables.{table_at};
 ghost use Rattle.rows.specs.Fits.{rows_fault, key_fault, comparisons_fault, sets_fault};
-ghost use Rattle.statement.specs.History.{misfit, misfit_of, no_session, first_of};
+ghost use Rattle.rows.specs.Fits.{first_of};
+ghost use Rattle.statement.specs.History.{misfit, misfit_of, no_session};
 
 use crate::steps::Step;
 use rows::{Key, Keys, Refusal, Row, Schema, Set, Table};

@@ -1,5 +1,5 @@
 use Rattle.std.proofs.Common.{◌≡◌, []}
-use Rattle.interleaving.specs.Turns.{rows_after}
+use Rattle.rows.specs.Log.{rows_after}
 use Rattle.interleaving.proofs.begins.rows_now.Given as goal
 
 abbrev pub invariant-loop-point : goal.invariant-loop-point

@@ -1,0 +1,32 @@
+//! Net changes.
+ghost use Rattle.std.specs.Prelude.{◌≡◌};
+
+use rows::{Key, Row};
+use std::marker::Model;
+
+/// What a transaction changed, by key: the row that each key has from then on, or none. Contracts see it as a list.
+#[derive(Drop)]
+pub struct Net {
+    changes: Vec<(Key, Option<Row>)>,
+}
+
+impl Model for Net {
+    ghost use Rattle.std.specs.Prelude.{All};
+    ghost use Rattle.rows.specs.Log.{Net as Changed};
+    ghost use Rattle.rows.specs.KeyEncoding.{IsShortKey};
+
+    ghost Value = { Changed };
+
+    ghost view = { λ n. n.changes.items };
+
+    ghost invariant = { λ n. All (λ c. IsShortKey c.0) n.changes.items };
+}
+
+impl Net {
+    /// The changes, by key.
+    pub fn changes(&self) -> &[(Key, Option<Row>)]
+        ensures { result.now ≡ self.now }
+    {
+        self.changes.as_slice()
+    }
+}
