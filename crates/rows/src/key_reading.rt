@@ -166,6 +166,7 @@ impl Table {
 
 /// The table's key with these bytes, where it has one.
 pub fn read_key(alloc: Global, table: &Table, bytes: &KeyBytes) -> Mem<Option<Key>>
+    ensures is { IfOk result (λ key. key ≡ key_from table.now bytes.now) }
     ensures found { IfOk result (λ key. IfSome key (IsKeyWith table.now bytes.now)) }
     ensures none { IfOk result (λ key. IfNone key (NoKeyWith table.now bytes.now)) }
     ensures err { OnlyMemory result }

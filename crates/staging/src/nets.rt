@@ -1,5 +1,6 @@
 //! Net changes.
-ghost use Rattle.std.specs.Prelude.{◌≡◌};
+ghost use Rattle.std.specs.Prelude.{◌≡◌, All};
+ghost use Rattle.rows.specs.KeyEncoding.{IsShortKey};
 
 use rows::{Key, Row};
 use std::marker::Model;
@@ -25,7 +26,8 @@ impl Model for Net {
 impl Net {
     /// The changes, by key.
     pub fn changes(&self) -> &[(Key, Option<Row>)]
-        ensures { result.now ≡ self.now }
+        ensures are { result.now ≡ self.now }
+        ensures short { All (λ c. IsShortKey c.0) result.now }
     {
         self.changes.as_slice()
     }
