@@ -22,5 +22,5 @@ pub mod RowEncoding
 pub mod RowReading
 pub mod RowLaws
 pub mod KeyReading
-pub mod Events
 pub mod KeyLaws
+pub mod Events

@@ -26,6 +26,7 @@ mod schema_tests;
 mod schema_tokens;
 mod sequences;
 mod tables;
+mod takes;
 mod texts;
 mod values;
 

@@ -4,6 +4,7 @@
 mod deletes;
 mod inserts;
 mod nets;
+mod places;
 mod staged;
 mod updates;
 mod views;

@@ -26,7 +26,7 @@ impl Model for Net {
 impl Net {
     /// The changes, by key.
     pub fn changes(&self) -> &[(Key, Option<Row>)]
-        ensures changes { result.now ≡ self.now }
+        ensures are { result.now ≡ self.now }
         ensures short { All (λ c. IsShortKey c.0) result.now }
     {
         self.changes.as_slice()

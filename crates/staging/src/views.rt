@@ -1,13 +1,18 @@
 //! What was committed until an instant.
-ghost use Rattle.std.specs.Prelude.{◌≡◌, ◌≤◌, ◌<◌, [], All, IfOk, OnOk, OnErr};
+ghost use Rattle.std.specs.Prelude.{◌≡◌, ◌≤◌, ◌<◌, ◌&&◌, [], All, IfOk, OnOk, OnErr, length, nat_le};
+ghost use Rattle.std.specs.List.Sorted.{IsStrictlySortedBy};
+ghost use Rattle.rows.specs.KeyEncoding.{IsShortKey};
 ghost use Rattle.rows.specs.Memory.{OnlyMemory};
 ghost use Rattle.rows.specs.Commits.{last_instant};
-ghost use Rattle.rows.specs.Events.{row_until, event_since, put_net};
+ghost use Rattle.rows.specs.Events.{event_cmp, row_until, event_since, put_net};
+ghost use Rattle.keyrange.specs.Points.{is_before_end, is_key_in};
 ghost use Rattle.staging.specs.Committed.{events_in, standing};
+ghost use Rattle.staging.specs.Places.{AreFirst};
 
 use crate::nets::Net;
+use crate::places::{event_until, is_standing, place_of_key, put_event, since};
 use keyrange::KeyRange;
-use rows::{Instant, KeyBytes, Mem, Refusal, Row, SharedEvent};
+use rows::{Event, Instant, Key, KeyBytes, Mem, Row, SharedEvent, key_bytes};
 use std::alloc::Global;
 use std::marker::Model;
 use std::sync::Arc;
@@ -35,8 +40,8 @@ impl View {
         ensures ok { IfOk result (λ v. v ≡ record { events = []; last = 0 }) }
         ensures err { OnlyMemory result }
     {
-        let _alloc = alloc;
-        Err(Refusal::Memory)
+        let events = Arc::new(alloc, Vec::new(alloc))?;
+        Ok(View { events, last: 0 })
     }
 
     /// The instant of the last commit, 0 where there is none.
@@ -53,7 +58,11 @@ impl View {
         ensures ok { IfOk result (λ v. v ≡ self.now) }
         ensures err { OnlyMemory result }
     {
-        Err(Refusal::Memory)
+        let events = Arc::try_clone(&self.events)?;
+        Ok(View {
+            events,
+            last: self.last,
+        })
     }
 
     /// A key's row at an instant: that of its last event at the instant or before it.
@@ -61,9 +70,10 @@ impl View {
         ensures ok { IfOk result (λ row. row ≡ row_until self.now.events key.now instant) }
         ensures err { OnlyMemory result }
     {
-        let _key = key;
-        let _instant = instant;
-        Err(Refusal::Memory)
+        match event_until(self.list(), key, instant) {
+            None => Ok(None),
+            Some(event) => Ok(event.row.clone()?),
+        }
     }
 
     /// The instant of a key's last event above `start`, if there is one.
@@ -71,9 +81,7 @@ impl View {
         ensures ok { IfOk result (λ found. found ≡ event_since self.now.events start key.now) }
         ensures err { OnlyMemory result }
     {
-        let _key = key;
-        let _start = start;
-        Err(Refusal::Memory)
+        Ok(since(start, event_until(self.list(), key, self.last())))
     }
 
     /// The events of a range of keys, from an instant to another and with it, by key and then by instant.
@@ -87,11 +95,10 @@ impl View {
         ensures ok { IfOk result (λ v. v.items ≡ events_in self.now.events range.now from to) }
         ensures err { OnlyMemory result }
     {
-        let _alloc = alloc;
-        let _range = range;
-        let _from = from;
-        let _to = to;
-        Err(Refusal::Memory)
+        let events = self.list();
+        let first = place_of_key(events, &range.lo);
+        let end = place_of_end(events, &range.hi).max(first);
+        Ok(events_in(alloc, &events[first..end], range, from, to)?)
     }
 
     /// By key: the event of each key of a table whose row stands at an instant.
@@ -99,10 +106,7 @@ impl View {
         ensures ok { IfOk result (λ v. v.items ≡ standing self.now.events table instant) }
         ensures err { OnlyMemory result }
     {
-        let _alloc = alloc;
-        let _table = table;
-        let _instant = instant;
-        Err(Refusal::Memory)
+        Ok(standing(alloc, self.list(), table, instant)?)
     }
 
     /// Adds what a transaction changed, at an instant above all others. Where memory runs out nothing has changed.
@@ -113,9 +117,107 @@ impl View {
         ensures err { OnErr result (self.new ≡ self.old) }
         ensures memory { OnlyMemory result }
     {
-        let _alloc = alloc;
-        let _instant = instant;
-        let _net = net;
-        Err(Refusal::Memory)
+        let mut events = shared(alloc, self.list())?;
+        put_net(alloc, instant, net.changes(), &mut events)?;
+        self.events = Arc::new(alloc, events)?;
+        self.last = instant;
+        Ok(())
     }
+
+    fn list(&self) -> &[SharedEvent]
+        ensures are { result.now ≡ self.now.events }
+        ensures sorted { IsStrictlySortedBy event_cmp result.now }
+    {
+        &self.events
+    }
+}
+
+fn events_in(
+    alloc: Global,
+    events: &[SharedEvent],
+    range: &KeyRange,
+    from: Instant,
+    to: Instant,
+) -> Mem<Vec<SharedEvent>>
+    ensures ok { IfOk result (λ v. v.items ≡ events_in events.now range.now from to) }
+    ensures err { OnlyMemory result }
+{
+    let mut found = Vec::new(alloc);
+    for event in events {
+        if is_in(event.event(), range, from, to) {
+            found.push(event.share()?)?;
+        }
+    }
+    Ok(found)
+}
+
+fn standing(
+    alloc: Global,
+    events: &[SharedEvent],
+    table: u8,
+    instant: Instant,
+) -> Mem<Vec<SharedEvent>>
+    requires { IsStrictlySortedBy event_cmp events.now }
+    ensures ok { IfOk result (λ v. v.items ≡ standing events.now table instant) }
+    ensures err { OnlyMemory result }
+{
+    let mut found = Vec::new(alloc);
+    for (i, event) in events.iter().enumerate() {
+        if is_standing(table, instant, event.event(), events.get(i + 1)) {
+            found.push(event.share()?)?;
+        }
+    }
+    Ok(found)
+}
+
+/// How many events are of keys before the end, which may be none.
+fn place_of_end(events: &[SharedEvent], end: &Option<KeyBytes>) -> usize
+    requires { IsStrictlySortedBy event_cmp events.now }
+    ensures bound { result ≤ length events.now }
+    ensures first { AreFirst (λ e. is_before_end e.key end.now) events.now result }
+{
+    match end {
+        None => events.len(),
+        Some(end) => place_of_key(events, end),
+    }
+}
+
+fn is_in(event: &Event, range: &KeyRange, from: Instant, to: Instant) -> bool
+    ensures { result ≡ (is_key_in range.now event.now.key && (nat_le from event.now.at && nat_le event.now.at to)) }
+{
+    range.contains(&event.key) && from <= event.at && event.at <= to
+}
+
+/// The same events, of which none is copied.
+fn shared(alloc: Global, events: &[SharedEvent]) -> Mem<Vec<SharedEvent>>
+    ensures ok { IfOk result (λ v. v.items ≡ events.now) }
+    ensures err { OnlyMemory result }
+{
+    let mut list = Vec::with_capacity(alloc, events.len())?;
+    for event in events {
+        list.push(event.share()?)?;
+    }
+    Ok(list)
+}
+
+fn put_net(
+    alloc: Global,
+    instant: Instant,
+    net: &[(Key, Option<Row>)],
+    events: &mut Vec<SharedEvent>,
+) -> Mem<()>
+    requires short { All (λ c. IsShortKey c.0) net.now }
+    requires sorted { IsStrictlySortedBy event_cmp events.old.items }
+    ensures ok { OnOk result (events.new.items ≡ put_net instant net.now events.old.items) }
+    ensures err { OnlyMemory result }
+{
+    for (key, row) in net {
+        let event = Event {
+            key: key_bytes(alloc, key)?,
+            at: instant,
+            row: row.clone()?,
+        };
+        put_event(events, SharedEvent::new(alloc, event)?)?;
+    }
+    Ok(())
 }

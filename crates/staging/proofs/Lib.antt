@@ -1,0 +1,4 @@
+pub mod Ordered
+pub mod Found
+pub mod Placed
+pub mod Standing

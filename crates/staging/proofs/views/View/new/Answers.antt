@@ -1,0 +1,11 @@
+use Rattle.std.proofs.Common.{◌≡◌, ◌≤◌, List, [], subst, sym, arith, rules}
+use Rattle.rows.specs.declared.events.Event.{Event}
+use Rattle.rows.specs.Events.{event_cmp}
+use Rattle.staging.specs.Committed.{IsCommitted}
+use Rattle.staging.proofs.Placed.{none_committed}
+use Rattle.staging.proofs.views.View.new.Goals as goal
+
+pub invariant_of-result : goal.invariant_of-result
+invariant_of-result c =
+    let empty : [] ≡ c.in_ok-events.events.value.items = search rules in
+    subst (λ (es : List Event). IsCommitted es 0) empty none_committed
