@@ -1,5 +1,6 @@
 -- Which versions a query selects, by events in order.
 use Rattle.std.specs.Prelude.{ℕ, List, [], ◌∷◌, Option, Some, None, Bool, false, ◌&&◌, if◌then◌else◌}
+use Rattle.std.specs.List.{cons_option}
 use Rattle.rows.specs.declared.events.Event.{Event}
 use Rattle.rows.specs.declared.tables.Table.{Table}
 use Rattle.rows.specs.declared.queries.Form.{Form}
@@ -25,10 +26,6 @@ shown_of table form keys e to = elim e.row [
   | Some row ↦ if selects form e.at to && is_taken table keys e.key then Some (record { row = row; from = e.at; to = to }) else None
 ]
 
-abbrev pub before : {A : Type 0} → Option A → List A → List A
-before None xs = xs
-before (Some x) xs = x ∷ xs
-
 abbrev pub selected_by : Table → Form → Keys → List Event → List Shown
 selected_by table form keys [] = []
-selected_by table form keys (e ∷ es) = before (shown_of table form keys e (next_of e es)) (selected_by table form keys es)
+selected_by table form keys (e ∷ es) = cons_option (shown_of table form keys e (next_of e es)) (selected_by table form keys es)
