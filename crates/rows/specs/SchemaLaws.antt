@@ -1,5 +1,5 @@
 -- What the reading of schemas amounts to.
-use Rattle.std.specs.Prelude.{◌≡◌, ℕ, List, [], ◌⊎◌, ◌↔◌, Result, Ok, Err}
+use Rattle.std.specs.Prelude.{◌≡◌, ℕ, ◌<◌, ◌≤◌, List, [], ◌⊎◌, ◌↔◌, Result, Ok, Err, length}
 use Rattle.rows.specs.declared.tables.Schema.{Schema}
 use Rattle.rows.specs.Sample.{sample}
 use Rattle.rows.specs.declared.schema_reading.SchemaFault.{SchemaFault}
@@ -32,3 +32,15 @@ pub record TokensAreRead : Type 0 where
   pub words : (word : List ℕ) (x : Unit {0}) (bytes rest : List ℕ) → (word_at word bytes ≡ Ok (x, rest)) ↔ Word word x bytes rest
   pub names : (name bytes rest : List ℕ) → (name_at bytes ≡ Ok (name, rest)) ↔ Name name bytes rest
   pub digits : (n : ℕ) (bytes rest : List ℕ) → (digits_at bytes ≡ Ok (n, rest)) ↔ Digits n bytes rest
+
+-- every text of the grammar that is short enough is read, as what it says
+abbrev pub TheGrammarIsRead : Type 0
+TheGrammarIsRead = (text : List ℕ) (declarations : List Declaration) → length text ≤ 65536 → SchemaText declarations text → read_schema text ≡ tables_from [] declarations
+
+-- no text says two things
+abbrev pub TextsSayOneThing : Type 0
+TextsSayOneThing = (text : List ℕ) (these those : List Declaration) → SchemaText these text → SchemaText those text → these ≡ those
+
+-- a fault of syntax is found where the text is too long or says nothing, and nowhere else
+abbrev pub OnlyTheGrammarIsRead : Type 0
+OnlyTheGrammarIsRead = (text : List ℕ) → HasSyntaxFault (read_schema text) ↔ ((65536 < length text) ⊎ ((declarations : List Declaration) → SchemaText declarations text → ⊥))

@@ -1,4 +1,4 @@
-ghost use Rattle.rows.specs.SchemaLaws.{SampleIsRead, WhatIsReadIsOfTheGrammar, TokensAreRead};
+ghost use Rattle.rows.specs.SchemaLaws.{SampleIsRead, WhatIsReadIsOfTheGrammar, TokensAreRead, TheGrammarIsRead, TextsSayOneThing, OnlyTheGrammarIsRead};
 
 use crate::schema_reading::SAMPLE;
 
@@ -11,4 +11,11 @@ pub fn sample_is_a_schema()
 pub fn schemas_are_of_the_grammar()
     ensures grammar { WhatIsReadIsOfTheGrammar }
     ensures tokens { TokensAreRead }
+{}
+
+/// Every text of the grammar of at most 65,536 bytes is read, as the one thing that it says; a fault of syntax is found in all others and in no such text.
+pub fn the_grammar_is_read()
+    ensures read { TheGrammarIsRead }
+    ensures one_thing { TextsSayOneThing }
+    ensures only { OnlyTheGrammarIsRead }
 {}
