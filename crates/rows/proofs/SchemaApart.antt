@@ -1,5 +1,5 @@
 -- What does not stand where something else does: other words, other symbols, words where a name or a symbol is.
-use Rattle.std.proofs.Common.{◌≡◌, ℕ, ◌+◌, ◌<◌, List, [], ◌∷◌, ◌++◌, ◌==◌, ◌&&◌, ◌||◌, Bool, true, false, Option, Some, None, length, map, take, drop, refl, sym, subst, ap, ◌∙◌, arith, if◌then◌else◌}
+use Rattle.std.proofs.Common.{◌≡◌, ℕ, ◌<◌, List, [], ◌∷◌, ◌++◌, ◌==◌, ◌&&◌, ◌||◌, Bool, true, false, Option, Some, None, length, map, take, drop, refl, sym, ap, ◌∙◌, arith, if◌then◌else◌}
 use Rattle.std.specs.Prelude.{not, codes, nat_le}
 use Rattle.std.specs.List.{list_any}
 use Rattle.std.specs.Char.{is_ascii_digit, to_ascii_uppercase, to_ascii_lowercase, eq_ignore_ascii_case}
@@ -8,7 +8,7 @@ use Rattle.std.proofs.lemmas.Bool.{and_parts, and_from}
 use Rattle.std.proofs.lemmas.List.{length-map}
 use Rattle.rows.specs.Names.{same_name, same_letters}
 use Rattle.rows.specs.SchemaTokens.{next, is_name_byte, front_while, after_symbol, has_word, is_word_at, after_word, is_name, reserved, is_reserved}
-use Rattle.rows.specs.SchemaGrammar.{AllPass, Symbol, Letters, Word, Name}
+use Rattle.rows.specs.SchemaGrammar.{AllPass, Symbol, Word, Name}
 use Rattle.rows.proofs.SchemaRead.{next_reads, front_of}
 use Rattle.rows.proofs.SchemaSpelled.{word_next}
 use Rattle.rows.proofs.SchemaShrinks.{spelled_letters}

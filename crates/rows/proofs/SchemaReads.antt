@@ -11,9 +11,10 @@ use Rattle.rows.specs.SchemaTokens.{Read}
 use Rattle.rows.specs.SchemaSyntax.{creates_at}
 use Rattle.rows.specs.SchemaTables.{next_table, tables_from, read_schema}
 use Rattle.rows.specs.SchemaGrammar.{SchemaText}
-use Rattle.rows.specs.SchemaLaws.{HasSyntaxFault, OfTheGrammar, TheGrammarIsRead, TextsSayOneThing, OnlyTheGrammarIsRead}
+use Rattle.rows.specs.SchemaLaws.{HasSyntaxFault, OfTheGrammar, TheGrammarIsRead, TextsSayOneThing, OnlyTheGrammarIsRead, SaysGoodTables, OnlyGoodTablesAreRead}
 use Rattle.rows.proofs.SchemaSays.{of_the_grammar}
 use Rattle.rows.proofs.SchemaWhole.{text_read}
+use Rattle.rows.proofs.SchemaGood.{good_tables}
 
 short : (n : ℕ) → n ≤ 65536 → nat_lt 65536 n ≡ false
 short n h = grind (arith, nat_tests)
@@ -60,3 +61,35 @@ only text = (found, missed)
     missed : (65536 < length text) ⊎ ((ds : List Declaration) → SchemaText ds text → ⊥) → HasSyntaxFault (read_schema text)
     missed (inl h) = (65536, ap (λ t. if t then Err (Syntax 65536) else read_as text (creates_at text)) (long (length text) h))
     missed (inr none) = elim (of_the_grammar text) [ inl fault ↦ fault | inr is ↦ absurd (none is.declarations is.spelled) ]
+
+-- a schema is read from the texts that say good tables
+pub texts : OnlyGoodTablesAreRead
+texts text = (found, read_them)
+  where
+    at_most : nat_lt 65536 (length text) ≡ false → length text ≤ 65536
+    at_most e = grind (arith, nat_tests)
+
+    found : (schema : Schema) × (read_schema text ≡ Ok schema) → SaysGoodTables text
+    found (schema, e) = by_grammar (of_the_grammar text)
+      where
+        by_length : (t : Bool) → nat_lt 65536 (length text) ≡ t → t ≡ false
+        by_length false q = refl
+        by_length true q = let fault = (only text).1 (inl (beyond q)) in clash (sym e ∙ fault.1)
+          where
+            beyond : nat_lt 65536 (length text) ≡ true → 65536 < length text
+            beyond q = grind (arith, nat_tests)
+
+            clash : {at : ℕ} → ◌≡◌ {A = Result Schema SchemaFault} (Ok schema) (Err (Syntax at)) → true ≡ false
+            clash e = cc
+
+        by_grammar : HasSyntaxFault (read_schema text) ⊎ OfTheGrammar text (read_schema text) → SaysGoodTables text
+        by_grammar (inl fault) = let clash : ◌≡◌ {A = Result Schema SchemaFault} (Ok schema) (Err (Syntax fault.0)) = sym e ∙ fault.1 in cc
+        by_grammar (inr is) = record {
+          declarations = is.declarations;
+          short = at_most (by_length (nat_lt 65536 (length text)) refl);
+          spelled = is.spelled;
+          good = (good_tables is.declarations).0 (schema, sym is.decided ∙ e);
+        }
+
+    read_them : SaysGoodTables text → (schema : Schema) × (read_schema text ≡ Ok schema)
+    read_them s = let made = (good_tables s.declarations).1 s.good in (made.0, read text s.declarations s.short s.spelled ∙ made.1)

@@ -1,9 +1,8 @@
 -- No piece of a schema leaves more of the text than it found, and most leave less.
-use Rattle.std.proofs.Common.{◌≡◌, ℕ, ◌+◌, ◌≤◌, ◌<◌, Bool, true, List, [], ◌∷◌, ◌++◌, Option, Some, None, inl, inr, length, map, ap, arith, lit<}
+use Rattle.std.proofs.Common.{◌≡◌, ℕ, ◌+◌, ◌≤◌, ◌<◌, true, List, [], ◌∷◌, ◌++◌, Some, None, inl, inr, length, map, ap, arith, lit<}
 use Rattle.std.specs.Prelude.{codes}
 use Rattle.std.specs.Char.{to_ascii_uppercase}
 use Rattle.std.proofs.lemmas.List.{length-append, length-map}
-use Rattle.rows.specs.declared.tables.ColumnType.{ColumnType}
 use Rattle.rows.specs.declared.tables.ColumnType.TheVariants.{Int, Text, Varchar, Boolean}
 use Rattle.rows.specs.declared.declarations.Mark.{Mark}
 use Rattle.rows.specs.declared.declarations.Mark.TheVariants.{NotNull, PrimaryKey}

@@ -1,14 +1,11 @@
 -- What is of the grammar is read: statements.
-use Rattle.std.proofs.Common.{◌≡◌, ℕ, ◌+◌, ◌≤◌, ◌<◌, List, [], ◌∷◌, ◌||◌, ◌⊎◌, inl, inr, Bool, true, false, Option, Some, None, Ok, Err, length, refl, sym, ap, ◌∙◌, arith, lit<, if◌then◌else◌, suc, zero}
+use Rattle.std.proofs.Common.{◌≡◌, ℕ, ◌≤◌, ◌<◌, List, [], ◌∷◌, ◌||◌, inl, inr, Bool, true, false, Option, Some, None, Ok, length, refl, ap, ◌∙◌, arith, lit<, if◌then◌else◌, suc, zero}
 use Rattle.std.specs.Prelude.{not, codes}
 use Rattle.rows.specs.declared.tables.ColumnType.{ColumnType}
-use Rattle.rows.specs.declared.tables.ColumnType.TheVariants.{Int, Text, Varchar, Boolean}
+use Rattle.rows.specs.declared.tables.ColumnType.TheVariants.{Int}
 use Rattle.rows.specs.declared.declarations.Mark.{Mark}
-use Rattle.rows.specs.declared.declarations.Mark.TheVariants.{NotNull, PrimaryKey}
 use Rattle.rows.specs.declared.declarations.Side.{Side}
-use Rattle.rows.specs.declared.declarations.Side.TheVariants.{Start, End}
 use Rattle.rows.specs.declared.declarations.Entry.{Entry}
-use Rattle.rows.specs.declared.declarations.Entry.TheVariants.{User, Generated, Period, Key}
 use Rattle.rows.specs.declared.declarations.Declaration.{Declaration}
 use Rattle.rows.specs.SchemaTokens as tokens
 use Rattle.rows.specs.SchemaTokens.{Read, next, after_symbol, symbol_at, is_word_at, after_word, word_at, name_at, digits_at}

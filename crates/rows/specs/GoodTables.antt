@@ -4,7 +4,6 @@ use Rattle.std.specs.List.{count_by}
 use Rattle.std.specs.Char.{to_ascii_lowercase}
 use Rattle.rows.specs.declared.tables.ColumnType.{ColumnType}
 use Rattle.rows.specs.declared.tables.ColumnType.TheVariants.{Varchar}
-use Rattle.rows.specs.declared.declarations.Mark.{Mark}
 use Rattle.rows.specs.declared.declarations.Mark.TheVariants.{NotNull, PrimaryKey}
 use Rattle.rows.specs.declared.declarations.Side.{Side}
 use Rattle.rows.specs.declared.declarations.Side.TheVariants.{Start, End}

@@ -3,11 +3,12 @@ use Rattle.std.specs.Prelude.{◌≡◌, ℕ, ◌<◌, ◌≤◌, List, [], ◌�
 use Rattle.rows.specs.declared.tables.Schema.{Schema}
 use Rattle.rows.specs.Sample.{sample}
 use Rattle.rows.specs.declared.schema_reading.SchemaFault.{SchemaFault}
-use Rattle.rows.specs.declared.schema_reading.SchemaFault.TheVariants.{Syntax}
+use Rattle.rows.specs.declared.schema_reading.SchemaFault.TheVariants.{Syntax, BadTable}
 use Rattle.rows.specs.declared.declarations.Declaration.{Declaration}
 use Rattle.rows.specs.SchemaTables.{tables_from, read_schema}
 use Rattle.rows.specs.SchemaTokens.{symbol_at, word_at, name_at, digits_at}
 use Rattle.rows.specs.SchemaGrammar.{Symbol, Word, Name, Digits, SchemaText}
+use Rattle.rows.specs.GoodTables.{TablesAreGood, IsFirstBad}
 
 -- the sample schema is what the text says
 abbrev pub SampleIsRead : List ℕ → Type 0
@@ -44,3 +45,19 @@ TextsSayOneThing = (text : List ℕ) (these those : List Declaration) → Schema
 -- a fault of syntax is found where the text is too long or says nothing, and nowhere else
 abbrev pub OnlyTheGrammarIsRead : Type 0
 OnlyTheGrammarIsRead = (text : List ℕ) → HasSyntaxFault (read_schema text) ↔ ((65536 < length text) ⊎ ((declarations : List Declaration) → SchemaText declarations text → ⊥))
+
+-- declarations make a schema where they are good tables, and else the first bad one is told
+pub record GoodTablesAreMade : Type 0 where
+  pub good : (declarations : List Declaration) → ((schema : Schema) × (tables_from [] declarations ≡ Ok schema)) ↔ TablesAreGood declarations
+  pub bad : (declarations : List Declaration) (n : ℕ) → (tables_from [] declarations ≡ Err (BadTable n)) ↔ IsFirstBad declarations n
+
+-- a text of at most 65,536 bytes that says good tables
+pub record SaysGoodTables (text : List ℕ) : Type 0 where
+  pub declarations : List Declaration
+  pub short : length text ≤ 65536
+  pub spelled : SchemaText declarations text
+  pub good : TablesAreGood declarations
+
+-- a schema is read exactly from those texts
+abbrev pub OnlyGoodTablesAreRead : Type 0
+OnlyGoodTablesAreRead = (text : List ℕ) → ((schema : Schema) × (read_schema text ≡ Ok schema)) ↔ SaysGoodTables text

@@ -1,4 +1,4 @@
-ghost use Rattle.rows.specs.SchemaLaws.{SampleIsRead, WhatIsReadIsOfTheGrammar, TokensAreRead, TheGrammarIsRead, TextsSayOneThing, OnlyTheGrammarIsRead};
+ghost use Rattle.rows.specs.SchemaLaws.{SampleIsRead, WhatIsReadIsOfTheGrammar, TokensAreRead, TheGrammarIsRead, TextsSayOneThing, OnlyTheGrammarIsRead, GoodTablesAreMade, OnlyGoodTablesAreRead};
 
 use crate::schema_reading::SAMPLE;
 
@@ -18,4 +18,10 @@ pub fn the_grammar_is_read()
     ensures read { TheGrammarIsRead }
     ensures one_thing { TextsSayOneThing }
     ensures only { OnlyTheGrammarIsRead }
+{}
+
+/// Declarations make tables where they are good ones, told by counts and by names that differ, and where not the first bad one is told.
+pub fn good_tables_are_made()
+    ensures tables { GoodTablesAreMade }
+    ensures texts { OnlyGoodTablesAreRead }
 {}
