@@ -22,7 +22,7 @@ use Rattle.rows.specs.declared.declarations.Entry.{Entry}
 use Rattle.rows.specs.declared.declarations.Entry.TheVariants.{User, Generated, Period, Key}
 use Rattle.rows.specs.Names.{same_name, same_letters}
 use Rattle.rows.specs.SchemaTables.{is_not_null, is_primary_key, same_side, user_column, column_name, side_name, period_names, keys_in, is_good_type, is_good_precision, is_good_entry, are_distinct, only, number_in}
-use Rattle.rows.specs.GoodTables.{Each, Stands, IsTheOne, NoTwo, SameName, is_user, IsGenerated, IsPeriod, GivesKeys, GivesOneKey, Declares, ShareAName, HasUserColumn, TypeIsGood, DigitsAreGood, EntryIsGood}
+use Rattle.rows.specs.GoodTables.{Each, Stands, IsTheOne, NoTwo, SameName, is_user, IsGenerated, IsPeriod, GivesKeys, GivesOneKey, Declares, ShareAName, HasUserColumn, AreColumnsOf, AreNumbersOf, TypeIsGood, DigitsAreGood, EntryIsGood}
 use Rattle.rows.proofs.Places.{each_placed, each_at, each_to, Apart, apart_no_two, no_two_apart, one_same, only_is, flat_of, Tells, none_given, none_stands, one_stands, one_given}
 
 -- tests
@@ -375,6 +375,60 @@ known_all entries [] e = refl
 known_all entries (name ∷ names) ((c, ((before, (after, place)), same)), e) =
     or_from (is_unknown name 1 entries) (unknown_in entries names)
     (ap (is_unknown name 1) place ∙ stands_known name c after same before 1 (omega arith)) (known_all entries names e)
+
+-- the number that a name has
+abbrev number_from : List ℕ → ℕ → List Column → ℕ
+number_from name n columns = unwrap_or (position_from (is_named name) n columns) 0
+
+-- its column stands so many places on
+record At (name : List ℕ) (n : ℕ) (columns : List Column) (number : ℕ) : Type 0 where
+  before : List Column
+  column : Column
+  after : List Column
+  place : columns ≡ before ++ column ∷ after
+  counted : number ≡ length before + n
+  named : SameName column.name name
+
+numbered : (name : List ℕ) (columns : List Column) (n : ℕ) → (number_from name n columns == 0) ≡ false → At name n columns (number_from name n columns)
+numbered name [] n e = cc
+numbered name (c ∷ columns) n e = one (same_name c.name name) refl e (numbered name columns (n + 1))
+  where
+    one : (t : Bool) → same_name c.name name ≡ t → (unwrap_or (cond t (Some n) (position_from (is_named name) (n + 1) columns)) 0 == 0) ≡ false
+        → ((number_from name (n + 1) columns == 0) ≡ false → At name (n + 1) columns (number_from name (n + 1) columns))
+        → At name n (c ∷ columns) (unwrap_or (cond t (Some n) (position_from (is_named name) (n + 1) columns)) 0)
+    one true same e others = record { before = []; column = c; after = columns; place = refl; counted = omega arith; named = same_to c.name name same }
+    one false same e others =
+        let a = others e in
+        record { before = c ∷ a.before; column = a.column; after = a.after; place = ap (λ l. c ∷ l) a.place; counted = omega (arith, a.counted); named = a.named }
+
+pub numbers_are : (columns : List Column) (names : List (List ℕ)) → list_any (λ n. n == 0) (map (number_in columns) names) ≡ false → AreNumbersOf columns names (map (number_in columns) names)
+numbers_are columns [] e = tt
+numbers_are columns (name ∷ names) e =
+    let parts = or_parts (number_in columns name == 0) (list_any (λ n. n == 0) (map (number_in columns) names)) e in
+    let a = numbered name columns 1 parts.0 in
+    (record { before = a.before; column = a.column; after = a.after; place = a.place; counted = a.counted; named = a.named }, numbers_are columns names parts.1)
+
+-- columns as they are declared
+marked_stands : (marks : List Mark) → list_any is_not_null marks ≡ true → Stands NotNull marks
+marked_stands [] e = cc
+marked_stands (NotNull ∷ marks) e = ([], (marks, refl))
+marked_stands (PrimaryKey ∷ marks) e =
+    let s = marked_stands marks e in (PrimaryKey ∷ s.0, (s.1.0, ap (λ l. PrimaryKey ∷ l) s.1.1))
+
+stands_marked : (before after : List Mark) → list_any is_not_null (before ++ NotNull ∷ after) ≡ true
+stands_marked [] after = refl
+stands_marked (NotNull ∷ before) after = refl
+stands_marked (PrimaryKey ∷ before) after = stands_marked before after
+
+pub columns_are : (entries : List Entry) → AreColumnsOf entries (filter_map user_column entries)
+columns_are [] = tt
+columns_are (User u ∷ entries) = (
+  record { named = refl; of_type = refl; marked = (marked_stands u.marks, λ s. ap (list_any is_not_null) s.1.1 ∙ stands_marked s.0 s.1.0) },
+  columns_are entries,
+)
+columns_are (Generated g ∷ entries) = columns_are entries
+columns_are (Period p ∷ entries) = columns_are entries
+columns_are (Key names ∷ entries) = columns_are entries
 
 -- how many user columns
 pub user_count : (entries : List Entry) → length (filter_map user_column entries) ≡ count_by is_user entries

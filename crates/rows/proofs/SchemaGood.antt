@@ -14,9 +14,9 @@ use Rattle.rows.specs.declared.schema_reading.SchemaFault.{SchemaFault}
 use Rattle.rows.specs.declared.schema_reading.SchemaFault.TheVariants.{BadTable}
 use Rattle.rows.specs.Names.{same_name}
 use Rattle.rows.specs.SchemaTables.{user_column, column_name, side_name, period_names, keys_in, is_good_entry, are_distinct, only, number_in, is_good_key, is_good_period, is_good_width, are_good_entries, table_of, next_table, tables_from}
-use Rattle.rows.specs.GoodTables.{Each, SameName, TableIsGood, TablesAreGood, IsFirstBad}
+use Rattle.rows.specs.GoodTables.{Each, SameName, TableIsGood, IsTableOf, AreTablesOf, TablesAreGood, IsFirstBad}
 use Rattle.rows.proofs.Places.{each-append, each_front, each_back, apart_no_two, no_two_apart, apart_push, apart_front, apart_last}
-use Rattle.rows.proofs.SchemaEntries.{le_from, le_to, not_from, not_to, same_to, same_from, any_none, none_any, distinct_differ, differ_distinct, side_stands, side_only, period_stands, period_only, key_stands, key_only, all_known, known_all, user_count, columns_differ, differ_columns, entries_good, good_entries}
+use Rattle.rows.proofs.SchemaEntries.{le_from, le_to, not_from, not_to, same_to, same_from, any_none, none_any, distinct_differ, differ_distinct, side_stands, side_only, period_stands, period_only, key_stands, key_only, all_known, known_all, numbers_are, columns_are, user_count, columns_differ, differ_columns, entries_good, good_entries}
 
 -- a step that gives something
 then_some : {A B : Type 0} (o : Option A) (k : A → Option B) (y : B) → option_and_then k o ≡ Some y → (x : A) × ((o ≡ Some x) × (k x ≡ Some y))
@@ -40,7 +40,7 @@ fits d start end period names =
     is_good_period start end period && is_good_key names (map (number_in (filter_map user_column d.entries)) names) && is_good_width (filter_map user_column d.entries)
     && are_good_entries d.entries
 
-pub made_is_good : (number : ℕ) (d : Declaration) (t : Table) → table_of number d ≡ Some t → TableIsGood d × (t.name ≡ d.name)
+pub made_is_good : (number : ℕ) (d : Declaration) (t : Table) → table_of number d ≡ Some t → IsTableOf d number t
 unfolding table_of
 made_is_good number d t e =
     let a = then_some (only (filter_map (side_name Start) d.entries)) _ t e in
@@ -48,10 +48,11 @@ made_is_good number d t e =
     let c = then_some (only (filter_map period_names d.entries)) _ t b.1.1 in
     let k = then_some (only (flat_map keys_in d.entries)) _ t c.1.1 in
     let f = where_so (fits d a.0 b.0 c.0 k.0) (made number d a.0 b.0 k.0) t k.1.1 in
-    (good a.0 b.0 c.0 k.0 a.1.0 b.1.0 c.1.0 k.1.0 f.0, sym (ap (λ (x : Table). x.name) f.1))
+    subst (IsTableOf d number) f.1 (good a.0 b.0 c.0 k.0 a.1.0 b.1.0 c.1.0 k.1.0 f.0)
   where
     good : (start end : List ℕ) (period : PeriodNames) (names : List (List ℕ)) → only (filter_map (side_name Start) d.entries) ≡ Some start → only (filter_map (side_name End) d.entries) ≡ Some end
-        → only (filter_map period_names d.entries) ≡ Some period → only (flat_map keys_in d.entries) ≡ Some names → fits d start end period names ≡ true → TableIsGood d
+        → only (filter_map period_names d.entries) ≡ Some period → only (flat_map keys_in d.entries) ≡ Some names → fits d start end period names ≡ true
+        → IsTableOf d number (made number d start end names)
     good start end period names is_start is_end is_period is_key f =
         let columns = filter_map user_column d.entries in
         let numbers = map (number_in columns) names in
@@ -66,7 +67,8 @@ made_is_good number d t e =
         let first = side_stands Start d.entries start is_start in
         let last_one = side_stands End d.entries end is_end in
         let giver = key_stands d.entries names is_key in
-        record {
+        let known = not_from (list_any (λ n. n == 0) numbers) key.1 in
+        let is_good : TableIsGood d = record {
           start = first.0;
           end = last_one.0;
           period = period;
@@ -81,11 +83,20 @@ made_is_good number d t e =
           one_key = giver.1.0;
           few_in_key = le_from (length names) 4 parts.0;
           key_differs = distinct_differ names parts.1;
-          key_of_columns = all_known d.entries names (not_from (list_any (λ n. n == 0) numbers) key.1);
+          key_of_columns = all_known d.entries names known;
           some_columns = subst (λ n. 1 ≤ n) (user_count d.entries) (le_from 1 (length columns) width.0);
           few_columns = subst (λ n. n ≤ 16) (user_count d.entries) (le_from (length columns) 16 width.1);
           columns_differ = columns_differ d.entries entries.1;
           entries_are_good = entries_good d.entries entries.0;
+        } in
+        record {
+          good = is_good;
+          numbered = refl;
+          named = refl;
+          columns_are = columns_are d.entries;
+          key_is = numbers_are columns names known;
+          starts = sym first.1.0;
+          ends = sym last_one.1.0;
         }
 
 good_fits : (d : Declaration) (g : TableIsGood d) → fits d g.start.name g.end.name g.period g.key ≡ true
@@ -184,11 +195,11 @@ abbrev next_test : List Table → Declaration → Bool
 next_test tables d = nat_lt (length tables) 16 && not (is_taken tables d.name)
 
 module _ (tables : List Table) (before : List Declaration) (m : Made tables before) (g : TablesAreGood before) (d : Declaration) where
-  next_good : (t : Table) → next_table tables d ≡ Some t → TablesAreGood (before ++ d ∷ []) × (t.name ≡ d.name)
+  next_good : (t : Table) → next_table tables d ≡ Some t → TablesAreGood (before ++ d ∷ []) × IsTableOf d (length tables + 1) t
   unfolding next_table
   next_good t e = by_test (next_test tables d) refl e
     where
-      by_test : (s : Bool) → next_test tables d ≡ s → ◌≡◌ {A = Option Table} (if s then table_of (length tables + 1) d else None) (Some t) → TablesAreGood (before ++ d ∷ []) × (t.name ≡ d.name)
+      by_test : (s : Bool) → next_test tables d ≡ s → ◌≡◌ {A = Option Table} (if s then table_of (length tables + 1) d else None) (Some t) → TablesAreGood (before ++ d ∷ []) × IsTableOf d (length tables + 1) t
       by_test false q e = cc
       by_test true q e =
           let p = and_parts (nat_lt (length tables) 16) (not (is_taken tables d.name)) q in
@@ -196,7 +207,7 @@ module _ (tables : List Table) (before : List Declaration) (m : Made tables befo
           let few : length tables < 16 = below_from (length tables) p.0 in
           let free = any_none (λ (e : Declaration). same_name e.name d.name) (λ e. Clash e d) (λ e. same_from e.name d.name) before
           (sym (taken_by tables before d.name m) ∙ not_from (is_taken tables d.name) p.1) in
-          (push_good before d g (omega (arith, few, made_length tables before m)) free good.0, good.1)
+          (push_good before d g (omega (arith, few, made_length tables before m)) free good.good, good)
 
   good_next : TablesAreGood (before ++ d ∷ []) → (t : Table) × ((next_table tables d ≡ Some t) × (t.name ≡ d.name))
   unfolding next_table
@@ -227,13 +238,44 @@ all_made (d ∷ ds) tables before m g =
 made_good : (ds : List Declaration) (tables : List Table) (before : List Declaration) (schema : Schema) → Made tables before → TablesAreGood before → tables_from tables ds ≡ Ok schema → TablesAreGood (before ++ ds)
 made_good [] tables before schema m g e = subst TablesAreGood (sym (append-nil before)) g
 made_good (d ∷ ds) tables before schema m g e =
-    by_next (next_table tables d) refl e (λ t f more. made_good ds (tables ++ t ∷ []) (before ++ d ∷ []) schema (made_push tables before t d m f.1) f.0 more)
+    by_next (next_table tables d) refl e (λ t f more. made_good ds (tables ++ t ∷ []) (before ++ d ∷ []) schema (made_push tables before t d m f.1.named) f.0 more)
   where
     by_next : (o : Option Table) → next_table tables d ≡ o → turned tables ds o ≡ Ok schema
-        → ((t : Table) → TablesAreGood (before ++ d ∷ []) × (t.name ≡ d.name) → tables_from (tables ++ t ∷ []) ds ≡ Ok schema → TablesAreGood ((before ++ d ∷ []) ++ ds))
+        → ((t : Table) → TablesAreGood (before ++ d ∷ []) × IsTableOf d (length tables + 1) t → tables_from (tables ++ t ∷ []) ds ≡ Ok schema → TablesAreGood ((before ++ d ∷ []) ++ ds))
         → TablesAreGood (before ++ d ∷ ds)
     by_next None at e others = cc
     by_next (Some t) at e others = subst TablesAreGood (pushed before d ds) (others t (next_good tables before m g d t at) e)
+
+-- the tables that they make
+pushed_length : (tables : List Table) (t : Table) → length (tables ++ t ∷ []) ≡ length tables + 1
+pushed_length tables t = length-append tables (t ∷ [])
+
+record Rest (tables : List Table) (ds : List Declaration) (schema : Schema) : Type 0 where
+  rest : List Table
+  whole : schema.tables ≡ tables ++ rest
+  are : AreTablesOf (length tables + 1) ds rest
+
+tables_are : (ds : List Declaration) (tables : List Table) (before : List Declaration) (schema : Schema) → Made tables before → TablesAreGood before → tables_from tables ds ≡ Ok schema → Rest tables ds schema
+tables_are [] tables before schema m g e = record { rest = []; whole = sym (ap tables_in e) ∙ sym (append-nil tables); are = tt }
+  where
+    tables_in : Result Schema SchemaFault → List Table
+    tables_in (Ok s) = s.tables
+    tables_in (Err f) = tables
+tables_are (d ∷ ds) tables before schema m g e =
+    by_next (next_table tables d) refl e (λ t f more. tables_are ds (tables ++ t ∷ []) (before ++ d ∷ []) schema (made_push tables before t d m f.1.named) f.0 more)
+  where
+    by_next : (o : Option Table) → next_table tables d ≡ o → turned tables ds o ≡ Ok schema
+        → ((t : Table) → TablesAreGood (before ++ d ∷ []) × IsTableOf d (length tables + 1) t → tables_from (tables ++ t ∷ []) ds ≡ Ok schema → Rest (tables ++ t ∷ []) ds schema)
+        → Rest tables (d ∷ ds) schema
+    by_next None at e others = cc
+    by_next (Some t) at e others =
+        let good = next_good tables before m g d t at in
+        let r = others t good e in
+        record {
+          rest = t ∷ r.rest;
+          whole = r.whole ∙ append_assoc tables (t ∷ []) r.rest;
+          are = (good.1, subst (λ n. AreTablesOf (n + 1) ds r.rest) (pushed_length tables t) r.are);
+        }
 
 -- the first that makes none
 bad_number : (k n : ℕ) → ◌≡◌ {A = Result Schema SchemaFault} (Err (BadTable k)) (Err (BadTable n)) → k ≡ n
@@ -246,10 +288,10 @@ bad_number k n e = ap number e
 first_bad : (ds : List Declaration) (tables : List Table) (before : List Declaration) (n : ℕ) → Made tables before → TablesAreGood before → tables_from tables ds ≡ Err (BadTable n) → IsFirstBad (before ++ ds) n
 first_bad [] tables before n m g e = cc
 first_bad (d ∷ ds) tables before n m g e =
-    by_next (next_table tables d) refl e (λ t f more. first_bad ds (tables ++ t ∷ []) (before ++ d ∷ []) n (made_push tables before t d m f.1) f.0 more)
+    by_next (next_table tables d) refl e (λ t f more. first_bad ds (tables ++ t ∷ []) (before ++ d ∷ []) n (made_push tables before t d m f.1.named) f.0 more)
   where
     by_next : (o : Option Table) → next_table tables d ≡ o → turned tables ds o ≡ Err (BadTable n)
-        → ((t : Table) → TablesAreGood (before ++ d ∷ []) × (t.name ≡ d.name) → tables_from (tables ++ t ∷ []) ds ≡ Err (BadTable n) → IsFirstBad ((before ++ d ∷ []) ++ ds) n)
+        → ((t : Table) → TablesAreGood (before ++ d ∷ []) × IsTableOf d (length tables + 1) t → tables_from (tables ++ t ∷ []) ds ≡ Err (BadTable n) → IsFirstBad ((before ++ d ∷ []) ++ ds) n)
         → IsFirstBad (before ++ d ∷ ds) n
     by_next None at e others = record {
       before = before;
@@ -285,6 +327,9 @@ none_good = record { few = omega arith; names_differ = apart_no_two Clash [] tt;
 
 pub good_tables : (ds : List Declaration) → ((schema : Schema) × (tables_from [] ds ≡ Ok schema)) ↔ TablesAreGood ds
 good_tables ds = (λ s. made_good ds [] [] s.0 refl none_good s.1, λ g. all_made ds [] [] refl g)
+
+pub all_tables : (ds : List Declaration) (schema : Schema) → tables_from [] ds ≡ Ok schema → AreTablesOf 1 ds schema.tables
+all_tables ds schema e = let r = tables_are ds [] [] schema refl none_good e in subst (AreTablesOf 1 ds) (sym r.whole) r.are
 
 pub bad_tables : (ds : List Declaration) (n : ℕ) → (tables_from [] ds ≡ Err (BadTable n)) ↔ IsFirstBad ds n
 bad_tables ds n = (first_bad ds [] [] n refl none_good, back)

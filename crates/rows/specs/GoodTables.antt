@@ -1,9 +1,11 @@
 -- Which declarations are good tables: by what stands once, what stands twice, and how many there are.
-use Rattle.std.specs.Prelude.{◌≡◌, ℕ, ◌+◌, ◌≤◌, List, [], ◌∷◌, ◌++◌, Bool, true, false, Option, Some, None, length, map}
+use Rattle.std.specs.Prelude.{◌≡◌, ℕ, ◌+◌, ◌≤◌, ◌↔◌, List, [], ◌∷◌, ◌++◌, Bool, true, false, Option, Some, None, length, map}
 use Rattle.std.specs.List.{count_by}
 use Rattle.std.specs.Char.{to_ascii_lowercase}
 use Rattle.rows.specs.declared.tables.ColumnType.{ColumnType}
 use Rattle.rows.specs.declared.tables.ColumnType.TheVariants.{Varchar}
+use Rattle.rows.specs.declared.tables.Column.{Column}
+use Rattle.rows.specs.declared.tables.Table.{Table}
 use Rattle.rows.specs.declared.declarations.Mark.TheVariants.{NotNull, PrimaryKey}
 use Rattle.rows.specs.declared.declarations.Side.{Side}
 use Rattle.rows.specs.declared.declarations.Side.TheVariants.{Start, End}
@@ -118,6 +120,7 @@ pub record TableIsGood (d : Declaration) : Type 0 where
   pub period_to_end : SameName end.name period.end
   pub one_giver : IsTheOne GivesKeys giver d.entries
   pub one_key : GivesOneKey giver key
+  -- the grammar gives it one name at least
   pub few_in_key : length key ≤ 4
   pub key_differs : NoTwo SameName key
   pub key_of_columns : Each (HasUserColumn d.entries) key
@@ -125,6 +128,54 @@ pub record TableIsGood (d : Declaration) : Type 0 where
   pub few_columns : count_by is_user d.entries ≤ 16
   pub columns_differ : NoTwo ShareAName d.entries
   pub entries_are_good : Each EntryIsGood d.entries
+
+-- a user column as it is declared, which takes no NULL where a mark says so
+pub record IsColumnOf (u : UserColumn) (c : Column) : Type 0 where
+  pub named : c.name ≡ u.name
+  pub of_type : c.of ≡ u.of
+  pub marked : (c.not_null ≡ true) ↔ Stands NotNull u.marks
+
+-- the user columns in the order in which they stand, the period columns left out
+abbrev pub AreColumnsOf : List Entry → List Column → Type 0
+AreColumnsOf [] [] = Unit {0}
+AreColumnsOf [] (c ∷ cs) = ⊥
+AreColumnsOf (User u ∷ entries) [] = ⊥
+AreColumnsOf (User u ∷ entries) (c ∷ cs) = IsColumnOf u c × AreColumnsOf entries cs
+AreColumnsOf (Generated g ∷ entries) cs = AreColumnsOf entries cs
+AreColumnsOf (Period p ∷ entries) cs = AreColumnsOf entries cs
+AreColumnsOf (Key names ∷ entries) cs = AreColumnsOf entries cs
+
+-- the column with a number, from 1, has the name
+pub record IsNumberOf (columns : List Column) (name : List ℕ) (number : ℕ) : Type 0 where
+  pub before : List Column
+  pub column : Column
+  pub after : List Column
+  pub place : columns ≡ before ++ column ∷ after
+  pub counted : number ≡ length before + 1
+  pub named : SameName column.name name
+
+abbrev pub AreNumbersOf : List Column → List (List ℕ) → List ℕ → Type 0
+AreNumbersOf columns [] [] = Unit {0}
+AreNumbersOf columns [] (number ∷ numbers) = ⊥
+AreNumbersOf columns (name ∷ names) [] = ⊥
+AreNumbersOf columns (name ∷ names) (number ∷ numbers) = IsNumberOf columns name number × AreNumbersOf columns names numbers
+
+-- the table that a good declaration makes
+pub record IsTableOf (d : Declaration) (number : ℕ) (t : Table) : Type 0 where
+  pub good : TableIsGood d
+  pub numbered : t.number ≡ number
+  pub named : t.name ≡ d.name
+  pub columns_are : AreColumnsOf d.entries t.columns
+  pub key_is : AreNumbersOf t.columns good.key t.key
+  pub starts : t.row_start ≡ good.start.name
+  pub ends : t.row_end ≡ good.end.name
+
+-- the tables in order, numbered from this number on
+abbrev pub AreTablesOf : ℕ → List Declaration → List Table → Type 0
+AreTablesOf number [] [] = Unit {0}
+AreTablesOf number [] (t ∷ ts) = ⊥
+AreTablesOf number (d ∷ ds) [] = ⊥
+AreTablesOf number (d ∷ ds) (t ∷ ts) = IsTableOf d number t × AreTablesOf (number + 1) ds ts
 
 -- declarations that make tables beside one another
 pub record TablesAreGood (ds : List Declaration) : Type 0 where

@@ -8,7 +8,7 @@ use Rattle.rows.specs.declared.declarations.Declaration.{Declaration}
 use Rattle.rows.specs.SchemaTables.{tables_from, read_schema}
 use Rattle.rows.specs.SchemaTokens.{symbol_at, word_at, name_at, digits_at}
 use Rattle.rows.specs.SchemaGrammar.{Symbol, Word, Name, Digits, SchemaText}
-use Rattle.rows.specs.GoodTables.{TablesAreGood, IsFirstBad}
+use Rattle.rows.specs.GoodTables.{TablesAreGood, AreTablesOf, IsFirstBad}
 
 -- the sample schema is what the text says
 abbrev pub SampleIsRead : List ℕ → Type 0
@@ -49,6 +49,7 @@ OnlyTheGrammarIsRead = (text : List ℕ) → HasSyntaxFault (read_schema text) �
 -- declarations make a schema where they are good tables, and else the first bad one is told
 pub record GoodTablesAreMade : Type 0 where
   pub good : (declarations : List Declaration) → ((schema : Schema) × (tables_from [] declarations ≡ Ok schema)) ↔ TablesAreGood declarations
+  pub tables : (declarations : List Declaration) (schema : Schema) → tables_from [] declarations ≡ Ok schema → AreTablesOf 1 declarations schema.tables
   pub bad : (declarations : List Declaration) (n : ℕ) → (tables_from [] declarations ≡ Err (BadTable n)) ↔ IsFirstBad declarations n
 
 -- a text of at most 65,536 bytes that says good tables
