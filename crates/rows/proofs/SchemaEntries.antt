@@ -22,7 +22,7 @@ use Rattle.rows.specs.declared.declarations.Entry.{Entry}
 use Rattle.rows.specs.declared.declarations.Entry.TheVariants.{User, Generated, Period, Key}
 use Rattle.rows.specs.Names.{same_name, same_letters}
 use Rattle.rows.specs.SchemaTables.{is_not_null, is_primary_key, same_side, user_column, column_name, side_name, period_names, keys_in, is_good_type, is_good_precision, is_good_entry, are_distinct, only, number_in}
-use Rattle.rows.specs.GoodTables.{Each, Stands, IsTheOne, NoTwo, SameName, is_user, IsGenerated, IsPeriod, GivesKeys, GivesOneKey, Declares, ShareAName, HasUserColumn, AreColumnsOf, AreNumbersOf, TypeIsGood, DigitsAreGood, EntryIsGood}
+use Rattle.rows.specs.GoodTables.{Each, Stands, IsTheOne, NoTwo, SameName, is_user, IsGenerated, IsPeriod, GivesKeys, GivesOneKey, Declares, ShareAName, HasUserColumn, IsColumnOf, IsNumberOf, AreColumnsOf, AreNumbersOf, TypeIsGood, DigitsAreGood, EntryIsGood}
 use Rattle.rows.proofs.Places.{each_placed, each_at, each_to, Apart, apart_no_two, no_two_apart, one_same, only_is, flat_of, Tells, none_given, none_stands, one_stands, one_given}
 
 -- tests
@@ -408,6 +408,57 @@ numbers_are columns (name ∷ names) e =
     let a = numbered name columns 1 parts.0 in
     (record { before = a.before; column = a.column; after = a.after; place = a.place; counted = a.counted; named = a.named }, numbers_are columns names parts.1)
 
+-- where no two columns have one name, a name has one number
+abbrev pub OneName : Column → Column → Type 0
+OneName c e = SameName c.name e.name
+
+number_at : (name : List ℕ) (c : Column) (after : List Column) → SameName c.name name → (before : List Column) (n : ℕ) → Apart OneName (before ++ c ∷ after)
+    → position_from (is_named name) n (before ++ c ∷ after) ≡ Some (length before + n)
+number_at name c after named [] n a =
+    ap (λ t. cond t (Some n) (position_from (is_named name) (n + 1) after)) (same_from c.name name named) ∙ ap (λ k. Some k) (nothing_before n)
+  where
+    nothing_before : (n : ℕ) → n ≡ length {A = Column} [] + n
+    nothing_before n = omega arith
+number_at name c after named (e ∷ before) n (f, a) =
+    ap (λ t. cond t (Some n) (position_from (is_named name) (n + 1) (before ++ c ∷ after))) (other (same_name e.name name) refl)
+    ∙ number_at name c after named before (n + 1) a ∙ ap (λ k. Some k) (one_before n)
+  where
+    one_before : (n : ℕ) → length before + (n + 1) ≡ length (e ∷ before) + n
+    one_before n = omega arith
+
+    other : (t : Bool) → same_name e.name name ≡ t → t ≡ false
+    other false q = refl
+    other true q = absurd (each_at (λ x. OneName e x → ⊥) before after c f (same_to e.name name q ∙ sym named))
+
+number_same : (columns : List Column) (name : List ℕ) (number : ℕ) → Apart OneName columns → IsNumberOf columns name number → number_in columns name ≡ number
+number_same columns name number a is =
+    ap (λ l. unwrap_or (position_from (is_named name) 1 l) 0) is.place
+    ∙ ap (λ o. unwrap_or o 0) (number_at name is.column is.after is.named is.before 1 (subst (Apart OneName) is.place a)) ∙ sym is.counted
+
+pub numbers_same : (columns : List Column) (names : List (List ℕ)) (numbers : List ℕ) → Apart OneName columns → AreNumbersOf columns names numbers → map (number_in columns) names ≡ numbers
+numbers_same columns [] [] a e = refl
+numbers_same columns [] (k ∷ numbers) a e = absurd e
+numbers_same columns (name ∷ names) [] a e = absurd e
+numbers_same columns (name ∷ names) (k ∷ numbers) a (is, e) =
+    ap (λ n. n ∷ map (number_in columns) names) (number_same columns name k a is) ∙ ap (λ l. k ∷ l) (numbers_same columns names numbers a e)
+
+one_name_apart : (u : UserColumn) (entries : List Entry) → Each (λ y. ShareAName (User u) y → ⊥) entries → Each (λ (c : Column). SameName u.name c.name → ⊥) (filter_map user_column entries)
+one_name_apart u [] e = tt
+one_name_apart u (User d ∷ entries) (f, e) = (λ s. f (u.name, (d.name, (refl, (refl, s)))), one_name_apart u entries e)
+one_name_apart u (Generated g ∷ entries) (f, e) = one_name_apart u entries e
+one_name_apart u (Period p ∷ entries) (f, e) = one_name_apart u entries e
+one_name_apart u (Key names ∷ entries) (f, e) = one_name_apart u entries e
+
+user_apart : (entries : List Entry) → Apart ShareAName entries → Apart OneName (filter_map user_column entries)
+user_apart [] a = tt
+user_apart (User u ∷ entries) (e, a) = (one_name_apart u entries e, user_apart entries a)
+user_apart (Generated g ∷ entries) (e, a) = user_apart entries a
+user_apart (Period p ∷ entries) (e, a) = user_apart entries a
+user_apart (Key names ∷ entries) (e, a) = user_apart entries a
+
+pub users_differ : (entries : List Entry) → NoTwo ShareAName entries → Apart OneName (filter_map user_column entries)
+users_differ entries n = user_apart entries (no_two_apart ShareAName entries n)
+
 -- columns as they are declared
 marked_stands : (marks : List Mark) → list_any is_not_null marks ≡ true → Stands NotNull marks
 marked_stands [] e = cc
@@ -429,6 +480,28 @@ columns_are (User u ∷ entries) = (
 columns_are (Generated g ∷ entries) = columns_are entries
 columns_are (Period p ∷ entries) = columns_are entries
 columns_are (Key names ∷ entries) = columns_are entries
+
+same_truth : (a b : Bool) → (a ≡ true → b ≡ true) → (b ≡ true → a ≡ true) → a ≡ b
+same_truth true b f g = sym (f refl)
+same_truth false true f g = g refl
+same_truth false false f g = refl
+
+column_same : (u : UserColumn) (c : Column) → IsColumnOf u c → record { name = u.name; of = u.of; not_null = list_any is_not_null u.marks } ≡ c
+column_same u c is =
+    let marked = list_any is_not_null u.marks in
+    ap (λ n. record { name = n; of = u.of; not_null = marked }) (sym is.named) ∙ ap (λ t. record { name = c.name; of = t; not_null = marked }) (sym is.of_type)
+    ∙ ap (λ b. record { name = c.name; of = c.of; not_null = b })
+    (same_truth marked c.not_null (λ e. is.marked.1 (marked_stands u.marks e)) (λ e. let s = is.marked.0 e in ap (list_any is_not_null) s.1.1 ∙ stands_marked s.0 s.1.0))
+
+pub columns_same : (entries : List Entry) (cs : List Column) → AreColumnsOf entries cs → filter_map user_column entries ≡ cs
+columns_same [] [] e = refl
+columns_same [] (c ∷ cs) e = absurd e
+columns_same (User u ∷ entries) [] e = absurd e
+columns_same (User u ∷ entries) (c ∷ cs) (is, e) =
+    ap (λ x. x ∷ filter_map user_column entries) (column_same u c is) ∙ ap (λ l. c ∷ l) (columns_same entries cs e)
+columns_same (Generated g ∷ entries) cs e = columns_same entries cs e
+columns_same (Period p ∷ entries) cs e = columns_same entries cs e
+columns_same (Key names ∷ entries) cs e = columns_same entries cs e
 
 -- how many user columns
 pub user_count : (entries : List Entry) → length (filter_map user_column entries) ≡ count_by is_user entries

@@ -14,9 +14,9 @@ use Rattle.rows.specs.declared.schema_reading.SchemaFault.{SchemaFault}
 use Rattle.rows.specs.declared.schema_reading.SchemaFault.TheVariants.{BadTable}
 use Rattle.rows.specs.Names.{same_name}
 use Rattle.rows.specs.SchemaTables.{user_column, column_name, side_name, period_names, keys_in, is_good_entry, are_distinct, only, number_in, is_good_key, is_good_period, is_good_width, are_good_entries, table_of, next_table, tables_from}
-use Rattle.rows.specs.GoodTables.{Each, SameName, TableIsGood, IsTableOf, AreTablesOf, TablesAreGood, IsFirstBad}
+use Rattle.rows.specs.GoodTables.{Each, SameName, TableIsGood, AreNumbersOf, IsTableOf, AreTablesOf, TablesAreGood, IsFirstBad}
 use Rattle.rows.proofs.Places.{each-append, each_front, each_back, apart_no_two, no_two_apart, apart_push, apart_front, apart_last}
-use Rattle.rows.proofs.SchemaEntries.{le_from, le_to, not_from, not_to, same_to, same_from, any_none, none_any, distinct_differ, differ_distinct, side_stands, side_only, period_stands, period_only, key_stands, key_only, all_known, known_all, numbers_are, columns_are, user_count, columns_differ, differ_columns, entries_good, good_entries}
+use Rattle.rows.proofs.SchemaEntries.{le_from, le_to, not_from, not_to, same_to, same_from, any_none, none_any, distinct_differ, differ_distinct, side_stands, side_only, period_stands, period_only, key_stands, key_only, all_known, known_all, numbers_are, numbers_same, users_differ, columns_are, columns_same, user_count, columns_differ, differ_columns, entries_good, good_entries}
 
 -- a step that gives something
 then_some : {A B : Type 0} (o : Option A) (k : A → Option B) (y : B) → option_and_then k o ≡ Some y → (x : A) × ((o ≡ Some x) × (k x ≡ Some y))
@@ -118,20 +118,31 @@ good_fits d g =
     (and_from (is_good_period g.start.name g.end.name g.period && is_good_key g.key numbers) (is_good_width columns) (and_from (is_good_period g.start.name g.end.name g.period) (is_good_key g.key numbers) ends key) width)
     entries
 
-pub good_is_made : (number : ℕ) (d : Declaration) → TableIsGood d → (t : Table) × ((table_of number d ≡ Some t) × (t.name ≡ d.name))
+good_is_made : (number : ℕ) (d : Declaration) (g : TableIsGood d) → table_of number d ≡ Some (made number d g.start.name g.end.name g.key)
 unfolding table_of
 good_is_made number d g =
-    let t = made number d g.start.name g.end.name g.key in (
-      t,
-      (
-        some_then (only (filter_map (side_name Start) d.entries)) _ g.start.name (Some t) (side_only Start d.entries g.start g.one_start)
-            (some_then (only (filter_map (side_name End) d.entries)) _ g.end.name (Some t) (side_only End d.entries g.end g.one_end)
-            (some_then (only (filter_map period_names d.entries)) _ g.period (Some t) (period_only d.entries g.period g.one_period)
-            (some_then (only (flat_map keys_in d.entries)) _ g.key (Some t) (key_only d.entries g.giver g.key g.one_key g.one_giver)
-            (ap (λ f. if f then Some t else None) (good_fits d g))))),
-        refl,
-      ),
-    )
+    let t = made number d g.start.name g.end.name g.key in
+    some_then (only (filter_map (side_name Start) d.entries)) _ g.start.name (Some t) (side_only Start d.entries g.start g.one_start)
+    (some_then (only (filter_map (side_name End) d.entries)) _ g.end.name (Some t) (side_only End d.entries g.end g.one_end)
+    (some_then (only (filter_map period_names d.entries)) _ g.period (Some t) (period_only d.entries g.period g.one_period)
+    (some_then (only (flat_map keys_in d.entries)) _ g.key (Some t) (key_only d.entries g.giver g.key g.one_key g.one_giver)
+    (ap (λ f. if f then Some t else None) (good_fits d g)))))
+
+-- a table that is the declaration's is the one that is made
+table_is_made : (number : ℕ) (d : Declaration) (t : Table) → IsTableOf d number t → table_of number d ≡ Some t
+table_is_made number d t is =
+    let g = is.good in
+    let columns = filter_map user_column d.entries in
+    let same : columns ≡ t.columns = columns_same d.entries t.columns is.columns_are in
+    let numbers : map (number_in columns) g.key ≡ t.key =
+    numbers_same columns g.key t.key (users_differ d.entries g.columns_differ) (subst (λ c. AreNumbersOf c g.key t.key) (sym same) is.key_is) in
+    good_is_made number d g
+    ∙ ap (λ n. Some (record { number = n; name = d.name; columns = columns; key = map (number_in columns) g.key; row_start = g.start.name; row_end = g.end.name })) (sym is.numbered)
+    ∙ ap (λ n. Some (record { number = t.number; name = n; columns = columns; key = map (number_in columns) g.key; row_start = g.start.name; row_end = g.end.name })) (sym is.named)
+    ∙ ap (λ k. Some (record { number = t.number; name = t.name; columns = columns; key = k; row_start = g.start.name; row_end = g.end.name })) numbers
+    ∙ ap (λ c. Some (record { number = t.number; name = t.name; columns = c; key = t.key; row_start = g.start.name; row_end = g.end.name })) same
+    ∙ ap (λ n. Some (record { number = t.number; name = t.name; columns = t.columns; key = t.key; row_start = n; row_end = g.end.name })) (sym is.starts)
+    ∙ ap (λ n. Some (record { number = t.number; name = t.name; columns = t.columns; key = t.key; row_start = t.row_start; row_end = n })) (sym is.ends)
 
 -- declarations beside one another
 abbrev Clash : Declaration → Declaration → Type 0
@@ -209,16 +220,20 @@ module _ (tables : List Table) (before : List Declaration) (m : Made tables befo
           (sym (taken_by tables before d.name m) ∙ not_from (is_taken tables d.name) p.1) in
           (push_good before d g (omega (arith, few, made_length tables before m)) free good.good, good)
 
-  good_next : TablesAreGood (before ++ d ∷ []) → (t : Table) × ((next_table tables d ≡ Some t) × (t.name ≡ d.name))
+  good_next : TablesAreGood (before ++ d ∷ []) → next_table tables d ≡ table_of (length tables + 1) d
   unfolding next_table
   good_next h =
-      let t = good_is_made (length tables + 1) d (each_back TableIsGood before (d ∷ []) h.tables_are_good).0 in
       let few : nat_lt (length tables) 16 ≡ true = below_to (length tables) (omega (arith, pushed_few before d h, made_length tables before m)) in
       let free : is_taken tables d.name ≡ false =
       taken_by tables before d.name m
       ∙ none_any (λ (e : Declaration). same_name e.name d.name) (λ e. Clash e d) (λ e. same_to e.name d.name) before
       (apart_last Clash before d (no_two_apart Clash (before ++ d ∷ []) h.names_differ)) in
-      (t.0, (ap (λ s. if s then table_of (length tables + 1) d else None) (and_from (nat_lt (length tables) 16) (not (is_taken tables d.name)) few (not_to (is_taken tables d.name) free)) ∙ t.1.0, t.1.1))
+      ap (λ s. if s then table_of (length tables + 1) d else None) (and_from (nat_lt (length tables) 16) (not (is_taken tables d.name)) few (not_to (is_taken tables d.name) free))
+
+  good_table : TablesAreGood (before ++ d ∷ []) → (t : Table) × ((next_table tables d ≡ Some t) × (t.name ≡ d.name))
+  good_table h =
+      let good = (each_back TableIsGood before (d ∷ []) h.tables_are_good).0 in
+      (made (length tables + 1) d good.start.name good.end.name good.key, (good_next h ∙ good_is_made (length tables + 1) d good, refl))
 
 -- all of them
 abbrev turned : List Table → List Declaration → Option Table → Result Schema SchemaFault
@@ -231,7 +246,7 @@ all_made : (ds : List Declaration) (tables : List Table) (before : List Declarat
 all_made [] tables before m g = (record { tables = tables }, refl)
 all_made (d ∷ ds) tables before m g =
     let whole = subst TablesAreGood (sym (pushed before d ds)) g in
-    let t = good_next tables before m (front_good before (d ∷ ds) g) d (front_good (before ++ d ∷ []) ds whole) in
+    let t = good_table tables before m (front_good before (d ∷ ds) g) d (front_good (before ++ d ∷ []) ds whole) in
     let others = all_made ds (tables ++ t.0 ∷ []) (before ++ d ∷ []) (made_push tables before t.0 d m t.1.1) whole in
     (others.0, ap (turned tables ds) t.1.0 ∙ others.1)
 
@@ -277,6 +292,19 @@ tables_are (d ∷ ds) tables before schema m g e =
           are = (good.1, subst (λ n. AreTablesOf (n + 1) ds r.rest) (pushed_length tables t) r.are);
         }
 
+are_made : (ds : List Declaration) (rest tables : List Table) (before : List Declaration) → Made tables before → TablesAreGood (before ++ ds) → AreTablesOf (length tables + 1) ds rest
+    → tables_from tables ds ≡ Ok (record { tables = tables ++ rest })
+are_made [] [] tables before m g e = ap (λ l. Ok (record { tables = l })) (sym (append-nil tables))
+are_made [] (t ∷ rest) tables before m g e = absurd e
+are_made (d ∷ ds) [] tables before m g e = absurd e
+are_made (d ∷ ds) (t ∷ rest) tables before m g (is, e) =
+    let whole = subst TablesAreGood (sym (pushed before d ds)) g in
+    let next : next_table tables d ≡ Some t =
+    good_next tables before m (front_good before (d ∷ ds) g) d (front_good (before ++ d ∷ []) ds whole) ∙ table_is_made (length tables + 1) d t is in
+    ap (turned tables ds) next
+    ∙ are_made ds rest (tables ++ t ∷ []) (before ++ d ∷ []) (made_push tables before t d m is.named) whole (subst (λ k. AreTablesOf (k + 1) ds rest) (sym (pushed_length tables t)) e)
+    ∙ ap (λ l. Ok (record { tables = l })) (append_assoc tables (t ∷ []) rest)
+
 -- the first that makes none
 bad_number : (k n : ℕ) → ◌≡◌ {A = Result Schema SchemaFault} (Err (BadTable k)) (Err (BadTable n)) → k ≡ n
 bad_number k n e = ap number e
@@ -300,7 +328,7 @@ first_bad (d ∷ ds) tables before n m g e =
       place = refl;
       number = sym (bad_number (length tables + 1) n e) ∙ ap (λ k. k + 1) (made_length tables before m);
       good_before = g;
-      bad_here = λ h. let t = good_next tables before m g d h in some_is_none (sym t.1.0 ∙ at);
+      bad_here = λ h. let t = good_table tables before m g d h in some_is_none (sym t.1.0 ∙ at);
     }
       where
         some_is_none : {t : Table} → Some t ≡ None → ⊥
@@ -318,7 +346,7 @@ bad_first after d [] tables before m g bad = by_next (next_table tables d) refl
         absurd (bad (subst (λ l. TablesAreGood (l ++ d ∷ [])) (sym (append-nil before)) good.0))
 bad_first after d (e ∷ ds) tables before m g bad =
     let whole = subst TablesAreGood (sym (pushed before e ds)) g in
-    let t = good_next tables before m (front_good before (e ∷ ds) g) e (front_good (before ++ e ∷ []) ds whole) in
+    let t = good_table tables before m (front_good before (e ∷ ds) g) e (front_good (before ++ e ∷ []) ds whole) in
     let others = bad_first after d ds (tables ++ t.0 ∷ []) (before ++ e ∷ []) (made_push tables before t.0 e m t.1.1) whole (λ h. bad (subst (λ l. TablesAreGood (l ++ d ∷ [])) (pushed before e ds) h)) in
     ap (turned tables (ds ++ d ∷ after)) t.1.0 ∙ others ∙ ap (λ l. Err (BadTable (length l + 1))) (pushed before e ds)
 
@@ -328,8 +356,11 @@ none_good = record { few = omega arith; names_differ = apart_no_two Clash [] tt;
 pub good_tables : (ds : List Declaration) → ((schema : Schema) × (tables_from [] ds ≡ Ok schema)) ↔ TablesAreGood ds
 good_tables ds = (λ s. made_good ds [] [] s.0 refl none_good s.1, λ g. all_made ds [] [] refl g)
 
-pub all_tables : (ds : List Declaration) (schema : Schema) → tables_from [] ds ≡ Ok schema → AreTablesOf 1 ds schema.tables
-all_tables ds schema e = let r = tables_are ds [] [] schema refl none_good e in subst (AreTablesOf 1 ds) (sym r.whole) r.are
+pub exact_tables : (ds : List Declaration) (schema : Schema) → (tables_from [] ds ≡ Ok schema) ↔ (TablesAreGood ds × AreTablesOf 1 ds schema.tables)
+exact_tables ds schema = (there, λ e. are_made ds schema.tables [] [] refl e.0 e.1)
+  where
+    there : tables_from [] ds ≡ Ok schema → TablesAreGood ds × AreTablesOf 1 ds schema.tables
+    there e = let r = tables_are ds [] [] schema refl none_good e in (made_good ds [] [] schema refl none_good e, subst (AreTablesOf 1 ds) (sym r.whole) r.are)
 
 pub bad_tables : (ds : List Declaration) (n : ℕ) → (tables_from [] ds ≡ Err (BadTable n)) ↔ IsFirstBad ds n
 bad_tables ds n = (first_bad ds [] [] n refl none_good, back)

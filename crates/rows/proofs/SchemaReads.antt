@@ -11,10 +11,10 @@ use Rattle.rows.specs.SchemaTokens.{Read}
 use Rattle.rows.specs.SchemaSyntax.{creates_at}
 use Rattle.rows.specs.SchemaTables.{next_table, tables_from, read_schema}
 use Rattle.rows.specs.SchemaGrammar.{SchemaText}
-use Rattle.rows.specs.SchemaLaws.{HasSyntaxFault, OfTheGrammar, TheGrammarIsRead, TextsSayOneThing, OnlyTheGrammarIsRead, SaysGoodTables, OnlyGoodTablesAreRead}
+use Rattle.rows.specs.SchemaLaws.{HasSyntaxFault, OfTheGrammar, TheGrammarIsRead, TextsSayOneThing, OnlyTheGrammarIsRead, GoodTextsAreRead, SaysSchema, OnlySchemasAreRead}
 use Rattle.rows.proofs.SchemaSays.{of_the_grammar}
 use Rattle.rows.proofs.SchemaWhole.{text_read}
-use Rattle.rows.proofs.SchemaGood.{good_tables}
+use Rattle.rows.proofs.SchemaGood.{good_tables, exact_tables}
 
 short : (n : ℕ) → n ≤ 65536 → nat_lt 65536 n ≡ false
 short n h = grind (arith, nat_tests)
@@ -62,34 +62,31 @@ only text = (found, missed)
     missed (inl h) = (65536, ap (λ t. if t then Err (Syntax 65536) else read_as text (creates_at text)) (long (length text) h))
     missed (inr none) = elim (of_the_grammar text) [ inl fault ↦ fault | inr is ↦ absurd (none is.declarations is.spelled) ]
 
--- a schema is read from the texts that say good tables
-pub texts : OnlyGoodTablesAreRead
-texts text = (found, read_them)
+-- a schema is read from the texts that say its tables
+pub good_texts : GoodTextsAreRead
+good_texts text ds h spelled good = let made = (good_tables ds).1 good in (made.0, read text ds h spelled ∙ made.1)
+
+no_fault : (schema : Schema) (text : List ℕ) → read_schema text ≡ Ok schema → HasSyntaxFault (read_schema text) → ⊥
+no_fault schema text e fault = let clash : ◌≡◌ {A = Result Schema SchemaFault} (Ok schema) (Err (Syntax fault.0)) = sym e ∙ fault.1 in cc
+
+pub texts : OnlySchemasAreRead
+texts text schema = (found, λ s. read text s.declarations s.short s.spelled ∙ (exact_tables s.declarations schema).1 (s.good, s.tables))
   where
     at_most : nat_lt 65536 (length text) ≡ false → length text ≤ 65536
     at_most e = grind (arith, nat_tests)
 
-    found : (schema : Schema) × (read_schema text ≡ Ok schema) → SaysGoodTables text
-    found (schema, e) = by_grammar (of_the_grammar text)
+    beyond : nat_lt 65536 (length text) ≡ true → 65536 < length text
+    beyond q = grind (arith, nat_tests)
+
+    is_short : read_schema text ≡ Ok schema → (t : Bool) → nat_lt 65536 (length text) ≡ t → length text ≤ 65536
+    is_short e false q = at_most q
+    is_short e true q = absurd (no_fault schema text e ((only text).1 (inl (beyond q))))
+
+    found : read_schema text ≡ Ok schema → SaysSchema text schema
+    found e = by_grammar (of_the_grammar text)
       where
-        by_length : (t : Bool) → nat_lt 65536 (length text) ≡ t → t ≡ false
-        by_length false q = refl
-        by_length true q = let fault = (only text).1 (inl (beyond q)) in clash (sym e ∙ fault.1)
-          where
-            beyond : nat_lt 65536 (length text) ≡ true → 65536 < length text
-            beyond q = grind (arith, nat_tests)
-
-            clash : {at : ℕ} → ◌≡◌ {A = Result Schema SchemaFault} (Ok schema) (Err (Syntax at)) → true ≡ false
-            clash e = cc
-
-        by_grammar : HasSyntaxFault (read_schema text) ⊎ OfTheGrammar text (read_schema text) → SaysGoodTables text
-        by_grammar (inl fault) = let clash : ◌≡◌ {A = Result Schema SchemaFault} (Ok schema) (Err (Syntax fault.0)) = sym e ∙ fault.1 in cc
-        by_grammar (inr is) = record {
-          declarations = is.declarations;
-          short = at_most (by_length (nat_lt 65536 (length text)) refl);
-          spelled = is.spelled;
-          good = (good_tables is.declarations).0 (schema, sym is.decided ∙ e);
-        }
-
-    read_them : SaysGoodTables text → (schema : Schema) × (read_schema text ≡ Ok schema)
-    read_them s = let made = (good_tables s.declarations).1 s.good in (made.0, read text s.declarations s.short s.spelled ∙ made.1)
+        by_grammar : HasSyntaxFault (read_schema text) ⊎ OfTheGrammar text (read_schema text) → SaysSchema text schema
+        by_grammar (inl fault) = absurd (no_fault schema text e fault)
+        by_grammar (inr is) =
+            let exact = (exact_tables is.declarations schema).0 (sym is.decided ∙ e) in
+            record { declarations = is.declarations; short = is_short e (nat_lt 65536 (length text)) refl; spelled = is.spelled; good = exact.0; tables = exact.1 }

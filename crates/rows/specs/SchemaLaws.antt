@@ -46,19 +46,24 @@ TextsSayOneThing = (text : List ℕ) (these those : List Declaration) → Schema
 abbrev pub OnlyTheGrammarIsRead : Type 0
 OnlyTheGrammarIsRead = (text : List ℕ) → HasSyntaxFault (read_schema text) ↔ ((65536 < length text) ⊎ ((declarations : List Declaration) → SchemaText declarations text → ⊥))
 
--- declarations make a schema where they are good tables, and else the first bad one is told
+-- declarations make a schema where they are good tables, and it has those; else the first bad one is told
 pub record GoodTablesAreMade : Type 0 where
   pub good : (declarations : List Declaration) → ((schema : Schema) × (tables_from [] declarations ≡ Ok schema)) ↔ TablesAreGood declarations
-  pub tables : (declarations : List Declaration) (schema : Schema) → tables_from [] declarations ≡ Ok schema → AreTablesOf 1 declarations schema.tables
+  pub exactly : (declarations : List Declaration) (schema : Schema) → (tables_from [] declarations ≡ Ok schema) ↔ (TablesAreGood declarations × AreTablesOf 1 declarations schema.tables)
   pub bad : (declarations : List Declaration) (n : ℕ) → (tables_from [] declarations ≡ Err (BadTable n)) ↔ IsFirstBad declarations n
 
--- a text of at most 65,536 bytes that says good tables
-pub record SaysGoodTables (text : List ℕ) : Type 0 where
+-- a text of at most 65,536 bytes that says good tables, and a schema that has them
+pub record SaysSchema (text : List ℕ) (schema : Schema) : Type 0 where
   pub declarations : List Declaration
   pub short : length text ≤ 65536
   pub spelled : SchemaText declarations text
   pub good : TablesAreGood declarations
+  pub tables : AreTablesOf 1 declarations schema.tables
 
--- a schema is read exactly from those texts
-abbrev pub OnlyGoodTablesAreRead : Type 0
-OnlyGoodTablesAreRead = (text : List ℕ) → ((schema : Schema) × (read_schema text ≡ Ok schema)) ↔ SaysGoodTables text
+-- a schema is read exactly from the texts that say it
+abbrev pub OnlySchemasAreRead : Type 0
+OnlySchemasAreRead = (text : List ℕ) (schema : Schema) → (read_schema text ≡ Ok schema) ↔ SaysSchema text schema
+
+-- every text that says good tables says a schema
+abbrev pub GoodTextsAreRead : Type 0
+GoodTextsAreRead = (text : List ℕ) (declarations : List Declaration) → length text ≤ 65536 → SchemaText declarations text → TablesAreGood declarations → (schema : Schema) × (read_schema text ≡ Ok schema)

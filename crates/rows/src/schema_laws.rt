@@ -1,4 +1,4 @@
-ghost use Rattle.rows.specs.SchemaLaws.{SampleIsRead, WhatIsReadIsOfTheGrammar, TokensAreRead, TheGrammarIsRead, TextsSayOneThing, OnlyTheGrammarIsRead, GoodTablesAreMade, OnlyGoodTablesAreRead};
+ghost use Rattle.rows.specs.SchemaLaws.{SampleIsRead, WhatIsReadIsOfTheGrammar, TokensAreRead, TheGrammarIsRead, TextsSayOneThing, OnlyTheGrammarIsRead, GoodTablesAreMade, OnlySchemasAreRead, GoodTextsAreRead};
 
 use crate::schema_reading::SAMPLE;
 
@@ -20,8 +20,9 @@ pub fn the_grammar_is_read()
     ensures only { OnlyTheGrammarIsRead }
 {}
 
-/// Declarations make tables where they are good ones, told by counts and by names that differ, and where not the first bad one is told.
+/// Declarations make tables where they are good ones, told by counts and by names that differ, and where not the first bad one is told. A schema is read from exactly the texts that say it.
 pub fn good_tables_are_made()
     ensures tables { GoodTablesAreMade }
-    ensures texts { OnlyGoodTablesAreRead }
+    ensures texts { OnlySchemasAreRead }
+    ensures good_texts { GoodTextsAreRead }
 {}
