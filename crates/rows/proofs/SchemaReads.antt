@@ -2,6 +2,7 @@
 use Rattle.std.proofs.Common.{◌≡◌, ◌<◌, ◌≤◌, ◌⊎◌, ◌-◌, ℕ, Bool, true, false, List, [], ◌∷◌, ◌++◌, ◌+◌, Option, Some, None, length, Ok, Err, inl, inr, refl, ap, sym, ◌∙◌, arith, nat_lt, if◌then◌else◌}
 use Rattle.std.specs.Prelude.{Result}
 use Rattle.std.proofs.lemmas.Bool.Decides.{nat_tests}
+use Rattle.std.proofs.lemmas.List.{length-append}
 use Rattle.rows.specs.declared.tables.Schema.{Schema}
 use Rattle.rows.specs.declared.tables.Table.{Table}
 use Rattle.rows.specs.declared.declarations.Declaration.{Declaration}
@@ -11,9 +12,10 @@ use Rattle.rows.specs.SchemaTokens.{Read}
 use Rattle.rows.specs.SchemaSyntax.{creates_at}
 use Rattle.rows.specs.SchemaTables.{next_table, tables_from, read_schema}
 use Rattle.rows.specs.SchemaGrammar.{SchemaText}
-use Rattle.rows.specs.SchemaLaws.{HasSyntaxFault, OfTheGrammar, TheGrammarIsRead, TextsSayOneThing, OnlyTheGrammarIsRead, GoodTextsAreRead, SaysSchema, OnlySchemasAreRead}
+use Rattle.rows.specs.SchemaLaws.{HasSyntaxFault, OfTheGrammar, TheGrammarIsRead, TextsSayOneThing, OnlyTheGrammarIsRead, TokenAt, FaultsAreAtTokens, GoodTextsAreRead, SaysSchema, OnlySchemasAreRead}
 use Rattle.rows.proofs.SchemaSays.{of_the_grammar}
 use Rattle.rows.proofs.SchemaWhole.{text_read}
+use Rattle.rows.proofs.SchemaStops.{creates_stop}
 use Rattle.rows.proofs.SchemaGood.{good_tables, exact_tables}
 
 short : (n : ℕ) → n ≤ 65536 → nat_lt 65536 n ≡ false
@@ -90,3 +92,21 @@ texts text schema = (found, λ s. read text s.declarations s.short s.spelled ∙
         by_grammar (inr is) =
             let exact = (exact_tables is.declarations schema).0 (sym is.decided ∙ e) in
             record { declarations = is.declarations; short = is_short e (nat_lt 65536 (length text)) refl; spelled = is.spelled; good = exact.0; tables = exact.1 }
+
+-- the byte of a fault of syntax
+pub at_tokens : FaultsAreAtTokens
+unfolding read_schema
+at_tokens text n h e = by_reading (creates_at text) refl (sym (ap (λ t. if t then Err (Syntax 65536) else read_as text (creates_at text)) (short (length text) h)) ∙ e)
+  where
+    number : Result Schema SchemaFault → ℕ
+    number (Err (Syntax k)) = k
+    number _ = n
+
+    told : (at front : List ℕ) → length text ≡ length (front ++ at) → length text - length at ≡ n → n ≡ length front
+    told at front whole e = omega (arith, whole, e, length-append front at)
+
+    by_reading : (r : Read (List Declaration)) → creates_at text ≡ r → read_as text r ≡ Err (Syntax n) → TokenAt text n
+    by_reading (Ok ds) at e = absurd (no_syntax ds.0 [] n e)
+    by_reading (Err at) is e =
+        let p = (creates_stop text).stopped at is in
+        record { before = p.0.front; from = at; place = p.0.place; counted = told at p.0.front (ap length p.0.place) (ap number e); begins = p.1 }

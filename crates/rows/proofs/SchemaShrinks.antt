@@ -42,7 +42,7 @@ some_letters (b ∷ bs) e = omega arith
 pub spelled_letters : (word name : List ℕ) → 0 < length word → map to_ascii_uppercase name ≡ word → 0 < length name
 spelled_letters word name some e = omega (arith, some, ap length e, length-map name to_ascii_uppercase)
 
-name_takes : Takes Name
+pub name_takes : Takes Name
 name_takes = record { below = λ name bytes rest n. omega (arith, letters_left name bytes rest n.letters, some_letters name n.fits) }
 
 word_takes : (word : List ℕ) → 0 < length word → Takes (Word word)
@@ -172,7 +172,7 @@ versioning_keeps : Keeps Versioning
 versioning_keeps =
     then_keep _ _ (word_keeps (codes "WITH") (lit< tt)) (λ a. then_keep _ _ (word_keeps (codes "SYSTEM") (lit< tt)) (λ b. word_keeps (codes "VERSIONING") (lit< tt)))
 
-create_takes : Takes CreateText
+pub create_takes : Takes CreateText
 create_takes =
     then_take _ _ (word_takes (codes "CREATE") (lit< tt))
     (λ a. then_keep _ _ (word_keeps (codes "TABLE") (lit< tt)) (λ b. then_keep _ _ (takes_keep _ name_takes) (λ name. then_keep _ _ body_keeps (λ entries. then_keep _ _ versioning_keeps (λ e. just_keeps _)))))

@@ -1,5 +1,5 @@
 -- What the reading of schemas amounts to.
-use Rattle.std.specs.Prelude.{◌≡◌, ℕ, ◌<◌, ◌≤◌, List, [], ◌⊎◌, ◌↔◌, Result, Ok, Err, length}
+use Rattle.std.specs.Prelude.{◌≡◌, ℕ, ◌<◌, ◌≤◌, List, [], ◌++◌, ◌⊎◌, ◌↔◌, Result, Ok, Err, length}
 use Rattle.rows.specs.declared.tables.Schema.{Schema}
 use Rattle.rows.specs.Sample.{sample}
 use Rattle.rows.specs.declared.schema_reading.SchemaFault.{SchemaFault}
@@ -7,7 +7,7 @@ use Rattle.rows.specs.declared.schema_reading.SchemaFault.TheVariants.{Syntax, B
 use Rattle.rows.specs.declared.declarations.Declaration.{Declaration}
 use Rattle.rows.specs.SchemaTables.{tables_from, read_schema}
 use Rattle.rows.specs.SchemaTokens.{symbol_at, word_at, name_at, digits_at}
-use Rattle.rows.specs.SchemaGrammar.{Symbol, Word, Name, Digits, SchemaText}
+use Rattle.rows.specs.SchemaGrammar.{BeginsToken, Symbol, Word, Name, Digits, SchemaText}
 use Rattle.rows.specs.GoodTables.{TablesAreGood, AreTablesOf, IsFirstBad}
 
 -- the sample schema is what the text says
@@ -45,6 +45,18 @@ TextsSayOneThing = (text : List ℕ) (these those : List Declaration) → Schema
 -- a fault of syntax is found where the text is too long or says nothing, and nowhere else
 abbrev pub OnlyTheGrammarIsRead : Type 0
 OnlyTheGrammarIsRead = (text : List ℕ) → HasSyntaxFault (read_schema text) ↔ ((65536 < length text) ⊎ ((declarations : List Declaration) → SchemaText declarations text → ⊥))
+
+-- at the byte a token begins, or the text ends
+pub record TokenAt (text : List ℕ) (n : ℕ) : Type 0 where
+  pub before : List ℕ
+  pub from : List ℕ
+  pub place : text ≡ before ++ from
+  pub counted : n ≡ length before
+  pub begins : BeginsToken from
+
+-- a fault of syntax in a text that is short enough is told at a token or at the end
+abbrev pub FaultsAreAtTokens : Type 0
+FaultsAreAtTokens = (text : List ℕ) (n : ℕ) → length text ≤ 65536 → read_schema text ≡ Err (Syntax n) → TokenAt text n
 
 -- declarations make a schema where they are good tables, and it has those; else the first bad one is told
 pub record GoodTablesAreMade : Type 0 where
