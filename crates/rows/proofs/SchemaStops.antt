@@ -1,15 +1,13 @@
 -- Where reading stops, a token begins or the text ends.
-use Rattle.std.proofs.Common.{◌≡◌, ℕ, ◌+◌, ◌-◌, ◌≤◌, ◌<◌, ◌⊎◌, inl, inr, Bool, true, false, List, [], ◌∷◌, ◌++◌, Option, Some, None, Ok, Err, length, refl, sym, subst, ap, ◌∙◌, arith, if◌then◌else◌, suc, zero}
+use Rattle.std.proofs.Common.{◌≡◌, ℕ, ◌≤◌, ◌<◌, Bool, true, false, List, [], ◌∷◌, ◌++◌, Option, Some, None, Ok, Err, length, refl, sym, subst, ap, ◌∙◌, arith, if◌then◌else◌, suc, zero}
 use Rattle.std.specs.Prelude.{codes, not}
 use Rattle.std.proofs.lemmas.List.{length-append, append_assoc, append-nil}
-use Rattle.rows.specs.declared.tables.ColumnType.{ColumnType}
 use Rattle.rows.specs.declared.tables.ColumnType.TheVariants.{Varchar}
-use Rattle.rows.specs.declared.declarations.Declaration.{Declaration}
 use Rattle.rows.specs.SchemaTokens as tokens
 use Rattle.rows.specs.SchemaTokens.{Read, is_name_byte, next, skip_while, front_while, after_symbol, symbol_at, is_word_at, after_word, word_at, is_name, name_at, begins_with_digit, number_from, digits_at}
 use Rattle.std.specs.Char.{is_ascii_digit}
 use Rattle.rows.specs.SchemaSyntax.{joined, listed, names_at, size_at, is_whole_number_at, varchar_at, type_at, not_null_at, primary_key_at, mark_at, is_mark_at, marks_upto, marks_at, user_at, precision_at, maybe_not_null_at, side_at, row_side_at, generated_at, two_names_at, period_at, key_at, column_at, entry_at, entries_at, body_at, versioning_at, create_at, is_end_at, more_at, creates_upto, creates_at}
-use Rattle.rows.specs.SchemaGrammar.{Says, Piece, blank, comment, last_comment, Gap, BeginsToken, IsNext, Symbol, Name, EntryText, CreateText}
+use Rattle.rows.specs.SchemaGrammar.{Says, Piece, blank, comment, last_comment, Gap, BeginsToken, Name, EntryText}
 use Rattle.rows.proofs.SchemaFronts.{front-skip}
 use Rattle.rows.proofs.SchemaSpelled.{next_is, symbol_next, name_says}
 use Rattle.rows.proofs.SchemaSays.{entry_says, create_says}
