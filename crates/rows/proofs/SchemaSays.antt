@@ -381,7 +381,7 @@ column_says x bytes rest e =
       ),
     )
 
-entry_says : (x : Entry) (bytes rest : List ℕ) → entry_at bytes ≡ Ok (x, rest) → EntryText x bytes rest
+pub entry_says : (x : Entry) (bytes rest : List ℕ) → entry_at bytes ≡ Ok (x, rest) → EntryText x bytes rest
 unfolding entry_at
 entry_says x bytes rest e = elim (either (is_word_at (codes "PERIOD") bytes) _ _ _ e) [
   | inl w ↦ inl (inl (period_says x bytes rest w.1))
@@ -435,7 +435,7 @@ versioning_says x bytes rest e =
       ),
     )
 
-create_says : (d : Declaration) (bytes rest : List ℕ) → create_at bytes ≡ Ok (d, rest) → CreateText d bytes rest
+pub create_says : (d : Declaration) (bytes rest : List ℕ) → create_at bytes ≡ Ok (d, rest) → CreateText d bytes rest
 unfolding create_at
 create_says d bytes rest e =
     let a = step (word_at (codes "CREATE") bytes) _ d rest e in

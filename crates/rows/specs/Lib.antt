@@ -15,6 +15,7 @@ pub mod SchemaTokens
 pub mod SchemaSyntax
 pub mod SchemaTables
 pub mod SchemaGrammar
+pub mod GoodTables
 pub mod Sample
 pub mod SchemaLaws
 pub mod Laws

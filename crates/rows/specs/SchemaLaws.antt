@@ -1,13 +1,14 @@
 -- What the reading of schemas amounts to.
-use Rattle.std.specs.Prelude.{◌≡◌, ℕ, List, [], ◌⊎◌, ◌↔◌, Result, Ok, Err}
+use Rattle.std.specs.Prelude.{◌≡◌, ℕ, ◌<◌, ◌≤◌, List, [], ◌++◌, ◌⊎◌, ◌↔◌, Result, Ok, Err, length}
 use Rattle.rows.specs.Tables.{Schema}
 use Rattle.rows.specs.Sample.{sample}
 use Rattle.rows.specs.declared.schema_reading.SchemaFault.{SchemaFault}
-use Rattle.rows.specs.declared.schema_reading.SchemaFault.TheVariants.{Syntax}
+use Rattle.rows.specs.declared.schema_reading.SchemaFault.TheVariants.{Syntax, BadTable}
 use Rattle.rows.specs.declared.declarations.Declaration.{Declaration}
 use Rattle.rows.specs.SchemaTables.{tables_from, read_schema}
 use Rattle.rows.specs.SchemaTokens.{symbol_at, word_at, name_at, digits_at}
-use Rattle.rows.specs.SchemaGrammar.{Symbol, Word, Name, Digits, SchemaText}
+use Rattle.rows.specs.SchemaGrammar.{BeginsToken, Symbol, Word, Name, Digits, SchemaText}
+use Rattle.rows.specs.GoodTables.{TablesAreGood, AreTablesOf, IsFirstBad}
 
 -- the sample schema is what the text says
 abbrev pub SampleIsRead : List ℕ → Type 0
@@ -32,3 +33,49 @@ pub record TokensAreRead : Type 0 where
   pub words : (word : List ℕ) (x : Unit {0}) (bytes rest : List ℕ) → (word_at word bytes ≡ Ok (x, rest)) ↔ Word word x bytes rest
   pub names : (name bytes rest : List ℕ) → (name_at bytes ≡ Ok (name, rest)) ↔ Name name bytes rest
   pub digits : (n : ℕ) (bytes rest : List ℕ) → (digits_at bytes ≡ Ok (n, rest)) ↔ Digits n bytes rest
+
+-- every text of the grammar that is short enough is read, as what it says
+abbrev pub TheGrammarIsRead : Type 0
+TheGrammarIsRead = (text : List ℕ) (declarations : List Declaration) → length text ≤ 65536 → SchemaText declarations text → read_schema text ≡ tables_from [] declarations
+
+-- no text says two things
+abbrev pub TextsSayOneThing : Type 0
+TextsSayOneThing = (text : List ℕ) (these those : List Declaration) → SchemaText these text → SchemaText those text → these ≡ those
+
+-- a fault of syntax is found where the text is too long or says nothing, and nowhere else
+abbrev pub OnlyTheGrammarIsRead : Type 0
+OnlyTheGrammarIsRead = (text : List ℕ) → HasSyntaxFault (read_schema text) ↔ ((65536 < length text) ⊎ ((declarations : List Declaration) → SchemaText declarations text → ⊥))
+
+-- at the byte a token begins, or the text ends
+pub record TokenAt (text : List ℕ) (n : ℕ) : Type 0 where
+  pub before : List ℕ
+  pub from : List ℕ
+  pub place : text ≡ before ++ from
+  pub counted : n ≡ length before
+  pub begins : BeginsToken from
+
+-- a fault of syntax in a text that is short enough is told at a token or at the end
+abbrev pub FaultsAreAtTokens : Type 0
+FaultsAreAtTokens = (text : List ℕ) (n : ℕ) → length text ≤ 65536 → read_schema text ≡ Err (Syntax n) → TokenAt text n
+
+-- declarations make a schema where they are good tables, and it has those; else the first bad one is told
+pub record GoodTablesAreMade : Type 0 where
+  pub good : (declarations : List Declaration) → ((schema : Schema) × (tables_from [] declarations ≡ Ok schema)) ↔ TablesAreGood declarations
+  pub exactly : (declarations : List Declaration) (schema : Schema) → (tables_from [] declarations ≡ Ok schema) ↔ (TablesAreGood declarations × AreTablesOf 1 declarations schema.tables)
+  pub bad : (declarations : List Declaration) (n : ℕ) → (tables_from [] declarations ≡ Err (BadTable n)) ↔ IsFirstBad declarations n
+
+-- a text of at most 65,536 bytes that says good tables, and a schema that has them
+pub record SaysSchema (text : List ℕ) (schema : Schema) : Type 0 where
+  pub declarations : List Declaration
+  pub short : length text ≤ 65536
+  pub spelled : SchemaText declarations text
+  pub good : TablesAreGood declarations
+  pub tables : AreTablesOf 1 declarations schema.tables
+
+-- a schema is read exactly from the texts that say it
+abbrev pub OnlySchemasAreRead : Type 0
+OnlySchemasAreRead = (text : List ℕ) (schema : Schema) → (read_schema text ≡ Ok schema) ↔ SaysSchema text schema
+
+-- every text that says good tables says a schema
+abbrev pub GoodTextsAreRead : Type 0
+GoodTextsAreRead = (text : List ℕ) (declarations : List Declaration) → length text ≤ 65536 → SchemaText declarations text → TablesAreGood declarations → (schema : Schema) × (read_schema text ≡ Ok schema)

@@ -42,7 +42,9 @@ pub use queries::{
 pub use refusals::{Mem, Refusal};
 pub use row_encoding::{read_row, row_bytes};
 pub use row_laws::{bytes_stand_for_rows, fitting_rows_have_bytes};
-pub use schema_laws::{sample_is_a_schema, schemas_are_of_the_grammar};
+pub use schema_laws::{
+    good_tables_are_made, sample_is_a_schema, schemas_are_of_the_grammar, the_grammar_is_read,
+};
 pub use schema_reading::{SAMPLE, SchemaFault};
 pub use schema_tokens::is_reserved;
 pub use sequences::Sequence;

@@ -1,0 +1,194 @@
+-- Which declarations are good tables: by what stands once, what stands twice, and how many there are.
+use Rattle.std.specs.Prelude.{◌≡◌, ℕ, ◌+◌, ◌≤◌, ◌↔◌, List, [], ◌∷◌, ◌++◌, Bool, true, false, Option, Some, None, length, map}
+use Rattle.std.specs.List.{count_by}
+use Rattle.std.specs.Char.{to_ascii_lowercase}
+use Rattle.rows.specs.declared.tables.ColumnType.{ColumnType}
+use Rattle.rows.specs.declared.tables.ColumnType.TheVariants.{Varchar}
+use Rattle.rows.specs.declared.tables.Column.{Column}
+use Rattle.rows.specs.declared.tables.Table.{Table}
+use Rattle.rows.specs.declared.declarations.Mark.TheVariants.{NotNull, PrimaryKey}
+use Rattle.rows.specs.declared.declarations.Side.{Side}
+use Rattle.rows.specs.declared.declarations.Side.TheVariants.{Start, End}
+use Rattle.rows.specs.declared.declarations.UserColumn.{UserColumn}
+use Rattle.rows.specs.declared.declarations.GeneratedColumn.{GeneratedColumn}
+use Rattle.rows.specs.declared.declarations.PeriodNames.{PeriodNames}
+use Rattle.rows.specs.declared.declarations.Entry.{Entry}
+use Rattle.rows.specs.declared.declarations.Entry.TheVariants.{User, Generated, Period, Key}
+use Rattle.rows.specs.declared.declarations.Declaration.{Declaration}
+
+-- every element is so
+abbrev pub Each : {A : Type 0} → (A → Type 0) → List A → Type 0
+Each P [] = Unit {0}
+Each P (x ∷ xs) = P x × Each P xs
+
+-- the element stands somewhere in the list
+abbrev pub Stands : {A : Type 0} → A → List A → Type 0
+Stands {A = A} x xs = (before : List A) × ((after : List A) × (xs ≡ before ++ x ∷ after))
+
+-- this element is so, and no other is
+pub record IsTheOne {A : Type 0} (P : A → Type 0) (x : A) (xs : List A) : Type 0 where
+  pub before : List A
+  pub after : List A
+  pub place : xs ≡ before ++ x ∷ after
+  pub is_so : P x
+  pub none_before : Each (λ y. P y → ⊥) before
+  pub none_after : Each (λ y. P y → ⊥) after
+
+-- no two of the elements, at two places, stand so to one another
+abbrev pub NoTwo : {A : Type 0} → (A → A → Type 0) → List A → Type 0
+NoTwo {A = A} R xs = (before between after : List A) (x y : A) → xs ≡ before ++ x ∷ (between ++ y ∷ after) → R x y → ⊥
+
+-- names are the same in any case
+abbrev pub SameName : List ℕ → List ℕ → Type 0
+SameName a b = map to_ascii_lowercase a ≡ map to_ascii_lowercase b
+
+abbrev pub is_user : Entry → Bool
+is_user (User c) = true
+is_user (Generated g) = false
+is_user (Period p) = false
+is_user (Key names) = false
+
+-- a ROW START or a ROW END column
+abbrev pub IsGenerated : Side → Entry → Type 0
+IsGenerated side (Generated g) = g.side ≡ side
+IsGenerated side (User c) = ⊥
+IsGenerated side (Period p) = ⊥
+IsGenerated side (Key names) = ⊥
+
+abbrev pub IsPeriod : Entry → Type 0
+IsPeriod (Period p) = Unit {0}
+IsPeriod (User c) = ⊥
+IsPeriod (Generated g) = ⊥
+IsPeriod (Key names) = ⊥
+
+-- a key is given by a clause, and by each PRIMARY KEY that marks a column
+abbrev pub GivesKeys : Entry → Type 0
+GivesKeys (Key names) = Unit {0}
+GivesKeys (User c) = Stands PrimaryKey c.marks
+GivesKeys (Generated g) = ⊥
+GivesKeys (Period p) = ⊥
+
+abbrev pub GivesOneKey : Entry → List (List ℕ) → Type 0
+GivesOneKey (Key names) key = names ≡ key
+GivesOneKey (User c) key = (c.name ∷ [] ≡ key) × IsTheOne (λ mark. mark ≡ PrimaryKey) PrimaryKey c.marks
+GivesOneKey (Generated g) key = ⊥
+GivesOneKey (Period p) key = ⊥
+
+-- the column is declared under the name
+abbrev pub Declares : Entry → List ℕ → Type 0
+Declares (User c) name = c.name ≡ name
+Declares (Generated g) name = g.name ≡ name
+Declares (Period p) name = ⊥
+Declares (Key names) name = ⊥
+
+-- two columns of one name
+abbrev pub ShareAName : Entry → Entry → Type 0
+ShareAName e f = (a : List ℕ) × ((b : List ℕ) × (Declares e a × (Declares f b × SameName a b)))
+
+-- a user column has the name
+abbrev pub HasUserColumn : List Entry → List ℕ → Type 0
+HasUserColumn entries name = (c : UserColumn) × (Stands (User c) entries × SameName c.name name)
+
+-- VARCHAR has 1 to 1,000 characters
+abbrev pub TypeIsGood : ColumnType → Type 0
+TypeIsGood (Varchar n) = (1 ≤ n) × (n ≤ 1000)
+TypeIsGood _ = Unit {0}
+
+-- TIMESTAMP has at most 12 digits
+abbrev pub DigitsAreGood : Option ℕ → Type 0
+DigitsAreGood None = Unit {0}
+DigitsAreGood (Some n) = n ≤ 12
+
+-- what stands in one entry: its number in range, and NOT NULL not repeated
+abbrev pub EntryIsGood : Entry → Type 0
+EntryIsGood (User c) = TypeIsGood c.of × NoTwo (λ a b. (a ≡ NotNull) × (b ≡ NotNull)) c.marks
+EntryIsGood (Generated g) = DigitsAreGood g.digits × (g.not_null_before ≡ true → g.not_null_after ≡ true → ⊥)
+EntryIsGood (Period p) = Unit {0}
+EntryIsGood (Key names) = Unit {0}
+
+-- a declaration that makes a table, but for the other tables
+pub record TableIsGood (d : Declaration) : Type 0 where
+  pub start : GeneratedColumn
+  pub end : GeneratedColumn
+  pub period : PeriodNames
+  pub giver : Entry
+  pub key : List (List ℕ)
+  pub one_start : IsTheOne (IsGenerated Start) (Generated start) d.entries
+  pub one_end : IsTheOne (IsGenerated End) (Generated end) d.entries
+  pub one_period : IsTheOne IsPeriod (Period period) d.entries
+  pub period_from_start : SameName start.name period.start
+  pub period_to_end : SameName end.name period.end
+  pub one_giver : IsTheOne GivesKeys giver d.entries
+  pub one_key : GivesOneKey giver key
+  -- the grammar gives it one name at least
+  pub few_in_key : length key ≤ 4
+  pub key_differs : NoTwo SameName key
+  pub key_of_columns : Each (HasUserColumn d.entries) key
+  pub some_columns : 1 ≤ count_by is_user d.entries
+  pub few_columns : count_by is_user d.entries ≤ 16
+  pub columns_differ : NoTwo ShareAName d.entries
+  pub entries_are_good : Each EntryIsGood d.entries
+
+-- a user column as it is declared, which takes no NULL where a mark says so
+pub record IsColumnOf (u : UserColumn) (c : Column) : Type 0 where
+  pub named : c.name ≡ u.name
+  pub of_type : c.of ≡ u.of
+  pub marked : (c.not_null ≡ true) ↔ Stands NotNull u.marks
+
+-- the user columns in the order in which they stand, the period columns left out
+abbrev pub AreColumnsOf : List Entry → List Column → Type 0
+AreColumnsOf [] [] = Unit {0}
+AreColumnsOf [] (c ∷ cs) = ⊥
+AreColumnsOf (User u ∷ entries) [] = ⊥
+AreColumnsOf (User u ∷ entries) (c ∷ cs) = IsColumnOf u c × AreColumnsOf entries cs
+AreColumnsOf (Generated g ∷ entries) cs = AreColumnsOf entries cs
+AreColumnsOf (Period p ∷ entries) cs = AreColumnsOf entries cs
+AreColumnsOf (Key names ∷ entries) cs = AreColumnsOf entries cs
+
+-- the column with a number, from 1, has the name
+pub record IsNumberOf (columns : List Column) (name : List ℕ) (number : ℕ) : Type 0 where
+  pub before : List Column
+  pub column : Column
+  pub after : List Column
+  pub place : columns ≡ before ++ column ∷ after
+  pub counted : number ≡ length before + 1
+  pub named : SameName column.name name
+
+abbrev pub AreNumbersOf : List Column → List (List ℕ) → List ℕ → Type 0
+AreNumbersOf columns [] [] = Unit {0}
+AreNumbersOf columns [] (number ∷ numbers) = ⊥
+AreNumbersOf columns (name ∷ names) [] = ⊥
+AreNumbersOf columns (name ∷ names) (number ∷ numbers) = IsNumberOf columns name number × AreNumbersOf columns names numbers
+
+-- the table that a good declaration makes
+pub record IsTableOf (d : Declaration) (number : ℕ) (t : Table) : Type 0 where
+  pub good : TableIsGood d
+  pub numbered : t.number ≡ number
+  pub named : t.name ≡ d.name
+  pub columns_are : AreColumnsOf d.entries t.columns
+  pub key_is : AreNumbersOf t.columns good.key t.key
+  pub starts : t.row_start ≡ good.start.name
+  pub ends : t.row_end ≡ good.end.name
+
+-- the tables in order, numbered from this number on
+abbrev pub AreTablesOf : ℕ → List Declaration → List Table → Type 0
+AreTablesOf number [] [] = Unit {0}
+AreTablesOf number [] (t ∷ ts) = ⊥
+AreTablesOf number (d ∷ ds) [] = ⊥
+AreTablesOf number (d ∷ ds) (t ∷ ts) = IsTableOf d number t × AreTablesOf (number + 1) ds ts
+
+-- declarations that make tables beside one another
+pub record TablesAreGood (ds : List Declaration) : Type 0 where
+  pub few : length ds ≤ 16
+  pub names_differ : NoTwo (λ d e. SameName d.name e.name) ds
+  pub tables_are_good : Each TableIsGood ds
+
+-- the first of them that makes none
+pub record IsFirstBad (ds : List Declaration) (n : ℕ) : Type 0 where
+  pub before : List Declaration
+  pub bad : Declaration
+  pub after : List Declaration
+  pub place : ds ≡ before ++ bad ∷ after
+  pub number : n ≡ length before + 1
+  pub good_before : TablesAreGood before
+  pub bad_here : TablesAreGood (before ++ bad ∷ []) → ⊥
