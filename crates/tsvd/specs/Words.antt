@@ -1,5 +1,5 @@
 -- The words of the command line, as clap's exact matches and faults of a command give them.
-use Rattle.std.specs.Prelude.{◌≡◌, ℕ, List, [], Option, Some, codes, option_map, true, ⊤}
+use Rattle.std.specs.Prelude.{◌≡◌, List, [], Option, Some, codes, option_map, true, ⊤}
 use Rattle.clap.specs.Words.{App, IsAmong, Kinds, Rule, Text, fault_of, first_of, kind_of, matches_of, new_app, new_rule, with_rule}
 use Rattle.tsvd.specs.declared.words.Options.{Options}
 use Rattle.tsvd.specs.declared.words.WordsFault.{WordsFault}
