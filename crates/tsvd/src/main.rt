@@ -1,13 +1,18 @@
 //! The program `tsvd`: system-versioned tables from the command line.
 #![tactic(auto)]
 
+mod faults;
 mod program;
+mod schemas;
 #[cfg(test)]
 mod tests;
+mod words;
 
-use crate::program::{FAULT, program};
+use crate::faults::{Fault, tell};
+use crate::program::program;
+use crate::words::WordsFault;
 use std::env;
-use std::io::BufWriter;
+use std::io::{BufWriter, ErrorKind};
 use std::process::ExitCode;
 
 fn main(rt: HostRuntime) -> ExitCode {
@@ -16,18 +21,12 @@ fn main(rt: HostRuntime) -> ExitCode {
 
 /// Runs the program on the process's words and standard streams, and gives its status. Output is held back until a reply is whole.
 fn status(rt: &HostRuntime) -> u8 {
-    let alloc = rt.alloc();
-    let Ok(arguments) = env::args(rt) else {
-        return FAULT;
+    let words = match words_after_the_name(rt) {
+        Ok(words) => words,
+        Err(fault) => return tell(&mut rt.stderr(), &fault),
     };
-    let mut words = Vec::new(alloc);
-    for argument in arguments.skip(1) {
-        if words.push(argument).is_err() {
-            return FAULT;
-        }
-    }
-    let Ok(mut out) = BufWriter::new(alloc, rt.stdout()) else {
-        return FAULT;
+    let Ok(mut out) = BufWriter::new(rt.alloc(), rt.stdout()) else {
+        return tell(&mut rt.stderr(), &Fault::Memory);
     };
     program(
         rt,
@@ -36,4 +35,22 @@ fn status(rt: &HostRuntime) -> u8 {
         &mut out,
         &mut rt.stderr(),
     )
+}
+
+/// The process's words after the program's name.
+fn words_after_the_name(rt: &HostRuntime) -> Result<Vec<String>, Fault> {
+    let arguments = match env::args(rt) {
+        Ok(arguments) => arguments,
+        Err(error) if error.kind() == ErrorKind::InvalidData => {
+            return Err(Fault::Words(WordsFault::Words));
+        }
+        Err(_) => return Err(Fault::Memory),
+    };
+    let mut words = Vec::new(rt.alloc());
+    for argument in arguments.skip(1) {
+        if words.push(argument).is_err() {
+            return Err(Fault::Memory);
+        }
+    }
+    Ok(words)
 }

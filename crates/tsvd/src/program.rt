@@ -1,62 +1,89 @@
 //! What the program does with its words and streams.
-ghost use Rattle.std.specs.Prelude.{◌≡◌, ◌≢◌, ◌≤◌, [], IfSome, length};
-ghost use Rattle.rows.specs.Sample.{sample};
-ghost use Rattle.statement.specs.Lines.{line_says};
-ghost use Rattle.statement.specs.Transcript.{IsTranscript};
+ghost use Rattle.std.specs.Prelude.{◌≡◌, ◌≤◌, ◌⊎◌, IfErr, OnOk, is_ok, map, option_map, true, false};
+ghost use Rattle.rows.specs.declared.tables.Schema.{Schema};
+ghost use Rattle.tsvd.specs.Runs.{HasRun, HasStopped, IsDone, IsFaulty, IsIdle, IsRefused};
+ghost use Rattle.tsvd.specs.Faults.{is_of_words};
 
-use interleaving::{RunFault, run_script};
+use crate::faults::{FAULT, Fault, WORDS, run_fault, tell, words_fault};
+use crate::schemas::schema_of;
+use crate::words;
+use interleaving::{RunFault, System, run_script};
 use rows::Schema;
 use std::convert::AsStr;
+use std::fs::File;
 use std::io::{Read, Write};
+use std::rt::Files;
 
 /// All was done. Refused lines are replies, and no faults.
 pub const DONE: u8 = 0;
 
-/// A fault of a stream or of memory.
-pub const FAULT: u8 = 1;
-
-/// Words that are none of the program's.
-pub const WORDS: u8 = 2;
-
-/// Why the program refused its words.
-const USAGE: &[u8] =
-    b"tsvd takes no words yet: it reads a script from standard input, over the table\n    emp (no INT, name TEXT, PRIMARY KEY (no))\nand writes one reply for each line. Example:\n    printf '1: BEGIN\\n1: COMMIT\\n' | tsvd\n";
-
-/// Runs the program: reads a script over the sample schema and writes its transcript. The answer is the status: 0 done, 1 a fault, which is told on
-/// standard error, 2 words that are not the program's.
-pub fn program<R: AllocGlobal, S: AsStr, I: Read, O: Write, E: Write>(
+/// Runs the program: reads a script over a schema, each from standard input or from a file as the words ask for, and writes its transcript. The answer is
+/// the status: 0 done, 1 a fault, 2 words that are refused, each but the first told on standard error.
+pub fn program<R: AllocGlobal + Files, S: AsStr, I: Read, O: Write, E: Write>(
     rt: &R,
     words: &[S],
     reader: &mut I,
     out: &mut O,
     err: &mut E,
 ) -> u8
-    ensures transcript { result ≡ DONE → IfSome (I.remaining reader.old) (λ text. IsTranscript sample (line_says sample) (O.contents out.old) (O.contents out.new) text) }
-    ensures words { words.now ≢ [] → result ≡ WORDS }
+    ensures done { result ≡ DONE → IsDone (map S.text words.now) (I.remaining reader.old) (I.remaining reader.new) (O.contents out.old) (O.contents out.new) }
+    ensures words { result ≡ WORDS → IsRefused (map S.text words.now) (I.remaining reader.old) (I.remaining reader.new) (O.contents out.old) (O.contents out.new) }
+    ensures fault { result ≡ FAULT → IsFaulty (map S.text words.now) (I.remaining reader.old) (I.remaining reader.new) (O.contents out.old) (O.contents out.new) }
     ensures status { result ≤ WORDS }
 {
-    if !words.is_empty() {
-        let _ = err.write_all(USAGE);
-        return WORDS;
-    }
-    let Ok(schema) = Schema::sample(rt.alloc()) else {
-        return fault(err, RunFault::Memory);
-    };
-    match run_script(rt.alloc(), reader, out, schema) {
-        Ok(_) => DONE,
-        Err(stopped) => fault(err, stopped),
+    match run(rt, words, reader, out) {
+        Ok(()) => DONE,
+        Err(fault) => tell(err, &fault),
     }
 }
 
-/// Tells a fault on standard error.
-fn fault<E: Write>(err: &mut E, fault: RunFault) -> u8
-    ensures { result ≡ FAULT }
+/// Runs the program up to its first fault: of the words, of the schema, of the script.
+fn run<R: AllocGlobal + Files, S: AsStr, I: Read, O: Write>(
+    rt: &R,
+    words: &[S],
+    reader: &mut I,
+    out: &mut O,
+) -> Result<(), Fault>
+    ensures done { OnOk result (IsDone (map S.text words.now) (I.remaining reader.old) (I.remaining reader.new) (O.contents out.old) (O.contents out.new)) }
+    ensures words { IfErr result (λ fault. is_of_words fault ≡ true → IsRefused (map S.text words.now) (I.remaining reader.old) (I.remaining reader.new) (O.contents out.old) (O.contents out.new)) }
+    ensures fault { IfErr result (λ fault. is_of_words fault ≡ false → IsFaulty (map S.text words.now) (I.remaining reader.old) (I.remaining reader.new) (O.contents out.old) (O.contents out.new)) }
 {
-    let text: &[u8] = match fault {
-        RunFault::Read => b"read fault\n",
-        RunFault::Write => b"write fault\n",
-        RunFault::Memory => b"memory\n",
+    let options = match words::words(rt.alloc(), words) {
+        Ok(options) => options,
+        Err(fault) => return Err(words_fault(fault)),
     };
-    let _ = err.write_all(text);
-    FAULT
+    let schema = schema_of(rt, options.schema)?;
+    run_script_of(rt, options.script, reader, out, schema)
+}
+
+/// Runs the script of a file, or of standard input where no file is named.
+fn run_script_of<R: AllocGlobal + Files, I: Read, O: Write>(
+    rt: &R,
+    file: Option<&str>,
+    reader: &mut I,
+    out: &mut O,
+    schema: Schema,
+) -> Result<(), Fault>
+    ensures done { OnOk result (HasRun (option_map (λ text. text.now) file.entry) schema (I.remaining reader.old) (I.remaining reader.new) (O.contents out.old) (O.contents out.new)) }
+    ensures fault { IfErr result (λ fault. IsIdle (I.remaining reader.old) (I.remaining reader.new) (O.contents out.old) (O.contents out.new)
+        ⊎ HasStopped (option_map (λ text. text.now) file.entry) schema (I.remaining reader.old) (I.remaining reader.new) (O.contents out.old) (O.contents out.new)) }
+    ensures other { IfErr result (λ fault. is_of_words fault ≡ false) }
+{
+    match file {
+        Some(path) => match File::open(rt, path) {
+            Ok(mut script) => finish(run_script(rt.alloc(), &mut script, out, schema)),
+            Err(_) => Err(Fault::Read),
+        },
+        None => finish(run_script(rt.alloc(), reader, out, schema)),
+    }
+}
+
+fn finish(ran: Result<System, RunFault>) -> Result<(), Fault>
+    ensures ok { OnOk result (is_ok ran ≡ true) }
+    ensures err { IfErr result (λ fault. (is_ok ran ≡ false) × (is_of_words fault ≡ false)) }
+{
+    match ran {
+        Ok(_) => Ok(()),
+        Err(stopped) => Err(run_fault(stopped)),
+    }
 }

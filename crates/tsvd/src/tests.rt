@@ -1,8 +1,11 @@
 //! The program on scripts whose replies were worked out by hand.
 
 mod dialogues;
+mod files;
+mod words;
 
-use crate::program::{DONE, FAULT, WORDS, program};
+use crate::faults::{FAULT, WORDS};
+use crate::program::{DONE, program};
 use crate::tests::dialogues::DIALOGUES;
 use std::alloc::AllocError;
 use std::io;
@@ -46,17 +49,13 @@ fn a_line_has_at_most_8192_bytes(rt: HostRuntime) -> Result<(), Fail> {
 }
 
 #[test]
-fn any_word_is_refused(rt: HostRuntime) {
+fn refused_words_read_and_write_nothing(rt: HostRuntime) {
+    let mut reader = b"1: BEGIN\n".as_slice();
     let mut out = Vec::new(rt.alloc());
     let mut err = Vec::new(rt.alloc());
-    let status = program(
-        &rt,
-        &["--help"],
-        &mut b"1: BEGIN\n".as_slice(),
-        &mut out,
-        &mut err,
-    );
+    let status = program(&rt, &["--nope"], &mut reader, &mut out, &mut err);
     assert_eq!(rt; status, WORDS);
+    assert_eq!(rt; reader.len(), 9);
     assert!(rt; out.is_empty());
     assert!(rt; !err.is_empty());
 }
