@@ -15,13 +15,7 @@ use std::alloc::Global;
 
 /// The versions of a table's rows that a query selects, with their periods, by key and then by start. The keys are of that table.
 /// An end after the view's last instant is none.
-pub fn answer(
-    alloc: Global,
-    view: &View,
-    table: &Table,
-    form: Form,
-    keys: &Keys,
-) -> Mem<Vec<Shown>>
+pub fn answer(alloc: Global, view: &View, table: &Table, form: Form, keys: &Keys) -> Mem<Vec<Shown>>
     ensures ok { IfOk result (λ v. (schema : Schema) (m : Changes) → Holds schema view.now m → table_at schema table.now.number ≡ Some table.now → keys.now.table ≡ table.now.number → v.items ≡ answer m table.now form keys.now) }
     ensures err { OnlyMemory result }
 {

@@ -2,5 +2,7 @@
 #![tactic(auto)]
 
 mod answers;
+#[cfg(test)]
+mod tests;
 
 pub use answers::answer;

@@ -115,12 +115,7 @@ impl Engine {
 }
 
 /// The first of the keys that was changed since, with the latest instant.
-fn first_won(
-    alloc: Global,
-    view: &View,
-    start: Instant,
-    net: &Net,
-) -> Mem<Option<(Key, Instant)>>
+fn first_won(alloc: Global, view: &View, start: Instant, net: &Net) -> Mem<Option<(Key, Instant)>>
     ensures ok { IfOk result (λ found. found ≡ slice_get (won_by view.now.events start net.now) 0) }
     ensures err { OnlyMemory result }
 {

@@ -2,5 +2,7 @@
 #![tactic(auto)]
 
 mod engine;
+#[cfg(test)]
+mod tests;
 
 pub use engine::Engine;

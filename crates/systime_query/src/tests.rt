@@ -1,0 +1,87 @@
+//! One employee over time.
+
+use crate::answer;
+use rows::{
+    Chars, Comparison, Form, Instant, Keys, Operator, Row, Schema, Sequence, Set, Shown, Value,
+};
+use staging::{Staged, View};
+use std::alloc::{AllocError, Global};
+use std::test::Fail;
+
+fn text(alloc: Global, name: &str) -> Result<Value, AllocError> {
+    Ok(Value::Text(Chars::new(String::from_str(alloc, name)?)))
+}
+
+/// The keys of `emp` that compare so with a number.
+fn by(alloc: Global, operator: Operator, number: i64) -> Result<Keys, AllocError> {
+    let comparison = Comparison {
+        column: 1,
+        operator,
+        value: Value::Int(number),
+    };
+    Ok(Keys {
+        table: 1,
+        comparisons: Sequence::new(vec![in alloc; comparison]?),
+    })
+}
+
+/// Ann comes at 100 as number 1, and is Bea from 200 on.
+fn recorded(alloc: Global, schema: &Schema) -> Result<View, Fail> {
+    let table = schema.table_at(1).ok_or("no table")?;
+    let mut view = View::new(alloc)?;
+    let mut staged = Staged::new(alloc)?;
+    let row = Row::new(vec![in alloc; Value::Int(1), text(alloc, "Ann")?]?);
+    staged.insert(&view, table, vec![in alloc; row]?.as_slice())?;
+    let net = staged.net(&view)?;
+    view.apply(alloc, 100, &net)?;
+    let mut staged = Staged::new(alloc)?;
+    let set = Set {
+        column: 2,
+        value: text(alloc, "Bea")?,
+    };
+    staged.update(
+        &view,
+        table,
+        &by(alloc, Operator::Equal, 1)?,
+        vec![in alloc; set]?.as_slice(),
+    )?;
+    let net = staged.net(&view)?;
+    view.apply(alloc, 200, &net)?;
+    Ok(view)
+}
+
+/// The periods of what a query shows.
+fn periods(alloc: Global, form: Form) -> Result<Vec<(Instant, Option<Instant>)>, Fail> {
+    let schema = Schema::sample(alloc)?;
+    let table = schema.table_at(1).ok_or("no table")?;
+    let view = recorded(alloc, &schema)?;
+    let shown: Vec<Shown> = answer(alloc, &view, table, form, &by(alloc, Operator::AtMost, 1)?)?;
+    let mut periods = Vec::new(alloc);
+    for version in shown {
+        periods.push((version.from, version.to))?;
+    }
+    Ok(periods)
+}
+
+#[test]
+fn a_version_is_closed_at_its_start_and_open_at_its_end(rt: HostRuntime) -> Result<(), Fail> {
+    let ann = (100, Some(200));
+    let bea = (200, None);
+    let cases = [
+        (Form::Plain, [bea].as_slice()),
+        (Form::AsOf(99), &[]),
+        (Form::AsOf(100), &[ann]),
+        (Form::AsOf(199), &[ann]),
+        (Form::AsOf(200), &[bea]),
+        (Form::FromTo(100, 200), &[ann]),
+        (Form::FromTo(150, 150), &[]),
+        (Form::Between(100, 200), &[ann, bea]),
+        (Form::Between(200, 200), &[bea]),
+        (Form::Between(201, 200), &[]),
+    ];
+    for (form, wanted) in cases {
+        let periods = periods(rt.alloc(), form)?;
+        assert_eq!(rt; periods.as_slice(), wanted);
+    }
+    Ok(())
+}
