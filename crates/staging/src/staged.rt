@@ -122,7 +122,10 @@ impl Staged {
         requires { All IsShortKey keys.now }
         ensures ok { IfOk result (λ found. found ≡ first_seen (sees view.now.events last self.now) [] keys.now) }
         ensures err { OnlyMemory result }
+        ensures ordered { IsStrictlySortedBy key_cmp (keys_of self.now) }
     {
+        // The length of a map comes with its order.
+        let _written = self.writes.len();
         for (i, key) in keys.iter().enumerate() {
             if self.is_taken(view, last, key, &keys[..i])? {
                 return Ok(Some(key.clone()?));
