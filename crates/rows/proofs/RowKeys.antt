@@ -13,7 +13,7 @@ use Rattle.rows.specs.declared.tables.Table.{Table}
 use Rattle.rows.specs.declared.keys.Key.{Key}
 use Rattle.rows.specs.Log.{Row}
 use Rattle.rows.specs.Tables.{value_at, column_at, is_key_column, IsColumnOf, IsTable}
-use Rattle.rows.specs.Fits.{fits_value, first_fault, row_fault, part_fault, parts_fault}
+use Rattle.rows.specs.Fits.{fits_value, first_fault, row_fault, part_fault, parts_fault, key_fault}
 use Rattle.rows.specs.KeyEncoding.{IsShortKey}
 use Rattle.rows.specs.RowEncoding.{IsHeld}
 use Rattle.rows.specs.KeyReading.{IsKeyOf}
@@ -90,12 +90,15 @@ parts_held : (row : List Value) (ns : List ℕ) → All IsHeld row → All IsHel
 parts_held row [] h = All-nil IsHeld
 parts_held row (n ∷ ns) h = All-cons IsHeld (value_at row n) (map (value_at row) ns) (held_at row (n - 1) h) (parts_held row ns h)
 
+pub fitting_key : (number : ℕ) (table : Table) (row : Row) → IsTable number table → row_fault table row ≡ None → key_fault table (map (value_at row) table.key) ≡ None
+fitting_key number table row is fits =
+    ap (λ (b : Bool). if b then parts_fault table table.key (map (value_at row) table.key) else Some 0) (same (length table.key) (length (map (value_at row) table.key)) (sym (length-map table.key (value_at row))))
+    ∙ parts_at table row table.key (row_fits table row fits) is.own_key_columns (key_columns table table.key)
+
 pub fitting_rows_have_keys : (number : ℕ) (table : Table) (row : Row) → IsTable number table → row_fault table row ≡ None → All IsHeld row → IsKeyOf table (key_of table row)
 fitting_rows_have_keys number table row is fits held = record {
   own = refl;
-  fits =
-      ap (λ (b : Bool). if b then parts_fault table table.key (map (value_at row) table.key) else Some 0) (same (length table.key) (length (map (value_at row) table.key)) (sym (length-map table.key (value_at row))))
-      ∙ parts_at table row table.key (row_fits table row fits) is.own_key_columns (key_columns table table.key);
+  fits = fitting_key number table row is fits;
   held = parts_held row table.key held;
 }
 

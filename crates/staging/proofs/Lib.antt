@@ -2,3 +2,8 @@ pub mod Ordered
 pub mod Found
 pub mod Placed
 pub mod Standing
+pub mod Entries
+pub mod Bridge
+pub mod Seen
+pub mod Calls
+pub mod Answered

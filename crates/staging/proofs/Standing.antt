@@ -28,17 +28,17 @@ both : (a b : Bool) → a ≡ true → b ≡ true → (a && b) ≡ true
 both true b e f = f
 both false b e f = e
 
-never : (b : Bool) → (b ≡ true → ⊥) → b ≡ false
+pub never : (b : Bool) → (b ≡ true → ⊥) → b ≡ false
 never true h = absurd (h refl)
 never false h = refl
 
 -- what it is to overtake
-record Overtakes (e : Event) (t : ℕ) (d : Event) : Type 0 where
-  of_key : e.key ≡ d.key
-  after : e.at < d.at
-  until : d.at ≤ t
+pub record Overtakes (e : Event) (t : ℕ) (d : Event) : Type 0 where
+  pub of_key : e.key ≡ d.key
+  pub after : e.at < d.at
+  pub until : d.at ≤ t
 
-overtakes_is : (e : Event) (t : ℕ) (d : Event) → overtakes e t d ≡ true → Overtakes e t d
+pub overtakes_is : (e : Event) (t : ℕ) (d : Event) → overtakes e t d ≡ true → Overtakes e t d
 unfolding overtakes
 overtakes_is e t d h = record {
   of_key = same_bytes e.key d.key (first _ _ h);
@@ -52,7 +52,7 @@ overtakes_is e t d h = record {
     at_most : (i j : ℕ) → nat_le i j ≡ true → i ≤ j
     at_most i j e = grind (arith, nat_tests)
 
-is_overtakes : (e : Event) (t : ℕ) (d : Event) → Overtakes e t d → overtakes e t d ≡ true
+pub is_overtakes : (e : Event) (t : ℕ) (d : Event) → Overtakes e t d → overtakes e t d ≡ true
 unfolding overtakes
 is_overtakes e t d h =
     both (is_bytes e.key d.key) _ (subst (λ k. is_bytes e.key k ≡ true) h.of_key (is_own e.key)) (both (nat_lt e.at d.at) _ (below e.at d.at h.after) (at_most d.at t h.until))
@@ -102,12 +102,12 @@ overtaken_by_first x (y ∷ ys) t above sorted = by (overtakes x t y) refl
     by true is = ap (λ b. b || list_any (overtakes x t) ys) is ∙ sym is
     by false is = ap (λ b. b || list_any (overtakes x t) ys) is ∙ none ys (sorted_head event_cmp y ys sorted) is ∙ sym is
 
-not_earlier : (x e : Event) (t : ℕ) → event_cmp x e ≡ Less → overtakes e t x ≡ false
+pub not_earlier : (x e : Event) (t : ℕ) → event_cmp x e ≡ Less → overtakes e t x ≡ false
 not_earlier x e t h =
     never (overtakes e t x)
     (λ is. (let over = overtakes_is e t x is in let one : x.at < e.at = (is_lower x e h).same (sym over.of_key) in let two : e.at < x.at = over.after in omega arith))
 
-not_itself : (e : Event) (t : ℕ) → overtakes e t e ≡ false
+pub not_itself : (e : Event) (t : ℕ) → overtakes e t e ≡ false
 not_itself e t = never (overtakes e t e) (λ is. (let over : e.at < e.at = (overtakes_is e t e is).after in omega arith))
 
 overtaken_next : (es : List Event) (i : ℕ) (e : Event) (t : ℕ) → IsStrictlySortedBy event_cmp es → slice_get es i ≡ Some e → list_any (overtakes e t) es ≡ is_overtaken e t (slice_get es (suc i))

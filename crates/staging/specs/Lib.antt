@@ -1,3 +1,4 @@
 pub mod Committed
 pub mod Own
 pub mod Places
+pub mod Writing

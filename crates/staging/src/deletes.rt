@@ -1,14 +1,16 @@
 //! DELETE.
-ghost use Rattle.std.specs.Prelude.{◌≡◌, ◌≢◌, Result, Err, OnErr};
+ghost use Rattle.std.specs.Prelude.{◌≡◌, ◌≢◌, Result, Err, IfOk, OnErr};
 ghost use Rattle.rows.specs.Log.{Changes};
-ghost use Rattle.rows.specs.Tables.{IsTable};
-ghost use Rattle.rows.specs.Tables.{Schema};
+ghost use Rattle.rows.specs.Tables.{Schema, IsTable};
 ghost use Rattle.rows.specs.Events.{AreKeysIn};
 ghost use Rattle.staging.specs.Own.{Reads, own, delete_from};
+ghost use Rattle.staging.specs.Writing.{deletions};
 
 use crate::staged::Staged;
 use crate::views::View;
-use rows::{Keys, Refusal, Table};
+use rows::{Key, Keys, Refusal, Row, Table};
+use std::alloc::{AllocError, Global};
+use std::collections::BTreeMap;
 
 impl Staged {
     /// Deletes the rows whose keys meet all comparisons, and answers their number. `NoTable` where the keys are of another table,
@@ -19,9 +21,27 @@ impl Staged {
         ensures keys { (schema : Schema) (m : Changes) → Reads schema table.now view.now self.old m → AreKeysIn schema self.new }
         ensures refused { OnErr result (self.new ≡ self.old) }
     {
-        let _view = view;
-        let _table = table;
-        let _keys = keys;
-        Err(Refusal::Memory)
+        if keys.table != table.number {
+            return Err(Refusal::NoTable);
+        }
+        if let Err(refusal) = table.check_comparisons(keys.comparisons.items()) {
+            return Err(refusal);
+        }
+        let found = self.rows_found(view, view.last(), table, keys)?;
+        let changes = deletions(self.alloc, &found)?;
+        self.put(changes)
     }
+}
+
+fn deletions(
+    alloc: Global,
+    rows: &BTreeMap<Key, Row>,
+) -> Result<Vec<(Key, Option<Row>)>, AllocError>
+    ensures { IfOk result (λ v. v.items ≡ deletions rows.now.entries) }
+{
+    let mut changes = Vec::new(alloc);
+    for (key, _row) in rows {
+        changes.push((key.clone()?, None))?;
+    }
+    Ok(changes)
 }

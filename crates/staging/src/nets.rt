@@ -24,6 +24,13 @@ impl Model for Net {
 }
 
 impl Net {
+    pub(crate) fn of(changes: Vec<(Key, Option<Row>)>) -> Net
+        requires { All (λ c. IsShortKey c.0) changes.items }
+        ensures { result ≡ changes.items }
+    {
+        Net { changes }
+    }
+
     /// The changes, by key.
     pub fn changes(&self) -> &[(Key, Option<Row>)]
         ensures are { result.now ≡ self.now }

@@ -1,14 +1,17 @@
 //! UPDATE.
-ghost use Rattle.std.specs.Prelude.{◌≡◌, ◌≢◌, Result, Err, OnErr};
+ghost use Rattle.std.specs.Prelude.{◌≡◌, ◌≢◌, Result, Err, IfOk, OnErr};
 ghost use Rattle.rows.specs.Log.{Changes};
-ghost use Rattle.rows.specs.Tables.{IsTable};
-ghost use Rattle.rows.specs.Tables.{Schema};
+ghost use Rattle.rows.specs.Tables.{Schema, IsTable};
+ghost use Rattle.rows.specs.Writes.{set_all};
 ghost use Rattle.rows.specs.Events.{AreKeysIn};
 ghost use Rattle.staging.specs.Own.{Reads, own, update_in};
+ghost use Rattle.staging.specs.Writing.{updates};
 
 use crate::staged::Staged;
 use crate::views::View;
-use rows::{Keys, Refusal, Set, Table};
+use rows::{Key, Keys, Refusal, Row, Set, Table};
+use std::alloc::{AllocError, Global};
+use std::collections::BTreeMap;
 
 impl Staged {
     /// Sets columns of the rows whose keys meet all comparisons, and answers their number. `NoTable` where the keys are of another table,
@@ -25,10 +28,46 @@ impl Staged {
         ensures keys { (schema : Schema) (m : Changes) → Reads schema table.now view.now self.old m → AreKeysIn schema self.new }
         ensures refused { OnErr result (self.new ≡ self.old) }
     {
-        let _view = view;
-        let _table = table;
-        let _keys = keys;
-        let _sets = sets;
-        Err(Refusal::Memory)
+        if keys.table != table.number {
+            return Err(Refusal::NoTable);
+        }
+        if let Err(refusal) = table.check_sets(sets) {
+            return Err(refusal);
+        }
+        if let Err(refusal) = table.check_comparisons(keys.comparisons.items()) {
+            return Err(refusal);
+        }
+        let found = self.rows_found(view, view.last(), table, keys)?;
+        let changes = updates(self.alloc, sets, &found)?;
+        self.put(changes)
     }
+}
+
+/// New rows for keys, with some columns set.
+fn updates(
+    alloc: Global,
+    sets: &[Set],
+    rows: &BTreeMap<Key, Row>,
+) -> Result<Vec<(Key, Option<Row>)>, AllocError>
+    ensures { IfOk result (λ v. v.items ≡ updates sets.now rows.now.entries) }
+{
+    let mut changes = Vec::new(alloc);
+    for (key, row) in rows {
+        changes.push((key.clone()?, Some(set_all(alloc, sets, row)?)))?;
+    }
+    Ok(changes)
+}
+
+/// A row with new values, set in turn.
+fn set_all(alloc: Global, sets: &[Set], row: &Row) -> Result<Row, AllocError>
+    ensures { IfOk result (λ r. r ≡ set_all sets.now row.now) }
+{
+    let mut values = row.values().to_vec(alloc)?;
+    for set in sets {
+        let place = set.column.saturating_sub(1);
+        if place < values.len() {
+            values[place] = set.value.clone()?;
+        }
+    }
+    Ok(Row::new(values))
 }

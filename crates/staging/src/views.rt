@@ -49,6 +49,7 @@ impl View {
         ensures last { result ≡ self.now.last }
         ensures in_range { result ≤ last_instant }
         ensures upto { All (λ e. e.at ≤ result) self.now.events }
+        ensures ordered { IsStrictlySortedBy event_cmp self.now.events }
     {
         self.last
     }

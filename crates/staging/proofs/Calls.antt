@@ -1,0 +1,125 @@
+-- What the calls of a transaction answer, for every list of changes that its view stands for.
+use Rattle.std.proofs.Common.{◌≡◌, ◌≢◌, ℕ, ◌+◌, ◌<◌, ◌≤◌, Bool, true, false, cond, ◌&&◌, ◌||◌, T, List, [], ◌∷◌, ◌++◌, Option, Some, None, Result, Ok, Err, OnOk, OnErr, IfSome, refl, sym, ap, subst, ◌∙◌, arith, not, map, filter, filter_map, length, is_some, if◌then◌else◌, nat_lt, ◌==◌, All, get_or}
+use Rattle.std.proofs.lemmas.Bool.Decides.{nat_tests}
+use Rattle.std.proofs.lemmas.List.{length-map}
+use Rattle.std.proofs.lemmas.List.Elements.{All-head, All-tail, All-cons, All-nil, All-from_recursion, recursion_from_All}
+use Rattle.std.specs.Ordering.{match_ordering}
+use Rattle.std.specs.declared.cmp.Ordering.TheVariants.{Less, Equal, Greater}
+use Rattle.std.specs.BTreeMap.{insert_entry}
+use Rattle.std.specs.Map.{keys_of}
+use Rattle.std.specs.FinMap.{is_sorted}
+use Rattle.std.specs.List.{AllByRecursion, list_any, cons_option}
+use Rattle.std.specs.List.Sorted.{IsStrictlySortedBy}
+use Rattle.rows.specs.declared.keys.Key.{Key}
+use Rattle.rows.specs.declared.events.Event.{Event}
+use Rattle.rows.specs.declared.tables.Table.{Table}
+use Rattle.rows.specs.declared.queries.Keys.{Keys}
+use Rattle.rows.specs.declared.queries.Set.{Set}
+use Rattle.rows.specs.declared.refusals.Refusal.{Refusal}
+use Rattle.rows.specs.declared.refusals.Refusal.TheVariants.{NoTable, BadRow, DuplicateKey, TooManyWrites}
+use Rattle.rows.specs.Order.{key_cmp, is_key}
+use Rattle.rows.specs.Log.{State, Net, Row, Changes, row_at, apply_net, rows_after}
+use Rattle.rows.specs.Tables.{Schema, IsTable, table_at}
+use Rattle.rows.specs.Fits.{rows_fault, row_fault, comparisons_fault, sets_fault, first_of}
+use Rattle.rows.specs.Faults.{no_fault}
+use Rattle.rows.specs.Writes.{key_of, insert_rows, duplicate, duplicate_from, update_rows, delete_rows, met, add_keys}
+use Rattle.rows.specs.Versions.{takes}
+use Rattle.rows.specs.KeyEncoding.{IsShortKey}
+use Rattle.rows.specs.KeyReading.{IsKeyOf}
+use Rattle.rows.specs.Events.{event_cmp, events_of, IsKeyIn, AreKeysIn}
+use Rattle.staging.specs.Committed.{Committed, Holds, standing}
+use Rattle.staging.specs.Own.{Own, Reads, Written, seen, own, net_over, writing, fitting, insert_into, of_table, update_in, delete_from}
+use Rattle.staging.specs.Writing.{put_all, put_answer, insertions, updates, deletions, sees, first_seen, rows_in, net_in}
+use Rattle.staging.proofs.Entries.{sorted_from, sorted_apply, apply-put_all, keys_put_all, apply-updates, apply-deletions}
+use Rattle.staging.proofs.Bridge.{AreSeen, are_seen, sorted_base, net_is, sees_is, key_in}
+use Rattle.staging.proofs.Seen.{rows_are}
+
+-- ---- what is read of a view
+
+pub rows_of_view : (schema : Schema) (table : Table) (keys : Keys) (view : Committed) (t : ℕ) (m : Changes) (w : Net) → Reads schema table view w m → keys.table ≡ table.number → IsStrictlySortedBy event_cmp view.events → All (λ e. e.at ≤ t) view.events
+    → IsStrictlySortedBy key_cmp (keys_of w) → rows_in table keys (standing view.events table.number t) w ≡ filter (λ e. takes table keys e.0) (seen m w)
+rows_of_view schema table keys view t m w reads same sorted upto ordered =
+    ap (λ es. rows_in table keys (standing es table.number t) w) reads.held.events_are
+    ∙ rows_are schema table keys t m w reads.is_table same (are_seen schema view t m reads.held sorted upto) (sorted_from w ordered)
+
+pub net_of_view : (schema : Schema) (view : Committed) (t : ℕ) (m : Changes) (w : Net) → Holds schema view m → AreKeysIn schema w → IsStrictlySortedBy event_cmp view.events → All (λ e. e.at ≤ t) view.events → IsStrictlySortedBy key_cmp (keys_of w)
+    → net_in view.events t w ≡ net_over m w
+net_of_view schema view t m w held keys sorted upto ordered =
+    ap (λ es. net_in es t w) held.events_are ∙ net_is schema t m w (are_seen schema view t m held sorted upto) (sorted_from w ordered) keys
+
+-- ---- what holds of each key
+
+module _ (P : Key → Type 0) where
+  all_keys : (w : Net) → AllByRecursion (λ c. P c.0) w → AllByRecursion P (keys_of w)
+  all_keys [] h = tt
+  all_keys (c ∷ w) h = (h.0, all_keys w h.1)
+
+  keys_all : (w : Net) → AllByRecursion P (keys_of w) → AllByRecursion (λ c. P c.0) w
+  keys_all [] h = tt
+  keys_all (c ∷ w) h = (h.0, keys_all w h.1)
+
+  all_put : (w : Net) (k : Key) (v : Option Row) → P k → AllByRecursion (λ c. P c.0) w → AllByRecursion (λ c. P c.0) (insert_entry key_cmp w k v)
+  all_put [] k v p h = (p, tt)
+  all_put (c ∷ w) k v p h =
+      elim (key_cmp k c.0) as (λ o. AllByRecursion (λ c. P c.0) (match_ordering o ((k, v) ∷ c ∷ w) ((c.0, v) ∷ w) (c ∷ insert_entry key_cmp w k v))) [
+        | Less ↦ (p, h)
+        | Equal ↦ (h.0, h.1)
+        | Greater ↦ (h.0, all_put w k v p h.1)
+      ]
+
+  all_put_all : (cs w : Net) → AllByRecursion (λ c. P c.0) cs → AllByRecursion (λ c. P c.0) w → AllByRecursion (λ c. P c.0) (put_all cs w)
+  all_put_all [] w h k = k
+  all_put_all (c ∷ cs) w h k = all_put_all cs _ h.1 (all_put w c.0 c.1 h.0 k)
+
+  all_kept : (p : Key × Option Row → Bool) (w : Net) → AllByRecursion (λ c. P c.0) w → AllByRecursion (λ c. P c.0) (filter p w)
+  all_kept p [] h = tt
+  all_kept p (c ∷ w) h = elim (p c) as (λ b. AllByRecursion (λ c. P c.0) (cond b (c ∷ filter p w) (filter p w))) [ true ↦ (h.0, all_kept p w h.1) | false ↦ all_kept p w h.1 ]
+
+  pub put_entries : (cs w : Net) → All (λ c. P c.0) cs → All (λ c. P c.0) w → All (λ c. P c.0) (put_all cs w)
+  put_entries cs w h k =
+      All-from_recursion (λ c. P c.0) (put_all cs w) (all_put_all cs w (recursion_from_All (λ c. P c.0) cs h) (recursion_from_All (λ c. P c.0) w k))
+
+  pub put_keys : (cs w : Net) → All (λ c. P c.0) cs → All P (keys_of w) → All P (keys_of (put_all cs w))
+  put_keys cs w h k =
+      All-from_recursion P (keys_of (put_all cs w)) (all_keys (put_all cs w) (all_put_all cs w (recursion_from_All (λ c. P c.0) cs h) (keys_all w (recursion_from_All P (keys_of w) k))))
+
+  pub kept_entries : (p : Key × Option Row → Bool) (w : Net) → All (λ c. P c.0) w → All (λ c. P c.0) (filter p w)
+  kept_entries p w h = All-from_recursion (λ c. P c.0) (filter p w) (all_kept p w (recursion_from_All (λ c. P c.0) w h))
+
+  pub kept_keys : (p : Key × Option Row → Bool) (w : Net) → All P (keys_of w) → All P (keys_of (filter p w))
+  kept_keys p w h = All-from_recursion P (keys_of (filter p w)) (all_keys (filter p w) (all_kept p w (keys_all w (recursion_from_All P (keys_of w) h))))
+
+-- ---- what is put
+
+pub few_answer : (cs w new : Net) (count n : ℕ) → new ≡ put_all cs w → count ≡ length cs → n ≡ length new → n ≤ 1000 → ◌≡◌ {A = Result ℕ Refusal} (Ok count) (put_answer cs w)
+few_answer cs w new count n is c l few =
+    sym (ap (λ (b : Bool). if b then Err TooManyWrites else Ok (length cs)) (ap (λ m. nat_lt 1000 (length m)) (sym is) ∙ ap (nat_lt 1000) (sym l) ∙ small n few) ∙ ap Ok (sym c))
+  where
+    small : (n : ℕ) → n ≤ 1000 → nat_lt 1000 n ≡ false
+    small n h = grind (arith, nat_tests)
+
+-- a write of changes, over what was seen
+pub put_is : (m : Changes) (cs w new : Net) (r : Result ℕ Refusal) → T (is_sorted key_cmp w) → r ≡ put_answer cs w → OnOk r (new ≡ put_all cs w) → OnErr r (new ≡ w)
+    → ◌≡◌ {A = Written} (r, own m new) (writing (keys_of cs) (length cs) (apply_net (seen m w) cs) (own m w))
+put_is m cs w new r sorted is ok err = by (nat_lt 1000 (length (put_all cs w))) refl
+  where
+    same_length : length (put_all cs w) ≡ length (add_keys (keys_of cs) (keys_of w))
+    same_length = sym (length-map (put_all cs w) (λ c. c.0)) ∙ ap length (keys_put_all cs w)
+
+    own_put : own m (put_all cs w) ≡ record { rows = apply_net (seen m w) cs; written = add_keys (keys_of cs) (keys_of w) }
+    own_put = λ i. record { rows = apply-put_all cs w (rows_after [] m) (sorted_base m) sorted i; written = keys_put_all cs w i }
+
+    at : (b : Bool) → nat_lt 1000 (length (put_all cs w)) ≡ b → writing (keys_of cs) (length cs) (apply_net (seen m w) cs) (own m w)
+        ≡ (if b then (Err TooManyWrites, own m w) else (Ok (length cs), record { rows = apply_net (seen m w) cs; written = add_keys (keys_of cs) (keys_of w) }))
+    at b h = ap (λ (b : Bool). if b then (Err TooManyWrites, own m w) else (Ok (length cs), record { rows = apply_net (seen m w) cs; written = add_keys (keys_of cs) (keys_of w) })) (ap (nat_lt 1000) (sym same_length) ∙ h)
+
+    answer : (b : Bool) → nat_lt 1000 (length (put_all cs w)) ≡ b → r ≡ (if b then Err TooManyWrites else Ok (length cs))
+    answer b h = is ∙ ap (λ (b : Bool). if b then Err TooManyWrites else Ok (length cs)) h
+
+    by : (b : Bool) → nat_lt 1000 (length (put_all cs w)) ≡ b → ◌≡◌ {A = Written} (r, own m new) (writing (keys_of cs) (length cs) (apply_net (seen m w) cs) (own m w))
+    by true h =
+        let same : new ≡ w = subst (λ r. OnErr r (new ≡ w)) (answer true h) err in
+        (λ i. (answer true h i, own m (same i))) ∙ sym (at true h)
+    by false h =
+        let same : new ≡ put_all cs w = subst (λ r. OnOk r (new ≡ put_all cs w)) (answer false h) ok in
+        (λ i. (answer false h i, (ap (own m) same ∙ own_put) i)) ∙ sym (at false h)

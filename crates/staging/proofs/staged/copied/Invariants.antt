@@ -1,0 +1,6 @@
+use Rattle.std.proofs.Common.{◌≡◌, []}
+use Rattle.staging.specs.Writing.{put_all}
+use Rattle.staging.proofs.staged.copied.Given as goal
+
+abbrev pub invariant-loop-key : goal.invariant-loop-key
+invariant-loop-key l = put_all l.key-iterator l.copy.entries ≡ put_all l.writes.entries []

@@ -1,0 +1,60 @@
+-- What a transaction's calls make of its own writes and of the events of its view.
+use Rattle.std.specs.Prelude.{◌≡◌, ℕ, List, [], ◌∷◌, ◌++◌, ◌||◌, Bool, Option, Some, None, Result, Ok, Err, nat_lt, if◌then◌else◌, length, map, filter, is_some}
+use Rattle.std.specs.Option.{option_map}
+use Rattle.std.specs.List.{list_any, filter_map}
+use Rattle.std.specs.BTreeMap.{insert_entry, is_at}
+use Rattle.std.specs.Map.{lookup}
+use Rattle.rows.specs.declared.keys.Key.{Key}
+use Rattle.rows.specs.declared.events.Event.{Event}
+use Rattle.rows.specs.declared.tables.Table.{Table}
+use Rattle.rows.specs.declared.queries.Keys.{Keys}
+use Rattle.rows.specs.declared.queries.Set.{Set}
+use Rattle.rows.specs.declared.refusals.Refusal.{Refusal}
+use Rattle.rows.specs.declared.refusals.Refusal.TheVariants.{TooManyWrites}
+use Rattle.rows.specs.Order.{key_cmp, is_key}
+use Rattle.rows.specs.Log.{State, Net, Row, apply_net}
+use Rattle.rows.specs.Versions.{takes}
+use Rattle.rows.specs.Writes.{set_all, insert_all}
+use Rattle.rows.specs.KeyEncoding.{bytes_of_key}
+use Rattle.rows.specs.KeyReading.{key_from}
+use Rattle.rows.specs.Events.{row_until}
+
+-- changes over earlier ones, in turn
+abbrev pub put_all : Net → Net → Net
+put_all [] w = w
+put_all (c ∷ cs) w = put_all cs (insert_entry key_cmp w c.0 c.1)
+
+-- the number of the changes, unless the keys are too many
+abbrev pub put_answer : Net → Net → Result ℕ Refusal
+put_answer changes w = if nat_lt 1000 (length (put_all changes w)) then Err TooManyWrites else Ok (length changes)
+
+abbrev pub insertions : List Key → List Row → Net
+insertions (k ∷ ks) (row ∷ rows) = (k, Some row) ∷ insertions ks rows
+insertions _ _ = []
+
+abbrev pub updates : List Set → State → Net
+updates sets m = map (λ e. (e.0, Some (set_all sets e.1))) m
+
+abbrev pub deletions : State → Net
+deletions m = map (λ e. (e.0, None)) m
+
+-- a key has a row: by what was written, and where nothing was by the events until an instant
+abbrev pub sees : List Event → ℕ → Net → Key → Bool
+sees es t w key = elim (lookup (is_at (key_cmp key)) w) [ Some row ↦ is_some row | None ↦ is_some (row_until es (bytes_of_key key) t) ]
+
+-- the first key that has a row, or that is among the earlier ones
+abbrev pub first_seen : (Key → Bool) → List Key → List Key → Option Key
+first_seen has earlier [] = None
+first_seen has earlier (k ∷ ks) = if has k || list_any (is_key k) earlier then Some k else first_seen has (earlier ++ k ∷ []) ks
+
+-- an event's row with its key, where the keys take it
+abbrev pub row_taken : Table → Keys → Event → Option (Key × Row)
+row_taken table keys e = elim (key_from table e.key) [ None ↦ None | Some k ↦ if takes table keys k then option_map (λ row. (k, row)) e.row else None ]
+
+-- the rows of events that the keys take, and the writes that they take over them
+abbrev pub rows_in : Table → Keys → List Event → Net → State
+rows_in table keys es w = apply_net (insert_all [] (filter_map (row_taken table keys) es)) (filter (λ c. takes table keys c.0) w)
+
+-- what was written, without the keys that have no row both then and by the events until an instant
+abbrev pub net_in : List Event → ℕ → Net → Net
+net_in es t w = filter (λ c. is_some c.1 || is_some (row_until es (bytes_of_key c.0) t)) w
