@@ -4,7 +4,7 @@ ghost use Rattle.statement.specs.History.{rows_taken, rows_of};
 ghost use Rattle.turns.specs.Turns.{listing, select_reply, start_of};
 ghost use Rattle.turns.specs.Stands.{session_at};
 
-use crate::answers::{answer, takes};
+use crate::answers::answer;
 use crate::system::{Open, System};
 use rows::{Form, Key, Keys, Refusal, Row, Rows, Shown, ShownRows, Table};
 use statement::{Listing, Reply};
@@ -65,7 +65,7 @@ fn rows_taken(
 {
     let mut found = Vec::new(alloc);
     for (key, row) in rows {
-        if takes(table, keys, key) {
+        if keys.takes(table, key) {
             found.push(row.clone()?)?;
         }
     }

@@ -7,7 +7,6 @@ ghost use Rattle.rows.specs.Writes.{set_all};
 ghost use Rattle.interleaving.specs.Kept.{updated, set_rows};
 ghost use Rattle.turns.specs.Turns.{update_in, write_turn};
 
-use crate::answers::takes;
 use crate::system::{Open, System};
 use crate::writes::{met, written_with};
 use rows::{Key, Keys, Refusal, Row, Set, Table};
@@ -72,7 +71,7 @@ fn updated(
 {
     let mut updated = Vec::new(alloc);
     for (key, row) in rows {
-        if takes(table, keys, key) {
+        if keys.takes(table, key) {
             updated.push((key.clone()?, set_all(alloc, sets, row)?))?;
         }
     }

@@ -6,7 +6,6 @@ ghost use Rattle.rows.specs.Writes.{add_keys, met};
 ghost use Rattle.std.specs.Option.{option_map};
 ghost use Rattle.interleaving.specs.Kept.{few, remove_keys};
 
-use crate::answers::takes;
 use rows::{Key, Keys, Row, Table};
 use std::alloc::{AllocError, Global};
 use std::collections::{BTreeMap, BTreeSet};
@@ -26,7 +25,7 @@ pub(crate) fn met(
 {
     let mut found = Vec::new(alloc);
     for (key, _row) in rows {
-        if takes(table, keys, key) {
+        if keys.takes(table, key) {
             found.push(key.clone()?)?;
         }
     }

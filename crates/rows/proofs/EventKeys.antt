@@ -72,7 +72,7 @@ module _ (schema : Schema) where
 
   put_by : (o : Ordering) (p : Point) (row : Option Row) (c : Point × Option Row) (cs : Changes) (rest : Changes) → point_cmp p c.0 ≡ o
       → match_ordering o (event_of (p, row) ∷ event_of c ∷ events_of cs) (event_of (p, row) ∷ events_of cs) (event_of c ∷ events_of rest)
-        ≡ events_of (match_ordering o ((p, row) ∷ c ∷ cs) ((c.0, row) ∷ cs) (c ∷ rest))
+      ≡ events_of (match_ordering o ((p, row) ∷ c ∷ cs) ((c.0, row) ∷ cs) (c ∷ rest))
   put_by Less p row c cs rest e = refl
   put_by Equal p row c cs rest e = ap (λ q. event_of (q, row) ∷ events_of cs) (point_cmp-IsAntisymmetric p c.0 e)
   put_by Greater p row c cs rest e = refl

@@ -4,6 +4,7 @@
 mod declarations;
 mod events;
 mod fits;
+mod forms;
 mod key_encoding;
 mod key_laws;
 mod key_reading;

@@ -2,7 +2,7 @@
 ghost use Rattle.std.specs.Prelude.{◌≡◌, ◌++◌, [], None, IfOk, Some};
 ghost use Rattle.rows.specs.Log.{Changes};
 ghost use Rattle.rows.specs.Tables.{Schema, table_at};
-ghost use Rattle.rows.specs.Versions.{answer, ends_after, selects};
+ghost use Rattle.rows.specs.Versions.{answer};
 ghost use Rattle.rows.specs.Events.{is_bytes};
 ghost use Rattle.rows.specs.Memory.{OnlyMemory};
 ghost use Rattle.staging.specs.Committed.{Holds};
@@ -88,7 +88,7 @@ fn shown_of(
     let Some(row) = &event.row else {
         return Ok(None);
     };
-    if !selects(form, event.at, to) || !is_taken(alloc, table, keys, &event.key)? {
+    if !form.selects(event.at, to) || !is_taken(alloc, table, keys, &event.key)? {
         return Ok(None);
     }
     Ok(Some(Shown {
@@ -113,24 +113,4 @@ fn is_same(key: &KeyBytes, other: &KeyBytes) -> bool
     ensures { result ≡ is_bytes key.now other.now }
 {
     key.cmp(other).is_eq()
-}
-
-fn ends_after(to: Option<Instant>, instant: Instant) -> bool
-    ensures { result ≡ ends_after to instant }
-{
-    match to {
-        None => true,
-        Some(end) => instant < end,
-    }
-}
-
-fn selects(form: Form, from: Instant, to: Option<Instant>) -> bool
-    ensures { result ≡ selects form from to }
-{
-    match form {
-        Form::Plain => to.is_none(),
-        Form::AsOf(t) => from <= t && ends_after(to, t),
-        Form::FromTo(a, b) => a < b && from < b && ends_after(to, a),
-        Form::Between(a, b) => a <= b && from <= b && ends_after(to, a),
-    }
 }
