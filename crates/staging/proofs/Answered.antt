@@ -1,9 +1,9 @@
 -- What INSERT, UPDATE and DELETE answer and leave.
-use Rattle.std.proofs.Common.{◌≡◌, ◌≢◌, ℕ, ◌+◌, ◌<◌, ◌≤◌, Bool, true, false, cond, ◌&&◌, ◌||◌, T, List, [], ◌∷◌, ◌++◌, Option, Some, None, Result, Ok, Err, OnOk, OnErr, refl, sym, ap, subst, ◌∙◌, arith, not, map, filter, filter_map, length, is_some, if◌then◌else◌, nat_lt, ◌==◌, All, get_or, zero, suc}
+use Rattle.std.proofs.Common.{◌≡◌, ℕ, ◌<◌, ◌≤◌, Bool, true, false, cond, ◌&&◌, ◌||◌, T, List, [], ◌∷◌, ◌++◌, Option, Some, None, Result, Ok, Err, OnOk, OnErr, refl, sym, ap, subst, ◌∙◌, arith, map, filter, filter_map, length, is_some, if◌then◌else◌, ◌==◌, All, get_or, zero, suc}
 use Rattle.std.specs.Prelude.{is_none}
 use Rattle.std.proofs.lemmas.Bool.Decides.{nat_tests}
 use Rattle.std.proofs.lemmas.List.{length-map}
-use Rattle.std.proofs.lemmas.List.Elements.{All-head, All-tail, All-cons, All-nil, All-from_recursion, recursion_from_All, All-weaker}
+use Rattle.std.proofs.lemmas.List.Elements.{All-from_recursion, recursion_from_All, All-weaker}
 use Rattle.std.specs.Ordering.{match_ordering}
 use Rattle.std.specs.declared.cmp.Ordering.TheVariants.{Less, Equal, Greater}
 use Rattle.std.specs.Option.{option_map}
@@ -19,13 +19,13 @@ use Rattle.rows.specs.declared.tables.Table.{Table}
 use Rattle.rows.specs.declared.queries.Keys.{Keys}
 use Rattle.rows.specs.declared.queries.Set.{Set}
 use Rattle.rows.specs.declared.refusals.Refusal.{Refusal}
-use Rattle.rows.specs.declared.refusals.Refusal.TheVariants.{NoTable, BadRow, DuplicateKey, TooManyWrites}
+use Rattle.rows.specs.declared.refusals.Refusal.TheVariants.{NoTable, BadRow, DuplicateKey}
 use Rattle.rows.specs.Order.{key_cmp, is_key}
 use Rattle.rows.specs.Log.{State, Net, Row, Changes, row_at, set_row, apply_net, rows_after}
-use Rattle.rows.specs.Tables.{Schema, IsTable, table_at}
+use Rattle.rows.specs.Tables.{Schema, IsTable}
 use Rattle.rows.specs.Fits.{rows_fault, row_fault, key_fault, comparisons_fault, sets_fault, first_of}
 use Rattle.rows.specs.Faults.{no_fault}
-use Rattle.rows.specs.Writes.{key_of, insert_rows, insert_all, duplicate, duplicate_from, update_rows, delete_rows, met, add_keys, set_all}
+use Rattle.rows.specs.Writes.{key_of, insert_rows, insert_all, duplicate, duplicate_from, update_rows, delete_rows, met, set_all}
 use Rattle.rows.specs.Versions.{takes}
 use Rattle.rows.specs.KeyEncoding.{IsShortKey}
 use Rattle.rows.specs.RowEncoding.{IsHeld}
@@ -34,12 +34,12 @@ use Rattle.rows.specs.KeyReading.{IsKeyOf, key_from, whole_key, parts_from, is_e
 use Rattle.rows.specs.Events.{event_cmp, events_of, IsKeyIn, AreKeysIn}
 use Rattle.rows.proofs.KeyLengths.{fitting_keys_are_short, first_none}
 use Rattle.rows.proofs.RowKeys.{fitting_key, keys_are_short}
-use Rattle.staging.specs.Committed.{Committed, Holds, standing}
+use Rattle.staging.specs.Committed.{Committed}
 use Rattle.staging.specs.Own.{Own, Reads, Written, seen, own, writing, fitting, insert_into, of_table, update_in, delete_from}
 use Rattle.staging.specs.Writing.{put_all, put_answer, insertions, updates, deletions, sees, first_seen, row_taken, rows_in}
 use Rattle.staging.proofs.Entries.{sorted_from, sorted_apply, apply-updates, apply-deletions}
-use Rattle.staging.proofs.Bridge.{AreSeen, are_seen, sorted_base, sees_is, key_in}
-use Rattle.staging.proofs.Calls.{put_is, put_keys, rows_of_view}
+use Rattle.staging.proofs.Bridge.{are_seen, sorted_base, sees_is, key_in}
+use Rattle.staging.proofs.Calls.{put_is, put_keys}
 
 -- ---- faults
 

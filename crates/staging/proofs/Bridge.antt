@@ -1,7 +1,7 @@
 -- What events say of keys by their bytes is what the changes say of them.
-use Rattle.std.proofs.Common.{◌≡◌, ℕ, ◌+◌, ◌<◌, ◌≤◌, Bool, true, false, cond, ◌&&◌, ◌||◌, T, List, [], ◌∷◌, ◌++◌, Option, Some, None, refl, sym, ap, subst, ◌∙◌, arith, not, map, filter, filter_map, length, is_some, if◌then◌else◌, nat_le, nat_lt, ◌==◌, All, option_and_then}
+use Rattle.std.proofs.Common.{◌≡◌, ℕ, ◌≤◌, Bool, true, false, cond, ◌&&◌, ◌||◌, T, [], ◌∷◌, Option, Some, None, refl, sym, ap, subst, ◌∙◌, arith, map, filter, is_some, if◌then◌else◌, nat_le, All, option_and_then}
 use Rattle.std.proofs.lemmas.Bool.Decides.{nat_tests}
-use Rattle.std.proofs.lemmas.List.Elements.{All-head, All-tail, All-cons, All-nil, All-weaker, All-from_recursion, recursion_from_All}
+use Rattle.std.proofs.lemmas.List.Elements.{All-head, All-tail, All-weaker}
 use Rattle.std.specs.Ordering.{is_eq, is_lt}
 use Rattle.std.specs.declared.cmp.Ordering.{Ordering}
 use Rattle.std.specs.declared.cmp.Ordering.TheVariants.{Less, Equal, Greater}
@@ -9,7 +9,7 @@ use Rattle.std.specs.Option.{option_map}
 use Rattle.std.specs.BTreeMap.{insert_entry, is_at}
 use Rattle.std.specs.Map.{lookup, keys_of}
 use Rattle.std.specs.FinMap.{is_sorted}
-use Rattle.std.specs.FinMap.Entries.{below_all, is_sorted-where_key}
+use Rattle.std.specs.FinMap.Entries.{below_all}
 use Rattle.std.specs.List.{AllByRecursion, list_any, cons_option}
 use Rattle.std.specs.List.Sorted.{IsStrictlySortedBy}
 use Rattle.rows.specs.declared.values.Value.{Value}
@@ -18,28 +18,22 @@ use Rattle.rows.specs.declared.keys.Key.{Key}
 use Rattle.rows.specs.declared.keys.Point.{Point}
 use Rattle.rows.specs.declared.events.Event.{Event}
 use Rattle.rows.specs.declared.tables.Table.{Table}
-use Rattle.rows.specs.declared.queries.Keys.{Keys}
 use Rattle.rows.specs.Order.{key_cmp, is_key}
-use Rattle.rows.specs.Log.{State, Net, Row, Changes, row_at, set_row, apply_net, rows_after}
+use Rattle.rows.specs.Log.{State, Net, Row, Changes, row_at, apply_net, rows_after}
 use Rattle.rows.specs.Tables.{Schema, table_at}
-use Rattle.rows.specs.Writes.{insert_all, net_of}
-use Rattle.rows.specs.Versions.{takes}
 use Rattle.rows.specs.KeyEncoding.{bytes_of_key}
 use Rattle.rows.specs.KeyEncodingLaws.{IsStorable, AreKeyParts}
 use Rattle.rows.specs.RowEncoding.{IsHeld}
-use Rattle.rows.specs.KeyReading.{IsKeyOf, key_from}
-use Rattle.rows.specs.Events.{bytes_cmp, is_bytes, event_cmp, event_of, events_of, IsKeyOfAny, IsKeyIn, AreChangesIn, AreKeysIn, later, event_until, row_until}
-use Rattle.rows.proofs.Orders.{key_cmp_total, key_cmp-IsAntisymmetric, both, first, second}
-use Rattle.rows.proofs.Maps.{same_map, sorted_insert, lookup-insert_entry}
+use Rattle.rows.specs.KeyReading.{IsKeyOf}
+use Rattle.rows.specs.Events.{bytes_cmp, is_bytes, event_cmp, event_of, events_of, IsKeyOfAny, IsKeyIn, AreKeysIn, later, event_until, row_until}
+use Rattle.rows.proofs.Orders.{key_cmp_total, first, second}
 use Rattle.rows.proofs.States.{row_at-set_row, sorted_set_row}
 use Rattle.rows.proofs.KeyOrder.{byte_order_is_key_order}
-use Rattle.rows.proofs.KeyReads.{key_back}
-use Rattle.staging.specs.Committed.{Committed, Holds, overtakes, stands_at, standing, is_of_table}
+use Rattle.staging.specs.Committed.{Committed, Holds}
 use Rattle.staging.specs.Own.{seen, net_over}
-use Rattle.staging.specs.Writing.{sees, row_taken, rows_in, net_in}
-use Rattle.staging.proofs.Ordered.{sorted_head, sorted_tail, IsLower, is_lower}
-use Rattle.staging.proofs.Standing.{not_earlier, not_itself, Overtakes, overtakes_is, is_overtakes}
-use Rattle.staging.proofs.Entries.{upon, sorted_apply, row_at-apply, apply-filter, none_below, same_key}
+use Rattle.staging.specs.Writing.{sees, net_in}
+use Rattle.staging.proofs.Ordered.{sorted_tail}
+use Rattle.staging.proofs.Entries.{upon, row_at-apply}
 
 -- ---- keys and their bytes
 

@@ -1,37 +1,31 @@
 -- What the calls of a transaction answer, for every list of changes that its view stands for.
-use Rattle.std.proofs.Common.{◌≡◌, ◌≢◌, ℕ, ◌+◌, ◌<◌, ◌≤◌, Bool, true, false, cond, ◌&&◌, ◌||◌, T, List, [], ◌∷◌, ◌++◌, Option, Some, None, Result, Ok, Err, OnOk, OnErr, IfSome, refl, sym, ap, subst, ◌∙◌, arith, not, map, filter, filter_map, length, is_some, if◌then◌else◌, nat_lt, ◌==◌, All, get_or}
+use Rattle.std.proofs.Common.{◌≡◌, ℕ, ◌≤◌, Bool, true, false, cond, T, [], ◌∷◌, Option, Result, Ok, Err, OnOk, OnErr, refl, sym, ap, subst, ◌∙◌, arith, filter, length, if◌then◌else◌, nat_lt, All}
 use Rattle.std.proofs.lemmas.Bool.Decides.{nat_tests}
 use Rattle.std.proofs.lemmas.List.{length-map}
-use Rattle.std.proofs.lemmas.List.Elements.{All-head, All-tail, All-cons, All-nil, All-from_recursion, recursion_from_All}
+use Rattle.std.proofs.lemmas.List.Elements.{All-from_recursion, recursion_from_All}
 use Rattle.std.specs.Ordering.{match_ordering}
 use Rattle.std.specs.declared.cmp.Ordering.TheVariants.{Less, Equal, Greater}
 use Rattle.std.specs.BTreeMap.{insert_entry}
 use Rattle.std.specs.Map.{keys_of}
 use Rattle.std.specs.FinMap.{is_sorted}
-use Rattle.std.specs.List.{AllByRecursion, list_any, cons_option}
+use Rattle.std.specs.List.{AllByRecursion}
 use Rattle.std.specs.List.Sorted.{IsStrictlySortedBy}
 use Rattle.rows.specs.declared.keys.Key.{Key}
-use Rattle.rows.specs.declared.events.Event.{Event}
 use Rattle.rows.specs.declared.tables.Table.{Table}
 use Rattle.rows.specs.declared.queries.Keys.{Keys}
-use Rattle.rows.specs.declared.queries.Set.{Set}
 use Rattle.rows.specs.declared.refusals.Refusal.{Refusal}
-use Rattle.rows.specs.declared.refusals.Refusal.TheVariants.{NoTable, BadRow, DuplicateKey, TooManyWrites}
-use Rattle.rows.specs.Order.{key_cmp, is_key}
-use Rattle.rows.specs.Log.{State, Net, Row, Changes, row_at, apply_net, rows_after}
-use Rattle.rows.specs.Tables.{Schema, IsTable, table_at}
-use Rattle.rows.specs.Fits.{rows_fault, row_fault, comparisons_fault, sets_fault, first_of}
-use Rattle.rows.specs.Faults.{no_fault}
-use Rattle.rows.specs.Writes.{key_of, insert_rows, duplicate, duplicate_from, update_rows, delete_rows, met, add_keys}
+use Rattle.rows.specs.declared.refusals.Refusal.TheVariants.{TooManyWrites}
+use Rattle.rows.specs.Order.{key_cmp}
+use Rattle.rows.specs.Log.{Net, Row, Changes, apply_net, rows_after}
+use Rattle.rows.specs.Tables.{Schema}
+use Rattle.rows.specs.Writes.{add_keys}
 use Rattle.rows.specs.Versions.{takes}
-use Rattle.rows.specs.KeyEncoding.{IsShortKey}
-use Rattle.rows.specs.KeyReading.{IsKeyOf}
-use Rattle.rows.specs.Events.{event_cmp, events_of, IsKeyIn, AreKeysIn}
+use Rattle.rows.specs.Events.{event_cmp, AreKeysIn}
 use Rattle.staging.specs.Committed.{Committed, Holds, standing}
-use Rattle.staging.specs.Own.{Own, Reads, Written, seen, own, net_over, writing, fitting, insert_into, of_table, update_in, delete_from}
-use Rattle.staging.specs.Writing.{put_all, put_answer, insertions, updates, deletions, sees, first_seen, rows_in, net_in}
-use Rattle.staging.proofs.Entries.{sorted_from, sorted_apply, apply-put_all, keys_put_all, apply-updates, apply-deletions}
-use Rattle.staging.proofs.Bridge.{AreSeen, are_seen, sorted_base, net_is, sees_is, key_in}
+use Rattle.staging.specs.Own.{Reads, Written, seen, own, net_over, writing}
+use Rattle.staging.specs.Writing.{put_all, put_answer, rows_in, net_in}
+use Rattle.staging.proofs.Entries.{sorted_from, apply-put_all, keys_put_all}
+use Rattle.staging.proofs.Bridge.{are_seen, sorted_base, net_is}
 use Rattle.staging.proofs.Seen.{rows_are}
 
 -- ---- what is read of a view

@@ -1,5 +1,5 @@
 -- Rows and writes as finite maps: what a key has after changes, one after the other.
-use Rattle.std.proofs.Common.{◌≡◌, ℕ, ◌+◌, ◌<◌, ◌≤◌, Bool, true, false, cond, ◌&&◌, ◌||◌, T, List, [], ◌∷◌, ◌++◌, Option, Some, None, refl, sym, ap, subst, ◌∙◌, arith, not, map, filter, length, is_some, if◌then◌else◌, append_assoc, append-nil}
+use Rattle.std.proofs.Common.{◌≡◌, Bool, true, false, cond, T, List, [], ◌∷◌, ◌++◌, Option, Some, None, refl, sym, ap, subst, ◌∙◌, not, map, filter, if◌then◌else◌, append_assoc, append-nil}
 use Rattle.std.specs.Ordering.{is_eq, is_lt, match_ordering, ordering_reverse}
 use Rattle.std.specs.declared.cmp.Ordering.{Ordering}
 use Rattle.std.specs.declared.cmp.Ordering.TheVariants.{Less, Equal, Greater}
@@ -15,7 +15,7 @@ use Rattle.rows.specs.declared.keys.Key.{Key}
 use Rattle.rows.specs.declared.queries.Set.{Set}
 use Rattle.rows.specs.Order.{key_cmp, is_key}
 use Rattle.rows.specs.Log.{State, Net, Row, row_at, set_row, apply_net}
-use Rattle.rows.specs.Writes.{set_all, add_keys, insert_all}
+use Rattle.rows.specs.Writes.{set_all, add_keys}
 use Rattle.rows.proofs.Orders.{key_cmp_total, key_cmp-IsAntisymmetric, both, first, second}
 use Rattle.rows.proofs.Maps.{same_map, sorted_insert, lookup-insert_entry}
 use Rattle.rows.proofs.States.{row_at-set_row, sorted_set_row}

@@ -1,6 +1,6 @@
 -- The last event of a key is found by its place.
-use Rattle.std.proofs.Common.{◌≡◌, ℕ, ◌+◌, ◌-◌, ◌<◌, ◌≤◌, Bool, true, false, cond, ◌&&◌, List, [], ◌∷◌, Option, Some, None, refl, sym, ap, subst, ◌∙◌, arith, zero, suc, length, get_or, nat_le, nat_lt, All, if◌then◌else◌}
-use Rattle.std.specs.Ordering.{nat_cmp, ordering_then, is_lt, is_eq, match_ordering}
+use Rattle.std.proofs.Common.{◌≡◌, ℕ, ◌-◌, ◌<◌, ◌≤◌, Bool, true, false, ◌&&◌, List, [], ◌∷◌, Option, Some, None, refl, sym, ap, subst, ◌∙◌, arith, zero, suc, length, get_or, nat_le, nat_lt, All, if◌then◌else◌}
+use Rattle.std.specs.Ordering.{nat_cmp, ordering_then, is_eq, match_ordering}
 use Rattle.std.specs.declared.cmp.Ordering.{Ordering}
 use Rattle.std.specs.declared.cmp.Ordering.TheVariants.{Less, Equal, Greater}
 use Rattle.std.specs.List.{AllByRecursion, AllWithin, slice_get}
@@ -11,7 +11,7 @@ use Rattle.std.proofs.lemmas.Option.{slice_get-get_or, slice_get_read}
 use Rattle.rows.specs.declared.events.Event.{Event}
 use Rattle.rows.specs.Events.{bytes_cmp, is_bytes, event_cmp, later, event_until, event_since}
 use Rattle.staging.specs.Places.{AreFirst, is_until, of_key, since}
-use Rattle.staging.proofs.Ordered.{bytes_total, bytes_exact, is_bytes_back, same_bytes, bytes_tie, is_own, IsLower, is_lower, sorted_head, sorted_tail, partitioned, within_tail, within_rest, within_head}
+use Rattle.staging.proofs.Ordered.{bytes_total, bytes_exact, is_bytes_back, same_bytes, bytes_tie, is_lower, sorted_head, sorted_tail, partitioned, within_tail, within_rest, within_head}
 
 at_most : (i j : ℕ) → nat_le i j ≡ true → i ≤ j
 at_most i j e = grind (arith, nat_tests)

@@ -1,17 +1,15 @@
 -- An event is put in its place.
-use Rattle.std.proofs.Common.{◌≡◌, ℕ, ◌+◌, ◌-◌, ◌<◌, ◌≤◌, Bool, true, false, cond, ◌&&◌, List, [], ◌∷◌, ◌++◌, Option, Some, None, refl, sym, ap, subst, ◌∙◌, arith, zero, suc, length, get_or, take, drop, nat_le, nat_lt, All, if◌then◌else◌}
+use Rattle.std.proofs.Common.{◌≡◌, ℕ, ◌<◌, ◌≤◌, Bool, true, false, List, [], ◌∷◌, refl, sym, ap, subst, ◌∙◌, arith, zero, suc, length, if◌then◌else◌}
 use Rattle.std.specs.Prelude.{slice_set}
-use Rattle.std.specs.Ordering.{nat_cmp, ordering_then, ordering_reverse, is_lt, is_eq, match_ordering}
+use Rattle.std.specs.Ordering.{ordering_reverse, is_lt, is_eq, match_ordering}
 use Rattle.std.specs.declared.cmp.Ordering.{Ordering}
 use Rattle.std.specs.declared.cmp.Ordering.TheVariants.{Less, Equal, Greater}
-use Rattle.std.specs.List.{AllByRecursion, AllWithin, slice_get, insert}
+use Rattle.std.specs.List.{AllByRecursion, slice_get, insert}
 use Rattle.std.specs.List.Sorted.{IsStrictlySortedBy, IsPartitionedBy}
 use Rattle.std.proofs.lemmas.List.Elements.{All-nil, All-weaker, All-from_recursion, recursion_from_All}
-use Rattle.rows.specs.declared.keys.Key.{Key}
 use Rattle.rows.specs.Commits.{last_instant}
 use Rattle.staging.specs.Committed.{IsCommitted}
 use Rattle.rows.specs.declared.events.Event.{Event}
-use Rattle.rows.specs.KeyEncoding.{bytes_of_key}
 use Rattle.rows.specs.Log.{Net}
 use Rattle.rows.specs.Events.{event_cmp, put_event, put_net}
 use Rattle.staging.specs.Places.{AreFirst, is_before, is_same}

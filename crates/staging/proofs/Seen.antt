@@ -1,11 +1,9 @@
 -- The rows that a transaction sees, of the events whose rows stand.
-use Rattle.std.proofs.Common.{◌≡◌, ℕ, ◌+◌, ◌<◌, ◌≤◌, Bool, true, false, cond, ◌&&◌, ◌||◌, T, List, [], ◌∷◌, Option, Some, None, refl, sym, ap, subst, ◌∙◌, arith, not, map, filter, filter_map, is_some, if◌then◌else◌, nat_le, ◌==◌, All, inl, inr, ◌⊎◌}
+use Rattle.std.proofs.Common.{◌≡◌, ℕ, ◌≤◌, Bool, true, false, cond, ◌&&◌, ◌||◌, T, List, [], ◌∷◌, Option, Some, None, refl, sym, ap, subst, ◌∙◌, arith, not, filter, filter_map, is_some, if◌then◌else◌, nat_le, ◌==◌, inl, inr, ◌⊎◌}
 use Rattle.std.proofs.lemmas.Bool.Decides.{nat_tests}
-use Rattle.std.specs.Ordering.{is_eq}
 use Rattle.std.specs.declared.cmp.Ordering.TheVariants.{Less}
 use Rattle.std.specs.Option.{option_map}
-use Rattle.std.specs.BTreeMap.{insert_entry, is_at}
-use Rattle.std.specs.Map.{lookup}
+use Rattle.std.specs.BTreeMap.{insert_entry}
 use Rattle.std.specs.FinMap.{is_sorted}
 use Rattle.std.specs.FinMap.Entries.{is_sorted-where_key}
 use Rattle.std.specs.List.{AllByRecursion, list_any, list_all, cons_option}
@@ -21,7 +19,6 @@ use Rattle.rows.specs.Tables.{Schema, table_at}
 use Rattle.rows.specs.Writes.{insert_all}
 use Rattle.rows.specs.Versions.{takes, holds}
 use Rattle.rows.specs.KeyEncoding.{bytes_of_key}
-use Rattle.rows.specs.KeyReading.{IsKeyOf, key_from}
 use Rattle.rows.specs.Events.{is_bytes, event_cmp, event_of, events_of, IsKeyIn, later}
 use Rattle.rows.proofs.Orders.{key_cmp_total, key_cmp-IsAntisymmetric}
 use Rattle.rows.proofs.Maps.{same_map, sorted_insert, lookup-insert_entry}
@@ -30,8 +27,8 @@ use Rattle.staging.specs.Committed.{overtakes, stands_at, standing, is_of_table}
 use Rattle.staging.specs.Own.{seen}
 use Rattle.staging.specs.Writing.{row_taken, rows_in}
 use Rattle.staging.proofs.Ordered.{sorted_head, sorted_tail, is_lower}
-use Rattle.staging.proofs.Standing.{not_earlier, not_itself, Overtakes, overtakes_is, is_overtakes, never}
-use Rattle.staging.proofs.Entries.{upon, sorted_apply, apply-filter, lookup-filter, same_key}
+use Rattle.staging.proofs.Standing.{not_earlier, not_itself, overtakes_is, is_overtakes, never}
+use Rattle.staging.proofs.Entries.{upon, apply-filter, lookup-filter, same_key}
 use Rattle.staging.proofs.Bridge.{AreSeen, rest_seen, last_change, after_is, sorted_base, is_bytes_is_key, own_key, in_time}
 
 -- ---- which events stand, by those after them

@@ -1,6 +1,6 @@
 -- Of events in order the next one shows whether an event's row stands, and those of a range stand together.
-use Rattle.std.proofs.Common.{◌≡◌, ℕ, ◌+◌, ◌-◌, ◌<◌, ◌≤◌, Bool, true, false, cond, ◌&&◌, ◌||◌, List, [], ◌∷◌, ◌++◌, Option, Some, None, refl, sym, ap, subst, ◌∙◌, arith, zero, suc, length, get_or, take, drop, nat_le, nat_lt, All, not, is_some, filter, if◌then◌else◌, length-drop, get_or-drop, append_assoc}
-use Rattle.std.specs.Ordering.{nat_cmp, ordering_then, is_lt, is_eq}
+use Rattle.std.proofs.Common.{◌≡◌, ℕ, ◌+◌, ◌-◌, ◌<◌, ◌≤◌, Bool, true, false, ◌&&◌, ◌||◌, List, [], ◌∷◌, ◌++◌, Option, Some, refl, sym, ap, subst, ◌∙◌, arith, zero, suc, length, get_or, take, drop, nat_le, nat_lt, not, is_some, filter, if◌then◌else◌, length-drop, get_or-drop, append_assoc}
+use Rattle.std.specs.Ordering.{nat_cmp, ordering_then, is_lt}
 use Rattle.std.specs.declared.cmp.Ordering.{Ordering}
 use Rattle.std.specs.declared.cmp.Ordering.TheVariants.{Less, Equal, Greater}
 use Rattle.std.specs.List.{AllByRecursion, AllWithin, slice_get, list_any}
@@ -14,7 +14,7 @@ use Rattle.keyrange.specs.declared.ranges.KeyRange.{KeyRange}
 use Rattle.keyrange.specs.Points.{is_below, is_before_end, is_key_in}
 use Rattle.staging.specs.Committed.{overtakes, stands_at, standing, is_of_table, events_in}
 use Rattle.staging.specs.Places.{AreFirst, is_overtaken, stands_before}
-use Rattle.staging.proofs.Ordered.{same_bytes, is_own, IsLower, is_lower, bytes_total, bytes_tie, sorted_head, sorted_tail, partitioned, within_tail, within_rest, within_head}
+use Rattle.staging.proofs.Ordered.{same_bytes, is_own, is_lower, bytes_total, bytes_tie, sorted_head, sorted_tail, partitioned, within_tail, within_rest, within_head}
 
 first : (a b : Bool) → (a && b) ≡ true → a ≡ true
 first true b e = refl

@@ -1,5 +1,5 @@
 -- What was committed, as contracts see a view of it.
-use Rattle.std.specs.Prelude.{◌≡◌, ℕ, ◌≤◌, List, ◌∷◌, [], Bool, true, false, ◌&&◌, ◌==◌, not, nat_le, nat_lt, Option, is_some, filter, All}
+use Rattle.std.specs.Prelude.{◌≡◌, ℕ, ◌≤◌, List, ◌∷◌, [], Bool, false, ◌&&◌, ◌==◌, not, nat_le, nat_lt, is_some, filter, All}
 use Rattle.std.specs.List.{list_any}
 use Rattle.std.specs.Map.{keys_of}
 use Rattle.std.specs.List.Sorted.{IsStrictlySortedBy}

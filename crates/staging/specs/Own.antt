@@ -1,5 +1,5 @@
 -- What a transaction does: what it sees, what a write answers, and what it leaves.
-use Rattle.std.specs.Prelude.{◌≡◌, ℕ, List, [], ◌==◌, Option, Some, None, Result, Ok, Err, nat_lt, if◌then◌else◌, length, map, filter, not}
+use Rattle.std.specs.Prelude.{◌≡◌, ℕ, List, [], ◌==◌, Option, Some, None, Result, Ok, Err, nat_lt, if◌then◌else◌, length, map}
 use Rattle.rows.specs.declared.keys.Key.{Key}
 use Rattle.rows.specs.declared.tables.Table.{Table}
 use Rattle.rows.specs.declared.queries.Keys.{Keys}

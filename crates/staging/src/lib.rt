@@ -6,6 +6,8 @@ mod inserts;
 mod nets;
 mod places;
 mod staged;
+#[cfg(test)]
+mod tests;
 mod updates;
 mod views;
 

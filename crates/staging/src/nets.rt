@@ -33,7 +33,7 @@ impl Net {
 
     /// The changes, by key.
     pub fn changes(&self) -> &[(Key, Option<Row>)]
-        ensures are { result.now ≡ self.now }
+        ensures changes { result.now ≡ self.now }
         ensures short { All (λ c. IsShortKey c.0) result.now }
     {
         self.changes.as_slice()

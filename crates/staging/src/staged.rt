@@ -37,7 +37,6 @@ pub struct Staged {
 
 impl Model for Staged {
     ghost use Rattle.std.specs.Prelude.{All};
-    ghost use Rattle.std.specs.Map.{keys_of};
     ghost use Rattle.rows.specs.Log.{Net as Writes};
     ghost use Rattle.rows.specs.KeyEncoding.{IsShortKey};
 
@@ -45,7 +44,7 @@ impl Model for Staged {
 
     ghost view = { λ s. s.writes.entries };
 
-    ghost invariant = { λ s. All IsShortKey (keys_of s.writes.entries) };
+    ghost invariant = { λ s. All (λ w. IsShortKey w.0) s.writes.entries };
 }
 
 impl Staged {

@@ -1,5 +1,4 @@
-use Rattle.std.proofs.Common.{◌≡◌, ◌-◌, Some, None, get_or, sym, ap, ◌∙◌}
-use Rattle.rows.specs.Events.{event_until}
+use Rattle.std.proofs.Common.{Some, sym, ap, ◌∙◌}
 use Rattle.staging.specs.Places.{of_key}
 use Rattle.staging.proofs.Found.{none_at, found_at}
 use Rattle.staging.proofs.places.event_until.Goals as goal

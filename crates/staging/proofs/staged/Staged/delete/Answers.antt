@@ -1,17 +1,10 @@
-use Rattle.std.proofs.Common.{◌≡◌, Some, None, [], All, filter, sym, ap, subst, ◌∙◌}
-use Rattle.std.proofs.lemmas.List.Elements.{All-weaker}
+use Rattle.std.proofs.Common.{◌≡◌, None, All, filter, sym, ap, subst, ◌∙◌}
 use Rattle.rows.specs.KeyEncoding.{IsShortKey}
-use Rattle.rows.specs.KeyReading.{IsKeyOf}
-use Rattle.rows.specs.Log.{Changes}
-use Rattle.rows.specs.Tables.{Schema}
-use Rattle.rows.specs.Fits.{rows_fault, sets_fault, comparisons_fault}
+use Rattle.rows.specs.Fits.{comparisons_fault}
 use Rattle.rows.specs.Faults.{no_fault}
 use Rattle.rows.specs.Versions.{takes}
-use Rattle.rows.specs.Writes.{key_of, duplicate}
 use Rattle.rows.specs.Events.{IsKeyIn}
-use Rattle.staging.specs.Own.{Reads, seen, own}
-use Rattle.staging.specs.Writing.{insertions}
-use Rattle.staging.proofs.Bridge.{key_in}
+use Rattle.staging.specs.Own.{seen}
 use Rattle.staging.proofs.Entries.{sorted_from}
 use Rattle.staging.proofs.Calls.{rows_of_view}
 use Rattle.staging.proofs.Answered.{no_fault_is, deleted_entries, delete_done, keys_after, seen_keys}

@@ -1,4 +1,4 @@
-use Rattle.std.proofs.Common.{◌≡◌, All, ◌||◌, is_some, sym, ap, subst, ◌∙◌}
+use Rattle.std.proofs.Common.{All, ◌||◌, is_some, sym, ap, subst, ◌∙◌}
 use Rattle.std.specs.Map.{keys_of}
 use Rattle.std.specs.List.Sorted.{IsStrictlySortedBy}
 use Rattle.rows.specs.Order.{key_cmp}

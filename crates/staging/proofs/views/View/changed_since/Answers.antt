@@ -1,4 +1,4 @@
-use Rattle.std.proofs.Common.{◌≡◌, ap, ◌∙◌}
+use Rattle.std.proofs.Common.{ap, ◌∙◌}
 use Rattle.staging.specs.Places.{since}
 use Rattle.staging.proofs.Found.{since_of_list}
 use Rattle.staging.proofs.views.View.changed_since.Goals as goal

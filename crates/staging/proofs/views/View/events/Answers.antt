@@ -1,4 +1,4 @@
-use Rattle.std.proofs.Common.{◌≡◌, ◌≤◌, ap, ◌∙◌, rules}
+use Rattle.std.proofs.Common.{◌≤◌, ap, ◌∙◌, rules}
 use Rattle.staging.specs.Committed.{events_in}
 use Rattle.staging.proofs.Standing.{range_is}
 use Rattle.staging.proofs.views.View.events.Goals as goal

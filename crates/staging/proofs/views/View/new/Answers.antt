@@ -1,6 +1,5 @@
-use Rattle.std.proofs.Common.{◌≡◌, ◌≤◌, List, [], subst, sym, arith, rules}
+use Rattle.std.proofs.Common.{◌≡◌, List, [], subst, rules}
 use Rattle.rows.specs.declared.events.Event.{Event}
-use Rattle.rows.specs.Events.{event_cmp}
 use Rattle.staging.specs.Committed.{IsCommitted}
 use Rattle.staging.proofs.Placed.{none_committed}
 use Rattle.staging.proofs.views.View.new.Goals as goal
