@@ -259,11 +259,11 @@ pub update_done : (table : Table) (keys : Keys) (sets : List Set) (m : Changes) 
     → ◌≡◌ {A = Written} (r, own m new) (update_in table keys sets (own m w))
 update_done table keys sets m w new r cs found same no_set no_comparison found_is is sorted answer ok err =
     own_table table keys _ (r, own m new) (own m w) same (
-        put_is m cs w new r sorted answer ok err
-        ∙ ap (λ cs. writing (keys_of cs) (length cs) (apply_net (seen m w) cs) (own m w)) (is ∙ ap (updates sets) found_is)
-        ∙ (λ i. writing (update_keys sets kept i) (count i) (apply-updates (takes table keys) sets (seen m w) (sorted_apply w (rows_after [] m) (sorted_base m)) i) (own m w))
-        ∙ sym (λ i. fitting (first_of (no_set i) (no_comparison i)) (writing (met table keys (seen m w)) (length (met table keys (seen m w))) (update_rows table keys sets (seen m w)) (own m w)) (own m w))
-        )
+    put_is m cs w new r sorted answer ok err
+    ∙ ap (λ cs. writing (keys_of cs) (length cs) (apply_net (seen m w) cs) (own m w)) (is ∙ ap (updates sets) found_is)
+    ∙ (λ i. writing (update_keys sets kept i) (count i) (apply-updates (takes table keys) sets (seen m w) (sorted_apply w (rows_after [] m) (sorted_base m)) i) (own m w))
+    ∙ sym (λ i. fitting (first_of (no_set i) (no_comparison i)) (writing (met table keys (seen m w)) (length (met table keys (seen m w))) (update_rows table keys sets (seen m w)) (own m w)) (own m w))
+    )
   where
     kept : State
     kept = filter (λ e. takes table keys e.0) (seen m w)
@@ -276,11 +276,11 @@ pub delete_done : (table : Table) (keys : Keys) (m : Changes) (w new : Net) (r :
     → ◌≡◌ {A = Written} (r, own m new) (delete_from table keys (own m w))
 delete_done table keys m w new r cs found same no_comparison found_is is sorted answer ok err =
     own_table table keys _ (r, own m new) (own m w) same (
-        put_is m cs w new r sorted answer ok err
-        ∙ ap (λ cs. writing (keys_of cs) (length cs) (apply_net (seen m w) cs) (own m w)) (is ∙ ap deletions found_is)
-        ∙ (λ i. writing (delete_keys kept i) (count i) (apply-deletions (takes table keys) (seen m w) (sorted_apply w (rows_after [] m) (sorted_base m)) i) (own m w))
-        ∙ sym (λ i. fitting (no_comparison i) (writing (met table keys (seen m w)) (length (met table keys (seen m w))) (delete_rows table keys (seen m w)) (own m w)) (own m w))
-        )
+    put_is m cs w new r sorted answer ok err
+    ∙ ap (λ cs. writing (keys_of cs) (length cs) (apply_net (seen m w) cs) (own m w)) (is ∙ ap deletions found_is)
+    ∙ (λ i. writing (delete_keys kept i) (count i) (apply-deletions (takes table keys) (seen m w) (sorted_apply w (rows_after [] m) (sorted_base m)) i) (own m w))
+    ∙ sym (λ i. fitting (no_comparison i) (writing (met table keys (seen m w)) (length (met table keys (seen m w))) (delete_rows table keys (seen m w)) (own m w)) (own m w))
+    )
   where
     kept : State
     kept = filter (λ e. takes table keys e.0) (seen m w)

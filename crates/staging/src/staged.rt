@@ -18,9 +18,7 @@ ghost use Rattle.staging.specs.Writing.{put_all, put_answer, sees, first_seen, r
 
 use crate::nets::Net;
 use crate::views::View;
-use rows::{
-    Event, Instant, Key, Keys, Mem, Refusal, Row, SharedEvent, Table, key_bytes, read_key,
-};
+use rows::{Event, Instant, Key, Keys, Mem, Refusal, Row, SharedEvent, Table, key_bytes, read_key};
 use std::alloc::{AllocError, Global};
 use std::collections::BTreeMap;
 use std::marker::Model;
@@ -233,11 +231,7 @@ fn put_taken(
     Ok(())
 }
 
-fn set_row(
-    rows: &mut BTreeMap<Key, Row>,
-    key: &Key,
-    row: &Option<Row>,
-) -> Result<(), AllocError>
+fn set_row(rows: &mut BTreeMap<Key, Row>, key: &Key, row: &Option<Row>) -> Result<(), AllocError>
     ensures { OnOk result (rows.new.entries ≡ set_row key.now row.now rows.old.entries) }
 {
     match row {

@@ -117,9 +117,21 @@ fn a_view_lists_events_by_key_and_instant(rt: HostRuntime) -> Result<(), Fail> {
     let alloc = rt.alloc();
     let schema = Schema::sample(alloc)?;
     let mut view = ann(alloc, emp_of(&rt, &schema))?;
-    insert(alloc, emp_of(&rt, &schema), &mut view, 200, emp(alloc, 2, "Bea")?)?;
+    insert(
+        alloc,
+        emp_of(&rt, &schema),
+        &mut view,
+        200,
+        emp(alloc, 2, "Bea")?,
+    )?;
     let kept = view.share()?;
-    insert(alloc, emp_of(&rt, &schema), &mut view, 300, emp(alloc, 0, "Cy")?)?;
+    insert(
+        alloc,
+        emp_of(&rt, &schema),
+        &mut view,
+        300,
+        emp(alloc, 0, "Cy")?,
+    )?;
     let range = KeyRange {
         lo: bytes(alloc, 1)?,
         hi: Some(bytes(alloc, 2)?),

@@ -19,12 +19,12 @@ pub returns-in-Some-clause-answers : goal.returns-in-Some-clause-answers
 returns-in-Some-clause-answers c = λ schema m reads ok.
     let fits : rows_fault c.args.table.now c.args.rows.now ≡ None = no_fault_is (rows_fault c.args.table.now c.args.rows.now) (sym c.in_default.is ∙ c.check_rows.ensures) in
     let found : duplicate c.args.table.now c.args.rows.now (seen m c.args.self.now) ≡ Some c.in-Some.key =
-        sym (
-            duplicate_is schema c.args.table.now c.args.view.now c.last.result m c.args.self.now c.args.rows.now c.deref.result.now reads c.last.ensures.ordered c.last.ensures.upto c.in_ok-key.ensures.ordered (c.deref.ensures.value ∙ c.in_ok-keys.ensures.ok)
-            (subst (All (IsKeyOf c.args.table.now)) (sym c.deref.ensures.value) c.in_ok-keys.ensures.own)
-            )
-        ∙ sym c.in_ok-key.ensures.ok
-        ∙ c.in-Some.is in
+    sym (
+    duplicate_is schema c.args.table.now c.args.view.now c.last.result m c.args.self.now c.args.rows.now c.deref.result.now reads c.last.ensures.ordered c.last.ensures.upto c.in_ok-key.ensures.ordered (c.deref.ensures.value ∙ c.in_ok-keys.ensures.ok)
+    (subst (All (IsKeyOf c.args.table.now)) (sym c.deref.ensures.value) c.in_ok-keys.ensures.own)
+    )
+    ∙ sym c.in_ok-key.ensures.ok
+    ∙ c.in-Some.is in
     insert_duplicate c.args.table.now c.args.rows.now (own m c.args.self.now) c.in-Some.key fits found
 
 pub put-requires : goal.put-requires
@@ -36,12 +36,12 @@ pub returns-clause-answers : goal.returns-clause-answers
 returns-clause-answers c = λ schema m reads ok.
     let fits : rows_fault c.args.table.now c.args.rows.now ≡ None = no_fault_is (rows_fault c.args.table.now c.args.rows.now) (sym c.in_default.is ∙ c.check_rows.ensures) in
     let none : duplicate c.args.table.now c.args.rows.now (seen m c.args.self.now) ≡ None =
-        sym (
-            duplicate_is schema c.args.table.now c.args.view.now c.last.result m c.args.self.now c.args.rows.now c.deref.result.now reads c.last.ensures.ordered c.last.ensures.upto c.in_ok-key.ensures.ordered (c.deref.ensures.value ∙ c.in_ok-keys.ensures.ok)
-            (subst (All (IsKeyOf c.args.table.now)) (sym c.deref.ensures.value) c.in_ok-keys.ensures.own)
-            )
-        ∙ sym c.in_ok-key.ensures.ok
-        ∙ c.in_default-2.is in
+    sym (
+    duplicate_is schema c.args.table.now c.args.view.now c.last.result m c.args.self.now c.args.rows.now c.deref.result.now reads c.last.ensures.ordered c.last.ensures.upto c.in_ok-key.ensures.ordered (c.deref.ensures.value ∙ c.in_ok-keys.ensures.ok)
+    (subst (All (IsKeyOf c.args.table.now)) (sym c.deref.ensures.value) c.in_ok-keys.ensures.own)
+    )
+    ∙ sym c.in_ok-key.ensures.ok
+    ∙ c.in_default-2.is in
     insert_done c.args.table.now c.args.rows.now m c.args.self.now c.put.new.self c.put.result c.in_ok-changes.changes.items fits none (c.in_ok-changes.ensures ∙ ap (λ ks. insertions ks c.args.rows.now) (c.deref-2.ensures.value ∙ c.in_ok-keys.ensures.ok))
     (sorted_from c.args.self.now c.put.ensures.ordered) (c.put.ensures.answer ok) c.put.ensures.ok c.put.ensures.err
 
