@@ -62,7 +62,7 @@ log_rises schema (SplitTime key instant ∷ h) = log_rises schema h
 log_rises schema (Migrate ∷ h) = log_rises schema h
 
 -- one step adds at most one transaction
-step_adds : (schema : Schema) (h : History) (step : Step) → (added : Log) × (log schema (step ∷ h) ≡ log schema h ++ added)
+pub step_adds : (schema : Schema) (h : History) (step : Step) → (added : Log) × (log schema (step ∷ h) ≡ log schema h ++ added)
 step_adds schema h (Commit i reading) =
     elim (opened schema h i) as (λ o. (added : Log) × (elim o [ None ↦ log schema h | Some before ↦ after (log schema h) (last before) (net_change_of schema (log schema h) (opened schema h i) (own schema h i)) reading ] ≡ log schema h ++ added)) [
       | None ↦ ([], sym (append-nil (log schema h)))

@@ -1,5 +1,7 @@
 pub mod Opens
 pub mod Growth
+pub mod Winners
+pub mod Snapshots
 pub mod Fronts
 pub mod Quotes
 pub mod Feeding
