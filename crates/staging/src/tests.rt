@@ -69,16 +69,38 @@ fn emp_of<'a>(rt: &impl Abort, schema: &'a Schema) -> &'a Table
     schema.table_at(1).expect(rt, "the sample has a table")
 }
 
-/// Inserts a row in a transaction of its own, and commits it.
-fn insert(alloc: Global, table: &Table, view: &mut View, at: Instant, row: Row) -> Mem<()>
+/// Inserts an employee.
+fn inserted(
+    alloc: Global,
+    table: &Table,
+    view: &View,
+    staged: &mut Staged,
+    number: i64,
+    name: &str,
+) -> Result<usize, Refusal>
+    requires { IsTable table.now.number table.now }
+{
+    let row = emp(alloc, number, name)?;
+    let rows = vec![in alloc; row]?;
+    staged.insert(view, table, &rows)
+}
+
+/// Inserts an employee in a transaction of its own, and commits it.
+fn record(
+    alloc: Global,
+    table: &Table,
+    view: &mut View,
+    at: Instant,
+    number: i64,
+    name: &str,
+) -> Mem<()>
     requires table { IsTable table.now.number table.now }
     requires later { view.old.last < at }
     requires in_range { at ≤ 1000 }
     ensures { OnOk result (view.new.last ≡ at) }
 {
     let mut staged = Staged::new(alloc)?;
-    let rows = vec![in alloc; row]?;
-    if let Err(refusal) = staged.insert(view, table, &rows) {
+    if let Err(refusal) = inserted(alloc, table, view, &mut staged, number, name) {
         return Err(refusal);
     }
     let net = staged.net(view)?;
@@ -91,8 +113,58 @@ fn ann(alloc: Global, table: &Table) -> Mem<View>
     ensures { IfOk result (λ v. v.last ≡ 100) }
 {
     let mut view = View::new(alloc)?;
-    insert(alloc, table, &mut view, 100, emp(alloc, 1, "Ann")?)?;
+    record(alloc, table, &mut view, 100, 1, "Ann")?;
     Ok(view)
+}
+
+/// Ann, and Bea with the number 2 from 200 on.
+fn two(alloc: Global, table: &Table) -> Mem<View>
+    requires { IsTable table.now.number table.now }
+{
+    let mut view = ann(alloc, table)?;
+    record(alloc, table, &mut view, 200, 2, "Bea")?;
+    Ok(view)
+}
+
+fn has_row(alloc: Global, view: &View, number: i64, instant: Instant) -> Mem<bool> {
+    let key = bytes(alloc, number)?;
+    Ok(view.get(&key, instant)?.is_some())
+}
+
+fn changed(alloc: Global, view: &View, number: i64, start: Instant) -> Mem<Option<Instant>> {
+    let key = bytes(alloc, number)?;
+    Ok(view.changed_since(&key, start)?)
+}
+
+/// How many events the employees from 1 on and below 2 have.
+fn events(alloc: Global, view: &View, from: Instant, to: Instant) -> Mem<usize> {
+    let range = KeyRange {
+        lo: bytes(alloc, 1)?,
+        hi: Some(bytes(alloc, 2)?),
+    };
+    Ok(view.events(alloc, &range, from, to)?.len())
+}
+
+fn standing(alloc: Global, view: &View, table: u8, instant: Instant) -> Mem<usize> {
+    Ok(view.standing(alloc, table, instant)?.len())
+}
+
+/// How many net changes a transaction has.
+fn changes(staged: &Staged, view: &View) -> Mem<usize> {
+    Ok(staged.net(view)?.changes().len())
+}
+
+fn deleted(
+    alloc: Global,
+    table: &Table,
+    view: &View,
+    staged: &mut Staged,
+    number: i64,
+) -> Result<usize, Refusal>
+    requires { IsTable table.now.number table.now }
+{
+    let keys = by(alloc, Operator::Equal, number)?;
+    staged.delete(view, table, &keys)
 }
 
 #[test]
@@ -100,49 +172,54 @@ fn a_view_has_the_row_from_its_instant_on(rt: HostRuntime) -> Result<(), Fail> {
     let alloc = rt.alloc();
     let schema = Schema::sample(alloc)?;
     let view = ann(alloc, emp_of(&rt, &schema))?;
-    let key = bytes(alloc, 1)?;
-    let row = emp(alloc, 1, "Ann")?;
     assert_eq!(rt; view.last(), 100);
-    assert!(rt; view.get(&key, 99)?.is_none());
-    let found = view.get(&key, 100)?.expect(&rt, "it begins there");
-    assert_eq!(rt; found.values(), row.values());
-    assert!(rt; view.get(&bytes(alloc, 2)?, 100)?.is_none());
-    assert!(rt; view.changed_since(&key, 99)? == Some(100));
-    assert!(rt; view.changed_since(&key, 100)?.is_none());
+    assert!(rt; !has_row(alloc, &view, 1, 99)?);
+    assert!(rt; has_row(alloc, &view, 1, 100)?);
+    assert!(rt; !has_row(alloc, &view, 2, 100)?);
     Ok(())
 }
 
 #[test]
-fn a_view_lists_events_by_key_and_instant(rt: HostRuntime) -> Result<(), Fail> {
+fn a_key_was_changed_at_its_last_instant(rt: HostRuntime) -> Result<(), Fail> {
     let alloc = rt.alloc();
     let schema = Schema::sample(alloc)?;
-    let mut view = ann(alloc, emp_of(&rt, &schema))?;
-    insert(
-        alloc,
-        emp_of(&rt, &schema),
-        &mut view,
-        200,
-        emp(alloc, 2, "Bea")?,
-    )?;
+    let view = ann(alloc, emp_of(&rt, &schema))?;
+    assert_eq!(rt; changed(alloc, &view, 1, 99)?, Some(100));
+    assert_eq!(rt; changed(alloc, &view, 1, 100)?, None);
+    Ok(())
+}
+
+#[test]
+fn a_view_lists_the_events_of_a_range(rt: HostRuntime) -> Result<(), Fail> {
+    let alloc = rt.alloc();
+    let schema = Schema::sample(alloc)?;
+    let view = two(alloc, emp_of(&rt, &schema))?;
+    assert_eq!(rt; events(alloc, &view, 0, 300)?, 1);
+    assert_eq!(rt; events(alloc, &view, 101, 300)?, 0);
+    Ok(())
+}
+
+#[test]
+fn a_view_lists_the_rows_that_stand(rt: HostRuntime) -> Result<(), Fail> {
+    let alloc = rt.alloc();
+    let schema = Schema::sample(alloc)?;
+    let view = two(alloc, emp_of(&rt, &schema))?;
+    assert_eq!(rt; standing(alloc, &view, 1, 200)?, 2);
+    assert_eq!(rt; standing(alloc, &view, 1, 199)?, 1);
+    assert_eq!(rt; standing(alloc, &view, 2, 200)?, 0);
+    Ok(())
+}
+
+#[test]
+fn a_shared_view_stays(rt: HostRuntime) -> Result<(), Fail> {
+    let alloc = rt.alloc();
+    let schema = Schema::sample(alloc)?;
+    let table = emp_of(&rt, &schema);
+    let mut view = ann(alloc, table)?;
     let kept = view.share()?;
-    insert(
-        alloc,
-        emp_of(&rt, &schema),
-        &mut view,
-        300,
-        emp(alloc, 0, "Cy")?,
-    )?;
-    let range = KeyRange {
-        lo: bytes(alloc, 1)?,
-        hi: Some(bytes(alloc, 2)?),
-    };
-    assert_eq!(rt; view.events(alloc, &range, 0, 300)?.len(), 1);
-    assert_eq!(rt; view.events(alloc, &range, 101, 300)?.len(), 0);
-    assert_eq!(rt; view.standing(alloc, 1, 300)?.len(), 3);
-    assert_eq!(rt; view.standing(alloc, 1, 199)?.len(), 1);
-    assert_eq!(rt; view.standing(alloc, 2, 300)?.len(), 0);
-    assert_eq!(rt; kept.last(), 200);
-    assert_eq!(rt; kept.standing(alloc, 1, 300)?.len(), 2);
+    record(alloc, table, &mut view, 200, 2, "Bea")?;
+    assert_eq!(rt; kept.last(), 100);
+    assert_eq!(rt; standing(alloc, &kept, 1, 300)?, 1);
     Ok(())
 }
 
@@ -153,16 +230,23 @@ fn a_transaction_sees_its_own_writes(rt: HostRuntime) -> Result<(), Fail> {
     let table = emp_of(&rt, &schema);
     let view = ann(alloc, table)?;
     let mut staged = Staged::new(alloc)?;
-    let rows = vec![in alloc; emp(alloc, 2, "Bea")?, emp(alloc, 3, "Cy")?]?;
-    assert!(rt; staged.insert(&view, table, &rows) == Ok(2));
-    let sets = vec![in alloc; named(alloc, "Fay")?]?;
-    assert!(rt; staged.update(&view, table, &by(alloc, Operator::Below, 3)?, &sets) == Ok(2));
-    assert!(rt; staged.delete(&view, table, &by(alloc, Operator::Equal, 3)?) == Ok(1));
+    assert!(rt; inserted(alloc, table, &view, &mut staged, 2, "Bea") == Ok(1));
+    assert!(rt; deleted(alloc, table, &view, &mut staged, 1) == Ok(1));
     let found = staged.rows(&view, table, &all(alloc))?;
-    assert_eq!(rt; found.len(), 2);
-    let fay = emp(alloc, 1, "Fay")?;
-    let row = found.get(&key(alloc, 1)?).expect(&rt, "it stands");
-    assert_eq!(rt; row.values(), fay.values());
+    assert_eq!(rt; found.len(), 1);
+    Ok(())
+}
+
+#[test]
+fn an_update_sets_a_column(rt: HostRuntime) -> Result<(), Fail> {
+    let alloc = rt.alloc();
+    let schema = Schema::sample(alloc)?;
+    let table = emp_of(&rt, &schema);
+    let view = ann(alloc, table)?;
+    let mut staged = Staged::new(alloc)?;
+    let sets = vec![in alloc; named(alloc, "Fay")?]?;
+    assert!(rt; staged.update(&view, table, &all(alloc), &sets) == Ok(1));
+    assert_eq!(rt; changes(&staged, &view)?, 1);
     Ok(())
 }
 
@@ -173,15 +257,10 @@ fn a_key_that_is_absent_before_and_after_is_no_change(rt: HostRuntime) -> Result
     let table = emp_of(&rt, &schema);
     let view = ann(alloc, table)?;
     let mut staged = Staged::new(alloc)?;
-    let rows = vec![in alloc; emp(alloc, 9, "tmp")?]?;
-    assert!(rt; staged.insert(&view, table, &rows) == Ok(1));
-    assert_eq!(rt; staged.net(&view)?.changes().len(), 1);
-    assert!(rt; staged.delete(&view, table, &by(alloc, Operator::Equal, 9)?) == Ok(1));
-    assert_eq!(rt; staged.net(&view)?.changes().len(), 0);
-    assert!(rt; staged.delete(&view, table, &all(alloc)) == Ok(1));
-    let net = staged.net(&view)?;
-    assert_eq!(rt; net.changes().len(), 1);
-    assert!(rt; net.changes()[0].1.is_none());
+    assert!(rt; inserted(alloc, table, &view, &mut staged, 9, "tmp") == Ok(1));
+    assert_eq!(rt; changes(&staged, &view)?, 1);
+    assert!(rt; deleted(alloc, table, &view, &mut staged, 9) == Ok(1));
+    assert_eq!(rt; changes(&staged, &view)?, 0);
     Ok(())
 }
 
@@ -192,16 +271,21 @@ fn a_refused_insert_changes_nothing(rt: HostRuntime) -> Result<(), Fail> {
     let table = emp_of(&rt, &schema);
     let view = ann(alloc, table)?;
     let mut staged = Staged::new(alloc)?;
-    let twice = vec![in alloc; emp(alloc, 2, "Bea")?, emp(alloc, 2, "Bo")?]?;
-    let duplicate = staged.insert(&view, table, &twice);
-    assert!(rt; duplicate == Err(Refusal::DuplicateKey(key(alloc, 2)?)));
-    let there = vec![in alloc; emp(alloc, 2, "Bea")?, emp(alloc, 1, "Al")?]?;
-    let duplicate = staged.insert(&view, table, &there);
-    assert!(rt; duplicate == Err(Refusal::DuplicateKey(key(alloc, 1)?)));
-    let long = vec![in alloc; emp(alloc, 2, "two\nlines")?]?;
-    assert!(rt; staged.insert(&view, table, &long) == Err(Refusal::BadRow(2)));
-    assert_eq!(rt; staged.net(&view)?.changes().len(), 0);
+    let there = inserted(alloc, table, &view, &mut staged, 1, "Al");
+    assert!(rt; there == Err(Refusal::DuplicateKey(key(alloc, 1)?)));
+    let broken = inserted(alloc, table, &view, &mut staged, 2, "two\nlines");
+    assert!(rt; broken == Err(Refusal::BadRow(2)));
+    assert_eq!(rt; changes(&staged, &view)?, 0);
     Ok(())
+}
+
+/// So many employees.
+fn many(alloc: Global, count: i64) -> Result<Vec<Row>, AllocError> {
+    let mut rows = Vec::new(alloc);
+    for number in 0..count {
+        rows.push(emp(alloc, number, "n")?)?;
+    }
+    Ok(rows)
 }
 
 #[test]
@@ -211,31 +295,23 @@ fn a_transaction_writes_1000_keys_at_most(rt: HostRuntime) -> Result<(), Fail> {
     let table = emp_of(&rt, &schema);
     let view = View::new(alloc)?;
     let mut staged = Staged::new(alloc)?;
-    let mut rows = Vec::new(alloc);
-    for number in 1..1001i64 {
-        rows.push(emp(alloc, number, "n")?)?;
-    }
-    assert!(rt; staged.insert(&view, table, &rows) == Ok(1000));
-    let more = vec![in alloc; emp(alloc, 1001, "n")?]?;
-    assert!(rt; staged.insert(&view, table, &more) == Err(Refusal::TooManyWrites));
-    assert_eq!(rt; staged.net(&view)?.changes().len(), 1000);
+    assert!(rt; staged.insert(&view, table, &many(alloc, 1000)?) == Ok(1000));
+    let more = inserted(alloc, table, &view, &mut staged, 1000, "n");
+    assert!(rt; more == Err(Refusal::TooManyWrites));
     Ok(())
 }
 
 #[test]
-fn keys_and_sets_that_do_not_fit_are_refused(rt: HostRuntime) -> Result<(), Fail> {
+fn keys_of_another_table_are_refused(rt: HostRuntime) -> Result<(), Fail> {
     let alloc = rt.alloc();
     let schema = Schema::sample(alloc)?;
     let table = emp_of(&rt, &schema);
-    let view = ann(alloc, table)?;
+    let view = View::new(alloc)?;
     let mut staged = Staged::new(alloc)?;
     let other = Keys {
         table: 2,
         comparisons: Sequence::new(Vec::new(alloc)),
     };
     assert!(rt; staged.delete(&view, table, &other) == Err(Refusal::NoTable));
-    let sets = vec![in alloc; named(alloc, "two\nlines")?]?;
-    assert!(rt; staged.update(&view, table, &other, &sets) == Err(Refusal::NoTable));
-    assert!(rt; staged.update(&view, table, &all(alloc), &sets) == Err(Refusal::BadRow(2)));
     Ok(())
 }
