@@ -2,6 +2,7 @@ pub mod Opens
 pub mod Growth
 pub mod Winners
 pub mod Snapshots
+pub mod Past
 pub mod Fronts
 pub mod Quotes
 pub mod Feeding

@@ -27,7 +27,7 @@ use Rattle.statement.proofs.Growth.{log_rises, step_adds}
 
 -- ---- an open transaction began at a front of the log
 
-abbrev IsFront : Log → Log → Type 0
+abbrev pub IsFront : Log → Log → Type 0
 IsFront before now = (added : Log) × (now ≡ before ++ added)
 
 front_more : (before now later : Log) → IsFront before now → IsFront now later → IsFront before later
@@ -41,7 +41,7 @@ opened_step false false None now before is old = cc
 opened_step false true (Some x) now before is old = old before is
 opened_step false false (Some x) now before is old = old before is
 
-opened_front : (schema : Schema) (h : History) (i : ℕ) (before : Log) → opened schema h i ≡ Some before → IsFront before (log schema h)
+pub opened_front : (schema : Schema) (h : History) (i : ℕ) (before : Log) → opened schema h i ≡ Some before → IsFront before (log schema h)
 opened_front schema [] i before is = cc
 opened_front schema (step ∷ h) i before is =
     front_more before (log schema h) (log schema (step ∷ h))
@@ -117,7 +117,7 @@ opened_small schema (step ∷ h) i before is =
     small_step (ends i step) (begins i step) (opened schema h i) (log schema h) before is (begun_small i step) (λ x was. opened_small schema h i x was)
 
 module _ (schema : Schema) where
-  abbrev select_by : Keys → Bool → (Table → Listing) → Reply
+  abbrev pub select_by : Keys → Bool → (Table → Listing) → Reply
   select_by keys beyond shown = elim (if beyond then Some NoSession else elim (table_at schema keys.table) [ None ↦ Some NoTable | Some table ↦ bad_row (comparisons_fault table keys.comparisons) ]) [
     | Some refusal ↦ Refused refusal
     | None ↦ elim (table_at schema keys.table) [ None ↦ Refused NoTable | Some table ↦ Shows (shown table) ]

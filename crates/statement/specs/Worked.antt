@@ -1,5 +1,5 @@
 -- Worked examples, each a list of steps with its replies.
-use Rattle.std.specs.Prelude.{◌≡◌, ℕ, List, [], ◌∷◌, ◌++◌, Option, Some, None, codes, pos}
+use Rattle.std.specs.Prelude.{◌≡◌, ℕ, List, [], ◌∷◌, ◌++◌, Option, Some, None, codes, pos, map, reverse}
 use Rattle.rows.specs.declared.values.Value.TheVariants.{Int, Text}
 use Rattle.rows.specs.declared.queries.Form.TheVariants.{Plain, AsOf, FromTo, Between}
 use Rattle.rows.specs.declared.queries.Operator.TheVariants.{Equal}
@@ -17,6 +17,7 @@ use Rattle.statement.specs.declared.steps.Listing.TheVariants.{Rows, Periods}
 use Rattle.statement.specs.declared.steps.Reply.{Reply}
 use Rattle.statement.specs.declared.steps.Reply.TheVariants.{Begun, Inserted, Updated, Deleted, Shown as Shows, Committed, RolledBack, Refused}
 use Rattle.statement.specs.History.{replies}
+use Rattle.statement.specs.Winners.{winners}
 
 abbrev pub emp : ℕ → List ℕ → Row
 emp n name = Int (pos n) ∷ Text name ∷ []
@@ -98,6 +99,10 @@ sixth_replies = fourth_replies ++ Begun 201 ∷ Begun 201 ∷ Updated 1 ∷ Upda
 
 abbrev pub WriteSkew : Type 0
 WriteSkew = Answers sixth sixth_replies
+
+-- the last two of its committed transactions, by start and instant, each began before the other was committed
+abbrev pub ConcurrentWinners : Type 0
+ConcurrentWinners = map {B = ℕ × ℕ} (λ w. (w.start, w.transaction.instant)) (winners sample (reverse sixth)) ≡ (0, 100) ∷ (100, 200) ∷ (200, 201) ∷ (201, 202) ∷ (201, 203) ∷ []
 
 -- a row that was inserted and deleted leaves no change, and takes no instant
 abbrev pub NetChange : Type 0

@@ -19,6 +19,9 @@ returns-clause-first_committer c = refl
 pub returns-clause-write_skew : goal.returns-clause-write_skew
 returns-clause-write_skew c = refl
 
+pub returns-clause-concurrent_winners : goal.returns-clause-concurrent_winners
+returns-clause-concurrent_winners c = refl
+
 pub returns-clause-net_change : goal.returns-clause-net_change
 returns-clause-net_change c = refl
 
