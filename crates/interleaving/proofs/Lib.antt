@@ -1,5 +1,5 @@
-pub mod Looks
-pub mod Undone
-pub mod Bounds
+pub mod Keeps
+pub mod Written
+pub mod Listed
 pub mod Scripting
 pub mod Running

@@ -1,80 +1,93 @@
 //! SELECT.
-ghost use Rattle.std.specs.Prelude.{◌≡◌, ◌≤◌, IfOk};
-ghost use Rattle.statement.specs.History.{rows_taken, rows_of};
-ghost use Rattle.turns.specs.Turns.{listing, select_reply, start_of};
-ghost use Rattle.turns.specs.Stands.{session_at};
+ghost use Rattle.std.specs.Prelude.{◌≡◌, ◌≤◌, IfOk, map};
+ghost use Rattle.rows.specs.Log.{Changes};
+ghost use Rattle.rows.specs.Memory.{OnlyMemory};
+ghost use Rattle.rows.specs.Tables.{Schema};
+ghost use Rattle.rows.specs.Versions.{answer};
+ghost use Rattle.staging.specs.Committed.{Holds};
+ghost use Rattle.staging.specs.Own.{Reads};
+ghost use Rattle.rows.specs.Tables.{table_at};
+ghost use Rattle.statement.specs.History.{rows_of};
+ghost use Rattle.std.specs.Prelude.{Some};
+ghost use Rattle.turns.specs.Turns.{select_reply};
+ghost use Rattle.interleaving.specs.Listings.{listed, listed_in};
 
-use crate::answers::answer;
 use crate::system::{Open, System};
-use rows::{Form, Key, Keys, Refusal, Row, Rows, Shown, ShownRows, Table};
+use rows::{Form, Key, Keys, Mem, Refusal, Row, Rows, Shown, ShownRows, Table};
+use staging::View;
 use statement::{Listing, Reply};
-use std::alloc::{AllocError, Global};
+use std::alloc::Global;
 use std::collections::BTreeMap;
+use systime_query::answer;
 
 impl System {
     /// What a query of a session shows.
-    pub(crate) fn select(&self, session: u8, form: Form, keys: &Keys) -> Result<Reply, AllocError>
+    pub(crate) fn select(&self, session: u8, form: Form, keys: &Keys) -> Mem<Reply>
         requires { session ≤ 64 }
-        ensures { IfOk result (λ reply. reply ≡ select_reply self.now session form keys.now) }
+        ensures ok { IfOk result (λ reply. reply ≡ select_reply self.now session form keys.now) }
+        ensures memory { OnlyMemory result }
     {
         let Some(table) = self.schema.table_at(keys.table) else {
             return Ok(Reply::Refused(Refusal::NoTable));
         };
-        let transaction = &self.sessions[session as usize];
-        Ok(Reply::Shown(self.listing(transaction, form, table, keys)?))
-    }
-
-    /// A plain query shows the rows that an open transaction sees, any other what was committed until its start.
-    fn listing(
-        &self,
-        transaction: &Option<Open>,
-        form: Form,
-        table: &Table,
-        keys: &Keys,
-    ) -> Result<Listing, AllocError>
-        ensures { IfOk result (λ found. found ≡ listing self.now transaction.now form table.now keys.now) }
-    {
-        if let (Some(transaction), Form::Plain) = (transaction, form) {
-            let rows = rows_taken(self.alloc, table, keys, &transaction.rows)?;
-            return Ok(Listing::Rows(Rows::new(rows)));
-        }
-        let upto = match transaction {
-            Some(transaction) => transaction.start,
-            None => self.latest,
+        let listing = match &self.sessions[session as usize] {
+            Some(transaction) => listed_in(self.alloc, transaction, form, table, keys)?,
+            None => listed(self.alloc, &self.engine.begin()?, form, table, keys)?,
         };
-        let shown = answer(self.alloc, &self.changes, upto, table, form, keys)?;
-        match form {
-            Form::Plain | Form::AsOf(_) => {
-                Ok(Listing::Rows(Rows::new(rows_of(self.alloc, shown)?)))
-            }
-            Form::FromTo(_, _) | Form::Between(_, _) => {
-                Ok(Listing::Periods(ShownRows::new(shown)))
-            }
+        Ok(Reply::Shown(listing))
+    }
+}
+
+/// What a transaction shows: a plain query the rows that it sees, any other what was committed until its start.
+fn listed_in(
+    alloc: Global,
+    transaction: &Open,
+    form: Form,
+    table: &Table,
+    keys: &Keys,
+) -> Mem<Listing>
+    ensures ok { IfOk result (λ l. (schema : Schema) (m : Changes) → Reads schema table.now transaction.now.view transaction.now.writes m → keys.now.table ≡ table.now.number → l ≡ listed_in m transaction.now.writes table.now form keys.now) }
+    ensures memory { OnlyMemory result }
+{
+    match form {
+        Form::Plain => {
+            let found = transaction.staged.rows(&transaction.view, table, keys)?;
+            Ok(Listing::Rows(Rows::new(rows_found(alloc, found)?)))
+        }
+        Form::AsOf(_) | Form::FromTo(_, _) | Form::Between(_, _) => {
+            listed(alloc, &transaction.view, form, table, keys)
         }
     }
 }
 
-/// The rows whose keys are taken, by key.
-fn rows_taken(
-    alloc: Global,
-    table: &Table,
-    keys: &Keys,
-    rows: &BTreeMap<Key, Row>,
-) -> Result<Vec<Row>, AllocError>
-    ensures { IfOk result (λ v. v.items ≡ rows_taken table.now keys.now rows.now.entries) }
+/// What a query shows of what was committed.
+fn listed(alloc: Global, view: &View, form: Form, table: &Table, keys: &Keys) -> Mem<Listing>
+    ensures ok { IfOk result (λ l. (schema : Schema) (m : Changes) → Holds schema view.now m → table_at schema table.now.number ≡ Some table.now → keys.now.table ≡ table.now.number → l ≡ listed form (answer m table.now form keys.now)) }
+    ensures memory { OnlyMemory result }
 {
-    let mut found = Vec::new(alloc);
-    for (key, row) in rows {
-        if keys.takes(table, key) {
-            found.push(row.clone()?)?;
-        }
+    let shown = answer(alloc, view, table, form, keys)?;
+    match form {
+        Form::Plain | Form::AsOf(_) => Ok(Listing::Rows(Rows::new(rows_of(alloc, shown)?))),
+        Form::FromTo(_, _) | Form::Between(_, _) => Ok(Listing::Periods(ShownRows::new(shown))),
     }
-    Ok(found)
+}
+
+/// The rows, by their keys.
+fn rows_found(alloc: Global, found: BTreeMap<Key, Row>) -> Mem<Vec<Row>>
+    ensures ok { IfOk result (λ v. v.items ≡ map (λ e. e.1) found.entries) }
+    ensures memory { OnlyMemory result }
+{
+    let mut rows = Vec::new(alloc);
+    for (_key, row) in found {
+        rows.push(row)?;
+    }
+    Ok(rows)
 }
 
 /// The rows without their periods.
-fn rows_of(alloc: Global, shown: Vec<Shown>) -> Result<Vec<Row>, AllocError>
-    ensures { IfOk result (λ v. v.items ≡ rows_of shown.items) }
+fn rows_of(alloc: Global, shown: Vec<Shown>) -> Mem<Vec<Row>>
+    ensures ok { IfOk result (λ v. v.items ≡ rows_of shown.items) }
+    ensures memory { OnlyMemory result }
 {
     let mut rows = Vec::new(alloc);
     for version in shown {

@@ -1,13 +1,12 @@
 //! Each step in turn.
-ghost use Rattle.std.specs.Prelude.{◌≡◌, ◌≢◌, ◌∷◌, IfOk, OnErr, None, is_ok, true, false};
+ghost use Rattle.std.specs.Prelude.{◌≡◌, ◌≢◌, ◌∷◌, None, true, false, IfOk, IfErr};
 ghost use Rattle.statement.specs.History.{misfit};
 ghost use Rattle.turns.specs.Turns.{turn_in};
 ghost use Rattle.turns.specs.Runs.{is_out, is_rollback};
 
 use crate::system::System;
-use rows::Refusal;
+use rows::{Mem, Refusal};
 use statement::{Reply, Step};
-use std::alloc::AllocError;
 
 impl System {
     ghost use Rattle.statement.specs.History.{History, reply};
@@ -23,28 +22,36 @@ impl System {
         if let Some(refusal) = step.misfit(&self.schema) {
             return Reply::Refused(refusal);
         }
-        match self.step_in(&step) {
-            Ok(reply) => reply,
-            Err(_) => Reply::Refused(Refusal::Memory),
-        }
+        self.step_in(&step)
     }
 
     /// Takes a step that fits the schema.
-    fn step_in(&mut self, step: &Step) -> Result<Reply, AllocError>
+    fn step_in(&mut self, step: &Step) -> Reply
         requires { misfit self.old.schema step.now ≡ None }
-        ensures ok { IfOk result (λ reply. (reply, self.new) ≡ turn_in self.old step.now) }
-        ensures err { OnErr result (self.new ≡ self.old) }
-        ensures rollback { is_rollback step.now ≡ true → is_ok result ≡ true }
+        ensures answered { is_out result ≡ false → (result, self.new) ≡ turn_in self.old step.now }
+        ensures out { is_out result ≡ true → self.new ≡ self.old }
+        ensures rollback { is_rollback step.now ≡ true → is_out result ≡ false }
     {
         match step {
-            Step::Begin(session) => self.begin(*session),
+            Step::Begin(session) => reply_of(self.begin(*session)),
             Step::Insert(session, table, rows) => self.insert(*session, *table, rows.items()),
             Step::Update(session, keys, sets) => self.update(*session, keys, sets.items()),
             Step::Delete(session, keys) => self.delete(*session, keys),
-            Step::Select(session, form, keys) => self.select(*session, *form, keys),
+            Step::Select(session, form, keys) => reply_of(self.select(*session, *form, keys)),
             Step::Commit(session, reading) => self.commit(*session, *reading),
-            Step::Rollback(session) => Ok(self.rollback(*session)),
-            Step::SplitKey(_) | Step::SplitTime(_, _) | Step::Migrate => Ok(Reply::Done),
+            Step::Rollback(session) => self.rollback(*session),
+            Step::SplitKey(_) | Step::SplitTime(_, _) | Step::Migrate => Reply::Done,
         }
+    }
+}
+
+/// A reply, or that memory ran out.
+fn reply_of(reply: Mem<Reply>) -> Reply
+    ensures ok { IfOk reply (λ r. result ≡ r) }
+    ensures err { IfErr reply (λ r. result ≡ Reply.Refused r) }
+{
+    match reply {
+        Ok(reply) => reply,
+        Err(refusal) => Reply::Refused(refusal),
     }
 }

@@ -2,28 +2,28 @@
 ghost use Rattle.std.specs.Prelude.{◌≡◌, IfOk};
 ghost use Rattle.rows.specs.Memory.{OnlyMemory};
 
-use rows::{Instant, Key, Mem, Point, Row, Schema};
+use rows::{Mem, Schema};
+use staging::{Staged, View};
 use std::alloc::Global;
-use std::collections::{BTreeMap, BTreeSet};
 use std::marker::Model;
+use validation::Engine;
 
 /// How many sessions there are: they are numbered from 0.
 pub(crate) const SESSIONS: usize = 65;
 
-/// An open transaction: its start, the rows that it sees, and the keys that it wrote.
+/// An open transaction: what it sees of what was committed, and its own writes.
 #[derive(Drop)]
 pub(crate) struct Open {
-    pub(crate) start: Instant,
-    pub(crate) rows: BTreeMap<Key, Row>,
-    pub(crate) written: BTreeSet<Key>,
+    pub(crate) view: View,
+    pub(crate) staged: Staged,
 }
 
 impl Model for Open {
-    ghost use Rattle.turns.specs.World.{Session};
+    ghost use Rattle.interleaving.specs.Keeping.{Begun};
 
-    ghost Value = { Session };
+    ghost Value = { Begun };
 
-    ghost view = { λ o. record { start = o.start; rows = o.rows.entries; written = o.written.keys } };
+    ghost view = { λ o. record { view = o.view; writes = o.staged } };
 }
 
 /// The store: what was committed, and the open transactions by their sessions' numbers.
@@ -31,21 +31,19 @@ impl Model for Open {
 pub struct System {
     pub(crate) alloc: Global,
     pub(crate) schema: Schema,
-    pub(crate) changes: BTreeMap<Point, Option<Row>>,
-    pub(crate) latest: Instant,
+    pub(crate) engine: Engine,
     pub(crate) sessions: Vec<Option<Open>>,
 }
 
 impl Model for System {
-    ghost use Rattle.std.specs.Prelude.{◌≡◌, ◌≤◌, length};
     ghost use Rattle.turns.specs.World.{World};
-    ghost use Rattle.interleaving.specs.Kept.{Upto};
+    ghost use Rattle.interleaving.specs.Keeping.{world, IsSystem};
 
     ghost Value = { World };
 
-    ghost view = { λ s. record { schema = s.schema; changes = s.changes.entries; latest = s.latest; sessions = s.sessions.items } };
+    ghost view = { λ s. world s.schema s.engine s.sessions.items };
 
-    ghost invariant = { λ s. (length s.sessions.items ≡ 65) × (s.latest ≤ 999999999999999999) × Upto s.latest s.changes.entries };
+    ghost invariant = { λ s. IsSystem s.schema s.engine s.sessions.items };
 }
 
 impl System {
@@ -58,6 +56,7 @@ impl System {
         ensures schema { IfOk result (λ s. s.schema ≡ schema) }
         ensures memory { OnlyMemory result }
     {
+        let engine = Engine::new(alloc)?;
         let mut sessions = Vec::new(alloc);
         for _ in 0..SESSIONS {
             sessions.push(None)?;
@@ -65,8 +64,7 @@ impl System {
         Ok(System {
             alloc,
             schema,
-            changes: BTreeMap::new(alloc),
-            latest: 0,
+            engine,
             sessions,
         })
     }

@@ -1,66 +1,69 @@
-//! What INSERT, UPDATE and DELETE share: the keys that a transaction writes.
-ghost use Rattle.std.specs.Prelude.{◌≡◌, IfOk, OnOk};
-ghost use Rattle.std.specs.BTreeMap.{IsOrdered};
-ghost use Rattle.rows.specs.Order.{key_cmp};
-ghost use Rattle.rows.specs.Writes.{add_keys, met};
-ghost use Rattle.std.specs.Option.{option_map};
-ghost use Rattle.interleaving.specs.Kept.{few, remove_keys};
+//! INSERT, UPDATE and DELETE: a session's open transaction keeps them, and nobody else sees them.
+ghost use Rattle.std.specs.Prelude.{◌≡◌, ◌≤◌, None, true, false};
+ghost use Rattle.statement.specs.declared.steps.Step.TheVariants.{Insert, Update, Delete};
+ghost use Rattle.statement.specs.History.{misfit};
+ghost use Rattle.turns.specs.Runs.{is_out};
+ghost use Rattle.turns.specs.Turns.{turn_in};
 
-use rows::{Key, Keys, Row, Table};
-use std::alloc::{AllocError, Global};
-use std::collections::{BTreeMap, BTreeSet};
+use crate::system::System;
+use rows::{Keys, Refusal, Row, Set};
+use statement::Reply;
 
-/// The keys that a transaction may write.
-const MOST_WRITTEN: usize = 1000;
-
-/// The keys that the comparisons meet, in order.
-pub(crate) fn met(
-    alloc: Global,
-    table: &Table,
-    keys: &Keys,
-    rows: &BTreeMap<Key, Row>,
-) -> Result<Vec<Key>, AllocError>
-    ensures keys { IfOk result (λ v. v.items ≡ met table.now keys.now rows.now.entries) }
-    ensures ordered { OnOk result (IsOrdered key_cmp rows.now) }
-{
-    let mut found = Vec::new(alloc);
-    for (key, _row) in rows {
-        if keys.takes(table, key) {
-            found.push(key.clone()?)?;
+impl System {
+    /// Inserts rows of a table.
+    pub(crate) fn insert(&mut self, session: u8, number: u8, rows: &[Row]) -> Reply
+        requires { misfit self.old.schema (Insert session number rows.now) ≡ None }
+        ensures answered { is_out result ≡ false → (result, self.new) ≡ turn_in self.old (Insert session number rows.now) }
+        ensures out { is_out result ≡ true → self.new ≡ self.old }
+    {
+        let Some(transaction) = &mut self.sessions[session as usize] else {
+            return Reply::Refused(Refusal::NoTransaction);
+        };
+        let Some(table) = self.schema.table_at(number) else {
+            return Reply::Refused(Refusal::NoTable);
+        };
+        match transaction.staged.insert(&transaction.view, table, rows) {
+            Ok(count) => Reply::Inserted(count),
+            Err(refusal) => Reply::Refused(refusal),
         }
     }
-    Ok(found)
-}
 
-/// The written keys with more, or none where they would be too many.
-pub(crate) fn written_with(
-    written: &BTreeSet<Key>,
-    keys: &[Key],
-) -> Result<Option<BTreeSet<Key>>, AllocError>
-    ensures { IfOk result (λ found. option_map (λ w. w.keys) found ≡ few (add_keys keys.now written.now.keys)) }
-{
-    let mut more = written.clone()?;
-    add_keys(&mut more, keys)?;
-    if more.len() > MOST_WRITTEN {
-        return Ok(None);
+    /// Sets columns of the rows whose keys meet all comparisons.
+    pub(crate) fn update(&mut self, session: u8, keys: &Keys, sets: &[Set]) -> Reply
+        requires { misfit self.old.schema (Update session keys.now sets.now) ≡ None }
+        ensures answered { is_out result ≡ false → (result, self.new) ≡ turn_in self.old (Update session keys.now sets.now) }
+        ensures out { is_out result ≡ true → self.new ≡ self.old }
+    {
+        let Some(transaction) = &mut self.sessions[session as usize] else {
+            return Reply::Refused(Refusal::NoTransaction);
+        };
+        let Some(table) = self.schema.table_at(keys.table) else {
+            return Reply::Refused(Refusal::NoTable);
+        };
+        match transaction
+            .staged
+            .update(&transaction.view, table, keys, sets)
+        {
+            Ok(count) => Reply::Updated(count),
+            Err(refusal) => Reply::Refused(refusal),
+        }
     }
-    Ok(Some(more))
-}
 
-fn add_keys(written: &mut BTreeSet<Key>, keys: &[Key]) -> Result<(), AllocError>
-    ensures { OnOk result (written.new.keys ≡ add_keys keys.now written.old.keys) }
-{
-    for key in keys {
-        written.insert(key.clone()?)?;
-    }
-    Ok(())
-}
-
-/// Takes keys out, with their rows.
-pub(crate) fn remove_keys(rows: &mut BTreeMap<Key, Row>, keys: &[Key])
-    ensures { rows.new.entries ≡ remove_keys keys.now rows.old.entries }
-{
-    for key in keys {
-        rows.remove(key);
+    /// Deletes the rows whose keys meet all comparisons.
+    pub(crate) fn delete(&mut self, session: u8, keys: &Keys) -> Reply
+        requires { misfit self.old.schema (Delete session keys.now) ≡ None }
+        ensures answered { is_out result ≡ false → (result, self.new) ≡ turn_in self.old (Delete session keys.now) }
+        ensures out { is_out result ≡ true → self.new ≡ self.old }
+    {
+        let Some(transaction) = &mut self.sessions[session as usize] else {
+            return Reply::Refused(Refusal::NoTransaction);
+        };
+        let Some(table) = self.schema.table_at(keys.table) else {
+            return Reply::Refused(Refusal::NoTable);
+        };
+        match transaction.staged.delete(&transaction.view, table, keys) {
+            Ok(count) => Reply::Deleted(count),
+            Err(refusal) => Reply::Refused(refusal),
+        }
     }
 }

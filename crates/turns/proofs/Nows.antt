@@ -18,7 +18,7 @@ use Rattle.turns.specs.Turns.{last_until, was_there}
 
 -- ---- all changes made in turn
 
-abbrev over : Option (Option Row) → Option Row → Option Row
+abbrev pub over : Option (Option Row) → Option Row → Option Row
 over None row = row
 over (Some change) row = change
 
@@ -32,7 +32,7 @@ in_time : (b : Bool) (i t : ℕ) → i ≤ t → (b && nat_le i t) ≡ b
 in_time true i t h = grind (arith, nat_tests)
 in_time false i t h = refl
 
-row_after : (m : Changes) (s : State) (t : ℕ) (q : Key) → Upto t m → T (is_sorted key_cmp s) → row_at (rows_after s m) q ≡ over (last.latest m t q) (row_at s q)
+pub row_after : (m : Changes) (s : State) (t : ℕ) (q : Key) → Upto t m → T (is_sorted key_cmp s) → row_at (rows_after s m) q ≡ over (last.latest m t q) (row_at s q)
 row_after [] s t q up h = refl
 row_after (c ∷ cs) s t q up h =
     row_after cs _ t q up.1 (sorted_set_row c.0.key c.1 s h) ∙ ap (over (last.latest cs t q)) (row_at-set_row q c.0.key c.1 s h)
@@ -47,7 +47,7 @@ none_later : (log : Log) (m : Changes) (n : ℕ) → Rises n log → Upto n m �
 none_later [] m n r up = up
 none_later (u ∷ log) m n r up = none_later log _ u.instant r.1 (Upto-net u.net u.instant m (Upto-more m n u.instant (let lt : n < u.instant = r.0 in omega arith) up))
 
-flat : (x : Option (Option Row)) → over x None ≡ option_flatten x
+pub flat : (x : Option (Option Row)) → over x None ≡ option_flatten x
 flat None = refl
 flat (Some x) = refl
 
@@ -60,7 +60,7 @@ rows_now log is_log =
 
 -- ---- what was there
 
-abbrev value : Option (ℕ × Option Row) → Option (Option Row)
+abbrev pub value : Option (ℕ × Option Row) → Option (Option Row)
 value None = None
 value (Some c) = Some c.1
 
@@ -69,11 +69,11 @@ value_step true i v None = refl
 value_step false i v None = refl
 value_step b i v (Some d) = refl
 
-last_value : (m : Changes) (t : ℕ) (q : Key) → last.latest m t q ≡ value (last_until m t q)
+pub last_value : (m : Changes) (t : ℕ) (q : Key) → last.latest m t q ≡ value (last_until m t q)
 last_value [] t q = refl
 last_value (c ∷ cs) t q = ap (λ x. last.later x (cond (is_key q c.0.key && nat_le c.0.instant t) (Some c.1) None)) (last_value cs t q) ∙ value_step (is_key q c.0.key && nat_le c.0.instant t) c.0.instant c.1 (last_until cs t q)
 
-there : (x : Option (ℕ × Option Row)) → elim x [ Some c ↦ is_some c.1 | None ↦ false ] ≡ is_some (option_flatten (value x))
+pub there : (x : Option (ℕ × Option Row)) → elim x [ Some c ↦ is_some c.1 | None ↦ false ] ≡ is_some (option_flatten (value x))
 there None = refl
 there (Some c) = refl
 

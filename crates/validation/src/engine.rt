@@ -73,6 +73,7 @@ impl Engine {
     ) -> Result<Option<Instant>, Refusal>
         ensures outcome { (schema : Schema) (m : Changes) → Holds schema self.old m → AreKeysIn schema net.now → result ≢ Err Refusal.Memory → result ≡ outcome m self.old.last start net.now reading }
         ensures committed { IfOk result (λ end. IfSome end (λ instant. self.new ≡ record { events = put_net instant net.now self.old.events; last = instant })) }
+        ensures later { IfOk result (λ end. IfSome end (λ instant. self.old.last < instant)) }
         ensures nothing { IfOk result (λ end. IfNone end (self.new ≡ self.old)) }
         ensures refused { OnErr result (self.new ≡ self.old) }
     {

@@ -1,0 +1,156 @@
+-- What a system keeps is what contracts see of it: events are read back as their changes, and sessions one by one.
+use Rattle.std.proofs.Common.{◌≡◌, ◌≢◌, ℕ, ◌≤◌, ◌<◌, List, [], ◌∷◌, Option, Some, None, Bool, true, false, refl, sym, ap, ◌∙◌, subst, cond, map, filter, length, nat_le, nat_lt, is_some, ◌||◌, ◌&&◌, All, arith, get_or, set, replicate, Result, Ok, Err}
+use Rattle.std.proofs.lemmas.Bool.Decides.{nat_tests}
+use Rattle.std.proofs.lemmas.List.Elements.{All-head, All-tail, All-cons, All-nil, All-set, All-get_or, All-replicate}
+use Rattle.std.proofs.lemmas.List.{get_or_read_under, length-set, map-set, length-replicate, get_or-replicate, length-map}
+use Rattle.std.proofs.Math.ListN.{get_or-map}
+use Rattle.std.specs.List.{filter_map, cons_option}
+use Rattle.std.specs.Option.{option_map, option_and_then}
+use Rattle.std.specs.Map.{keys_of}
+use Rattle.rows.specs.declared.events.Event.{Event}
+use Rattle.rows.specs.declared.keys.Key.{Key}
+use Rattle.rows.specs.declared.keys.Point.{Point}
+use Rattle.rows.specs.declared.tables.Table.{Table}
+use Rattle.rows.specs.declared.refusals.Refusal.{Refusal}
+use Rattle.rows.specs.declared.refusals.Refusal.TheVariants.{InTransaction, NoTransaction}
+use Rattle.rows.specs.Tables.{Schema, table_at}
+use Rattle.rows.specs.Log.{Changes, Net, Row}
+use Rattle.rows.specs.Laws.{changes_upto}
+use Rattle.rows.specs.KeyEncoding.{bytes_of_key}
+use Rattle.rows.specs.KeyReading.{key_from}
+use Rattle.rows.specs.Events.{events_of, event_of, IsKeyOfAny, IsKeyIn, AreChangesIn, AreKeysIn}
+use Rattle.rows.proofs.KeyReads.{key_back}
+use Rattle.staging.specs.Committed.{Committed, Holds}
+use Rattle.staging.proofs.Ordered.{sorted_none}
+use Rattle.rows.specs.Log.{point_cmp}
+use Rattle.statement.specs.declared.steps.Reply.{Reply}
+use Rattle.statement.specs.declared.steps.Reply.TheVariants.{Begun as Begins, RolledBack, Refused}
+use Rattle.turns.specs.World.{Session, World}
+use Rattle.turns.specs.Turns.{Turn, put, opened_now, begin_turn, rollback_turn}
+use Rattle.turns.specs.Stands.{Stands, session_at}
+use Rattle.interleaving.specs.Keeping.{Begun, key_in, change_in, changes_in, session_of, world, IsBegun, IsOpen, IsSystem}
+
+-- ---- events are read back
+
+key_again : (o : Option Table) (k : Key) → IsKeyOfAny o k → option_and_then (λ table. key_from table (bytes_of_key k)) o ≡ Some k
+key_again None k h = absurd h
+key_again (Some table) k h = key_back table k h
+
+module _ (schema : Schema) where
+  change_again : (c : Point × Option Row) → IsKeyIn schema c.0.key → change_in schema (event_of c) ≡ Some c
+  change_again c h = ap (option_map (λ key. (record { key = key; instant = c.0.instant }, c.1))) (key_again (table_at schema c.0.key.table) c.0.key h)
+
+  pub changes_again : (m : Changes) → AreChangesIn schema m → changes_in schema (events_of m) ≡ m
+  changes_again [] h = refl
+  changes_again (c ∷ cs) h =
+      ap (λ o. cons_option o (changes_in schema (events_of cs))) (change_again c (All-head (λ p. IsKeyIn schema p.key) c.0 (keys_of cs) h))
+      ∙ ap (λ m. c ∷ m) (changes_again cs (All-tail (λ p. IsKeyIn schema p.key) c.0 (keys_of cs) h))
+
+-- ---- sessions
+
+pub session_is : (schema : Schema) (engine : Committed) (sessions : List (Option Begun)) (i : ℕ) → session_at (world schema engine sessions) i ≡ option_map (session_of schema) (get_or sessions i None)
+session_is schema engine sessions i = get_or-map (option_map (session_of schema)) sessions i None
+
+pub put_is : (schema : Schema) (engine : Committed) (sessions : List (Option Begun)) (i : ℕ) (o : Option Begun)
+    → world schema engine (set sessions i o) ≡ put (world schema engine sessions) i (option_map (session_of schema) o)
+put_is schema engine sessions i o = ap (λ ss. record { schema = schema; changes = changes_in schema engine.events; latest = engine.last; sessions = ss }) (map-set (option_map (session_of schema)) sessions i o)
+
+pub with_session : (schema : Schema) (engine : Committed) (sessions : List (Option Begun)) (i : ℕ) (o : Option Begun) → IsOpen schema engine o → IsSystem schema engine sessions → IsSystem schema engine (set sessions i o)
+with_session schema engine sessions i o h s = record {
+  wide = length-set sessions i o ∙ s.wide;
+  held = s.held;
+  upto = s.upto;
+  begun = All-set (IsOpen schema engine) sessions i o h s.begun;
+}
+
+pub begun_at : (schema : Schema) (engine : Committed) (sessions : List (Option Begun)) (i : ℕ) → i ≤ 64 → IsSystem schema engine sessions → IsOpen schema engine (get_or sessions i None)
+begun_at schema engine sessions i small s = All-get_or (IsOpen schema engine) sessions i None (let wide : length sessions ≡ 65 = s.wide in omega arith) s.begun
+
+-- what a session has, read in place
+pub place_is : (schema : Schema) (engine : Committed) (sessions : List (Option Begun)) (i : ℕ) (o : Option Begun) → IsSystem schema engine sessions → i ≤ 64 → o ≡ get_or sessions i o → o ≡ get_or sessions i None
+place_is schema engine sessions i o s small at = get_or_read_under sessions i 65 o None at (omega arith) (sym s.wide)
+
+-- ---- a system in which nothing was committed
+
+abbrev nothing : Committed
+nothing = record { events = []; last = 0 }
+
+nothing_held : (schema : Schema) → Holds schema nothing []
+nothing_held schema = record { events_are = refl; keys = All-nil (λ (p : Point). IsKeyIn schema p.key); in_order = sorted_none point_cmp }
+
+pub new_system : (schema : Schema) (engine : Committed) (sessions : List (Option Begun)) → engine ≡ nothing → sessions ≡ replicate {A = Option Begun} 65 None → IsSystem schema engine sessions
+new_system schema engine sessions is none =
+    subst (λ e. IsSystem schema e sessions) (sym is) (subst (IsSystem schema nothing) (sym none) (record {
+      wide = length-replicate {A = Option Begun} 65 None;
+      held = nothing_held schema;
+      upto = All-nil (λ (e : Event). e.at ≤ 0);
+      begun = All-replicate (IsOpen schema nothing) 65 None tt;
+    }))
+
+pub new_stands : (schema : Schema) (engine : Committed) (sessions : List (Option Begun)) → engine ≡ nothing → sessions ≡ replicate {A = Option Begun} 65 None → Stands (world schema engine sessions) []
+new_stands schema engine sessions is none =
+    subst (λ e. Stands (world schema e sessions) []) (sym is) (subst (λ ss. Stands (world schema nothing ss) []) (sym none) (record {
+      wide = length-map (replicate {A = Option Begun} 65 None) (option_map (session_of schema)) ∙ length-replicate {A = Option Begun} 65 None;
+      changes_are = refl;
+      latest_is = refl;
+      sessions_are = λ i small. session_is schema nothing (replicate {A = Option Begun} 65 None) i ∙ ap (option_map (session_of schema)) (get_or-replicate {A = Option Begun} 65 i None None (omega arith));
+    }))
+
+-- ---- BEGIN and ROLLBACK
+
+abbrev by_begin : World → ℕ → Option Session → Turn
+by_begin w i (Some s) = (Refused InTransaction, w)
+by_begin w i None = (Begins w.latest, put w i (Some (opened_now w)))
+
+begun_by : (w : World) (i : ℕ) (o : Option Session) → elim o [ Some s ↦ (Refused InTransaction, w) | None ↦ (Begins w.latest, put w i (Some (opened_now w))) ] ≡ by_begin w i o
+begun_by w i (Some s) = refl
+begun_by w i None = refl
+
+-- a transaction that sees all and wrote nothing
+pub began : (schema : Schema) (engine : Committed) (sessions : List (Option Begun)) (w : World) (i start : ℕ) (b : Begun) → world schema engine sessions ≡ w → start ≡ b.view.last → get_or sessions i None ≡ None → b.view ≡ engine → b.writes ≡ []
+    → ◌≡◌ {A = Turn} (Begins start, world schema engine (set sessions i (Some b))) (begin_turn w i)
+began schema engine sessions w i start b is last at seen wrote =
+    (λ j. (Begins (last j), put_is schema engine sessions i (Some b) j))
+    ∙ (λ j. (Begins (seen j).last, put (world schema engine sessions) i (Some (session_of schema (record { view = seen j; writes = wrote j })))))
+    ∙ sym (begun_by (world schema engine sessions) i (session_at (world schema engine sessions) i) ∙ ap (by_begin (world schema engine sessions) i) (session_is schema engine sessions i ∙ ap (option_map (session_of schema)) at))
+    ∙ ap (λ w. begin_turn w i) is
+
+abbrev by_rollback : World → ℕ → Option Session → Turn
+by_rollback w i None = (Refused NoTransaction, w)
+by_rollback w i (Some s) = (RolledBack, put w i None)
+
+rolled_by : (w : World) (i : ℕ) (o : Option Session) → elim o [ None ↦ (Refused NoTransaction, w) | Some s ↦ (RolledBack, put w i None) ] ≡ by_rollback w i o
+rolled_by w i (Some s) = refl
+rolled_by w i None = refl
+
+pub rolled : (schema : Schema) (engine : Committed) (sessions : List (Option Begun)) (w : World) (i : ℕ) → world schema engine sessions ≡ w → (o : Option Begun) → o ≡ get_or sessions i None → is_some o ≡ true
+    → ◌≡◌ {A = Turn} (RolledBack, world schema engine (set sessions i None)) (rollback_turn w i)
+rolled schema engine sessions w i is o at some =
+    (λ j. (RolledBack, put_is schema engine sessions i None j))
+    ∙ there o some
+    ∙ sym (rolled_by (world schema engine sessions) i (session_at (world schema engine sessions) i) ∙ ap (by_rollback (world schema engine sessions) i) (session_is schema engine sessions i ∙ ap (option_map (session_of schema)) (sym at)))
+    ∙ ap (λ w. rollback_turn w i) is
+  where
+    there : (o : Option Begun) → is_some o ≡ true → ◌≡◌ {A = Turn} (RolledBack, put (world schema engine sessions) i None) (by_rollback (world schema engine sessions) i (option_map (session_of schema) o))
+    there (Some b) h = refl
+    there None h = cc
+
+-- none of the changes is later
+all_upto : (m : Changes) (last : ℕ) → All (λ e. e.at ≤ last) (events_of m) → changes_upto m last ≡ m
+all_upto [] last h = refl
+all_upto (c ∷ cs) last h =
+    ap (λ b. cond b (c ∷ changes_upto cs last) (changes_upto cs last)) {y = true} (let le : c.0.instant ≤ last = All-head (λ (e : Event). e.at ≤ last) (event_of c) (events_of cs) h in grind (arith, nat_tests))
+    ∙ ap (λ m. c ∷ m) (all_upto cs last (All-tail (λ (e : Event). e.at ≤ last) (event_of c) (events_of cs) h))
+
+pub upto_now : (schema : Schema) (engine : Committed) (sessions : List (Option Begun)) → IsSystem schema engine sessions → changes_upto (changes_in schema engine.events) engine.last ≡ changes_in schema engine.events
+upto_now schema engine sessions s = all_upto (changes_in schema engine.events) engine.last (subst (All (λ (e : Event). e.at ≤ engine.last)) s.held.events_are s.upto)
+
+-- a transaction that begins is one of the system's
+pub began_is : (schema : Schema) (engine : Committed) (sessions : List (Option Begun)) (b : Begun) → IsSystem schema engine sessions → b.view ≡ engine → b.writes ≡ [] → IsBegun schema engine b
+began_is schema engine sessions b s seen wrote =
+    subst (IsBegun schema engine) (sym (λ j. record { view = seen j; writes = wrote j })) (record {
+      early = omega arith;
+      held = s.held;
+      part = sym (upto_now schema engine sessions s);
+      keys = All-nil (IsKeyIn schema);
+    })

@@ -1,0 +1,50 @@
+//! Each step in turn.
+ghost use Rattle.std.specs.Prelude.{◌≡◌, ◌≢◌, ◌∷◌, IfOk, OnErr, None, is_ok, true, false};
+ghost use Rattle.statement.specs.History.{misfit};
+ghost use Rattle.turns.specs.Turns.{turn_in};
+ghost use Rattle.turns.specs.Runs.{is_out, is_rollback};
+
+use crate::system::System;
+use rows::Refusal;
+use statement::{Reply, Step};
+use std::alloc::AllocError;
+
+impl System {
+    ghost use Rattle.statement.specs.History.{History, reply};
+    ghost use Rattle.turns.specs.Stands.{Stands};
+
+    /// Takes a step. Where memory runs out nothing has changed, and the step may be taken again.
+    pub fn step(&mut self, step: Step) -> Reply
+        ensures answers { (h : History) → Stands self.old h → result ≢ Reply.Refused Refusal.Memory → (result ≡ reply self.old.schema h step) × Stands self.new (step ∷ h) }
+        ensures out_of_memory { (h : History) → Stands self.old h → result ≡ Reply.Refused Refusal.Memory → Stands self.new h }
+        ensures schema { self.new.schema ≡ self.old.schema }
+        ensures rollback { is_rollback step ≡ true → is_out result ≡ false }
+    {
+        if let Some(refusal) = step.misfit(&self.schema) {
+            return Reply::Refused(refusal);
+        }
+        match self.step_in(&step) {
+            Ok(reply) => reply,
+            Err(_) => Reply::Refused(Refusal::Memory),
+        }
+    }
+
+    /// Takes a step that fits the schema.
+    fn step_in(&mut self, step: &Step) -> Result<Reply, AllocError>
+        requires { misfit self.old.schema step.now ≡ None }
+        ensures ok { IfOk result (λ reply. (reply, self.new) ≡ turn_in self.old step.now) }
+        ensures err { OnErr result (self.new ≡ self.old) }
+        ensures rollback { is_rollback step.now ≡ true → is_ok result ≡ true }
+    {
+        match step {
+            Step::Begin(session) => self.begin(*session),
+            Step::Insert(session, table, rows) => self.insert(*session, *table, rows.items()),
+            Step::Update(session, keys, sets) => self.update(*session, keys, sets.items()),
+            Step::Delete(session, keys) => self.delete(*session, keys),
+            Step::Select(session, form, keys) => self.select(*session, *form, keys),
+            Step::Commit(session, reading) => self.commit(*session, *reading),
+            Step::Rollback(session) => Ok(self.rollback(*session)),
+            Step::SplitKey(_) | Step::SplitTime(_, _) | Step::Migrate => Ok(Reply::Done),
+        }
+    }
+}
