@@ -32,7 +32,7 @@ use Rattle.rows.proofs.KeyOrder.{byte_order_is_key_order}
 use Rattle.staging.specs.Committed.{Committed, Holds}
 use Rattle.staging.specs.Own.{seen, net_over}
 use Rattle.staging.specs.Writing.{sees, net_in}
-use Rattle.staging.proofs.Ordered.{sorted_tail}
+use Rattle.eventlist.proofs.Ordered.{sorted_tail}
 use Rattle.staging.proofs.Entries.{upon, row_at-apply}
 
 -- ---- keys and their bytes

@@ -21,7 +21,8 @@ use Rattle.rows.specs.Tables.{Schema}
 use Rattle.rows.specs.Writes.{add_keys}
 use Rattle.rows.specs.Versions.{takes}
 use Rattle.rows.specs.Events.{event_cmp, AreKeysIn}
-use Rattle.staging.specs.Committed.{Committed, Holds, standing}
+use Rattle.eventlist.specs.Listing.{standing}
+use Rattle.staging.specs.Committed.{Committed, Holds}
 use Rattle.staging.specs.Own.{Reads, Written, seen, own, net_over, writing}
 use Rattle.staging.specs.Writing.{put_all, put_answer, rows_in, net_in}
 use Rattle.staging.proofs.Entries.{sorted_from, apply-put_all, keys_put_all}

@@ -1,7 +1,4 @@
-pub mod Ordered
-pub mod Found
 pub mod Placed
-pub mod Standing
 pub mod Entries
 pub mod Bridge
 pub mod Seen

@@ -1,4 +1,3 @@
 pub mod Committed
 pub mod Own
-pub mod Places
 pub mod Writing

@@ -4,7 +4,6 @@
 mod deletes;
 mod inserts;
 mod nets;
-mod places;
 mod staged;
 #[cfg(test)]
 mod tests;

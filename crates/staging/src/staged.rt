@@ -12,7 +12,8 @@ ghost use Rattle.rows.specs.Versions.{takes};
 ghost use Rattle.rows.specs.Writes.{insert_all};
 ghost use Rattle.rows.specs.KeyEncoding.{IsShortKey, bytes_of_key};
 ghost use Rattle.rows.specs.Events.{AreKeysIn, row_until};
-ghost use Rattle.staging.specs.Committed.{Holds, standing};
+ghost use Rattle.eventlist.specs.Listing.{standing};
+ghost use Rattle.staging.specs.Committed.{Holds};
 ghost use Rattle.staging.specs.Own.{Reads, seen, net_over};
 ghost use Rattle.staging.specs.Writing.{put_all, put_answer, sees, first_seen, row_taken, rows_in, net_in};
 

@@ -5,12 +5,10 @@ ghost use Rattle.rows.specs.KeyEncoding.{IsShortKey};
 ghost use Rattle.rows.specs.Memory.{OnlyMemory};
 ghost use Rattle.rows.specs.Commits.{last_instant};
 ghost use Rattle.rows.specs.Events.{event_cmp, row_until, event_since, put_net};
-ghost use Rattle.keyrange.specs.Points.{is_before_end, is_key_in};
-ghost use Rattle.staging.specs.Committed.{events_in, standing};
-ghost use Rattle.staging.specs.Places.{AreFirst};
+ghost use Rattle.eventlist.specs.Listing.{events_in, standing};
 
 use crate::nets::Net;
-use crate::places::{event_until, is_standing, place_of_key, put_event, since};
+use eventlist::{event_until, events_in, last_since, put_event, standing};
 use keyrange::KeyRange;
 use rows::{Event, Instant, Key, KeyBytes, Mem, Row, SharedEvent, key_bytes};
 use std::alloc::Global;
@@ -82,7 +80,7 @@ impl View {
         ensures ok { IfOk result (λ found. found ≡ event_since self.now.events start key.now) }
         ensures err { OnlyMemory result }
     {
-        Ok(since(start, event_until(self.list(), key, self.last())))
+        Ok(last_since(self.list(), key, start, self.last()))
     }
 
     /// The events of a range of keys, from an instant to another and with it, by key and then by instant.
@@ -96,10 +94,7 @@ impl View {
         ensures ok { IfOk result (λ v. v.items ≡ events_in self.now.events range.now from to) }
         ensures err { OnlyMemory result }
     {
-        let events = self.list();
-        let first = place_of_key(events, &range.lo);
-        let end = place_of_end(events, &range.hi).max(first);
-        Ok(events_in(alloc, &events[first..end], range, from, to)?)
+        events_in(alloc, self.list(), range, from, to)
     }
 
     /// By key: the event of each key of a table whose row stands at an instant.
@@ -107,7 +102,7 @@ impl View {
         ensures ok { IfOk result (λ v. v.items ≡ standing self.now.events table instant) }
         ensures err { OnlyMemory result }
     {
-        Ok(standing(alloc, self.list(), table, instant)?)
+        standing(alloc, self.list(), table, instant)
     }
 
     /// Adds what a transaction changed, at an instant above all others. Where memory runs out nothing has changed.
@@ -131,62 +126,6 @@ impl View {
     {
         &self.events
     }
-}
-
-fn events_in(
-    alloc: Global,
-    events: &[SharedEvent],
-    range: &KeyRange,
-    from: Instant,
-    to: Instant,
-) -> Mem<Vec<SharedEvent>>
-    ensures ok { IfOk result (λ v. v.items ≡ events_in events.now range.now from to) }
-    ensures err { OnlyMemory result }
-{
-    let mut found = Vec::new(alloc);
-    for event in events {
-        if is_in(event.event(), range, from, to) {
-            found.push(event.share()?)?;
-        }
-    }
-    Ok(found)
-}
-
-fn standing(
-    alloc: Global,
-    events: &[SharedEvent],
-    table: u8,
-    instant: Instant,
-) -> Mem<Vec<SharedEvent>>
-    requires { IsStrictlySortedBy event_cmp events.now }
-    ensures ok { IfOk result (λ v. v.items ≡ standing events.now table instant) }
-    ensures err { OnlyMemory result }
-{
-    let mut found = Vec::new(alloc);
-    for (i, event) in events.iter().enumerate() {
-        if is_standing(table, instant, event.event(), events.get(i + 1)) {
-            found.push(event.share()?)?;
-        }
-    }
-    Ok(found)
-}
-
-/// How many events are of keys before the end, which may be none.
-fn place_of_end(events: &[SharedEvent], end: &Option<KeyBytes>) -> usize
-    requires { IsStrictlySortedBy event_cmp events.now }
-    ensures bound { result ≤ length events.now }
-    ensures first { AreFirst (λ e. is_before_end e.key end.now) events.now result }
-{
-    match end {
-        None => events.len(),
-        Some(end) => place_of_key(events, end),
-    }
-}
-
-fn is_in(event: &Event, range: &KeyRange, from: Instant, to: Instant) -> bool
-    ensures { result ≡ (is_key_in range.now event.now.key && (nat_le from event.now.at && nat_le event.now.at to)) }
-{
-    range.contains(&event.key) && from <= event.at && event.at <= to
 }
 
 /// The same events, of which none is copied.

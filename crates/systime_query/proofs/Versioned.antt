@@ -3,7 +3,6 @@ use Rattle.std.proofs.Common.{◌≡◌, ℕ, ◌<◌, List, [], ◌∷◌, Opti
 use Rattle.std.proofs.lemmas.Bool.Decides.{nat_tests}
 use Rattle.std.proofs.lemmas.List.Elements.{All-head, All-tail}
 use Rattle.std.specs.List.{filter_map, cons_option, flat_map, list_all}
-use Rattle.std.specs.List.Sorted.{IsStrictlySortedBy}
 use Rattle.std.specs.Map.{keys_of}
 use Rattle.std.specs.FinMap.{is_sorted}
 use Rattle.std.specs.FinMap.Entries.{below_all}
@@ -20,18 +19,19 @@ use Rattle.rows.specs.declared.queries.Shown.{Shown}
 use Rattle.rows.specs.Tables.{Schema, table_at}
 use Rattle.rows.specs.Order.{key_cmp, is_key}
 use Rattle.rows.specs.Log.{Changes, Row, point_cmp}
-use Rattle.rows.specs.Versions.{Version, next_change, version_of, versions, selects, holds, takes, shown, selected, answer}
+use Rattle.rows.specs.Versions.{Version, next_change, version_of, versions, selects, holds, takes, shown, answer}
 use Rattle.rows.specs.KeyEncoding.{bytes_of_key, part_bytes}
-use Rattle.rows.specs.KeyReading.{key_from, whole_key, parts_from, IsKeyOf}
-use Rattle.rows.specs.Events.{events_of, event_of, is_bytes, IsKeyOfAny, IsKeyIn, AreChangesIn}
-use Rattle.rows.proofs.Orders.{key_cmp_total, both, first, second, below}
-use Rattle.rows.proofs.Sorted.{is_less, sorted_from}
+use Rattle.rows.specs.KeyReading.{whole_key, parts_from}
+use Rattle.rows.specs.Events.{events_of, event_of, IsKeyOfAny, IsKeyIn, AreChangesIn}
+use Rattle.rows.proofs.Orders.{key_cmp_total, first, second, below}
+use Rattle.rows.proofs.Sorted.{sorted_from}
 use Rattle.rows.proofs.KeyReads.{key_back}
 use Rattle.rows.proofs.EventKeys.{same_key}
 use Rattle.rows.specs.declared.refusals.Refusal.{Refusal}
 use Rattle.keyrange.specs.declared.ranges.KeyRange.{KeyRange}
-use Rattle.keyrange.specs.Points.{is_below, is_key_in}
-use Rattle.staging.specs.Committed.{Committed, Holds, events_in}
+use Rattle.keyrange.specs.Points.{is_below}
+use Rattle.eventlist.specs.Listing.{events_in}
+use Rattle.staging.specs.Committed.{Committed, Holds}
 use Rattle.systime_query.specs.Selected.{next_of, is_taken, shown_of, selected_by}
 
 -- ---- the next change of a key stands right behind it

@@ -1,5 +1,5 @@
 use Rattle.std.proofs.Common.{subst, All, ◌≤◌, ◌∙◌}
-use Rattle.staging.specs.Committed.{events_in}
+use Rattle.eventlist.specs.Listing.{events_in}
 use Rattle.systime_query.proofs.Versioned.{answered}
 use Rattle.systime_query.proofs.answers.answer.Goals as goal
 

@@ -1,0 +1,5 @@
+pub mod Ordered
+pub mod Found
+pub mod Placed
+pub mod Overtaken
+pub mod Ranges

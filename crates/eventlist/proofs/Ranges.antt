@@ -1,0 +1,112 @@
+-- Events of a range of keys stand together.
+use Rattle.std.proofs.Common.{◌≡◌, ℕ, ◌+◌, ◌-◌, ◌<◌, ◌≤◌, Bool, true, false, ◌&&◌, List, [], ◌∷◌, refl, sym, ap, subst, ◌∙◌, arith, zero, suc, length, take, drop, nat_le, not, filter, if◌then◌else◌, length-drop, get_or-drop}
+use Rattle.std.specs.Ordering.{nat_cmp, ordering_then, is_lt}
+use Rattle.std.specs.declared.cmp.Ordering.{Ordering}
+use Rattle.std.specs.declared.cmp.Ordering.TheVariants.{Less, Equal, Greater}
+use Rattle.std.specs.List.{AllWithin}
+use Rattle.std.specs.List.Sorted.{IsStrictlySortedBy, IsPartitionedBy}
+use Rattle.rows.specs.declared.events.Event.{Event}
+use Rattle.rows.specs.Events.{bytes_cmp, event_cmp}
+use Rattle.keyrange.specs.declared.ranges.KeyRange.{KeyRange}
+use Rattle.keyrange.specs.Points.{is_below, is_before_end, is_key_in}
+use Rattle.eventlist.specs.Listing.{events_in}
+use Rattle.eventlist.specs.Places.{AreFirst}
+use Rattle.eventlist.proofs.Ordered.{bytes_total, bytes_exact, partitioned, within_tail, within_rest, within_head}
+
+-- ---- a range
+
+module _ (p : Event → Bool) where
+  none_pass : (low : Event → Bool) (b : Bool) → ((e : Event) → low e ≡ b → p e ≡ false) → (es : List Event) → AllWithin (λ e. low e ≡ b) es 0 (length es) → filter p es ≡ []
+  none_pass low b fails [] h = refl
+  none_pass low b fails (e ∷ es) h =
+      ap (λ c. if c then e ∷ filter p es else filter p es) (fails e (within_head (λ e. low e ≡ b) e es (length es) h)) ∙ none_pass low b fails es (within_rest (λ e. low e ≡ b) e es (length es) h)
+
+  pub front_dropped : (low : Event → Bool) → ((e : Event) → low e ≡ true → p e ≡ false) → (es : List Event) (n : ℕ) → AllWithin (λ e. low e ≡ true) es 0 n → n ≤ length es → filter p es ≡ filter p (drop n es)
+  front_dropped low fails es zero h le = refl
+  front_dropped low fails [] (suc n) h le = absurd (omega arith)
+  front_dropped low fails (e ∷ es) (suc n) h le =
+      ap (λ c. if c then e ∷ filter p es else filter p es) (fails e (within_head (λ e. low e ≡ true) e es n h)) ∙ front_dropped low fails es n (within_rest (λ e. low e ≡ true) e es n h) (omega arith)
+
+  pub back_cut : (high : Event → Bool) → ((e : Event) → high e ≡ false → p e ≡ false) → (es : List Event) (n : ℕ) → AllWithin (λ e. high e ≡ false) es n (length es) → filter p es ≡ filter p (take n es)
+  back_cut high fails [] zero h = refl
+  back_cut high fails [] (suc n) h = refl
+  back_cut high fails (e ∷ es) zero h = none_pass high false fails (e ∷ es) h
+  back_cut high fails (e ∷ es) (suc n) h =
+      ap (λ l. if p e then e ∷ l else l) (back_cut high fails es n (within_tail (λ e. high e ≡ false) e es n (length es) h)) ∙ moved (p e)
+    where
+      moved : (c : Bool) → (if c then e ∷ filter p (take n es) else filter p (take n es)) ≡ (if c then e ∷ filter p (take n es) else filter p (take n es))
+      moved c = refl
+
+-- ---- places of keys
+
+abbrev pub below_key : List ℕ → Event → Bool
+below_key key e = is_below e.key key
+
+pub below_parts : (key : List ℕ) (es : List Event) → IsStrictlySortedBy event_cmp es → IsPartitionedBy (below_key key) es
+below_parts key es h = partitioned event_cmp (below_key key) down es h
+  where
+    is_less : (o : Ordering) → is_lt o ≡ true → o ≡ Less
+    is_less Less e = refl
+    is_less Equal e = cc
+    is_less Greater e = cc
+
+    down : (x y : Event) → event_cmp x y ≡ Less → is_below y.key key ≡ true → is_below x.key key ≡ true
+    down x y h is = by (bytes_cmp x.key y.key) refl h
+      where
+        by : (o : Ordering) → bytes_cmp x.key y.key ≡ o → ordering_then o (nat_cmp x.at y.at) ≡ Less → is_below x.key key ≡ true
+        by Less p q = ap is_lt (bytes_total.trans x.key y.key key p (is_less (bytes_cmp y.key key) is))
+        by Equal p q = ap is_lt (bytes_total.congr x.key y.key key p) ∙ is
+        by Greater p q = cc
+
+abbrev pub not_above : List ℕ → Event → Bool
+not_above key e = not (is_below key e.key)
+
+pub not_above_parts : (key : List ℕ) (es : List Event) → IsStrictlySortedBy event_cmp es → IsPartitionedBy (not_above key) es
+not_above_parts key es h = partitioned event_cmp (not_above key) down es h
+  where
+    less : (o : Ordering) → is_lt o ≡ true → o ≡ Less
+    less Less e = refl
+    less Equal e = cc
+    less Greater e = cc
+
+    kept : (b c : Bool) → (c ≡ true → b ≡ true) → not b ≡ true → not c ≡ true
+    kept b false h e = refl
+    kept true true h e = cc
+    kept false true h e = cc (h refl)
+
+    up : (x y : Event) → event_cmp x y ≡ Less → is_below key x.key ≡ true → is_below key y.key ≡ true
+    up x y h is = by (bytes_cmp x.key y.key) refl h
+      where
+        by : (o : Ordering) → bytes_cmp x.key y.key ≡ o → ordering_then o (nat_cmp x.at y.at) ≡ Less → is_below key y.key ≡ true
+        by Less p q = ap is_lt (bytes_total.trans key x.key y.key (less (bytes_cmp key x.key) is) p)
+        by Equal p q = subst (λ k. is_below key k ≡ true) (bytes_exact x.key y.key p) is
+        by Greater p q = cc
+
+    down : (x y : Event) → event_cmp x y ≡ Less → not_above key y ≡ true → not_above key x ≡ true
+    down x y h is = kept (is_below key y.key) (is_below key x.key) (up x y h) is
+
+-- the events of a range stand between its places
+pub range_is : (es : List Event) (range : KeyRange) (from to a n b : ℕ) → AreFirst (below_key range.lo) es a → AreFirst (λ e. is_before_end e.key range.hi) es n → a ≤ length es → a ≤ b → n ≤ b
+    → events_in (take (b - a) (drop a es)) range from to ≡ events_in es range from to
+range_is es range from to a n b low high in_low first last =
+    sym (
+    front_dropped p (below_key range.lo) too_low es a (λ k d lo hi. low.0 k d lo hi) in_low
+    ∙ back_cut p (λ e. is_before_end e.key range.hi) too_high (drop a es) (b - a)
+    (λ k d lo hi.
+    let within : k < length es - a = subst (λ m. k < m) (length-drop a es) hi in
+    subst (λ (e : Event). is_before_end e.key range.hi ≡ false) (sym (get_or-drop a es k d)) (high.1 (a + k) d (omega arith) (omega arith))
+    )
+    )
+  where
+    p : Event → Bool
+    p e = is_key_in range e.key && (nat_le from e.at && nat_le e.at to)
+
+    too_low : (e : Event) → below_key range.lo e ≡ true → p e ≡ false
+    too_low e h = ap (λ b. (not b && is_before_end e.key range.hi) && (nat_le from e.at && nat_le e.at to)) h
+
+    too_high : (e : Event) → is_before_end e.key range.hi ≡ false → p e ≡ false
+    too_high e h = by (not (is_below e.key range.lo)) h
+      where
+        by : (c : Bool) → is_before_end e.key range.hi ≡ false → ((c && is_before_end e.key range.hi) && (nat_le from e.at && nat_le e.at to)) ≡ false
+        by true h = ap (λ b. b && (nat_le from e.at && nat_le e.at to)) h
+        by false h = refl

@@ -1,0 +1,88 @@
+//! Events of a list, as new lists that share them.
+ghost use Rattle.std.specs.Prelude.{◌≡◌, ◌≤◌, ◌&&◌, IfOk, length, nat_le};
+ghost use Rattle.std.specs.List.Sorted.{IsStrictlySortedBy};
+ghost use Rattle.rows.specs.Events.{event_cmp};
+ghost use Rattle.rows.specs.Memory.{OnlyMemory};
+ghost use Rattle.keyrange.specs.Points.{is_before_end, is_key_in};
+ghost use Rattle.eventlist.specs.Listing.{events_in, standing};
+ghost use Rattle.eventlist.specs.Places.{AreFirst};
+
+use crate::places::place_of_key;
+use crate::stands::is_standing;
+use keyrange::KeyRange;
+use rows::{Event, Instant, KeyBytes, Mem, SharedEvent};
+use std::alloc::Global;
+
+/// The events of a range of keys, from an instant to another and with it, in order.
+pub fn events_in(
+    alloc: Global,
+    events: &[SharedEvent],
+    range: &KeyRange,
+    from: Instant,
+    to: Instant,
+) -> Mem<Vec<SharedEvent>>
+    requires { IsStrictlySortedBy event_cmp events.now }
+    ensures ok { IfOk result (λ v. v.items ≡ events_in events.now range.now from to) }
+    ensures err { OnlyMemory result }
+{
+    let first = place_of_key(events, &range.lo);
+    let end = place_of_end(events, &range.hi).max(first);
+    Ok(passed(alloc, &events[first..end], range, from, to)?)
+}
+
+fn passed(
+    alloc: Global,
+    events: &[SharedEvent],
+    range: &KeyRange,
+    from: Instant,
+    to: Instant,
+) -> Mem<Vec<SharedEvent>>
+    ensures ok { IfOk result (λ v. v.items ≡ events_in events.now range.now from to) }
+    ensures err { OnlyMemory result }
+{
+    let mut found = Vec::new(alloc);
+    for event in events {
+        if is_in(event.event(), range, from, to) {
+            found.push(event.share()?)?;
+        }
+    }
+    Ok(found)
+}
+
+/// How many events are of keys before the end, which may be none.
+fn place_of_end(events: &[SharedEvent], end: &Option<KeyBytes>) -> usize
+    requires { IsStrictlySortedBy event_cmp events.now }
+    ensures bound { result ≤ length events.now }
+    ensures first { AreFirst (λ e. is_before_end e.key end.now) events.now result }
+{
+    match end {
+        None => events.len(),
+        Some(end) => place_of_key(events, end),
+    }
+}
+
+fn is_in(event: &Event, range: &KeyRange, from: Instant, to: Instant) -> bool
+    ensures { result ≡ (is_key_in range.now event.now.key && (nat_le from event.now.at && nat_le event.now.at to)) }
+{
+    range.contains(&event.key) && from <= event.at && event.at <= to
+}
+
+/// By key: the event of each key of a table whose row stands at an instant.
+pub fn standing(
+    alloc: Global,
+    events: &[SharedEvent],
+    table: u8,
+    instant: Instant,
+) -> Mem<Vec<SharedEvent>>
+    requires { IsStrictlySortedBy event_cmp events.now }
+    ensures ok { IfOk result (λ v. v.items ≡ standing events.now table instant) }
+    ensures err { OnlyMemory result }
+{
+    let mut found = Vec::new(alloc);
+    for (i, event) in events.iter().enumerate() {
+        if is_standing(table, instant, event.event(), events.get(i + 1)) {
+            found.push(event.share()?)?;
+        }
+    }
+    Ok(found)
+}
