@@ -21,7 +21,7 @@ use Rattle.rows.specs.KeyReading.{key_from}
 use Rattle.rows.specs.Events.{events_of, event_of, IsKeyOfAny, IsKeyIn, AreChangesIn, AreKeysIn}
 use Rattle.rows.proofs.KeyReads.{key_back}
 use Rattle.staging.specs.Committed.{Committed, Holds}
-use Rattle.staging.proofs.Ordered.{sorted_none}
+use Rattle.eventlist.proofs.Ordered.{sorted_none}
 use Rattle.rows.specs.Log.{point_cmp}
 use Rattle.statement.specs.declared.steps.Reply.{Reply}
 use Rattle.statement.specs.declared.steps.Reply.TheVariants.{Begun as Begins, RolledBack, Refused}

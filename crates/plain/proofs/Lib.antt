@@ -1,5 +1,3 @@
 pub mod Looks
 pub mod Undone
 pub mod Bounds
-pub mod Scripting
-pub mod Running

@@ -18,7 +18,7 @@ use Rattle.rows.specs.Versions.{next_change}
 use Rattle.rows.specs.Commits.{or_else, changed_since}
 use Rattle.rows.proofs.Orders.{key_cmp_total, point_cmp_total, key_cmp-IsAntisymmetric, below, both, first, second}
 use Rattle.rows.proofs.Latest.{point}
-use Rattle.interleaving.specs.Kept.{Upto}
+use Rattle.plain.specs.Kept.{Upto}
 use Rattle.rows.specs.Events.{later}
 use Rattle.turns.specs.Turns.{last_until}
 use Rattle.std.specs.List.Sorted.{IsStrictlySortedBy}

@@ -22,7 +22,7 @@ use Rattle.rows.proofs.Orders.{key_cmp_total, key_cmp-IsAntisymmetric, point_cmp
 use Rattle.rows.proofs.Maps.{same_map, sorted_insert, lookup-insert_entry}
 use Rattle.rows.proofs.States.{row_at-set_row, sorted_set_row}
 use Rattle.rows.proofs.Latest.{point}
-use Rattle.interleaving.specs.Kept.{Upto, remove_keys, updated, set_rows}
+use Rattle.plain.specs.Kept.{Upto, remove_keys, updated, set_rows}
 use Rattle.std.specs.List.Sorted.{IsStrictlySortedBy}
 use Rattle.std.specs.Map.{keys_of}
 use Rattle.rows.proofs.Sorted.{is_equal, above, itself, sorted_from}

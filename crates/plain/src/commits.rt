@@ -6,7 +6,7 @@ ghost use Rattle.rows.specs.Log.{point_cmp, row_at, add_net};
 ghost use Rattle.rows.specs.Commits.{changed_since, won, outcome};
 ghost use Rattle.statement.specs.History.{committed};
 ghost use Rattle.std.specs.Option.{option_map};
-ghost use Rattle.interleaving.specs.Kept.{Upto};
+ghost use Rattle.plain.specs.Kept.{Upto};
 ghost use Rattle.turns.specs.Turns.{applied, last_until, was_there, net_in, commit_turn};
 
 use crate::answers::is_same;

@@ -39,7 +39,7 @@ pub struct System {
 impl Model for System {
     ghost use Rattle.std.specs.Prelude.{◌≡◌, ◌≤◌, length};
     ghost use Rattle.turns.specs.World.{World};
-    ghost use Rattle.interleaving.specs.Kept.{Upto};
+    ghost use Rattle.plain.specs.Kept.{Upto};
 
     ghost Value = { World };
 

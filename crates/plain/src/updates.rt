@@ -4,7 +4,7 @@ ghost use Rattle.std.specs.BTreeMap.{is_at};
 ghost use Rattle.std.specs.Map.{set_value};
 ghost use Rattle.rows.specs.Order.{key_cmp};
 ghost use Rattle.rows.specs.Writes.{set_all};
-ghost use Rattle.interleaving.specs.Kept.{updated, set_rows};
+ghost use Rattle.plain.specs.Kept.{updated, set_rows};
 ghost use Rattle.turns.specs.Turns.{update_in, write_turn};
 
 use crate::system::{Open, System};

@@ -4,7 +4,7 @@ ghost use Rattle.std.specs.BTreeMap.{IsOrdered};
 ghost use Rattle.rows.specs.Order.{key_cmp};
 ghost use Rattle.rows.specs.Writes.{add_keys, met};
 ghost use Rattle.std.specs.Option.{option_map};
-ghost use Rattle.interleaving.specs.Kept.{few, remove_keys};
+ghost use Rattle.plain.specs.Kept.{few, remove_keys};
 
 use rows::{Key, Keys, Row, Table};
 use std::alloc::{AllocError, Global};

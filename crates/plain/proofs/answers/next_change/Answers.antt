@@ -1,8 +1,8 @@
 use Rattle.std.proofs.Common.{ap, sym, ◌∙◌, Some, None, cond}
 use Rattle.rows.specs.Log.{point_cmp}
 use Rattle.rows.proofs.Sorted.{sorted_from}
-use Rattle.interleaving.proofs.Looks.{next_is, next_of}
-use Rattle.interleaving.proofs.answers.next_change.Goals as goal
+use Rattle.plain.proofs.Looks.{next_is, next_of}
+use Rattle.plain.proofs.answers.next_change.Goals as goal
 
 pub returns-then-is_same_until : goal.returns-then-is_same_until
 returns-then-is_same_until c =

@@ -1,8 +1,8 @@
 use Rattle.std.proofs.Common.{arith, ap, ◌∙◌, not, ◌==◌, rules}
 use Rattle.std.proofs.lemmas.Grind.{common_steps}
 use Rattle.std.proofs.lemmas.Map.Made.{filter_same_pairs}
-use Rattle.interleaving.proofs.Undone.{none_at, added_and_removed, without}
-use Rattle.interleaving.proofs.commits.add_net.Goals as goal
+use Rattle.plain.proofs.Undone.{none_at, added_and_removed, without}
+use Rattle.plain.proofs.commits.add_net.Goals as goal
 
 pub loop-key-init : goal.loop-key-init
 loop-key-init c = record {

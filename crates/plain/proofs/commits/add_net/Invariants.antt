@@ -1,8 +1,8 @@
 use Rattle.std.proofs.Common.{◌≡◌}
 use Rattle.std.specs.Vec.Iter.{into_iter_items}
 use Rattle.rows.specs.Log.{add_net}
-use Rattle.interleaving.proofs.Undone.{without}
-use Rattle.interleaving.proofs.commits.add_net.Given as goal
+use Rattle.plain.proofs.Undone.{without}
+use Rattle.plain.proofs.commits.add_net.Given as goal
 
 abbrev pub invariant-loop-key : goal.invariant-loop-key
 invariant-loop-key l = record {

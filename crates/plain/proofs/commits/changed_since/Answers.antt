@@ -1,8 +1,8 @@
 use Rattle.std.proofs.Common.{◌≡◌, ◌≤◌, ◌<◌, ap, sym, ◌∙◌, Some, None, cond, ℕ, true, false, arith, nat_lt}
 use Rattle.std.proofs.lemmas.Bool.Decides.{nat_tests}
 use Rattle.turns.specs.Turns.{last_until}
-use Rattle.interleaving.proofs.Looks.{since_from}
-use Rattle.interleaving.proofs.commits.changed_since.Goals as goal
+use Rattle.plain.proofs.Looks.{since_from}
+use Rattle.plain.proofs.commits.changed_since.Goals as goal
 
 early : (i j : ℕ) → i ≤ j → nat_lt j i ≡ false
 early i j h = grind (arith, nat_tests)

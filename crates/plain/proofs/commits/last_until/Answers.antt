@@ -1,8 +1,8 @@
 use Rattle.std.proofs.Common.{ap, sym, ◌∙◌, Some, None, cond}
 use Rattle.rows.specs.Log.{point_cmp}
 use Rattle.rows.proofs.Sorted.{sorted_from}
-use Rattle.interleaving.proofs.Looks.{last_is, none_is}
-use Rattle.interleaving.proofs.commits.last_until.Goals as goal
+use Rattle.plain.proofs.Looks.{last_is, none_is}
+use Rattle.plain.proofs.commits.last_until.Goals as goal
 
 pub returns-then-is_same-clause-value : goal.returns-then-is_same-clause-value
 returns-then-is_same-clause-value c =

@@ -1,12 +1,12 @@
 use Rattle.std.proofs.Common.{arith, ap, ◌∙◌}
 use Rattle.std.proofs.lemmas.Grind.{common_steps}
 use Rattle.rows.specs.Order.{key_cmp}
-use Rattle.interleaving.specs.Kept.{remove_keys}
+use Rattle.plain.specs.Kept.{remove_keys}
 use Rattle.rows.proofs.Sorted.{sorted_from}
-use Rattle.interleaving.proofs.Undone.{new_removed, put_and_removed, is_among_rows}
+use Rattle.plain.proofs.Undone.{new_removed, put_and_removed, is_among_rows}
 use Rattle.rows.specs.Writes.{key_of}
 use Rattle.std.proofs.Common.{refl, []}
-use Rattle.interleaving.proofs.inserts.put_rows.Goals as goal
+use Rattle.plain.proofs.inserts.put_rows.Goals as goal
 
 pub loop-row-init : goal.loop-row-init
 loop-row-init c = record {

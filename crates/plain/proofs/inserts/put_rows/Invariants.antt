@@ -1,7 +1,7 @@
 use Rattle.std.proofs.Common.{◌≡◌, drop}
 use Rattle.rows.specs.Writes.{insert_rows}
-use Rattle.interleaving.specs.Kept.{remove_keys}
-use Rattle.interleaving.proofs.inserts.put_rows.Given as goal
+use Rattle.plain.specs.Kept.{remove_keys}
+use Rattle.plain.proofs.inserts.put_rows.Given as goal
 
 abbrev pub invariant-loop-row : goal.invariant-loop-row
 invariant-loop-row l = record {

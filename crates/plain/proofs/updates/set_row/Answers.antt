@@ -1,6 +1,6 @@
 use Rattle.std.proofs.Common.{ap, sym, ◌∙◌}
-use Rattle.interleaving.proofs.Undone.{set_absent}
-use Rattle.interleaving.proofs.updates.set_row.Goals as goal
+use Rattle.plain.proofs.Undone.{set_absent}
+use Rattle.plain.proofs.updates.set_row.Goals as goal
 
 pub returns-in_default : goal.returns-in_default
 returns-in_default c =

@@ -4,7 +4,7 @@ use Rattle.statement.specs.declared.steps.Reply.TheVariants.{Refused}
 use Rattle.statement.specs.History.{misfit}
 use Rattle.turns.specs.World.{World}
 use Rattle.turns.proofs.Turned.{stepped, refused_turn, fitting_turn, not_out}
-use Rattle.interleaving.proofs.system.System.step.Goals as goal
+use Rattle.plain.proofs.system.System.step.Goals as goal
 
 pub returns-in-Some-clause-answers : goal.returns-in-Some-clause-answers
 returns-in-Some-clause-answers c = λ h stands other.
