@@ -1,364 +1,239 @@
-//! Conversations with a store: each step beside what it must answer.
-use crate::System;
-use rows::{
-    Chars, Comparison, Form, Instant, Keys, Operator, Refusal, Row, Rows, Schema, Sequence, Set,
-    Sets, Shown, Value,
-};
-use statement::{Listing, Reply, Step};
+//! The same lines to both machines: the one over events and the one over a plain list answer alike.
+use crate::System as Plain;
+use interleaving::System;
+use rows::{Instant, Refusal, Schema};
+use statement::{Line, Reply, Step, print_reply, read_line};
 use std::alloc::{AllocError, Global};
 use std::process::Abort;
 use std::test::Fail;
 
-fn chars(alloc: Global, text: &str) -> Result<Chars, AllocError> {
-    Ok(Chars::new(String::from_str(alloc, text)?))
-}
-
-fn emp(alloc: Global, number: i64, name: &str) -> Result<Row, AllocError> {
-    let name = Value::Text(chars(alloc, name)?);
-    Ok(Row::new(vec![in alloc; Value::Int(number), name]?))
-}
-
-/// The keys that compare so with a number.
-fn by(alloc: Global, operator: Operator, number: i64) -> Result<Keys, AllocError> {
-    let comparison = Comparison {
-        column: 1,
-        operator,
-        value: Value::Int(number),
-    };
-    Ok(Keys {
-        table: 1,
-        comparisons: Sequence::new(vec![in alloc; comparison]?),
-    })
-}
-
-fn all(alloc: Global) -> Keys {
-    Keys {
-        table: 1,
-        comparisons: Sequence::new(Vec::new(alloc)),
-    }
-}
-
-/// Steps, and the text of the reply that each must get.
+/// The two machines, and the reading of the last `clock:` line.
 #[derive(Drop)]
-struct Talk {
+struct Both {
     alloc: Global,
-    steps: Vec<Step>,
-    wanted: Vec<&'static str>,
+    schema: Schema,
+    system: System,
+    plain: Plain,
+    reading: Instant,
 }
 
-impl Talk {
-    fn new(alloc: Global) -> Talk {
-        Talk {
+impl Both {
+    fn new(alloc: Global) -> Result<Both, Fail> {
+        Ok(Both {
             alloc,
-            steps: Vec::new(alloc),
-            wanted: Vec::new(alloc),
+            schema: Schema::sample(alloc)?,
+            system: System::new(alloc, Schema::sample(alloc)?)?,
+            plain: Plain::new(alloc, Schema::sample(alloc)?)?,
+            reading: 0,
+        })
+    }
+
+    fn read(&self, line: &str) -> Result<Line, Refusal> {
+        read_line(self.alloc, line.as_bytes(), &self.schema, self.reading)
+    }
+
+    /// The step of a line; none where the line is refused, or sets the clock.
+    fn step(&mut self, line: &str) -> Option<Step> {
+        match self.read(line) {
+            Ok(Line::Step(step)) => Some(step),
+            Ok(Line::Clock(reading)) => {
+                self.reading = reading;
+                None
+            }
+            Ok(Line::Nothing) | Err(_) => None,
         }
     }
 
-    fn step(&mut self, step: Step, wanted: &'static str) -> Result<(), AllocError> {
-        self.steps.push(step)?;
-        self.wanted.push(wanted)?;
-        Ok(())
-    }
-
-    fn begin(&mut self, session: u8, wanted: &'static str) -> Result<(), AllocError> {
-        self.step(Step::Begin(session), wanted)
-    }
-
-    fn insert(
-        &mut self,
-        session: u8,
-        number: i64,
-        name: &str,
-        wanted: &'static str,
-    ) -> Result<(), AllocError> {
-        let row = emp(self.alloc, number, name)?;
-        let rows = Rows::new(vec![in self.alloc; row]?);
-        self.step(Step::Insert(session, 1, rows), wanted)
-    }
-
-    fn update(
-        &mut self,
-        session: u8,
-        number: i64,
-        name: &str,
-        wanted: &'static str,
-    ) -> Result<(), AllocError> {
-        let keys = by(self.alloc, Operator::Equal, number)?;
-        let set = Set {
-            column: 2,
-            value: Value::Text(chars(self.alloc, name)?),
-        };
-        let sets = Sets::new(vec![in self.alloc; set]?);
-        self.step(Step::Update(session, keys, sets), wanted)
-    }
-
-    fn delete(&mut self, session: u8, number: i64, wanted: &'static str) -> Result<(), AllocError> {
-        let keys = by(self.alloc, Operator::Equal, number)?;
-        self.step(Step::Delete(session, keys), wanted)
-    }
-
-    fn commit(
-        &mut self,
-        session: u8,
-        reading: Instant,
-        wanted: &'static str,
-    ) -> Result<(), AllocError> {
-        self.step(Step::Commit(session, reading), wanted)
-    }
-
-    fn select(&mut self, session: u8, form: Form, wanted: &'static str) -> Result<(), AllocError> {
-        let keys = all(self.alloc);
-        self.step(Step::Select(session, form, keys), wanted)
-    }
-
-    /// A transaction that inserts or updates one row.
-    fn write(
-        &mut self,
-        number: i64,
-        name: &str,
-        reading: Instant,
-        wanted: [&'static str; 3],
-    ) -> Result<(), AllocError> {
-        self.begin(1, wanted[0])?;
-        if wanted[1] == "inserted 1" {
-            self.insert(1, number, name, wanted[1])?;
-        } else {
-            self.update(1, number, name, wanted[1])?;
-        }
-        self.commit(1, reading, wanted[2])
-    }
-
-    fn holds(self, rt: &impl Abort) -> Result<(), Fail> {
-        let Talk {
-            alloc,
-            steps,
-            wanted,
-        } = self;
-        let replies = System::run(alloc, Schema::sample(alloc)?, steps)?;
-        assert_eq!(rt; replies.len(), wanted.len());
-        for (i, reply) in replies.iter().enumerate() {
-            assert!(rt; is_told(alloc, reply, wanted[i])?, "at step {i}");
-        }
-        Ok(())
+    /// What the two answer to a line, where it is a step.
+    fn replies(&mut self, line: &str) -> Option<(Reply, Reply)> {
+        let first = self.step(line)?;
+        let second = self.step(line)?;
+        Some((self.system.step(first), self.plain.step(second)))
     }
 }
 
-fn is_told(alloc: Global, reply: &Reply, wanted: &str) -> Result<bool, AllocError> {
-    Ok(told(alloc, reply)?.as_str() == wanted)
-}
-
-/// A reply in one line.
-fn told(alloc: Global, reply: &Reply) -> Result<String, AllocError> {
-    match reply {
-        Reply::Begun(start) => format!(in alloc; "begun {start}"),
-        Reply::Inserted(count) => format!(in alloc; "inserted {count}"),
-        Reply::Updated(count) => format!(in alloc; "updated {count}"),
-        Reply::Deleted(count) => format!(in alloc; "deleted {count}"),
-        Reply::Committed(None) => format!(in alloc; "committed nothing"),
-        Reply::Committed(Some(instant)) => format!(in alloc; "committed {instant}"),
-        Reply::RolledBack => format!(in alloc; "rolled back"),
-        Reply::Done => format!(in alloc; "ok"),
-        Reply::Refused(refusal) => format!(in alloc; "{}", why(refusal)),
-        Reply::Shown(Listing::Rows(rows)) => rows_told(alloc, rows.items()),
-        Reply::Shown(Listing::Periods(shown)) => periods_told(alloc, shown.items()),
+fn printed(alloc: Global, reply: &Reply) -> Result<Vec<u8>, AllocError> {
+    let mut text = Vec::new(alloc);
+    match print_reply(&mut text, reply) {
+        Ok(()) => Ok(text),
+        Err(_) => Err(AllocError),
     }
 }
 
-fn why(refusal: &Refusal) -> &'static str {
-    match refusal {
-        Refusal::NoTransaction => "no transaction",
-        Refusal::InTransaction => "in transaction",
-        Refusal::DuplicateKey(_) => "duplicate key",
-        Refusal::Conflict(_, _) => "conflict",
-        Refusal::ClockEnd => "clock end",
-        Refusal::TooManyWrites => "too many writes",
-        Refusal::NoSession => "no session",
-        Refusal::NoTable => "no table",
-        _ => "another refusal",
-    }
-}
-
-fn rows_told(alloc: Global, rows: &[Row]) -> Result<String, AllocError> {
-    let mut text = String::new(alloc);
-    for row in rows {
-        push_row(&mut text, row)?;
-    }
-    Ok(text)
-}
-
-fn periods_told(alloc: Global, shown: &[Shown]) -> Result<String, AllocError> {
-    let mut text = String::new(alloc);
-    for version in shown {
-        push_row(&mut text, &version.row)?;
-        let from = version.from;
-        match version.to {
-            Some(to) => text.push_str(format!(in alloc; "{from}-{to} ")?.as_str())?,
-            None => text.push_str(format!(in alloc; "{from}- ")?.as_str())?,
+/// Whether the two answer alike to each line, and how many of the lines are steps.
+fn alike(rt: &impl Abort, alloc: Global, lines: &[&str]) -> Result<usize, Fail> {
+    let mut both = Both::new(alloc)?;
+    let mut steps = 0;
+    for line in lines {
+        if let Some((reply, plain)) = both.replies(line) {
+            let told = printed(alloc, &reply)?;
+            assert!(rt; told == printed(alloc, &plain)?, "{line}");
+            steps += 1;
         }
     }
-    Ok(text)
-}
-
-fn push_row(text: &mut String, row: &Row) -> Result<(), AllocError> {
-    if let [_, Value::Text(name)] = row.values() {
-        text.push_str(name.text())?;
-    }
-    text.push_str(" ")
+    Ok(steps)
 }
 
 #[test]
-fn a_version_is_closed_at_its_start_and_open_at_its_end(rt: HostRuntime) -> Result<(), Fail> {
-    let mut talk = Talk::new(rt.alloc());
-    talk.write(1, "Ann", 100, ["begun 0", "inserted 1", "committed 100"])?;
-    talk.write(1, "Bea", 200, ["begun 100", "updated 1", "committed 200"])?;
-    for (form, wanted) in [
-        (Form::AsOf(99), ""),
-        (Form::AsOf(100), "Ann "),
-        (Form::AsOf(199), "Ann "),
-        (Form::AsOf(200), "Bea "),
-        (Form::FromTo(100, 200), "Ann 100-200 "),
-        (Form::Between(100, 200), "Ann 100-200 Bea 200- "),
-        (Form::FromTo(150, 150), ""),
-        (Form::Between(200, 200), "Bea 200- "),
-        (Form::FromTo(300, 100), ""),
-        (Form::Plain, "Bea "),
-    ] {
-        talk.select(1, form, wanted)?;
-    }
-    talk.holds(&rt)
-}
-
-#[test]
-fn a_clock_that_runs_back_still_gives_a_later_instant(rt: HostRuntime) -> Result<(), Fail> {
-    let mut talk = Talk::new(rt.alloc());
-    talk.write(1, "Ann", 200, ["begun 0", "inserted 1", "committed 200"])?;
-    talk.write(2, "Cy", 50, ["begun 200", "inserted 1", "committed 201"])?;
-    talk.holds(&rt)
+fn open_ends_and_periods_without_an_instant(rt: HostRuntime) -> Result<(), Fail> {
+    let steps = alike(
+        &rt,
+        rt.alloc(),
+        &[
+            "clock: 100",
+            "1: BEGIN",
+            "1: INSERT INTO emp VALUES (1, 'Ann')",
+            "1: COMMIT",
+            "1: SELECT * FROM emp FOR SYSTEM_TIME AS OF 99",
+            "1: SELECT * FROM emp FOR SYSTEM_TIME AS OF 100",
+            "clock: 200",
+            "1: BEGIN",
+            "1: UPDATE emp SET name = 'Bea' WHERE no = 1",
+            "1: COMMIT",
+            "1: SELECT * FROM emp FOR SYSTEM_TIME AS OF 199",
+            "1: SELECT * FROM emp FOR SYSTEM_TIME AS OF 200",
+            "1: SELECT * FROM emp FOR SYSTEM_TIME FROM 100 TO 200",
+            "1: SELECT * FROM emp FOR SYSTEM_TIME BETWEEN 100 AND 200",
+            "1: SELECT * FROM emp FOR SYSTEM_TIME FROM 150 TO 150",
+            "1: SELECT * FROM emp FOR SYSTEM_TIME BETWEEN 200 AND 200",
+            "1: SELECT * FROM emp FOR SYSTEM_TIME FROM 300 TO 100",
+        ],
+    )?;
+    assert_eq!(rt; steps, 15);
+    Ok(())
 }
 
 #[test]
 fn the_first_committer_wins(rt: HostRuntime) -> Result<(), Fail> {
-    let mut talk = Talk::new(rt.alloc());
-    talk.write(1, "Ann", 200, ["begun 0", "inserted 1", "committed 200"])?;
-    talk.begin(1, "begun 200")?;
-    talk.begin(2, "begun 200")?;
-    talk.update(1, 1, "Cat", "updated 1")?;
-    talk.update(2, 1, "Dan", "updated 1")?;
-    talk.commit(1, 0, "committed 201")?;
-    talk.commit(2, 0, "conflict")?;
-    talk.commit(2, 0, "no transaction")?;
-    talk.select(2, Form::Plain, "Cat ")?;
-    talk.holds(&rt)
-}
-
-#[test]
-fn two_that_write_other_keys_both_commit(rt: HostRuntime) -> Result<(), Fail> {
-    let mut talk = Talk::new(rt.alloc());
-    talk.write(1, "Ann", 100, ["begun 0", "inserted 1", "committed 100"])?;
-    talk.write(2, "Cy", 200, ["begun 100", "inserted 1", "committed 200"])?;
-    talk.begin(1, "begun 200")?;
-    talk.begin(2, "begun 200")?;
-    talk.update(1, 2, "x", "updated 1")?;
-    talk.update(2, 1, "y", "updated 1")?;
-    talk.commit(1, 0, "committed 201")?;
-    talk.commit(2, 0, "committed 202")?;
-    talk.holds(&rt)
-}
-
-#[test]
-fn a_key_that_comes_and_goes_leaves_nothing(rt: HostRuntime) -> Result<(), Fail> {
-    let mut talk = Talk::new(rt.alloc());
-    talk.begin(1, "begun 0")?;
-    talk.insert(1, 9, "tmp", "inserted 1")?;
-    talk.delete(1, 9, "deleted 1")?;
-    talk.commit(1, 100, "committed nothing")?;
-    talk.begin(1, "begun 0")?;
-    talk.holds(&rt)
-}
-
-#[test]
-fn a_deletion_conflicts_too(rt: HostRuntime) -> Result<(), Fail> {
-    let mut talk = Talk::new(rt.alloc());
-    talk.write(1, "Ann", 100, ["begun 0", "inserted 1", "committed 100"])?;
-    talk.begin(1, "begun 100")?;
-    talk.begin(2, "begun 100")?;
-    talk.delete(2, 1, "deleted 1")?;
-    talk.commit(2, 210, "committed 210")?;
-    talk.update(1, 1, "Fay", "updated 1")?;
-    talk.commit(1, 220, "conflict")?;
-    talk.select(1, Form::FromTo(1, 1000), "Ann 100-210 ")?;
-    talk.holds(&rt)
-}
-
-#[test]
-fn own_writes_show_in_plain_queries_alone(rt: HostRuntime) -> Result<(), Fail> {
-    let mut talk = Talk::new(rt.alloc());
-    talk.write(1, "Ann", 100, ["begun 0", "inserted 1", "committed 100"])?;
-    talk.begin(1, "begun 100")?;
-    talk.insert(1, 5, "Gus", "inserted 1")?;
-    talk.write(
-        2,
-        "Cy",
-        0,
-        ["in transaction", "inserted 1", "committed 101"],
+    let steps = alike(
+        &rt,
+        rt.alloc(),
+        &[
+            "clock: 200",
+            "1: BEGIN",
+            "1: INSERT INTO emp VALUES (1, 'Ann'), (2, 'Cy')",
+            "1: COMMIT",
+            "1: BEGIN",
+            "2: BEGIN",
+            "3: BEGIN",
+            "1: UPDATE emp SET name = 'Cat' WHERE no = 1",
+            "2: UPDATE emp SET name = 'Dan' WHERE no = 1",
+            "3: UPDATE emp SET name = 'Eve' WHERE no = 2",
+            "1: COMMIT",
+            "2: COMMIT",
+            "3: COMMIT",
+            "2: COMMIT",
+            "1: SELECT * FROM emp",
+        ],
     )?;
-    talk.begin(1, "begun 101")?;
-    talk.begin(2, "begun 101")?;
-    talk.insert(1, 6, "Hal", "inserted 1")?;
-    talk.update(2, 1, "Bea", "updated 1")?;
-    talk.commit(2, 0, "committed 102")?;
-    talk.select(1, Form::Plain, "Ann Cy Gus Hal ")?;
-    talk.select(1, Form::AsOf(102), "Ann Cy Gus ")?;
-    talk.select(1, Form::FromTo(1, 1000), "Ann 100- Cy 101- Gus 101- ")?;
-    talk.select(2, Form::Plain, "Bea Cy Gus ")?;
-    talk.step(Step::Rollback(1), "rolled back")?;
-    talk.select(1, Form::Plain, "Bea Cy Gus ")?;
-    talk.holds(&rt)
+    assert_eq!(rt; steps, 14);
+    Ok(())
 }
 
 #[test]
-fn the_last_instant_ends_the_clock(rt: HostRuntime) -> Result<(), Fail> {
-    let last = 999_999_999_999_999_999;
-    let mut talk = Talk::new(rt.alloc());
-    talk.begin(1, "begun 0")?;
-    talk.insert(1, 1, "Ann", "inserted 1")?;
-    talk.commit(1, last, "committed 999999999999999999")?;
-    talk.begin(1, "begun 999999999999999999")?;
-    talk.update(1, 1, "Bea", "updated 1")?;
-    talk.commit(1, 0, "clock end")?;
-    talk.commit(1, 0, "no transaction")?;
-    talk.holds(&rt)
+fn net_changes_and_deletions(rt: HostRuntime) -> Result<(), Fail> {
+    let steps = alike(
+        &rt,
+        rt.alloc(),
+        &[
+            "clock: 200",
+            "1: BEGIN",
+            "1: INSERT INTO emp VALUES (1, 'Ann'), (2, 'Cy')",
+            "1: COMMIT",
+            "1: BEGIN",
+            "1: INSERT INTO emp VALUES (9, 'tmp')",
+            "1: DELETE FROM emp WHERE no = 9",
+            "1: COMMIT",
+            "1: BEGIN",
+            "clock: 210",
+            "2: BEGIN",
+            "2: DELETE FROM emp WHERE no = 1",
+            "2: COMMIT",
+            "clock: 220",
+            "2: BEGIN",
+            "2: INSERT INTO emp VALUES (3, 'Eve')",
+            "2: COMMIT",
+            "split: TIME emp (1) AT 220",
+            "1: UPDATE emp SET name = 'Fay' WHERE no = 1",
+            "1: COMMIT",
+            "1: SELECT * FROM emp FOR SYSTEM_TIME FROM 1 TO 1000",
+        ],
+    )?;
+    assert_eq!(rt; steps, 18);
+    Ok(())
 }
 
 #[test]
-fn a_refused_statement_changes_nothing(rt: HostRuntime) -> Result<(), Fail> {
-    let alloc = rt.alloc();
-    let mut talk = Talk::new(alloc);
-    talk.insert(1, 1, "Ann", "no transaction")?;
-    talk.begin(65, "no session")?;
-    talk.begin(1, "begun 0")?;
-    talk.begin(1, "in transaction")?;
-    let twice = vec![in alloc; emp(alloc, 1, "a")?, emp(alloc, 1, "b")?]?;
-    talk.step(Step::Insert(1, 1, Rows::new(twice)), "duplicate key")?;
-    talk.select(1, Form::Plain, "")?;
-    talk.step(Step::Migrate, "ok")?;
-    talk.holds(&rt)
+fn own_writes_have_no_instant(rt: HostRuntime) -> Result<(), Fail> {
+    let steps = alike(
+        &rt,
+        rt.alloc(),
+        &[
+            "clock: 100",
+            "1: BEGIN",
+            "1: INSERT INTO emp VALUES (1, 'Ann')",
+            "1: COMMIT",
+            "1: BEGIN",
+            "1: INSERT INTO emp VALUES (5, 'Gus')",
+            "1: SELECT * FROM emp WHERE no = 5",
+            "1: SELECT * FROM emp FOR SYSTEM_TIME AS OF 100 WHERE no = 5",
+            "1: SELECT * FROM emp FOR SYSTEM_TIME BETWEEN 1 AND 100",
+            "1: ROLLBACK",
+            "1: SELECT * FROM emp",
+        ],
+    )?;
+    assert_eq!(rt; steps, 10);
+    Ok(())
 }
 
 #[test]
-fn a_transaction_writes_a_thousand_keys_and_no_more(rt: HostRuntime) -> Result<(), Fail> {
-    let alloc = rt.alloc();
-    let mut talk = Talk::new(alloc);
-    let mut rows = Vec::new(alloc);
-    for number in 0..1000 {
-        rows.push(emp(alloc, number, "x")?)?;
-    }
-    talk.begin(1, "begun 0")?;
-    talk.step(Step::Insert(1, 1, Rows::new(rows)), "inserted 1000")?;
-    talk.insert(1, 1000, "y", "too many writes")?;
-    let some = by(alloc, Operator::Below, 400)?;
-    talk.step(Step::Delete(1, some), "deleted 400")?;
-    talk.commit(1, 7, "committed 7")?;
-    talk.holds(&rt)
+fn a_clock_that_runs_back_and_one_that_ends(rt: HostRuntime) -> Result<(), Fail> {
+    let steps = alike(
+        &rt,
+        rt.alloc(),
+        &[
+            "clock: 200",
+            "1: BEGIN",
+            "1: INSERT INTO emp VALUES (1, 'Ann')",
+            "1: COMMIT",
+            "clock: 50",
+            "1: BEGIN",
+            "1: INSERT INTO emp VALUES (2, 'Cy')",
+            "1: COMMIT",
+            "clock: 999999999999999999",
+            "1: BEGIN",
+            "1: UPDATE emp SET name = 'Bea' WHERE no = 1",
+            "1: COMMIT",
+            "1: BEGIN",
+            "1: UPDATE emp SET name = 'Cat' WHERE no = 1",
+            "1: COMMIT",
+        ],
+    )?;
+    assert_eq!(rt; steps, 12);
+    Ok(())
+}
+
+#[test]
+fn refused_steps(rt: HostRuntime) -> Result<(), Fail> {
+    let steps = alike(
+        &rt,
+        rt.alloc(),
+        &[
+            "1: INSERT INTO emp VALUES (1, 'Ann')",
+            "1: COMMIT",
+            "1: ROLLBACK",
+            "1: BEGIN",
+            "1: BEGIN",
+            "1: INSERT INTO emp VALUES (1, 'a'), (1, 'b')",
+            "1: SELECT * FROM emp",
+            "1: INSERT INTO emp VALUES (1, 'a')",
+            "1: INSERT INTO emp VALUES (2, 'b'), (1, 'c')",
+            "1: DELETE FROM emp WHERE no > 1",
+            "1: COMMIT",
+            "split: KEY emp (2)",
+            "migrate:",
+        ],
+    )?;
+    assert_eq!(rt; steps, 13);
+    Ok(())
 }
