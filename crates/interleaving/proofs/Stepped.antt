@@ -1,0 +1,38 @@
+-- What a step's clauses say, where it took its turn or changed nothing.
+use Rattle.std.proofs.Common.{◌≡◌, ◌≢◌, Bool, true, false, None, ◌∷◌, refl, sym, ap, ◌∙◌, subst}
+use Rattle.rows.specs.declared.refusals.Refusal.{Refusal}
+use Rattle.rows.specs.declared.refusals.Refusal.TheVariants.{Memory, NoSession, NoTable, BadRow, Syntax, NoTransaction, InTransaction, DuplicateKey, Conflict, ClockEnd, TooManyWrites, LineTooLong, JournalFull, Overlap, BadPeriod, TransactionsOpen}
+use Rattle.statement.specs.declared.steps.Step.{Step}
+use Rattle.statement.specs.declared.steps.Reply.{Reply}
+use Rattle.statement.specs.declared.steps.Reply.TheVariants.{Begun, Inserted, Updated, Deleted, Shown, Committed, RolledBack, Done, Refused}
+use Rattle.statement.specs.History.{History, reply, misfit}
+use Rattle.turns.specs.World.{World}
+use Rattle.turns.specs.Turns.{Turn, turn_in}
+use Rattle.turns.specs.Stands.{Stands}
+use Rattle.turns.specs.Runs.{is_want, is_out}
+use Rattle.turns.proofs.Turned.{Stepped, stepped, fitting_turn}
+
+only_want : (refusal : Refusal) → is_want refusal ≡ true → refusal ≡ Memory
+only_want Memory h = refl
+only_want refusal h = cc
+
+out_is : (r : Reply) → is_out r ≡ true → r ≡ Refused Memory
+out_is (Refused refusal) h = ap Refused (only_want refusal h)
+out_is r h = cc
+
+-- the turn was taken, or memory ran out and nothing changed
+module _ (w now : World) (step : Step) (answer : Reply) (fits : None ≡ misfit w.schema step) (did : is_out answer ≡ false → ◌≡◌ {A = Turn} (answer, now) (turn_in w step)) (undone : is_out answer ≡ true → now ≡ w) where
+  turned : is_out answer ≡ false → Stepped w now step answer
+  turned h = stepped w now step answer (fitting_turn w now step answer fits (did h))
+
+  by_out : {P : Type 0} → (is_out answer ≡ true → P) → (is_out answer ≡ false → P) → P
+  by_out {P} f g = elim (is_out answer) as (λ b. is_out answer ≡ b → P) [ true ↦ f | false ↦ g ] refl
+
+  pub answers : (h : History) → Stands w h → answer ≢ Refused Memory → (answer ≡ reply w.schema h step) × Stands now (step ∷ h)
+  answers h stands other = by_out (λ out. absurd (other (out_is answer out))) (λ told. (turned told).answers h stands)
+
+  pub out_of_memory : (h : History) → Stands w h → answer ≡ Refused Memory → Stands now h
+  out_of_memory h stands is = subst (λ w. Stands w h) (sym (undone (ap is_out is))) stands
+
+  pub same_schema : now.schema ≡ w.schema
+  same_schema = by_out (λ out. ap (λ (w : World). w.schema) (undone out)) (λ told. (turned told).same_schema)
