@@ -8,7 +8,7 @@ ghost use Rattle.rows.specs.Events.{event_cmp, row_until, event_since, put_net};
 ghost use Rattle.eventlist.specs.Listing.{events_in, standing};
 
 use crate::nets::Net;
-use eventlist::{event_until, events_in, last_since, put_event, standing};
+use eventlist::{event_since, event_until, events_in, put_event, standing};
 use keyrange::KeyRange;
 use rows::{Event, Instant, Key, KeyBytes, Mem, Row, SharedEvent, key_bytes};
 use std::alloc::Global;
@@ -80,7 +80,7 @@ impl View {
         ensures ok { IfOk result (λ found. found ≡ event_since self.now.events start key.now) }
         ensures err { OnlyMemory result }
     {
-        Ok(last_since(self.list(), key, start, self.last()))
+        Ok(event_since(self.list(), key, start))
     }
 
     /// The events of a range of keys, from an instant to another and with it, by key and then by instant.
