@@ -2,6 +2,8 @@
 #![tactic(auto)]
 
 mod declarations;
+#[cfg(test)]
+mod event_tests;
 mod events;
 mod fits;
 mod forms;
