@@ -100,7 +100,7 @@ pub before_such : (end : Option ℕ) (es : List Event) (key : List ℕ) → last
 before_such end [] key = refl
 before_such end (e ∷ es) key = ap (λ o. later o (if is_bytes key e.key && is_early e.at end then Some e else None)) (before_such end es key)
 
-later_is_above : (e d : Event) → e.key ≡ d.key → e.at < d.at → event_cmp e d ≡ Less
+pub later_is_above : (e d : Event) → e.key ≡ d.key → e.at < d.at → event_cmp e d ≡ Less
 later_is_above e d same h =
     ap (λ o. ordering_then o (nat_cmp e.at d.at)) (subst (λ k. bytes_cmp e.key k ≡ Equal) same (bytes_tie e.key))
     ∙ sym (nat_cmp_is e.at d.at Less h)

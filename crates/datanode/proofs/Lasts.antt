@@ -1,23 +1,24 @@
 -- A key's last event is found by its place.
-use Rattle.std.proofs.Common.{◌≡◌, ℕ, ◌-◌, ◌<◌, ◌≤◌, Bool, true, false, ◌&&◌, not, List, [], ◌∷◌, Option, Some, None, refl, sym, ap, ◌∙◌, subst, inl, inr, arith, length, get_or, if◌then◌else◌}
+use Rattle.std.proofs.Common.{◌↔◌, IsTrue, ◌≡◌, ℕ, ◌-◌, ◌<◌, ◌≤◌, Bool, true, false, ◌&&◌, not, List, [], ◌∷◌, Option, Some, None, refl, sym, ap, ◌∙◌, subst, inl, inr, arith, length, get_or, if◌then◌else◌}
 use Rattle.std.specs.Ordering.{is_eq, is_lt}
 use Rattle.std.specs.declared.cmp.Ordering.TheVariants.{Less}
-use Rattle.std.proofs.lemmas.Bool.{cases_lt, cases_order, and_parts, and_from, false≢true}
+use Rattle.std.specs.Prelude.{is_none}
+use Rattle.std.proofs.lemmas.Bool.{ltb-true, lt-ltb, cases_lt, cases_order, and_parts, and_from, false≢true}
 use Rattle.std.proofs.lemmas.List.{get_or_default}
 use Rattle.std.proofs.lemmas.Map.Keys.{Less-from_sorted}
 use Rattle.rows.specs.declared.events.Event.{Event}
 use Rattle.rows.specs.Events.{bytes_cmp, is_bytes, event_cmp, later}
-use Rattle.keyrange.specs.Points.{Area, is_below, is_early, is_key_in}
+use Rattle.keyrange.specs.Points.{Area, has_point, is_below, is_early, is_key_in}
 use Rattle.keyrange.proofs.Orders.{not_itself}
 use Rattle.eventlist.specs.Places.{AreFirst}
-use Rattle.eventlist.proofs.Ordered.{same_bytes, is_lower, is_bytes_back, bytes_tie}
+use Rattle.eventlist.proofs.Ordered.{is_own, same_bytes, is_lower, is_bytes_back, bytes_tie}
 use Rattle.datanode.specs.Cut.{IsMap, IsArea, in_cut, cut}
-use Rattle.datanode.specs.Node.{last_before, kept_from}
+use Rattle.datanode.specs.Node.{Node, IsLast, Takes, last_before, kept_from, is_after, takes}
 use Rattle.datanode.proofs.Members.{In, In-from_filter}
 use Rattle.datanode.proofs.Areas.{facts_of}
 use Rattle.datanode.proofs.Order.{In_place, at_In}
 use Rattle.datanode.proofs.CutLaws.{IsInCut, in_cut_decides, ends_earlier}
-use Rattle.datanode.proofs.LastLaws.{is_last_such, none_such, before_such, not_below_itself, not_below_back, latest_in_cut}
+use Rattle.datanode.proofs.LastLaws.{last_such, found_such, none_passes, later_is_above, is_last_such, none_such, before_such, not_below_itself, not_below_back, latest_in_cut}
 
 abbrev of : List ℕ → Event → Bool
 of key e = is_bytes key e.key && true
@@ -101,3 +102,46 @@ latest_of_map r es m key area map is in_range =
   where
     early : (x : Event) → IsInCut r m x → is_early x.at r.time.to ≡ true
     early x h = elim h.1 [ inl w ↦ w.1 | inr c ↦ (let a : x.at < r.time.from = c.0 in ends_earlier r.time.to x.at r.time.from (omega arith) (facts_of r area).has_instant) ]
+
+-- ---- what a node takes
+
+is_last_of : (es : List Event) (e : Event) → IsMap es → is_after e (last_before None es e.key) ≡ true → IsLast e es
+is_last_of es e map h j d lt same = by (last_such (of e.key) es) refl (subst (λ o. is_after e o ≡ true) (before_such None es e.key) h)
+  where
+    mine : of e.key (get_or es j d) ≡ true
+    mine = and_from _ _ (subst (λ k. is_bytes e.key k ≡ true) (sym same) (is_own e.key)) refl
+
+    by : (o : Option Event) → last_such (of e.key) es ≡ o → is_after e o ≡ true → (get_or es j d).at < e.at
+    by None at after = absurd (none_passes (of e.key) es (get_or es j d) (at_In d es j lt) mine at)
+    by (Some x) at after =
+        let l = found_such (of e.key) es x map at in
+        let before : x.at < e.at = ltb-true x.at e.at after in
+        elim (cases_lt x.at (get_or es j d).at) [
+          | inl lower ↦ absurd (l.top (get_or es j d) (at_In d es j lt) mine (later_is_above x (get_or es j d) (sym (same_bytes e.key x.key (and_parts _ _ l.passes).0) ∙ sym same) lower))
+          | inr not_lower ↦ omega arith
+        ]
+
+is_after_last : (es : List Event) (e : Event) → IsMap es → IsLast e es → is_after e (last_before None es e.key) ≡ true
+is_after_last es e map h = subst (λ o. is_after e o ≡ true) (sym (before_such None es e.key)) (by (last_such (of e.key) es) refl)
+  where
+    by : (o : Option Event) → last_such (of e.key) es ≡ o → is_after e o ≡ true
+    by None at = refl
+    by (Some x) at =
+        let l = found_such (of e.key) es x map at in
+        let r = In_place x x es l.there in
+        lt-ltb x.at e.at (subst (λ (z : Event). z.key ≡ e.key → z.at < e.at) r.2 (h r.0 x r.1) (sym (same_bytes e.key x.key (and_parts _ _ l.passes).0)))
+
+pub takes_is : (n : Node) (e : Event) → IsMap n.events → IsTrue (takes n e) ↔ Takes n e
+takes_is n e map = (to, from)
+  where
+    ended : (o : Option ℕ) → is_none o ≡ true → o ≡ None
+    ended None h = refl
+    ended (Some x) h = cc
+
+    to : takes n e ≡ true → Takes n e
+    to h =
+        let rest = (and_parts (is_none n.rect.time.to) _ h).1 in
+        record { current = ended n.rect.time.to (and_parts _ _ h).0; inside = (and_parts _ _ rest).0; last = is_last_of n.events e map (and_parts (has_point n.rect e.key e.at) _ rest).1 }
+
+    from : Takes n e → takes n e ≡ true
+    from h = and_from _ _ (ap is_none h.current) (and_from _ _ h.inside (is_after_last n.events e map h.last))

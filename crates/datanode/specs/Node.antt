@@ -1,8 +1,8 @@
 -- A data node, as contracts see it.
-use Rattle.std.specs.Prelude.{◌≡◌, ℕ, ◌<◌, List, [], ◌∷◌, Option, Some, None, ◌&&◌, ◌||◌, nat_le, is_some, All, if◌then◌else◌}
+use Rattle.std.specs.Prelude.{◌≡◌, ℕ, ◌<◌, List, [], ◌∷◌, Option, Some, None, ◌&&◌, ◌||◌, nat_le, is_some, is_none, Bool, true, nat_lt, All, IsTrue, if◌then◌else◌}
 use Rattle.rows.specs.declared.events.Event.{Event}
 use Rattle.rows.specs.Events.{is_bytes, later}
-use Rattle.keyrange.specs.Points.{Area, is_early}
+use Rattle.keyrange.specs.Points.{Area, has_point, is_early}
 use Rattle.datanode.specs.Cut.{IsMap, IsArea, cut}
 
 -- a rectangle, and the events that it holds
@@ -25,6 +25,12 @@ pub record IsCutOf (n : Node) (m : List Event) : Type 0 where
 abbrev pub IsLast : Event → List Event → Type 0
 IsLast e = All (λ d. d.key ≡ e.key → d.at < e.at)
 
+-- what a node takes: it has no end, its rectangle holds the event's point, and the event is later than each of its key
+pub record Takes (n : Node) (e : Event) : Type 0 where
+  pub current : n.rect.time.to ≡ None
+  pub inside : IsTrue (has_point n.rect e.key e.at)
+  pub last : IsLast e n.events
+
 -- the key's last event before an end, which may be none
 abbrev pub last_before : Option ℕ → List Event → List ℕ → Option Event
 last_before end [] key = None
@@ -34,3 +40,12 @@ last_before end (e ∷ es) key = later (last_before end es key) (if is_bytes key
 abbrev pub kept_from : ℕ → Option Event → Option Event
 kept_from from None = None
 kept_from from (Some e) = if nat_le from e.at || is_some e.row then Some e else None
+
+-- the event is later than the other, where there is one
+abbrev pub is_after : Event → Option Event → Bool
+is_after e None = true
+is_after e (Some d) = nat_lt d.at e.at
+
+-- the test of what a node takes
+abbrev pub takes : Node → Event → Bool
+takes n e = is_none n.rect.time.to && (has_point n.rect e.key e.at && is_after e (last_before None n.events e.key))

@@ -1,12 +1,12 @@
 //! Data nodes.
-ghost use Rattle.std.specs.Prelude.{◌≡◌, ◌<◌, ◌≤◌, ◌-◌, [], List, None, Bool, true, false, IsTrue, IfOk, OnOk, OnErr, HoldsAt, length, option_copied};
+ghost use Rattle.std.specs.Prelude.{◌≡◌, ◌↔◌, ◌<◌, ◌≤◌, ◌-◌, [], List, None, Bool, true, false, IsTrue, IfOk, OnOk, OnErr, HoldsAt, length, option_copied};
 ghost use Rattle.rows.specs.declared.events.Event.{Event as Change};
 ghost use Rattle.rows.specs.Memory.{OnlyMemory};
 ghost use Rattle.rows.specs.Events.{row_until, put_event};
 ghost use Rattle.keyrange.specs.Points.{has_point, is_key_in};
 ghost use Rattle.eventlist.specs.Listing.{events_in, overtakes};
 ghost use Rattle.datanode.specs.Cut.{IsMap, IsInside, cut};
-ghost use Rattle.datanode.specs.Node.{IsNode, IsCutOf, IsLast, last_before, kept_from};
+ghost use Rattle.datanode.specs.Node.{IsNode, IsCutOf, IsLast, Takes, last_before, kept_from, is_after, takes};
 
 use crate::carried::cut;
 use eventlist::{event_until, events_in, is_overtaken, place_behind_key, place_of};
@@ -81,11 +81,25 @@ impl DataNode {
         last_of(&self.events, key)
     }
 
+    /// Whether the node takes an event: it has no end, its rectangle holds the event's point, and the event is later than each of its key.
+    pub fn takes(&self, event: &Event) -> bool
+        ensures { IsTrue result ↔ Takes self.now event.now }
+    {
+        self.is_taken(event)
+    }
+
+    fn is_taken(&self, event: &Event) -> bool
+        ensures map { IsMap self.now.events }
+        ensures taken { result ≡ takes self.now event.now }
+    {
+        self.rect.time().to.is_none()
+            && self.rect.contains(&event.key, event.at)
+            && is_after(event, self.latest(&event.key))
+    }
+
     /// Takes an event. At the first instant it takes the place of the carried event of its key. Where memory runs out nothing has changed.
     pub fn put(&mut self, event: Event) -> Mem<()>
-        requires current { self.old.rect.time.to ≡ None }
-        requires inside { IsTrue (has_point self.old.rect event.key event.at) }
-        requires last { IsLast event self.old.events }
+        requires { Takes self.old event }
         ensures ok { OnOk result (self.new ≡ record { rect = self.old.rect; events = cut self.old.rect (put_event event self.old.events) }) }
         ensures of_map { OnOk result ((m : List Change) → IsCutOf self.old m → IsCutOf self.new (put_event event m)) }
         ensures err { OnErr result (self.new ≡ self.old) }
@@ -128,6 +142,12 @@ impl DataNode {
         let events = cut(self.alloc, &self.events, &rect)?;
         Ok(node_of(self.alloc, rect, events))
     }
+}
+
+fn is_after(event: &Event, last: Option<&Event>) -> bool
+    ensures { result ≡ is_after event.now (option_copied last.entry) }
+{
+    last.is_none_or(|last| last.at < event.at)
 }
 
 fn node_of(alloc: Global, rect: Rect, events: Vec<SharedEvent>) -> DataNode
