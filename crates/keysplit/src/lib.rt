@@ -3,6 +3,8 @@
 
 mod middle;
 mod splits;
+#[cfg(test)]
+mod tests;
 
 pub use middle::middle_key;
 pub use splits::split_key;

@@ -3,6 +3,8 @@
 
 mod counts;
 mod splits;
+#[cfg(test)]
+mod tests;
 
 pub use counts::stay_count;
 pub use splits::split_time;
