@@ -1,6 +1,6 @@
 -- The last event of a key is found by its place.
-use Rattle.std.proofs.Common.{◌≡◌, ℕ, ◌-◌, ◌<◌, ◌≤◌, Bool, true, false, ◌&&◌, List, [], ◌∷◌, Option, Some, None, refl, sym, ap, subst, ◌∙◌, arith, zero, suc, length, get_or, nat_le, nat_lt, All, if◌then◌else◌}
-use Rattle.std.specs.Ordering.{nat_cmp, ordering_then, is_eq, match_ordering}
+use Rattle.std.proofs.Common.{◌≡◌, ℕ, ◌-◌, ◌<◌, ◌≤◌, Bool, true, false, ◌&&◌, List, [], ◌∷◌, Option, Some, None, refl, sym, ap, subst, ◌∙◌, arith, zero, suc, length, get_or, nat_le, nat_lt, not, if◌then◌else◌, ◌+◌}
+use Rattle.std.specs.Ordering.{nat_cmp, ordering_then, ordering_reverse, is_eq, is_lt, match_ordering}
 use Rattle.std.specs.declared.cmp.Ordering.{Ordering}
 use Rattle.std.specs.declared.cmp.Ordering.TheVariants.{Less, Equal, Greater}
 use Rattle.std.specs.List.{AllByRecursion, AllWithin, slice_get}
@@ -10,7 +10,9 @@ use Rattle.std.proofs.lemmas.List.Elements.{All-from_recursion, recursion_from_A
 use Rattle.std.proofs.lemmas.Option.{slice_get-get_or, slice_get_read}
 use Rattle.rows.specs.declared.events.Event.{Event}
 use Rattle.rows.specs.Events.{bytes_cmp, is_bytes, event_cmp, later, event_until, event_since}
-use Rattle.eventlist.specs.Places.{AreFirst, is_until, of_key, since}
+use Rattle.eventlist.specs.Places.{AreFirst, is_until, of_key, last_event, since}
+use Rattle.eventlist.proofs.Ranges.{not_above}
+use Rattle.eventlist.proofs.Parts.{first_same}
 use Rattle.eventlist.proofs.Ordered.{bytes_total, bytes_exact, is_bytes_back, same_bytes, bytes_tie, is_lower, sorted_head, sorted_tail, partitioned, within_tail, within_rest, within_head}
 
 at_most : (i j : ℕ) → nat_le i j ≡ true → i ≤ j
@@ -192,6 +194,54 @@ since_is (e ∷ es) start key t sorted upto =
         cases None true at mine = refl
         cases None false at mine = refl
 
-pub since_of_list : (es fs : List Event) (start : ℕ) (key : List ℕ) (t : ℕ) → es ≡ fs → IsStrictlySortedBy event_cmp es → All (λ e. e.at ≤ t) fs → since start (event_until es key t) ≡ event_since fs start key
-since_of_list es fs start key t is sorted upto =
-    sym (since_is es start key t sorted (recursion_from_All (λ e. e.at ≤ t) es (subst (All (λ e. e.at ≤ t)) (sym is) upto))) ∙ ap (λ es. event_since es start key) is
+-- an instant that no event is after
+abbrev top : List Event → ℕ
+top [] = 0
+top (e ∷ es) = e.at + top es
+
+upto_top : (es : List Event) (more : ℕ) → AllByRecursion (λ e. e.at ≤ more + top es) es
+upto_top [] more = tt
+upto_top (e ∷ es) more = (omega arith, subst (λ t. AllByRecursion (λ d. d.at ≤ t) es) (omega arith) (upto_top es (more + e.at)))
+
+upto_own : (es : List Event) → AllByRecursion (λ e. e.at ≤ top es) es
+upto_own es = subst (λ t. AllByRecursion (λ d. d.at ≤ t) es) (omega arith) (upto_top es 0)
+
+until_top : (key : List ℕ) (t : ℕ) (es : List Event) → AllByRecursion (λ e. e.at ≤ t) es → event_until es key t ≡ last_event es key
+until_top key t [] h = refl
+until_top key t (e ∷ es) h =
+    ap (λ o. later o (if is_bytes key e.key && nat_le e.at t then Some e else None)) (until_top key t es h.1)
+    ∙ ap (λ b. later (last_event es key) (if is_bytes key e.key && b then Some e else None)) (is_at_most e.at t h.0)
+    ∙ kept (is_bytes key e.key)
+  where
+    kept : (b : Bool) → later (last_event es key) (if b && true then Some e else None) ≡ later (last_event es key) (if b then Some e else None)
+    kept true = refl
+    kept false = refl
+
+-- since an instant there is the last event of the key, or none
+pub since_last : (es : List Event) (start : ℕ) (key : List ℕ) → IsStrictlySortedBy event_cmp es → since start (last_event es key) ≡ event_since es start key
+since_last es start key sorted =
+    ap (since start) (sym (until_top key (top es) es (upto_own es))) ∙ sym (since_is es start key (top es) sorted (upto_own es))
+
+not_above_until : (key : List ℕ) (t : ℕ) (e : Event) → e.at ≤ t → not_above key e ≡ is_until key t e
+not_above_until key t e le = ap not (ap is_lt (bytes_total.antisymm key e.key)) ∙ by (bytes_cmp e.key key) (is_at_most e.at t le)
+  where
+    by : (o : Ordering) → nat_le e.at t ≡ true → not (is_lt (ordering_reverse o)) ≡ match_ordering o true (nat_le e.at t) false
+    by Less is = refl
+    by Equal is = sym is
+    by Greater is = refl
+
+until_parted : (key : List ℕ) (es : List Event) (n : ℕ) → n ≤ length es → AreFirst (not_above key) es n → AreFirst (is_until key (top es)) es n
+until_parted key es n le h =
+    first_same (not_above key) (is_until key (top es)) es n le
+    (All-from_recursion (λ e. not_above key e ≡ is_until key (top es) e) es (each es (upto_own es))) h
+  where
+    each : (ds : List Event) → AllByRecursion (λ e. e.at ≤ top es) ds → AllByRecursion (λ e. not_above key e ≡ is_until key (top es) e) ds
+    each [] h = tt
+    each (d ∷ ds) h = (not_above_until key (top es) d h.0, each ds h.1)
+
+pub no_last : (key : List ℕ) (es : List Event) (n : ℕ) → n ≡ 0 → n ≤ length es → AreFirst (not_above key) es n → last_event es key ≡ None
+no_last key es n is le h = sym (until_top key (top es) es (upto_own es)) ∙ none_at key (top es) es n is (until_parted key es n le h)
+
+pub last_found : (key : List ℕ) (es : List Event) (n : ℕ) (last : Event) → ¬ (n ≡ 0) → n ≤ length es → IsStrictlySortedBy event_cmp es → AreFirst (not_above key) es n → last ≡ get_or es (n - 1) last
+    → of_key key (Some last) ≡ last_event es key
+last_found key es n last some le sorted h is = found_at key (top es) es n last some le sorted (until_parted key es n le h) is ∙ until_top key (top es) es (upto_own es)

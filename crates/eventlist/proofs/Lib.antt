@@ -3,3 +3,6 @@ pub mod Found
 pub mod Placed
 pub mod Overtaken
 pub mod Ranges
+pub mod Parts
+pub mod Leads
+pub mod Jumps

@@ -9,7 +9,7 @@ use Rattle.std.proofs.Math.Seq.{drop-cons}
 use Rattle.rows.specs.declared.events.Event.{Event}
 use Rattle.rows.specs.Events.{bytes_cmp, is_bytes, event_cmp}
 use Rattle.eventlist.specs.Listing.{overtakes, stands_at, standing, is_of_table}
-use Rattle.eventlist.specs.Places.{is_overtaken, stands_before}
+use Rattle.eventlist.specs.Places.{is_overtaken}
 use Rattle.eventlist.proofs.Ordered.{same_bytes, is_own, is_lower, bytes_total, bytes_tie, sorted_head, sorted_tail}
 
 first : (a b : Bool) → (a && b) ≡ true → a ≡ true
@@ -120,32 +120,13 @@ overtaken_next (x ∷ xs) (suc i) e t sorted at =
     below (y ∷ ys) zero e h at = let same : y ≡ e = cc in subst (λ e. event_cmp x e ≡ Less) same h.0
     below (y ∷ ys) (suc i) e h at = below ys i e h.1 at
 
+-- e's row stands at the instant, as the next event shows
+abbrev pub stands_before : Event → ℕ → Option Event → Bool
+stands_before e t next = nat_le e.at t && (is_some e.row && not (is_overtaken e t next))
+
 -- the next event shows whether an event's row stands
 pub stands_is : (es : List Event) (i : ℕ) (e : Event) (t : ℕ) → IsStrictlySortedBy event_cmp es → slice_get es i ≡ Some e → stands_at es t e ≡ stands_before e t (slice_get es (i + 1))
 unfolding stands_at
 stands_is es i e t sorted at =
     let next : suc i ≡ i + 1 = omega arith in
     ap (λ b. nat_le e.at t && (is_some e.row && not b)) (overtaken_next es i e t sorted at ∙ ap (λ n. is_overtaken e t (slice_get es n)) next)
-
--- one event more of those whose row stands
-pub standing_step : (es found new : List Event) (i : ℕ) (e : Event) (table t : ℕ) (next : Option Event) (b : Bool) → IsStrictlySortedBy event_cmp es → i < length es → e ≡ get_or es i e → next ≡ slice_get es (i + 1)
-    → b ≡ (is_of_table table e.key && stands_before e t next) → found ++ filter (λ e. is_of_table table e.key && stands_at es t e) (drop i es) ≡ standing es table t → new ≡ (if b then found ++ e ∷ [] else found)
-    → new ++ filter (λ e. is_of_table table e.key && stands_at es t e) (drop (i + 1) es) ≡ standing es table t
-standing_step es found new i e table t next b sorted lt at is_next is_b before is_new =
-    ap (λ l. l ++ rest) is_new ∙ moved b ∙ ap (λ b. found ++ (if b then e ∷ rest else rest)) (is_b ∙ test) ∙ ap (λ l. found ++ filter p l) (sym one_more) ∙ before
-  where
-    p : Event → Bool
-    p e = is_of_table table e.key && stands_at es t e
-
-    rest : List Event
-    rest = filter p (drop (i + 1) es)
-
-    test : (is_of_table table e.key && stands_before e t next) ≡ p e
-    test = ap (λ b. is_of_table table e.key && b) (ap (stands_before e t) is_next ∙ sym (stands_is es i e t sorted (slice_get_read es (length es) i e refl lt at)))
-
-    one_more : drop i es ≡ e ∷ drop (i + 1) es
-    one_more = drop-cons es i e lt ∙ ap (λ x. x ∷ drop (suc i) es) (sym at) ∙ (let next : suc i ≡ i + 1 = omega arith in ap (λ n. e ∷ drop n es) next)
-
-    moved : (b : Bool) → (if b then found ++ e ∷ [] else found) ++ rest ≡ found ++ (if b then e ∷ rest else rest)
-    moved true = append_assoc found (e ∷ []) rest
-    moved false = refl

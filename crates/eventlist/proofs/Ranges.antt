@@ -16,7 +16,7 @@ use Rattle.eventlist.proofs.Ordered.{bytes_total, bytes_exact, partitioned, with
 -- ---- a range
 
 module _ (p : Event → Bool) where
-  none_pass : (low : Event → Bool) (b : Bool) → ((e : Event) → low e ≡ b → p e ≡ false) → (es : List Event) → AllWithin (λ e. low e ≡ b) es 0 (length es) → filter p es ≡ []
+  pub none_pass : (low : Event → Bool) (b : Bool) → ((e : Event) → low e ≡ b → p e ≡ false) → (es : List Event) → AllWithin (λ e. low e ≡ b) es 0 (length es) → filter p es ≡ []
   none_pass low b fails [] h = refl
   none_pass low b fails (e ∷ es) h =
       ap (λ c. if c then e ∷ filter p es else filter p es) (fails e (within_head (λ e. low e ≡ b) e es (length es) h)) ∙ none_pass low b fails es (within_rest (λ e. low e ≡ b) e es (length es) h)

@@ -1,9 +1,10 @@
 -- Places in a list of events, which are in order.
-use Rattle.std.specs.Prelude.{◌≡◌, ℕ, List, Bool, true, false, ◌&&◌, not, nat_le, nat_lt, Option, Some, None, is_some, if◌then◌else◌}
+use Rattle.std.specs.Prelude.{◌≡◌, ℕ, List, [], ◌∷◌, Bool, true, false, ◌&&◌, not, nat_le, nat_lt, Option, Some, None, is_some, if◌then◌else◌}
 use Rattle.std.specs.Ordering.{match_ordering, is_lt, is_eq}
 use Rattle.std.specs.List.Sorted.{IsPartitionPoint}
 use Rattle.rows.specs.declared.events.Event.{Event}
-use Rattle.rows.specs.Events.{bytes_cmp, is_bytes, event_cmp}
+use Rattle.rows.specs.Events.{bytes_cmp, is_bytes, event_cmp, later}
+use Rattle.keyrange.specs.Points.{is_below}
 use Rattle.eventlist.specs.Listing.{overtakes}
 
 -- the first n events are those that pass the test
@@ -18,6 +19,11 @@ is_until key t e = match_ordering (bytes_cmp e.key key) true (nat_le e.at t) fal
 abbrev pub of_key : List ℕ → Option Event → Option Event
 of_key key None = None
 of_key key (Some e) = if is_bytes key e.key then Some e else None
+
+-- the key's last event
+abbrev pub last_event : List Event → List ℕ → Option Event
+last_event [] key = None
+last_event (e ∷ es) key = later (last_event es key) (if is_bytes key e.key then Some e else None)
 
 abbrev pub is_before : Event → Event → Bool
 is_before e d = is_lt (event_cmp d e)
@@ -37,6 +43,7 @@ abbrev pub is_overtaken : Event → ℕ → Option Event → Bool
 is_overtaken e t None = false
 is_overtaken e t (Some d) = overtakes e t d
 
--- e's row stands at the instant, as the next event shows
-abbrev pub stands_before : Event → ℕ → Option Event → Bool
-stands_before e t next = nat_le e.at t && (is_some e.row && not (is_overtaken e t next))
+-- the event is of the key or of a lesser one
+abbrev pub is_up_to : List ℕ → Option Event → Bool
+is_up_to key None = false
+is_up_to key (Some e) = not (is_below key e.key)

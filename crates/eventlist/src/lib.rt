@@ -4,9 +4,15 @@
 mod listing;
 mod places;
 mod puts;
+mod runs;
 mod stands;
+mod tables;
+#[cfg(test)]
+mod tests;
 
 pub use listing::{events_in, standing};
-pub use places::{event_until, last_since, place_after, place_behind_key, place_of, place_of_key};
+pub use places::{event_since, event_until, place_after, place_behind_key, place_of, place_of_key};
 pub use puts::put_event;
-pub use stands::{is_of_table, is_overtaken};
+pub use runs::{place_until, split_key};
+pub use stands::is_overtaken;
+pub use tables::{is_of_table, of_table};

@@ -1,14 +1,15 @@
 //! Events of a list, as new lists that share them.
-ghost use Rattle.std.specs.Prelude.{◌≡◌, ◌≤◌, ◌&&◌, IfOk, length, nat_le};
+ghost use Rattle.std.specs.Prelude.{◌≡◌, ◌≤◌, ◌&&◌, IfOk, length, nat_le, filter};
 ghost use Rattle.std.specs.List.Sorted.{IsStrictlySortedBy};
 ghost use Rattle.rows.specs.Events.{event_cmp};
 ghost use Rattle.rows.specs.Memory.{OnlyMemory};
 ghost use Rattle.keyrange.specs.Points.{is_before_end, is_key_in};
-ghost use Rattle.eventlist.specs.Listing.{events_in, standing};
+ghost use Rattle.eventlist.specs.Listing.{events_in, standing, stands_at};
 ghost use Rattle.eventlist.specs.Places.{AreFirst};
 
 use crate::places::place_of_key;
-use crate::stands::is_standing;
+use crate::runs::{split_key, standing_of};
+use crate::tables::of_table;
 use keyrange::KeyRange;
 use rows::{Event, Instant, KeyBytes, Mem, SharedEvent};
 use std::alloc::Global;
@@ -67,7 +68,7 @@ fn is_in(event: &Event, range: &KeyRange, from: Instant, to: Instant) -> bool
     range.contains(&event.key) && from <= event.at && event.at <= to
 }
 
-/// By key: the event of each key of a table whose row stands at an instant.
+/// By key: the event of each key of a table whose row stands at an instant. It jumps from key to key.
 pub fn standing(
     alloc: Global,
     events: &[SharedEvent],
@@ -78,11 +79,22 @@ pub fn standing(
     ensures ok { IfOk result (λ v. v.items ≡ standing events.now table instant) }
     ensures err { OnlyMemory result }
 {
+    Ok(all_standing(alloc, of_table(events, table), instant)?)
+}
+
+fn all_standing(alloc: Global, events: &[SharedEvent], instant: Instant) -> Mem<Vec<SharedEvent>>
+    requires { IsStrictlySortedBy event_cmp events.now }
+    ensures ok { IfOk result (λ v. v.items ≡ filter (stands_at events.now instant) events.now) }
+    ensures err { OnlyMemory result }
+{
     let mut found = Vec::new(alloc);
-    for (i, event) in events.iter().enumerate() {
-        if is_standing(table, instant, event.event(), events.get(i + 1)) {
+    let mut rest = events;
+    while !rest.is_empty() {
+        let (of_key, behind) = split_key(rest);
+        if let Some(event) = standing_of(of_key, instant) {
             found.push(event.share()?)?;
         }
+        rest = behind;
     }
     Ok(found)
 }

@@ -1,9 +1,9 @@
 //! Places in lists of shared events, which are in order.
-ghost use Rattle.std.specs.Prelude.{◌≡◌, ◌≤◌, All, Some, length, not, option_copied};
+ghost use Rattle.std.specs.Prelude.{◌≡◌, ◌≤◌, Some, length, not, option_copied};
 ghost use Rattle.std.specs.List.Sorted.{IsStrictlySortedBy};
 ghost use Rattle.rows.specs.Events.{event_cmp, event_until, event_since};
 ghost use Rattle.keyrange.specs.Points.{is_below};
-ghost use Rattle.eventlist.specs.Places.{AreFirst, is_until, of_key, since, is_before};
+ghost use Rattle.eventlist.specs.Places.{AreFirst, is_until, of_key, last_event, since, is_before};
 
 use rows::{Event, Instant, KeyBytes, SharedEvent};
 use std::cmp::Ordering;
@@ -53,18 +53,23 @@ fn of_key<'a>(key: &KeyBytes, event: &'a Event) -> Option<&'a Event>
     }
 }
 
-/// The instant of a key's last event above `start`, where there is one. No event is after `last`.
-pub fn last_since(
-    events: &[SharedEvent],
-    key: &KeyBytes,
-    start: Instant,
-    last: Instant,
-) -> Option<Instant>
-    requires sorted { IsStrictlySortedBy event_cmp events.now }
-    requires upto { All (λ e. e.at ≤ last) events.now }
+/// The instant of a key's last event above `start`, where there is one.
+pub fn event_since(events: &[SharedEvent], key: &KeyBytes, start: Instant) -> Option<Instant>
+    requires { IsStrictlySortedBy event_cmp events.now }
     ensures { result ≡ event_since events.now start key.now }
 {
-    since(start, event_until(events, key, last))
+    since(start, last_event(events, key))
+}
+
+fn last_event<'a>(events: &'a [SharedEvent], key: &KeyBytes) -> Option<&'a Event>
+    requires { IsStrictlySortedBy event_cmp events.now }
+    ensures { option_copied result ≡ last_event events.now key.now }
+{
+    let end = place_behind_key(events, key);
+    if end == 0 {
+        return None;
+    }
+    of_key(key, events[end - 1].event())
 }
 
 /// The event's instant, where it is above another.

@@ -207,6 +207,8 @@ fn a_view_lists_the_rows_that_stand(rt: HostRuntime) -> Result<(), Fail> {
     assert_eq!(rt; standing(alloc, &view, 1, 200)?, 2);
     assert_eq!(rt; standing(alloc, &view, 1, 199)?, 1);
     assert_eq!(rt; standing(alloc, &view, 2, 200)?, 0);
+    assert_eq!(rt; view.of_table(1).len(), 2);
+    assert_eq!(rt; view.of_table(2).len(), 0);
     Ok(())
 }
 

@@ -1,14 +1,14 @@
 //! What was committed until an instant.
-ghost use Rattle.std.specs.Prelude.{◌≡◌, ◌≤◌, ◌<◌, ◌&&◌, [], All, IfOk, OnOk, OnErr, length, nat_le};
+ghost use Rattle.std.specs.Prelude.{◌≡◌, ◌≤◌, ◌<◌, ◌&&◌, [], All, IfOk, OnOk, OnErr, filter};
 ghost use Rattle.std.specs.List.Sorted.{IsStrictlySortedBy};
 ghost use Rattle.rows.specs.KeyEncoding.{IsShortKey};
 ghost use Rattle.rows.specs.Memory.{OnlyMemory};
 ghost use Rattle.rows.specs.Commits.{last_instant};
 ghost use Rattle.rows.specs.Events.{event_cmp, row_until, event_since, put_net};
-ghost use Rattle.eventlist.specs.Listing.{events_in, standing};
+ghost use Rattle.eventlist.specs.Listing.{events_in, is_of_table, standing};
 
 use crate::nets::Net;
-use eventlist::{event_until, events_in, last_since, put_event, standing};
+use eventlist::{event_since, event_until, events_in, of_table, put_event, standing};
 use keyrange::KeyRange;
 use rows::{Event, Instant, Key, KeyBytes, Mem, Row, SharedEvent, key_bytes};
 use std::alloc::Global;
@@ -80,7 +80,7 @@ impl View {
         ensures ok { IfOk result (λ found. found ≡ event_since self.now.events start key.now) }
         ensures err { OnlyMemory result }
     {
-        Ok(last_since(self.list(), key, start, self.last()))
+        Ok(event_since(self.list(), key, start))
     }
 
     /// The events of a range of keys, from an instant to another and with it, by key and then by instant.
@@ -95,6 +95,14 @@ impl View {
         ensures err { OnlyMemory result }
     {
         events_in(alloc, self.list(), range, from, to)
+    }
+
+    /// The events of a table, of which none is copied.
+    pub fn of_table(&self, table: u8) -> &[SharedEvent]
+        ensures are { result.now ≡ filter (λ e. is_of_table table e.key) self.now.events }
+        ensures sorted { IsStrictlySortedBy event_cmp result.now }
+    {
+        of_table(self.list(), table)
     }
 
     /// By key: the event of each key of a table whose row stands at an instant.

@@ -1,1 +1,2 @@
 mod Versioned
+mod Instants

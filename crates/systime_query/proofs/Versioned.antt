@@ -1,8 +1,9 @@
 -- What events in order show is what the versions of the changes show.
 use Rattle.std.proofs.Common.{◌≡◌, ℕ, ◌<◌, List, [], ◌∷◌, Option, Some, None, Bool, true, false, T, refl, sym, ap, ◌∙◌, subst, cond, map, filter, nat_lt, nat_le, ◌&&◌, ◌==◌, not, All, arith, ◌≤◌, Result, Ok, Err, IfOk}
 use Rattle.std.proofs.lemmas.Bool.Decides.{nat_tests}
-use Rattle.std.proofs.lemmas.List.Elements.{All-head, All-tail}
+use Rattle.std.proofs.lemmas.List.Elements.{All-head, All-tail, All-filter, recursion_from_All}
 use Rattle.std.specs.List.{filter_map, cons_option, flat_map, list_all}
+use Rattle.std.specs.List.Sorted.{IsStrictlySortedBy}
 use Rattle.std.specs.Map.{keys_of}
 use Rattle.std.specs.FinMap.{is_sorted}
 use Rattle.std.specs.FinMap.Entries.{below_all}
@@ -14,6 +15,7 @@ use Rattle.rows.specs.declared.keys.Key.{Key}
 use Rattle.rows.specs.declared.keys.Point.{Point}
 use Rattle.rows.specs.declared.tables.Table.{Table}
 use Rattle.rows.specs.declared.queries.Form.{Form}
+use Rattle.rows.specs.declared.queries.Form.TheVariants.{Plain, AsOf}
 use Rattle.rows.specs.declared.queries.Keys.{Keys}
 use Rattle.rows.specs.declared.queries.Shown.{Shown}
 use Rattle.rows.specs.Tables.{Schema, table_at}
@@ -22,7 +24,7 @@ use Rattle.rows.specs.Log.{Changes, Row, point_cmp}
 use Rattle.rows.specs.Versions.{Version, next_change, version_of, versions, selects, holds, takes, shown, answer}
 use Rattle.rows.specs.KeyEncoding.{bytes_of_key, part_bytes}
 use Rattle.rows.specs.KeyReading.{whole_key, parts_from}
-use Rattle.rows.specs.Events.{events_of, event_of, IsKeyOfAny, IsKeyIn, AreChangesIn}
+use Rattle.rows.specs.Events.{event_cmp, events_of, event_of, IsKeyOfAny, IsKeyIn, AreChangesIn}
 use Rattle.rows.proofs.Orders.{key_cmp_total, first, second, below}
 use Rattle.rows.proofs.Sorted.{sorted_from}
 use Rattle.rows.proofs.KeyReads.{key_back}
@@ -30,8 +32,9 @@ use Rattle.rows.proofs.EventKeys.{same_key}
 use Rattle.rows.specs.declared.refusals.Refusal.{Refusal}
 use Rattle.keyrange.specs.declared.ranges.KeyRange.{KeyRange}
 use Rattle.keyrange.specs.Points.{is_below}
-use Rattle.eventlist.specs.Listing.{events_in}
+use Rattle.eventlist.specs.Listing.{is_of_table}
 use Rattle.staging.specs.Committed.{Committed, Holds}
+use Rattle.systime_query.proofs.Instants.{of_table_alone, now_shown}
 use Rattle.systime_query.specs.Selected.{next_of, is_taken, shown_of, selected_by}
 
 -- ---- the next change of a key stands right behind it
@@ -195,27 +198,23 @@ module _ (schema : Schema) (table : Table) (form : Form) (keys : Keys) (is_table
 
 -- ---- what a view shows
 
-no_key_below : (k : List ℕ) → is_below k [] ≡ false
-no_key_below [] = refl
-no_key_below (b ∷ bs) = refl
-
-abbrev all_keys : KeyRange
-all_keys = record { lo = []; hi = None }
-
-all_events : (es : List Event) (last : ℕ) → All (λ e. e.at ≤ last) es → events_in es all_keys 0 last ≡ es
-all_events [] last h = refl
-all_events (e ∷ es) last h =
-    ap (λ b. cond ((not b && true) && (nat_le 0 e.at && nat_le e.at last)) (e ∷ events_in es all_keys 0 last) (events_in es all_keys 0 last)) (no_key_below e.key)
-    ∙ ap (λ b. cond b (e ∷ events_in es all_keys 0 last) (events_in es all_keys 0 last)) early
-    ∙ ap (λ l. e ∷ l) (all_events es last (All-tail (λ (e : Event). e.at ≤ last) e es h))
-  where
-    early : (nat_le 0 e.at && nat_le e.at last) ≡ true
-    early = let le : e.at ≤ last = All-head (λ (e : Event). e.at ≤ last) e es h in grind (arith, nat_tests)
+abbrev of_table : Table → List Event → List Event
+of_table table es = filter (λ e. is_of_table table.number e.key) es
 
 pub answered : {A : Type 0} (items : A → List Shown) (view : Committed) (events : List Event) (table : Table) (form : Form) (keys : Keys) (r : Result A Refusal)
-    → All (λ e. e.at ≤ view.last) view.events → events ≡ events_in view.events all_keys 0 view.last → IfOk r (λ v. items v ≡ selected_by table form keys events)
+    → IsStrictlySortedBy event_cmp view.events → events ≡ of_table table view.events → IfOk r (λ v. items v ≡ selected_by table form keys events)
     → IfOk r (λ v. (schema : Schema) (m : Changes) → Holds schema view m → table_at schema table.number ≡ Some table → keys.table ≡ table.number → items v ≡ answer m table form keys)
-answered items view events table form keys (Err e) upto are is = tt
-answered items view events table form keys (Ok v) upto are is = λ schema m held is_table of_table.
-    is ∙ ap (selected_by table form keys) (are ∙ all_events view.events view.last upto ∙ held.events_are)
-    ∙ selected_is schema table form keys is_table of_table m held.keys (sorted_from point_cmp m held.in_order)
+answered items view events table form keys (Err e) sorted are is = tt
+answered items view events table form keys (Ok v) sorted are is = λ schema m held is_table same.
+    is ∙ ap (selected_by table form keys) are
+    ∙ sym (of_table_alone table form keys view.events sorted)
+    ∙ ap (selected_by table form keys) held.events_are
+    ∙ selected_is schema table form keys is_table same m held.keys (sorted_from point_cmp m held.in_order)
+
+pub now_answered : {A : Type 0} (items : A → List Shown) (view : Committed) (events : List Event) (table : Table) (last : ℕ) (keys : Keys) (r : Result A Refusal)
+    → All (λ e. e.at ≤ last) view.events → events ≡ of_table table view.events → IfOk r (λ v. items v ≡ selected_by table (AsOf last) keys events)
+    → IfOk r (λ v. items v ≡ selected_by table Plain keys events)
+now_answered items view events table last keys (Err e) upto are is = tt
+now_answered items view events table last keys (Ok v) upto are is =
+    is ∙ now_shown table last keys events
+    (recursion_from_All (λ (e : Event). e.at ≤ last) events (subst (All (λ (e : Event). e.at ≤ last)) (sym are) (All-filter (λ e. is_of_table table.number e.key) (λ (e : Event). e.at ≤ last) view.events upto)))

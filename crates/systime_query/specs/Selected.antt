@@ -29,3 +29,7 @@ shown_of table form keys e to = elim e.row [
 abbrev pub selected_by : Table → Form → Keys → List Event → List Shown
 selected_by table form keys [] = []
 selected_by table form keys (e ∷ es) = cons_option (shown_of table form keys e (next_of e es)) (selected_by table form keys es)
+
+abbrev pub instant_of : Option Event → Option ℕ
+instant_of None = None
+instant_of (Some e) = Some e.at

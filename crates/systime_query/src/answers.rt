@@ -3,13 +3,13 @@ ghost use Rattle.std.specs.Prelude.{◌≡◌, ◌++◌, [], None, IfOk, Some};
 ghost use Rattle.rows.specs.Log.{Changes};
 ghost use Rattle.rows.specs.Tables.{Schema, table_at};
 ghost use Rattle.rows.specs.Versions.{answer};
-ghost use Rattle.rows.specs.Events.{is_bytes};
 ghost use Rattle.rows.specs.Memory.{OnlyMemory};
 ghost use Rattle.staging.specs.Committed.{Holds};
-ghost use Rattle.systime_query.specs.Selected.{next_of, is_taken, shown_of, selected_by};
+ghost use Rattle.systime_query.specs.Selected.{next_of, selected_by};
 
-use keyrange::KeyRange;
-use rows::{Event, Form, Instant, KeyBytes, Keys, Mem, SharedEvent, Shown, Table, read_key};
+use crate::periods::{is_same, shown_of};
+use crate::snapshots::selected_at;
+use rows::{Event, Form, Instant, Keys, Mem, SharedEvent, Shown, Table};
 use staging::View;
 use std::alloc::Global;
 
@@ -19,17 +19,12 @@ pub fn answer(alloc: Global, view: &View, table: &Table, form: Form, keys: &Keys
     ensures ok { IfOk result (λ v. (schema : Schema) (m : Changes) → Holds schema view.now m → table_at schema table.now.number ≡ Some table.now → keys.now.table ≡ table.now.number → v.items ≡ answer m table.now form keys.now) }
     ensures err { OnlyMemory result }
 {
-    let events = view.events(alloc, &all_keys(alloc), 0, view.last())?;
-    selected(alloc, events.as_slice(), table, form, keys)
-}
-
-/// The range of all keys.
-fn all_keys(alloc: Global) -> KeyRange
-    ensures { result ≡ record { lo = []; hi = None } }
-{
-    KeyRange {
-        lo: KeyBytes::least(alloc),
-        hi: None,
+    let events = view.of_table(table.number);
+    let last = view.last();
+    match form {
+        Form::Plain => selected_at(alloc, events, last, table, keys),
+        Form::AsOf(instant) => selected_at(alloc, events, instant, table, keys),
+        Form::FromTo(_, _) | Form::Between(_, _) => selected(alloc, events, table, form, keys),
     }
 }
 
@@ -71,46 +66,4 @@ fn next_of(event: &Event, behind: &[SharedEvent]) -> Option<Instant>
         }
         [] => None,
     }
-}
-
-/// The version that an event begins, where the query selects it.
-fn shown_of(
-    alloc: Global,
-    event: &Event,
-    to: Option<Instant>,
-    table: &Table,
-    form: Form,
-    keys: &Keys,
-) -> Mem<Option<Shown>>
-    ensures ok { IfOk result (λ s. s ≡ shown_of table.now form keys.now event.now to) }
-    ensures err { OnlyMemory result }
-{
-    let Some(row) = &event.row else {
-        return Ok(None);
-    };
-    if !form.selects(event.at, to) || !is_taken(alloc, table, keys, &event.key)? {
-        return Ok(None);
-    }
-    Ok(Some(Shown {
-        row: row.copy()?,
-        from: event.at,
-        to,
-    }))
-}
-
-/// Whether bytes are of a key that the query takes.
-fn is_taken(alloc: Global, table: &Table, keys: &Keys, bytes: &KeyBytes) -> Mem<bool>
-    ensures ok { IfOk result (λ b. b ≡ is_taken table.now keys.now bytes.now) }
-    ensures err { OnlyMemory result }
-{
-    match read_key(alloc, table, bytes)? {
-        Some(key) => Ok(keys.takes(table, &key)),
-        None => Ok(false),
-    }
-}
-
-fn is_same(key: &KeyBytes, other: &KeyBytes) -> bool
-    ensures { result ≡ is_bytes key.now other.now }
-{
-    key.cmp(other).is_eq()
 }

@@ -2,6 +2,8 @@
 #![tactic(auto)]
 
 mod answers;
+mod periods;
+mod snapshots;
 #[cfg(test)]
 mod tests;
 

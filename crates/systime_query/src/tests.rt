@@ -1,4 +1,5 @@
-//! One employee over time.
+//! Two employees over time.
+ghost use Rattle.std.specs.Prelude.{◌≡◌, IfOk};
 
 use crate::answer;
 use rows::{
@@ -26,7 +27,9 @@ fn by(alloc: Global, operator: Operator, number: i64) -> Result<Keys, AllocError
 }
 
 /// Ann comes at 100 as number 1, and is Bea from 200 on.
-fn recorded(alloc: Global, schema: &Schema) -> Result<View, Fail> {
+fn recorded(alloc: Global, schema: &Schema) -> Result<View, Fail>
+    ensures { IfOk result (λ v. v.last ≡ 200) }
+{
     let table = schema.table_at(1).ok_or("no table")?;
     let mut view = View::new(alloc)?;
     let mut staged = Staged::new(alloc)?;
@@ -84,6 +87,38 @@ fn a_version_is_closed_at_its_start_and_open_at_its_end(rt: HostRuntime) -> Resu
         assert_eq!(rt; periods.contains(&ann), has_ann);
         assert_eq!(rt; periods.contains(&bea), has_bea);
         assert_eq!(rt; periods.len(), has_ann as usize + has_bea as usize);
+    }
+    Ok(())
+}
+
+/// Cid comes at 300 as number 2.
+fn hired(alloc: Global, schema: &Schema) -> Result<View, Fail> {
+    let table = schema.table_at(1).ok_or("no table")?;
+    let mut view = recorded(alloc, schema)?;
+    let mut staged = Staged::new(alloc)?;
+    let row = Row::new(vec![in alloc; Value::Int(2), text(alloc, "Cid")?]?);
+    staged.insert(&view, table, vec![in alloc; row]?.as_slice())?;
+    let net = staged.net(&view)?;
+    view.apply(alloc, 300, &net)?;
+    Ok(view)
+}
+
+#[test]
+fn each_key_shows_one_version_at_an_instant(rt: HostRuntime) -> Result<(), Fail> {
+    let alloc = rt.alloc();
+    let schema = Schema::sample(alloc)?;
+    let table = schema.table_at(1).ok_or("no table")?;
+    let view = hired(alloc, &schema)?;
+    let keys = by(alloc, Operator::AtLeast, 1)?;
+    let cases = [
+        (Form::Plain, 2),
+        (Form::AsOf(99), 0),
+        (Form::AsOf(299), 1),
+        (Form::AsOf(300), 2),
+        (Form::Between(1, 300), 3),
+    ];
+    for (form, count) in cases {
+        assert_eq!(rt; answer(alloc, &view, table, form, &keys)?.len(), count);
     }
     Ok(())
 }

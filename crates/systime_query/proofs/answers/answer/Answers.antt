@@ -1,11 +1,21 @@
-use Rattle.std.proofs.Common.{subst, All, ◌≤◌, ◌∙◌}
-use Rattle.eventlist.specs.Listing.{events_in}
-use Rattle.systime_query.proofs.Versioned.{answered}
+use Rattle.std.proofs.Common.{◌≡◌, ◌≤◌, All, IfOk, sym, subst}
+use Rattle.std.specs.List.Sorted.{IsStrictlySortedBy}
+use Rattle.rows.specs.declared.queries.Form.{Form}
+use Rattle.systime_query.specs.Selected.{selected_by}
+use Rattle.systime_query.proofs.Versioned.{answered, now_answered}
 use Rattle.systime_query.proofs.answers.answer.Goals as goal
 
-pub returns-clause-ok : goal.returns-clause-ok
-returns-clause-ok c =
-    answered (λ v. v.items) c.args.view.now c.as_slice.result.now c.args.table.now c.args.form c.args.keys.now c.selected.result
-    (subst (λ last. All (λ e. e.at ≤ last) c.args.view.now.events) c.last.ensures.last c.last.ensures.upto)
-    (c.as_slice.ensures.value ∙ c.in_ok-events.ensures.ok ∙ (λ i. events_in c.args.view.now.events (c.all_keys.ensures i) 0 (c.last.ensures.last i)))
-    c.selected.ensures.ok
+pub returns-in-Plain-clause-ok : goal.returns-in-Plain-clause-ok
+returns-in-Plain-clause-ok c =
+    answered (λ v. v.items) c.args.view.now c.of_table-events.result.now c.args.table.now c.args.form c.args.keys.now c.selected_at.result c.last-last.ensures.ordered c.of_table-events.ensures.are
+    (subst (λ (f : Form). IfOk c.selected_at.result (λ v. v.items ≡ selected_by c.args.table.now f c.args.keys.now c.of_table-events.result.now)) (sym c.in-Plain.is)
+    (now_answered (λ v. v.items) c.args.view.now c.of_table-events.result.now c.args.table.now c.last-last.result c.args.keys.now c.selected_at.result c.last-last.ensures.upto c.of_table-events.ensures.are c.selected_at.ensures.ok))
+
+pub returns-in-AsOf-clause-ok : goal.returns-in-AsOf-clause-ok
+returns-in-AsOf-clause-ok c =
+    answered (λ v. v.items) c.args.view.now c.of_table-events.result.now c.args.table.now c.args.form c.args.keys.now c.selected_at-in-AsOf.result c.last-last.ensures.ordered c.of_table-events.ensures.are
+    (subst (λ (f : Form). IfOk c.selected_at-in-AsOf.result (λ v. v.items ≡ selected_by c.args.table.now f c.args.keys.now c.of_table-events.result.now)) (sym c.in-AsOf.is) c.selected_at-in-AsOf.ensures.ok)
+
+pub returns-in-FromTo-clause-ok : goal.returns-in-FromTo-clause-ok
+returns-in-FromTo-clause-ok c =
+    answered (λ v. v.items) c.args.view.now c.of_table-events.result.now c.args.table.now c.args.form c.args.keys.now c.selected.result c.last-last.ensures.ordered c.of_table-events.ensures.are c.selected.ensures.ok

@@ -1,0 +1,168 @@
+//! Lists of a few events.
+ghost use Rattle.std.specs.Prelude.{◌≡◌, ◌<◌, IfOk};
+ghost use Rattle.std.specs.List.Sorted.{IsStrictlySortedBy};
+ghost use Rattle.rows.specs.KeyEncoding.{IsShortKey};
+ghost use Rattle.rows.specs.Events.{event_cmp};
+
+use crate::{
+    event_since, event_until, events_in, is_of_table, is_overtaken, of_table, place_after,
+    place_behind_key, place_of, place_of_key, place_until, put_event, split_key, standing,
+};
+use keyrange::KeyRange;
+use rows::{Event, Instant, Key, KeyBytes, Mem, Row, SharedEvent, Value, Values, key_bytes};
+use std::alloc::{AllocError, Global};
+use std::process::Abort;
+use std::test::Fail;
+
+fn key(alloc: Global, table: u8, number: i64) -> Result<Key, AllocError>
+    ensures { IfOk result IsShortKey }
+{
+    Ok(Key {
+        table,
+        parts: Values::new(vec![in alloc; Value::Int(number)]?),
+    })
+}
+
+fn bytes(alloc: Global, table: u8, number: i64) -> Mem<KeyBytes> {
+    let key = key(alloc, table, number)?;
+    Ok(key_bytes(alloc, &key)?)
+}
+
+fn row(alloc: Global, there: bool) -> Result<Option<Row>, AllocError> {
+    if there {
+        Ok(Some(Row::new(vec![in alloc; Value::Int(1)]?)))
+    } else {
+        Ok(None)
+    }
+}
+
+fn put(
+    alloc: Global,
+    events: &mut Vec<SharedEvent>,
+    table: u8,
+    number: i64,
+    at: Instant,
+    there: bool,
+) -> Mem<()>
+    requires { IsStrictlySortedBy event_cmp events.old.items }
+    ensures { IsStrictlySortedBy event_cmp events.new.items }
+{
+    let event = Event {
+        key: bytes(alloc, table, number)?,
+        at,
+        row: row(alloc, there)?,
+    };
+    put_event(events, SharedEvent::new(alloc, event)?)
+}
+
+/// Of table 1 the keys 1 (a row at 100, deleted at 200) and 2 (a row at 150), of table 2 the key 1 (a row at 50).
+#[tactic(auto, using(crate::proofs::Ordered::sorted_none))]
+fn some(alloc: Global) -> Mem<Vec<SharedEvent>>
+    ensures { IfOk result (λ v. IsStrictlySortedBy event_cmp v.items) }
+{
+    let mut events = Vec::new(alloc);
+    put(alloc, &mut events, 2, 1, 50, true)?;
+    put(alloc, &mut events, 1, 2, 150, true)?;
+    put(alloc, &mut events, 1, 1, 200, false)?;
+    put(alloc, &mut events, 1, 1, 100, true)?;
+    Ok(events)
+}
+
+fn at<'a>(rt: &impl Abort, events: &'a [SharedEvent], place: usize) -> &'a Event {
+    events
+        .get(place)
+        .expect(rt, "there are some events")
+        .event()
+}
+
+#[test]
+fn places_are_before_and_behind_a_key(rt: HostRuntime) -> Result<(), Fail> {
+    let alloc = rt.alloc();
+    let events = some(alloc)?;
+    let key = bytes(alloc, 1, 1)?;
+    assert_eq!(rt; place_of_key(&events, &key), 0);
+    assert_eq!(rt; place_behind_key(&events, &key), 2);
+    assert_eq!(rt; place_after(&events, &key, 199), 1);
+    assert_eq!(rt; place_after(&events, &key, 200), 2);
+    assert_eq!(rt; event_since(&events, &key, 199), Some(200));
+    assert_eq!(rt; event_since(&events, &key, 200), None);
+    Ok(())
+}
+
+#[test]
+fn a_keys_last_event_is_found_by_its_instant(rt: HostRuntime) -> Result<(), Fail> {
+    let alloc = rt.alloc();
+    let events = some(alloc)?;
+    let key = bytes(alloc, 1, 1)?;
+    for (at, found) in [
+        (99, None),
+        (100, Some(100)),
+        (199, Some(100)),
+        (200, Some(200)),
+    ] {
+        let event = event_until(&events, &key, at);
+        assert_eq!(rt; event.map(|event| event.at), found, "at {at}");
+    }
+    Ok(())
+}
+
+#[test]
+fn an_event_takes_the_place_of_one_of_its_point(rt: HostRuntime) -> Result<(), Fail> {
+    let alloc = rt.alloc();
+    let mut events = some(alloc)?;
+    assert_eq!(rt; place_of(&events, at(&rt, &events, 1)), 1);
+    put(alloc, &mut events, 1, 1, 200, true)?;
+    assert_eq!(rt; events.len(), 4);
+    put(alloc, &mut events, 1, 1, 201, true)?;
+    assert_eq!(rt; events.len(), 5);
+    Ok(())
+}
+
+#[test]
+fn events_of_a_range_are_listed(rt: HostRuntime) -> Result<(), Fail> {
+    let alloc = rt.alloc();
+    let events = some(alloc)?;
+    let range = KeyRange {
+        lo: bytes(alloc, 1, 2)?,
+        hi: None,
+    };
+    assert_eq!(rt; events_in(alloc, &events, &range, 1, 150)?.len(), 2);
+    assert_eq!(rt; events_in(alloc, &events, &range, 51, 149)?.len(), 0);
+    Ok(())
+}
+
+#[test]
+fn rows_stand_until_the_next_event_of_their_key(rt: HostRuntime) -> Result<(), Fail> {
+    let alloc = rt.alloc();
+    let events = some(alloc)?;
+    for (at, count) in [(99, 0), (100, 1), (150, 2), (199, 2), (200, 1)] {
+        assert_eq!(rt; standing(alloc, &events, 1, at)?.len(), count, "at {at}");
+    }
+    assert!(rt; !is_overtaken(at(&rt, &events, 0), 199, events.get(1)));
+    assert!(rt; is_overtaken(at(&rt, &events, 0), 200, events.get(1)));
+    Ok(())
+}
+
+#[test]
+fn a_tables_events_stand_together_and_a_keys(rt: HostRuntime) -> Result<(), Fail> {
+    let alloc = rt.alloc();
+    let events = some(alloc)?;
+    assert!(rt; is_of_table(1, &at(&rt, &events, 0).key));
+    assert!(rt; !is_of_table(1, &at(&rt, &events, 3).key));
+    assert_eq!(rt; of_table(&events, 0).len(), 0);
+    assert_eq!(rt; of_table(&events, 1).len(), 3);
+    assert_eq!(rt; of_table(&events, 2).len(), 1);
+    Ok(())
+}
+
+#[test]
+fn a_list_is_split_behind_its_first_key(rt: HostRuntime) -> Result<(), Fail> {
+    let alloc = rt.alloc();
+    let events = some(alloc)?;
+    assert!(rt; !events.is_empty());
+    let (first, others) = split_key(&events);
+    assert_eq!(rt; first.len(), 2);
+    assert_eq!(rt; place_until(first, 199), 1);
+    assert_eq!(rt; others.len(), 2);
+    Ok(())
+}
