@@ -1,0 +1,11 @@
+pub mod Members
+pub mod Areas
+pub mod Order
+pub mod CutLaws
+pub mod Halves
+pub mod LastLaws
+pub mod Nexts
+pub mod Lasts
+pub mod Parts
+pub mod Inserts
+pub mod Puts

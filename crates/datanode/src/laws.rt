@@ -1,0 +1,18 @@
+ghost use Rattle.datanode.specs.Laws.{CutOfCut, OwnOfCut, HalvesByKey, HalvesByTime, ShownByCut};
+
+/// A rectangle inside another holds of the map what it holds of the other's events.
+pub fn cuts_are_nested()
+    ensures { CutOfCut }
+{}
+
+/// What two halves hold of a map: each event of the whole once, and besides the carried ones.
+pub fn halves_hold_each_event_once()
+    ensures own { OwnOfCut }
+    ensures by_key { HalvesByKey }
+    ensures by_time { HalvesByTime }
+{}
+
+/// What a point shows is the same in the events that a rectangle holds and in the map.
+pub fn cuts_show_the_map()
+    ensures { ShownByCut }
+{}

@@ -1,0 +1,1 @@
+-- Nothing: the contracts cite the definitions of datanode.
