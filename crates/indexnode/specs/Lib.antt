@@ -1,0 +1,4 @@
+pub mod Tiling
+pub mod Meeting
+pub mod Replacing
+pub mod Halves

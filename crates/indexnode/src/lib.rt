@@ -1,0 +1,10 @@
+//! Nodes of references whose rectangles tile the node's own.
+#![tactic(auto)]
+
+mod nodes;
+mod references;
+mod replacements;
+mod splits;
+
+pub use nodes::IndexNode;
+pub use references::{Reference, Share};
