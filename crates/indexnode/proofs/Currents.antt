@@ -47,11 +47,11 @@ one_false : (a b : Bool) → (a && b) ≡ false → b ≡ true → a ≡ false
 one_false true b e f = sym f ∙ e
 one_false false b e f = refl
 
-denied : (a : Bool) → not a ≡ true → a ≡ false
+pub denied : (a : Bool) → not a ≡ true → a ≡ false
 denied true e = cc
 denied false e = refl
 
-negated : (a : Bool) → a ≡ false → not a ≡ true
+pub negated : (a : Bool) → a ≡ false → not a ≡ true
 negated true e = cc
 negated false e = refl
 

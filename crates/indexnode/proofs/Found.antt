@@ -58,6 +58,15 @@ module _ {X A : Type 0} (p : X → Bool) (f : A → X) where
   pub left_lent : (xs : List X) (i : ℕ) (r : X) (found more : List A) → i < length xs → r ≡ get_or xs i r → p r ≡ false → more ≡ found → map f found ≡ filter p (take i xs) → map f more ≡ filter p (take (i + 1) xs)
   left_lent xs i r found more lt is e same before = ap (map f) same ∙ before ∙ sym (left_out p xs i r lt is e)
 
+-- the same of what is made of them
+module _ {X Y : Type 0} (p : X → Bool) (f : X → Y) where
+  pub took_made : (xs : List X) (i : ℕ) (r : X) (found more : List Y) → i < length xs → r ≡ get_or xs i r → p r ≡ true → more ≡ found ++ f r ∷ [] → found ≡ map f (filter p (take i xs)) → more ≡ map f (filter p (take (i + 1) xs))
+  took_made xs i r found more lt is e grown before =
+      grown ∙ ap (λ ys. ys ++ f r ∷ []) before ∙ sym (map-append f (filter p (take i xs)) (r ∷ [])) ∙ sym (ap (map f) (took p xs i r lt is e))
+
+  pub left_made : (xs : List X) (i : ℕ) (r : X) (found more : List Y) → i < length xs → r ≡ get_or xs i r → p r ≡ false → more ≡ found → found ≡ map f (filter p (take i xs)) → more ≡ map f (filter p (take (i + 1) xs))
+  left_made xs i r found more lt is e same before = same ∙ before ∙ sym (ap (map f) (left_out p xs i r lt is e))
+
 -- what holds of the first elements and of the next one
 pub more_hold : {X : Type 0} (P : X → Type 0) (xs : List X) (i : ℕ) (r : X) → i < length xs → r ≡ get_or xs i r → All P (take i xs) → P r → All P (take (i + 1) xs)
 more_hold P xs i r lt is before here = All-more P xs i r lt before (subst P is here)

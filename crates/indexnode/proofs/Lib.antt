@@ -1,5 +1,7 @@
+pub mod Crossing
 pub mod Currents
 pub mod Found
-pub mod Meetings
 pub mod InPlace
+pub mod LeastStart
+pub mod Meetings
 pub mod Tilings

@@ -1,4 +1,5 @@
-pub mod Tiling
+pub mod Choices
+pub mod Halves
 pub mod Meeting
 pub mod Replacing
-pub mod Halves
+pub mod Tiling

@@ -1,6 +1,7 @@
 //! Nodes of references whose rectangles tile the node's own.
 #![tactic(auto)]
 
+mod choices;
 mod nodes;
 mod references;
 mod replacements;

@@ -81,7 +81,7 @@ impl<C: Share + Drop> IndexNode<C> {
 }
 
 impl Half<'_> {
-    fn takes(&self, rect: &Rect) -> bool
+    pub(crate) fn takes(&self, rect: &Rect) -> bool
         ensures { result ≡ takes self.now rect.now }
     {
         match self {
