@@ -1,15 +1,19 @@
 -- Tiling is kept where references that tile a rectangle take the place of the one that has it.
-use Rattle.std.proofs.Common.{◌≡◌, ℕ, zero, suc, ◌+◌, ◌<◌, List, [], ◌∷◌, ◌++◌, Bool, true, false, length, take, drop, get_or, cond, refl, sym, ap, subst, ◌∙◌, arith}
-use Rattle.std.specs.Prelude.{IsTrue}
+use Rattle.std.proofs.Common.{◌≡◌, ℕ, zero, suc, ◌+◌, ◌<◌, List, [], ◌∷◌, ◌++◌, Bool, true, false, length, take, drop, get_or, cond, Option, Some, None, refl, sym, ap, subst, ◌∙◌, arith}
+use Rattle.std.specs.Prelude.{IsTrue, IsSome, is_some, is_none}
 use Rattle.std.specs.List.{filter, All, splice}
 use Rattle.std.proofs.lemmas.List.{append_assoc, length-append, take-append-drop, drop_more}
-use Rattle.std.proofs.lemmas.List.Elements.{All-append, All-nil, All-cons, All-head, All-tail, filter-append}
+use Rattle.std.proofs.lemmas.List.Elements.{All-append, All-nil, All-cons, All-head, All-tail, All-weaker, filter-append}
 use Rattle.keyrange.specs.Points.{Area, has_point}
 use Rattle.indexnode.specs.declared.references.Reference.{Reference}
 use Rattle.indexnode.specs.Tiling.{at_point, Tiles, LiesIn}
 use Rattle.indexnode.specs.Halves.{is_current, AreCurrentIn}
+use Rattle.indexnode.specs.Choices.{HasNoCurrent}
 use Rattle.indexnode.specs.Replacing.{HasRect, Replaced, IsFirstPlace}
 use Rattle.indexnode.proofs.Currents.{all_taken}
+
+historical_one : (b : Bool) → b ≡ false → b ≡ true → ⊥
+historical_one b e f = cc
 
 module _ {C : Type 0} where
   pub has_rect : (area : Area) (references : List (Reference C)) (place : ℕ) → IsFirstPlace area references place → HasRect area references
@@ -53,6 +57,10 @@ module _ {C : Type 0} where
   backs P [] y ys all = All-tail P y ys all
   backs P (x ∷ xs) y ys all = backs P xs y ys (All-tail P x (xs ++ y ∷ ys) all)
 
+  mids : (P : Reference C → Type 0) (xs : List (Reference C)) (y : Reference C) (ys : List (Reference C)) → All P (xs ++ y ∷ ys) → P y
+  mids P [] y ys all = All-head P y ys all
+  mids P (x ∷ xs) y ys all = mids P xs y ys (All-tail P x (xs ++ y ∷ ys) all)
+
   module _ (area rect : Area) (given before after : List (Reference C)) (tiles : Tiles rect given) (inside : All (λ r. LiesIn r.rect rect) given) (replaced : Replaced rect given before after) where
     held : (key : List ℕ) (instant : ℕ) → has_point rect key instant ≡ false → length (at_point key instant given) ≡ 0
     held key instant out = none_of (at_point key instant given)
@@ -77,8 +85,20 @@ module _ {C : Type 0} where
     pub tiling_kept : Tiles area before → Tiles area after
     tiling_kept tiled = record { once = λ key instant h. counted key instant ∙ tiled.once key instant h }
 
-    pub currents_kept : AreCurrentIn area before → AreCurrentIn area given → AreCurrentIn area after
-    currents_kept olds news =
+    -- the given ones lie where the one before lay, if it was current
+    given_in : AreCurrentIn area before → (IsSome rect.time.to → HasNoCurrent given) → AreCurrentIn area given
+    given_in olds historical = by rect.time.to refl
+      where
+        by : (to : Option ℕ) → rect.time.to ≡ to → AreCurrentIn area given
+        by (Some end) e =
+            All-weaker (λ r. is_current r ≡ false) (λ r. IsTrue (is_current r) → LiesIn r.rect area) (λ r no yes. absurd (historical_one (is_current r) no yes)) given (historical (ap is_some e))
+        by None e =
+            let lies : LiesIn replaced.reference.rect area = mids (λ r. IsTrue (is_current r) → LiesIn r.rect area) replaced.front replaced.reference replaced.back (subst (All (λ r. IsTrue (is_current r) → LiesIn r.rect area)) replaced.was olds) (ap (λ (a : Area). is_none a.time.to) replaced.has ∙ ap is_none e) in
+            let whole : LiesIn rect area = subst (λ a. LiesIn a area) replaced.has lies in
+            All-weaker (λ r. LiesIn r.rect rect) (λ r. IsTrue (is_current r) → LiesIn r.rect area) (λ r lies_r _ key instant h. whole key instant (lies_r key instant h)) given inside
+
+    pub currents_kept : AreCurrentIn area before → (IsSome rect.time.to → HasNoCurrent given) → AreCurrentIn area after
+    currents_kept olds historical =
         let P : Reference C → Type 0 = λ r. IsTrue (is_current r) → LiesIn r.rect area in
         let all : All P (replaced.front ++ replaced.reference ∷ replaced.back) = subst (All P) replaced.was olds in
-        subst (All P) (sym replaced.is) (All-append P (replaced.front ++ given) replaced.back (All-append P replaced.front given (fronts P replaced.front _ all) news) (backs P replaced.front replaced.reference replaced.back all))
+        subst (All P) (sym replaced.is) (All-append P (replaced.front ++ given) replaced.back (All-append P replaced.front given (fronts P replaced.front _ all) (given_in olds historical)) (backs P replaced.front replaced.reference replaced.back all))

@@ -4,4 +4,5 @@ pub mod Found
 pub mod InPlace
 pub mod LeastStart
 pub mod Meetings
+pub mod Pairs
 pub mod Tilings

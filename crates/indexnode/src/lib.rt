@@ -2,10 +2,12 @@
 #![tactic(auto)]
 
 mod choices;
+mod lists;
 mod nodes;
 mod references;
 mod replacements;
 mod splits;
 
+pub use lists::{pair, single};
 pub use nodes::IndexNode;
 pub use references::{Reference, Share};

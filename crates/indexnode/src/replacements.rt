@@ -1,8 +1,9 @@
 //! References that take the place of another.
-ghost use Rattle.std.specs.Prelude.{◌≡◌, ◌≢◌, ◌↔◌, IfOk, IsTrue, IsFalse, OnErr, All, MatchOption};
+ghost use Rattle.std.specs.Prelude.{◌≡◌, ◌≢◌, ◌↔◌, IfOk, IsTrue, IsFalse, OnErr, IsSome, All, MatchOption};
 ghost use Rattle.rows.specs.Memory.{OnlyMemory};
 ghost use Rattle.indexnode.specs.Tiling.{Tiles, LiesIn};
 ghost use Rattle.indexnode.specs.Halves.{AreCurrentIn};
+ghost use Rattle.indexnode.specs.Choices.{HasNoCurrent};
 ghost use Rattle.indexnode.specs.Replacing.{HasRect, Replaced, IsFirstPlace};
 
 use crate::nodes::IndexNode;
@@ -20,7 +21,7 @@ impl<C: Drop> IndexNode<C> {
         ensures kept { IfOk result (λ done. IsFalse done → self.new.references.items ≡ self.old.references.items) }
         ensures rect { self.new.rect ≡ self.old.rect }
         ensures tiled { Tiles self.old.rect self.old.references.items → Tiles self.new.rect self.new.references.items }
-        ensures current { AreCurrentIn self.old.rect self.old.references.items → AreCurrentIn self.old.rect given.items → AreCurrentIn self.new.rect self.new.references.items }
+        ensures current { AreCurrentIn self.old.rect self.old.references.items → (IsSome rect.now.time.to → HasNoCurrent given.items) → AreCurrentIn self.new.rect self.new.references.items }
         ensures err { OnErr result (self.new.references.items ≡ self.old.references.items) }
         ensures memory { OnlyMemory result }
     {
