@@ -7,6 +7,8 @@ mod nodes;
 mod references;
 mod replacements;
 mod splits;
+#[cfg(test)]
+mod tests;
 
 pub use lists::{pair, single};
 pub use nodes::IndexNode;
