@@ -43,7 +43,7 @@ impl<C> IndexNode<C> {
     pub fn references(&self) -> &[Reference<C>]
         ensures { result.now ≡ self.now.references.items }
     {
-        &self.references
+        self.references.as_slice()
     }
 
     /// The one reference at a point of the node's rectangle.
