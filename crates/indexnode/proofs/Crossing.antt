@@ -13,7 +13,7 @@ use Rattle.keyrange.proofs.Orders.{not_itself, not_back}
 use Rattle.indexnode.specs.declared.references.Reference.{Reference}
 use Rattle.indexnode.specs.Tiling.{Tiles}
 use Rattle.indexnode.specs.Halves.{is_current, IsUncrossed, AreCurrentIn}
-use Rattle.indexnode.specs.Choices.{current_keys, HasNoCurrent}
+use Rattle.indexnode.specs.Choices.{current_keys}
 use Rattle.indexnode.proofs.Currents.{all_taken, negated}
 
 -- ---- what is true of those that pass
@@ -45,7 +45,7 @@ only_one {X} p xs e = by (filter p xs) refl e
 
 -- ---- two current references and a key
 
-endless : (to : Option ℕ) (instant : ℕ) → is_none to ≡ true → is_early instant to ≡ true
+pub endless : (to : Option ℕ) (instant : ℕ) → is_none to ≡ true → is_early instant to ≡ true
 endless None instant e = refl
 endless (Some end) instant e = cc
 
@@ -96,14 +96,3 @@ module _ {C : Type 0} (area : Area) (references : List (Reference C)) where
       All-permutation (λ key. IsUncrossed key references) (current_keys references) ordered same
       (All-map (λ key. IsUncrossed key references) (λ r. r.rect.keys.lo) (filter is_current references)
       (all_taken P P (λ r. IsUncrossed r.rect.keys.lo references) is_current references (filter is_current references) refl (λ r uncrossed _ current. uncrossed current) each each))
-
-  pub has_no_current : length (current_keys references) ≡ 0 → HasNoCurrent references
-  has_no_current e = λ k d lt. not_true _ (passing is_current (λ _. ⊥) references (none (filter is_current references) e) k d lt)
-    where
-      not_true : (b : Bool) → (b ≡ true → ⊥) → b ≡ false
-      not_true true h = absurd (h refl)
-      not_true false h = refl
-
-      none : (xs : List (Reference C)) → length (map (λ (r : Reference C). r.rect.keys.lo) xs) ≡ 0 → All (λ _. ⊥) xs
-      none [] e = All-nil (λ _. ⊥)
-      none (x ∷ xs) e = absurd (omega arith)

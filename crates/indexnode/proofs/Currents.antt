@@ -43,7 +43,7 @@ other_false : (a b : Bool) → (a && b) ≡ false → a ≡ true → b ≡ false
 other_false true b e f = e
 other_false false b e f = cc
 
-one_false : (a b : Bool) → (a && b) ≡ false → b ≡ true → a ≡ false
+pub one_false : (a b : Bool) → (a && b) ≡ false → b ≡ true → a ≡ false
 one_false true b e f = sym f ∙ e
 one_false false b e f = refl
 

@@ -1,18 +1,28 @@
 -- The least start of a current reference, one reference after another.
-use Rattle.std.proofs.Common.{◌≡◌, ℕ, ◌≤◌, List, [], ◌∷◌, ◌++◌, Bool, true, false, cond, Option, Some, None, refl, sym, subst, arith}
-use Rattle.std.specs.Prelude.{IsTrue, nat_lt, MatchOption, IfSome}
-use Rattle.std.specs.List.{Any}
+use Rattle.std.proofs.Common.{◌≡◌, ℕ, ◌<◌, ◌≤◌, ◌⊎◌, inl, inr, List, [], ◌∷◌, ◌++◌, Bool, true, false, length, cond, Option, Some, None, refl, sym, ap, subst, ◌∙◌, arith}
+use Rattle.std.specs.Prelude.{IsTrue, ◌&&◌, nat_le, nat_lt, MatchOption, IfSome}
+use Rattle.std.specs.List.{filter, All, Any}
 use Rattle.std.proofs.lemmas.Bool.Decides.{nat_tests}
-use Rattle.std.proofs.lemmas.List.Elements.{All-push, All-weaker, Contains-append_left, Contains-push}
+use Rattle.std.proofs.lemmas.List.Elements.{All-push, All-weaker, All-head, All-tail, Contains-append_left, Contains-push}
+use Rattle.rows.specs.Commits.{last_instant}
+use Rattle.keyrange.specs.Points.{is_area, is_before_end}
+use Rattle.keyrange.proofs.Meetings.{first, second}
 use Rattle.indexnode.specs.declared.references.Reference.{Reference}
-use Rattle.indexnode.specs.Halves.{is_current}
-use Rattle.indexnode.specs.Choices.{HasNoCurrent, IsLeastStart}
+use Rattle.indexnode.specs.Halves.{is_current, starts_before, IsBeforeCurrent}
+use Rattle.indexnode.specs.Choices.{HasNoCurrent, IsLeastStart, current_count}
+use Rattle.indexnode.proofs.Middle.{all_or_fewer}
 
 below : (x y : ℕ) → nat_lt x y ≡ true → x ≤ y
 below x y e = grind (arith, nat_tests)
 
 above : (x y : ℕ) → nat_lt x y ≡ false → y ≤ x
 above x y e = grind (arith, nat_tests)
+
+at_most : (x y : ℕ) → nat_le x y ≡ true → x ≤ y
+at_most x y e = grind (arith, nat_tests)
+
+never : (x : ℕ) → nat_lt x x ≡ true → ⊥
+never x e = grind (arith, nat_tests)
 
 module _ {C : Type 0} where
   any_before : (P : Reference C → Type 0) (xs : List (Reference C)) (y : Reference C) → Any P xs → Any P (xs ++ y ∷ [])
@@ -54,3 +64,30 @@ module _ {C : Type 0} where
     some = any_before (λ s. IsTrue (is_current s) × (s.rect.time.from ≡ t)) xs r before.some;
     none_before = All-push (λ s. IsTrue (is_current s) → t ≤ s.rect.time.from) xs r before.none_before (λ yes. absurd (not_current r e yes));
   }
+
+  no_current : (xs : List (Reference C)) → HasNoCurrent xs → current_count xs ≡ 0
+  no_current [] none = refl
+  no_current (x ∷ xs) none = ap (λ b. length (cond b (x ∷ filter is_current xs) (filter is_current xs))) (All-head (λ r. is_current r ≡ false) x xs none) ∙ no_current xs (All-tail (λ r. is_current r ≡ false) x xs none)
+
+  pub as_count : (xs : List (Reference C)) (least : Option ℕ) → MatchOption least (HasNoCurrent xs) (IsLeastStart xs) → MatchOption least (current_count xs ≡ 0) (IsLeastStart xs)
+  as_count xs None none = no_current xs none
+  as_count xs (Some t) found = found
+
+  pub in_range : (xs : List (Reference C)) (least : Option ℕ) → All (λ r. IsTrue (is_area r.rect.keys r.rect.time)) xs → MatchOption least (HasNoCurrent xs) (IsLeastStart xs) → IfSome least (λ t. t ≤ last_instant)
+  in_range xs None areas none = tt
+  in_range xs (Some t) areas found =
+      let some = found.some in
+      let area : IsTrue (is_area some.1.rect.keys some.1.rect.time) = subst (λ (r : Reference C). IsTrue (is_area r.rect.keys r.rect.time)) some.3 (areas some.0 some.1 some.2) in
+      let start : nat_le some.1.rect.time.from last_instant ≡ true = first _ _ (second (nat_le 1 some.1.rect.time.from) _ (second (is_before_end some.1.rect.keys.lo some.1.rect.keys.hi) _ area)) in
+      subst (λ n. n ≤ last_instant) some.4.1 (at_most some.1.rect.time.from last_instant start)
+
+  pub smaller : (xs : List (Reference C)) (least : Option ℕ) → MatchOption least (HasNoCurrent xs) (IsLeastStart xs) → IfSome least (λ t. length (filter (λ r. starts_before t r.rect) xs) < length xs)
+  smaller xs None none = tt
+  smaller xs (Some t) found = by (all_or_fewer (λ r. starts_before t r.rect) xs)
+    where
+      by : All (λ r. starts_before t r.rect ≡ true) xs ⊎ (length (filter (λ r. starts_before t r.rect) xs) < length xs) → length (filter (λ r. starts_before t r.rect) xs) < length xs
+      by (inr less) = less
+      by (inl all) =
+          let some = found.some in
+          let before : starts_before t some.1.rect ≡ true = subst (λ (r : Reference C). starts_before t r.rect ≡ true) some.3 (all some.0 some.1 some.2) in
+          absurd (never t (subst (λ n. nat_lt n t ≡ true) some.4.1 before))

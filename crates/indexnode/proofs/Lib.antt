@@ -4,5 +4,6 @@ pub mod Found
 pub mod InPlace
 pub mod LeastStart
 pub mod Meetings
+pub mod Middle
 pub mod Pairs
 pub mod Tilings

@@ -1,10 +1,12 @@
 //! Where a node that has too many references is split.
-ghost use Rattle.std.specs.Prelude.{◌≡◌, [], IfOk, IfSome, IfNone, IsTrue, MatchOption, All, Some, None, filter, length, if◌then◌else◌, nat_lt};
+ghost use Rattle.std.specs.Prelude.{◌≡◌, ◌<◌, ◌≤◌, IfOk, IfSome, IfNone, IsTrue, MatchOption, All, Some, None, filter, length, if◌then◌else◌, nat_lt};
 ghost use Rattle.rows.specs.Memory.{OnlyMemory};
+ghost use Rattle.rows.specs.Commits.{last_instant};
 ghost use Rattle.keyrange.specs.Points.{is_area};
+ghost use Rattle.keyrange.specs.Cuts.{is_key_inside};
 ghost use Rattle.indexnode.specs.Tiling.{Tiles};
-ghost use Rattle.indexnode.specs.Halves.{is_current, ends_after, IsUncrossed, AreCurrentIn};
-ghost use Rattle.indexnode.specs.Choices.{HasNoCurrent, IsLeastStart, IsMiddle, current_keys};
+ghost use Rattle.indexnode.specs.Halves.{is_current, starts_before, ends_after, IsUncrossed, AreCurrentIn};
+ghost use Rattle.indexnode.specs.Choices.{IsLeastStart, IsMiddle, AreSmaller, current_count, current_keys};
 
 use crate::nodes::IndexNode;
 use crate::references::Reference;
@@ -15,15 +17,31 @@ use std::alloc::Global;
 impl<C> IndexNode<C> {
     /// The least instant at which a current reference starts; None where there is no current one.
     pub fn least_current_start(&self) -> Option<Instant>
-        ensures { MatchOption result (HasNoCurrent self.now.references.items) (IsLeastStart self.now.references.items) }
+        ensures least { MatchOption result (current_count self.now.references.items ≡ 0) (IsLeastStart self.now.references.items) }
+        ensures in_range { IfSome result (λ t. t ≤ last_instant) }
+        ensures smaller { IfSome result (λ t. length (filter (λ r. starts_before t r.rect) self.now.references.items) < length self.now.references.items) }
     {
         let mut least = None;
         for reference in &self.references {
+            let _keys = reference.rect.keys();
             if is_current(reference) {
                 least = Some(earlier(least, reference.rect.time().from));
             }
         }
         least
+    }
+
+    /// How many references are current.
+    pub fn current_count(&self) -> usize
+        ensures { result ≡ current_count self.now.references.items }
+    {
+        let mut count = 0;
+        for reference in &self.references {
+            if is_current(reference) {
+                count += 1;
+            }
+        }
+        count
     }
 
     /// How many references the current half of a split at an instant would have.
@@ -42,8 +60,10 @@ impl<C> IndexNode<C> {
     /// The lower key of the current reference in the middle of them, in order by lower key; None where there is no current one.
     pub fn middle_key(&self, alloc: Global) -> Mem<Option<KeyBytes>>
         ensures some { IfOk result (λ k. IfSome k (IsMiddle self.now.references.items)) }
-        ensures none { IfOk result (λ k. IfNone k (HasNoCurrent self.now.references.items)) }
+        ensures none { IfOk result (λ k. IfNone k (current_count self.now.references.items ≡ 0)) }
         ensures uncrossed { Tiles self.now.rect self.now.references.items → AreCurrentIn self.now.rect self.now.references.items → IfOk result (λ k. IfSome k (λ key. IsUncrossed key self.now.references.items)) }
+        ensures inside { Tiles self.now.rect self.now.references.items → AreCurrentIn self.now.rect self.now.references.items → 2 ≤ current_count self.now.references.items → IfOk result (λ k. IfSome k (λ key. IsTrue (is_key_inside self.now.rect key))) }
+        ensures smaller { Tiles self.now.rect self.now.references.items → AreCurrentIn self.now.rect self.now.references.items → 2 ≤ current_count self.now.references.items → IfOk result (λ k. IfSome k (λ key. AreSmaller key self.now.references.items)) }
         ensures err { OnlyMemory result }
     {
         let mut keys = current_keys(alloc, &self.references)?;
