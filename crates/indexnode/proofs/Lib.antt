@@ -1,0 +1,9 @@
+pub mod Crossing
+pub mod Currents
+pub mod Found
+pub mod InPlace
+pub mod LeastStart
+pub mod Meetings
+pub mod Middle
+pub mod Pairs
+pub mod Tilings

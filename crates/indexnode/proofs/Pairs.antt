@@ -1,0 +1,42 @@
+-- One reference tiles its own rectangle, and two tile one whose halves they have.
+use Rattle.std.proofs.Common.{◌≡◌, ℕ, ◌<◌, ◌≤◌, List, [], ◌∷◌, Bool, true, false, length, cond, refl, sym, ap, subst, ◌∙◌, arith}
+use Rattle.std.specs.Prelude.{IsTrue, ◌&&◌, not, nat_lt}
+use Rattle.std.specs.List.{filter, All}
+use Rattle.std.proofs.lemmas.List.Elements.{All-nil, All-cons}
+use Rattle.keyrange.specs.Points.{Area, has_point, is_below}
+use Rattle.keyrange.specs.Cuts.{PartsKeys, PartsTime}
+use Rattle.indexnode.specs.declared.references.Reference.{Reference}
+use Rattle.indexnode.specs.Tiling.{Tiles, LiesIn}
+
+once : {X : Type 0} (p : X → Bool) (x : X) → p x ≡ true → length (filter p (x ∷ [])) ≡ 1
+once p x e = ap (λ b. length (cond b (x ∷ []) [])) e
+
+within : (whole t one : Bool) → one ≡ (whole && t) → whole ≡ true → one ≡ t
+within true t one e h = e
+within false t one e h = cc
+
+module _ {C : Type 0} where
+  pub one_tiles : (r : Reference C) (list : List (Reference C)) → list ≡ r ∷ [] → Tiles r.rect list
+  one_tiles r list is = subst (Tiles r.rect) (sym is) (record { once = λ key instant h. once (λ s. has_point s.rect key instant) r h })
+
+  pub one_inside : (r : Reference C) (list : List (Reference C)) → list ≡ r ∷ [] → All (λ s. LiesIn s.rect r.rect) list
+  one_inside r list is = subst (All (λ s. LiesIn s.rect r.rect)) (sym is) (All-cons (λ s. LiesIn s.rect r.rect) r [] (λ key instant h. h) (All-nil (λ s. LiesIn s.rect r.rect)))
+
+  -- what a test parts lies in one of the two
+  parted : (a b t : Bool) (x y : Reference C) → a ≡ t → b ≡ not t → length (cond a (x ∷ cond b (y ∷ []) []) (cond b (y ∷ []) [])) ≡ 1
+  parted a b true x y e f = ap (λ s. length (cond s (x ∷ cond b (y ∷ []) []) (cond b (y ∷ []) []))) e ∙ ap (λ s. length (x ∷ cond s (y ∷ []) [])) f
+  parted a b false x y e f = ap (λ s. length (cond s (x ∷ cond b (y ∷ []) []) (cond b (y ∷ []) []))) e ∙ ap (λ s. length (cond s (y ∷ []) [])) f
+
+  pub halves_tile : (area : Area) (first second : Reference C) (test : List ℕ → ℕ → Bool) (list : List (Reference C))
+      → ((key : List ℕ) (instant : ℕ) → has_point first.rect key instant ≡ (has_point area key instant && test key instant))
+      → ((key : List ℕ) (instant : ℕ) → has_point second.rect key instant ≡ (has_point area key instant && not (test key instant)))
+      → list ≡ first ∷ second ∷ [] → Tiles area list
+  halves_tile area first second test list ones others is = subst (Tiles area) (sym is) (record {
+    once = λ key instant h. parted (has_point first.rect key instant) (has_point second.rect key instant) (test key instant) first second
+        (within (has_point area key instant) (test key instant) _ (ones key instant) h) (within (has_point area key instant) (not (test key instant)) _ (others key instant) h);
+  })
+
+  pub halves_inside : (area : Area) (first second : Reference C) (list : List (Reference C)) → LiesIn first.rect area → LiesIn second.rect area → list ≡ first ∷ second ∷ [] → All (λ r. LiesIn r.rect area) list
+  halves_inside area first second list one other is =
+      let P : Reference C → Type 0 = λ r. LiesIn r.rect area in
+      subst (All P) (sym is) (All-cons P first (second ∷ []) one (All-cons P second [] other (All-nil P)))

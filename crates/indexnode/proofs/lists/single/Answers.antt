@@ -1,0 +1,9 @@
+use Rattle.std.proofs.Common.{◌++◌, ◌∷◌, [], ap, ◌∙◌}
+use Rattle.indexnode.proofs.Pairs.{one_tiles, one_inside}
+use Rattle.indexnode.proofs.lists.single.Goals as goal
+
+pub returns-clause-tiles : goal.returns-clause-tiles
+returns-clause-tiles g c = one_tiles c.args.reference c.push.new.self.items (c.in_ok-push.ensures.items ∙ ap (λ l. l ++ c.args.reference ∷ []) c.new-references.ensures.items)
+
+pub returns-clause-inside : goal.returns-clause-inside
+returns-clause-inside g c = one_inside c.args.reference c.push.new.self.items (c.in_ok-push.ensures.items ∙ ap (λ l. l ++ c.args.reference ∷ []) c.new-references.ensures.items)

@@ -1,0 +1,5 @@
+pub mod Choices
+pub mod Halves
+pub mod Meeting
+pub mod Replacing
+pub mod Tiling

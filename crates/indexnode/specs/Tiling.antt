@@ -1,0 +1,16 @@
+-- References that tile a rectangle.
+use Rattle.std.specs.Prelude.{◌≡◌, ℕ, List, IsTrue, filter, length}
+use Rattle.keyrange.specs.Points.{Area, has_point}
+use Rattle.indexnode.specs.declared.references.Reference.{Reference}
+
+-- the references whose rectangles hold a point
+abbrev pub at_point : {C : Type 0} → List ℕ → ℕ → List (Reference C) → List (Reference C)
+at_point key instant references = filter (λ r. has_point r.rect key instant) references
+
+-- each point of the rectangle lies in exactly one reference's rectangle
+pub record Tiles {C : Type 0} (area : Area) (references : List (Reference C)) : Type 0 where
+  pub once : (key : List ℕ) (instant : ℕ) → IsTrue (has_point area key instant) → length (at_point key instant references) ≡ 1
+
+-- each point of the one lies in the other
+abbrev pub LiesIn : Area → Area → Type 0
+LiesIn inner outer = (key : List ℕ) (instant : ℕ) → IsTrue (has_point inner key instant) → IsTrue (has_point outer key instant)
