@@ -21,11 +21,15 @@ pub record IsLeastStart {C : Type 0} (references : List (Reference C)) (instant 
 abbrev pub current_keys : {C : Type 0} → List (Reference C) → List (List ℕ)
 current_keys references = map (λ r. r.rect.keys.lo) (filter is_current references)
 
--- the lower keys of the current references put in order, the key stands in the middle
-pub record IsMiddle {C : Type 0} (references : List (Reference C)) (key : List ℕ) : Type 0 where
-  pub ordered : List (List ℕ)
+-- they are put in order
+pub record AreOrdered {C : Type 0} (references : List (Reference C)) (ordered : List (List ℕ)) : Type 0 where
   pub same_keys : IsPermutation (current_keys references) ordered
   pub in_order : IsSorted bytes_cmp ordered
+
+-- the key stands in the middle of them
+pub record IsMiddle {C : Type 0} (references : List (Reference C)) (key : List ℕ) : Type 0 where
+  pub ordered : List (List ℕ)
+  pub are_ordered : AreOrdered references ordered
   pub in_the_middle : slice_get ordered (length ordered / 2) ≡ Some key
 
 -- at a split by a key each half has fewer references than there are
