@@ -30,11 +30,11 @@ module _ {X : Type 0} (p : X → Bool) (Q : X → Type 0) where
   passing xs h = All-from_recursion (λ x. p x ≡ true → Q x) xs (each_passing xs (recursion_from_All Q (filter p xs) h))
 
 -- of one that passes all others are the same
-record OnlyOne {X : Type 0} (p : X → Bool) (xs : List X) : Type 0 where
-  one : X
-  same : All (λ x. p x ≡ true → x ≡ one) xs
+pub record OnlyOne {X : Type 0} (p : X → Bool) (xs : List X) : Type 0 where
+  pub one : X
+  pub same : All (λ x. p x ≡ true → x ≡ one) xs
 
-only_one : {X : Type 0} (p : X → Bool) (xs : List X) → length (filter p xs) ≡ 1 → OnlyOne p xs
+pub only_one : {X : Type 0} (p : X → Bool) (xs : List X) → length (filter p xs) ≡ 1 → OnlyOne p xs
 only_one {X} p xs e = by (filter p xs) refl e
   where
     by : (ys : List X) → filter p xs ≡ ys → length ys ≡ 1 → OnlyOne p xs

@@ -53,7 +53,7 @@ fewer_one true false x xs ys e h = let no : false ≡ true = e refl in cc
 fewer_one false true x xs ys e h = omega arith
 fewer_one false false x xs ys e h = h
 
-fewer : {X : Type 0} (p q : X → Bool) (xs : List X) → All (λ x. p x ≡ true → q x ≡ true) xs → length (filter p xs) ≤ length (filter q xs)
+pub fewer : {X : Type 0} (p q : X → Bool) (xs : List X) → All (λ x. p x ≡ true → q x ≡ true) xs → length (filter p xs) ≤ length (filter q xs)
 fewer p q [] h = omega arith
 fewer p q (x ∷ xs) h = fewer_one (p x) (q x) x (filter p xs) (filter q xs) (All-head (λ y. p y ≡ true → q y ≡ true) x xs h) (fewer p q xs (All-tail (λ y. p y ≡ true → q y ≡ true) x xs h))
 

@@ -4,9 +4,9 @@ ghost use Rattle.rows.specs.Memory.{OnlyMemory};
 ghost use Rattle.rows.specs.Commits.{last_instant};
 ghost use Rattle.keyrange.specs.Points.{is_area};
 ghost use Rattle.keyrange.specs.Cuts.{is_key_inside};
-ghost use Rattle.indexnode.specs.Tiling.{Tiles};
+ghost use Rattle.indexnode.specs.Tiling.{Tiles, AllMeet};
 ghost use Rattle.indexnode.specs.Halves.{is_current, starts_before, ends_after, IsUncrossed, AreCurrentIn};
-ghost use Rattle.indexnode.specs.Choices.{IsLeastStart, IsMiddle, AreOrdered, AreSmaller, current_count, current_keys};
+ghost use Rattle.indexnode.specs.Choices.{IsLeastStart, StandsAlone, IsMiddle, AreOrdered, AreSmaller, current_count, current_keys};
 
 use crate::nodes::IndexNode;
 use crate::references::Reference;
@@ -20,6 +20,7 @@ impl<C> IndexNode<C> {
         ensures least { MatchOption result (current_count self.now.references.items ≡ 0) (IsLeastStart self.now.references.items) }
         ensures in_range { IfSome result (λ t. t ≤ last_instant) }
         ensures smaller { IfSome result (λ t. length (filter (λ r. starts_before t r.rect) self.now.references.items) < length self.now.references.items) }
+        ensures alone { Tiles self.now.rect self.now.references.items → AllMeet self.now.rect self.now.references.items → self.now.rect.time.to ≡ None → current_count self.now.references.items ≡ 1 → IfSome result (StandsAlone self.now.rect self.now.references.items) }
     {
         let mut least = None;
         for reference in &self.references {

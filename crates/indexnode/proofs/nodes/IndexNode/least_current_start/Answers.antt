@@ -6,6 +6,7 @@ use Rattle.keyrange.specs.Points.{is_area}
 use Rattle.indexnode.specs.Choices.{HasNoCurrent, IsLeastStart}
 use Rattle.indexnode.proofs.Found.{more_hold}
 use Rattle.indexnode.proofs.LeastStart.{with_current, with_historical, as_count, in_range, smaller}
+use Rattle.indexnode.proofs.OnlyCurrent.{alone}
 use Rattle.indexnode.proofs.nodes.IndexNode.least_current_start.Goals as goal
 use Rattle.indexnode.proofs.nodes.IndexNode.least_current_start.Goals.{then-is_current, else-is_current}
 
@@ -47,3 +48,9 @@ returns-clause-smaller g c =
     let xs = c.args.self.now.references.items in
     let whole : take c.loop-reference.reference-index c.deref-reference-items.result.now ≡ xs = take_all c.loop-reference.reference-index c.deref-reference-items.result.now (omega arith) ∙ c.deref-reference-items.ensures.value in
     smaller xs c.loop-reference.least (subst (λ l. MatchOption c.loop-reference.least (HasNoCurrent l) (IsLeastStart l)) whole c.loop-reference.invariant.least)
+
+pub returns-clause-alone : goal.returns-clause-alone
+returns-clause-alone g c = λ tiled meeting endless one.
+    let xs = c.args.self.now.references.items in
+    let whole : take c.loop-reference.reference-index c.deref-reference-items.result.now ≡ xs = take_all c.loop-reference.reference-index c.deref-reference-items.result.now (omega arith) ∙ c.deref-reference-items.ensures.value in
+    alone c.args.self.now.rect xs c.loop-reference.least tiled meeting endless one (subst (λ l. MatchOption c.loop-reference.least (HasNoCurrent l) (IsLeastStart l)) whole c.loop-reference.invariant.least)
