@@ -1,8 +1,7 @@
 -- No current reference crosses the lower key of another, where current ones lie in a rectangle that is tiled.
-use Rattle.std.proofs.Common.{◌≡◌, ℕ, ◌≤◌, List, [], ◌∷◌, Bool, true, false, length, max, map, cond, get_or, Option, Some, None, refl, sym, ap, subst, ◌∙◌, arith}
+use Rattle.std.proofs.Common.{◌≡◌, ℕ, ◌≤◌, List, [], ◌∷◌, Bool, true, false, length, max, cond, get_or, Option, Some, None, refl, sym, ap, subst, ◌∙◌, arith}
 use Rattle.std.specs.Prelude.{IsTrue, nat_le, is_none}
 use Rattle.std.specs.List.{filter, All, AllByRecursion}
-use Rattle.std.specs.List.Sorted.{IsPermutation}
 use Rattle.std.proofs.lemmas.Bool.Decides.{nat_tests}
 use Rattle.std.proofs.lemmas.List.Elements.{All-from_recursion, recursion_from_All, All-nil, All-cons, All-map}
 use Rattle.std.proofs.lemmas.List.Sorted.{All-permutation}
@@ -13,7 +12,7 @@ use Rattle.keyrange.proofs.Orders.{not_itself, not_back}
 use Rattle.indexnode.specs.declared.references.Reference.{Reference}
 use Rattle.indexnode.specs.Tiling.{Tiles}
 use Rattle.indexnode.specs.Halves.{is_current, IsUncrossed, AreCurrentIn}
-use Rattle.indexnode.specs.Choices.{current_keys}
+use Rattle.indexnode.specs.Choices.{current_keys, AreOrdered}
 use Rattle.indexnode.proofs.Currents.{all_taken, negated}
 
 -- ---- what is true of those that pass
@@ -31,11 +30,11 @@ module _ {X : Type 0} (p : X → Bool) (Q : X → Type 0) where
   passing xs h = All-from_recursion (λ x. p x ≡ true → Q x) xs (each_passing xs (recursion_from_All Q (filter p xs) h))
 
 -- of one that passes all others are the same
-record OnlyOne {X : Type 0} (p : X → Bool) (xs : List X) : Type 0 where
-  one : X
-  same : All (λ x. p x ≡ true → x ≡ one) xs
+pub record OnlyOne {X : Type 0} (p : X → Bool) (xs : List X) : Type 0 where
+  pub one : X
+  pub same : All (λ x. p x ≡ true → x ≡ one) xs
 
-only_one : {X : Type 0} (p : X → Bool) (xs : List X) → length (filter p xs) ≡ 1 → OnlyOne p xs
+pub only_one : {X : Type 0} (p : X → Bool) (xs : List X) → length (filter p xs) ≡ 1 → OnlyOne p xs
 only_one {X} p xs e = by (filter p xs) refl e
   where
     by : (ys : List X) → filter p xs ≡ ys → length ys ≡ 1 → OnlyOne p xs
@@ -89,10 +88,10 @@ module _ {C : Type 0} (area : Area) (references : List (Reference C)) where
       let one = only_one (λ r. has_point r.rect key instant) references (tiled.once key instant (inside i d lt current_i key instant holds_i)) in
       one.same i d lt holds_i ∙ sym (one.same k e lt_k holds_k))
 
-  pub uncrossed : (ordered : List (List ℕ)) → Tiles area references → AreCurrentIn area references → All (λ r. IsTrue (is_area r.rect.keys r.rect.time)) references → IsPermutation (current_keys references) ordered → All (λ key. IsUncrossed key references) ordered
-  uncrossed ordered tiled inside areas same =
+  pub uncrossed : (ordered : List (List ℕ)) → Tiles area references → AreCurrentIn area references → All (λ r. IsTrue (is_area r.rect.keys r.rect.time)) references → AreOrdered references ordered → All (λ key. IsUncrossed key references) ordered
+  uncrossed ordered tiled inside areas are =
       let P : Reference C → Type 0 = λ r. IsTrue (is_current r) → IsUncrossed r.rect.keys.lo references in
       let each = lower_keys tiled inside areas in
-      All-permutation (λ key. IsUncrossed key references) (current_keys references) ordered same
+      All-permutation (λ key. IsUncrossed key references) (current_keys references) ordered are.same_keys
       (All-map (λ key. IsUncrossed key references) (λ r. r.rect.keys.lo) (filter is_current references)
       (all_taken P P (λ r. IsUncrossed r.rect.keys.lo references) is_current references (filter is_current references) refl (λ r uncrossed _ current. uncrossed current) each each))

@@ -1,6 +1,6 @@
 -- The least start of a current reference, one reference after another.
 use Rattle.std.proofs.Common.{◌≡◌, ℕ, ◌<◌, ◌≤◌, ◌⊎◌, inl, inr, List, [], ◌∷◌, ◌++◌, Bool, true, false, length, cond, Option, Some, None, refl, sym, ap, subst, ◌∙◌, arith}
-use Rattle.std.specs.Prelude.{IsTrue, ◌&&◌, nat_le, nat_lt, MatchOption, IfSome}
+use Rattle.std.specs.Prelude.{IsTrue, nat_le, nat_lt, MatchOption, IfSome}
 use Rattle.std.specs.List.{filter, All, Any}
 use Rattle.std.proofs.lemmas.Bool.Decides.{nat_tests}
 use Rattle.std.proofs.lemmas.List.Elements.{All-push, All-weaker, All-head, All-tail, Contains-append_left, Contains-push}
@@ -8,7 +8,7 @@ use Rattle.rows.specs.Commits.{last_instant}
 use Rattle.keyrange.specs.Points.{is_area, is_before_end}
 use Rattle.keyrange.proofs.Meetings.{first, second}
 use Rattle.indexnode.specs.declared.references.Reference.{Reference}
-use Rattle.indexnode.specs.Halves.{is_current, starts_before, IsBeforeCurrent}
+use Rattle.indexnode.specs.Halves.{is_current, starts_before}
 use Rattle.indexnode.specs.Choices.{HasNoCurrent, IsLeastStart, current_count}
 use Rattle.indexnode.proofs.Middle.{all_or_fewer}
 

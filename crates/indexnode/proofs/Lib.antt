@@ -5,5 +5,6 @@ pub mod InPlace
 pub mod LeastStart
 pub mod Meetings
 pub mod Middle
+pub mod OnlyCurrent
 pub mod Pairs
 pub mod Tilings

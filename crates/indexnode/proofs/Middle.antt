@@ -1,23 +1,24 @@
 -- The middle one of several lower keys lies strictly inside a rectangle that is tiled, and both halves have fewer references.
-use Rattle.std.proofs.Common.{◌≡◌, ℕ, ◌+◌, ◌*◌, ◌/◌, ◌<◌, ◌≤◌, ◌⊎◌, inl, inr, List, [], ◌∷◌, zero, suc, Bool, true, false, length, max, map, cond, get_or, Option, Some, None, refl, sym, ap, subst, ◌∙◌, arith}
-use Rattle.std.specs.Prelude.{IsTrue, ◌&&◌, not, nat_lt, nat_le, is_none}
+use Rattle.std.proofs.Common.{◌≡◌, ℕ, ◌<◌, ◌≤◌, ◌⊎◌, inl, inr, List, [], ◌∷◌, zero, suc, Bool, true, false, length, max, map, cond, get_or, Option, Some, None, refl, sym, ap, ◌∙◌, arith}
+use Rattle.std.specs.Prelude.{IsTrue, ◌&&◌, not, nat_le}
 use Rattle.std.specs.Ordering.{is_lt}
 use Rattle.std.specs.Cmp.Lexicographic.{nat_list_cmp_total}
-use Rattle.std.specs.List.{filter, All, sum_by}
-use Rattle.std.specs.List.Sorted.{IsPermutation, IsSorted}
+use Rattle.std.specs.List.{filter, All}
+use Rattle.std.specs.List.Sorted.{IsPermutation}
 use Rattle.std.proofs.lemmas.Bool.Decides.{nat_tests}
 use Rattle.std.proofs.lemmas.List.Elements.{All-nil, All-cons, All-head, All-tail, All-map, All-weaker, All-from_get_or}
+use Rattle.std.proofs.lemmas.List.{length-map}
 use Rattle.std.proofs.lemmas.List.Sums.{length-filter}
 use Rattle.std.proofs.lemmas.List.Sorted.{All-permutation, IsPermutation-sym, sum_by-IsPermutation, sorted_far, ranks_by, length_permutation}
 use Rattle.rows.specs.Events.{bytes_cmp}
-use Rattle.keyrange.specs.Points.{Area, has_point, is_area, is_key_in, is_time_in, is_below, is_before_end, is_early}
+use Rattle.keyrange.specs.Points.{Area, has_point, is_area, is_below, is_before_end}
 use Rattle.keyrange.specs.Cuts.{is_key_inside}
 use Rattle.keyrange.proofs.Meetings.{both, first, second}
 use Rattle.keyrange.proofs.Orders.{not_itself, above}
 use Rattle.indexnode.specs.declared.references.Reference.{Reference}
-use Rattle.indexnode.specs.Tiling.{at_point, Tiles, LiesIn}
+use Rattle.indexnode.specs.Tiling.{at_point, Tiles}
 use Rattle.indexnode.specs.Halves.{is_current, reaches_below, reaches_up, IsUncrossed, AreCurrentIn}
-use Rattle.indexnode.specs.Choices.{current_keys}
+use Rattle.indexnode.specs.Choices.{current_keys, current_count, AreOrdered, AreSmaller}
 use Rattle.indexnode.proofs.Currents.{all_taken, negated, denied, one_false}
 use Rattle.indexnode.proofs.Crossing.{endless, passing}
 
@@ -52,7 +53,7 @@ fewer_one true false x xs ys e h = let no : false ≡ true = e refl in cc
 fewer_one false true x xs ys e h = omega arith
 fewer_one false false x xs ys e h = h
 
-fewer : {X : Type 0} (p q : X → Bool) (xs : List X) → All (λ x. p x ≡ true → q x ≡ true) xs → length (filter p xs) ≤ length (filter q xs)
+pub fewer : {X : Type 0} (p q : X → Bool) (xs : List X) → All (λ x. p x ≡ true → q x ≡ true) xs → length (filter p xs) ≤ length (filter q xs)
 fewer p q [] h = omega arith
 fewer p q (x ∷ xs) h = fewer_one (p x) (q x) x (filter p xs) (filter q xs) (All-head (λ y. p y ≡ true → q y ≡ true) x xs h) (fewer p q xs (All-tail (λ y. p y ≡ true → q y ≡ true) x xs h))
 
@@ -125,32 +126,36 @@ module _ {C : Type 0} where
     where
       up : (x y : ℕ) → x ≤ y → nat_le x y ≡ true
       up x y le = grind (arith, nat_tests)
+
       more : (x y z : ℕ) → nat_le x y ≡ true → y ≤ z → nat_le x z ≡ true
       more x y z e le = grind (arith, nat_tests)
 
+  pub counted_in_order : (references : List (Reference C)) (ordered : List (List ℕ)) → AreOrdered references ordered → length ordered ≡ current_count references
+  counted_in_order references ordered are = length_permutation (current_keys references) ordered are.same_keys ∙ length-map (filter is_current references) (λ r. r.rect.keys.lo)
+
   module _ (area : Area) (references : List (Reference C)) (ordered : List (List ℕ)) (tiled : Tiles area references) (inside : AreCurrentIn area references)
-      (areas : All (λ r. IsTrue (is_area r.rect.keys r.rect.time)) references) (same : IsPermutation (current_keys references) ordered) (sorted : IsSorted bytes_cmp ordered) where
+      (areas : All (λ r. IsTrue (is_area r.rect.keys r.rect.time)) references) (are : AreOrdered references ordered) where
     -- what holds of the lower key of each current reference holds of each in order
     of_each : (P : List ℕ → Type 0) → All (λ r. IsTrue (is_current r) → P r.rect.keys.lo) references → All P ordered
     of_each P each =
         let Q : Reference C → Type 0 = λ r. IsTrue (is_current r) → P r.rect.keys.lo in
-        All-permutation P (current_keys references) ordered same
-          (All-map P (λ r. r.rect.keys.lo) (filter is_current references)
-            (all_taken Q Q (λ r. P r.rect.keys.lo) is_current references (filter is_current references) refl (λ r holds _ current. holds current) each each))
+        All-permutation P (current_keys references) ordered are.same_keys
+        (All-map P (λ r. r.rect.keys.lo) (filter is_current references)
+        (all_taken Q Q (λ r. P r.rect.keys.lo) is_current references (filter is_current references) refl (λ r holds _ current. holds current) each each))
 
     to_each : (P : List ℕ → Type 0) → All P ordered → All (λ r. IsTrue (is_current r) → P r.rect.keys.lo) references
     to_each P each =
         passing is_current (λ r. P r.rect.keys.lo) references
-          (of_made P (λ r. r.rect.keys.lo) (filter is_current references) (All-permutation P ordered (current_keys references) (IsPermutation-sym (current_keys references) ordered same) each))
+        (of_made P (λ r. r.rect.keys.lo) (filter is_current references) (All-permutation P ordered (current_keys references) (IsPermutation-sym (current_keys references) ordered are.same_keys) each))
 
     -- the lower key of a current reference is a point of the rectangle at its start and later
     lies : (instant : ℕ) → All (λ r. nat_le r.rect.time.from instant ≡ true) references → All (λ key. has_point area key instant ≡ true) ordered
     lies instant upto = of_each (λ key. has_point area key instant ≡ true) (λ k d lt current.
         inside k d lt current _ instant
-          (both _ _ (both _ _ (negated _ (not_itself (get_or references k d).rect.keys.lo)) (first _ _ (areas k d lt))) (both _ _ (upto k d lt) (endless (get_or references k d).rect.time.to instant current))))
+        (both _ _ (both _ _ (negated _ (not_itself (get_or references k d).rect.keys.lo)) (first _ _ (areas k d lt))) (both _ _ (upto k d lt) (endless (get_or references k d).rect.time.to instant current))))
 
     least_first : (i : ℕ) (d : List ℕ) → i < length ordered → is_below (get_or ordered i d) (get_or ordered 0 d) ≡ false
-    least_first i d lt = sorted_far (λ x y. is_lt (bytes_cmp x y)) (ranks_by nat_list_cmp_total (λ x. x)) ordered sorted 0 i d (omega arith) lt
+    least_first i d lt = sorted_far (λ x y. is_lt (bytes_cmp x y)) (ranks_by nat_list_cmp_total (λ x. x)) ordered are.in_order 0 i d (omega arith) lt
 
     -- of several the middle one is above the first
     above_first : (i : ℕ) (d : List ℕ) → 0 < i → i < length ordered → is_below (get_or ordered 0 d) (get_or ordered i d) ≡ true
@@ -165,12 +170,12 @@ module _ {C : Type 0} where
             let twice : 2 ≤ length (filter test ordered) = count_both test ordered i d up lt (negated _ (not_itself a)) (negated _ e) in
             let lows : All (λ r. IsTrue (is_current r) → is_below r.rect.keys.lo a ≡ false) references = to_each (λ key. is_below key a ≡ false) (All-from_get_or (λ key. is_below key a ≡ false) ordered d (λ k lt_k. least_first k d lt_k)) in
             let few : length (filter (λ r. is_current r && test r.rect.keys.lo) references) ≤ length (at_point a l.instant references) =
-              fewer (λ r. is_current r && test r.rect.keys.lo) (λ r. has_point r.rect a l.instant) references (λ k e lt_k passes.
-                let r = get_or references k e in
-                let current : is_current r ≡ true = first _ _ passes in
-                both _ _ (both _ _ (second (is_current r) _ passes) (end_from r.rect.keys.lo a r.rect.keys.hi (lows k e lt_k current) (first _ _ (areas k e lt_k)))) (both _ _ (l.upto k e lt_k) (endless r.rect.time.to l.instant current))) in
+            fewer (λ r. is_current r && test r.rect.keys.lo) (λ r. has_point r.rect a l.instant) references (λ k e lt_k passes.
+            let r = get_or references k e in
+            let current : is_current r ≡ true = first _ _ passes in
+            both _ _ (both _ _ (second (is_current r) _ passes) (end_from r.rect.keys.lo a r.rect.keys.hi (lows k e lt_k current) (first _ _ (areas k e lt_k)))) (both _ _ (l.upto k e lt_k) (endless r.rect.time.to l.instant current))) in
             let once : length (at_point a l.instant references) ≡ 1 = tiled.once a l.instant (lies l.instant l.upto 0 d (omega arith)) in
-            let equal : length (filter test ordered) ≡ length (filter (λ r. is_current r && test r.rect.keys.lo) references) = same_count test (current_keys references) ordered same ∙ counted is_current (λ r. r.rect.keys.lo) test references in
+            let equal : length (filter test ordered) ≡ length (filter (λ r. is_current r && test r.rect.keys.lo) references) = same_count test (current_keys references) ordered are.same_keys ∙ counted is_current (λ r. r.rect.keys.lo) test references in
             absurd (omega arith)
 
     -- the middle one of several lies strictly inside
@@ -183,7 +188,7 @@ module _ {C : Type 0} where
         both _ _ (above (get_or ordered 0 d) area.keys.lo (get_or ordered i d) low (above_first i d up lt)) high
 
     -- some reference does not reach below it
-    pub fewer_below : (i : ℕ) (d : List ℕ) → i < length ordered → length (filter (λ r. reaches_below (get_or ordered i d) r.rect) references) < length references
+    fewer_below : (i : ℕ) (d : List ℕ) → i < length ordered → length (filter (λ r. reaches_below (get_or ordered i d) r.rect) references) < length references
     fewer_below i d lt = by (all_or_fewer (λ r. reaches_below (get_or ordered i d) r.rect) references)
       where
         by : All (λ r. reaches_below (get_or ordered i d) r.rect ≡ true) references ⊎ (length (filter (λ r. reaches_below (get_or ordered i d) r.rect) references) < length references) → length (filter (λ r. reaches_below (get_or ordered i d) r.rect) references) < length references
@@ -197,7 +202,7 @@ module _ {C : Type 0} where
             absurd (let no : true ≡ false = sym itself ∙ no_one in cc)
 
     -- some reference does not reach up to it
-    pub fewer_up : (i : ℕ) (d : List ℕ) → 0 < i → i < length ordered → IsUncrossed (get_or ordered i d) references → length (filter (λ r. reaches_up (get_or ordered i d) r.rect) references) < length references
+    fewer_up : (i : ℕ) (d : List ℕ) → 0 < i → i < length ordered → IsUncrossed (get_or ordered i d) references → length (filter (λ r. reaches_up (get_or ordered i d) r.rect) references) < length references
     fewer_up i d up lt uncrossed = by (all_or_fewer (λ r. reaches_up (get_or ordered i d) r.rect) references)
       where
         by : All (λ r. reaches_up (get_or ordered i d) r.rect ≡ true) references ⊎ (length (filter (λ r. reaches_up (get_or ordered i d) r.rect) references) < length references) → length (filter (λ r. reaches_up (get_or ordered i d) r.rect) references) < length references
@@ -209,3 +214,6 @@ module _ {C : Type 0} where
             let not_above : is_below (get_or ordered 0 d) key ≡ false = each 0 d (omega arith) in
             let is_above : is_below (get_or ordered 0 d) key ≡ true = above_first i d up lt in
             absurd (let no : true ≡ false = sym is_above ∙ not_above in cc)
+
+    pub smaller : (i : ℕ) (d : List ℕ) → 0 < i → i < length ordered → IsUncrossed (get_or ordered i d) references → AreSmaller (get_or ordered i d) references
+    smaller i d up lt uncrossed = record { below = fewer_below i d lt; above = fewer_up i d up lt uncrossed }

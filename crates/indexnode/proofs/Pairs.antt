@@ -1,10 +1,9 @@
 -- One reference tiles its own rectangle, and two tile one whose halves they have.
-use Rattle.std.proofs.Common.{◌≡◌, ℕ, ◌<◌, ◌≤◌, List, [], ◌∷◌, Bool, true, false, length, cond, refl, sym, ap, subst, ◌∙◌, arith}
-use Rattle.std.specs.Prelude.{IsTrue, ◌&&◌, not, nat_lt}
+use Rattle.std.proofs.Common.{◌≡◌, ℕ, List, [], ◌∷◌, Bool, true, false, length, cond, sym, ap, subst, ◌∙◌}
+use Rattle.std.specs.Prelude.{◌&&◌, not}
 use Rattle.std.specs.List.{filter, All}
 use Rattle.std.proofs.lemmas.List.Elements.{All-nil, All-cons}
-use Rattle.keyrange.specs.Points.{Area, has_point, is_below}
-use Rattle.keyrange.specs.Cuts.{PartsKeys, PartsTime}
+use Rattle.keyrange.specs.Points.{Area, has_point}
 use Rattle.indexnode.specs.declared.references.Reference.{Reference}
 use Rattle.indexnode.specs.Tiling.{Tiles, LiesIn}
 

@@ -1,6 +1,6 @@
 -- References that tile a rectangle.
-use Rattle.std.specs.Prelude.{◌≡◌, ℕ, List, IsTrue, filter, length}
-use Rattle.keyrange.specs.Points.{Area, has_point}
+use Rattle.std.specs.Prelude.{◌≡◌, ℕ, List, IsTrue, All, filter, length}
+use Rattle.keyrange.specs.Points.{Area, has_point, Common}
 use Rattle.indexnode.specs.declared.references.Reference.{Reference}
 
 -- the references whose rectangles hold a point
@@ -14,3 +14,7 @@ pub record Tiles {C : Type 0} (area : Area) (references : List (Reference C)) : 
 -- each point of the one lies in the other
 abbrev pub LiesIn : Area → Area → Type 0
 LiesIn inner outer = (key : List ℕ) (instant : ℕ) → IsTrue (has_point inner key instant) → IsTrue (has_point outer key instant)
+
+-- each reference has a point of the rectangle
+abbrev pub AllMeet : {C : Type 0} → Area → List (Reference C) → Type 0
+AllMeet area references = All (λ r. Common r.rect area) references

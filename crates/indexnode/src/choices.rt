@@ -4,9 +4,9 @@ ghost use Rattle.rows.specs.Memory.{OnlyMemory};
 ghost use Rattle.rows.specs.Commits.{last_instant};
 ghost use Rattle.keyrange.specs.Points.{is_area};
 ghost use Rattle.keyrange.specs.Cuts.{is_key_inside};
-ghost use Rattle.indexnode.specs.Tiling.{Tiles};
+ghost use Rattle.indexnode.specs.Tiling.{Tiles, AllMeet};
 ghost use Rattle.indexnode.specs.Halves.{is_current, starts_before, ends_after, IsUncrossed, AreCurrentIn};
-ghost use Rattle.indexnode.specs.Choices.{IsLeastStart, IsMiddle, AreSmaller, current_count, current_keys};
+ghost use Rattle.indexnode.specs.Choices.{IsLeastStart, StandsAlone, IsMiddle, AreOrdered, AreSmaller, current_count, current_keys};
 
 use crate::nodes::IndexNode;
 use crate::references::Reference;
@@ -20,6 +20,7 @@ impl<C> IndexNode<C> {
         ensures least { MatchOption result (current_count self.now.references.items ≡ 0) (IsLeastStart self.now.references.items) }
         ensures in_range { IfSome result (λ t. t ≤ last_instant) }
         ensures smaller { IfSome result (λ t. length (filter (λ r. starts_before t r.rect) self.now.references.items) < length self.now.references.items) }
+        ensures alone { Tiles self.now.rect self.now.references.items → AllMeet self.now.rect self.now.references.items → self.now.rect.time.to ≡ None → current_count self.now.references.items ≡ 1 → IfSome result (StandsAlone self.now.rect self.now.references.items) }
     {
         let mut least = None;
         for reference in &self.references {
@@ -35,13 +36,11 @@ impl<C> IndexNode<C> {
     pub fn current_count(&self) -> usize
         ensures { result ≡ current_count self.now.references.items }
     {
-        let mut count = 0;
+        let mut current = 0;
         for reference in &self.references {
-            if is_current(reference) {
-                count += 1;
-            }
+            current += usize::from(is_current(reference));
         }
-        count
+        current
     }
 
     /// How many references the current half of a split at an instant would have.
@@ -66,8 +65,7 @@ impl<C> IndexNode<C> {
         ensures smaller { Tiles self.now.rect self.now.references.items → AreCurrentIn self.now.rect self.now.references.items → 2 ≤ current_count self.now.references.items → IfOk result (λ k. IfSome k (λ key. AreSmaller key self.now.references.items)) }
         ensures err { OnlyMemory result }
     {
-        let mut keys = current_keys(alloc, &self.references)?;
-        keys.sort()?;
+        let mut keys = ordered_keys(alloc, &self.references)?;
         let middle = keys.len() / 2;
         if middle < keys.len() {
             Ok(Some(keys.swap_remove(middle)))
@@ -75,6 +73,17 @@ impl<C> IndexNode<C> {
             Ok(None)
         }
     }
+}
+
+/// The lower keys of the current references, in order.
+fn ordered_keys<C>(alloc: Global, references: &[Reference<C>]) -> Mem<Vec<KeyBytes>>
+    ensures ordered { IfOk result (λ v. AreOrdered references.now v.items) }
+    ensures areas { IfOk result (λ _. All (λ r. IsTrue (is_area r.rect.keys r.rect.time)) references.now) }
+    ensures err { OnlyMemory result }
+{
+    let mut keys = current_keys(alloc, references)?;
+    keys.sort()?;
+    Ok(keys)
 }
 
 fn current_keys<C>(alloc: Global, references: &[Reference<C>]) -> Mem<Vec<KeyBytes>>

@@ -223,8 +223,8 @@ fn split_by_key(alloc: Global, node: &IndexNode<u64>) -> Mem<(Vec<u64>, Vec<u64>
     requires tiled { Tiles node.now.rect node.now.references.items }
     requires current { AreCurrentIn node.now.rect node.now.references.items }
 {
-    if let Some(cut) = node.middle_key(alloc)?
-        && node.rect().cut_key(&cut)?.is_some()
+    if node.current_count() >= 2
+        && let Some(cut) = node.middle_key(alloc)?
     {
         let (below, above) = node.split_key(&cut)?;
         return Ok((children(alloc, &below)?, children(alloc, &above)?));
@@ -244,7 +244,8 @@ fn both_halves_of_a_split_by_key_have_what_crosses_it(rt: HostRuntime) -> Result
 /// The children of both halves of a split at the least start of a current reference; none where there is no such split.
 fn split_by_time(alloc: Global, node: &IndexNode<u64>) -> Mem<(Vec<u64>, Vec<u64>)> {
     if let Some(cut) = node.least_current_start()
-        && node.rect().cut_time(cut)?.is_some()
+        && node.rect().time().from < cut
+        && node.rect().time().to.is_none()
     {
         let (past, now) = node.split_time(cut)?;
         return Ok((children(alloc, &past)?, children(alloc, &now)?));
@@ -256,6 +257,7 @@ fn split_by_time(alloc: Global, node: &IndexNode<u64>) -> Mem<(Vec<u64>, Vec<u64
 fn a_split_by_time_parts_the_past_from_the_current_ones(rt: HostRuntime) -> Result<(), Fail> {
     let node = numbers(rt.alloc())?;
     assert_eq!(rt; node.least_current_start(), Some(200));
+    assert_eq!(rt; node.current_count(), 2);
     assert_eq!(rt; node.stay_count(200), 2);
     assert_eq!(rt; node.stay_count(199), 3);
     let (past, now) = split_by_time(rt.alloc(), &node)?;
@@ -328,8 +330,8 @@ fn leaf_halves(alloc: Global, node: &IndexNode<Leaf>) -> Mem<((u64, usize), (u64
     requires tiled { Tiles node.now.rect node.now.references.items }
     requires current { AreCurrentIn node.now.rect node.now.references.items }
 {
-    if let Some(cut) = node.middle_key(alloc)?
-        && node.rect().cut_key(&cut)?.is_some()
+    if node.current_count() >= 2
+        && let Some(cut) = node.middle_key(alloc)?
     {
         let (below, above) = node.split_key(&cut)?;
         return Ok((summed(&below), summed(&above)));

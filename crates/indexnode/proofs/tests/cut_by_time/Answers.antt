@@ -1,8 +1,6 @@
 use Rattle.std.proofs.Common.{sym, subst}
 use Rattle.std.specs.Prelude.{IfSome, IsTrue}
-use Rattle.std.specs.List.{All}
 use Rattle.std.proofs.lemmas.List.Elements.{All-weaker}
-use Rattle.keyrange.specs.Points.{Area}
 use Rattle.keyrange.specs.Cuts.{PartsTime}
 use Rattle.indexnode.specs.Tiling.{Tiles, LiesIn}
 use Rattle.indexnode.specs.Halves.{is_current, AreCurrentIn}

@@ -4,6 +4,6 @@ use Rattle.indexnode.proofs.nodes.IndexNode.current_count.Given as goal
 
 abbrev pub invariant-loop-reference : goal.invariant-loop-reference
 invariant-loop-reference g l = record {
-  counted : l.count ≡ current_count (take l.reference-index l.reference-items);
-  bound : l.count ≤ l.reference-index;
+  counted : l.current ≡ current_count (take l.reference-index l.reference-items);
+  bound : l.current ≤ l.reference-index;
 }
