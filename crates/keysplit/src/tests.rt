@@ -70,3 +70,15 @@ fn a_key_at_the_cut_goes_to_the_right(rt: HostRuntime) -> Result<(), Fail> {
     assert_eq!(rt; split(&rt, &node)?, Some((2, 32, 1)));
     Ok(())
 }
+
+#[test]
+fn a_node_of_one_event_a_key_is_halved(rt: HostRuntime) -> Result<(), Fail> {
+    let alloc = rt.alloc();
+    let mut counts = Vec::new(alloc);
+    for number in 1..66u8 {
+        counts.push((number, 1))?;
+    }
+    let node = node(&rt, alloc, &counts)?;
+    assert_eq!(rt; split(&rt, &node)?, Some((33, 32, 33)));
+    Ok(())
+}
