@@ -1,15 +1,12 @@
 -- A commit is the turn's: its net changes are those that contracts see, and what it leaves is a system's.
-use Rattle.std.proofs.Common.{◌≡◌, ◌≢◌, ℕ, ◌≤◌, ◌<◌, List, [], ◌∷◌, Option, Some, None, Bool, true, false, T, cond, refl, sym, ap, ◌∙◌, subst, map, filter, length, nat_lt, nat_le, ◌||◌, ◌&&◌, is_some, All, arith, get_or, set, Result, Ok, Err, IfOk, IfSome, IfNone, OnErr}
+use Rattle.std.proofs.Common.{◌≡◌, ◌≢◌, ℕ, ◌≤◌, ◌<◌, List, [], ◌∷◌, Option, Some, None, Bool, true, false, T, cond, refl, sym, ap, ◌∙◌, subst, map, filter, nat_le, ◌||◌, ◌&&◌, is_some, arith, set, Result, Ok, Err, IfOk, IfSome, IfNone, OnErr}
 use Rattle.std.proofs.lemmas.Bool.Decides.{nat_tests}
-use Rattle.std.proofs.lemmas.List.{length-set, map-set}
-use Rattle.std.proofs.lemmas.List.Elements.{All-set, All-from_recursion, recursion_from_All}
-use Rattle.std.specs.Cmp.{IsTotalOrder}
-use Rattle.std.specs.Ordering.{is_lt}
+use Rattle.std.proofs.lemmas.List.{map-set}
+use Rattle.std.proofs.lemmas.List.Elements.{All-from_recursion, recursion_from_All}
 use Rattle.std.specs.declared.cmp.Ordering.{Ordering}
-use Rattle.std.specs.declared.cmp.Ordering.TheVariants.{Less, Equal, Greater}
-use Rattle.std.specs.BTreeMap.{insert_entry}
+use Rattle.std.specs.declared.cmp.Ordering.TheVariants.{Less}
 use Rattle.std.specs.FinMap.{is_sorted}
-use Rattle.std.specs.FinMap.Entries.{below_all, where_key}
+use Rattle.std.specs.FinMap.Entries.{below_all}
 use Rattle.std.specs.List.{AllByRecursion}
 use Rattle.std.specs.List.Sorted.{IsStrictlySortedBy}
 use Rattle.std.specs.Map.{keys_of}
@@ -21,10 +18,10 @@ use Rattle.rows.specs.declared.refusals.Refusal.{Refusal}
 use Rattle.rows.specs.declared.refusals.Refusal.TheVariants.{NoTransaction, Memory}
 use Rattle.rows.specs.Order.{is_key}
 use Rattle.rows.specs.Tables.{Schema}
-use Rattle.rows.specs.Log.{Changes, Net, Row, State, point_cmp, row_at, add_net, rows_after}
+use Rattle.rows.specs.Log.{Changes, Net, Row, point_cmp, row_at, add_net, rows_after}
 use Rattle.rows.specs.Laws.{changes_upto}
 use Rattle.rows.specs.Commits.{outcome}
-use Rattle.rows.specs.Events.{events_of, later, AreKeysIn, AreChangesIn, put_net}
+use Rattle.rows.specs.Events.{events_of, later, AreKeysIn, put_net}
 use Rattle.rows.proofs.Orders.{point_cmp_total, first, second}
 use Rattle.rows.proofs.Maps.{insert_entry-put, sorted_insert}
 use Rattle.rows.proofs.Latest.{Upto, latest, point}
@@ -38,11 +35,10 @@ use Rattle.statement.specs.declared.steps.Reply.{Reply}
 use Rattle.statement.specs.declared.steps.Reply.TheVariants.{Committed as Commits, Refused}
 use Rattle.turns.specs.World.{Session, World}
 use Rattle.turns.specs.Turns.{Turn, put, last_until, was_there, net_in, applied, end_turn, commit_turn}
-use Rattle.turns.specs.Stands.{session_at}
 use Rattle.turns.specs.Runs.{is_out}
-use Rattle.turns.proofs.Nows.{over, row_after, flat, value, last_value, there}
-use Rattle.interleaving.specs.Keeping.{Begun, changes_in, session_of, world, IsBegun, IsOpen, IsSystem}
-use Rattle.interleaving.proofs.Keeps.{changes_again, session_is, put_is, with_session, place_is}
+use Rattle.turns.proofs.Nows.{row_after, flat, value, last_value, there}
+use Rattle.interleaving.specs.Keeping.{Begun, changes_in, session_of, world, IsOpen, IsSystem}
+use Rattle.interleaving.proofs.Keeps.{changes_again, session_is, put_is}
 use Rattle.interleaving.proofs.Written.{IsFound}
 
 -- ---- what was there at a transaction's start
@@ -132,20 +128,20 @@ module _ (schema : Schema) (engine : Committed) (held : Holds schema engine (cha
 
   added_holds : Holds schema (added instant net engine) (changes_in schema (put_net instant net engine.events))
   added_holds = subst (Holds schema (added instant net engine)) (sym added_changes) (record {
-      events_are = added_events;
-      keys = add_net_in schema net instant old keys held.keys;
-      in_order = sorted_to point_cmp (add_net instant old net) (sorted_net net instant old sorted_old);
-    })
+    events_are = added_events;
+    keys = add_net_in schema net instant old keys held.keys;
+    in_order = sorted_to point_cmp (add_net instant old net) (sorted_net net instant old sorted_old);
+  })
 
   -- an open transaction sees what it saw
   added_begun : engine.last < instant → (o : Option Begun) → IsOpen schema engine o → IsOpen schema (added instant net engine) o
   added_begun late None h = h
   added_begun late (Some b) h = record {
-      early = let early : b.view.last ≤ engine.last = h.early in omega arith;
-      held = h.held;
-      part = h.part ∙ sym (ap (λ m. changes_upto m b.view.last) added_changes ∙ late_net net b.view.last instant old (let early : b.view.last ≤ engine.last = h.early in grind (arith, nat_tests)) sorted_old);
-      keys = h.keys;
-    }
+    early = let early : b.view.last ≤ engine.last = h.early in omega arith;
+    held = h.held;
+    part = h.part ∙ sym (ap (λ m. changes_upto m b.view.last) added_changes ∙ late_net net b.view.last instant old (let early : b.view.last ≤ engine.last = h.early in grind (arith, nat_tests)) sorted_old);
+    keys = h.keys;
+  }
 
 all_open : (schema : Schema) (engine new : Committed) (sessions : List (Option Begun)) → ((o : Option Begun) → IsOpen schema engine o → IsOpen schema new o) → AllByRecursion (IsOpen schema engine) sessions → AllByRecursion (IsOpen schema new) sessions
 all_open schema engine new [] f h = tt
@@ -166,13 +162,13 @@ module _ (schema : Schema) (engine new : Committed) (sessions : List (Option Beg
 
   ended_added : (instant : ℕ) → engine.last < instant → new ≡ added instant net engine → IsSystem schema new sessions
   ended_added instant late is = subst (λ e. IsSystem schema e sessions) (sym is) (record {
-      wide = s.wide;
-      held = added_holds schema engine s.held net keys instant;
-      upto = All-from_recursion (λ (e : Event). e.at ≤ instant) (put_net instant net engine.events)
-          (upto_net instant net engine.events (more_upto engine.last instant engine.events (omega arith) (recursion_from_All (λ (e : Event). e.at ≤ engine.last) engine.events s.upto)));
-      begun = All-from_recursion (IsOpen schema (added instant net engine)) sessions
-          (all_open schema engine (added instant net engine) sessions (added_begun schema engine s.held net keys instant late) (recursion_from_All (IsOpen schema engine) sessions s.begun));
-    })
+    wide = s.wide;
+    held = added_holds schema engine s.held net keys instant;
+    upto = All-from_recursion (λ (e : Event). e.at ≤ instant) (put_net instant net engine.events)
+        (upto_net instant net engine.events (more_upto engine.last instant engine.events (omega arith) (recursion_from_All (λ (e : Event). e.at ≤ engine.last) engine.events s.upto)));
+    begun = All-from_recursion (IsOpen schema (added instant net engine)) sessions
+        (all_open schema engine (added instant net engine) sessions (added_begun schema engine s.held net keys instant late) (recursion_from_All (IsOpen schema engine) sessions s.begun));
+  })
 
   -- the system is one still
   pub ended_is : (r : Result (Option ℕ) Refusal) → IsEnded engine new net r → IsSystem schema new sessions

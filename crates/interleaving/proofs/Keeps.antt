@@ -1,34 +1,32 @@
 -- What a system keeps is what contracts see of it: events are read back as their changes, and sessions one by one.
-use Rattle.std.proofs.Common.{◌≡◌, ◌≢◌, ℕ, ◌≤◌, ◌<◌, List, [], ◌∷◌, Option, Some, None, Bool, true, false, refl, sym, ap, ◌∙◌, subst, cond, map, filter, length, nat_le, nat_lt, is_some, ◌||◌, ◌&&◌, All, arith, get_or, set, replicate, Result, Ok, Err}
+use Rattle.std.proofs.Common.{◌≡◌, ℕ, ◌≤◌, List, [], ◌∷◌, Option, Some, None, true, refl, sym, ap, ◌∙◌, subst, cond, length, is_some, All, arith, get_or, set, replicate}
 use Rattle.std.proofs.lemmas.Bool.Decides.{nat_tests}
-use Rattle.std.proofs.lemmas.List.Elements.{All-head, All-tail, All-cons, All-nil, All-set, All-get_or, All-replicate}
+use Rattle.std.proofs.lemmas.List.Elements.{All-head, All-tail, All-nil, All-set, All-get_or, All-replicate}
 use Rattle.std.proofs.lemmas.List.{get_or_read_under, length-set, map-set, length-replicate, get_or-replicate, length-map}
 use Rattle.std.proofs.Math.ListN.{get_or-map}
-use Rattle.std.specs.List.{filter_map, cons_option}
+use Rattle.std.specs.List.{cons_option}
 use Rattle.std.specs.Option.{option_map, option_and_then}
 use Rattle.std.specs.Map.{keys_of}
 use Rattle.rows.specs.declared.events.Event.{Event}
 use Rattle.rows.specs.declared.keys.Key.{Key}
 use Rattle.rows.specs.declared.keys.Point.{Point}
 use Rattle.rows.specs.declared.tables.Table.{Table}
-use Rattle.rows.specs.declared.refusals.Refusal.{Refusal}
 use Rattle.rows.specs.declared.refusals.Refusal.TheVariants.{InTransaction, NoTransaction}
 use Rattle.rows.specs.Tables.{Schema, table_at}
-use Rattle.rows.specs.Log.{Changes, Net, Row}
+use Rattle.rows.specs.Log.{Changes, Row}
 use Rattle.rows.specs.Laws.{changes_upto}
 use Rattle.rows.specs.KeyEncoding.{bytes_of_key}
 use Rattle.rows.specs.KeyReading.{key_from}
-use Rattle.rows.specs.Events.{events_of, event_of, IsKeyOfAny, IsKeyIn, AreChangesIn, AreKeysIn}
+use Rattle.rows.specs.Events.{events_of, event_of, IsKeyOfAny, IsKeyIn, AreChangesIn}
 use Rattle.rows.proofs.KeyReads.{key_back}
 use Rattle.staging.specs.Committed.{Committed, Holds}
 use Rattle.eventlist.proofs.Ordered.{sorted_none}
 use Rattle.rows.specs.Log.{point_cmp}
-use Rattle.statement.specs.declared.steps.Reply.{Reply}
 use Rattle.statement.specs.declared.steps.Reply.TheVariants.{Begun as Begins, RolledBack, Refused}
 use Rattle.turns.specs.World.{Session, World}
 use Rattle.turns.specs.Turns.{Turn, put, opened_now, begin_turn, rollback_turn}
 use Rattle.turns.specs.Stands.{Stands, session_at}
-use Rattle.interleaving.specs.Keeping.{Begun, key_in, change_in, changes_in, session_of, world, IsBegun, IsOpen, IsSystem}
+use Rattle.interleaving.specs.Keeping.{Begun, change_in, changes_in, session_of, world, IsBegun, IsOpen, IsSystem}
 
 -- ---- events are read back
 

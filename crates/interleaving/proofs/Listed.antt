@@ -1,12 +1,10 @@
 -- What a query shows is what the turn lists.
-use Rattle.std.proofs.Common.{◌≡◌, ◌⊎◌, inl, inr, ℕ, ◌≤◌, List, Option, Some, None, Bool, true, false, refl, sym, ap, ◌∙◌, subst, All, get_or, Result, Ok, Err, IfOk, map, filter}
+use Rattle.std.proofs.Common.{◌≡◌, ℕ, ◌≤◌, List, Option, Some, None, Bool, true, false, refl, sym, ap, ◌∙◌, subst, get_or, Result, Ok, Err, IfOk, map, filter}
 use Rattle.std.specs.Option.{option_map}
-use Rattle.rows.specs.declared.events.Event.{Event}
 use Rattle.rows.specs.declared.tables.Table.{Table}
 use Rattle.rows.specs.declared.queries.Form.{Form}
 use Rattle.rows.specs.declared.queries.Form.TheVariants.{Plain, AsOf, FromTo, Between}
 use Rattle.rows.specs.declared.queries.Keys.{Keys}
-use Rattle.rows.specs.declared.queries.Shown.{Shown as Version}
 use Rattle.rows.specs.declared.refusals.Refusal.{Refusal}
 use Rattle.rows.specs.declared.refusals.Refusal.TheVariants.{NoTable}
 use Rattle.rows.specs.Tables.{Schema, IsTable, table_at}
@@ -20,8 +18,7 @@ use Rattle.statement.specs.declared.steps.Reply.TheVariants.{Refused, Shown}
 use Rattle.statement.specs.declared.steps.Listing.{Listing}
 use Rattle.statement.specs.declared.steps.Listing.TheVariants.{Rows}
 use Rattle.turns.specs.World.{Session, World}
-use Rattle.turns.specs.Turns.{listing, answer_to, select_reply}
-use Rattle.turns.specs.Stands.{session_at}
+use Rattle.turns.specs.Turns.{listing, select_reply}
 use Rattle.interleaving.specs.Keeping.{Begun, changes_in, session_of, world, IsBegun, IsSystem}
 use Rattle.interleaving.specs.Listings.{listed, listed_in}
 use Rattle.interleaving.proofs.Keeps.{session_is, place_is, upto_now}
@@ -54,7 +51,7 @@ pub plain_shown : (schema : Schema) (m : Changes) (table : Table) (form : Form) 
     → Reads schema table c.view c.writes m → keys.table ≡ table.number → Rows rows ≡ listed_in m c.writes table form keys
 plain_shown schema m table form keys b c found rows is plain are did reads same =
     subst (λ (c : Begun). Reads schema table c.view c.writes m → Rows rows ≡ listed_in m c.writes table form keys) is
-      (λ reads. ap Rows (are ∙ ap (map (λ e. e.1)) (did reads same)) ∙ (λ i. listed_in m b.writes table (sym plain i) keys)) reads
+    (λ reads. ap Rows (are ∙ ap (map (λ e. e.1)) (did reads same)) ∙ (λ i. listed_in m b.writes table (sym plain i) keys)) reads
 
 -- ---- the turn's listing
 
@@ -92,7 +89,7 @@ module _ (schema : Schema) (engine : Committed) (sessions : List (Option Begun))
   shows_now o view l s small at none sees did =
       let here : None ≡ get_or sessions i None = sym none ∙ place_is schema engine sessions i o s small at in
       ap Shown (did schema (changes_in schema engine.events) (subst (λ v. Holds schema v (changes_in schema engine.events)) (sym sees) s.held) (ap (table_at schema) good.numbered ∙ sym there) (sym good.numbered)
-        ∙ of_turn (world schema engine sessions) (changes_in schema engine.events) table form keys (sym (upto_now schema engine sessions s)))
+      ∙ of_turn (world schema engine sessions) (changes_in schema engine.events) table form keys (sym (upto_now schema engine sessions s)))
       ∙ (λ j. by_select (world schema engine sessions) form keys (option_map (session_of schema) (here j)) (there j))
       ∙ (λ j. by_select (world schema engine sessions) form keys (sym (session_is schema engine sessions i) j) (table_at schema keys.table))
       ∙ ap (λ w. select_reply w i form keys) is

@@ -1,10 +1,10 @@
 -- What a step's clauses say, where it took its turn or changed nothing.
-use Rattle.std.proofs.Common.{◌≡◌, ◌≢◌, Bool, true, false, None, ◌∷◌, refl, sym, ap, ◌∙◌, subst}
+use Rattle.std.proofs.Common.{◌≡◌, ◌≢◌, true, false, None, ◌∷◌, refl, sym, ap, subst}
 use Rattle.rows.specs.declared.refusals.Refusal.{Refusal}
-use Rattle.rows.specs.declared.refusals.Refusal.TheVariants.{Memory, NoSession, NoTable, BadRow, Syntax, NoTransaction, InTransaction, DuplicateKey, Conflict, ClockEnd, TooManyWrites, LineTooLong, JournalFull, Overlap, BadPeriod, TransactionsOpen}
+use Rattle.rows.specs.declared.refusals.Refusal.TheVariants.{Memory}
 use Rattle.statement.specs.declared.steps.Step.{Step}
 use Rattle.statement.specs.declared.steps.Reply.{Reply}
-use Rattle.statement.specs.declared.steps.Reply.TheVariants.{Begun, Inserted, Updated, Deleted, Shown, Committed, RolledBack, Done, Refused}
+use Rattle.statement.specs.declared.steps.Reply.TheVariants.{Refused}
 use Rattle.statement.specs.History.{History, reply, misfit}
 use Rattle.turns.specs.World.{World}
 use Rattle.turns.specs.Turns.{Turn, turn_in}

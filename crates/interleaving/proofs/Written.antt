@@ -1,5 +1,5 @@
 -- A write of an open transaction is the turn's: what its own writes make of it is what contracts see.
-use Rattle.std.proofs.Common.{◌≡◌, ◌≢◌, ℕ, ◌≤◌, List, [], ◌∷◌, Option, Some, None, Bool, true, false, refl, sym, ap, ◌∙◌, subst, map, length, nat_lt, nat_eq, ◌==◌, All, arith, get_or, set, Result, Ok, Err, if◌then◌else◌}
+use Rattle.std.proofs.Common.{◌≡◌, ◌≢◌, ℕ, ◌≤◌, List, [], Option, Some, None, Bool, true, false, refl, sym, ap, ◌∙◌, subst, map, length, nat_lt, ◌==◌, arith, get_or, set, Result, Ok, Err, if◌then◌else◌}
 use Rattle.std.proofs.lemmas.Bool.Decides.{nat_tests}
 use Rattle.std.specs.Option.{option_map}
 use Rattle.rows.specs.declared.keys.Key.{Key}
@@ -7,13 +7,13 @@ use Rattle.rows.specs.declared.tables.Table.{Table}
 use Rattle.rows.specs.declared.queries.Keys.{Keys}
 use Rattle.rows.specs.declared.queries.Set.{Set}
 use Rattle.rows.specs.declared.refusals.Refusal.{Refusal}
-use Rattle.rows.specs.declared.refusals.Refusal.TheVariants.{NoTable, NoSession, NoTransaction, BadRow, DuplicateKey, TooManyWrites, Memory}
+use Rattle.rows.specs.declared.refusals.Refusal.TheVariants.{NoTable, NoSession, NoTransaction, DuplicateKey, TooManyWrites, Memory}
 use Rattle.rows.specs.Tables.{Schema, IsTable, table_at}
-use Rattle.rows.specs.Log.{Changes, State, Net, Row}
+use Rattle.rows.specs.Log.{State, Net, Row}
 use Rattle.rows.specs.Fits.{rows_fault, comparisons_fault, sets_fault, first_of}
 use Rattle.rows.specs.Writes.{key_of, insert_rows, duplicate, update_rows, delete_rows, met, add_keys}
 use Rattle.rows.specs.Events.{AreKeysIn}
-use Rattle.staging.specs.Committed.{Committed, Holds}
+use Rattle.staging.specs.Committed.{Committed}
 use Rattle.staging.specs.Own as own
 use Rattle.staging.specs.Own.{Own, Written, Reads, fitting, of_table}
 use Rattle.statement.specs.declared.steps.Reply.{Reply}
@@ -22,10 +22,9 @@ use Rattle.statement.specs.declared.steps.Step.TheVariants.{Insert, Update, Dele
 use Rattle.statement.specs.History.{bad_row, misfit, misfit_of}
 use Rattle.turns.specs.World.{Session, World}
 use Rattle.turns.specs.Turns.{Turn, put, writing, insert_into, update_in, delete_from, write_turn}
-use Rattle.turns.specs.Stands.{session_at}
 use Rattle.turns.specs.Runs.{is_out}
 use Rattle.interleaving.specs.Keeping.{Begun, changes_in, session_of, world, IsBegun, IsOpen, IsSystem}
-use Rattle.interleaving.proofs.Keeps.{session_is, put_is, with_session, begun_at, place_is}
+use Rattle.interleaving.proofs.Keeps.{session_is, put_is, begun_at, place_is}
 
 -- ---- what is told of a write
 
@@ -120,7 +119,6 @@ begun_in schema engine sessions i b small s at = subst (IsOpen schema engine) (s
 
 -- ---- each write
 
-
 pub inserted : (schema : Schema) (b : Begun) (new : Net) (table : Table) (rows : List Row) (r : Result ℕ Refusal) → rows_fault table rows ≡ None
     → ◌≡◌ {A = Written} (r, own.own (changes_in schema b.view.events) new) (own.insert_into table rows (own.own (changes_in schema b.view.events) b.writes))
     → ◌≡◌ {A = Reply × Session} (reply_to Inserted r, session_of schema (with_writes b new)) (insert_into table rows (session_of schema b))
@@ -157,9 +155,9 @@ pub insert_turn : (schema : Schema) (engine : Committed) (sessions : List (Optio
     → ◌≡◌ {A = Turn} (reply, world schema engine (set sessions i (Some (with_writes b new)))) (write_turn w i number (λ table s. insert_into table rows s))
 insert_turn schema engine sessions w i number b new table rows r reply is f there good fits did says answered =
     written schema engine sessions w i b new table is f.at number (λ table s. insert_into table rows s) reply there
-      (ap (λ (a : Reply). (a, session_of schema (with_writes b new))) says
-       ∙ inserted schema b new table rows r (fits_as schema i number (λ table. rows_fault table rows) table there ((λ j. misfit (is j).schema (Insert i number rows)) ∙ fits))
-           (did (reads schema engine b table number f.begun there good) (not_want Inserted r (sym (ap is_out says) ∙ answered))))
+    (ap (λ (a : Reply). (a, session_of schema (with_writes b new))) says
+    ∙ inserted schema b new table rows r (fits_as schema i number (λ table. rows_fault table rows) table there ((λ j. misfit (is j).schema (Insert i number rows)) ∙ fits))
+    (did (reads schema engine b table number f.begun there good) (not_want Inserted r (sym (ap is_out says) ∙ answered))))
 
 pub update_turn : (schema : Schema) (engine : Committed) (sessions : List (Option Begun)) (w : World) (i : ℕ) (b : Begun) (new : Net) (table : Table) (keys : Keys) (sets : List Set) (r : Result ℕ Refusal) (reply : Reply)
     → world schema engine sessions ≡ w → IsFound schema engine sessions i b → Some table ≡ table_at schema keys.table → IsTable keys.table table → misfit w.schema (Update i keys sets) ≡ None
@@ -168,9 +166,9 @@ pub update_turn : (schema : Schema) (engine : Committed) (sessions : List (Optio
     → ◌≡◌ {A = Turn} (reply, world schema engine (set sessions i (Some (with_writes b new)))) (write_turn w i keys.table (λ table s. update_in table keys sets s))
 update_turn schema engine sessions w i b new table keys sets r reply is f there good fits did says answered =
     written schema engine sessions w i b new table is f.at keys.table (λ table s. update_in table keys sets s) reply there
-      (ap (λ (a : Reply). (a, session_of schema (with_writes b new))) says
-       ∙ updated schema b new table keys sets r good.numbered (fits_as schema i keys.table (λ table. first_of (sets_fault table [] sets) (comparisons_fault table keys.comparisons)) table there ((λ j. misfit (is j).schema (Update i keys sets)) ∙ fits))
-           (did (reads schema engine b table keys.table f.begun there good) (not_want Updated r (sym (ap is_out says) ∙ answered))))
+    (ap (λ (a : Reply). (a, session_of schema (with_writes b new))) says
+    ∙ updated schema b new table keys sets r good.numbered (fits_as schema i keys.table (λ table. first_of (sets_fault table [] sets) (comparisons_fault table keys.comparisons)) table there ((λ j. misfit (is j).schema (Update i keys sets)) ∙ fits))
+    (did (reads schema engine b table keys.table f.begun there good) (not_want Updated r (sym (ap is_out says) ∙ answered))))
 
 pub delete_turn : (schema : Schema) (engine : Committed) (sessions : List (Option Begun)) (w : World) (i : ℕ) (b : Begun) (new : Net) (table : Table) (keys : Keys) (r : Result ℕ Refusal) (reply : Reply)
     → world schema engine sessions ≡ w → IsFound schema engine sessions i b → Some table ≡ table_at schema keys.table → IsTable keys.table table → misfit w.schema (Delete i keys) ≡ None
@@ -179,6 +177,6 @@ pub delete_turn : (schema : Schema) (engine : Committed) (sessions : List (Optio
     → ◌≡◌ {A = Turn} (reply, world schema engine (set sessions i (Some (with_writes b new)))) (write_turn w i keys.table (λ table s. delete_from table keys s))
 delete_turn schema engine sessions w i b new table keys r reply is f there good fits did says answered =
     written schema engine sessions w i b new table is f.at keys.table (λ table s. delete_from table keys s) reply there
-      (ap (λ (a : Reply). (a, session_of schema (with_writes b new))) says
-       ∙ deleted schema b new table keys r good.numbered (fits_as schema i keys.table (λ table. comparisons_fault table keys.comparisons) table there ((λ j. misfit (is j).schema (Delete i keys)) ∙ fits))
-           (did (reads schema engine b table keys.table f.begun there good) (not_want Deleted r (sym (ap is_out says) ∙ answered))))
+    (ap (λ (a : Reply). (a, session_of schema (with_writes b new))) says
+    ∙ deleted schema b new table keys r good.numbered (fits_as schema i keys.table (λ table. comparisons_fault table keys.comparisons) table there ((λ j. misfit (is j).schema (Delete i keys)) ∙ fits))
+    (did (reads schema engine b table keys.table f.begun there good) (not_want Deleted r (sym (ap is_out says) ∙ answered))))

@@ -4,7 +4,7 @@ use Rattle.std.specs.Io.KnownBytes.{Appends}
 use Rattle.rows.specs.Tables.{Schema}
 use Rattle.statement.specs.Lines.{line_says}
 use Rattle.statement.specs.Puts.{AppendsFront}
-use Rattle.statement.specs.Transcript.{Partial, Progress, Reading, line_reply, line_leaves, last_reply}
+use Rattle.statement.specs.Transcript.{Partial, Progress, line_reply, line_leaves, last_reply}
 use Rattle.statement.specs.Taking.{Feeds}
 use Rattle.interleaving.specs.declared.scripts.Script.{Script}
 use Rattle.turns.specs.Stands.{Stands}

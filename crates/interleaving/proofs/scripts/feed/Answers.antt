@@ -1,4 +1,4 @@
-use Rattle.std.proofs.Common.{ap, sym, subst, ◌∙◌, ◌++◌, ◌+◌, take, drop, take-append-drop}
+use Rattle.std.proofs.Common.{ap, sym, subst, ◌∙◌, ◌++◌, ◌+◌, drop, take-append-drop}
 use Rattle.std.proofs.lemmas.List.{take_more, take_all}
 use Rattle.statement.specs.Lines.{line_says}
 use Rattle.statement.specs.Taking.{Breaks}

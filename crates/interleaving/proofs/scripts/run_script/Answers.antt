@@ -1,9 +1,6 @@
-use Rattle.std.proofs.Common.{◌≡◌, ℕ, take, length, [], subst, arith, List}
+use Rattle.std.proofs.Common.{take, [], subst, arith}
 use Rattle.std.specs.Io.KnownBytes.{Consumes}
 use Rattle.std.proofs.KnownBytes.{Keeps-refl}
-use Rattle.rows.specs.Tables.{Schema}
-use Rattle.statement.specs.Transcript.{Progress}
-use Rattle.interleaving.specs.Scripts.{IsAt, Fed}
 use Rattle.interleaving.proofs.Running.{going_none, going_more, going_stopped, going_broken, going_done, going_unfinished}
 use Rattle.interleaving.proofs.scripts.run_script.Goals as goal
 

@@ -1,8 +1,5 @@
-use Rattle.std.proofs.Common.{◌≡◌, ◌∙◌, sym, ap, subst, inl, inr}
-use Rattle.staging.specs.Own.{Reads}
-use Rattle.statement.specs.declared.steps.Listing.TheVariants.{Rows}
+use Rattle.std.proofs.Common.{◌∙◌, ap, inl, inr}
 use Rattle.interleaving.specs.Keeping.{Begun}
-use Rattle.interleaving.specs.Listings.{listed_in}
 use Rattle.interleaving.proofs.Listed.{past_shown, is_plain, plain_shown}
 use Rattle.interleaving.proofs.selects.listed_in.Goals as goal
 
@@ -13,6 +10,6 @@ returns-in_ok-rows_found-in-Plain-clause-ok c = λ schema m reads same.
 pub returns-in-AsOf : goal.returns-in-AsOf
 returns-in-AsOf c = record {
   ok = past_shown c.listed.result _ _ c.args.transaction.now.writes c.args.table.now c.args.form c.args.keys.now (ap (λ (b : Begun). b.view) c.transaction.view_is)
-    (elim c.in-AsOf.is [ inl h ↦ ap is_plain h.1 | inr (inl h) ↦ ap is_plain h.2 | inr (inr h) ↦ ap is_plain h.2 ]) c.listed.ensures.ok;
+      (elim c.in-AsOf.is [ inl h ↦ ap is_plain h.1 | inr (inl h) ↦ ap is_plain h.2 | inr (inr h) ↦ ap is_plain h.2 ]) c.listed.ensures.ok;
   memory = c.listed.ensures.memory;
 }

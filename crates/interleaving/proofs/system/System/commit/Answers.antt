@@ -3,7 +3,7 @@ use Rattle.statement.specs.declared.steps.Reply.{Reply}
 use Rattle.turns.specs.Runs.{is_out}
 use Rattle.interleaving.specs.Keeping.{world}
 use Rattle.interleaving.proofs.Keeps.{with_session}
-use Rattle.interleaving.proofs.Written.{found, IsFound}
+use Rattle.interleaving.proofs.Written.{found}
 use Rattle.interleaving.proofs.Ended.{committed, ended_is, end_reply, not_want}
 use Rattle.interleaving.proofs.system.System.commit.Goals as goal
 use Rattle.interleaving.proofs.system.System.commit.Goals.{in-Ok-commit, in-Err-commit}
@@ -14,13 +14,13 @@ returns-clause-answered c = λ answered.
     let says = elim c.match-commit.branch as (λ b. c.match-commit.reply ≡ end_reply c.commit.result) [ in-Ok-commit w ↦ w.reply-is ∙ sym (ap end_reply w.in-Ok-commit.is) | in-Err-commit w ↦ w.reply-is ∙ sym (ap end_reply w.in-Err-commit.is) ] in
     ap (λ (r : Reply). (r, world c.self.inside.schema c.commit.new.self (set c.self.inside.sessions.items c.args.session None))) says
     ∙ committed c.self.inside.schema c.self.inside.engine c.commit.new.self c.self.inside.sessions.items c.args.self.now c.args.session c.last.result c.args.reading _ c.in-Ok.net c.commit.result
-        c.self.view_is c.self.invariant begun c.last.ensures.last c.in-Ok.ensures.ok (c.in-Ok.ensures.keys c.self.inside.schema begun.begun.keys) c.commit.ensures.outcome
-        (record { committed = c.commit.ensures.committed; late = c.commit.ensures.later; nothing = c.commit.ensures.nothing; refused = c.commit.ensures.refused })
-        (not_want c.commit.result (ap is_out (sym says) ∙ answered))
+    c.self.view_is c.self.invariant begun c.last.ensures.last c.in-Ok.ensures.ok (c.in-Ok.ensures.keys c.self.inside.schema begun.begun.keys) c.commit.ensures.outcome
+    (record { committed = c.commit.ensures.committed; late = c.commit.ensures.later; nothing = c.commit.ensures.nothing; refused = c.commit.ensures.refused })
+    (not_want c.commit.result (ap is_out (sym says) ∙ answered))
 
 pub invariant_of-self-2 : goal.invariant_of-self-2
 invariant_of-self-2 c =
     let begun = found c.self.inside.schema c.self.inside.engine c.self.inside.sessions.items c.args.session c.index.result.now c.in-Some.transaction _ c.self.invariant c.requires c.index.ensures c.in-Some.is c.transaction.view_is in
     with_session c.self.inside.schema c.commit.new.self c.self.inside.sessions.items c.args.session None tt
-      (ended_is c.self.inside.schema c.self.inside.engine c.commit.new.self c.self.inside.sessions.items c.in-Ok.net (c.in-Ok.ensures.keys c.self.inside.schema begun.begun.keys) c.self.invariant c.commit.result
-        (record { committed = c.commit.ensures.committed; late = c.commit.ensures.later; nothing = c.commit.ensures.nothing; refused = c.commit.ensures.refused }))
+    (ended_is c.self.inside.schema c.self.inside.engine c.commit.new.self c.self.inside.sessions.items c.in-Ok.net (c.in-Ok.ensures.keys c.self.inside.schema begun.begun.keys) c.self.invariant c.commit.result
+    (record { committed = c.commit.ensures.committed; late = c.commit.ensures.later; nothing = c.commit.ensures.nothing; refused = c.commit.ensures.refused }))

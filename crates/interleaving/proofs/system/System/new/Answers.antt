@@ -1,4 +1,4 @@
-use Rattle.std.proofs.Common.{◌≡◌, ℕ, arith, None, replicate, ap, ◌∙◌}
+use Rattle.std.proofs.Common.{ℕ, arith, None, replicate, ap, ◌∙◌}
 use Rattle.interleaving.proofs.Keeps.{new_system, new_stands}
 use Rattle.interleaving.proofs.system.System.new.Goals as goal
 

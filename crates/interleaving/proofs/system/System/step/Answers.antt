@@ -1,10 +1,10 @@
-use Rattle.std.proofs.Common.{◌≡◌, None, ap, ◌∙◌}
+use Rattle.std.proofs.Common.{ap, ◌∙◌}
 use Rattle.rows.specs.Tables.{Schema}
 use Rattle.statement.specs.declared.steps.Reply.TheVariants.{Refused}
 use Rattle.statement.specs.History.{misfit}
 use Rattle.turns.specs.World.{World}
 use Rattle.turns.proofs.Turned.{stepped, refused_turn}
-use Rattle.interleaving.proofs.Stepped.{answers, out_of_memory, same_schema}
+use Rattle.interleaving.proofs.Stepped.{answers, same_schema}
 use Rattle.interleaving.proofs.system.System.step.Goals as goal
 
 pub returns-in-Some-clause-answers : goal.returns-in-Some-clause-answers
