@@ -6,7 +6,7 @@ use Rattle.std.specs.Ordering.{nat_cmp, ordering_then, is_lt}
 use Rattle.std.specs.declared.cmp.Ordering.{Ordering}
 use Rattle.std.specs.declared.cmp.Ordering.TheVariants.{Less, Equal, Greater}
 use Rattle.std.proofs.lemmas.Cmp.{ranked}
-use Rattle.std.proofs.lemmas.Bool.{cases_lt, cases_order, false_from_ne_true, false≢true, and_parts, leb-true}
+use Rattle.std.proofs.lemmas.Bool.{cases_order, false_from_ne_true, false≢true, and_parts, leb-true}
 use Rattle.std.proofs.lemmas.Bool.Decides.{Decides-and, Decides-like, same_from_decides}
 use Rattle.std.proofs.lemmas.Map.Keys.{Less-from_sorted}
 use Rattle.rows.specs.declared.events.Event.{Event}
@@ -23,7 +23,7 @@ use Rattle.datanode.proofs.Members.{In, In-filter, In-from_filter, all_kept}
 use Rattle.datanode.proofs.Order.{In_place, at_In}
 use Rattle.datanode.proofs.CutLaws.{IsInCut, in_cut_decides}
 use Rattle.datanode.proofs.Parts.{cut_is_map, cut_of_itself}
-use Rattle.datanode.proofs.Inserts.{greater, insert_is, replace_is, filter-put, NoTie, In-from_put, In-put_new, In-put_old, flipped}
+use Rattle.datanode.proofs.Inserts.{insert_is, replace_is, filter-put, NoTie, In-from_put, In-put_new, In-put_old, flipped}
 
 equal_by : (d e : Event) (o : Ordering) → bytes_cmp d.key e.key ≡ o → ordering_then o (nat_cmp d.at e.at) ≡ Equal → (d.key ≡ e.key) × (d.at ≡ e.at)
 equal_by d e Less p h = cc
@@ -157,14 +157,6 @@ module _ (r : Area) (n : List Event) (e : Event) (node : IsNode r n) (point : Is
 
   -- ---- what the code does
   module _ (i : ℕ) (place : IsPlace n e i) where
-    pub apart_place : NoTie e n
-    apart_place d j h =
-        let r = In_place d e n j in
-        elim (cases_lt r.0 i) [
-          | inl lt ↦ (let a : event_cmp e (get_or n r.0 e) ≡ Greater = greater (get_or n r.0 e) e (place.before r.0 e lt) in let b : event_cmp e (get_or n r.0 e) ≡ Equal = ap (event_cmp e) r.2 ∙ h in cc)
-          | inr ge ↦ (let a : event_cmp e (get_or n r.0 e) ≡ Less = place.behind r.0 e ge r.1 in let b : event_cmp e (get_or n r.0 e) ≡ Equal = ap (event_cmp e) r.2 ∙ h in cc)
-        ]
-
     kept : (d : Event) → In d n → (Overtakes d r.time.from e → ⊥) → in_cut r (put_event e n) d ≡ true
     kept d j free = let h = in_cut_of r n node d j in (in_cut_decides r (put_event e n) d).1 (
       h.0,
@@ -226,9 +218,6 @@ module _ (r : Area) (n : List Event) (e : Event) (node : IsNode r n) (point : Is
           | inr c ↦ c.1.1 (e, In-put_new e n, o x)
         ]))
         (λ k x h other. kept (get_or n k x) (at_In x n k h) (λ q. let eq = only_last k x h q in other (omega arith)))
-
-    pub put_node : IsNode r (cut r (put_event e n))
-    put_node = record { area = node.area; ordered = cut_is_map r (put_event e n) (sorted_put e n node.ordered); whole = cut_of_itself r (put_event e n) node.area }
 
 -- ---- over the code's terms: the event is put at the place that was found for it
 module _ (r : Area) (n k : List Event) (e shown : Event) (i t : ℕ) (node : IsNode r n) (point : has_point r e.key e.at ≡ true) (last : IsLast e n) (shows : shown ≡ e) (same : k ≡ n) (start : t ≡ r.time.from) (within : i ≤ length k)

@@ -2,8 +2,9 @@
 use Rattle.std.specs.Prelude.{◌≡◌, ℕ, List, ◌++◌, Some, ◌||◌, not, nat_le, nat_lt, filter, IsTrue}
 use Rattle.rows.specs.declared.events.Event.{Event}
 use Rattle.rows.specs.Events.{row_until}
-use Rattle.keyrange.specs.Points.{Area, has_point, is_below}
+use Rattle.keyrange.specs.Points.{Area, has_point, is_below, is_key_in}
 use Rattle.keyrange.specs.Cuts.{halves_by_key, halves_by_time}
+use Rattle.datanode.specs.Node.{last_before, kept_from}
 use Rattle.datanode.specs.Cut.{IsMap, IsArea, IsInside, lies_in, carried, cut}
 
 -- the cut of a cut is the cut of the inner rectangle
@@ -45,3 +46,7 @@ HalvesByTime = (r past now : Area) (instant : ℕ) (m : List Event) → IsArea r
 -- a point of the rectangle shows in the cut what it shows in the map
 abbrev pub ShownByCut : Type 0
 ShownByCut = (r : Area) (m : List Event) (key : List ℕ) (instant : ℕ) → IsMap m → IsTrue (has_point r key instant) → row_until (cut r m) key instant ≡ row_until m key instant
+
+-- a key's last event before the rectangle's end is in the cut the map's, unless that is a deletion from before its start
+abbrev pub LastOfCut : Type 0
+LastOfCut = (r : Area) (m : List Event) (key : List ℕ) → IsMap m → IsArea r → IsTrue (is_key_in r.keys key) → last_before r.time.to (cut r m) key ≡ kept_from r.time.from (last_before r.time.to m key)
