@@ -1,5 +1,5 @@
 -- From key to key: the events of one key stand together, and of them one alone may stand at an instant.
-use Rattle.std.proofs.Common.{◌≡◌, ℕ, ◌-◌, ◌<◌, ◌≤◌, Bool, true, false, ◌&&◌, ◌||◌, List, [], ◌∷◌, ◌++◌, Option, Some, None, refl, sym, ap, subst, ◌∙◌, arith, zero, suc, length, get_or, take, drop, cond, nat_le, nat_lt, not, is_some, filter, All, min, length-take, get_or-take, append_assoc}
+use Rattle.std.proofs.Common.{◌≡◌, ℕ, ◌-◌, ◌<◌, ◌≤◌, Bool, true, false, ◌&&◌, ◌||◌, List, [], ◌∷◌, ◌++◌, refl, sym, ap, subst, ◌∙◌, arith, zero, suc, length, get_or, take, drop, cond, nat_le, nat_lt, not, is_some, filter, min, length-take, get_or-take, append_assoc}
 use Rattle.std.proofs.lemmas.Option.{slice_get-get_or}
 use Rattle.std.specs.Ordering.{nat_cmp, ordering_then, match_ordering, is_lt}
 use Rattle.std.specs.declared.cmp.Ordering.{Ordering}
@@ -10,13 +10,13 @@ use Rattle.std.proofs.lemmas.Bool.Decides.{nat_tests}
 use Rattle.std.proofs.lemmas.List.Elements.{All-nil, All-cons, All-weaker, filter-append, recursion_from_All}
 use Rattle.std.proofs.lemmas.List.Folds.{list_any-append}
 use Rattle.rows.specs.declared.events.Event.{Event}
-use Rattle.rows.specs.Events.{bytes_cmp, is_bytes, event_cmp}
+use Rattle.rows.specs.Events.{bytes_cmp, event_cmp}
 use Rattle.keyrange.specs.Points.{is_below}
 use Rattle.eventlist.specs.Listing.{overtakes, stands_at, is_of_table, standing}
 use Rattle.eventlist.specs.Places.{AreFirst, is_until, is_overtaken, is_up_to}
 use Rattle.eventlist.specs.Runs.{first_key, AreOfKey, AreAbove}
 use Rattle.eventlist.proofs.Ordered.{bytes_tie, bytes_exact, is_lower, sorted_head, sorted_tail, within_tail, within_rest, within_head}
-use Rattle.eventlist.proofs.Overtaken.{Overtakes, overtakes_is, is_overtakes, never, not_earlier, stands_before, stands_is}
+use Rattle.eventlist.proofs.Overtaken.{overtakes_is, is_overtakes, never, not_earlier, stands_before, stands_is}
 use Rattle.eventlist.proofs.Ranges.{not_above, not_above_parts, none_pass}
 use Rattle.eventlist.proofs.Parts.{first_same, same_filter, dropped_fail}
 

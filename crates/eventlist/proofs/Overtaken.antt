@@ -1,14 +1,12 @@
 -- Of events in order the next one shows whether an event's row stands.
-use Rattle.std.proofs.Common.{◌≡◌, ℕ, ◌+◌, ◌<◌, ◌≤◌, Bool, true, false, ◌&&◌, ◌||◌, List, [], ◌∷◌, ◌++◌, Option, Some, refl, sym, ap, subst, ◌∙◌, arith, zero, suc, length, get_or, drop, nat_le, nat_lt, not, is_some, filter, if◌then◌else◌, append_assoc}
+use Rattle.std.proofs.Common.{◌≡◌, ℕ, ◌+◌, ◌<◌, ◌≤◌, Bool, true, false, ◌&&◌, ◌||◌, List, [], ◌∷◌, Option, Some, refl, sym, ap, subst, ◌∙◌, arith, zero, suc, nat_le, nat_lt, not, is_some}
 use Rattle.std.specs.declared.cmp.Ordering.TheVariants.{Less}
 use Rattle.std.specs.List.{AllByRecursion, slice_get, list_any}
 use Rattle.std.specs.List.Sorted.{IsStrictlySortedBy}
 use Rattle.std.proofs.lemmas.Bool.Decides.{nat_tests}
-use Rattle.std.proofs.lemmas.Option.{slice_get_read}
-use Rattle.std.proofs.Math.Seq.{drop-cons}
 use Rattle.rows.specs.declared.events.Event.{Event}
 use Rattle.rows.specs.Events.{bytes_cmp, is_bytes, event_cmp}
-use Rattle.eventlist.specs.Listing.{overtakes, stands_at, standing, is_of_table}
+use Rattle.eventlist.specs.Listing.{overtakes, stands_at}
 use Rattle.eventlist.specs.Places.{is_overtaken}
 use Rattle.eventlist.proofs.Ordered.{same_bytes, is_own, is_lower, bytes_total, bytes_tie, sorted_head, sorted_tail}
 

@@ -1,5 +1,5 @@
 -- Places in a list of events, which are in order.
-use Rattle.std.specs.Prelude.{◌≡◌, ℕ, List, [], ◌∷◌, Bool, true, false, ◌&&◌, not, nat_le, nat_lt, Option, Some, None, is_some, if◌then◌else◌}
+use Rattle.std.specs.Prelude.{◌≡◌, ℕ, List, [], ◌∷◌, Bool, true, false, not, nat_le, nat_lt, Option, Some, None, if◌then◌else◌}
 use Rattle.std.specs.Ordering.{match_ordering, is_lt, is_eq}
 use Rattle.std.specs.List.Sorted.{IsPartitionPoint}
 use Rattle.rows.specs.declared.events.Event.{Event}

@@ -1,5 +1,5 @@
 -- The events of one key stand together.
-use Rattle.std.specs.Prelude.{◌≡◌, ℕ, List, [], ◌∷◌, Bool, true, ◌<◌, nat_lt, All}
+use Rattle.std.specs.Prelude.{◌≡◌, ℕ, List, [], ◌∷◌, Bool, true, nat_lt, All}
 use Rattle.rows.specs.declared.events.Event.{Event}
 use Rattle.keyrange.specs.Points.{is_below}
 

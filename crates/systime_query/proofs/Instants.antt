@@ -1,13 +1,13 @@
 -- At one instant a key shows one version at most, and a table what its own events show.
-use Rattle.std.proofs.Common.{◌≡◌, ℕ, ◌-◌, ◌<◌, ◌≤◌, Bool, true, false, ◌&&◌, List, [], ◌∷◌, ◌++◌, Option, Some, None, refl, sym, ap, subst, ◌∙◌, arith, zero, suc, length, get_or, cond, nat_le, nat_lt, is_some, filter, All, append_assoc, Result, Ok, Err, IfOk, ◌==◌}
-use Rattle.std.specs.Ordering.{nat_cmp, ordering_then, is_lt, is_eq}
+use Rattle.std.proofs.Common.{◌≡◌, ℕ, ◌-◌, ◌≤◌, Bool, true, false, ◌&&◌, List, [], ◌∷◌, ◌++◌, Option, Some, None, refl, sym, ap, subst, ◌∙◌, arith, zero, suc, length, get_or, cond, nat_le, nat_lt, filter, append_assoc, Result, Ok, Err, IfOk}
+use Rattle.std.specs.Ordering.{is_lt, is_eq}
 use Rattle.std.specs.declared.cmp.Ordering.{Ordering}
 use Rattle.std.specs.declared.cmp.Ordering.TheVariants.{Less, Equal, Greater}
 use Rattle.std.specs.List.{AllByRecursion, AllWithin, slice_get, cons_option}
 use Rattle.std.specs.List.Sorted.{IsStrictlySortedBy}
 use Rattle.std.specs.Option.{option_to_list}
 use Rattle.std.proofs.lemmas.Bool.Decides.{nat_tests}
-use Rattle.std.proofs.lemmas.List.Elements.{recursion_from_All, All-filter}
+use Rattle.std.proofs.lemmas.List.Elements.{recursion_from_All}
 use Rattle.rows.specs.declared.events.Event.{Event}
 use Rattle.rows.specs.declared.tables.Table.{Table}
 use Rattle.rows.specs.declared.queries.Form.{Form}
@@ -17,7 +17,7 @@ use Rattle.rows.specs.declared.queries.Shown.{Shown}
 use Rattle.rows.specs.declared.refusals.Refusal.{Refusal}
 use Rattle.rows.specs.Log.{Row}
 use Rattle.rows.specs.Versions.{selects, ends_after, takes}
-use Rattle.rows.specs.KeyReading.{key_from, whole_key, parts_from}
+use Rattle.rows.specs.KeyReading.{whole_key, parts_from}
 use Rattle.rows.specs.Events.{bytes_cmp, is_bytes, event_cmp}
 use Rattle.keyrange.specs.Points.{is_below}
 use Rattle.eventlist.specs.Listing.{is_of_table}

@@ -1,5 +1,5 @@
 -- What events in order show is what the versions of the changes show.
-use Rattle.std.proofs.Common.{◌≡◌, ℕ, ◌<◌, List, [], ◌∷◌, Option, Some, None, Bool, true, false, T, refl, sym, ap, ◌∙◌, subst, cond, map, filter, nat_lt, nat_le, ◌&&◌, ◌==◌, not, All, arith, ◌≤◌, Result, Ok, Err, IfOk}
+use Rattle.std.proofs.Common.{◌≡◌, ℕ, ◌<◌, List, [], ◌∷◌, Option, Some, None, Bool, true, false, T, refl, sym, ap, ◌∙◌, subst, cond, map, filter, nat_lt, ◌&&◌, ◌==◌, All, arith, ◌≤◌, Result, Ok, Err, IfOk}
 use Rattle.std.proofs.lemmas.Bool.Decides.{nat_tests}
 use Rattle.std.proofs.lemmas.List.Elements.{All-head, All-tail, All-filter, recursion_from_All}
 use Rattle.std.specs.List.{filter_map, cons_option, flat_map, list_all}
@@ -30,8 +30,6 @@ use Rattle.rows.proofs.Sorted.{sorted_from}
 use Rattle.rows.proofs.KeyReads.{key_back}
 use Rattle.rows.proofs.EventKeys.{same_key}
 use Rattle.rows.specs.declared.refusals.Refusal.{Refusal}
-use Rattle.keyrange.specs.declared.ranges.KeyRange.{KeyRange}
-use Rattle.keyrange.specs.Points.{is_below}
 use Rattle.eventlist.specs.Listing.{is_of_table}
 use Rattle.staging.specs.Committed.{Committed, Holds}
 use Rattle.systime_query.proofs.Instants.{of_table_alone, now_shown}

@@ -1,4 +1,4 @@
-use Rattle.std.proofs.Common.{◌≡◌, ◌∙◌, ◌++◌, [], ◌∷◌, sym, ap, filter}
+use Rattle.std.proofs.Common.{◌∙◌, ◌++◌, [], ◌∷◌, sym, ap, filter}
 use Rattle.std.proofs.lemmas.List.{append-nil}
 use Rattle.eventlist.specs.Listing.{stands_at}
 use Rattle.eventlist.specs.Runs.{first_key}

@@ -1,4 +1,4 @@
-use Rattle.std.proofs.Common.{◌≡◌, ◌∙◌, List, ℕ, ap, subst, arith}
+use Rattle.std.proofs.Common.{◌∙◌, List, ℕ, ap, subst, arith}
 use Rattle.rows.specs.declared.events.Event.{Event}
 use Rattle.eventlist.specs.Places.{AreFirst, is_until}
 use Rattle.eventlist.specs.Runs.{first_key}

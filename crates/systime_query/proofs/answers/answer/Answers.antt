@@ -1,5 +1,4 @@
-use Rattle.std.proofs.Common.{◌≡◌, ◌≤◌, All, IfOk, sym, subst}
-use Rattle.std.specs.List.Sorted.{IsStrictlySortedBy}
+use Rattle.std.proofs.Common.{◌≡◌, IfOk, sym, subst}
 use Rattle.rows.specs.declared.queries.Form.{Form}
 use Rattle.systime_query.specs.Selected.{selected_by}
 use Rattle.systime_query.proofs.Versioned.{answered, now_answered}

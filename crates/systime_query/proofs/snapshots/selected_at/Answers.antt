@@ -1,4 +1,4 @@
-use Rattle.std.proofs.Common.{◌≡◌, ◌∙◌, ◌++◌, [], ◌∷◌, sym, ap}
+use Rattle.std.proofs.Common.{◌∙◌, [], ◌∷◌, sym, ap}
 use Rattle.std.specs.Option.{option_to_list}
 use Rattle.std.proofs.lemmas.List.{append-nil}
 use Rattle.rows.specs.declared.queries.Form.TheVariants.{AsOf}

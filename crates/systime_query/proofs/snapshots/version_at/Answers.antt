@@ -1,7 +1,6 @@
-use Rattle.std.proofs.Common.{◌≡◌, ◌∙◌, Option, ℕ, sym, ap, subst, IfOk, option_copied}
+use Rattle.std.proofs.Common.{◌≡◌, ◌∙◌, sym, ap, option_copied}
 use Rattle.std.specs.List.{slice_get}
 use Rattle.std.specs.Option.{option_to_list}
-use Rattle.rows.specs.declared.events.Event.{Event}
 use Rattle.rows.specs.declared.queries.Form.TheVariants.{AsOf}
 use Rattle.eventlist.proofs.Ordered.{looked}
 use Rattle.systime_query.specs.Selected.{instant_of, shown_of, selected_by}
