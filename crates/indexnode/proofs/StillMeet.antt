@@ -1,11 +1,11 @@
 -- The references of a half have points of it, as they had points of the whole.
-use Rattle.std.proofs.Common.{◌≡◌, ℕ, ◌<◌, ◌≤◌, List, [], ◌∷◌, ◌++◌, Bool, true, false, max, Option, Some, None, refl, sym, ap, subst, ◌∙◌, arith}
-use Rattle.std.specs.Prelude.{IsTrue, ◌&&◌, not, nat_lt, nat_le}
+use Rattle.std.proofs.Common.{◌≡◌, ℕ, ◌<◌, ◌≤◌, List, [], ◌∷◌, ◌++◌, Bool, true, false, max, Option, Some, None, refl, sym, subst, ◌∙◌, arith}
+use Rattle.std.specs.Prelude.{IsTrue, not, nat_lt, nat_le}
 use Rattle.std.specs.List.{filter, All}
 use Rattle.std.proofs.lemmas.Bool.Decides.{nat_tests}
 use Rattle.std.proofs.lemmas.List.Elements.{All-nil, All-cons, All-append}
 use Rattle.rows.specs.Commits.{last_instant}
-use Rattle.keyrange.specs.Points.{Area, has_point, is_area, is_key_in, is_time_in, is_below, is_before_end, is_early, Common}
+use Rattle.keyrange.specs.Points.{Area, is_area, is_key_in, is_time_in, is_below, is_before_end, is_early, Common}
 use Rattle.keyrange.specs.Cuts.{is_key_inside, is_time_inside, PartsKeys, PartsTime}
 use Rattle.keyrange.proofs.Meetings.{both, first, second, common_point}
 use Rattle.keyrange.proofs.Orders.{not_itself, not_back, above}
@@ -53,16 +53,22 @@ module _ (area one other : Area) (cut : List ℕ) (parts : PartsKeys area one ot
     where
       low_r : is_below c.key r.keys.lo ≡ false
       low_r = denied _ (first _ _ (first _ _ c.in_first))
+
       low_area : is_below c.key area.keys.lo ≡ false
       low_area = denied _ (first _ _ (first _ _ c.in_second))
+
       high_r : is_before_end c.key r.keys.hi ≡ true
       high_r = second (not (is_below c.key r.keys.lo)) _ (first _ _ c.in_first)
+
       high_area : is_before_end c.key area.keys.hi ≡ true
       high_area = second (not (is_below c.key area.keys.lo)) _ (first _ _ c.in_second)
+
       time_r : is_time_in r.time c.instant ≡ true
       time_r = second (is_key_in r.keys c.key) _ c.in_first
+
       time_area : is_time_in area.time c.instant ≡ true
       time_area = second (is_key_in area.keys c.key) _ c.in_second
+
       at : (key : List ℕ) → is_key_in r.keys key ≡ true → is_key_in area.keys key ≡ true → is_below key cut ≡ true → Common r one
       at key in_r in_area low = record {
         key = key;
@@ -72,9 +78,11 @@ module _ (area one other : Area) (cut : List ℕ) (parts : PartsKeys area one ot
         in_first = both _ _ in_r time_r;
         in_second = parts.below key c.instant ∙ both _ _ (both _ _ in_area time_area) low;
       }
+
       higher : (t : Bool) → is_below r.keys.lo area.keys.lo ≡ t → Common r one
       higher true e = at area.keys.lo (both _ _ (negated _ (not_back r.keys.lo area.keys.lo e)) (end_above c.key area.keys.lo r.keys.hi low_area high_r)) (both _ _ (negated _ (not_itself area.keys.lo)) (end_above c.key area.keys.lo area.keys.hi low_area high_area)) (first _ _ inside)
       higher false e = at r.keys.lo (both _ _ (negated _ (not_itself r.keys.lo)) (end_above c.key r.keys.lo r.keys.hi low_r high_r)) (both _ _ (negated _ e) (end_above c.key r.keys.lo area.keys.hi low_r high_area)) reaches
+
       by : (t : Bool) → is_below c.key cut ≡ t → Common r one
       by true e = at c.key (first _ _ c.in_first) (first _ _ c.in_second) e
       by false e = higher (is_below r.keys.lo area.keys.lo) refl
@@ -91,6 +99,7 @@ module _ (area one other : Area) (cut : List ℕ) (parts : PartsKeys area one ot
         in_first = both _ _ in_r (second (is_key_in r.keys c.key) _ c.in_first);
         in_second = parts.above key c.instant ∙ both _ _ (both _ _ in_area (second (is_key_in area.keys c.key) _ c.in_second)) (negated _ high);
       }
+
       by : (t : Bool) → is_below c.key cut ≡ t → Common r other
       by false e = at c.key (first _ _ c.in_first) (first _ _ c.in_second) e
       by true e =
@@ -109,12 +118,15 @@ module _ (area one other : Area) (cut : ℕ) (parts : PartsTime area one other c
         is_last = let last = c.is_last in omega arith;
         in_first = both _ _ (first _ _ c.in_first) (both _ _ (up_to r.time.from instant from_r) (early_before instant c.instant r.time.to le (second (nat_le r.time.from c.instant) _ (second (is_key_in r.keys c.key) _ c.in_first))));
         in_second = parts.before c.key instant
-          ∙ both _ _ (both _ _ (first _ _ c.in_second) (both _ _ (up_to area.time.from instant from_area) (early_before instant c.instant area.time.to le (second (nat_le area.time.from c.instant) _ (second (is_key_in area.keys c.key) _ c.in_second))))) low;
+            ∙ both _ _ (both _ _ (first _ _ c.in_second) (both _ _ (up_to area.time.from instant from_area) (early_before instant c.instant area.time.to le (second (nat_le area.time.from c.instant) _ (second (is_key_in area.keys c.key) _ c.in_second))))) low;
       }
+
       from_r_le : r.time.from ≤ c.instant
       from_r_le = at_most _ _ (first _ _ (second (is_key_in r.keys c.key) _ c.in_first))
+
       from_area_le : area.time.from ≤ c.instant
       from_area_le = at_most _ _ (first _ _ (second (is_key_in area.keys c.key) _ c.in_second))
+
       by : (t : Bool) → nat_lt c.instant cut ≡ t → Common r one
       by true e = at c.instant c.is_first (omega arith) from_r_le from_area_le e
       by false e =
@@ -130,6 +142,7 @@ module _ (area one other : Area) (cut : ℕ) (parts : PartsTime area one other c
     where
       from_r_le : r.time.from ≤ c.instant
       from_r_le = at_most _ _ (first _ _ (second (is_key_in r.keys c.key) _ c.in_first))
+
       by : (t : Bool) → nat_lt c.instant cut ≡ t → Common r other
       by false e = record {
         key = c.key;

@@ -25,5 +25,5 @@ returns-clause-by_time g c = λ area cut parts.
 pub returns-clause-meet : goal.returns-clause-meet
 returns-clause-meet g c = λ outer one other.
     let items : c.push-2.new.self.items ≡ c.args.first ∷ c.args.second ∷ [] =
-      c.in_ok-push-2.ensures.items ∙ ap (λ l. l ++ c.args.second ∷ []) (c.in_ok-push.ensures.items ∙ ap (λ l. l ++ c.args.first ∷ []) c.in_ok-references.ensures.items) in
+    c.in_ok-push-2.ensures.items ∙ ap (λ l. l ++ c.args.second ∷ []) (c.in_ok-push.ensures.items ∙ ap (λ l. l ++ c.args.first ∷ []) c.in_ok-references.ensures.items) in
     both_meet outer c.args.first c.args.second c.push-2.new.self.items c.keys-first.ensures.area c.keys-second.ensures.area one other items

@@ -34,8 +34,9 @@ pub returns-clause-meet : goal.returns-clause-meet
 returns-clause-meet g c = λ meeting.
     let area = c.args.self.now.rect in
     let key = c.args.key.now in
-    let parts : PartsKeys area c.in-Some.below c.in-Some.above key = subst (λ h. IfSome h (λ p. PartsKeys area p.0 p.1 key)) c.in-Some.is c.in_ok-below.ensures.parts in
-    ( subst (λ a. AllMeet a c.in_ok-half.field-0.references.items) (sym c.in_ok-half.ensures.rect)
-      (taken_meet area c.in-Some.below (reaches_below key) _ _ c.in_ok-half.ensures.references (below_meets area c.in-Some.below c.in-Some.above key parts c.requires.inside) meeting)
-    , subst (λ a. AllMeet a c.in_ok-half-2.field-0.references.items) (sym c.in_ok-half-2.ensures.rect)
-      (taken_meet area c.in-Some.above (reaches_up key) _ _ c.in_ok-half-2.ensures.references (above_meets area c.in-Some.below c.in-Some.above key parts c.requires.inside) meeting))
+    let parts : PartsKeys area c.in-Some.below c.in-Some.above key = subst (λ h. IfSome h (λ p. PartsKeys area p.0 p.1 key)) c.in-Some.is c.in_ok-below.ensures.parts in (
+      subst (λ a. AllMeet a c.in_ok-half.field-0.references.items) (sym c.in_ok-half.ensures.rect)
+          (taken_meet area c.in-Some.below (reaches_below key) _ _ c.in_ok-half.ensures.references (below_meets area c.in-Some.below c.in-Some.above key parts c.requires.inside) meeting),
+      subst (λ a. AllMeet a c.in_ok-half-2.field-0.references.items) (sym c.in_ok-half-2.ensures.rect)
+          (taken_meet area c.in-Some.above (reaches_up key) _ _ c.in_ok-half-2.ensures.references (above_meets area c.in-Some.below c.in-Some.above key parts c.requires.inside) meeting),
+    )

@@ -34,8 +34,9 @@ pub returns-clause-meet : goal.returns-clause-meet
 returns-clause-meet g c = λ meeting.
     let area = c.args.self.now.rect in
     let instant = c.args.instant in
-    let parts : PartsTime area c.in-Some.past c.in-Some.now instant = subst (λ h. IfSome h (λ p. PartsTime area p.0 p.1 instant)) c.in-Some.is c.in_ok-past.ensures.parts in
-    ( subst (λ a. AllMeet a c.in_ok-half.field-0.references.items) (sym c.in_ok-half.ensures.rect)
-      (taken_meet area c.in-Some.past (starts_before instant) _ _ c.in_ok-half.ensures.references (past_meets area c.in-Some.past c.in-Some.now instant parts c.requires.inside (starts_at_1 area c.keys-keys.ensures.area)) meeting)
-    , subst (λ a. AllMeet a c.in_ok-half-2.field-0.references.items) (sym c.in_ok-half-2.ensures.rect)
-      (taken_meet area c.in-Some.now (ends_after instant) _ _ c.in_ok-half-2.ensures.references (now_meets area c.in-Some.past c.in-Some.now instant parts c.requires.inside (starts_at_1 area c.keys-keys.ensures.area)) meeting))
+    let parts : PartsTime area c.in-Some.past c.in-Some.now instant = subst (λ h. IfSome h (λ p. PartsTime area p.0 p.1 instant)) c.in-Some.is c.in_ok-past.ensures.parts in (
+      subst (λ a. AllMeet a c.in_ok-half.field-0.references.items) (sym c.in_ok-half.ensures.rect)
+          (taken_meet area c.in-Some.past (starts_before instant) _ _ c.in_ok-half.ensures.references (past_meets area c.in-Some.past c.in-Some.now instant parts c.requires.inside (starts_at_1 area c.keys-keys.ensures.area)) meeting),
+      subst (λ a. AllMeet a c.in_ok-half-2.field-0.references.items) (sym c.in_ok-half-2.ensures.rect)
+          (taken_meet area c.in-Some.now (ends_after instant) _ _ c.in_ok-half-2.ensures.references (now_meets area c.in-Some.past c.in-Some.now instant parts c.requires.inside (starts_at_1 area c.keys-keys.ensures.area)) meeting),
+    )
