@@ -49,11 +49,11 @@ module _ {C : Type 0} where
   as_before true n x ys one none = omega (arith, one refl)
   as_before false n x ys one none = omega (arith, none refl)
 
-  fronts : (P : Reference C → Type 0) (xs ys : List (Reference C)) → All P (xs ++ ys) → All P xs
+  pub fronts : (P : Reference C → Type 0) (xs ys : List (Reference C)) → All P (xs ++ ys) → All P xs
   fronts P [] ys all = All-nil P
   fronts P (x ∷ xs) ys all = All-cons P x xs (All-head P x (xs ++ ys) all) (fronts P xs ys (All-tail P x (xs ++ ys) all))
 
-  backs : (P : Reference C → Type 0) (xs : List (Reference C)) (y : Reference C) (ys : List (Reference C)) → All P (xs ++ y ∷ ys) → All P ys
+  pub backs : (P : Reference C → Type 0) (xs : List (Reference C)) (y : Reference C) (ys : List (Reference C)) → All P (xs ++ y ∷ ys) → All P ys
   backs P [] y ys all = All-tail P y ys all
   backs P (x ∷ xs) y ys all = backs P xs y ys (All-tail P x (xs ++ y ∷ ys) all)
 

@@ -7,4 +7,5 @@ pub mod Meetings
 pub mod Middle
 pub mod OnlyCurrent
 pub mod Pairs
+pub mod StillMeet
 pub mod Tilings

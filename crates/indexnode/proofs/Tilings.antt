@@ -45,7 +45,7 @@ half_tiles area half takes references taken inside holding are tiled = record {
       ∙ tiled.once key instant (inside key instant h);
 }
 
-end_above : (k cut : List ℕ) (end : Option (List ℕ)) → is_below k cut ≡ false → is_before_end k end ≡ true → is_before_end cut end ≡ true
+pub end_above : (k cut : List ℕ) (end : Option (List ℕ)) → is_below k cut ≡ false → is_before_end k end ≡ true → is_before_end cut end ≡ true
 end_above k cut None low high = refl
 end_above k cut (Some end) low high = above k cut end low high
 

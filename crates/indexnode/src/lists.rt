@@ -3,7 +3,7 @@ ghost use Rattle.std.specs.Prelude.{◌≡◌, ℕ, List, [], ◌∷◌, IfOk, A
 ghost use Rattle.rows.specs.Memory.{OnlyMemory};
 ghost use Rattle.keyrange.specs.Points.{Area};
 ghost use Rattle.keyrange.specs.Cuts.{PartsKeys, PartsTime};
-ghost use Rattle.indexnode.specs.Tiling.{Tiles, LiesIn};
+ghost use Rattle.indexnode.specs.Tiling.{Tiles, LiesIn, AllMeet};
 
 use crate::references::Reference;
 use rows::Mem;
@@ -14,8 +14,10 @@ pub fn single<C: Drop>(alloc: Global, reference: Reference<C>) -> Mem<Vec<Refere
     ensures are { IfOk result (λ v. v.items ≡ reference ∷ []) }
     ensures tiles { IfOk result (λ v. Tiles reference.rect v.items) }
     ensures inside { IfOk result (λ v. All (λ r. LiesIn r.rect reference.rect) v.items) }
+    ensures meet { (outer : Area) → LiesIn reference.rect outer → IfOk result (λ v. AllMeet outer v.items) }
     ensures err { OnlyMemory result }
 {
+    let _keys = reference.rect.keys();
     let mut references = Vec::new(alloc);
     references.push(reference)?;
     Ok(references)
@@ -30,8 +32,11 @@ pub fn pair<C: Drop>(
     ensures are { IfOk result (λ v. v.items ≡ first ∷ second ∷ []) }
     ensures by_key { (area : Area) (cut : List ℕ) → PartsKeys area first.rect second.rect cut → IfOk result (λ v. Tiles area v.items × All (λ r. LiesIn r.rect area) v.items) }
     ensures by_time { (area : Area) (cut : ℕ) → PartsTime area first.rect second.rect cut → IfOk result (λ v. Tiles area v.items × All (λ r. LiesIn r.rect area) v.items) }
+    ensures meet { (outer : Area) → LiesIn first.rect outer → LiesIn second.rect outer → IfOk result (λ v. AllMeet outer v.items) }
     ensures err { OnlyMemory result }
 {
+    let _first = first.rect.keys();
+    let _second = second.rect.keys();
     let mut references = Vec::with_capacity(alloc, 2)?;
     references.push(first)?;
     references.push(second)?;

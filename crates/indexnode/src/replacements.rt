@@ -1,7 +1,7 @@
 //! References that take the place of another.
 ghost use Rattle.std.specs.Prelude.{◌≡◌, ◌≢◌, ◌↔◌, IfOk, IsTrue, IsFalse, OnErr, IsSome, All, MatchOption};
 ghost use Rattle.rows.specs.Memory.{OnlyMemory};
-ghost use Rattle.indexnode.specs.Tiling.{Tiles, LiesIn};
+ghost use Rattle.indexnode.specs.Tiling.{Tiles, LiesIn, AllMeet};
 ghost use Rattle.indexnode.specs.Halves.{AreCurrentIn};
 ghost use Rattle.indexnode.specs.Choices.{HasNoCurrent};
 ghost use Rattle.indexnode.specs.Replacing.{HasRect, Replaced, IsFirstPlace};
@@ -22,6 +22,7 @@ impl<C: Drop> IndexNode<C> {
         ensures rect { self.new.rect ≡ self.old.rect }
         ensures tiled { Tiles self.old.rect self.old.references.items → Tiles self.new.rect self.new.references.items }
         ensures current { AreCurrentIn self.old.rect self.old.references.items → (IsSome rect.now.time.to → HasNoCurrent given.items) → AreCurrentIn self.new.rect self.new.references.items }
+        ensures meet { AllMeet self.old.rect self.old.references.items → AllMeet self.old.rect given.items → AllMeet self.new.rect self.new.references.items }
         ensures err { OnErr result (self.new.references.items ≡ self.old.references.items) }
         ensures memory { OnlyMemory result }
     {

@@ -3,7 +3,7 @@ ghost use Rattle.std.specs.Prelude.{◌≡◌, IfOk, IsTrue, Some, filter};
 ghost use Rattle.rows.specs.Memory.{OnlyMemory};
 ghost use Rattle.keyrange.specs.Points.{is_below};
 ghost use Rattle.keyrange.specs.Cuts.{is_key_inside, is_time_inside, halves_by_key, halves_by_time};
-ghost use Rattle.indexnode.specs.Tiling.{Tiles};
+ghost use Rattle.indexnode.specs.Tiling.{Tiles, AllMeet};
 ghost use Rattle.indexnode.specs.Halves.{takes, reaches_below, reaches_up, starts_before, ends_after, IsUncrossed, IsBeforeCurrent, AreCurrentIn};
 
 use crate::nodes::IndexNode;
@@ -29,6 +29,7 @@ impl<C: Share + Drop> IndexNode<C> {
         ensures below { IfOk result (λ h. h.0.references.items ≡ filter (λ r. reaches_below key.now r.rect) self.now.references.items) }
         ensures above { IfOk result (λ h. h.1.references.items ≡ filter (λ r. reaches_up key.now r.rect) self.now.references.items) }
         ensures tiled { Tiles self.now.rect self.now.references.items → IfOk result (λ h. Tiles h.0.rect h.0.references.items × Tiles h.1.rect h.1.references.items) }
+        ensures meet { AllMeet self.now.rect self.now.references.items → IfOk result (λ h. AllMeet h.0.rect h.0.references.items × AllMeet h.1.rect h.1.references.items) }
         ensures current { AreCurrentIn self.now.rect self.now.references.items → IfOk result (λ h. AreCurrentIn h.0.rect h.0.references.items × AreCurrentIn h.1.rect h.1.references.items) }
         ensures err { OnlyMemory result }
     {
@@ -49,9 +50,11 @@ impl<C: Share + Drop> IndexNode<C> {
         ensures past { IfOk result (λ h. h.0.references.items ≡ filter (λ r. starts_before instant r.rect) self.now.references.items) }
         ensures now { IfOk result (λ h. h.1.references.items ≡ filter (λ r. ends_after instant r.rect) self.now.references.items) }
         ensures tiled { Tiles self.now.rect self.now.references.items → IfOk result (λ h. Tiles h.0.rect h.0.references.items × Tiles h.1.rect h.1.references.items) }
+        ensures meet { AllMeet self.now.rect self.now.references.items → IfOk result (λ h. AllMeet h.0.rect h.0.references.items × AllMeet h.1.rect h.1.references.items) }
         ensures current { AreCurrentIn self.now.rect self.now.references.items → IfOk result (λ h. AreCurrentIn h.0.rect h.0.references.items × AreCurrentIn h.1.rect h.1.references.items) }
         ensures err { OnlyMemory result }
     {
+        let _keys = self.rect.keys();
         let Some((past, now)) = self.rect.cut_time(instant)? else {
             unreachable!()
         };

@@ -1,4 +1,5 @@
 use Rattle.std.proofs.Common.{◌++◌, ◌∷◌, [], ap, ◌∙◌}
+use Rattle.indexnode.proofs.StillMeet.{one_meets}
 use Rattle.indexnode.proofs.Pairs.{one_tiles, one_inside}
 use Rattle.indexnode.proofs.lists.single.Goals as goal
 
@@ -7,3 +8,6 @@ returns-clause-tiles g c = one_tiles c.args.reference c.push.new.self.items (c.i
 
 pub returns-clause-inside : goal.returns-clause-inside
 returns-clause-inside g c = one_inside c.args.reference c.push.new.self.items (c.in_ok-push.ensures.items ∙ ap (λ l. l ++ c.args.reference ∷ []) c.new-references.ensures.items)
+
+pub returns-clause-meet : goal.returns-clause-meet
+returns-clause-meet g c = λ outer lies. one_meets outer c.args.reference c.push.new.self.items c.keys-keys.ensures.area lies (c.in_ok-push.ensures.items ∙ ap (λ l. l ++ c.args.reference ∷ []) c.new-references.ensures.items)

@@ -4,6 +4,7 @@ use Rattle.std.proofs.lemmas.List.{map-id}
 use Rattle.std.proofs.lemmas.Iterator.{items_from_drains}
 use Rattle.std.proofs.lemmas.Iterator.Adapters.{YieldsList-from_vec}
 use Rattle.indexnode.specs.Replacing.{IsFirstPlace}
+use Rattle.indexnode.proofs.StillMeet.{still_meet}
 use Rattle.indexnode.proofs.InPlace.{has_rect, lacks_rect, in_its_place, tiling_kept, currents_kept}
 use Rattle.indexnode.proofs.nodes.IndexNode.replace.Goals as goal
 
@@ -27,3 +28,6 @@ returns-clause-tiled g c = tiling_kept c.args.self.now.rect c.args.rect.now c.ar
 
 pub returns-clause-current : goal.returns-clause-current
 returns-clause-current g c = currents_kept c.args.self.now.rect c.args.rect.now c.args.given.items c.args.self.now.references.items c.splice.new.self.items c.requires.tiles c.requires.inside (returns-clause-replaced g c refl)
+
+pub returns-clause-meet : goal.returns-clause-meet
+returns-clause-meet g c = still_meet c.args.self.now.rect c.args.rect.now c.args.given.items c.args.self.now.references.items c.splice.new.self.items (returns-clause-replaced g c refl)
