@@ -8,7 +8,7 @@ ghost use Rattle.eventlist.specs.Listing.{events_in, standing, stands_at};
 ghost use Rattle.eventlist.specs.Places.{AreFirst};
 
 use crate::places::place_of_key;
-use crate::runs::{split_key, standing_of};
+use crate::runs::{split_first_key, standing_of};
 use crate::tables::of_table;
 use keyrange::KeyRange;
 use rows::{Event, Instant, KeyBytes, Mem, SharedEvent};
@@ -90,7 +90,7 @@ fn all_standing(alloc: Global, events: &[SharedEvent], instant: Instant) -> Mem<
     let mut found = Vec::new(alloc);
     let mut rest = events;
     while !rest.is_empty() {
-        let (of_key, behind) = split_key(rest);
+        let (of_key, behind) = split_first_key(rest);
         if let Some(event) = standing_of(of_key, instant) {
             found.push(event.share()?)?;
         }

@@ -13,7 +13,7 @@ use crate::places::{place_after, place_behind_key};
 use rows::{Instant, KeyBytes, SharedEvent};
 
 /// The events of the first one's key, and those behind them. It takes as long as the first are many, in steps that double.
-pub fn split_key(events: &[SharedEvent]) -> (&[SharedEvent], &[SharedEvent])
+pub fn split_first_key(events: &[SharedEvent]) -> (&[SharedEvent], &[SharedEvent])
     requires sorted { IsStrictlySortedBy event_cmp events.now }
     requires some { 0 < length events.now }
     ensures whole { result.0.now ++ result.1.now ≡ events.now }

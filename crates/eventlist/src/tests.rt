@@ -6,7 +6,7 @@ ghost use Rattle.rows.specs.Events.{event_cmp};
 
 use crate::{
     event_since, event_until, events_in, is_of_table, is_overtaken, of_table, place_after,
-    place_behind_key, place_of, place_of_key, place_until, put_event, split_key, standing,
+    place_behind_key, place_of, place_of_key, place_until, put_event, split_first_key, standing,
 };
 use keyrange::KeyRange;
 use rows::{Event, Instant, Key, KeyBytes, Mem, Row, SharedEvent, Value, Values, key_bytes};
@@ -160,7 +160,7 @@ fn a_list_is_split_behind_its_first_key(rt: HostRuntime) -> Result<(), Fail> {
     let alloc = rt.alloc();
     let events = some(alloc)?;
     assert!(rt; !events.is_empty());
-    let (first, others) = split_key(&events);
+    let (first, others) = split_first_key(&events);
     assert_eq!(rt; first.len(), 2);
     assert_eq!(rt; place_until(first, 199), 1);
     assert_eq!(rt; others.len(), 2);

@@ -9,7 +9,7 @@ ghost use Rattle.eventlist.specs.Runs.{first_key, AreOfKey};
 ghost use Rattle.systime_query.specs.Selected.{instant_of, selected_by};
 
 use crate::periods::shown_of;
-use eventlist::{place_until, split_key};
+use eventlist::{place_until, split_first_key};
 use rows::{Form, Instant, Keys, Mem, SharedEvent, Shown, Table};
 use std::alloc::Global;
 
@@ -28,7 +28,7 @@ pub(crate) fn selected_at(
     let mut shown = Vec::new(alloc);
     let mut rest = events;
     while !rest.is_empty() {
-        let (of_key, behind) = split_key(rest);
+        let (of_key, behind) = split_first_key(rest);
         if let Some(version) = version_at(alloc, of_key, instant, table, keys)? {
             shown.push(version)?;
         }

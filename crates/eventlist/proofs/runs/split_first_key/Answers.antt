@@ -7,7 +7,7 @@ use Rattle.eventlist.specs.Runs.{first_key, AreOfKey}
 use Rattle.eventlist.proofs.Ranges.{not_above}
 use Rattle.eventlist.proofs.Parts.{sorted_take, sorted_drop}
 use Rattle.eventlist.proofs.Jumps.{first_is, one_key_is, some_first}
-use Rattle.eventlist.proofs.runs.split_key.Goals as goal
+use Rattle.eventlist.proofs.runs.split_first_key.Goals as goal
 
 parted : (c : goal.After-split_at) → AreFirst (not_above (first_key c.args.events.now)) c.args.events.now c.end_of_key.result
 parted c =
