@@ -20,7 +20,8 @@ use Rattle.statement.specs.History.{History, log, opened, own, reply_in, net, ne
 use Rattle.turns.specs.World.{Session, World}
 use Rattle.turns.specs.Stands.{Stands, session, session_from, session_at}
 use Rattle.turns.specs.Turns.{put, Turn, rollback_turn, commit_turn, end_turn, net_in, was_there}
-use Rattle.turns.proofs.Growth.{log_rises, session_other_commit, last_push}
+use Rattle.statement.proofs.Growth.{log_rises}
+use Rattle.turns.proofs.Growth.{session_other_commit, last_push}
 use Rattle.turns.proofs.Opens.{decided}
 
 pub stands_put : (w : World) (h : History) (step : Step) (i : ℕ) (o : Option Session) (m : Changes) (l : ℕ) → i ≤ 64 → Stands w h

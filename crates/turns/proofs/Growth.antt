@@ -1,18 +1,15 @@
 -- A commit changes nothing of what open transactions saw.
-use Rattle.std.proofs.Common.{◌≡◌, ℕ, ◌+◌, ◌≤◌, ◌<◌, Bool, true, false, List, [], ◌∷◌, ◌++◌, Option, Some, None, refl, ap, subst, ◌∙◌, arith}
-use Rattle.std.specs.Prelude.{Result, Ok, Err, if◌then◌else◌, nat_le, nat_lt, max, ◌&&◌, ◌==◌, is_none}
+use Rattle.std.proofs.Common.{◌≡◌, ℕ, ◌≤◌, ◌<◌, Bool, true, false, List, [], ◌∷◌, ◌++◌, Option, Some, None, refl, ap, subst, ◌∙◌, arith}
+use Rattle.std.specs.Prelude.{Result, Ok, Err, if◌then◌else◌, nat_le, ◌&&◌, ◌==◌, is_none}
 use Rattle.std.proofs.lemmas.Bool.Decides.{nat_tests}
 use Rattle.rows.specs.declared.keys.Transaction.{Transaction}
-use Rattle.rows.specs.declared.keys.Key.{Key}
 use Rattle.rows.specs.declared.refusals.Refusal.{Refusal}
-use Rattle.rows.specs.declared.refusals.Refusal.TheVariants.{Conflict, ClockEnd}
 use Rattle.rows.specs.Tables.{Schema}
-use Rattle.rows.specs.Log.{Log, Net, Changes, replay, last, last_from, upto, state, changes}
-use Rattle.rows.specs.Laws.{IsLog}
-use Rattle.rows.proofs.Now.{Rises-push}
-use Rattle.rows.specs.Commits.{won, outcome, ended, after, last_instant}
+use Rattle.rows.specs.Log.{Log, Net, replay, last, last_from, upto, state, changes}
+use Rattle.rows.specs.Commits.{outcome, ended, after}
 use Rattle.statement.specs.declared.steps.Step.{Step}
 use Rattle.statement.specs.declared.steps.Step.TheVariants.{Begin, Insert, Update, Delete, Select, Commit, Rollback, SplitKey, SplitTime, Migrate}
+use Rattle.statement.proofs.Growth.{outcome_above}
 use Rattle.turns.specs.Stands.{session, session_from}
 use Rattle.statement.specs.History.{History, log, opened, own, ends, begins, net_change_of, rewrite_all, written_by}
 
@@ -30,24 +27,6 @@ last_from_push n (u ∷ log) t = last_from_push u.instant log t
 
 pub last_push : (log : Log) (t : Transaction) → last (log ++ t ∷ []) ≡ t.instant
 last_push log t = last_from_push 0 log t
-
-late : (b : Bool) (n i : ℕ) (e : Refusal) → ◌≡◌ {A = Result (Option ℕ) Refusal} (if b then Err e else Ok (Some n)) (Ok (Some i)) → i ≡ n
-late true n i e h = cc
-late false n i e h = cc
-
-settled : (xs : List (Key × ℕ)) (latest reading i : ℕ) → ◌≡◌ {A = Result (Option ℕ) Refusal} (elim xs [
-  | first ∷ others ↦ Err (Conflict first.0 first.1)
-  | [] ↦ if nat_lt last_instant (max reading (latest + 1)) then Err ClockEnd else Ok (Some (max reading (latest + 1)))
-]) (Ok (Some i)) → latest < i
-settled [] latest reading i e =
-    let is : i ≡ max reading (latest + 1) = late _ _ _ ClockEnd e in
-    omega arith
-settled (x ∷ xs) latest reading i e = cc
-
--- a commit's instant is above the last one
-pub outcome_above : (m : Changes) (latest start : ℕ) (net : Net) (reading i : ℕ) → outcome m latest start net reading ≡ Ok (Some i) → latest < i
-outcome_above m latest start [] reading i e = cc
-outcome_above m latest start (change ∷ net) reading i e = settled (won m start (change ∷ net)) latest reading i e
 
 upto_ended : (log : Log) (net : Net) (end : Result (Option ℕ) Refusal) (s : ℕ) → s ≤ last log → ((i : ℕ) → end ≡ Ok (Some i) → last log < i) → upto (ended log net end) s ≡ upto log s
 upto_ended log net (Ok (Some i)) s below above = upto_later log _ s (let h : last log < i = above i refl in omega arith)
@@ -114,26 +93,3 @@ session_other_commit schema h i j reading other =
         → state (elim o [ None ↦ log schema h | Some first ↦ after (log schema h) (last first) (net_change_of schema (log schema h) (opened schema h i) (own schema h i)) reading ]) (last before) ≡ state (log schema h) (last before)
     by None before below = refl
     by (Some first) before below = state_after (log schema h) (last first) _ reading (last before) below
-
-rises_ended : (log : Log) (net : Net) (end : Result (Option ℕ) Refusal) → ((i : ℕ) → end ≡ Ok (Some i) → last log < i) → IsLog log → IsLog (ended log net end)
-rises_ended log net (Ok (Some i)) above r = Rises-push log 0 (record { instant = i; net = net }) r (above i refl)
-rises_ended log net (Ok None) above r = r
-rises_ended log net (Err e) above r = r
-
--- the instants of what was committed rise
-pub log_rises : (schema : Schema) (h : History) → IsLog (log schema h)
-log_rises schema [] = tt
-log_rises schema (Commit i reading ∷ h) =
-    elim (opened schema h i) as (λ o. IsLog (elim o [ None ↦ log schema h | Some before ↦ after (log schema h) (last before) (net_change_of schema (log schema h) (opened schema h i) (own schema h i)) reading ])) [
-      | None ↦ log_rises schema h
-      | Some before ↦ rises_ended (log schema h) _ _ (λ i e. outcome_above (changes (log schema h)) (last (log schema h)) _ _ reading i e) (log_rises schema h)
-    ]
-log_rises schema (Begin i ∷ h) = log_rises schema h
-log_rises schema (Insert i number rows ∷ h) = log_rises schema h
-log_rises schema (Update i keys sets ∷ h) = log_rises schema h
-log_rises schema (Delete i keys ∷ h) = log_rises schema h
-log_rises schema (Select i form keys ∷ h) = log_rises schema h
-log_rises schema (Rollback i ∷ h) = log_rises schema h
-log_rises schema (SplitKey key ∷ h) = log_rises schema h
-log_rises schema (SplitTime key instant ∷ h) = log_rises schema h
-log_rises schema (Migrate ∷ h) = log_rises schema h

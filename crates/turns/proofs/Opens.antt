@@ -7,7 +7,7 @@ use Rattle.std.proofs.Math.ListN.{length-set}
 use Rattle.rows.specs.Tables.{Schema}
 use Rattle.rows.specs.Log.{Log, last, state}
 use Rattle.turns.proofs.Nows.{rows_now}
-use Rattle.turns.proofs.Growth.{log_rises}
+use Rattle.statement.proofs.Growth.{log_rises}
 use Rattle.statement.specs.declared.steps.Step.{Step}
 use Rattle.statement.specs.declared.steps.Step.TheVariants.{Begin}
 use Rattle.statement.specs.declared.steps.Reply.{Reply}
