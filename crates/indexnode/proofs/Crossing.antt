@@ -13,7 +13,8 @@ use Rattle.indexnode.specs.declared.references.Reference.{Reference}
 use Rattle.indexnode.specs.Tiling.{Tiles}
 use Rattle.indexnode.specs.Halves.{is_current, IsUncrossed, AreCurrentIn}
 use Rattle.indexnode.specs.Choices.{current_keys, AreOrdered}
-use Rattle.indexnode.proofs.Currents.{all_taken, negated}
+use Rattle.indexnode.proofs.Currents.{all_taken}
+use Rattle.indexnode.proofs.Tilings.{negated}
 
 -- ---- what is true of those that pass
 

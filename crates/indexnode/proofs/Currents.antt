@@ -9,6 +9,7 @@ use Rattle.keyrange.specs.Cuts.{is_key_inside, PartsKeys, PartsTime}
 use Rattle.keyrange.proofs.Meetings.{both, first, second}
 use Rattle.keyrange.proofs.Orders.{above}
 use Rattle.indexnode.specs.declared.references.Reference.{Reference}
+use Rattle.indexnode.proofs.Tilings.{denied, negated}
 use Rattle.indexnode.specs.Tiling.{LiesIn}
 use Rattle.indexnode.specs.Halves.{reaches_below, reaches_up, starts_before, ends_after, is_current, IsUncrossed, IsBeforeCurrent, AreCurrentIn}
 
@@ -46,14 +47,6 @@ other_false false b e f = cc
 pub one_false : (a b : Bool) → (a && b) ≡ false → b ≡ true → a ≡ false
 one_false true b e f = sym f ∙ e
 one_false false b e f = refl
-
-pub denied : (a : Bool) → not a ≡ true → a ≡ false
-denied true e = cc
-denied false e = refl
-
-pub negated : (a : Bool) → a ≡ false → not a ≡ true
-negated true e = cc
-negated false e = refl
 
 module _ {C : Type 0} (area one other : Area) (cut : List ℕ) (parts : PartsKeys area one other cut) (references taken : List (Reference C)) (uncrossed : IsUncrossed cut references) (inside : AreCurrentIn area references) where
   pub below_in : taken ≡ filter (λ r. reaches_below cut r.rect) references → AreCurrentIn one taken

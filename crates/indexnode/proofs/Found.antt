@@ -1,44 +1,10 @@
--- The one element that passes a test, found from the front.
-use Rattle.std.proofs.Common.{◌≡◌, ℕ, ◌+◌, ◌-◌, ◌<◌, ◌≤◌, List, [], ◌∷◌, Bool, true, false, ◌++◌, length, take, drop, map, get_or, cond, refl, sym, ap, subst, ◌∙◌, arith, length-drop, append-nil}
+-- One more element of a list that is filtered, from the front.
+use Rattle.std.proofs.Common.{◌≡◌, ℕ, ◌+◌, ◌<◌, ◌≤◌, List, [], ◌∷◌, Bool, true, false, ◌++◌, length, take, map, get_or, cond, sym, ap, subst, ◌∙◌, append-nil}
 use Rattle.std.specs.List.{filter, All}
-use Rattle.std.proofs.lemmas.List.{drop_more, map-append, take_all}
+use Rattle.std.proofs.lemmas.List.{map-append, take_all}
 use Rattle.std.proofs.lemmas.List.Elements.{filter_more, All-more}
 
 module _ {X : Type 0} (p : X → Bool) where
-  pub none : (xs : List X) → length (filter p xs) ≡ 0 → filter p xs ≡ []
-  none xs e = of_length (filter p xs) e
-    where
-      of_length : (ys : List X) → length ys ≡ 0 → ys ≡ []
-      of_length [] e = refl
-      of_length (y ∷ ys) e = absurd (omega arith)
-
-  ahead : (ys : List X) (n i : ℕ) → length ys ≡ n - i → length (filter p ys) ≡ 1 → i < n
-  ahead [] n i e h = absurd (omega arith)
-  ahead (y ∷ ys) n i e h = omega arith
-
-  -- what passes is not yet behind
-  pub is_ahead : (xs : List X) (i : ℕ) → length (filter p (drop i xs)) ≡ 1 → i < length xs
-  is_ahead xs i h = ahead (drop i xs) (length xs) i (length-drop i xs) h
-
-  passed : (b : Bool) (x : X) (ys : List X) → b ≡ false → cond b (x ∷ ys) ys ≡ ys
-  passed true x ys e = cc
-  passed false x ys e = refl
-
-  kept : (b : Bool) (x : X) (ys : List X) → b ≡ true → cond b (x ∷ ys) ys ≡ x ∷ ys
-  kept true x ys e = refl
-  kept false x ys e = cc
-
-  -- past one that does not pass
-  pub past : (xs : List X) (i : ℕ) (d : X) → i < length xs → p (get_or xs i d) ≡ false → filter p (drop i xs) ≡ filter p (drop (i + 1) xs)
-  past xs i d lt e = ap (filter p) (drop_more xs i d lt) ∙ passed (p (get_or xs i d)) (get_or xs i d) (filter p (drop (i + 1) xs)) e
-
-  -- at the one that passes
-  pub at : (xs : List X) (i : ℕ) (d : X) → i < length xs → p (get_or xs i d) ≡ true → length (filter p (drop i xs)) ≡ 1 → filter p (drop i xs) ≡ get_or xs i d ∷ []
-  at xs i d lt e one =
-      let here : filter p (drop i xs) ≡ get_or xs i d ∷ filter p (drop (i + 1) xs) = ap (filter p) (drop_more xs i d lt) ∙ kept (p (get_or xs i d)) (get_or xs i d) (filter p (drop (i + 1) xs)) e in
-      let rest : length (filter p (drop (i + 1) xs)) ≡ 0 = omega (arith, ap length here) in
-      here ∙ ap (λ ys. get_or xs i d ∷ ys) (none (drop (i + 1) xs) rest)
-
   is_at : (xs : List X) (i : ℕ) (r : X) → i < length xs → r ≡ get_or xs i r → filter p (take (i + 1) xs) ≡ filter p (take i xs) ++ cond (p r) (r ∷ []) []
   is_at xs i r lt is = filter_more p xs i r lt ∙ ap (λ x. filter p (take i xs) ++ cond (p x) (x ∷ []) []) (sym is)
 

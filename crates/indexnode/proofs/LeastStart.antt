@@ -10,16 +10,11 @@ use Rattle.keyrange.proofs.Meetings.{first, second}
 use Rattle.indexnode.specs.declared.references.Reference.{Reference}
 use Rattle.indexnode.specs.Halves.{is_current, starts_before}
 use Rattle.indexnode.specs.Choices.{HasNoCurrent, IsLeastStart, current_count}
+use Rattle.indexnode.proofs.Instants.{at_most, is_less, not_less}
 use Rattle.indexnode.proofs.Middle.{all_or_fewer}
 
-below : (x y : ℕ) → nat_lt x y ≡ true → x ≤ y
-below x y e = grind (arith, nat_tests)
-
-above : (x y : ℕ) → nat_lt x y ≡ false → y ≤ x
-above x y e = grind (arith, nat_tests)
-
-at_most : (x y : ℕ) → nat_le x y ≡ true → x ≤ y
-at_most x y e = grind (arith, nat_tests)
+before : (x y : ℕ) → x < y → x ≤ y
+before x y lt = omega arith
 
 never : (x : ℕ) → nat_lt x x ≡ true → ⊥
 never x e = grind (arith, nat_tests)
@@ -44,12 +39,12 @@ module _ {C : Type 0} where
   next_start : (b : Bool) (xs : List (Reference C)) (r : Reference C) (t : ℕ) → nat_lt t r.rect.time.from ≡ b → IsLeastStart xs t → IsTrue (is_current r) → IsLeastStart (xs ++ r ∷ []) (cond b t r.rect.time.from)
   next_start true xs r t e least current = record {
     some = any_before (λ s. IsTrue (is_current s) × (s.rect.time.from ≡ t)) xs r least.some;
-    none_before = All-push (λ s. IsTrue (is_current s) → t ≤ s.rect.time.from) xs r least.none_before (λ _. below t r.rect.time.from e);
+    none_before = All-push (λ s. IsTrue (is_current s) → t ≤ s.rect.time.from) xs r least.none_before (λ _. before t r.rect.time.from (is_less t r.rect.time.from e));
   }
   next_start false xs r t e least current = record {
     some = any_last (λ s. IsTrue (is_current s) × (s.rect.time.from ≡ r.rect.time.from)) xs r (current, refl);
     none_before = All-push (λ s. IsTrue (is_current s) → r.rect.time.from ≤ s.rect.time.from) xs r
-        (All-weaker (λ s. IsTrue (is_current s) → t ≤ s.rect.time.from) (λ s. IsTrue (is_current s) → r.rect.time.from ≤ s.rect.time.from) (λ s later yes. let le = above t r.rect.time.from e in let more = later yes in omega arith) xs least.none_before)
+        (All-weaker (λ s. IsTrue (is_current s) → t ≤ s.rect.time.from) (λ s. IsTrue (is_current s) → r.rect.time.from ≤ s.rect.time.from) (λ s later yes. let le = not_less t r.rect.time.from e in let more = later yes in omega arith) xs least.none_before)
         (λ _. omega arith);
   }
 

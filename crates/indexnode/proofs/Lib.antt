@@ -2,6 +2,7 @@ pub mod Crossing
 pub mod Currents
 pub mod Found
 pub mod InPlace
+pub mod Instants
 pub mod LeastStart
 pub mod Meetings
 pub mod Middle

@@ -19,7 +19,8 @@ use Rattle.indexnode.specs.declared.references.Reference.{Reference}
 use Rattle.indexnode.specs.Tiling.{at_point, Tiles}
 use Rattle.indexnode.specs.Halves.{is_current, reaches_below, reaches_up, IsUncrossed, AreCurrentIn}
 use Rattle.indexnode.specs.Choices.{current_keys, current_count, AreOrdered, AreSmaller}
-use Rattle.indexnode.proofs.Currents.{all_taken, negated, denied, one_false}
+use Rattle.indexnode.proofs.Currents.{all_taken, one_false}
+use Rattle.indexnode.proofs.Tilings.{negated, denied}
 use Rattle.indexnode.proofs.Crossing.{endless, passing}
 
 -- ---- counting what passes

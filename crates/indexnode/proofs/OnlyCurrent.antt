@@ -11,6 +11,7 @@ use Rattle.indexnode.specs.Tiling.{at_point, Tiles, AllMeet}
 use Rattle.indexnode.specs.Halves.{is_current, ends_after}
 use Rattle.indexnode.specs.Choices.{HasNoCurrent, IsLeastStart, current_count, StandsAlone}
 use Rattle.indexnode.proofs.Crossing.{endless, OnlyOne, only_one}
+use Rattle.indexnode.proofs.Instants.{up_to, at_most, is_less, less, early_before}
 use Rattle.indexnode.proofs.Middle.{fewer}
 
 none_pass : {X : Type 0} (p : X → Bool) (xs : List X) → All (λ x. p x ≡ false) xs → length (filter p xs) ≡ 0
@@ -29,16 +30,10 @@ not_one : (a b : Bool) → a ≡ false → (a && b) ≡ false
 not_one true b e = cc
 not_one false b e = refl
 
-up_to : (x y : ℕ) → x ≤ y → nat_le x y ≡ true
-up_to x y le = grind (arith, nat_tests)
-
-at_most : (x y : ℕ) → nat_le x y ≡ true → x ≤ y
-at_most x y e = grind (arith, nat_tests)
-
 -- an end that is not passed at any of three instants is not at the latest of them
 early_at_latest : (x y z : ℕ) (end : Option ℕ) → is_early x end ≡ true → is_early y end ≡ true → is_early z end ≡ true → is_early (max x (max y z)) end ≡ true
 early_at_latest x y z None e f g = refl
-early_at_latest x y z (Some end) e f g = by x y z end (below x end e) (below y end f) (below z end g)
+early_at_latest x y z (Some end) e f g = by x y z end (is_less x end e) (is_less y end f) (is_less z end g)
   where
     below : (n end : ℕ) → nat_lt n end ≡ true → n < end
     below n end e = grind (arith, nat_tests)
@@ -47,11 +42,7 @@ early_at_latest x y z (Some end) e f g = by x y z end (below x end e) (below y e
     is_below n end lt = grind (arith, nat_tests)
 
     by : (x y z end : ℕ) → x < end → y < end → z < end → nat_lt (max x (max y z)) end ≡ true
-    by x y z end e f g = is_below (max x (max y z)) end (omega arith)
-
-early_before : (x y : ℕ) (end : Option ℕ) → x ≤ y → is_early y end ≡ true → is_early x end ≡ true
-early_before x y None le e = refl
-early_before x y (Some end) le e = grind (arith, nat_tests)
+    by x y z end e f g = less (max x (max y z)) end (omega arith)
 
 at_end : (to : Option ℕ) → (n : ℕ) × (is_none to ≡ false → (t : ℕ) → n ≤ t → is_early t to ≡ false)
 at_end None = (0, λ historical t le. cc)

@@ -1,5 +1,5 @@
 -- The references of a half have points of it, as they had points of the whole.
-use Rattle.std.proofs.Common.{◌≡◌, ℕ, ◌<◌, ◌≤◌, List, [], ◌∷◌, ◌++◌, Bool, true, false, max, Option, Some, None, refl, sym, subst, ◌∙◌, arith}
+use Rattle.std.proofs.Common.{◌≡◌, ℕ, ◌<◌, ◌≤◌, List, [], ◌∷◌, ◌++◌, Bool, true, false, max, refl, sym, subst, ◌∙◌, arith}
 use Rattle.std.specs.Prelude.{IsTrue, not, nat_lt, nat_le}
 use Rattle.std.specs.List.{filter, All}
 use Rattle.std.proofs.lemmas.Bool.Decides.{nat_tests}
@@ -13,28 +13,10 @@ use Rattle.indexnode.specs.declared.references.Reference.{Reference}
 use Rattle.indexnode.specs.Tiling.{LiesIn, AllMeet}
 use Rattle.indexnode.specs.Halves.{reaches_below, reaches_up, starts_before, ends_after}
 use Rattle.indexnode.specs.Replacing.{Replaced}
-use Rattle.indexnode.proofs.Currents.{all_taken, negated, denied}
-use Rattle.indexnode.proofs.Tilings.{end_above}
+use Rattle.indexnode.proofs.Currents.{all_taken}
+use Rattle.indexnode.proofs.Instants.{up_to, at_most, is_less, less, early_before}
+use Rattle.indexnode.proofs.Tilings.{denied, negated, end_above}
 use Rattle.indexnode.proofs.InPlace.{fronts, backs}
-
-up_to : (x y : ℕ) → x ≤ y → nat_le x y ≡ true
-up_to x y le = grind (arith, nat_tests)
-
-at_most : (x y : ℕ) → nat_le x y ≡ true → x ≤ y
-at_most x y e = grind (arith, nat_tests)
-
-is_less : (x y : ℕ) → nat_lt x y ≡ true → x < y
-is_less x y e = grind (arith, nat_tests)
-
-less : (x y : ℕ) → x < y → nat_lt x y ≡ true
-less x y lt = grind (arith, nat_tests)
-
-not_less : (x y : ℕ) → nat_lt x y ≡ false → y ≤ x
-not_less x y e = grind (arith, nat_tests)
-
-early_before : (x y : ℕ) (end : Option ℕ) → x ≤ y → is_early y end ≡ true → is_early x end ≡ true
-early_before x y None le e = refl
-early_before x y (Some end) le e = grind (arith, nat_tests)
 
 pub starts_at_1 : (r : Area) → IsTrue (is_area r.keys r.time) → 1 ≤ r.time.from
 starts_at_1 r is_one = at_most 1 r.time.from (first _ _ (second (is_before_end r.keys.lo r.keys.hi) _ is_one))

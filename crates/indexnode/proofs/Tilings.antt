@@ -11,11 +11,11 @@ use Rattle.indexnode.specs.declared.references.Reference.{Reference}
 use Rattle.indexnode.specs.Tiling.{at_point, Tiles, LiesIn}
 use Rattle.indexnode.specs.Halves.{reaches_below, reaches_up, starts_before, ends_after}
 
-denied : (a : Bool) → not a ≡ true → a ≡ false
+pub denied : (a : Bool) → not a ≡ true → a ≡ false
 denied true e = cc
 denied false e = refl
 
-negated : (a : Bool) → a ≡ false → not a ≡ true
+pub negated : (a : Bool) → a ≡ false → not a ≡ true
 negated true e = cc
 negated false e = refl
 

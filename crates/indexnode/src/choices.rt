@@ -24,6 +24,7 @@ impl<C> IndexNode<C> {
     {
         let mut least = None;
         for reference in &self.references {
+            // Who reads the keys knows that the ranges are not empty.
             let _keys = reference.rect.keys();
             if is_current(reference) {
                 least = Some(earlier(least, reference.rect.time().from));

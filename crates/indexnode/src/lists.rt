@@ -17,6 +17,7 @@ pub fn single<C: Drop>(alloc: Global, reference: Reference<C>) -> Mem<Vec<Refere
     ensures meet { (outer : Area) → LiesIn reference.rect outer → IfOk result (λ v. AllMeet outer v.items) }
     ensures err { OnlyMemory result }
 {
+    // Who reads the keys knows that the ranges are not empty.
     let _keys = reference.rect.keys();
     let mut references = Vec::new(alloc);
     references.push(reference)?;
@@ -35,6 +36,7 @@ pub fn pair<C: Drop>(
     ensures meet { (outer : Area) → LiesIn first.rect outer → LiesIn second.rect outer → IfOk result (λ v. AllMeet outer v.items) }
     ensures err { OnlyMemory result }
 {
+    // Who reads the keys knows that the ranges are not empty.
     let _first = first.rect.keys();
     let _second = second.rect.keys();
     let mut references = Vec::with_capacity(alloc, 2)?;

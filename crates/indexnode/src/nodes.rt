@@ -82,6 +82,7 @@ fn meets(first: &Rect, second: &Rect) -> bool
     ensures test { result ≡ meet first.now second.now }
     ensures common { IsTrue result ↔ Common first.now second.now }
 {
+    // Who reads the keys knows that the ranges are not empty.
     let _first = first.keys();
     let _second = second.keys();
     first.meets(second)

@@ -54,6 +54,7 @@ impl<C: Share + Drop> IndexNode<C> {
         ensures current { AreCurrentIn self.now.rect self.now.references.items → IfOk result (λ h. AreCurrentIn h.0.rect h.0.references.items × AreCurrentIn h.1.rect h.1.references.items) }
         ensures err { OnlyMemory result }
     {
+        // Who reads the keys knows that the ranges are not empty.
         let _keys = self.rect.keys();
         let Some((past, now)) = self.rect.cut_time(instant)? else {
             unreachable!()
