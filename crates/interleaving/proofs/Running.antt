@@ -7,10 +7,11 @@ use Rattle.rows.specs.Tables.{Schema}
 use Rattle.statement.specs.Lines.{line_says}
 use Rattle.statement.specs.Puts.{AppendsFront}
 use Rattle.statement.specs.Taking.{Feeds, Breaks}
-use Rattle.statement.specs.Transcript.{Partial, Progress, Reading, beginning, add, ended, line_reply, line_leaves, last_reply, IsTranscript, IsStopped}
-use Rattle.statement.proofs.Feeding.{Taken, feeds_none, feeds_byte, feeds_end, breaks_end, feeds_join, breaks_join, taken_none, taken_more, stopped_between, stopped_inside, stopped_at_end, done_all}
+use Rattle.statement.specs.Transcript.{Partial, Progress, Reading, beginning, add, ended, line_reply, line_leaves, last_reply, last_leaves, IsTranscript, IsStopped}
+use Rattle.statement.proofs.Feeding.{Taken, Done, feeds_none, feeds_byte, feeds_end, breaks_end, feeds_join, breaks_join, taken_none, taken_more, stopped_between, stopped_inside, stopped_at_end, done_all}
 use Rattle.interleaving.specs.declared.scripts.Script.{Script}
-use Rattle.interleaving.specs.Scripts.{line_of, IsAt, SameRun, Answered, Broken, has_byte, Fed, Finished, Unfinished}
+use Rattle.turns.specs.Stands.{Stands}
+use Rattle.interleaving.specs.Scripts.{line_of, IsAt, SameRun, Answered, Broken, has_byte, Fed, Finished, Unfinished, IsRun}
 use Rattle.interleaving.proofs.Scripting.{at_same}
 
 pub byte_fed : (a : Option (List ℕ)) (s s' : Script) (schema : Schema) (p : Progress) (byte : ℕ) → line_of s' ≡ add (line_of s) byte → SameRun s s' → byte ≢ 10 → IsAt s schema p → Fed a a s s' schema p (byte ∷ [])
@@ -51,8 +52,17 @@ last_is schema read out p None e = refl
 last_is schema read out p (Some []) e = cc
 last_is schema read out p (Some (b ∷ bytes)) e = refl
 
-pub last_finished : (a b : Option (List ℕ)) (s s' : Script) (schema : Schema) (p : Progress) → has_byte (line_of s) ≡ true → Answered a b s' schema p (line_of s) → Finished a b s schema p
-last_finished a b s s' schema p e did = record { out = did.out; wrote = subst (Appends a b) (sym (last_is schema (line_says schema) did.out p (line_of s) e)) did.wrote }
+last_left : (schema : Schema) (read : Reading) (out : Bool) (p : Progress) (line : Partial) → has_byte line ≡ true → last_leaves schema read out p line ≡ line_leaves schema read out p line
+last_left schema read out p None e = refl
+last_left schema read out p (Some []) e = cc
+last_left schema read out p (Some (b ∷ bytes)) e = refl
+
+pub last_finished : (a b : Option (List ℕ)) (s s' : Script) (schema : Schema) (p : Progress) → has_byte (line_of s) ≡ true → Answered a b s' schema p (line_of s) → Finished a b s s' schema p
+last_finished a b s s' schema p e did = record {
+  out = did.out;
+  wrote = subst (Appends a b) (sym (last_is schema (line_says schema) did.out p (line_of s) e)) did.wrote;
+  left = subst (IsAt s' schema) (sym (last_left schema (line_says schema) did.out p (line_of s) e)) did.left;
+}
 
 pub last_unfinished : (a b : Option (List ℕ)) (s : Script) (schema : Schema) (p : Progress) → has_byte (line_of s) ≡ true → Broken a b schema p (line_of s) → Unfinished a b s schema p
 last_unfinished a b s schema p e did = record { out = did.out; wrote = subst (AppendsFront a b) (sym (last_is schema (line_says schema) did.out p (line_of s) e)) did.wrote }
@@ -62,13 +72,22 @@ none_is schema read p None e = cc
 none_is schema read p (Some []) e = refl
 none_is schema read p (Some (b ∷ bytes)) e = cc
 
-pub none_finished : (a : Option (List ℕ)) (s : Script) (schema : Schema) (p : Progress) → has_byte (line_of s) ≡ false → Finished a a s schema p
-none_finished a s schema p e = record { out = false; wrote = subst (Appends a a) (sym (none_is schema (line_says schema) p (line_of s) e)) (Appends-nil a) }
+none_left : (schema : Schema) (read : Reading) (p : Progress) (line : Partial) → has_byte line ≡ false → last_leaves schema read false p line ≡ p
+none_left schema read p None e = cc
+none_left schema read p (Some []) e = refl
+none_left schema read p (Some (b ∷ bytes)) e = cc
+
+pub none_finished : (a : Option (List ℕ)) (s : Script) (schema : Schema) (p : Progress) → has_byte (line_of s) ≡ false → IsAt s schema p → Finished a a s s schema p
+none_finished a s schema p e at = record {
+  out = false;
+  wrote = subst (Appends a a) (sym (none_is schema (line_says schema) p (line_of s) e)) (Appends-nil a);
+  left = subst (IsAt s schema) (sym (none_left schema (line_says schema) p (line_of s) e)) at;
+}
 
 -- ---- the same of what a call returned
 
 pub finish_ok : {E : Type 0} (a b : Option (List ℕ)) (r : Result (Unit {0}) E) (s s' : Script) → has_byte (line_of s) ≡ true → OnOk r ((schema : Schema) (p : Progress) → IsAt s schema p → Answered a b s' schema p (line_of s))
-    → OnOk r ((schema : Schema) (p : Progress) → IsAt s schema p → Finished a b s schema p)
+    → OnOk r ((schema : Schema) (p : Progress) → IsAt s schema p → Finished a b s s' schema p)
 finish_ok a b (Ok x) s s' e did = λ schema p at. last_finished a b s s' schema p e (did schema p at)
 finish_ok a b (Err x) s s' e did = tt
 
@@ -118,11 +137,25 @@ pub going_broken : (r s t a b c : Option (List ℕ)) (x : Script) (schema : Sche
     → ((schema : Schema) (p : Progress) → IsAt x schema p → Breaks schema (line_says schema) b c p (line_of x) bytes) → IsStopped schema (line_says schema) r t a c
 going_broken r s t a b c x schema bytes so took broken = stopped_inside schema (line_says schema) r s t a b c so.progress (line_of x) bytes so.taken took (broken schema so.progress so.at)
 
-pub going_done : (r s t a b c : Option (List ℕ)) (x : Script) (schema : Schema) → Going r s a b x schema → Consumes s t [] → IsAtEnd t
-    → ((schema : Schema) (p : Progress) → IsAt x schema p → Finished b c x schema p) → IfSome r (λ text. IsTranscript schema (line_says schema) a c text)
-going_done r s t a b c x schema so took end finished =
+going_end : (r s t a b c : Option (List ℕ)) (x y : Script) (schema : Schema) (so : Going r s a b x schema) → Consumes s t [] → IsAtEnd t → (did : Finished b c x y schema so.progress)
+    → IfSome r (Done schema (line_says schema) a c (last_leaves schema (line_says schema) did.out so.progress (line_of x)))
+going_end r s t a b c x y schema so took end did = done_all schema (line_says schema) r s t a b c so.progress (line_of x) did.out so.taken took end did.wrote
+
+if_some : {P Q : List ℕ → Type 0} (r : Option (List ℕ)) → ((text : List ℕ) → P text → Q text) → IfSome r P → IfSome r Q
+if_some None f holds = tt
+if_some (Some text) f holds = f text holds
+
+pub going_done : (r s t a b c : Option (List ℕ)) (x y : Script) (schema : Schema) → Going r s a b x schema → Consumes s t [] → IsAtEnd t
+    → ((schema : Schema) (p : Progress) → IsAt x schema p → Finished b c x y schema p) → IfSome r (λ text. IsTranscript schema (line_says schema) a c text)
+going_done r s t a b c x y schema so took end finished =
+    if_some r (λ text done. record { marks = done.marks; wrote = done.wrote }) (going_end r s t a b c x y schema so took end (finished schema so.progress so.at))
+
+pub going_left : (r s t a b c : Option (List ℕ)) (x y : Script) (schema : Schema) → Going r s a b x schema → Consumes s t [] → IsAtEnd t
+    → ((schema : Schema) (p : Progress) → IsAt x schema p → Finished b c x y schema p) → IfSome r (λ text. IsRun schema a c y.system text)
+going_left r s t a b c x y schema so took end finished =
     let did = finished schema so.progress so.at in
-    done_all schema (line_says schema) r s t a b c so.progress (line_of x) did.out so.taken took end did.wrote
+    if_some r (λ text done. record { marks = done.marks; wrote = done.wrote; schema_is = did.left.schema_is; stands = subst (λ p. Stands y.system p.history) (sym done.left) did.left.stands })
+        (going_end r s t a b c x y schema so took end did)
 
 pub going_unfinished : (r s t a b c : Option (List ℕ)) (x : Script) (schema : Schema) → Going r s a b x schema → Consumes s t []
     → ((schema : Schema) (p : Progress) → IsAt x schema p → Unfinished b c x schema p) → IsStopped schema (line_says schema) r t a c

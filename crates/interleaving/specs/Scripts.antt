@@ -4,10 +4,11 @@ use Rattle.std.specs.Io.KnownBytes.{Appends}
 use Rattle.rows.specs.Tables.{Schema}
 use Rattle.statement.specs.Lines.{line_says}
 use Rattle.statement.specs.Puts.{AppendsFront}
-use Rattle.statement.specs.Transcript.{Partial, Progress, line_reply, line_leaves, last_reply}
+use Rattle.statement.specs.Transcript.{Partial, Progress, beginning, line_reply, line_leaves, last_reply, last_leaves, transcript, leaves}
 use Rattle.statement.specs.Taking.{Feeds}
 use Rattle.interleaving.specs.declared.scripts.Script.{Script}
 use Rattle.turns.specs.Stands.{Stands}
+use Rattle.turns.specs.World.{World}
 
 -- the line as far as it was read
 abbrev pub line_of : Script → Partial
@@ -51,11 +52,19 @@ pub record Fed (old new : Option (List ℕ)) (s s' : Script) (schema : Schema) (
   pub left : IsAt s' schema later
   pub fed : Feeds schema (line_says schema) old new p (line_of s) later (line_of s') bytes
 
--- what was due after the last byte was written
-pub record Finished (old new : Option (List ℕ)) (s : Script) (schema : Schema) (p : Progress) : Type 0 where
+-- what was due after the last byte was written, and the run is at the end of its script
+pub record Finished (old new : Option (List ℕ)) (s s' : Script) (schema : Schema) (p : Progress) : Type 0 where
   pub out : Bool
   pub wrote : Appends old new (last_reply schema (line_says schema) out p (line_of s))
+  pub left : IsAt s' schema (last_leaves schema (line_says schema) out p (line_of s))
 
 pub record Unfinished (old new : Option (List ℕ)) (s : Script) (schema : Schema) (p : Progress) : Type 0 where
   pub out : Bool
   pub wrote : AppendsFront old new (last_reply schema (line_says schema) out p (line_of s))
+
+-- a text was run: its transcript was written, and the system stands for what the text leaves, with want of memory at the same lines
+pub record IsRun (schema : Schema) (old new : Option (List ℕ)) (w : World) (text : List ℕ) : Type 0 where
+  pub marks : List Bool
+  pub wrote : Appends old new (transcript schema (line_says schema) marks beginning (Some []) text)
+  pub schema_is : w.schema ≡ schema
+  pub stands : Stands w (leaves schema (line_says schema) marks beginning (Some []) text).history

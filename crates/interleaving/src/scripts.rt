@@ -6,7 +6,7 @@ ghost use Rattle.statement.specs.Lines.{line_says};
 ghost use Rattle.statement.specs.Memory.{UnlessMemory};
 ghost use Rattle.statement.specs.Taking.{Breaks};
 ghost use Rattle.statement.specs.Transcript.{Progress, beginning, read_at, add, ended, IsTranscript, IsStopped};
-ghost use Rattle.interleaving.specs.Scripts.{line_of, IsAt, SameRun, Answered, Broken, HasRoom, has_byte, Fed, Finished, Unfinished};
+ghost use Rattle.interleaving.specs.Scripts.{line_of, IsAt, SameRun, Answered, Broken, HasRoom, has_byte, Fed, Finished, Unfinished, IsRun};
 
 use crate::system::System;
 use rows::{Instant, Refusal, Schema};
@@ -193,7 +193,7 @@ fn has_byte(script: &Script) -> bool
 /// Ends the script: a last line without a line feed is answered where it has a byte.
 fn finish<W: Write>(alloc: Global, writer: &mut W, script: &mut Script) -> Result<(), WriteFault>
     requires { HasRoom script.old }
-    ensures ok { OnOk result ((schema : Schema) (p : Progress) → IsAt script.old schema p → Finished (W.contents writer.old) (W.contents writer.new) script.old schema p) }
+    ensures ok { OnOk result ((schema : Schema) (p : Progress) → IsAt script.old schema p → Finished (W.contents writer.old) (W.contents writer.new) script.old script.new schema p) }
     ensures err { OnErr result ((schema : Schema) (p : Progress) → IsAt script.old schema p → Unfinished (W.contents writer.old) (W.contents writer.new) script.old schema p) }
 {
     if has_byte(script) {
@@ -232,6 +232,7 @@ pub fn run_script<I: Read, W: Write>(
     schema: Schema,
 ) -> Result<System, RunFault>
     ensures done { OnOk result (IfSome (I.remaining reader.old) (λ text. IsTranscript schema (line_says schema) (W.contents writer.old) (W.contents writer.new) text)) }
+    ensures left { IfOk result (λ system. IfSome (I.remaining reader.old) (λ text. IsRun schema (W.contents writer.old) (W.contents writer.new) system text)) }
     ensures stopped { IfErr result (λ fault. fault ≢ RunFault.Memory → IsStopped schema (line_says schema) (I.remaining reader.old) (I.remaining reader.new) (W.contents writer.old) (W.contents writer.new)) }
     ensures memory { result ≡ Err RunFault.Memory → Keeps (I.remaining reader.old) (I.remaining reader.new) × Keeps (W.contents writer.old) (W.contents writer.new) }
 {

@@ -1,5 +1,5 @@
 //! Conversations with a store: each step beside what it must answer.
-use crate::System;
+use crate::{System, run_script};
 use rows::{
     Chars, Comparison, Form, Instant, Keys, Operator, Refusal, Row, Rows, Schema, Sequence, Set,
     Sets, Shown, Value,
@@ -361,4 +361,28 @@ fn a_transaction_writes_a_thousand_keys_and_no_more(rt: HostRuntime) -> Result<(
     talk.step(Step::Delete(1, some), "deleted 400")?;
     talk.commit(1, 7, "committed 7")?;
     talk.holds(&rt)
+}
+
+/// A script whose last line has no line feed, at whose end a transaction is open.
+const LEFT_OPEN: &str = "1: BEGIN\n\
+    1: INSERT INTO emp VALUES (1, 'Ann')\n\
+    clock: 100\n\
+    1: COMMIT\n\
+    1: BEGIN\n\
+    1: INSERT INTO emp VALUES (2, 'Bea')";
+
+#[test]
+fn a_script_leaves_the_system_after_its_steps(rt: HostRuntime) -> Result<(), Fail> {
+    let alloc = rt.alloc();
+    let schema = Schema::sample(alloc)?;
+    let mut replies = Vec::new(alloc);
+    let mut system = run_script(alloc, &mut LEFT_OPEN.as_bytes(), &mut replies, schema)
+        .expect(&rt, "memory is there");
+    for (session, wanted) in [(1, "Ann Bea "), (2, "Ann ")] {
+        let reply = system.step(Step::Select(session, Form::Plain, all(alloc)));
+        assert!(rt; is_told(alloc, &reply, wanted)?, "session {session}");
+    }
+    let reply = system.step(Step::Commit(1, 0));
+    assert!(rt; is_told(alloc, &reply, "committed 101")?);
+    Ok(())
 }

@@ -6,7 +6,7 @@ use Rattle.std.proofs.KnownBytes.{Appends-trans, Appends-nil, Consumes-nil, Cons
 use Rattle.std.specs.Io.KnownBytes.{Appends, Consumes, Keeps, IsAtEnd}
 use Rattle.rows.specs.Tables.{Schema}
 use Rattle.statement.specs.Puts.{AppendsFront}
-use Rattle.statement.specs.Transcript.{Partial, Progress, Reading, beginning, add, ended, line_reply, line_leaves, last_reply, mark, marks_after, transcript, IsTranscript, IsStopped}
+use Rattle.statement.specs.Transcript.{Partial, Progress, Reading, beginning, add, ended, line_reply, line_leaves, last_reply, last_leaves, mark, marks_after, transcript, leaves, IsStopped}
 use Rattle.statement.specs.Taking.{Feeds, Breaks}
 use Rattle.statement.proofs.Fronts.{front_then}
 
@@ -15,7 +15,7 @@ not_end byte other = grind (arith, nat_tests)
 
 module _ (schema : Schema) (read : Reading) where
   pub feeds_none : (a : Option (List ℕ)) (p : Progress) (line : Partial) → Feeds schema read a a p line p line []
-  feeds_none a p line = record { marks = []; out = []; wrote = Appends-nil a; goes_on = λ more rest. refl }
+  feeds_none a p line = record { marks = []; out = []; wrote = Appends-nil a; goes_on = λ more rest. refl; leaves_on = λ more rest. refl }
 
   pub feeds_end : (a b : Option (List ℕ)) (m : Bool) (p : Progress) (byte : ℕ) (line : Partial) → Appends a b (line_reply schema read m p (ended line)) → byte ≡ 10
       → Feeds schema read a b p line (line_leaves schema read m p (ended line)) (Some []) (byte ∷ [])
@@ -24,6 +24,7 @@ module _ (schema : Schema) (read : Reading) where
     out = line_reply schema read m p (ended line);
     wrote = wrote;
     goes_on = λ more rest. subst (λ c. transcript schema read (m ∷ more) p line (c ∷ rest) ≡ line_reply schema read m p (ended line) ++ transcript schema read more (line_leaves schema read m p (ended line)) (Some []) rest) (sym is_end) refl;
+    leaves_on = λ more rest. subst (λ c. leaves schema read (m ∷ more) p line (c ∷ rest) ≡ leaves schema read more (line_leaves schema read m p (ended line)) (Some []) rest) (sym is_end) refl;
   }
 
   pub breaks_end : (a b : Option (List ℕ)) (m : Bool) (p : Progress) (byte : ℕ) (line : Partial) → AppendsFront a b (line_reply schema read m p (ended line)) → byte ≡ 10 → Breaks schema read a b p line (byte ∷ [])
@@ -44,6 +45,8 @@ module _ (schema : Schema) (read : Reading) where
     wrote = Appends-nil a;
     goes_on = λ more rest. ap (λ t. if t then line_reply schema read (mark more) p (ended line) ++ transcript schema read (marks_after more) (line_leaves schema read (mark more) p (ended line)) (Some []) rest else transcript schema read more p (add line byte) rest) (not_end byte other)
         ∙ (λ i. transcript schema read more p (sym is_line i) rest);
+    leaves_on = λ more rest. ap (λ t. if t then leaves schema read (marks_after more) (line_leaves schema read (mark more) p (ended line)) (Some []) rest else leaves schema read more p (add line byte) rest) (not_end byte other)
+        ∙ (λ i. leaves schema read more p (sym is_line i) rest);
   }
 
   pub feeds_join : (a b c : Option (List ℕ)) (p p' p'' : Progress) (l l' l'' : Partial) (xs ys : List ℕ) → Feeds schema read a b p l p' l' xs → Feeds schema read b c p' l' p'' l'' ys → Feeds schema read a c p l p'' l'' (xs ++ ys)
@@ -54,6 +57,8 @@ module _ (schema : Schema) (read : Reading) where
     goes_on = λ more rest.
         (λ i. transcript schema read (append_assoc f.marks g.marks more i) p l (append_assoc xs ys rest i)) ∙ f.goes_on (g.marks ++ more) (ys ++ rest)
         ∙ ap (λ o. f.out ++ o) (g.goes_on more rest) ∙ sym (append_assoc f.out g.out _);
+    leaves_on = λ more rest.
+        (λ i. leaves schema read (append_assoc f.marks g.marks more i) p l (append_assoc xs ys rest i)) ∙ f.leaves_on (g.marks ++ more) (ys ++ rest) ∙ g.leaves_on more rest;
   }
 
   pub breaks_join : (a b c : Option (List ℕ)) (p p' : Progress) (l l' : Partial) (xs ys zs : List ℕ) → Feeds schema read a b p l p' l' xs → Breaks schema read b c p' l' ys → Breaks schema read a c p l ((xs ++ ys) ++ zs)
@@ -77,6 +82,12 @@ module _ (schema : Schema) (read : Reading) where
     pub bytes : List ℕ
     pub took : Consumes unread left bytes
     pub fed : Feeds schema read old new beginning (Some []) p line bytes
+
+  -- the transcript of a text was written, and this is what the text leaves
+  pub record Done (old new : Option (List ℕ)) (p : Progress) (text : List ℕ) : Type 0 where
+    pub marks : List Bool
+    pub wrote : Appends old new (transcript schema read marks beginning (Some []) text)
+    pub left : leaves schema read marks beginning (Some []) text ≡ p
 
 module _ (schema : Schema) (read : Reading) where
   pub taken_none : (r w : Option (List ℕ)) (line : Partial) → line ≡ Some [] → Taken schema read r r w w beginning line
@@ -122,16 +133,18 @@ module _ (schema : Schema) (read : Reading) where
       }
 
   -- at the end of the reader all was answered
-  pub done_all : (r s t a b c : Option (List ℕ)) (p : Progress) (line : Partial) (m : Bool) → Taken schema read r s a b p line → Consumes s t [] → IsAtEnd t → Appends b c (last_reply schema read m p line) → IfSome r (λ text. IsTranscript schema read a c text)
+  pub done_all : (r s t a b c : Option (List ℕ)) (p : Progress) (line : Partial) (m : Bool) → Taken schema read r s a b p line → Consumes s t [] → IsAtEnd t → Appends b c (last_reply schema read m p line)
+      → IfSome r (Done schema read a c (last_leaves schema read m p line))
   done_all r s t a b c p line m so took end wrote = at_end r t (subst (Consumes r t) (append-nil so.bytes) (Consumes-trans r s t so.bytes [] so.took took)) end
     where
-      done : IsTranscript schema read a c so.bytes
+      done : Done schema read a c (last_leaves schema read m p line) so.bytes
       done = record {
         marks = so.fed.marks ++ m ∷ [];
         wrote = subst (Appends a c) (sym (whole a b p line so.bytes m so.fed)) (Appends-trans a b c so.fed.out (last_reply schema read m p line) so.fed.wrote wrote);
+        left = ap (leaves schema read (so.fed.marks ++ m ∷ []) beginning (Some [])) (sym (append-nil so.bytes)) ∙ so.fed.leaves_on (m ∷ []) [];
       }
 
-      at_end : (r t : Option (List ℕ)) → Consumes r t so.bytes → IsAtEnd t → IfSome r (λ text. IsTranscript schema read a c text)
+      at_end : (r t : Option (List ℕ)) → Consumes r t so.bytes → IsAtEnd t → IfSome r (Done schema read a c (last_leaves schema read m p line))
       at_end None t took end = tt
       at_end (Some text) None took end = absurd took
-      at_end (Some text) (Some left) took end = subst (IsTranscript schema read a c) (sym (took ∙ ap (λ l. so.bytes ++ l) end ∙ append-nil so.bytes)) done
+      at_end (Some text) (Some left) took end = subst (Done schema read a c (last_leaves schema read m p line)) (sym (took ∙ ap (λ l. so.bytes ++ l) end ∙ append-nil so.bytes)) done

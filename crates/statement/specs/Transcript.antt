@@ -85,6 +85,18 @@ module _ (schema : Schema) (read : Reading) where
       if b == 10 then line_reply schema read (mark ms) p (ended bytes) ++ transcript (marks_after ms) (line_leaves schema read (mark ms) p (ended bytes)) (Some []) bs
       else transcript ms p (add bytes b) bs
 
+  -- what a last line with no line feed leaves, where it has a byte
+  abbrev pub last_leaves : Bool → Progress → Partial → Progress
+  last_leaves m p (Some []) = p
+  last_leaves m p bytes = line_leaves schema read m p bytes
+
+  -- what the rest of a text leaves, where this line has begun, with the marks of its transcript
+  abbrev pub leaves : List Bool → Progress → Partial → List ℕ → Progress
+  leaves ms p bytes [] = last_leaves (mark ms) p bytes
+  leaves ms p bytes (b ∷ bs) =
+      if b == 10 then leaves (marks_after ms) (line_leaves schema read (mark ms) p (ended bytes)) (Some []) bs
+      else leaves ms p (add bytes b) bs
+
   -- the transcript of a text was written, with want of memory at some lines
   pub record IsTranscript (old new : Option (List ℕ)) (text : List ℕ) : Type 0 where
     pub marks : List Bool

@@ -1,7 +1,7 @@
 use Rattle.std.proofs.Common.{take, [], subst, arith}
 use Rattle.std.specs.Io.KnownBytes.{Consumes}
 use Rattle.std.proofs.KnownBytes.{Keeps-refl}
-use Rattle.interleaving.proofs.Running.{going_none, going_more, going_stopped, going_broken, going_done, going_unfinished}
+use Rattle.interleaving.proofs.Running.{going_none, going_more, going_stopped, going_broken, going_done, going_left, going_unfinished}
 use Rattle.interleaving.proofs.scripts.run_script.Goals as goal
 
 pub loop-turn-init : goal.loop-turn-init
@@ -22,7 +22,12 @@ returns-in-Err-feed-clause-stopped g c = λ _. going_broken _ _ _ _ _ _ _ _ (tak
 pub returns-in-Ok-finish-clause-done : goal.returns-in-Ok-finish-clause-done
 returns-in-Ok-finish-clause-done g c =
     let none : Consumes (g.I.Read.remaining c.loop-turn.reader) (g.I.Read.remaining c.read.new.self) [] = subst (λ k. Consumes (g.I.Read.remaining c.loop-turn.reader) (g.I.Read.remaining c.read.new.self) (take k c.read.new.buf)) c.if-n-eq0.true c.in-Ok-read.ensures.bytes.0 in
-    going_done _ _ _ _ _ _ _ _ c.loop-turn.invariant.going none (c.in-Ok-read.ensures.bytes.1 c.if-n-eq0.true (omega (arith, c.read.auto.buf))) c.in-Ok-finish.ensures.ok
+    going_done _ _ _ _ _ _ _ _ _ c.loop-turn.invariant.going none (c.in-Ok-read.ensures.bytes.1 c.if-n-eq0.true (omega (arith, c.read.auto.buf))) c.in-Ok-finish.ensures.ok
+
+pub returns-in-Ok-finish-clause-left : goal.returns-in-Ok-finish-clause-left
+returns-in-Ok-finish-clause-left g c =
+    let none : Consumes (g.I.Read.remaining c.loop-turn.reader) (g.I.Read.remaining c.read.new.self) [] = subst (λ k. Consumes (g.I.Read.remaining c.loop-turn.reader) (g.I.Read.remaining c.read.new.self) (take k c.read.new.buf)) c.if-n-eq0.true c.in-Ok-read.ensures.bytes.0 in
+    going_left _ _ _ _ _ _ _ _ _ c.loop-turn.invariant.going none (c.in-Ok-read.ensures.bytes.1 c.if-n-eq0.true (omega (arith, c.read.auto.buf))) c.in-Ok-finish.ensures.ok
 
 pub returns-in-Err-finish-clause-stopped : goal.returns-in-Err-finish-clause-stopped
 returns-in-Err-finish-clause-stopped g c =
