@@ -155,7 +155,7 @@ pub going_left : (r s t a b c : Option (List ℕ)) (x y : Script) (schema : Sche
 going_left r s t a b c x y schema so took end finished =
     let did = finished schema so.progress so.at in
     if_some r (λ text done. record { marks = done.marks; wrote = done.wrote; schema_is = did.left.schema_is; stands = subst (λ p. Stands y.system p.history) (sym done.left) did.left.stands })
-        (going_end r s t a b c x y schema so took end did)
+    (going_end r s t a b c x y schema so took end did)
 
 pub going_unfinished : (r s t a b c : Option (List ℕ)) (x : Script) (schema : Schema) → Going r s a b x schema → Consumes s t []
     → ((schema : Schema) (p : Progress) → IsAt x schema p → Unfinished b c x schema p) → IsStopped schema (line_says schema) r t a c

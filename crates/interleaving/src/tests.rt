@@ -376,8 +376,10 @@ fn a_script_leaves_the_system_after_its_steps(rt: HostRuntime) -> Result<(), Fai
     let alloc = rt.alloc();
     let schema = Schema::sample(alloc)?;
     let mut replies = Vec::new(alloc);
-    let mut system = run_script(alloc, &mut LEFT_OPEN.as_bytes(), &mut replies, schema)
-        .expect(&rt, "memory is there");
+    let mut system = run_script(alloc, &mut LEFT_OPEN.as_bytes(), &mut replies, schema).expect(
+        &rt,
+        "memory is there",
+    );
     for (session, wanted) in [(1, "Ann Bea "), (2, "Ann ")] {
         let reply = system.step(Step::Select(session, Form::Plain, all(alloc)));
         assert!(rt; is_told(alloc, &reply, wanted)?, "session {session}");
