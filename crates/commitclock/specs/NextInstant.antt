@@ -1,9 +1,9 @@
 -- The instant of a commit.
 use Rattle.std.specs.Prelude.{ℕ, ◌+◌, max, nat_lt, Result, Ok, Err, if◌then◌else◌}
-use Rattle.rows.specs.declared.refusals.Refusal.{Refusal}
-use Rattle.rows.specs.declared.refusals.Refusal.TheVariants.{ClockEnd}
-use Rattle.rows.specs.Commits.{last_instant}
+use Rattle.values.specs.declared.refusal.Refusal.{Refusal}
+use Rattle.values.specs.declared.refusal.Refusal.TheVariants.{ClockEnd}
+use Rattle.values.specs.Commits.{max_instant}
 
 -- the larger of the reading and the instant after the last one, up to the last that there is
 abbrev pub next_instant : ℕ → ℕ → Result ℕ Refusal
-next_instant last reading = let instant = max reading (last + 1) in if nat_lt last_instant instant then Err ClockEnd else Ok instant
+next_instant last reading = let instant = max reading (last + 1) in if nat_lt max_instant instant then Err ClockEnd else Ok instant

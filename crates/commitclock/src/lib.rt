@@ -1,6 +1,6 @@
 //! The clock that gives commits their instants, which always rise.
 #![tactic(auto)]
 
-mod clocks;
+mod clock;
 
-pub use clocks::Clock;
+pub use clock::Clock;

@@ -2,7 +2,7 @@
 use Rattle.std.proofs.Common.{◌≡◌, true, not, ap, arith}
 use Rattle.std.proofs.lemmas.Bool.{le-leb, and_parts, and_from}
 use Rattle.std.specs.Prelude.{nat_le}
-use Rattle.rows.specs.Commits.{last_instant}
+use Rattle.values.specs.Commits.{max_instant}
 use Rattle.keyrange.specs.Points.{Area, is_before_end, is_early, is_key_in, is_time_in}
 use Rattle.keyrange.proofs.Orders.{not_itself}
 use Rattle.datanode.specs.Cut.{IsArea}
@@ -15,7 +15,7 @@ pub facts_of : (r : Area) → IsArea r → AreaFacts r
 facts_of r h =
     let rest = (and_parts (is_before_end r.keys.lo r.keys.hi) _ h).1 in
     let more = (and_parts (nat_le 1 r.time.from) _ rest).1 in
-    let last = (and_parts (nat_le r.time.from last_instant) _ more).1 in
+    let last = (and_parts (nat_le r.time.from max_instant) _ more).1 in
     record { has_key = (and_parts _ _ h).0; has_instant = (and_parts (is_early r.time.from r.time.to) _ last).0 }
 
 pub first_key_in : (r : Area) → IsArea r → is_key_in r.keys r.keys.lo ≡ true

@@ -5,7 +5,7 @@ use Rattle.std.specs.List.{filter, list_any}
 use Rattle.std.specs.Bool.{Decides}
 use Rattle.std.proofs.lemmas.Bool.{ltb-true, leb-true, lt-ltb, le-leb, cases_lt, and_parts, and_from}
 use Rattle.std.proofs.lemmas.Bool.Decides.{Decides-and, Decides-or, Decides-not, Decides-like, Decides-ltb, same_from_decides}
-use Rattle.rows.specs.declared.events.Event.{Event}
+use Rattle.values.specs.Event.{Event}
 use Rattle.keyrange.specs.Points.{Area, is_early, is_key_in, is_time_in}
 use Rattle.eventlist.specs.Listing.{overtakes}
 use Rattle.eventlist.proofs.Overtaken.{Overtakes, overtakes_is, is_overtakes}

@@ -6,8 +6,8 @@ use Rattle.std.specs.Bool.{Decides}
 use Rattle.std.proofs.lemmas.Bool.{ltb-true, lt-ltb, and_parts, and_from}
 use Rattle.std.proofs.lemmas.Bool.Decides.{Decides-or}
 use Rattle.std.proofs.lemmas.List.Kept.{IsStrictlySortedBy-filter}
-use Rattle.rows.specs.declared.events.Event.{Event}
-use Rattle.rows.specs.Events.{event_cmp}
+use Rattle.values.specs.Event.{Event}
+use Rattle.values.specs.Events.{event_cmp}
 use Rattle.keyrange.specs.Points.{Area, is_below, is_early, is_key_in}
 use Rattle.keyrange.specs.Cuts.{is_key_inside, is_time_inside, PartsKeys}
 use Rattle.keyrange.proofs.Halves.{parts_keys, parts_time}

@@ -4,8 +4,8 @@ use Rattle.std.specs.List.{filter, insert}
 use Rattle.std.specs.Ordering.{match_ordering, ordering_reverse}
 use Rattle.std.specs.declared.cmp.Ordering.{Ordering}
 use Rattle.std.specs.declared.cmp.Ordering.TheVariants.{Less, Equal, Greater}
-use Rattle.rows.specs.declared.events.Event.{Event}
-use Rattle.rows.specs.Events.{event_cmp, put_event}
+use Rattle.values.specs.Event.{Event}
+use Rattle.values.specs.Events.{event_cmp, put_event}
 use Rattle.eventlist.proofs.Ordered.{event_total, sorted_tail}
 use Rattle.datanode.specs.Cut.{IsMap}
 use Rattle.datanode.proofs.Members.{In, filter_alike, filter_twice, In-from_filter, all_kept}

@@ -8,9 +8,9 @@ use Rattle.std.proofs.lemmas.Bool.{cases_lt, cases_order, and_parts, and_from, l
 use Rattle.std.proofs.lemmas.Bool.Decides.{nat_tests}
 use Rattle.std.proofs.lemmas.Cmp.{tied_itself}
 use Rattle.std.proofs.lemmas.List.Kept.{IsStrictlySortedBy-filter}
-use Rattle.rows.specs.declared.events.Event.{Event}
-use Rattle.rows.specs.Log.{Row}
-use Rattle.rows.specs.Events.{bytes_cmp, is_bytes, event_cmp, later, event_until}
+use Rattle.values.specs.Event.{Event}
+use Rattle.values.specs.Log.{Row}
+use Rattle.values.specs.Events.{bytes_cmp, is_bytes, event_cmp, later, event_until}
 use Rattle.keyrange.specs.Points.{Area, is_early, is_key_in}
 use Rattle.eventlist.proofs.Ordered.{event_total, sorted_tail, same_bytes, is_own, bytes_tie}
 use Rattle.datanode.specs.Cut.{IsMap, IsArea, in_cut, cut}

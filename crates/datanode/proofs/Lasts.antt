@@ -6,14 +6,14 @@ use Rattle.std.specs.Prelude.{is_none}
 use Rattle.std.proofs.lemmas.Bool.{ltb-true, lt-ltb, cases_lt, cases_order, and_parts, and_from, false≢true}
 use Rattle.std.proofs.lemmas.List.{get_or_default}
 use Rattle.std.proofs.lemmas.Map.Keys.{Less-from_sorted}
-use Rattle.rows.specs.declared.events.Event.{Event}
-use Rattle.rows.specs.Events.{bytes_cmp, is_bytes, event_cmp, later}
+use Rattle.values.specs.Event.{Event}
+use Rattle.values.specs.Events.{bytes_cmp, is_bytes, event_cmp, later}
 use Rattle.keyrange.specs.Points.{Area, has_point, is_below, is_early, is_key_in}
 use Rattle.keyrange.proofs.Orders.{not_itself}
-use Rattle.eventlist.specs.Places.{AreFirst}
+use Rattle.eventlist.specs.Place.{AreFirst}
 use Rattle.eventlist.proofs.Ordered.{is_own, same_bytes, is_lower, is_bytes_back, bytes_tie}
 use Rattle.datanode.specs.Cut.{IsMap, IsArea, in_cut, cut}
-use Rattle.datanode.specs.Node.{Node, IsLast, Takes, last_before, kept_from, is_after, takes}
+use Rattle.datanode.specs.Node.{Node, IsLast, Accepts, last_before, kept_from, is_after, accepts}
 use Rattle.datanode.proofs.Members.{In, In-from_filter}
 use Rattle.datanode.proofs.Areas.{facts_of}
 use Rattle.datanode.proofs.Order.{In_place, at_In}
@@ -131,17 +131,17 @@ is_after_last es e map h = subst (λ o. is_after e o ≡ true) (sym (before_such
         let r = In_place x x es l.there in
         lt-ltb x.at e.at (subst (λ (z : Event). z.key ≡ e.key → z.at < e.at) r.2 (h r.0 x r.1) (sym (same_bytes e.key x.key (and_parts _ _ l.passes).0)))
 
-pub takes_is : (n : Node) (e : Event) → IsMap n.events → IsTrue (takes n e) ↔ Takes n e
+pub takes_is : (n : Node) (e : Event) → IsMap n.events → IsTrue (accepts n e) ↔ Accepts n e
 takes_is n e map = (to, from)
   where
     ended : (o : Option ℕ) → is_none o ≡ true → o ≡ None
     ended None h = refl
     ended (Some x) h = cc
 
-    to : takes n e ≡ true → Takes n e
+    to : accepts n e ≡ true → Accepts n e
     to h =
         let rest = (and_parts (is_none n.rect.time.to) _ h).1 in
         record { current = ended n.rect.time.to (and_parts _ _ h).0; inside = (and_parts _ _ rest).0; last = is_last_of n.events e map (and_parts (has_point n.rect e.key e.at) _ rest).1 }
 
-    from : Takes n e → takes n e ≡ true
+    from : Accepts n e → accepts n e ≡ true
     from h = and_from _ _ (ap is_none h.current) (and_from _ _ h.inside (is_after_last n.events e map h.last))

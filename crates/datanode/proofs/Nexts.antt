@@ -4,15 +4,15 @@ use Rattle.std.specs.List.{slice_get, list_any}
 use Rattle.std.proofs.lemmas.Bool.Decides.{nat_tests}
 use Rattle.std.proofs.lemmas.Option.{slice_get_read}
 use Rattle.std.proofs.lemmas.List.{get_or_read}
-use Rattle.rows.specs.declared.events.Event.{Event}
+use Rattle.values.specs.Event.{Event}
 use Rattle.eventlist.specs.Listing.{overtakes, stands_at}
-use Rattle.eventlist.specs.Places.{is_overtaken}
+use Rattle.eventlist.specs.Place.{is_overtaken}
 use Rattle.eventlist.proofs.Overtaken.{stands_is}
-use Rattle.keyrange.specs.declared.ranges.KeyRange.{KeyRange}
-use Rattle.keyrange.specs.declared.ranges.TimeRange.{TimeRange}
+use Rattle.keyrange.specs.declared.range.KeyRange.{KeyRange}
+use Rattle.keyrange.specs.declared.range.TimeRange.{TimeRange}
 use Rattle.keyrange.specs.Points.{Area, is_key_in, is_time_in}
 use Rattle.datanode.specs.Cut.{IsMap, carried, in_cut}
-use Rattle.datanode.specs.Places.{stays_to}
+use Rattle.datanode.specs.Place.{stays_to}
 
 early : (t u : ℕ) → nat_lt t u ≡ true → nat_le t u ≡ true
 early t u h = grind (arith, nat_tests)

@@ -3,8 +3,8 @@ use Rattle.std.proofs.Common.{◌≡◌, ℕ, zero, suc, ◌<◌, Bool, true, fa
 use Rattle.std.specs.List.{filter, AllByRecursion}
 use Rattle.std.specs.declared.cmp.Ordering.TheVariants.{Less}
 use Rattle.std.proofs.lemmas.Bool.{false≢true}
-use Rattle.rows.specs.declared.events.Event.{Event}
-use Rattle.rows.specs.Events.{event_cmp}
+use Rattle.values.specs.Event.{Event}
+use Rattle.values.specs.Events.{event_cmp}
 use Rattle.keyrange.specs.Points.{is_below}
 use Rattle.eventlist.proofs.Ordered.{sorted_head, sorted_tail, is_lower}
 use Rattle.eventlist.proofs.Ranges.{below_parts}

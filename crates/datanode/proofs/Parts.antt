@@ -2,8 +2,8 @@
 use Rattle.keyrange.specs.Cuts.{PartsKeys, PartsTime}
 use Rattle.std.proofs.Common.{ℕ, true, ◌≡◌, Option, Some, IfSome, List, sym, ap, subst, ◌∙◌}
 use Rattle.std.proofs.lemmas.List.Kept.{IsStrictlySortedBy-filter}
-use Rattle.rows.specs.declared.events.Event.{Event}
-use Rattle.rows.specs.Events.{event_cmp}
+use Rattle.values.specs.Event.{Event}
+use Rattle.values.specs.Events.{event_cmp}
 use Rattle.std.proofs.lemmas.Bool.{and_parts}
 use Rattle.keyrange.specs.Points.{Area, has_point}
 use Rattle.datanode.specs.Cut.{IsMap, IsArea, IsInside, in_cut, cut}

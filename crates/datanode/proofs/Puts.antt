@@ -9,11 +9,11 @@ use Rattle.std.proofs.lemmas.Cmp.{ranked}
 use Rattle.std.proofs.lemmas.Bool.{cases_order, false_from_ne_true, false≢true, and_parts, leb-true}
 use Rattle.std.proofs.lemmas.Bool.Decides.{Decides-and, Decides-like, same_from_decides}
 use Rattle.std.proofs.lemmas.Map.Keys.{Less-from_sorted}
-use Rattle.rows.specs.declared.events.Event.{Event}
-use Rattle.rows.specs.Events.{bytes_cmp, is_bytes, event_cmp, put_event}
+use Rattle.values.specs.Event.{Event}
+use Rattle.values.specs.Events.{bytes_cmp, is_bytes, event_cmp, put_event}
 use Rattle.keyrange.specs.Points.{Area, has_point, is_early, is_key_in}
 use Rattle.eventlist.specs.Listing.{overtakes}
-use Rattle.eventlist.specs.Places.{AreFirst, is_before}
+use Rattle.eventlist.specs.Place.{AreFirst, is_before}
 use Rattle.eventlist.proofs.Ordered.{bytes_total, bytes_exact, bytes_tie, same_bytes, is_own, is_lower}
 use Rattle.eventlist.proofs.Overtaken.{Overtakes, overtakes_is, is_overtakes}
 use Rattle.eventlist.proofs.Placed.{sorted_put}

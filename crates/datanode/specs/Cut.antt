@@ -2,8 +2,8 @@
 use Rattle.std.specs.Prelude.{ℕ, List, Bool, ◌&&◌, ◌||◌, not, nat_lt, is_some, filter, IsTrue}
 use Rattle.std.specs.List.{list_any}
 use Rattle.std.specs.List.Sorted.{IsStrictlySortedBy}
-use Rattle.rows.specs.declared.events.Event.{Event}
-use Rattle.rows.specs.Events.{event_cmp}
+use Rattle.values.specs.Event.{Event}
+use Rattle.values.specs.Events.{event_cmp}
 use Rattle.keyrange.specs.Points.{Area, is_area, is_key_in, is_time_in, has_point}
 use Rattle.eventlist.specs.Listing.{overtakes}
 

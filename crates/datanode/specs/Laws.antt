@@ -1,7 +1,7 @@
 -- What cuts amount to.
 use Rattle.std.specs.Prelude.{◌≡◌, ℕ, List, ◌++◌, Some, ◌||◌, not, nat_le, nat_lt, filter, IsTrue}
-use Rattle.rows.specs.declared.events.Event.{Event}
-use Rattle.rows.specs.Events.{row_until}
+use Rattle.values.specs.Event.{Event}
+use Rattle.values.specs.Events.{row_until}
 use Rattle.keyrange.specs.Points.{Area, has_point, is_below, is_key_in}
 use Rattle.keyrange.specs.Cuts.{halves_by_key, halves_by_time}
 use Rattle.datanode.specs.Node.{last_before, kept_from}

@@ -1,7 +1,7 @@
 -- A data node, as contracts see it.
 use Rattle.std.specs.Prelude.{◌≡◌, ℕ, ◌<◌, List, [], ◌∷◌, Option, Some, None, ◌&&◌, ◌||◌, nat_le, is_some, is_none, Bool, true, nat_lt, All, IsTrue, if◌then◌else◌}
-use Rattle.rows.specs.declared.events.Event.{Event}
-use Rattle.rows.specs.Events.{is_bytes, later}
+use Rattle.values.specs.Event.{Event}
+use Rattle.values.specs.Events.{is_bytes, later}
 use Rattle.keyrange.specs.Points.{Area, has_point, is_early}
 use Rattle.datanode.specs.Cut.{IsMap, IsArea, cut}
 
@@ -26,7 +26,7 @@ abbrev pub IsLast : Event → List Event → Type 0
 IsLast e = All (λ d. d.key ≡ e.key → d.at < e.at)
 
 -- what a node takes: it has no end, its rectangle holds the event's point, and the event is later than each of its key
-pub record Takes (n : Node) (e : Event) : Type 0 where
+pub record Accepts (n : Node) (e : Event) : Type 0 where
   pub current : n.rect.time.to ≡ None
   pub inside : IsTrue (has_point n.rect e.key e.at)
   pub last : IsLast e n.events
@@ -47,5 +47,5 @@ is_after e None = true
 is_after e (Some d) = nat_lt d.at e.at
 
 -- the test of what a node takes
-abbrev pub takes : Node → Event → Bool
-takes n e = is_none n.rect.time.to && (has_point n.rect e.key e.at && is_after e (last_before None n.events e.key))
+abbrev pub accepts : Node → Event → Bool
+accepts n e = is_none n.rect.time.to && (has_point n.rect e.key e.at && is_after e (last_before None n.events e.key))

@@ -1,13 +1,13 @@
 //! Data nodes: what a rectangle of keys and time holds of all changes.
 #![tactic(auto)]
 
-mod carried;
+mod cut;
 mod laws;
-mod nodes;
+mod node;
 #[cfg(test)]
 mod tests;
 
-pub use carried::is_carried;
+pub use cut::is_carried;
 pub use laws::{cuts_are_nested, cuts_show_the_map, halves_hold_each_event_once};
-pub use nodes::DataNode;
-pub use rows::Event;
+pub use node::DataNode;
+pub use values::Event;

@@ -2,7 +2,7 @@
 
 use crate::{DataNode, is_carried};
 use keyrange::{KeyRange, Rect, TimeRange};
-use rows::{Event, Instant, KeyBytes, Mem, Row, Value};
+use values::{Event, Instant, KeyBytes, Mem, Row, Value};
 use std::alloc::{AllocError, Global};
 use std::process::Abort;
 use std::test::Fail;
@@ -50,7 +50,7 @@ fn put(
     there: bool,
 ) -> Mem<bool> {
     let event = event(rt, alloc, number, at, there)?;
-    if !node.takes(&event) {
+    if !node.accepts(&event) {
         return Ok(false);
     }
     node.put(event)?;

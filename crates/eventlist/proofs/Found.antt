@@ -8,9 +8,9 @@ use Rattle.std.specs.List.Sorted.{IsStrictlySortedBy, IsPartitionedBy}
 use Rattle.std.proofs.lemmas.Bool.Decides.{nat_tests}
 use Rattle.std.proofs.lemmas.List.Elements.{All-from_recursion}
 use Rattle.std.proofs.lemmas.Option.{slice_get-get_or, slice_get_read}
-use Rattle.rows.specs.declared.events.Event.{Event}
-use Rattle.rows.specs.Events.{bytes_cmp, is_bytes, event_cmp, later, event_until, event_since}
-use Rattle.eventlist.specs.Places.{AreFirst, is_until, of_key, last_event, since}
+use Rattle.values.specs.Event.{Event}
+use Rattle.values.specs.Events.{bytes_cmp, is_bytes, event_cmp, later, event_until, event_since}
+use Rattle.eventlist.specs.Place.{AreFirst, is_until, of_key, last_event, since}
 use Rattle.eventlist.proofs.Ranges.{not_above}
 use Rattle.eventlist.proofs.Parts.{first_same}
 use Rattle.eventlist.proofs.Ordered.{bytes_total, bytes_exact, is_bytes_back, same_bytes, bytes_tie, is_lower, sorted_head, sorted_tail, partitioned, within_tail, within_rest, within_head}

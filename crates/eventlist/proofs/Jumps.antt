@@ -9,12 +9,12 @@ use Rattle.std.specs.List.Sorted.{IsStrictlySortedBy}
 use Rattle.std.proofs.lemmas.Bool.Decides.{nat_tests}
 use Rattle.std.proofs.lemmas.List.Elements.{All-nil, All-cons, All-weaker, filter-append, recursion_from_All}
 use Rattle.std.proofs.lemmas.List.Folds.{list_any-append}
-use Rattle.rows.specs.declared.events.Event.{Event}
-use Rattle.rows.specs.Events.{bytes_cmp, event_cmp}
+use Rattle.values.specs.Event.{Event}
+use Rattle.values.specs.Events.{bytes_cmp, event_cmp}
 use Rattle.keyrange.specs.Points.{is_below}
 use Rattle.eventlist.specs.Listing.{overtakes, stands_at, is_of_table, standing}
-use Rattle.eventlist.specs.Places.{AreFirst, is_until, is_overtaken, is_up_to}
-use Rattle.eventlist.specs.Runs.{first_key, AreOfKey, AreAbove}
+use Rattle.eventlist.specs.Place.{AreFirst, is_until, is_overtaken, is_up_to}
+use Rattle.eventlist.specs.KeyGroup.{first_key, AreOfKey, AreAbove}
 use Rattle.eventlist.proofs.Ordered.{bytes_tie, bytes_exact, is_lower, sorted_head, sorted_tail, within_tail, within_rest, within_head}
 use Rattle.eventlist.proofs.Overtaken.{overtakes_is, is_overtakes, never, not_earlier, stands_before, stands_is}
 use Rattle.eventlist.proofs.Ranges.{not_above, not_above_parts, none_pass}

@@ -6,11 +6,11 @@ use Rattle.std.specs.declared.cmp.Ordering.{Ordering}
 use Rattle.std.specs.declared.cmp.Ordering.TheVariants.{Less, Equal, Greater}
 use Rattle.std.specs.List.Sorted.{IsStrictlySortedBy, IsPartitionedBy}
 use Rattle.std.proofs.lemmas.Bool.Decides.{nat_tests}
-use Rattle.rows.specs.declared.events.Event.{Event}
-use Rattle.rows.specs.Events.{bytes_cmp, event_cmp}
+use Rattle.values.specs.Event.{Event}
+use Rattle.values.specs.Events.{bytes_cmp, event_cmp}
 use Rattle.eventlist.specs.Listing.{is_of_table}
-use Rattle.eventlist.specs.Places.{AreFirst}
-use Rattle.eventlist.specs.Runs.{is_before_table}
+use Rattle.eventlist.specs.Place.{AreFirst}
+use Rattle.eventlist.specs.KeyGroup.{is_before_table}
 use Rattle.eventlist.proofs.Ordered.{bytes_exact, partitioned, is_lower}
 use Rattle.eventlist.proofs.Ranges.{front_dropped}
 use Rattle.eventlist.proofs.Parts.{passing_taken}

@@ -13,9 +13,9 @@ use Rattle.std.proofs.lemmas.Option.{slice_get_past, slice_get_read}
 use Rattle.std.specs.List.Sorted.{IsStrictlySortedBy, IsPartitionedBy}
 use Rattle.std.proofs.lemmas.Bool.Decides.{nat_tests}
 use Rattle.std.proofs.lemmas.List.Elements.{All-from_recursion}
-use Rattle.rows.specs.declared.events.Event.{Event}
-use Rattle.rows.specs.Events.{bytes_cmp, is_bytes, event_cmp}
-use Rattle.rows.proofs.Orders.{below}
+use Rattle.values.specs.Event.{Event}
+use Rattle.values.specs.Events.{bytes_cmp, is_bytes, event_cmp}
+use Rattle.values.proofs.Orders.{below}
 
 pub bytes_total : IsTotalOrder bytes_cmp
 bytes_total = nat_list_cmp_total

@@ -5,8 +5,8 @@ use Rattle.std.specs.declared.cmp.Ordering.TheVariants.{Less}
 use Rattle.std.specs.List.{AllByRecursion, AllWithin}
 use Rattle.std.specs.List.Sorted.{IsStrictlySortedBy}
 use Rattle.std.proofs.lemmas.List.Elements.{All-nil, All-cons}
-use Rattle.rows.specs.declared.events.Event.{Event}
-use Rattle.eventlist.specs.Places.{AreFirst}
+use Rattle.values.specs.Event.{Event}
+use Rattle.eventlist.specs.Place.{AreFirst}
 use Rattle.eventlist.proofs.Ordered.{sorted_head, sorted_tail, sorted_cons, sorted_none, within_tail, within_rest, within_head}
 use Rattle.eventlist.proofs.Ranges.{none_pass}
 

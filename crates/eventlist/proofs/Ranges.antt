@@ -5,12 +5,12 @@ use Rattle.std.specs.declared.cmp.Ordering.{Ordering}
 use Rattle.std.specs.declared.cmp.Ordering.TheVariants.{Less, Equal, Greater}
 use Rattle.std.specs.List.{AllWithin}
 use Rattle.std.specs.List.Sorted.{IsStrictlySortedBy, IsPartitionedBy}
-use Rattle.rows.specs.declared.events.Event.{Event}
-use Rattle.rows.specs.Events.{bytes_cmp, event_cmp}
-use Rattle.keyrange.specs.declared.ranges.KeyRange.{KeyRange}
+use Rattle.values.specs.Event.{Event}
+use Rattle.values.specs.Events.{bytes_cmp, event_cmp}
+use Rattle.keyrange.specs.declared.range.KeyRange.{KeyRange}
 use Rattle.keyrange.specs.Points.{is_below, is_before_end, is_key_in}
 use Rattle.eventlist.specs.Listing.{events_in}
-use Rattle.eventlist.specs.Places.{AreFirst}
+use Rattle.eventlist.specs.Place.{AreFirst}
 use Rattle.eventlist.proofs.Ordered.{bytes_total, bytes_exact, partitioned, within_tail, within_rest, within_head}
 
 -- ---- a range

@@ -1,3 +1,3 @@
 pub mod Listing
-pub mod Places
-pub mod Runs
+pub mod Place
+pub mod KeyGroup

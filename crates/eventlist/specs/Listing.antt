@@ -1,9 +1,9 @@
 -- What is listed of a list of events.
 use Rattle.std.specs.Prelude.{ℕ, List, [], ◌∷◌, Bool, false, ◌&&◌, ◌==◌, not, nat_le, nat_lt, is_some, filter}
 use Rattle.std.specs.List.{list_any}
-use Rattle.rows.specs.declared.events.Event.{Event}
-use Rattle.rows.specs.Events.{is_bytes}
-use Rattle.keyrange.specs.declared.ranges.KeyRange.{KeyRange}
+use Rattle.values.specs.Event.{Event}
+use Rattle.values.specs.Events.{is_bytes}
+use Rattle.keyrange.specs.declared.range.KeyRange.{KeyRange}
 use Rattle.keyrange.specs.Points.{is_key_in}
 
 -- the events of a range of keys, from an instant to another and with it

@@ -2,17 +2,17 @@
 #![tactic(auto)]
 
 mod listing;
-mod places;
-mod puts;
-mod runs;
-mod stands;
-mod tables;
+mod place;
+mod put;
+mod key_group;
+mod overtaking;
+mod table_events;
 #[cfg(test)]
 mod tests;
 
 pub use listing::{events_in, standing};
-pub use places::{event_since, event_until, place_after, place_behind_key, place_of, place_of_key};
-pub use puts::put_event;
-pub use runs::{place_until, split_first_key};
-pub use stands::is_overtaken;
-pub use tables::{is_of_table, of_table};
+pub use place::{event_since, event_until, place_after, place_behind_key, place_of, place_of_key};
+pub use put::put_event;
+pub use key_group::{place_until, split_first_key};
+pub use overtaking::is_overtaken;
+pub use table_events::{is_of_table, of_table};

@@ -1,17 +1,17 @@
 //! Events of a list, as new lists that share them.
 ghost use Rattle.std.specs.Prelude.{◌≡◌, ◌≤◌, ◌&&◌, IfOk, length, nat_le, filter};
 ghost use Rattle.std.specs.List.Sorted.{IsStrictlySortedBy};
-ghost use Rattle.rows.specs.Events.{event_cmp};
-ghost use Rattle.rows.specs.Memory.{OnlyMemory};
+ghost use Rattle.values.specs.Events.{event_cmp};
+ghost use Rattle.values.specs.Memory.{OnlyMemory};
 ghost use Rattle.keyrange.specs.Points.{is_before_end, is_key_in};
 ghost use Rattle.eventlist.specs.Listing.{events_in, standing, stands_at};
-ghost use Rattle.eventlist.specs.Places.{AreFirst};
+ghost use Rattle.eventlist.specs.Place.{AreFirst};
 
-use crate::places::place_of_key;
-use crate::runs::{split_first_key, standing_of};
-use crate::tables::of_table;
+use crate::place::place_of_key;
+use crate::key_group::{split_first_key, standing_of};
+use crate::table_events::of_table;
 use keyrange::KeyRange;
-use rows::{Event, Instant, KeyBytes, Mem, SharedEvent};
+use values::{Event, Instant, KeyBytes, Mem, SharedEvent};
 use std::alloc::Global;
 
 /// The events of a range of keys, from an instant to another and with it, in order.

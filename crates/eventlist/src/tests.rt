@@ -1,15 +1,15 @@
 //! Lists of a few events.
 ghost use Rattle.std.specs.Prelude.{◌≡◌, ◌<◌, IfOk};
 ghost use Rattle.std.specs.List.Sorted.{IsStrictlySortedBy};
-ghost use Rattle.rows.specs.KeyEncoding.{IsShortKey};
-ghost use Rattle.rows.specs.Events.{event_cmp};
+ghost use Rattle.values.specs.KeyEncoding.{IsShortKey};
+ghost use Rattle.values.specs.Events.{event_cmp};
 
 use crate::{
     event_since, event_until, events_in, is_of_table, is_overtaken, of_table, place_after,
     place_behind_key, place_of, place_of_key, place_until, put_event, split_first_key, standing,
 };
 use keyrange::KeyRange;
-use rows::{Event, Instant, Key, KeyBytes, Mem, Row, SharedEvent, Value, Values, key_bytes};
+use values::{Event, Instant, Key, KeyBytes, Mem, Row, SharedEvent, Value, Values, key_bytes};
 use std::alloc::{AllocError, Global};
 use std::process::Abort;
 use std::test::Fail;

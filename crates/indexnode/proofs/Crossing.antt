@@ -9,10 +9,10 @@ use Rattle.keyrange.specs.Points.{Area, has_point, is_area, is_below, is_early}
 use Rattle.keyrange.specs.Cuts.{is_key_inside}
 use Rattle.keyrange.proofs.Meetings.{both, first, second}
 use Rattle.keyrange.proofs.Orders.{not_itself, not_back}
-use Rattle.indexnode.specs.declared.references.Reference.{Reference}
+use Rattle.indexnode.specs.declared.reference.Reference.{Reference}
 use Rattle.indexnode.specs.Tiling.{Tiles}
 use Rattle.indexnode.specs.Halves.{is_current, IsUncrossed, AreCurrentIn}
-use Rattle.indexnode.specs.Choices.{current_keys, AreOrdered}
+use Rattle.indexnode.specs.Choice.{current_keys, AreOrdered}
 use Rattle.indexnode.proofs.Currents.{all_taken}
 use Rattle.indexnode.proofs.Tilings.{negated}
 

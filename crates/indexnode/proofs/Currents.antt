@@ -8,7 +8,7 @@ use Rattle.keyrange.specs.Points.{Area, has_point, is_key_in, is_below, is_befor
 use Rattle.keyrange.specs.Cuts.{is_key_inside, PartsKeys, PartsTime}
 use Rattle.keyrange.proofs.Meetings.{both, first, second}
 use Rattle.keyrange.proofs.Orders.{above}
-use Rattle.indexnode.specs.declared.references.Reference.{Reference}
+use Rattle.indexnode.specs.declared.reference.Reference.{Reference}
 use Rattle.indexnode.proofs.Tilings.{denied, negated}
 use Rattle.indexnode.specs.Tiling.{LiesIn}
 use Rattle.indexnode.specs.Halves.{reaches_below, reaches_up, starts_before, ends_after, is_current, IsUncrossed, IsBeforeCurrent, AreCurrentIn}

@@ -5,11 +5,11 @@ use Rattle.std.specs.List.{filter, All, splice}
 use Rattle.std.proofs.lemmas.List.{append_assoc, length-append, take-append-drop, drop_more}
 use Rattle.std.proofs.lemmas.List.Elements.{All-append, All-nil, All-cons, All-head, All-tail, All-weaker, filter-append}
 use Rattle.keyrange.specs.Points.{Area, has_point}
-use Rattle.indexnode.specs.declared.references.Reference.{Reference}
+use Rattle.indexnode.specs.declared.reference.Reference.{Reference}
 use Rattle.indexnode.specs.Tiling.{at_point, Tiles, LiesIn}
 use Rattle.indexnode.specs.Halves.{is_current, AreCurrentIn}
-use Rattle.indexnode.specs.Choices.{HasNoCurrent}
-use Rattle.indexnode.specs.Replacing.{HasRect, Replaced, IsFirstPlace}
+use Rattle.indexnode.specs.Choice.{HasNoCurrent}
+use Rattle.indexnode.specs.Replacement.{HasRect, Replaced, IsFirstPlace}
 use Rattle.indexnode.proofs.Currents.{all_taken}
 
 historical_one : (b : Bool) → b ≡ false → b ≡ true → ⊥

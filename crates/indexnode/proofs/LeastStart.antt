@@ -4,12 +4,12 @@ use Rattle.std.specs.Prelude.{IsTrue, nat_le, nat_lt, MatchOption, IfSome}
 use Rattle.std.specs.List.{filter, All, Any}
 use Rattle.std.proofs.lemmas.Bool.Decides.{nat_tests}
 use Rattle.std.proofs.lemmas.List.Elements.{All-push, All-weaker, All-head, All-tail, Contains-append_left, Contains-push}
-use Rattle.rows.specs.Commits.{last_instant}
+use Rattle.values.specs.Commits.{max_instant}
 use Rattle.keyrange.specs.Points.{is_area, is_before_end}
 use Rattle.keyrange.proofs.Meetings.{first, second}
-use Rattle.indexnode.specs.declared.references.Reference.{Reference}
+use Rattle.indexnode.specs.declared.reference.Reference.{Reference}
 use Rattle.indexnode.specs.Halves.{is_current, starts_before}
-use Rattle.indexnode.specs.Choices.{HasNoCurrent, IsLeastStart, current_count}
+use Rattle.indexnode.specs.Choice.{HasNoCurrent, IsLeastStart, current_count}
 use Rattle.indexnode.proofs.Instants.{at_most, is_less, not_less}
 use Rattle.indexnode.proofs.Middle.{all_or_fewer}
 
@@ -68,13 +68,13 @@ module _ {C : Type 0} where
   as_count xs None none = no_current xs none
   as_count xs (Some t) found = found
 
-  pub in_range : (xs : List (Reference C)) (least : Option ℕ) → All (λ r. IsTrue (is_area r.rect.keys r.rect.time)) xs → MatchOption least (HasNoCurrent xs) (IsLeastStart xs) → IfSome least (λ t. t ≤ last_instant)
+  pub in_range : (xs : List (Reference C)) (least : Option ℕ) → All (λ r. IsTrue (is_area r.rect.keys r.rect.time)) xs → MatchOption least (HasNoCurrent xs) (IsLeastStart xs) → IfSome least (λ t. t ≤ max_instant)
   in_range xs None areas none = tt
   in_range xs (Some t) areas found =
       let some = found.some in
       let area : IsTrue (is_area some.1.rect.keys some.1.rect.time) = subst (λ (r : Reference C). IsTrue (is_area r.rect.keys r.rect.time)) some.3 (areas some.0 some.1 some.2) in
-      let start : nat_le some.1.rect.time.from last_instant ≡ true = first _ _ (second (nat_le 1 some.1.rect.time.from) _ (second (is_before_end some.1.rect.keys.lo some.1.rect.keys.hi) _ area)) in
-      subst (λ n. n ≤ last_instant) some.4.1 (at_most some.1.rect.time.from last_instant start)
+      let start : nat_le some.1.rect.time.from max_instant ≡ true = first _ _ (second (nat_le 1 some.1.rect.time.from) _ (second (is_before_end some.1.rect.keys.lo some.1.rect.keys.hi) _ area)) in
+      subst (λ n. n ≤ max_instant) some.4.1 (at_most some.1.rect.time.from max_instant start)
 
   pub smaller : (xs : List (Reference C)) (least : Option ℕ) → MatchOption least (HasNoCurrent xs) (IsLeastStart xs) → IfSome least (λ t. length (filter (λ r. starts_before t r.rect) xs) < length xs)
   smaller xs None none = tt

@@ -6,10 +6,10 @@ use Rattle.std.proofs.lemmas.Bool.Decides.{nat_tests}
 use Rattle.std.proofs.lemmas.List.Elements.{All-nil, All-cons, All-head, All-tail, All-weaker}
 use Rattle.keyrange.specs.Points.{Area, has_point, is_key_in, is_early}
 use Rattle.keyrange.proofs.Meetings.{both, first, second}
-use Rattle.indexnode.specs.declared.references.Reference.{Reference}
+use Rattle.indexnode.specs.declared.reference.Reference.{Reference}
 use Rattle.indexnode.specs.Tiling.{at_point, Tiles, AllMeet}
 use Rattle.indexnode.specs.Halves.{is_current, ends_after}
-use Rattle.indexnode.specs.Choices.{HasNoCurrent, IsLeastStart, current_count, StandsAlone}
+use Rattle.indexnode.specs.Choice.{HasNoCurrent, IsLeastStart, current_count, StandsAlone}
 use Rattle.indexnode.proofs.Crossing.{endless, OnlyOne, only_one}
 use Rattle.indexnode.proofs.Instants.{up_to, at_most, is_less, less, early_before}
 use Rattle.indexnode.proofs.Middle.{fewer}

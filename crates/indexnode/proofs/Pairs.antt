@@ -4,7 +4,7 @@ use Rattle.std.specs.Prelude.{◌&&◌, not}
 use Rattle.std.specs.List.{filter, All}
 use Rattle.std.proofs.lemmas.List.Elements.{All-nil, All-cons}
 use Rattle.keyrange.specs.Points.{Area, has_point}
-use Rattle.indexnode.specs.declared.references.Reference.{Reference}
+use Rattle.indexnode.specs.declared.reference.Reference.{Reference}
 use Rattle.indexnode.specs.Tiling.{Tiles, LiesIn}
 
 once : {X : Type 0} (p : X → Bool) (x : X) → p x ≡ true → length (filter p (x ∷ [])) ≡ 1

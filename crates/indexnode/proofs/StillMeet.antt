@@ -4,15 +4,15 @@ use Rattle.std.specs.Prelude.{IsTrue, not, nat_lt, nat_le}
 use Rattle.std.specs.List.{filter, All}
 use Rattle.std.proofs.lemmas.Bool.Decides.{nat_tests}
 use Rattle.std.proofs.lemmas.List.Elements.{All-nil, All-cons, All-append}
-use Rattle.rows.specs.Commits.{last_instant}
+use Rattle.values.specs.Commits.{max_instant}
 use Rattle.keyrange.specs.Points.{Area, is_area, is_key_in, is_time_in, is_below, is_before_end, is_early, Common}
 use Rattle.keyrange.specs.Cuts.{is_key_inside, is_time_inside, PartsKeys, PartsTime}
 use Rattle.keyrange.proofs.Meetings.{both, first, second, common_point}
 use Rattle.keyrange.proofs.Orders.{not_itself, not_back, above}
-use Rattle.indexnode.specs.declared.references.Reference.{Reference}
+use Rattle.indexnode.specs.declared.reference.Reference.{Reference}
 use Rattle.indexnode.specs.Tiling.{LiesIn, AllMeet}
 use Rattle.indexnode.specs.Halves.{reaches_below, reaches_up, starts_before, ends_after}
-use Rattle.indexnode.specs.Replacing.{Replaced}
+use Rattle.indexnode.specs.Replacement.{Replaced}
 use Rattle.indexnode.proofs.Currents.{all_taken}
 use Rattle.indexnode.proofs.Instants.{up_to, at_most, is_less, less, early_before}
 use Rattle.indexnode.proofs.Tilings.{denied, negated, end_above}
@@ -25,7 +25,7 @@ starts_at_1 r is_one = at_most 1 r.time.from (first _ _ (second (is_before_end r
 inside_meets : (r outer : Area) → IsTrue (is_area r.keys r.time) → LiesIn r outer → Common r outer
 inside_meets r outer is_one lies =
     let keys : is_before_end r.keys.lo r.keys.hi ≡ true = first _ _ is_one in
-    let early : is_early r.time.from r.time.to ≡ true = first _ _ (second (nat_le r.time.from last_instant) _ (second (nat_le 1 r.time.from) _ (second (is_before_end r.keys.lo r.keys.hi) _ is_one))) in
+    let early : is_early r.time.from r.time.to ≡ true = first _ _ (second (nat_le r.time.from max_instant) _ (second (nat_le 1 r.time.from) _ (second (is_before_end r.keys.lo r.keys.hi) _ is_one))) in
     let c = common_point r r is_one is_one (both _ _ keys keys) (both _ _ early early) in
     record { key = c.key; instant = c.instant; is_first = c.is_first; is_last = c.is_last; in_first = c.in_first; in_second = lies c.key c.instant c.in_first }
 
@@ -154,9 +154,9 @@ module _ (area one other : Area) (cut : ℕ) (parts : PartsTime area one other c
 -- ---- lists of references
 
 module _ {C : Type 0} where
-  pub taken_meet : (area half : Area) (takes : Area → Bool) (references taken : List (Reference C)) → taken ≡ filter (λ r. takes r.rect) references → ((r : Area) → Common r area → takes r ≡ true → Common r half) → AllMeet area references → AllMeet half taken
-  taken_meet area half takes references taken are each meeting =
-      all_taken (λ r. Common r.rect area) (λ r. Common r.rect area) (λ r. Common r.rect half) (λ r. takes r.rect) references taken are (λ r c _ passes. each r.rect c passes) meeting meeting
+  pub taken_meet : (area half : Area) (keeps : Area → Bool) (references taken : List (Reference C)) → taken ≡ filter (λ r. keeps r.rect) references → ((r : Area) → Common r area → keeps r ≡ true → Common r half) → AllMeet area references → AllMeet half taken
+  taken_meet area half keeps references taken are each meeting =
+      all_taken (λ r. Common r.rect area) (λ r. Common r.rect area) (λ r. Common r.rect half) (λ r. keeps r.rect) references taken are (λ r c _ passes. each r.rect c passes) meeting meeting
 
   pub still_meet : (area rect : Area) (given before after : List (Reference C)) → Replaced rect given before after → AllMeet area before → AllMeet area given → AllMeet area after
   still_meet area rect given before after replaced olds news =

@@ -7,7 +7,7 @@ use Rattle.keyrange.specs.Points.{Area, has_point, is_key_in, is_below, is_befor
 use Rattle.keyrange.specs.Cuts.{PartsKeys, PartsTime}
 use Rattle.keyrange.proofs.Meetings.{first, second}
 use Rattle.keyrange.proofs.Orders.{above}
-use Rattle.indexnode.specs.declared.references.Reference.{Reference}
+use Rattle.indexnode.specs.declared.reference.Reference.{Reference}
 use Rattle.indexnode.specs.Tiling.{at_point, Tiles, LiesIn}
 use Rattle.indexnode.specs.Halves.{reaches_below, reaches_up, starts_before, ends_after}
 
@@ -33,15 +33,15 @@ under_more p q less (x ∷ xs) = under_one (p x) (q x) x p (filter q xs) (filter
 
 -- ---- a half that takes every reference that holds one of its points
 
-pub half_tiles : {C : Type 0} (area half : Area) (takes : Area → Bool) (references taken : List (Reference C))
+pub half_tiles : {C : Type 0} (area half : Area) (keeps : Area → Bool) (references taken : List (Reference C))
     → LiesIn half area
-    → ((r : Area) (key : List ℕ) (instant : ℕ) → IsTrue (has_point half key instant) → IsTrue (has_point r key instant) → takes r ≡ true)
-    → taken ≡ filter (λ r. takes r.rect) references
+    → ((r : Area) (key : List ℕ) (instant : ℕ) → IsTrue (has_point half key instant) → IsTrue (has_point r key instant) → keeps r ≡ true)
+    → taken ≡ filter (λ r. keeps r.rect) references
     → Tiles area references → Tiles half taken
-half_tiles area half takes references taken inside holding are tiled = record {
+half_tiles area half keeps references taken inside holding are tiled = record {
   once = λ key instant h.
       ap (λ l. length (at_point key instant l)) are
-      ∙ ap length (under_more (λ r. has_point r.rect key instant) (λ r. takes r.rect) (λ r. holding r.rect key instant h) references)
+      ∙ ap length (under_more (λ r. has_point r.rect key instant) (λ r. keeps r.rect) (λ r. holding r.rect key instant h) references)
       ∙ tiled.once key instant (inside key instant h);
 }
 

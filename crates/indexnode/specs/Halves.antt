@@ -2,9 +2,9 @@
 use Rattle.std.specs.Prelude.{◌≡◌, ℕ, ◌≤◌, List, Bool, false, nat_lt, is_none, IsTrue, All}
 use Rattle.keyrange.specs.Points.{Area, is_below, is_before_end, is_early}
 use Rattle.keyrange.specs.Cuts.{is_key_inside}
-use Rattle.indexnode.specs.declared.references.Reference.{Reference}
-use Rattle.indexnode.specs.declared.splits.Half.{Half}
-use Rattle.indexnode.specs.declared.splits.Half.TheVariants.{Below, From, Past, Current}
+use Rattle.indexnode.specs.declared.reference.Reference.{Reference}
+use Rattle.indexnode.specs.declared.split.Half.{Half}
+use Rattle.indexnode.specs.declared.split.Half.TheVariants.{Below, From, Past, Current}
 use Rattle.indexnode.specs.Tiling.{LiesIn}
 
 abbrev pub reaches_below : List ℕ → Area → Bool
@@ -22,11 +22,11 @@ abbrev pub ends_after : ℕ → Area → Bool
 ends_after instant area = is_early instant area.time.to
 
 -- what a half takes
-abbrev pub takes : Half → Area → Bool
-takes (Below key) area = reaches_below key.now area
-takes (From key) area = reaches_up key.now area
-takes (Past instant) area = starts_before instant area
-takes (Current instant) area = ends_after instant area
+abbrev pub keeps : Half → Area → Bool
+keeps (Below key) area = reaches_below key.now area
+keeps (From key) area = reaches_up key.now area
+keeps (Past instant) area = starts_before instant area
+keeps (Current instant) area = ends_after instant area
 
 -- a current reference has no end
 abbrev pub is_current : {C : Type 0} → Reference C → Bool

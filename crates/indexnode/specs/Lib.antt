@@ -1,5 +1,5 @@
-pub mod Choices
+pub mod Choice
 pub mod Halves
 pub mod Meeting
-pub mod Replacing
+pub mod Replacement
 pub mod Tiling

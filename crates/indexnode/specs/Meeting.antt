@@ -1,7 +1,7 @@
 -- Rectangles that meet.
 use Rattle.std.specs.Prelude.{◌↔◌, Bool, ◌&&◌, IsTrue}
 use Rattle.keyrange.specs.Points.{Area, key_ranges_meet, time_ranges_meet, Common}
-use Rattle.indexnode.specs.declared.references.Reference.{Reference}
+use Rattle.indexnode.specs.declared.reference.Reference.{Reference}
 
 -- each begins before the other ends, in keys and in instants
 abbrev pub meet : Area → Area → Bool

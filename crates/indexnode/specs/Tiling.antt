@@ -1,7 +1,7 @@
 -- References that tile a rectangle.
 use Rattle.std.specs.Prelude.{◌≡◌, ℕ, List, IsTrue, All, filter, length}
 use Rattle.keyrange.specs.Points.{Area, has_point, Common}
-use Rattle.indexnode.specs.declared.references.Reference.{Reference}
+use Rattle.indexnode.specs.declared.reference.Reference.{Reference}
 
 -- the references whose rectangles hold a point
 abbrev pub at_point : {C : Type 0} → List ℕ → ℕ → List (Reference C) → List (Reference C)

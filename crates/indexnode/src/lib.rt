@@ -1,15 +1,15 @@
 //! Nodes of references whose rectangles tile the node's own.
 #![tactic(auto)]
 
-mod choices;
-mod lists;
-mod nodes;
-mod references;
-mod replacements;
-mod splits;
+mod choice;
+mod list;
+mod node;
+mod reference;
+mod replacement;
+mod split;
 #[cfg(test)]
 mod tests;
 
-pub use lists::{pair, single};
-pub use nodes::IndexNode;
-pub use references::{Reference, Share};
+pub use list::{pair, single};
+pub use node::IndexNode;
+pub use reference::{Reference, Share};

@@ -6,7 +6,7 @@ ghost use Rattle.indexnode.specs.Halves.{AreCurrentIn};
 
 use crate::{IndexNode, Reference, Share, pair, single};
 use keyrange::{KeyRange, Rect, TimeRange};
-use rows::{Instant, KeyBytes, Mem};
+use values::{Instant, KeyBytes, Mem};
 use std::alloc::Global;
 use std::test::Fail;
 

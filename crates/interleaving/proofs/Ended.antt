@@ -11,32 +11,32 @@ use Rattle.std.specs.List.{AllByRecursion}
 use Rattle.std.specs.List.Sorted.{IsStrictlySortedBy}
 use Rattle.std.specs.Map.{keys_of}
 use Rattle.std.specs.Option.{option_map, option_flatten}
-use Rattle.rows.specs.declared.events.Event.{Event}
-use Rattle.rows.specs.declared.keys.Key.{Key}
-use Rattle.rows.specs.declared.keys.Point.{Point}
-use Rattle.rows.specs.declared.refusals.Refusal.{Refusal}
-use Rattle.rows.specs.declared.refusals.Refusal.TheVariants.{NoTransaction, Memory}
-use Rattle.rows.specs.Order.{is_key}
-use Rattle.rows.specs.Tables.{Schema}
-use Rattle.rows.specs.Log.{Changes, Net, Row, point_cmp, row_at, add_net, rows_after}
-use Rattle.rows.specs.Laws.{changes_upto}
-use Rattle.rows.specs.Commits.{outcome}
-use Rattle.rows.specs.Events.{events_of, later, AreKeysIn, put_net}
-use Rattle.rows.proofs.Orders.{point_cmp_total, first, second}
-use Rattle.rows.proofs.Maps.{insert_entry-put, sorted_insert}
-use Rattle.rows.proofs.Latest.{Upto, latest, point}
-use Rattle.rows.proofs.Sorted.{is_less, sorted_from}
-use Rattle.rows.proofs.Upto.{late_put}
-use Rattle.rows.proofs.EventKeys.{put_net_is, add_net_in}
+use Rattle.values.specs.Event.{Event}
+use Rattle.values.specs.declared.key.Key.{Key}
+use Rattle.values.specs.declared.key.Point.{Point}
+use Rattle.values.specs.declared.refusal.Refusal.{Refusal}
+use Rattle.values.specs.declared.refusal.Refusal.TheVariants.{NoTransaction, Memory}
+use Rattle.values.specs.Order.{is_key}
+use Rattle.values.specs.Tables.{Schema}
+use Rattle.values.specs.Log.{Changes, Net, Row, point_cmp, row_at, add_net, rows_after}
+use Rattle.values.specs.Laws.{changes_upto}
+use Rattle.values.specs.Commits.{outcome}
+use Rattle.values.specs.Events.{events_of, later, AreKeysIn, put_net}
+use Rattle.values.proofs.Orders.{point_cmp_total, first, second}
+use Rattle.values.proofs.Maps.{insert_entry-put, sorted_insert}
+use Rattle.values.proofs.Latest.{Upto, latest, point}
+use Rattle.values.proofs.Sorted.{is_less, sorted_from}
+use Rattle.values.proofs.Upto.{late_put}
+use Rattle.values.proofs.EventKeys.{put_net_is, add_net_in}
 use Rattle.eventlist.proofs.Placed.{all_put}
 use Rattle.staging.specs.Committed.{Committed, Holds}
 use Rattle.staging.specs.Own.{seen, net_over}
-use Rattle.statement.specs.declared.steps.Reply.{Reply}
-use Rattle.statement.specs.declared.steps.Reply.TheVariants.{Committed as Commits, Refused}
-use Rattle.turns.specs.World.{Session, World}
-use Rattle.turns.specs.Turns.{Turn, put, last_until, was_there, net_in, applied, end_turn, commit_turn}
-use Rattle.turns.specs.Runs.{is_out}
-use Rattle.turns.proofs.Nows.{row_after, flat, value, last_value, there}
+use Rattle.histories.specs.declared.step.Reply.{Reply}
+use Rattle.histories.specs.declared.step.Reply.TheVariants.{Committed as Commits, Refused}
+use Rattle.histories.specs.World.{Session, World}
+use Rattle.histories.specs.Turn.{Turn, put, last_until, was_there, net_in, applied, end_turn, commit_turn}
+use Rattle.histories.specs.Due.{is_out}
+use Rattle.histories.proofs.Nows.{row_after, flat, value, last_value, there}
 use Rattle.interleaving.specs.Keeping.{Begun, changes_in, session_of, world, IsOpen, IsSystem}
 use Rattle.interleaving.proofs.Keeps.{changes_again, session_is, put_is}
 use Rattle.interleaving.proofs.Written.{IsFound}

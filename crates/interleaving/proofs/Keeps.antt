@@ -7,25 +7,25 @@ use Rattle.std.proofs.Math.ListN.{get_or-map}
 use Rattle.std.specs.List.{cons_option}
 use Rattle.std.specs.Option.{option_map, option_and_then}
 use Rattle.std.specs.Map.{keys_of}
-use Rattle.rows.specs.declared.events.Event.{Event}
-use Rattle.rows.specs.declared.keys.Key.{Key}
-use Rattle.rows.specs.declared.keys.Point.{Point}
-use Rattle.rows.specs.declared.tables.Table.{Table}
-use Rattle.rows.specs.declared.refusals.Refusal.TheVariants.{InTransaction, NoTransaction}
-use Rattle.rows.specs.Tables.{Schema, table_at}
-use Rattle.rows.specs.Log.{Changes, Row}
-use Rattle.rows.specs.Laws.{changes_upto}
-use Rattle.rows.specs.KeyEncoding.{bytes_of_key}
-use Rattle.rows.specs.KeyReading.{key_from}
-use Rattle.rows.specs.Events.{events_of, event_of, IsKeyOfAny, IsKeyIn, AreChangesIn}
-use Rattle.rows.proofs.KeyReads.{key_back}
+use Rattle.values.specs.Event.{Event}
+use Rattle.values.specs.declared.key.Key.{Key}
+use Rattle.values.specs.declared.key.Point.{Point}
+use Rattle.values.specs.declared.table.Table.{Table}
+use Rattle.values.specs.declared.refusal.Refusal.TheVariants.{InTransaction, NoTransaction}
+use Rattle.values.specs.Tables.{Schema, table_at}
+use Rattle.values.specs.Log.{Changes, Row}
+use Rattle.values.specs.Laws.{changes_upto}
+use Rattle.values.specs.KeyEncoding.{bytes_of_key}
+use Rattle.values.specs.KeyReading.{key_from}
+use Rattle.values.specs.Events.{events_of, event_of, IsKeyOfAny, IsKeyIn, AreChangesIn}
+use Rattle.values.proofs.KeyReads.{key_back}
 use Rattle.staging.specs.Committed.{Committed, Holds}
 use Rattle.eventlist.proofs.Ordered.{sorted_none}
-use Rattle.rows.specs.Log.{point_cmp}
-use Rattle.statement.specs.declared.steps.Reply.TheVariants.{Begun as Begins, RolledBack, Refused}
-use Rattle.turns.specs.World.{Session, World}
-use Rattle.turns.specs.Turns.{Turn, put, opened_now, begin_turn, rollback_turn}
-use Rattle.turns.specs.Stands.{Stands, session_at}
+use Rattle.values.specs.Log.{point_cmp}
+use Rattle.histories.specs.declared.step.Reply.TheVariants.{Begun as Begins, RolledBack, Refused}
+use Rattle.histories.specs.World.{Session, World}
+use Rattle.histories.specs.Turn.{Turn, put, opened_now, begin_turn, rollback_turn}
+use Rattle.histories.specs.Stands.{Stands, session_at}
 use Rattle.interleaving.specs.Keeping.{Begun, change_in, changes_in, session_of, world, IsBegun, IsOpen, IsSystem}
 
 -- ---- events are read back

@@ -1,24 +1,24 @@
 -- What a query shows is what the turn lists.
 use Rattle.std.proofs.Common.{◌≡◌, ℕ, ◌≤◌, List, Option, Some, None, Bool, true, false, refl, sym, ap, ◌∙◌, subst, get_or, Result, Ok, Err, IfOk, map, filter}
 use Rattle.std.specs.Option.{option_map}
-use Rattle.rows.specs.declared.tables.Table.{Table}
-use Rattle.rows.specs.declared.queries.Form.{Form}
-use Rattle.rows.specs.declared.queries.Form.TheVariants.{Plain, AsOf, FromTo, Between}
-use Rattle.rows.specs.declared.queries.Keys.{Keys}
-use Rattle.rows.specs.declared.refusals.Refusal.{Refusal}
-use Rattle.rows.specs.declared.refusals.Refusal.TheVariants.{NoTable}
-use Rattle.rows.specs.Tables.{Schema, IsTable, table_at}
-use Rattle.rows.specs.Log.{Changes, State, Net, Row}
-use Rattle.rows.specs.Laws.{changes_upto}
-use Rattle.rows.specs.Versions.{answer, takes}
+use Rattle.values.specs.declared.table.Table.{Table}
+use Rattle.values.specs.declared.query.Form.{Form}
+use Rattle.values.specs.declared.query.Form.TheVariants.{Plain, AsOf, FromTo, Between}
+use Rattle.values.specs.declared.query.Keys.{Keys}
+use Rattle.values.specs.declared.refusal.Refusal.{Refusal}
+use Rattle.values.specs.declared.refusal.Refusal.TheVariants.{NoTable}
+use Rattle.values.specs.Tables.{Schema, IsTable, table_at}
+use Rattle.values.specs.Log.{Changes, State, Net, Row}
+use Rattle.values.specs.Laws.{changes_upto}
+use Rattle.values.specs.Versions.{answer, matches}
 use Rattle.staging.specs.Committed.{Committed, Holds}
 use Rattle.staging.specs.Own.{Reads, seen}
-use Rattle.statement.specs.declared.steps.Reply.{Reply}
-use Rattle.statement.specs.declared.steps.Reply.TheVariants.{Refused, Shown}
-use Rattle.statement.specs.declared.steps.Listing.{Listing}
-use Rattle.statement.specs.declared.steps.Listing.TheVariants.{Rows}
-use Rattle.turns.specs.World.{Session, World}
-use Rattle.turns.specs.Turns.{listing, select_reply}
+use Rattle.histories.specs.declared.step.Reply.{Reply}
+use Rattle.histories.specs.declared.step.Reply.TheVariants.{Refused, Shown}
+use Rattle.histories.specs.declared.step.Listing.{Listing}
+use Rattle.histories.specs.declared.step.Listing.TheVariants.{Rows}
+use Rattle.histories.specs.World.{Session, World}
+use Rattle.histories.specs.Turn.{listing, select_reply}
 use Rattle.interleaving.specs.Keeping.{Begun, changes_in, session_of, world, IsBegun, IsSystem}
 use Rattle.interleaving.specs.Listings.{listed, listed_in}
 use Rattle.interleaving.proofs.Keeps.{session_is, place_is, upto_now}
@@ -47,7 +47,7 @@ past_shown (Ok l) view seen_view writes table form keys is past h = λ schema m 
 
 -- what a plain query shows in a transaction
 pub plain_shown : (schema : Schema) (m : Changes) (table : Table) (form : Form) (keys : Keys) (b c : Begun) (found : State) (rows : List Row) → b ≡ c → form ≡ Plain → rows ≡ map (λ e. e.1) found
-    → (Reads schema table b.view b.writes m → keys.table ≡ table.number → found ≡ filter (λ e. takes table keys e.0) (seen m b.writes))
+    → (Reads schema table b.view b.writes m → keys.table ≡ table.number → found ≡ filter (λ e. matches table keys e.0) (seen m b.writes))
     → Reads schema table c.view c.writes m → keys.table ≡ table.number → Rows rows ≡ listed_in m c.writes table form keys
 plain_shown schema m table form keys b c found rows is plain are did reads same =
     subst (λ (c : Begun). Reads schema table c.view c.writes m → Rows rows ≡ listed_in m c.writes table form keys) is

@@ -3,15 +3,15 @@ use Rattle.std.proofs.Common.{◌≡◌, ◌≢◌, ℕ, List, [], ◌∷◌, �
 use Rattle.std.specs.Prelude.{Result, Ok, Err, OnOk, OnErr, IfSome}
 use Rattle.std.specs.Io.KnownBytes.{Appends, Consumes, Keeps, IsAtEnd}
 use Rattle.std.proofs.KnownBytes.{Appends-nil}
-use Rattle.rows.specs.Tables.{Schema}
-use Rattle.statement.specs.Lines.{line_says}
-use Rattle.statement.specs.Puts.{AppendsFront}
+use Rattle.values.specs.Tables.{Schema}
+use Rattle.statement.specs.Line.{line_says}
+use Rattle.statement.specs.Writer.{AppendsFront}
 use Rattle.statement.specs.Taking.{Feeds, Breaks}
 use Rattle.statement.specs.Transcript.{Partial, Progress, Reading, beginning, add, ended, line_reply, line_leaves, last_reply, last_leaves, IsTranscript, IsStopped}
 use Rattle.statement.proofs.Feeding.{Taken, Done, feeds_none, feeds_byte, feeds_end, breaks_end, feeds_join, breaks_join, taken_none, taken_more, stopped_between, stopped_inside, stopped_at_end, done_all}
-use Rattle.interleaving.specs.declared.scripts.Script.{Script}
-use Rattle.turns.specs.Stands.{Stands}
-use Rattle.interleaving.specs.Scripts.{line_of, IsAt, SameRun, Answered, Broken, has_byte, Fed, Finished, Unfinished, IsRun}
+use Rattle.interleaving.specs.declared.script.Script.{Script}
+use Rattle.histories.specs.Stands.{Stands}
+use Rattle.interleaving.specs.Script.{line_of, IsAt, SameRun, Answered, Broken, has_byte, Fed, Finished, Unfinished, IsRun}
 use Rattle.interleaving.proofs.Scripting.{at_same}
 
 pub byte_fed : (a : Option (List ℕ)) (s s' : Script) (schema : Schema) (p : Progress) (byte : ℕ) → line_of s' ≡ add (line_of s) byte → SameRun s s' → byte ≢ 10 → IsAt s schema p → Fed a a s s' schema p (byte ∷ [])

@@ -3,23 +3,23 @@ use Rattle.std.proofs.Common.{◌≡◌, ◌≢◌, ℕ, List, [], ◌∷◌, tr
 use Rattle.std.specs.Prelude.{Result, Ok, Err, OnOk, OnErr, ◌⊎◌}
 use Rattle.std.specs.Io.KnownBytes.{Appends, Keeps}
 use Rattle.std.proofs.KnownBytes.{Appends-kept}
-use Rattle.rows.specs.Tables.{Schema}
-use Rattle.rows.specs.declared.refusals.Refusal.{Refusal}
-use Rattle.rows.specs.declared.refusals.Refusal.TheVariants.{Syntax, NoTable, BadRow, NoTransaction, InTransaction, DuplicateKey, Conflict, ClockEnd, TooManyWrites, Memory, NoSession, LineTooLong, JournalFull, Overlap, BadPeriod, TransactionsOpen}
-use Rattle.statement.specs.declared.steps.Line.{Line}
-use Rattle.statement.specs.declared.steps.Line.TheVariants.{Step as Asks}
-use Rattle.statement.specs.declared.steps.Step.{Step}
-use Rattle.statement.specs.declared.steps.Reply.{Reply}
-use Rattle.statement.specs.declared.steps.Reply.TheVariants.{Begun, Inserted, Updated, Deleted, Shown, Committed, RolledBack, Done, Refused}
-use Rattle.statement.specs.History.{History, reply}
-use Rattle.statement.specs.Lines.{line_says}
+use Rattle.values.specs.Tables.{Schema}
+use Rattle.values.specs.declared.refusal.Refusal.{Refusal}
+use Rattle.values.specs.declared.refusal.Refusal.TheVariants.{Syntax, NoTable, BadRow, NoTransaction, InTransaction, DuplicateKey, Conflict, ClockEnd, TooManyWrites, Memory, NoSession, LineTooLong, JournalFull, Overlap, BadPeriod, TransactionsOpen}
+use Rattle.statement.specs.declared.line.Line.{Line}
+use Rattle.statement.specs.declared.line.Line.TheVariants.{Step as Asks}
+use Rattle.histories.specs.declared.step.Step.{Step}
+use Rattle.histories.specs.declared.step.Reply.{Reply}
+use Rattle.histories.specs.declared.step.Reply.TheVariants.{Begun, Inserted, Updated, Deleted, Shown, Committed, RolledBack, Done, Refused}
+use Rattle.histories.specs.History.{History, reply}
+use Rattle.statement.specs.Line.{line_says}
 use Rattle.statement.specs.Memory.{UnlessMemory}
-use Rattle.statement.specs.Puts.{Puts, AppendsFront}
-use Rattle.statement.specs.Replies.{reply_text, refusal_text}
+use Rattle.statement.specs.Writer.{Puts, AppendsFront}
+use Rattle.statement.specs.Print.{reply_text, refusal_text}
 use Rattle.statement.specs.Transcript.{Partial, Progress, read_at, answered, left_by, line_reply}
-use Rattle.interleaving.specs.declared.scripts.Script.{Script}
-use Rattle.turns.specs.Stands.{Stands}
-use Rattle.interleaving.specs.Scripts.{IsAt, SameRun, Answered, Broken}
+use Rattle.interleaving.specs.declared.script.Script.{Script}
+use Rattle.histories.specs.Stands.{Stands}
+use Rattle.interleaving.specs.Script.{IsAt, SameRun, Answered, Broken}
 
 pub puts_ok : {E P : Type 0} (a b : Option (List ℕ)) (r : Result (Unit {0}) E) (text : List ℕ) → Puts a b r text → (Appends a b text → P) → OnOk r P
 puts_ok a b (Ok done) text p f = f p

@@ -1,16 +1,16 @@
 -- What a step's clauses say, where it took its turn or changed nothing.
 use Rattle.std.proofs.Common.{◌≡◌, ◌≢◌, true, false, None, ◌∷◌, refl, sym, ap, subst}
-use Rattle.rows.specs.declared.refusals.Refusal.{Refusal}
-use Rattle.rows.specs.declared.refusals.Refusal.TheVariants.{Memory}
-use Rattle.statement.specs.declared.steps.Step.{Step}
-use Rattle.statement.specs.declared.steps.Reply.{Reply}
-use Rattle.statement.specs.declared.steps.Reply.TheVariants.{Refused}
-use Rattle.statement.specs.History.{History, reply, misfit}
-use Rattle.turns.specs.World.{World}
-use Rattle.turns.specs.Turns.{Turn, turn_in}
-use Rattle.turns.specs.Stands.{Stands}
-use Rattle.turns.specs.Runs.{is_want, is_out}
-use Rattle.turns.proofs.Turned.{Stepped, stepped, fitting_turn}
+use Rattle.values.specs.declared.refusal.Refusal.{Refusal}
+use Rattle.values.specs.declared.refusal.Refusal.TheVariants.{Memory}
+use Rattle.histories.specs.declared.step.Step.{Step}
+use Rattle.histories.specs.declared.step.Reply.{Reply}
+use Rattle.histories.specs.declared.step.Reply.TheVariants.{Refused}
+use Rattle.histories.specs.History.{History, reply, misfit}
+use Rattle.histories.specs.World.{World}
+use Rattle.histories.specs.Turn.{Turn, turn_in}
+use Rattle.histories.specs.Stands.{Stands}
+use Rattle.histories.specs.Due.{is_want, is_out}
+use Rattle.histories.proofs.Turned.{Stepped, stepped, fitting_turn}
 
 only_want : (refusal : Refusal) → is_want refusal ≡ true → refusal ≡ Memory
 only_want Memory h = refl

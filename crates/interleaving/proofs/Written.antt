@@ -2,27 +2,27 @@
 use Rattle.std.proofs.Common.{◌≡◌, ◌≢◌, ℕ, ◌≤◌, List, [], Option, Some, None, Bool, true, false, refl, sym, ap, ◌∙◌, subst, map, length, nat_lt, ◌==◌, arith, get_or, set, Result, Ok, Err, if◌then◌else◌}
 use Rattle.std.proofs.lemmas.Bool.Decides.{nat_tests}
 use Rattle.std.specs.Option.{option_map}
-use Rattle.rows.specs.declared.keys.Key.{Key}
-use Rattle.rows.specs.declared.tables.Table.{Table}
-use Rattle.rows.specs.declared.queries.Keys.{Keys}
-use Rattle.rows.specs.declared.queries.Set.{Set}
-use Rattle.rows.specs.declared.refusals.Refusal.{Refusal}
-use Rattle.rows.specs.declared.refusals.Refusal.TheVariants.{NoTable, NoSession, NoTransaction, DuplicateKey, TooManyWrites, Memory}
-use Rattle.rows.specs.Tables.{Schema, IsTable, table_at}
-use Rattle.rows.specs.Log.{State, Net, Row}
-use Rattle.rows.specs.Fits.{rows_fault, comparisons_fault, sets_fault, first_of}
-use Rattle.rows.specs.Writes.{key_of, insert_rows, duplicate, update_rows, delete_rows, met, add_keys}
-use Rattle.rows.specs.Events.{AreKeysIn}
+use Rattle.values.specs.declared.key.Key.{Key}
+use Rattle.values.specs.declared.table.Table.{Table}
+use Rattle.values.specs.declared.query.Keys.{Keys}
+use Rattle.values.specs.declared.query.Set.{Set}
+use Rattle.values.specs.declared.refusal.Refusal.{Refusal}
+use Rattle.values.specs.declared.refusal.Refusal.TheVariants.{NoTable, NoSession, NoTransaction, DuplicateKey, TooManyWrites, Memory}
+use Rattle.values.specs.Tables.{Schema, IsTable, table_at}
+use Rattle.values.specs.Log.{State, Net, Row}
+use Rattle.values.specs.Fit.{rows_fault, comparisons_fault, sets_fault, first_of}
+use Rattle.values.specs.Writes.{key_of, insert_rows, duplicate, update_rows, delete_rows, met, add_keys}
+use Rattle.values.specs.Events.{AreKeysIn}
 use Rattle.staging.specs.Committed.{Committed}
 use Rattle.staging.specs.Own as own
 use Rattle.staging.specs.Own.{Own, Written, Reads, fitting, of_table}
-use Rattle.statement.specs.declared.steps.Reply.{Reply}
-use Rattle.statement.specs.declared.steps.Reply.TheVariants.{Inserted, Updated, Deleted, Refused}
-use Rattle.statement.specs.declared.steps.Step.TheVariants.{Insert, Update, Delete}
-use Rattle.statement.specs.History.{bad_row, misfit, misfit_of}
-use Rattle.turns.specs.World.{Session, World}
-use Rattle.turns.specs.Turns.{Turn, put, writing, insert_into, update_in, delete_from, write_turn}
-use Rattle.turns.specs.Runs.{is_out}
+use Rattle.histories.specs.declared.step.Reply.{Reply}
+use Rattle.histories.specs.declared.step.Reply.TheVariants.{Inserted, Updated, Deleted, Refused}
+use Rattle.histories.specs.declared.step.Step.TheVariants.{Insert, Update, Delete}
+use Rattle.histories.specs.History.{bad_row, misfit, misfit_of}
+use Rattle.histories.specs.World.{Session, World}
+use Rattle.histories.specs.Turn.{Turn, put, writing, insert_into, update_in, delete_from, write_turn}
+use Rattle.histories.specs.Due.{is_out}
 use Rattle.interleaving.specs.Keeping.{Begun, changes_in, session_of, world, IsBegun, IsOpen, IsSystem}
 use Rattle.interleaving.proofs.Keeps.{session_is, put_is, begun_at, place_is}
 

@@ -3,17 +3,17 @@ use Rattle.std.specs.Prelude.{◌≡◌, ℕ, ◌≤◌, List, [], ◌∷◌, Op
 use Rattle.std.specs.List.{filter_map}
 use Rattle.std.specs.Map.{keys_of}
 use Rattle.std.specs.Option.{option_map}
-use Rattle.rows.specs.declared.events.Event.{Event}
-use Rattle.rows.specs.declared.keys.Key.{Key}
-use Rattle.rows.specs.declared.keys.Point.{Point}
-use Rattle.rows.specs.Tables.{Schema, table_at}
-use Rattle.rows.specs.Log.{Changes, Net, Row}
-use Rattle.rows.specs.Laws.{changes_upto}
-use Rattle.rows.specs.KeyReading.{key_from}
-use Rattle.rows.specs.Events.{AreKeysIn}
+use Rattle.values.specs.Event.{Event}
+use Rattle.values.specs.declared.key.Key.{Key}
+use Rattle.values.specs.declared.key.Point.{Point}
+use Rattle.values.specs.Tables.{Schema, table_at}
+use Rattle.values.specs.Log.{Changes, Net, Row}
+use Rattle.values.specs.Laws.{changes_upto}
+use Rattle.values.specs.KeyReading.{key_from}
+use Rattle.values.specs.Events.{AreKeysIn}
 use Rattle.staging.specs.Committed.{Committed, Holds}
 use Rattle.staging.specs.Own.{seen}
-use Rattle.turns.specs.World.{Session, World}
+use Rattle.histories.specs.World.{Session, World}
 
 -- an open transaction: what it sees of what was committed, and its own writes
 pub record Begun : Type 0 where

@@ -1,3 +1,3 @@
 pub mod Keeping
 pub mod Listings
-pub mod Scripts
+pub mod Script

@@ -1,16 +1,16 @@
 -- What a query shows, as rows or with their periods.
 use Rattle.std.specs.Prelude.{List}
-use Rattle.rows.specs.declared.tables.Table.{Table}
-use Rattle.rows.specs.declared.queries.Form.{Form}
-use Rattle.rows.specs.declared.queries.Form.TheVariants.{Plain, AsOf, FromTo, Between}
-use Rattle.rows.specs.declared.queries.Keys.{Keys}
-use Rattle.rows.specs.declared.queries.Shown.{Shown as Version}
-use Rattle.rows.specs.Log.{Changes, Net}
-use Rattle.rows.specs.Versions.{answer}
+use Rattle.values.specs.declared.table.Table.{Table}
+use Rattle.values.specs.declared.query.Form.{Form}
+use Rattle.values.specs.declared.query.Form.TheVariants.{Plain, AsOf, FromTo, Between}
+use Rattle.values.specs.declared.query.Keys.{Keys}
+use Rattle.values.specs.declared.query.Shown.{Shown as Version}
+use Rattle.values.specs.Log.{Changes, Net}
+use Rattle.values.specs.Versions.{answer}
 use Rattle.staging.specs.Own.{seen}
-use Rattle.statement.specs.declared.steps.Listing.{Listing}
-use Rattle.statement.specs.declared.steps.Listing.TheVariants.{Rows, Periods}
-use Rattle.statement.specs.History.{rows_taken, rows_of}
+use Rattle.histories.specs.declared.step.Listing.{Listing}
+use Rattle.histories.specs.declared.step.Listing.TheVariants.{Rows, Periods}
+use Rattle.histories.specs.History.{rows_taken, rows_of}
 
 -- versions: their rows, or the rows with their periods
 abbrev pub listed : Form → List Version → Listing

@@ -1,16 +1,16 @@
 //! The store as one machine that takes steps.
 #![tactic(auto)]
 
-mod begins;
-mod commits;
-mod runs;
-mod scripts;
-mod selects;
-mod steps;
+mod begin;
+mod commit;
+mod run;
+mod script;
+mod select;
+mod step;
 mod system;
-mod writes;
+mod write;
 
-pub use scripts::{RunFault, run_script};
+pub use script::{RunFault, run_script};
 pub use system::System;
 
 #[cfg(test)]

@@ -1,6 +1,6 @@
 //! The store, and the open transactions in it.
 ghost use Rattle.std.specs.Prelude.{◌≡◌, IfOk};
-ghost use Rattle.rows.specs.Memory.{OnlyMemory};
+ghost use Rattle.values.specs.Memory.{OnlyMemory};
 
 use rows::{Mem, Schema};
 use staging::{Staged, View};
@@ -36,7 +36,7 @@ pub struct System {
 }
 
 impl Model for System {
-    ghost use Rattle.turns.specs.World.{World};
+    ghost use Rattle.histories.specs.World.{World};
     ghost use Rattle.interleaving.specs.Keeping.{world, IsSystem};
 
     ghost Value = { World };
@@ -48,7 +48,7 @@ impl Model for System {
 
 impl System {
     ghost use Rattle.std.specs.Prelude.{[]};
-    ghost use Rattle.turns.specs.Stands.{Stands};
+    ghost use Rattle.histories.specs.Stands.{Stands};
 
     /// A store in which nothing was committed.
     pub fn new(alloc: Global, schema: Schema) -> Mem<System>

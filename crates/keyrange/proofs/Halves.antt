@@ -2,9 +2,9 @@
 use Rattle.std.proofs.Common.{◌≡◌, ℕ, ◌<◌, ◌≤◌, List, Bool, true, false, Option, Some, None, refl, sym, ap, subst, ◌∙◌, arith}
 use Rattle.std.specs.Prelude.{◌&&◌, not, nat_le, nat_lt, if◌then◌else◌, IfSome}
 use Rattle.std.proofs.lemmas.Bool.Decides.{nat_tests}
-use Rattle.rows.specs.Commits.{last_instant}
-use Rattle.keyrange.specs.declared.ranges.KeyRange.{KeyRange}
-use Rattle.keyrange.specs.declared.ranges.TimeRange.{TimeRange}
+use Rattle.values.specs.Commits.{max_instant}
+use Rattle.keyrange.specs.declared.range.KeyRange.{KeyRange}
+use Rattle.keyrange.specs.declared.range.TimeRange.{TimeRange}
 use Rattle.keyrange.specs.Points.{is_below, is_before_end, is_early, is_instant_end, is_area, is_key_in, is_time_in, Area, has_point}
 use Rattle.keyrange.specs.Cuts.{pair_of, made, is_key_inside, is_time_inside, halves_by_key, halves_by_time, PartsKeys, PartsTime}
 use Rattle.keyrange.proofs.Orders.{not_back, above, under}
@@ -37,15 +37,15 @@ above_first x y e f = grind (arith, nat_tests)
 record AreaFacts (keys : KeyRange) (time : TimeRange) : Type 0 where
   has_key : is_before_end keys.lo keys.hi ≡ true
   starts : nat_le 1 time.from ≡ true
-  in_range : nat_le time.from last_instant ≡ true
+  in_range : nat_le time.from max_instant ≡ true
   has_instant : is_early time.from time.to ≡ true
   end_in_range : is_instant_end time.to ≡ true
 
 facts_of : (keys : KeyRange) (time : TimeRange) → is_area keys time ≡ true → AreaFacts keys time
 facts_of keys time is =
-    let rest : (nat_le 1 time.from && (nat_le time.from last_instant && (is_early time.from time.to && is_instant_end time.to))) ≡ true = second (is_before_end keys.lo keys.hi) _ is in
-    let more : (nat_le time.from last_instant && (is_early time.from time.to && is_instant_end time.to)) ≡ true = second (nat_le 1 time.from) _ rest in
-    let ends : (is_early time.from time.to && is_instant_end time.to) ≡ true = second (nat_le time.from last_instant) _ more in
+    let rest : (nat_le 1 time.from && (nat_le time.from max_instant && (is_early time.from time.to && is_instant_end time.to))) ≡ true = second (is_before_end keys.lo keys.hi) _ is in
+    let more : (nat_le time.from max_instant && (is_early time.from time.to && is_instant_end time.to)) ≡ true = second (nat_le 1 time.from) _ rest in
+    let ends : (is_early time.from time.to && is_instant_end time.to) ≡ true = second (nat_le time.from max_instant) _ more in
     record {
       has_key = first _ _ is;
       starts = first _ _ rest;
@@ -55,16 +55,16 @@ facts_of keys time is =
     }
 
 area_of : (keys : KeyRange) (time : TimeRange) → AreaFacts keys time → is_area keys time ≡ true
-area_of keys time f = both (is_before_end keys.lo keys.hi) _ f.has_key (both (nat_le 1 time.from) _ f.starts (both (nat_le time.from last_instant) _ f.in_range (both (is_early time.from time.to) _ f.has_instant f.end_in_range)))
+area_of keys time f = both (is_before_end keys.lo keys.hi) _ f.has_key (both (nat_le 1 time.from) _ f.starts (both (nat_le time.from max_instant) _ f.in_range (both (is_early time.from time.to) _ f.has_instant f.end_in_range)))
 
 record InsideFacts (r : Area) (instant : ℕ) : Type 0 where
   later : nat_lt r.time.from instant ≡ true
   before_end : is_early instant r.time.to ≡ true
-  in_range : nat_le instant last_instant ≡ true
+  in_range : nat_le instant max_instant ≡ true
 
 inside_of : (r : Area) (instant : ℕ) → is_time_inside r instant ≡ true → InsideFacts r instant
 inside_of r instant inside =
-    let bounded : (is_early instant r.time.to && nat_le instant last_instant) ≡ true = second (nat_lt r.time.from instant) _ inside in
+    let bounded : (is_early instant r.time.to && nat_le instant max_instant) ≡ true = second (nat_lt r.time.from instant) _ inside in
     record { later = first _ _ inside; before_end = first _ _ bounded; in_range = second (is_early instant r.time.to) _ bounded }
 
 pub times_made : (r : Area) (instant : ℕ) → is_area r.keys r.time ≡ true → is_time_inside r instant ≡ true → pair_of (made r.keys (past_part r instant)) (made r.keys (now_part r instant)) ≡ halves_by_time r instant

@@ -2,9 +2,9 @@
 use Rattle.std.proofs.Common.{◌≡◌, ℕ, ◌<◌, ◌≤◌, List, Bool, true, false, Option, Some, None, refl, sym, ap, subst, ◌∙◌, arith}
 use Rattle.std.specs.Prelude.{◌&&◌, not, nat_le, nat_lt, IsTrue}
 use Rattle.std.proofs.lemmas.Bool.Decides.{nat_tests}
-use Rattle.rows.specs.Commits.{last_instant}
-use Rattle.keyrange.specs.declared.ranges.KeyRange.{KeyRange}
-use Rattle.keyrange.specs.declared.ranges.TimeRange.{TimeRange}
+use Rattle.values.specs.Commits.{max_instant}
+use Rattle.keyrange.specs.declared.range.KeyRange.{KeyRange}
+use Rattle.keyrange.specs.declared.range.TimeRange.{TimeRange}
 use Rattle.keyrange.specs.Points.{is_below, is_before_end, is_early, is_instant_end, is_area, is_key_in, is_time_in, key_ranges_meet, time_ranges_meet, Area, has_point, Common}
 use Rattle.keyrange.proofs.Orders.{not_itself, not_back, above}
 
@@ -63,7 +63,7 @@ keys_meet a b k p q = both _ _ (end_above k a.lo b.hi (denied _ (first _ _ p)) (
 record TimeInBoth (a b : TimeRange) : Type 0 where
   instant : ℕ
   is_first : 1 ≤ instant
-  is_last : instant ≤ last_instant
+  is_last : instant ≤ max_instant
   in_first : is_time_in a instant ≡ true
   in_second : is_time_in b instant ≡ true
 
@@ -76,7 +76,7 @@ is_at_most x y e = grind (arith, nat_tests)
 later : (x y : ℕ) → nat_le x y ≡ false → y ≤ x
 later x y e = grind (arith, nat_tests)
 
-time_in_both : (a b : TimeRange) → 1 ≤ a.from → 1 ≤ b.from → a.from ≤ last_instant → b.from ≤ last_instant → is_early a.from a.to ≡ true → is_early b.from b.to ≡ true → time_ranges_meet a b ≡ true → TimeInBoth a b
+time_in_both : (a b : TimeRange) → 1 ≤ a.from → 1 ≤ b.from → a.from ≤ max_instant → b.from ≤ max_instant → is_early a.from a.to ≡ true → is_early b.from b.to ≡ true → time_ranges_meet a b ≡ true → TimeInBoth a b
 time_in_both a b one_a one_b last_a last_b ends_a ends_b meets = by (nat_le a.from b.from) refl
   where
     by : (t : Bool) → nat_le a.from b.from ≡ t → TimeInBoth a b
@@ -112,7 +112,7 @@ common_point a b is_a is_b keys times =
     let more_b = second (nat_le 1 b.time.from) _ rest_b in
     let key = key_in_both a.keys b.keys (first _ _ is_a) (first _ _ is_b) keys in
     let time = time_in_both a.time b.time (at_most _ _ (first _ _ rest_a)) (at_most _ _ (first _ _ rest_b)) (at_most _ _ (first _ _ more_a)) (at_most _ _ (first _ _ more_b))
-    (first (is_early a.time.from a.time.to) _ (second (nat_le a.time.from last_instant) _ more_a)) (first (is_early b.time.from b.time.to) _ (second (nat_le b.time.from last_instant) _ more_b)) times in
+    (first (is_early a.time.from a.time.to) _ (second (nat_le a.time.from max_instant) _ more_a)) (first (is_early b.time.from b.time.to) _ (second (nat_le b.time.from max_instant) _ more_b)) times in
     record {
       key = key.key;
       instant = time.instant;

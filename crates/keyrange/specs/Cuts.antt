@@ -1,8 +1,8 @@
 -- The two halves of a cut rectangle.
 use Rattle.std.specs.Prelude.{◌≡◌, ℕ, List, Bool, ◌&&◌, not, nat_lt, nat_le, Option, Some, None, if◌then◌else◌}
-use Rattle.rows.specs.Commits.{last_instant}
-use Rattle.keyrange.specs.declared.ranges.KeyRange.{KeyRange}
-use Rattle.keyrange.specs.declared.ranges.TimeRange.{TimeRange}
+use Rattle.values.specs.Commits.{max_instant}
+use Rattle.keyrange.specs.declared.range.KeyRange.{KeyRange}
+use Rattle.keyrange.specs.declared.range.TimeRange.{TimeRange}
 use Rattle.keyrange.specs.Points.{is_area, Area, is_below, is_before_end, is_early, has_point}
 
 -- the rectangle of two ranges
@@ -20,7 +20,7 @@ is_key_inside r key = is_below r.keys.lo key && is_before_end key r.keys.hi
 
 -- strictly inside the range of instants, and an instant
 abbrev pub is_time_inside : Area → ℕ → Bool
-is_time_inside r instant = nat_lt r.time.from instant && (is_early instant r.time.to && nat_le instant last_instant)
+is_time_inside r instant = nat_lt r.time.from instant && (is_early instant r.time.to && nat_le instant max_instant)
 
 abbrev pub halves_by_key : Area → List ℕ → Option (Area × Area)
 halves_by_key r key =

@@ -2,9 +2,9 @@
 use Rattle.std.specs.Prelude.{ℕ, ◌≤◌, List, Bool, true, false, ◌&&◌, not, nat_le, nat_lt, Option, Some, None, IsTrue}
 use Rattle.std.specs.Ordering.{nat_cmp, is_lt}
 use Rattle.std.specs.Cmp.Lexicographic.{slice_cmp}
-use Rattle.rows.specs.Commits.{last_instant}
-use Rattle.keyrange.specs.declared.ranges.KeyRange.{KeyRange}
-use Rattle.keyrange.specs.declared.ranges.TimeRange.{TimeRange}
+use Rattle.values.specs.Commits.{max_instant}
+use Rattle.keyrange.specs.declared.range.KeyRange.{KeyRange}
+use Rattle.keyrange.specs.declared.range.TimeRange.{TimeRange}
 
 abbrev pub is_below : List ℕ → List ℕ → Bool
 is_below key other = is_lt (slice_cmp nat_cmp key other)
@@ -35,7 +35,7 @@ time_ranges_meet a b = is_early a.from b.to && is_early b.from a.to
 -- an end, where there is one, is at most the last instant
 abbrev pub is_instant_end : Option ℕ → Bool
 is_instant_end None = true
-is_instant_end (Some end) = nat_le end last_instant
+is_instant_end (Some end) = nat_le end max_instant
 
 -- a range of keys and one of instants, neither of them empty
 pub record Area : Type 0 where
@@ -44,7 +44,7 @@ pub record Area : Type 0 where
 
 -- what a rectangle asks of its ranges
 abbrev pub is_area : KeyRange → TimeRange → Bool
-is_area keys time = is_before_end keys.lo keys.hi && (nat_le 1 time.from && (nat_le time.from last_instant && (is_early time.from time.to && is_instant_end time.to)))
+is_area keys time = is_before_end keys.lo keys.hi && (nat_le 1 time.from && (nat_le time.from max_instant && (is_early time.from time.to && is_instant_end time.to)))
 
 abbrev pub has_point : Area → List ℕ → ℕ → Bool
 has_point r key instant = is_key_in r.keys key && is_time_in r.time instant
@@ -54,6 +54,6 @@ pub record Common (a b : Area) : Type 0 where
   pub key : List ℕ
   pub instant : ℕ
   pub is_first : 1 ≤ instant
-  pub is_last : instant ≤ last_instant
+  pub is_last : instant ≤ max_instant
   pub in_first : IsTrue (has_point a key instant)
   pub in_second : IsTrue (has_point b key instant)

@@ -1,11 +1,11 @@
 //! Rectangles of keys and time.
 #![tactic(auto)]
 
-mod cuts;
-mod ranges;
-mod rects;
+mod cut;
+mod range;
+mod rect;
 #[cfg(test)]
 mod tests;
 
-pub use ranges::{KeyRange, TimeRange};
-pub use rects::Rect;
+pub use range::{KeyRange, TimeRange};
+pub use rect::Rect;

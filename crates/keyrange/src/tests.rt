@@ -1,7 +1,7 @@
 //! Rectangles worked out by hand.
 
 use crate::{KeyRange, Rect, TimeRange};
-use rows::{Instant, KeyBytes, LAST};
+use values::{Instant, KeyBytes, LAST};
 use std::alloc::AllocError;
 use std::test::Fail;
 

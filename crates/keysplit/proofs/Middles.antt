@@ -5,12 +5,12 @@ use Rattle.std.proofs.lemmas.Bool.{and_parts, and_from, false≢true, cases_orde
 use Rattle.std.proofs.lemmas.Option.{slice_get_read}
 use Rattle.std.proofs.lemmas.List.{get_or_default}
 use Rattle.std.proofs.lemmas.Map.Keys.{Less-from_sorted}
-use Rattle.rows.specs.declared.events.Event.{Event}
-use Rattle.rows.specs.Events.{is_bytes, event_cmp}
+use Rattle.values.specs.Event.{Event}
+use Rattle.values.specs.Events.{is_bytes, event_cmp}
 use Rattle.keyrange.specs.Points.{Area, is_below, is_key_in}
 use Rattle.keyrange.specs.Cuts.{is_key_inside, halves_by_key}
 use Rattle.keyrange.proofs.Orders.{above, not_itself}
-use Rattle.eventlist.specs.Places.{AreFirst}
+use Rattle.eventlist.specs.Place.{AreFirst}
 use Rattle.eventlist.proofs.Ordered.{same_bytes, is_own, is_lower, within_tail, within_rest, within_head}
 use Rattle.datanode.specs.Cut.{in_cut, cut}
 use Rattle.datanode.specs.Node.{IsNode}

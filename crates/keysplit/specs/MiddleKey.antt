@@ -1,8 +1,8 @@
 -- The key at which a full node is split.
 use Rattle.std.specs.Prelude.{◌≡◌, ℕ, List, [], ◌∷◌, Option, Some, None, option_map, All, if◌then◌else◌}
 use Rattle.std.specs.List.{slice_get}
-use Rattle.rows.specs.declared.events.Event.{Event}
-use Rattle.rows.specs.Events.{is_bytes}
+use Rattle.values.specs.Event.{Event}
+use Rattle.values.specs.Events.{is_bytes}
 use Rattle.keyrange.specs.Points.{is_below}
 
 abbrev pub key_at : List Event → ℕ → Option (List ℕ)

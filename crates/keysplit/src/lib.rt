@@ -2,9 +2,9 @@
 #![tactic(auto)]
 
 mod middle;
-mod splits;
+mod split;
 #[cfg(test)]
 mod tests;
 
 pub use middle::middle_key;
-pub use splits::split_key;
+pub use split::split_key;

@@ -1,6 +1,6 @@
 //! The key at which a full data node is split.
 ghost use Rattle.std.specs.Prelude.{◌≡◌, ◌<◌, ◌≤◌, ◌↔◌, None, IsTrue, IfSome, length, option_copied};
-ghost use Rattle.rows.specs.Events.{event_cmp};
+ghost use Rattle.values.specs.Events.{event_cmp};
 ghost use Rattle.std.specs.List.Sorted.{IsStrictlySortedBy};
 ghost use Rattle.keyrange.specs.Cuts.{is_key_inside, halves_by_key};
 ghost use Rattle.datanode.specs.Cut.{cut};
@@ -8,7 +8,7 @@ ghost use Rattle.keysplit.specs.MiddleKey.{IsOfOneKey, key_at, next_key, middle_
 
 use datanode::DataNode;
 use eventlist::place_behind_key;
-use rows::{KeyBytes, SharedEvent};
+use values::{KeyBytes, SharedEvent};
 
 /// The key at place 32 of the events, or the next above it where it is the first one's.
 pub fn middle_key(node: &DataNode) -> Option<&KeyBytes>

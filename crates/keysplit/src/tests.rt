@@ -3,7 +3,7 @@
 use crate::{middle_key, split_key};
 use datanode::DataNode;
 use keyrange::{KeyRange, Rect, TimeRange};
-use rows::{Event, Instant, KeyBytes, Mem};
+use values::{Event, Instant, KeyBytes, Mem};
 use std::alloc::Global;
 use std::process::Abort;
 use std::test::Fail;
@@ -30,7 +30,7 @@ fn node(rt: &impl Abort, alloc: Global, counts: &[(u8, Instant)]) -> Mem<DataNod
                 at,
                 row: None,
             };
-            assert!(rt; node.takes(&event), "key {number} at {at}");
+            assert!(rt; node.accepts(&event), "key {number} at {at}");
             node.put(event)?;
         }
     }

@@ -8,14 +8,14 @@ use Rattle.std.proofs.lemmas.List.{length-map}
 use Rattle.std.proofs.lemmas.Option.{slice_get_read}
 use Rattle.std.proofs.lemmas.List.Elements.{All-cons, All-nil}
 use Rattle.std.proofs.lemmas.Bool.Decides.{nat_tests}
-use Rattle.rows.specs.declared.tables.Column.{Column}
-use Rattle.rows.specs.declared.tables.Table.{Table}
-use Rattle.rows.specs.declared.declarations.Side.TheVariants.{Start, End}
-use Rattle.rows.specs.declared.declarations.PeriodNames.{PeriodNames}
-use Rattle.rows.specs.declared.declarations.Declaration.{Declaration}
-use Rattle.rows.specs.Names.{same_name}
-use Rattle.rows.specs.Tables.{table_at, IsColumnOf, IsTable, AreTables, IsNumberIn}
-use Rattle.rows.specs.SchemaTables.{user_column, side_name, period_names, keys_in, only, number_in, are_distinct, is_good_key, is_good_period, is_good_width, are_good_entries, table_of, next_table}
+use Rattle.values.specs.declared.table.Column.{Column}
+use Rattle.values.specs.declared.table.Table.{Table}
+use Rattle.rows.specs.declared.declaration.Side.TheVariants.{Start, End}
+use Rattle.rows.specs.declared.declaration.PeriodNames.{PeriodNames}
+use Rattle.rows.specs.declared.declaration.Declaration.{Declaration}
+use Rattle.values.specs.Names.{same_name}
+use Rattle.values.specs.Tables.{table_at, IsColumnOf, IsTable, AreTables, IsNumberIn}
+use Rattle.rows.specs.SchemaTable.{user_column, side_name, period_names, keys_in, only, number_in, are_distinct, is_good_key, is_good_period, is_good_width, are_good_entries, table_of, next_table}
 
 -- ---- places
 

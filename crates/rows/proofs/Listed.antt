@@ -1,12 +1,13 @@
 -- Lists that are read item by item, one turn at a time.
 use Rattle.std.proofs.Common.{◌≡◌, ℕ, ◌+◌, ◌-◌, ◌<◌, List, [], ◌∷◌, ◌++◌, Option, Some, None, Result, Ok, Err, Bool, true, false, refl, sym, ap, ◌∙◌, arith, append_assoc, append-nil, suc}
 use Rattle.std.specs.Prelude.{if◌then◌else◌}
-use Rattle.rows.specs.declared.schema_tokens.Stop.{Stop}
-use Rattle.rows.specs.declared.schema_tokens.Stop.TheVariants.{At, Memory}
-use Rattle.rows.specs.declared.declarations.Mark.{Mark}
-use Rattle.rows.specs.declared.declarations.Declaration.{Declaration}
-use Rattle.rows.specs.SchemaTokens.{Read, ◌>>=◌, Gives, after_symbol}
-use Rattle.rows.specs.SchemaSyntax.{joined, listed, marks_upto, is_mark_at, mark_at, creates_upto, create_at, more_at}
+use Rattle.values.proofs.Taken.{left}
+use Rattle.rows.specs.declared.schema_token.Stop.{Stop}
+use Rattle.rows.specs.declared.schema_token.Stop.TheVariants.{At, Memory}
+use Rattle.rows.specs.declared.declaration.Mark.{Mark}
+use Rattle.rows.specs.declared.declaration.Declaration.{Declaration}
+use Rattle.rows.specs.SchemaToken.{Read, ◌>>=◌, Gives, after_symbol}
+use Rattle.rows.specs.Declaration.{joined, listed, marks_upto, is_mark_at, mark_at, creates_upto, create_at, more_at}
 
 -- a stop of one reading is the stop of another
 pub stopped : {X Y X' Y' : Type 0} (view : X → Y) (view' : X' → Y') (s : Stop) (read : Read Y) (read' : Read Y')
@@ -21,9 +22,6 @@ joined-none (Err e) = refl
 pub joined-joined : {A : Type 0} (xs ys : List A) (r : Read (List A)) → joined xs (joined ys r) ≡ joined (xs ++ ys) r
 joined-joined xs ys (Ok x) = ap (λ l. Ok (l, x.1)) (sym (append_assoc xs ys x.0))
 joined-joined xs ys (Err e) = refl
-
-pub left : (n i : ℕ) → i < n → n - i ≡ suc (n - (i + 1))
-left n i h = omega arith
 
 abbrev ended : {A : Type 0} → (List ℕ → Read A) → ℕ → (A × List ℕ) → Option (List ℕ) → Read (List A)
 ended item n x o = elim o [ None ↦ Ok (x.0 ∷ [], x.1) | Some more ↦ joined (x.0 ∷ []) (listed item n more) ]

@@ -1,7 +1,7 @@
 -- Elements by their places, and the same by recursion.
 use Rattle.std.proofs.Common.{◌≡◌, ◌⊎◌, inl, inr, List, [], ◌∷◌, ◌++◌, Option, Some, None, refl, sym, subst, ap, ◌∙◌}
 use Rattle.std.specs.List.{flat_map, filter_map, cons_option}
-use Rattle.rows.specs.SchemaTables.{only}
+use Rattle.rows.specs.SchemaTable.{only}
 use Rattle.rows.specs.GoodTables.{Each, IsTheOne, NoTwo}
 
 module _ {A : Type 0} (P : A → Type 0) where

@@ -6,8 +6,8 @@ use Rattle.std.specs.Char.{is_ascii_digit, to_ascii_uppercase, to_ascii_lowercas
 use Rattle.std.proofs.lemmas.Bool.Decides.{nat_tests}
 use Rattle.std.proofs.lemmas.Bool.{and_parts, and_from}
 use Rattle.std.proofs.lemmas.List.{length-map}
-use Rattle.rows.specs.Names.{same_name, same_letters}
-use Rattle.rows.specs.SchemaTokens.{next, is_name_byte, front_while, after_symbol, has_word, is_word_at, after_word, is_name, reserved, is_reserved}
+use Rattle.values.specs.Names.{same_name, same_letters}
+use Rattle.rows.specs.SchemaToken.{next, is_name_byte, front_while, after_symbol, has_word, is_word_at, after_word, is_name, reserved, is_reserved}
 use Rattle.rows.specs.SchemaGrammar.{AllPass, Symbol, Word, Name}
 use Rattle.rows.proofs.SchemaRead.{next_reads, front_of}
 use Rattle.rows.proofs.SchemaSpelled.{word_next}

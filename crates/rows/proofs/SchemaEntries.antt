@@ -8,20 +8,20 @@ use Rattle.std.proofs.lemmas.Bool.{and_parts, and_from}
 use Rattle.std.proofs.lemmas.Bool.Decides.{nat_tests}
 use Rattle.std.proofs.lemmas.List.{length-map}
 use Rattle.std.proofs.lemmas.List.Sums.{sum_by-cons}
-use Rattle.rows.specs.declared.tables.ColumnType.{ColumnType}
-use Rattle.rows.specs.declared.tables.ColumnType.TheVariants.{Int, Text, Varchar, Boolean}
-use Rattle.rows.specs.declared.tables.Column.{Column}
-use Rattle.rows.specs.declared.declarations.Mark.{Mark}
-use Rattle.rows.specs.declared.declarations.Mark.TheVariants.{NotNull, PrimaryKey}
-use Rattle.rows.specs.declared.declarations.Side.{Side}
-use Rattle.rows.specs.declared.declarations.Side.TheVariants.{Start, End}
-use Rattle.rows.specs.declared.declarations.UserColumn.{UserColumn}
-use Rattle.rows.specs.declared.declarations.GeneratedColumn.{GeneratedColumn}
-use Rattle.rows.specs.declared.declarations.PeriodNames.{PeriodNames}
-use Rattle.rows.specs.declared.declarations.Entry.{Entry}
-use Rattle.rows.specs.declared.declarations.Entry.TheVariants.{User, Generated, Period, Key}
-use Rattle.rows.specs.Names.{same_name, same_letters}
-use Rattle.rows.specs.SchemaTables.{is_not_null, is_primary_key, same_side, user_column, column_name, side_name, period_names, keys_in, is_good_type, is_good_precision, is_good_entry, are_distinct, only, number_in}
+use Rattle.values.specs.declared.table.ColumnType.{ColumnType}
+use Rattle.values.specs.declared.table.ColumnType.TheVariants.{Int, Text, Varchar, Boolean}
+use Rattle.values.specs.declared.table.Column.{Column}
+use Rattle.rows.specs.declared.declaration.Mark.{Mark}
+use Rattle.rows.specs.declared.declaration.Mark.TheVariants.{NotNull, PrimaryKey}
+use Rattle.rows.specs.declared.declaration.Side.{Side}
+use Rattle.rows.specs.declared.declaration.Side.TheVariants.{Start, End}
+use Rattle.rows.specs.declared.declaration.UserColumn.{UserColumn}
+use Rattle.rows.specs.declared.declaration.GeneratedColumn.{GeneratedColumn}
+use Rattle.rows.specs.declared.declaration.PeriodNames.{PeriodNames}
+use Rattle.rows.specs.declared.declaration.Entry.{Entry}
+use Rattle.rows.specs.declared.declaration.Entry.TheVariants.{User, Generated, Period, Key}
+use Rattle.values.specs.Names.{same_name, same_letters}
+use Rattle.rows.specs.SchemaTable.{is_not_null, is_primary_key, same_side, user_column, column_name, side_name, period_names, keys_in, is_good_type, is_good_precision, is_good_entry, are_distinct, only, number_in}
 use Rattle.rows.specs.GoodTables.{Each, Stands, IsTheOne, NoTwo, SameName, is_user, IsGenerated, IsPeriod, GivesKeys, GivesOneKey, Declares, ShareAName, HasUserColumn, IsColumnOf, IsNumberOf, AreColumnsOf, AreNumbersOf, TypeIsGood, DigitsAreGood, EntryIsGood}
 use Rattle.rows.proofs.Places.{each_placed, each_at, each_to, Apart, apart_no_two, no_two_apart, one_same, only_is, flat_of, Tells, none_given, none_stands, one_stands, one_given}
 

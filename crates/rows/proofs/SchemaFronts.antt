@@ -6,7 +6,7 @@ use Rattle.std.proofs.Math.Seq.{take-append_seam}
 use Rattle.std.proofs.lemmas.Str.{IsUtf8-from_ascii}
 use Rattle.std.proofs.lemmas.Str.Ascii.{IsAscii-nil, IsAscii-cons}
 use Rattle.std.specs.Str.{IsUtf8, IsAscii}
-use Rattle.rows.specs.SchemaTokens.{skip_while, front_while, is_name_byte}
+use Rattle.rows.specs.SchemaToken.{skip_while, front_while, is_name_byte}
 
 pub length-skip_while : (p : ℕ → Bool) (bs : List ℕ) → length (skip_while p bs) ≤ length bs
 length-skip_while p [] = omega arith

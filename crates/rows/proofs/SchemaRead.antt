@@ -3,7 +3,7 @@ use Rattle.std.proofs.Common.{◌≡◌, ℕ, ◌+◌, ◌≤◌, List, [], ◌�
 use Rattle.std.specs.Prelude.{not}
 use Rattle.std.proofs.lemmas.Bool.Decides.{nat_tests}
 use Rattle.std.specs.Char.{is_ascii_digit, to_ascii_uppercase}
-use Rattle.rows.specs.SchemaTokens.{Read, is_separator, begins_with_hyphen, token_from, next, is_name_byte, skip_while, front_while, after_symbol, symbol_at, has_word, is_word_at, after_word, word_at, is_name, name_at, begins_with_digit, number_from, digits_at}
+use Rattle.rows.specs.SchemaToken.{Read, is_separator, begins_with_hyphen, token_from, next, is_name_byte, skip_while, front_while, after_symbol, symbol_at, has_word, is_word_at, after_word, word_at, is_name, name_at, begins_with_digit, number_from, digits_at}
 use Rattle.rows.specs.SchemaGrammar.{AllPass, Ends, is_on_the_line, Piece, blank, comment, last_comment, Gap, BeginsToken, IsNext, Symbol, Letters, Word, Name, Digits}
 
 same : (a b : ℕ) → a ≡ b → (a == b) ≡ true

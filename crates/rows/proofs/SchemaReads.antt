@@ -3,14 +3,14 @@ use Rattle.std.proofs.Common.{◌≡◌, ◌<◌, ◌≤◌, ◌⊎◌, ◌-◌,
 use Rattle.std.specs.Prelude.{Result}
 use Rattle.std.proofs.lemmas.Bool.Decides.{nat_tests}
 use Rattle.std.proofs.lemmas.List.{length-append}
-use Rattle.rows.specs.Tables.{Schema}
-use Rattle.rows.specs.declared.tables.Table.{Table}
-use Rattle.rows.specs.declared.declarations.Declaration.{Declaration}
+use Rattle.values.specs.Tables.{Schema}
+use Rattle.values.specs.declared.table.Table.{Table}
+use Rattle.rows.specs.declared.declaration.Declaration.{Declaration}
 use Rattle.rows.specs.declared.schema_reading.SchemaFault.{SchemaFault}
 use Rattle.rows.specs.declared.schema_reading.SchemaFault.TheVariants.{Syntax, BadTable}
-use Rattle.rows.specs.SchemaTokens.{Read}
-use Rattle.rows.specs.SchemaSyntax.{creates_at}
-use Rattle.rows.specs.SchemaTables.{next_table, tables_from, read_schema}
+use Rattle.rows.specs.SchemaToken.{Read}
+use Rattle.rows.specs.Declaration.{creates_at}
+use Rattle.rows.specs.SchemaTable.{next_table, tables_from, read_schema}
 use Rattle.rows.specs.SchemaGrammar.{SchemaText}
 use Rattle.rows.specs.SchemaLaws.{HasSyntaxFault, OfTheGrammar, TheGrammarIsRead, TextsSayOneThing, OnlyTheGrammarIsRead, TokenAt, FaultsAreAtTokens, GoodTextsAreRead, SaysSchema, OnlySchemasAreRead}
 use Rattle.rows.proofs.SchemaSays.{of_the_grammar}

@@ -1,20 +1,20 @@
 -- What is read is of the grammar: statements.
 use Rattle.std.proofs.Common.{◌≡◌, ℕ, List, [], ◌∷◌, ◌||◌, ◌⊎◌, inl, inr, Bool, true, false, Option, Some, None, Ok, Err, length, refl, sym, subst, ap, ◌∙◌, if◌then◌else◌, suc, zero, nat_lt, ◌-◌}
 use Rattle.std.specs.Prelude.{not, codes}
-use Rattle.rows.specs.declared.tables.ColumnType.{ColumnType}
-use Rattle.rows.specs.declared.tables.ColumnType.TheVariants.{Int, Text, Varchar, Boolean}
-use Rattle.rows.specs.declared.declarations.Mark.{Mark}
-use Rattle.rows.specs.declared.declarations.Mark.TheVariants.{NotNull, PrimaryKey}
-use Rattle.rows.specs.declared.declarations.Side.{Side}
-use Rattle.rows.specs.declared.declarations.Side.TheVariants.{Start, End}
-use Rattle.rows.specs.declared.declarations.Entry.{Entry}
-use Rattle.rows.specs.declared.declarations.Declaration.{Declaration}
-use Rattle.rows.specs.SchemaTokens as tokens
-use Rattle.rows.specs.SchemaTokens.{Read, next, after_symbol, symbol_at, is_word_at, after_word, word_at, name_at, digits_at}
-use Rattle.rows.specs.SchemaSyntax.{joined, listed, names_at, size_at, is_whole_number_at, varchar_at, type_at, not_null_at, primary_key_at, mark_at, is_mark_at, marks_upto, marks_at, user_at, precision_at, maybe_not_null_at, side_at, row_side_at, generated_at, two_names_at, period_at, key_at, column_at, entry_at, entries_at, body_at, versioning_at, create_at, is_nothing, is_end_at, more_at, creates_upto, creates_at}
+use Rattle.values.specs.declared.table.ColumnType.{ColumnType}
+use Rattle.values.specs.declared.table.ColumnType.TheVariants.{Int, Text, Varchar, Boolean}
+use Rattle.rows.specs.declared.declaration.Mark.{Mark}
+use Rattle.rows.specs.declared.declaration.Mark.TheVariants.{NotNull, PrimaryKey}
+use Rattle.rows.specs.declared.declaration.Side.{Side}
+use Rattle.rows.specs.declared.declaration.Side.TheVariants.{Start, End}
+use Rattle.rows.specs.declared.declaration.Entry.{Entry}
+use Rattle.rows.specs.declared.declaration.Declaration.{Declaration}
+use Rattle.rows.specs.SchemaToken as tokens
+use Rattle.rows.specs.SchemaToken.{Read, next, after_symbol, symbol_at, is_word_at, after_word, word_at, name_at, digits_at}
+use Rattle.rows.specs.Declaration.{joined, listed, names_at, size_at, is_whole_number_at, varchar_at, type_at, not_null_at, primary_key_at, mark_at, is_mark_at, marks_upto, marks_at, user_at, precision_at, maybe_not_null_at, side_at, row_side_at, generated_at, two_names_at, period_at, key_at, column_at, entry_at, entries_at, body_at, versioning_at, create_at, is_nothing, is_end_at, more_at, creates_upto, creates_at}
 use Rattle.rows.specs.SchemaGrammar.{Says, Symbol, Word, Name, Listed, Many, Size, TypeName, NotNullWords, PrimaryKeyWords, MarkWords, UserEntry, Precision, MaybeNotNull, RowSide, GeneratedAsRow, GeneratedEntry, TwoNames, PeriodEntry, KeyEntry, ColumnEntry, EntryText, Body, Versioning, CreateText, IsEnd, SchemaText}
 use Rattle.rows.specs.declared.schema_reading.SchemaFault.TheVariants.{Syntax}
-use Rattle.rows.specs.SchemaTables.{tables_from, read_schema}
+use Rattle.rows.specs.SchemaTable.{tables_from, read_schema}
 use Rattle.rows.specs.SchemaLaws.{HasSyntaxFault, OfTheGrammar}
 use Rattle.rows.proofs.SchemaSpelled.{next_is, same_read, symbol_next, symbol_says, word_next, word_says, name_says, digits_says}
 

@@ -2,11 +2,11 @@
 use Rattle.std.proofs.Common.{◌≡◌, ℕ, ◌≤◌, ◌<◌, Bool, true, false, List, [], ◌∷◌, ◌++◌, Option, Some, None, Ok, Err, length, refl, sym, subst, ap, ◌∙◌, arith, if◌then◌else◌, suc, zero}
 use Rattle.std.specs.Prelude.{codes, not}
 use Rattle.std.proofs.lemmas.List.{length-append, append_assoc, append-nil}
-use Rattle.rows.specs.declared.tables.ColumnType.TheVariants.{Varchar}
-use Rattle.rows.specs.SchemaTokens as tokens
-use Rattle.rows.specs.SchemaTokens.{Read, is_name_byte, next, skip_while, front_while, after_symbol, symbol_at, is_word_at, after_word, word_at, is_name, name_at, begins_with_digit, number_from, digits_at}
+use Rattle.values.specs.declared.table.ColumnType.TheVariants.{Varchar}
+use Rattle.rows.specs.SchemaToken as tokens
+use Rattle.rows.specs.SchemaToken.{Read, is_name_byte, next, skip_while, front_while, after_symbol, symbol_at, is_word_at, after_word, word_at, is_name, name_at, begins_with_digit, number_from, digits_at}
 use Rattle.std.specs.Char.{is_ascii_digit}
-use Rattle.rows.specs.SchemaSyntax.{joined, listed, names_at, size_at, is_whole_number_at, varchar_at, type_at, not_null_at, primary_key_at, mark_at, is_mark_at, marks_upto, marks_at, user_at, precision_at, maybe_not_null_at, side_at, row_side_at, generated_at, two_names_at, period_at, key_at, column_at, entry_at, entries_at, body_at, versioning_at, create_at, is_end_at, more_at, creates_upto, creates_at}
+use Rattle.rows.specs.Declaration.{joined, listed, names_at, size_at, is_whole_number_at, varchar_at, type_at, not_null_at, primary_key_at, mark_at, is_mark_at, marks_upto, marks_at, user_at, precision_at, maybe_not_null_at, side_at, row_side_at, generated_at, two_names_at, period_at, key_at, column_at, entry_at, entries_at, body_at, versioning_at, create_at, is_end_at, more_at, creates_upto, creates_at}
 use Rattle.rows.specs.SchemaGrammar.{Says, Piece, blank, comment, last_comment, Gap, BeginsToken, Name, EntryText}
 use Rattle.rows.proofs.SchemaFronts.{front-skip}
 use Rattle.rows.proofs.SchemaSpelled.{next_is, symbol_next, name_says}
@@ -228,13 +228,13 @@ period_stops bytes =
     (λ x b f. then_stops b (word_at (codes "SYSTEM_TIME") b) _ (word_stops (codes "SYSTEM_TIME") b) (λ y c g. two_names_stop c)))
 
 -- lists: the turns are enough, since each item takes a byte or more
-module _ {A : Type 0} (item : List ℕ → Read A) (R : Says A) (says : (x : A) (bytes rest : List ℕ) → item bytes ≡ Ok (x, rest) → R x bytes rest) (takes : Takes R)
+module _ {A : Type 0} (item : List ℕ → Read A) (R : Says A) (says : (x : A) (bytes rest : List ℕ) → item bytes ≡ Ok (x, rest) → R x bytes rest) (matches : Takes R)
     (item_stops : (bytes : List ℕ) → Stops bytes (item bytes)) where
   listed_stops : (n : ℕ) (bytes : List ℕ) → length bytes ≤ n → Stops bytes (listed item n bytes)
   listed_stops zero bytes h = nothing_left bytes h
   listed_stops (suc n) bytes h =
       then_stops bytes (item bytes) _ (item_stops bytes)
-      (λ x more e. by_comma x more (takes.below x bytes more (says x bytes more e)) (after_symbol 44 more) refl (λ left enough. listed_stops n left enough))
+      (λ x more e. by_comma x more (matches.below x bytes more (says x bytes more e)) (after_symbol 44 more) refl (λ left enough. listed_stops n left enough))
     where
       by_comma : (x : A) (more : List ℕ) → length more < length bytes → (o : Option (List ℕ)) → after_symbol 44 more ≡ o → ((left : List ℕ) → length left ≤ n → Stops left (listed item n left))
           → Stops {A = List A} more (elim o [ None ↦ Ok (x ∷ [], more) | Some left ↦ joined (x ∷ []) (listed item n left) ])

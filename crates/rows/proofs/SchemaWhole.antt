@@ -1,15 +1,15 @@
 -- What is of the grammar is read: statements.
 use Rattle.std.proofs.Common.{◌≡◌, ℕ, ◌≤◌, ◌<◌, List, [], ◌∷◌, ◌||◌, inl, inr, Bool, true, false, Option, Some, None, Ok, length, refl, ap, ◌∙◌, arith, lit<, if◌then◌else◌, suc, zero}
 use Rattle.std.specs.Prelude.{not, codes}
-use Rattle.rows.specs.declared.tables.ColumnType.{ColumnType}
-use Rattle.rows.specs.declared.tables.ColumnType.TheVariants.{Int}
-use Rattle.rows.specs.declared.declarations.Mark.{Mark}
-use Rattle.rows.specs.declared.declarations.Side.{Side}
-use Rattle.rows.specs.declared.declarations.Entry.{Entry}
-use Rattle.rows.specs.declared.declarations.Declaration.{Declaration}
-use Rattle.rows.specs.SchemaTokens as tokens
-use Rattle.rows.specs.SchemaTokens.{Read, next, after_symbol, symbol_at, is_word_at, after_word, word_at, name_at, digits_at}
-use Rattle.rows.specs.SchemaSyntax.{joined, listed, names_at, size_at, is_whole_number_at, varchar_at, type_at, not_null_at, primary_key_at, mark_at, is_mark_at, marks_upto, marks_at, user_at, precision_at, maybe_not_null_at, side_at, row_side_at, generated_at, two_names_at, period_at, key_at, column_at, entry_at, entries_at, body_at, versioning_at, create_at, is_nothing, is_end_at, more_at, creates_upto, creates_at}
+use Rattle.values.specs.declared.table.ColumnType.{ColumnType}
+use Rattle.values.specs.declared.table.ColumnType.TheVariants.{Int}
+use Rattle.rows.specs.declared.declaration.Mark.{Mark}
+use Rattle.rows.specs.declared.declaration.Side.{Side}
+use Rattle.rows.specs.declared.declaration.Entry.{Entry}
+use Rattle.rows.specs.declared.declaration.Declaration.{Declaration}
+use Rattle.rows.specs.SchemaToken as tokens
+use Rattle.rows.specs.SchemaToken.{Read, next, after_symbol, symbol_at, is_word_at, after_word, word_at, name_at, digits_at}
+use Rattle.rows.specs.Declaration.{joined, listed, names_at, size_at, is_whole_number_at, varchar_at, type_at, not_null_at, primary_key_at, mark_at, is_mark_at, marks_upto, marks_at, user_at, precision_at, maybe_not_null_at, side_at, row_side_at, generated_at, two_names_at, period_at, key_at, column_at, entry_at, entries_at, body_at, versioning_at, create_at, is_nothing, is_end_at, more_at, creates_upto, creates_at}
 use Rattle.rows.specs.SchemaGrammar.{Says, Symbol, Word, Name, Listed, Many, Size, TypeName, NotNullWords, PrimaryKeyWords, MarkWords, UserEntry, Precision, MaybeNotNull, RowSide, GeneratedAsRow, GeneratedEntry, TwoNames, PeriodEntry, KeyEntry, ColumnEntry, EntryText, Body, Versioning, CreateText, IsEnd, SchemaText}
 use Rattle.rows.proofs.SchemaRead.{next_reads, symbol_reads, symbol_read, word_is_at, word_after, word_read, name_read, digits_read}
 use Rattle.rows.proofs.SchemaApart.{other_word, period_no_name, primary_no_name, no_word_at_symbol, no_symbol_at_symbol, no_symbol_at_word}

@@ -2,19 +2,19 @@
 use Rattle.std.specs.Prelude.{◌≡◌, ℕ, ◌+◌, ◌≤◌, ◌↔◌, List, [], ◌∷◌, ◌++◌, Bool, true, false, Option, Some, None, length, map}
 use Rattle.std.specs.List.{count_by}
 use Rattle.std.specs.Char.{to_ascii_lowercase}
-use Rattle.rows.specs.declared.tables.ColumnType.{ColumnType}
-use Rattle.rows.specs.declared.tables.ColumnType.TheVariants.{Varchar}
-use Rattle.rows.specs.declared.tables.Column.{Column}
-use Rattle.rows.specs.declared.tables.Table.{Table}
-use Rattle.rows.specs.declared.declarations.Mark.TheVariants.{NotNull, PrimaryKey}
-use Rattle.rows.specs.declared.declarations.Side.{Side}
-use Rattle.rows.specs.declared.declarations.Side.TheVariants.{Start, End}
-use Rattle.rows.specs.declared.declarations.UserColumn.{UserColumn}
-use Rattle.rows.specs.declared.declarations.GeneratedColumn.{GeneratedColumn}
-use Rattle.rows.specs.declared.declarations.PeriodNames.{PeriodNames}
-use Rattle.rows.specs.declared.declarations.Entry.{Entry}
-use Rattle.rows.specs.declared.declarations.Entry.TheVariants.{User, Generated, Period, Key}
-use Rattle.rows.specs.declared.declarations.Declaration.{Declaration}
+use Rattle.values.specs.declared.table.ColumnType.{ColumnType}
+use Rattle.values.specs.declared.table.ColumnType.TheVariants.{Varchar}
+use Rattle.values.specs.declared.table.Column.{Column}
+use Rattle.values.specs.declared.table.Table.{Table}
+use Rattle.rows.specs.declared.declaration.Mark.TheVariants.{NotNull, PrimaryKey}
+use Rattle.rows.specs.declared.declaration.Side.{Side}
+use Rattle.rows.specs.declared.declaration.Side.TheVariants.{Start, End}
+use Rattle.rows.specs.declared.declaration.UserColumn.{UserColumn}
+use Rattle.rows.specs.declared.declaration.GeneratedColumn.{GeneratedColumn}
+use Rattle.rows.specs.declared.declaration.PeriodNames.{PeriodNames}
+use Rattle.rows.specs.declared.declaration.Entry.{Entry}
+use Rattle.rows.specs.declared.declaration.Entry.TheVariants.{User, Generated, Period, Key}
+use Rattle.rows.specs.declared.declaration.Declaration.{Declaration}
 
 -- every element is so
 abbrev pub Each : {A : Type 0} → (A → Type 0) → List A → Type 0

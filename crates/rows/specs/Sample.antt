@@ -1,7 +1,7 @@
 -- The schema where none is given: a table of employees, by number.
 use Rattle.std.specs.Prelude.{[], ◌∷◌, codes, false}
-use Rattle.rows.specs.declared.tables.ColumnType.TheVariants.{Int as IsInt, Text as IsText}
-use Rattle.rows.specs.Tables.{Schema}
+use Rattle.values.specs.declared.table.ColumnType.TheVariants.{Int as IsInt, Text as IsText}
+use Rattle.values.specs.Tables.{Schema}
 
 abbrev pub sample : Schema
 sample = record {

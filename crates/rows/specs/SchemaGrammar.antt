@@ -1,16 +1,16 @@
 -- The grammar of schemas: relations between what a text says, the text, and what comes after it. They know nothing of reading.
 use Rattle.std.specs.Prelude.{◌≡◌, ℕ, ◌≤◌, List, [], ◌∷◌, ◌++◌, ◌==◌, ◌⊎◌, Bool, true, false, Option, Some, None, length, map, not, codes}
 use Rattle.std.specs.Char.{is_ascii_digit, to_ascii_uppercase}
-use Rattle.rows.specs.declared.tables.ColumnType.{ColumnType}
-use Rattle.rows.specs.declared.tables.ColumnType.TheVariants.{Int, Text, Varchar, Boolean}
-use Rattle.rows.specs.declared.declarations.Mark.{Mark}
-use Rattle.rows.specs.declared.declarations.Mark.TheVariants.{NotNull, PrimaryKey}
-use Rattle.rows.specs.declared.declarations.Side.{Side}
-use Rattle.rows.specs.declared.declarations.Side.TheVariants.{Start, End}
-use Rattle.rows.specs.declared.declarations.Entry.{Entry}
-use Rattle.rows.specs.declared.declarations.Entry.TheVariants.{User, Generated, Period, Key}
-use Rattle.rows.specs.declared.declarations.Declaration.{Declaration}
-use Rattle.rows.specs.SchemaTokens.{is_separator, is_name_byte, is_name, number_from}
+use Rattle.values.specs.declared.table.ColumnType.{ColumnType}
+use Rattle.values.specs.declared.table.ColumnType.TheVariants.{Int, Text, Varchar, Boolean}
+use Rattle.rows.specs.declared.declaration.Mark.{Mark}
+use Rattle.rows.specs.declared.declaration.Mark.TheVariants.{NotNull, PrimaryKey}
+use Rattle.rows.specs.declared.declaration.Side.{Side}
+use Rattle.rows.specs.declared.declaration.Side.TheVariants.{Start, End}
+use Rattle.rows.specs.declared.declaration.Entry.{Entry}
+use Rattle.rows.specs.declared.declaration.Entry.TheVariants.{User, Generated, Period, Key}
+use Rattle.rows.specs.declared.declaration.Declaration.{Declaration}
+use Rattle.rows.specs.SchemaToken.{is_separator, is_name_byte, is_name, number_from}
 
 -- a value, a text, and what comes after the piece of it that says the value
 abbrev pub Says : Type 0 → Type 1

@@ -1,12 +1,12 @@
 -- What the reading of schemas amounts to.
 use Rattle.std.specs.Prelude.{◌≡◌, ℕ, ◌<◌, ◌≤◌, List, [], ◌++◌, ◌⊎◌, ◌↔◌, Result, Ok, Err, length}
-use Rattle.rows.specs.Tables.{Schema}
+use Rattle.values.specs.Tables.{Schema}
 use Rattle.rows.specs.Sample.{sample}
 use Rattle.rows.specs.declared.schema_reading.SchemaFault.{SchemaFault}
 use Rattle.rows.specs.declared.schema_reading.SchemaFault.TheVariants.{Syntax, BadTable}
-use Rattle.rows.specs.declared.declarations.Declaration.{Declaration}
-use Rattle.rows.specs.SchemaTables.{tables_from, read_schema}
-use Rattle.rows.specs.SchemaTokens.{symbol_at, word_at, name_at, digits_at}
+use Rattle.rows.specs.declared.declaration.Declaration.{Declaration}
+use Rattle.rows.specs.SchemaTable.{tables_from, read_schema}
+use Rattle.rows.specs.SchemaToken.{symbol_at, word_at, name_at, digits_at}
 use Rattle.rows.specs.SchemaGrammar.{BeginsToken, Symbol, Word, Name, Digits, SchemaText}
 use Rattle.rows.specs.GoodTables.{TablesAreGood, AreTablesOf, IsFirstBad}
 

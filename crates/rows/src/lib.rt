@@ -1,56 +1,25 @@
-//! Values, rows, keys, tables, refusals, and the words that speak of what was committed.
+//! Tables and the texts that declare them. What stands in `values` is offered under this name too.
 #![tactic(auto)]
 
-mod declarations;
-#[cfg(test)]
-mod event_tests;
-mod events;
-mod fits;
-mod forms;
-mod key_encoding;
-mod key_laws;
-mod key_reading;
-#[cfg(test)]
-mod key_tests;
-mod keys;
-mod laws;
-mod queries;
-mod refusals;
-mod row_encoding;
-mod row_laws;
-#[cfg(test)]
-mod row_tests;
-mod samples;
+mod declaration;
+mod sample;
+mod schema;
 mod schema_laws;
 mod schema_reading;
-mod schema_tables;
+mod schema_table;
 #[cfg(test)]
 mod schema_tests;
-mod schema_tokens;
-mod sequences;
-mod tables;
-mod takes;
-mod texts;
-mod values;
+mod schema_token;
 
-pub use events::{Event, SharedEvent};
-pub use key_encoding::{KeyBytes, key_bytes};
-pub use key_laws::{bytes_stand_for_keys, fitting_keys_have_bytes, fitting_rows_have_keys};
-pub use key_reading::read_key;
-pub use keys::{Instant, Key, LAST, Net, Point, Transaction};
-pub use laws::{as_of_shows_the_state, empty_net_leaves_the_log, states_are_versions};
-pub use queries::{
-    ColumnNumber, Comparison, Form, Keys, Operator, Rows, Set, Sets, Shown, ShownRows,
-};
-pub use refusals::{Mem, Refusal};
-pub use row_encoding::{read_row, row_bytes};
-pub use row_laws::{bytes_stand_for_rows, fitting_rows_have_bytes};
+pub use schema::Schema;
 pub use schema_laws::{
     good_tables_are_made, sample_is_a_schema, schemas_are_of_the_grammar, the_grammar_is_read,
 };
 pub use schema_reading::{SAMPLE, SchemaFault};
-pub use schema_tokens::is_reserved;
-pub use sequences::Sequence;
-pub use tables::{Column, ColumnType, Schema, Table, same_name};
-pub use texts::Chars;
-pub use values::{Row, Value, Values};
+pub use schema_token::is_reserved;
+pub use values::{
+    Chars, Column, ColumnNumber, ColumnType, Comparison, Event, Form, Instant, Key, KeyBytes, Keys,
+    LAST, Mem, Net, Operator, Point, Refusal, Row, Rows, Sequence, Set, Sets, SharedEvent, Shown,
+    ShownRows, Table, Transaction, Value, Values, key_bytes, read_key, read_row, row_bytes,
+    same_name,
+};

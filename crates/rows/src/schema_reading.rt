@@ -1,12 +1,12 @@
 //! Reads schemas.
 
 ghost use Rattle.std.specs.Prelude.{[]};
-ghost use Rattle.rows.specs.SchemaTables.{tables_from, read_schema, IsOrMemory};
+ghost use Rattle.rows.specs.SchemaTable.{tables_from, read_schema, IsOrMemory};
 
-use crate::declarations::{Declaration, creates_at};
-use crate::schema_tables::next_table;
-use crate::schema_tokens::Stop;
-use crate::tables::Schema;
+use crate::declaration::{Declaration, creates_at};
+use crate::schema_table::next_table;
+use crate::schema_token::Stop;
+use crate::schema::Schema;
 use std::alloc::{AllocError, AllocFailed, Global};
 
 /// The bytes that a schema's text may have.
@@ -57,7 +57,7 @@ impl<T: Drop> From<AllocFailed<T>> for SchemaFault {
 
 impl Schema {
     /// Reads CREATE TABLE statements. A text of over 65,536 bytes is a fault of syntax at that byte, and syntax is looked for in the whole text before any table is.
-    #[tactic(auto, unfolding(crate::specs::SchemaTables::read_schema))]
+    #[tactic(auto, unfolding(crate::specs::SchemaTable::read_schema))]
     pub fn read(alloc: Global, text: &[u8]) -> Result<Schema, SchemaFault>
         ensures { IsOrMemory result (read_schema text.now) }
     {

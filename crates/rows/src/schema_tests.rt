@@ -1,5 +1,5 @@
 use crate::schema_reading::{SAMPLE, SchemaFault};
-use crate::tables::Schema;
+use crate::schema::Schema;
 use std::test::Fail;
 
 fn is_syntax_at(read: &Result<Schema, SchemaFault>, offset: usize) -> bool {

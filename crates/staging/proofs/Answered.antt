@@ -12,28 +12,28 @@ use Rattle.std.specs.Map.{keys_of, remove_entry}
 use Rattle.std.specs.FinMap.{is_sorted}
 use Rattle.std.specs.List.{AllByRecursion, list_any, cons_option}
 use Rattle.std.specs.List.Sorted.{IsStrictlySortedBy}
-use Rattle.rows.specs.declared.keys.Key.{Key}
-use Rattle.rows.specs.declared.events.Event.{Event}
-use Rattle.rows.specs.declared.values.Value.{Value}
-use Rattle.rows.specs.declared.tables.Table.{Table}
-use Rattle.rows.specs.declared.queries.Keys.{Keys}
-use Rattle.rows.specs.declared.queries.Set.{Set}
-use Rattle.rows.specs.declared.refusals.Refusal.{Refusal}
-use Rattle.rows.specs.declared.refusals.Refusal.TheVariants.{NoTable, BadRow, DuplicateKey}
-use Rattle.rows.specs.Order.{key_cmp, is_key}
-use Rattle.rows.specs.Log.{State, Net, Row, Changes, row_at, set_row, apply_net, rows_after}
-use Rattle.rows.specs.Tables.{Schema, IsTable}
-use Rattle.rows.specs.Fits.{rows_fault, row_fault, key_fault, comparisons_fault, sets_fault, first_of}
-use Rattle.rows.specs.Faults.{no_fault}
-use Rattle.rows.specs.Writes.{key_of, insert_rows, insert_all, duplicate, duplicate_from, update_rows, delete_rows, met, set_all}
-use Rattle.rows.specs.Versions.{takes}
-use Rattle.rows.specs.KeyEncoding.{IsShortKey}
-use Rattle.rows.specs.RowEncoding.{IsHeld}
-use Rattle.rows.specs.RowReading.{Taken}
-use Rattle.rows.specs.KeyReading.{IsKeyOf, key_from, whole_key, parts_from, is_empty}
-use Rattle.rows.specs.Events.{event_cmp, events_of, IsKeyIn, AreKeysIn}
-use Rattle.rows.proofs.KeyLengths.{fitting_keys_are_short, first_none}
-use Rattle.rows.proofs.RowKeys.{fitting_key, keys_are_short}
+use Rattle.values.specs.declared.key.Key.{Key}
+use Rattle.values.specs.Event.{Event}
+use Rattle.values.specs.declared.value.Value.{Value}
+use Rattle.values.specs.declared.table.Table.{Table}
+use Rattle.values.specs.declared.query.Keys.{Keys}
+use Rattle.values.specs.declared.query.Set.{Set}
+use Rattle.values.specs.declared.refusal.Refusal.{Refusal}
+use Rattle.values.specs.declared.refusal.Refusal.TheVariants.{NoTable, BadRow, DuplicateKey}
+use Rattle.values.specs.Order.{key_cmp, is_key}
+use Rattle.values.specs.Log.{State, Net, Row, Changes, row_at, set_row, apply_net, rows_after}
+use Rattle.values.specs.Tables.{Schema, IsTable}
+use Rattle.values.specs.Fit.{rows_fault, row_fault, key_fault, comparisons_fault, sets_fault, first_of}
+use Rattle.values.specs.Faults.{no_fault}
+use Rattle.values.specs.Writes.{key_of, insert_rows, insert_all, duplicate, duplicate_from, update_rows, delete_rows, met, set_all}
+use Rattle.values.specs.Versions.{matches}
+use Rattle.values.specs.KeyEncoding.{IsShortKey}
+use Rattle.values.specs.RowEncoding.{IsHeld}
+use Rattle.values.specs.RowReading.{Taken}
+use Rattle.values.specs.KeyReading.{IsKeyOf, key_from, whole_key, parts_from, is_empty}
+use Rattle.values.specs.Events.{event_cmp, events_of, IsKeyIn, AreKeysIn}
+use Rattle.values.proofs.KeyLengths.{fitting_keys_are_short, first_none}
+use Rattle.values.proofs.RowKeys.{fitting_key, keys_are_short}
 use Rattle.staging.specs.Committed.{Committed}
 use Rattle.staging.specs.Own.{Own, Reads, Written, seen, own, writing, fitting, insert_into, of_table, update_in, delete_from}
 use Rattle.staging.specs.Writing.{put_all, put_answer, insertions, updates, deletions, sees, first_seen, row_taken, rows_in}
@@ -216,9 +216,9 @@ taken_short table keys [] is = tt
 taken_short table keys (e ∷ es) is = by (key_from table e.key) refl (taken_short table keys es is)
   where
     by : (o : Option Key) → key_from table e.key ≡ o → AllByRecursion (λ e. IsShortKey e.0) (filter_map (row_taken table keys) es)
-        → AllByRecursion (λ e. IsShortKey e.0) (cons_option (elim o [ None ↦ None | Some k ↦ if takes table keys k then option_map (λ row. (k, row)) e.row else None ]) (filter_map (row_taken table keys) es))
+        → AllByRecursion (λ e. IsShortKey e.0) (cons_option (elim o [ None ↦ None | Some k ↦ if matches table keys k then option_map (λ row. (k, row)) e.row else None ]) (filter_map (row_taken table keys) es))
     by None at rest = rest
-    by (Some k) at rest = taken (takes table keys k) e.row
+    by (Some k) at rest = taken (matches table keys k) e.row
       where
         taken : (b : Bool) (row : Option Row) → AllByRecursion (λ e. IsShortKey e.0) (cons_option (if b then option_map (λ row. (k, row)) row else None) (filter_map (row_taken table keys) es))
         taken true (Some row) = (read_short table e.key k is at, rest)
@@ -228,8 +228,8 @@ taken_short table keys (e ∷ es) is = by (key_from table e.key) refl (taken_sho
 pub rows_short : (table : Table) (keys : Keys) (es : List Event) (w : Net) → IsTable table.number table → All (λ c. IsShortKey c.0) w → All (λ e. IsShortKey e.0) (rows_in table keys es w)
 rows_short table keys es w is h =
     All-from_recursion (λ e. IsShortKey e.0) (rows_in table keys es w)
-    (all_applied IsShortKey (filter (λ c. takes table keys c.0) w) (insert_all [] (filter_map (row_taken table keys) es))
-    (all_chosen {X = Option Row} IsShortKey (λ c. takes table keys c.0) w (recursion_from_All (λ c. IsShortKey c.0) w h))
+    (all_applied IsShortKey (filter (λ c. matches table keys c.0) w) (insert_all [] (filter_map (row_taken table keys) es))
+    (all_chosen {X = Option Row} IsShortKey (λ c. matches table keys c.0) w (recursion_from_All (λ c. IsShortKey c.0) w h))
     (all_inserted IsShortKey (filter_map (row_taken table keys) es) [] (taken_short table keys es is) tt))
 
 -- ---- UPDATE and DELETE
@@ -255,35 +255,35 @@ delete_keys [] = refl
 delete_keys (e ∷ es) = ap (λ l. e.0 ∷ l) (delete_keys es)
 
 pub update_done : (table : Table) (keys : Keys) (sets : List Set) (m : Changes) (w new : Net) (r : Result ℕ Refusal) (cs : Net) (found : State) → keys.table ≡ table.number → sets_fault table [] sets ≡ None → comparisons_fault table keys.comparisons ≡ None
-    → found ≡ filter (λ e. takes table keys e.0) (seen m w) → cs ≡ updates sets found → T (is_sorted key_cmp w) → r ≡ put_answer cs w → OnOk r (new ≡ put_all cs w) → OnErr r (new ≡ w)
+    → found ≡ filter (λ e. matches table keys e.0) (seen m w) → cs ≡ updates sets found → T (is_sorted key_cmp w) → r ≡ put_answer cs w → OnOk r (new ≡ put_all cs w) → OnErr r (new ≡ w)
     → ◌≡◌ {A = Written} (r, own m new) (update_in table keys sets (own m w))
 update_done table keys sets m w new r cs found same no_set no_comparison found_is is sorted answer ok err =
     own_table table keys _ (r, own m new) (own m w) same (
     put_is m cs w new r sorted answer ok err
     ∙ ap (λ cs. writing (keys_of cs) (length cs) (apply_net (seen m w) cs) (own m w)) (is ∙ ap (updates sets) found_is)
-    ∙ (λ i. writing (update_keys sets kept i) (count i) (apply-updates (takes table keys) sets (seen m w) (sorted_apply w (rows_after [] m) (sorted_base m)) i) (own m w))
+    ∙ (λ i. writing (update_keys sets kept i) (count i) (apply-updates (matches table keys) sets (seen m w) (sorted_apply w (rows_after [] m) (sorted_base m)) i) (own m w))
     ∙ sym (λ i. fitting (first_of (no_set i) (no_comparison i)) (writing (met table keys (seen m w)) (length (met table keys (seen m w))) (update_rows table keys sets (seen m w)) (own m w)) (own m w))
     )
   where
     kept : State
-    kept = filter (λ e. takes table keys e.0) (seen m w)
+    kept = filter (λ e. matches table keys e.0) (seen m w)
 
     count : length (updates sets kept) ≡ length (met table keys (seen m w))
     count = length-map kept (λ e. (e.0, Some (set_all sets e.1))) ∙ sym (length-map kept (λ e. e.0))
 
 pub delete_done : (table : Table) (keys : Keys) (m : Changes) (w new : Net) (r : Result ℕ Refusal) (cs : Net) (found : State) → keys.table ≡ table.number → comparisons_fault table keys.comparisons ≡ None
-    → found ≡ filter (λ e. takes table keys e.0) (seen m w) → cs ≡ deletions found → T (is_sorted key_cmp w) → r ≡ put_answer cs w → OnOk r (new ≡ put_all cs w) → OnErr r (new ≡ w)
+    → found ≡ filter (λ e. matches table keys e.0) (seen m w) → cs ≡ deletions found → T (is_sorted key_cmp w) → r ≡ put_answer cs w → OnOk r (new ≡ put_all cs w) → OnErr r (new ≡ w)
     → ◌≡◌ {A = Written} (r, own m new) (delete_from table keys (own m w))
 delete_done table keys m w new r cs found same no_comparison found_is is sorted answer ok err =
     own_table table keys _ (r, own m new) (own m w) same (
     put_is m cs w new r sorted answer ok err
     ∙ ap (λ cs. writing (keys_of cs) (length cs) (apply_net (seen m w) cs) (own m w)) (is ∙ ap deletions found_is)
-    ∙ (λ i. writing (delete_keys kept i) (count i) (apply-deletions (takes table keys) (seen m w) (sorted_apply w (rows_after [] m) (sorted_base m)) i) (own m w))
+    ∙ (λ i. writing (delete_keys kept i) (count i) (apply-deletions (matches table keys) (seen m w) (sorted_apply w (rows_after [] m) (sorted_base m)) i) (own m w))
     ∙ sym (λ i. fitting (no_comparison i) (writing (met table keys (seen m w)) (length (met table keys (seen m w))) (delete_rows table keys (seen m w)) (own m w)) (own m w))
     )
   where
     kept : State
-    kept = filter (λ e. takes table keys e.0) (seen m w)
+    kept = filter (λ e. matches table keys e.0) (seen m w)
 
     none : Key × Row → Key × Option Row
     none e = (e.0, None)

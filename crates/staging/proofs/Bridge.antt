@@ -12,23 +12,23 @@ use Rattle.std.specs.FinMap.{is_sorted}
 use Rattle.std.specs.FinMap.Entries.{below_all}
 use Rattle.std.specs.List.{AllByRecursion, list_any, cons_option}
 use Rattle.std.specs.List.Sorted.{IsStrictlySortedBy}
-use Rattle.rows.specs.declared.values.Value.{Value}
-use Rattle.rows.specs.declared.values.Value.TheVariants.{Int, Text, Bool as Truth, Null}
-use Rattle.rows.specs.declared.keys.Key.{Key}
-use Rattle.rows.specs.declared.keys.Point.{Point}
-use Rattle.rows.specs.declared.events.Event.{Event}
-use Rattle.rows.specs.declared.tables.Table.{Table}
-use Rattle.rows.specs.Order.{key_cmp, is_key}
-use Rattle.rows.specs.Log.{State, Net, Row, Changes, row_at, apply_net, rows_after}
-use Rattle.rows.specs.Tables.{Schema, table_at}
-use Rattle.rows.specs.KeyEncoding.{bytes_of_key}
-use Rattle.rows.specs.KeyEncodingLaws.{IsStorable, AreKeyParts}
-use Rattle.rows.specs.RowEncoding.{IsHeld}
-use Rattle.rows.specs.KeyReading.{IsKeyOf}
-use Rattle.rows.specs.Events.{bytes_cmp, is_bytes, event_cmp, event_of, events_of, IsKeyOfAny, IsKeyIn, AreKeysIn, later, event_until, row_until}
-use Rattle.rows.proofs.Orders.{key_cmp_total, first, second}
-use Rattle.rows.proofs.States.{row_at-set_row, sorted_set_row}
-use Rattle.rows.proofs.KeyOrder.{byte_order_is_key_order}
+use Rattle.values.specs.declared.value.Value.{Value}
+use Rattle.values.specs.declared.value.Value.TheVariants.{Int, Text, Bool as Truth, Null}
+use Rattle.values.specs.declared.key.Key.{Key}
+use Rattle.values.specs.declared.key.Point.{Point}
+use Rattle.values.specs.Event.{Event}
+use Rattle.values.specs.declared.table.Table.{Table}
+use Rattle.values.specs.Order.{key_cmp, is_key}
+use Rattle.values.specs.Log.{State, Net, Row, Changes, row_at, apply_net, rows_after}
+use Rattle.values.specs.Tables.{Schema, table_at}
+use Rattle.values.specs.KeyEncoding.{bytes_of_key}
+use Rattle.values.specs.KeyEncodingLaws.{IsStorable, AreKeyParts}
+use Rattle.values.specs.RowEncoding.{IsHeld}
+use Rattle.values.specs.KeyReading.{IsKeyOf}
+use Rattle.values.specs.Events.{bytes_cmp, is_bytes, event_cmp, event_of, events_of, IsKeyOfAny, IsKeyIn, AreKeysIn, later, event_until, row_until}
+use Rattle.values.proofs.Orders.{key_cmp_total, first, second}
+use Rattle.values.proofs.States.{row_at-set_row, sorted_set_row}
+use Rattle.values.proofs.KeyOrder.{byte_order_is_key_order}
 use Rattle.staging.specs.Committed.{Committed, Holds}
 use Rattle.staging.specs.Own.{seen, net_over}
 use Rattle.staging.specs.Writing.{sees, net_in}

@@ -10,17 +10,17 @@ use Rattle.std.specs.Map.{keys_of}
 use Rattle.std.specs.FinMap.{is_sorted}
 use Rattle.std.specs.List.{AllByRecursion}
 use Rattle.std.specs.List.Sorted.{IsStrictlySortedBy}
-use Rattle.rows.specs.declared.keys.Key.{Key}
-use Rattle.rows.specs.declared.tables.Table.{Table}
-use Rattle.rows.specs.declared.queries.Keys.{Keys}
-use Rattle.rows.specs.declared.refusals.Refusal.{Refusal}
-use Rattle.rows.specs.declared.refusals.Refusal.TheVariants.{TooManyWrites}
-use Rattle.rows.specs.Order.{key_cmp}
-use Rattle.rows.specs.Log.{Net, Row, Changes, apply_net, rows_after}
-use Rattle.rows.specs.Tables.{Schema}
-use Rattle.rows.specs.Writes.{add_keys}
-use Rattle.rows.specs.Versions.{takes}
-use Rattle.rows.specs.Events.{event_cmp, AreKeysIn}
+use Rattle.values.specs.declared.key.Key.{Key}
+use Rattle.values.specs.declared.table.Table.{Table}
+use Rattle.values.specs.declared.query.Keys.{Keys}
+use Rattle.values.specs.declared.refusal.Refusal.{Refusal}
+use Rattle.values.specs.declared.refusal.Refusal.TheVariants.{TooManyWrites}
+use Rattle.values.specs.Order.{key_cmp}
+use Rattle.values.specs.Log.{Net, Row, Changes, apply_net, rows_after}
+use Rattle.values.specs.Tables.{Schema}
+use Rattle.values.specs.Writes.{add_keys}
+use Rattle.values.specs.Versions.{matches}
+use Rattle.values.specs.Events.{event_cmp, AreKeysIn}
 use Rattle.eventlist.specs.Listing.{standing}
 use Rattle.staging.specs.Committed.{Committed, Holds}
 use Rattle.staging.specs.Own.{Reads, Written, seen, own, net_over, writing}
@@ -32,7 +32,7 @@ use Rattle.staging.proofs.Seen.{rows_are}
 -- ---- what is read of a view
 
 pub rows_of_view : (schema : Schema) (table : Table) (keys : Keys) (view : Committed) (t : ℕ) (m : Changes) (w : Net) → Reads schema table view w m → keys.table ≡ table.number → IsStrictlySortedBy event_cmp view.events → All (λ e. e.at ≤ t) view.events
-    → IsStrictlySortedBy key_cmp (keys_of w) → rows_in table keys (standing view.events table.number t) w ≡ filter (λ e. takes table keys e.0) (seen m w)
+    → IsStrictlySortedBy key_cmp (keys_of w) → rows_in table keys (standing view.events table.number t) w ≡ filter (λ e. matches table keys e.0) (seen m w)
 rows_of_view schema table keys view t m w reads same sorted upto ordered =
     ap (λ es. rows_in table keys (standing es table.number t) w) reads.held.events_are
     ∙ rows_are schema table keys t m w reads.is_table same (are_seen schema view t m reads.held sorted upto) (sorted_from w ordered)

@@ -11,14 +11,14 @@ use Rattle.std.specs.FinMap.{is_sorted}
 use Rattle.std.specs.FinMap.Entries.{below_all, is_sorted-where_key}
 use Rattle.std.specs.List.{AllByRecursion}
 use Rattle.std.specs.List.Sorted.{IsStrictlySortedBy}
-use Rattle.rows.specs.declared.keys.Key.{Key}
-use Rattle.rows.specs.declared.queries.Set.{Set}
-use Rattle.rows.specs.Order.{key_cmp, is_key}
-use Rattle.rows.specs.Log.{State, Net, Row, row_at, set_row, apply_net}
-use Rattle.rows.specs.Writes.{set_all, add_keys}
-use Rattle.rows.proofs.Orders.{key_cmp_total, key_cmp-IsAntisymmetric, both, first, second}
-use Rattle.rows.proofs.Maps.{same_map, sorted_insert, lookup-insert_entry}
-use Rattle.rows.proofs.States.{row_at-set_row, sorted_set_row}
+use Rattle.values.specs.declared.key.Key.{Key}
+use Rattle.values.specs.declared.query.Set.{Set}
+use Rattle.values.specs.Order.{key_cmp, is_key}
+use Rattle.values.specs.Log.{State, Net, Row, row_at, set_row, apply_net}
+use Rattle.values.specs.Writes.{set_all, add_keys}
+use Rattle.values.proofs.Orders.{key_cmp_total, key_cmp-IsAntisymmetric, both, first, second}
+use Rattle.values.proofs.Maps.{same_map, sorted_insert, lookup-insert_entry}
+use Rattle.values.proofs.States.{row_at-set_row, sorted_set_row}
 use Rattle.staging.specs.Writing.{put_all, updates, deletions}
 
 is_less : (o : Ordering) → T (is_lt o) → o ≡ Less

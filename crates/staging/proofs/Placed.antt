@@ -3,10 +3,10 @@ use Rattle.std.proofs.Common.{ℕ, ◌<◌, ◌≤◌, List, [], ◌∷◌, arit
 use Rattle.std.specs.List.{AllByRecursion}
 use Rattle.std.specs.List.Sorted.{IsStrictlySortedBy}
 use Rattle.std.proofs.lemmas.List.Elements.{All-nil, All-weaker, All-from_recursion, recursion_from_All}
-use Rattle.rows.specs.Commits.{last_instant}
-use Rattle.rows.specs.declared.events.Event.{Event}
-use Rattle.rows.specs.Log.{Net}
-use Rattle.rows.specs.Events.{event_cmp, put_event, put_net}
+use Rattle.values.specs.Commits.{max_instant}
+use Rattle.values.specs.Event.{Event}
+use Rattle.values.specs.Log.{Net}
+use Rattle.values.specs.Events.{event_cmp, put_event, put_net}
 use Rattle.eventlist.proofs.Ordered.{sorted_none}
 use Rattle.eventlist.proofs.Placed.{all_put, sorted_put}
 use Rattle.staging.specs.Committed.{IsCommitted}
@@ -28,7 +28,7 @@ upto_net instant (c ∷ net) es h = upto_net instant net _ (upto_put instant _ e
 pub none_committed : IsCommitted [] 0
 none_committed = record { ordered = sorted_none event_cmp; upto = All-nil (λ e. e.at ≤ 0); within = omega arith }
 
-pub put_committed : (es : List Event) (before instant : ℕ) (net : Net) → IsCommitted es before → before < instant → instant ≤ last_instant → IsCommitted (put_net instant net es) instant
+pub put_committed : (es : List Event) (before instant : ℕ) (net : Net) → IsCommitted es before → before < instant → instant ≤ max_instant → IsCommitted (put_net instant net es) instant
 put_committed es before instant net h later within = record {
   ordered = sorted_net instant net es h.ordered;
   upto =

@@ -2,11 +2,11 @@
 use Rattle.std.specs.Prelude.{◌≡◌, ℕ, ◌≤◌, List, All}
 use Rattle.std.specs.Map.{keys_of}
 use Rattle.std.specs.List.Sorted.{IsStrictlySortedBy}
-use Rattle.rows.specs.declared.events.Event.{Event}
-use Rattle.rows.specs.Tables.{Schema}
-use Rattle.rows.specs.Log.{Changes, point_cmp}
-use Rattle.rows.specs.Commits.{last_instant}
-use Rattle.rows.specs.Events.{event_cmp, events_of, AreChangesIn}
+use Rattle.values.specs.Event.{Event}
+use Rattle.values.specs.Tables.{Schema}
+use Rattle.values.specs.Log.{Changes, point_cmp}
+use Rattle.values.specs.Commits.{max_instant}
+use Rattle.values.specs.Events.{event_cmp, events_of, AreChangesIn}
 
 -- the events, by key and then by instant, and the last instant
 pub record Committed : Type 0 where
@@ -17,7 +17,7 @@ pub record Committed : Type 0 where
 pub record IsCommitted (events : List Event) (last : ℕ) : Type 0 where
   pub ordered : IsStrictlySortedBy event_cmp events
   pub upto : All (λ e. e.at ≤ last) events
-  pub within : last ≤ last_instant
+  pub within : last ≤ max_instant
 
 -- its events are those of the changes, in order, whose keys are of the schema
 pub record Holds (schema : Schema) (c : Committed) (m : Changes) : Type 0 where

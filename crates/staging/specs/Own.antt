@@ -1,16 +1,16 @@
 -- What a transaction does: what it sees, what a write answers, and what it leaves.
 use Rattle.std.specs.Prelude.{◌≡◌, ℕ, List, [], ◌==◌, Option, Some, None, Result, Ok, Err, nat_lt, if◌then◌else◌, length, map}
-use Rattle.rows.specs.declared.keys.Key.{Key}
-use Rattle.rows.specs.declared.tables.Table.{Table}
-use Rattle.rows.specs.declared.queries.Keys.{Keys}
-use Rattle.rows.specs.declared.queries.Set.{Set}
-use Rattle.rows.specs.declared.refusals.Refusal.{Refusal}
-use Rattle.rows.specs.declared.refusals.Refusal.TheVariants.{NoTable, BadRow, DuplicateKey, TooManyWrites}
-use Rattle.rows.specs.Tables.{Schema, table_at}
-use Rattle.rows.specs.Log.{Changes, State, Net, Row, apply_net, rows_after}
-use Rattle.rows.specs.Fits.{rows_fault, comparisons_fault, sets_fault, first_of}
-use Rattle.rows.specs.Writes.{key_of, insert_rows, duplicate, update_rows, delete_rows, met, add_keys, net_of}
-use Rattle.rows.specs.Events.{AreKeysIn}
+use Rattle.values.specs.declared.key.Key.{Key}
+use Rattle.values.specs.declared.table.Table.{Table}
+use Rattle.values.specs.declared.query.Keys.{Keys}
+use Rattle.values.specs.declared.query.Set.{Set}
+use Rattle.values.specs.declared.refusal.Refusal.{Refusal}
+use Rattle.values.specs.declared.refusal.Refusal.TheVariants.{NoTable, BadRow, DuplicateKey, TooManyWrites}
+use Rattle.values.specs.Tables.{Schema, table_at}
+use Rattle.values.specs.Log.{Changes, State, Net, Row, apply_net, rows_after}
+use Rattle.values.specs.Fit.{rows_fault, comparisons_fault, sets_fault, first_of}
+use Rattle.values.specs.Writes.{key_of, insert_rows, duplicate, update_rows, delete_rows, met, add_keys, net_of}
+use Rattle.values.specs.Events.{AreKeysIn}
 use Rattle.staging.specs.Committed.{Committed, Holds}
 
 -- the rows that a transaction sees, and the keys that it wrote

@@ -4,20 +4,20 @@ use Rattle.std.specs.Option.{option_map}
 use Rattle.std.specs.List.{list_any, filter_map}
 use Rattle.std.specs.BTreeMap.{insert_entry, is_at}
 use Rattle.std.specs.Map.{lookup}
-use Rattle.rows.specs.declared.keys.Key.{Key}
-use Rattle.rows.specs.declared.events.Event.{Event}
-use Rattle.rows.specs.declared.tables.Table.{Table}
-use Rattle.rows.specs.declared.queries.Keys.{Keys}
-use Rattle.rows.specs.declared.queries.Set.{Set}
-use Rattle.rows.specs.declared.refusals.Refusal.{Refusal}
-use Rattle.rows.specs.declared.refusals.Refusal.TheVariants.{TooManyWrites}
-use Rattle.rows.specs.Order.{key_cmp, is_key}
-use Rattle.rows.specs.Log.{State, Net, Row, apply_net}
-use Rattle.rows.specs.Versions.{takes}
-use Rattle.rows.specs.Writes.{set_all, insert_all}
-use Rattle.rows.specs.KeyEncoding.{bytes_of_key}
-use Rattle.rows.specs.KeyReading.{key_from}
-use Rattle.rows.specs.Events.{row_until}
+use Rattle.values.specs.declared.key.Key.{Key}
+use Rattle.values.specs.Event.{Event}
+use Rattle.values.specs.declared.table.Table.{Table}
+use Rattle.values.specs.declared.query.Keys.{Keys}
+use Rattle.values.specs.declared.query.Set.{Set}
+use Rattle.values.specs.declared.refusal.Refusal.{Refusal}
+use Rattle.values.specs.declared.refusal.Refusal.TheVariants.{TooManyWrites}
+use Rattle.values.specs.Order.{key_cmp, is_key}
+use Rattle.values.specs.Log.{State, Net, Row, apply_net}
+use Rattle.values.specs.Versions.{matches}
+use Rattle.values.specs.Writes.{set_all, insert_all}
+use Rattle.values.specs.KeyEncoding.{bytes_of_key}
+use Rattle.values.specs.KeyReading.{key_from}
+use Rattle.values.specs.Events.{row_until}
 
 -- changes over earlier ones, in turn
 abbrev pub put_all : Net → Net → Net
@@ -49,11 +49,11 @@ first_seen has earlier (k ∷ ks) = if has k || list_any (is_key k) earlier then
 
 -- an event's row with its key, where the keys take it
 abbrev pub row_taken : Table → Keys → Event → Option (Key × Row)
-row_taken table keys e = elim (key_from table e.key) [ None ↦ None | Some k ↦ if takes table keys k then option_map (λ row. (k, row)) e.row else None ]
+row_taken table keys e = elim (key_from table e.key) [ None ↦ None | Some k ↦ if matches table keys k then option_map (λ row. (k, row)) e.row else None ]
 
 -- the rows of events that the keys take, and the writes that they take over them
 abbrev pub rows_in : Table → Keys → List Event → Net → State
-rows_in table keys es w = apply_net (insert_all [] (filter_map (row_taken table keys) es)) (filter (λ c. takes table keys c.0) w)
+rows_in table keys es w = apply_net (insert_all [] (filter_map (row_taken table keys) es)) (filter (λ c. matches table keys c.0) w)
 
 -- what was written, without the keys that have no row both then and by the events until an instant
 abbrev pub net_in : List Event → ℕ → Net → Net

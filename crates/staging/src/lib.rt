@@ -1,15 +1,15 @@
 //! A transaction's own writes over what was committed when it began.
 #![tactic(auto)]
 
-mod deletes;
-mod inserts;
-mod nets;
+mod delete;
+mod insert;
+mod net;
 mod staged;
 #[cfg(test)]
 mod tests;
-mod updates;
-mod views;
+mod update;
+mod view;
 
-pub use nets::Net;
+pub use net::Net;
 pub use staged::Staged;
-pub use views::View;
+pub use view::View;

@@ -4,22 +4,22 @@ ghost use Rattle.std.specs.BTreeMap.{IsOrdered};
 ghost use Rattle.std.specs.Map.{keys_of};
 ghost use Rattle.std.specs.List.{filter_map, list_any};
 ghost use Rattle.std.specs.List.Sorted.{IsStrictlySortedBy};
-ghost use Rattle.rows.specs.Log.{Changes, set_row, apply_net};
-ghost use Rattle.rows.specs.Order.{key_cmp, is_key};
-ghost use Rattle.rows.specs.Tables.{Schema, IsTable};
-ghost use Rattle.rows.specs.Memory.{OnlyMemory};
-ghost use Rattle.rows.specs.Versions.{takes};
-ghost use Rattle.rows.specs.Writes.{insert_all};
-ghost use Rattle.rows.specs.KeyEncoding.{IsShortKey, bytes_of_key};
-ghost use Rattle.rows.specs.Events.{AreKeysIn, row_until};
+ghost use Rattle.values.specs.Log.{Changes, set_row, apply_net};
+ghost use Rattle.values.specs.Order.{key_cmp, is_key};
+ghost use Rattle.values.specs.Tables.{Schema, IsTable};
+ghost use Rattle.values.specs.Memory.{OnlyMemory};
+ghost use Rattle.values.specs.Versions.{matches};
+ghost use Rattle.values.specs.Writes.{insert_all};
+ghost use Rattle.values.specs.KeyEncoding.{IsShortKey, bytes_of_key};
+ghost use Rattle.values.specs.Events.{AreKeysIn, row_until};
 ghost use Rattle.eventlist.specs.Listing.{standing};
 ghost use Rattle.staging.specs.Committed.{Holds};
 ghost use Rattle.staging.specs.Own.{Reads, seen, net_over};
 ghost use Rattle.staging.specs.Writing.{put_all, put_answer, sees, first_seen, row_taken, rows_in, net_in};
 
-use crate::nets::Net;
-use crate::views::View;
-use rows::{Event, Instant, Key, Keys, Mem, Refusal, Row, SharedEvent, Table, key_bytes, read_key};
+use crate::net::Net;
+use crate::view::View;
+use values::{Event, Instant, Key, Keys, Mem, Refusal, Row, SharedEvent, Table, key_bytes, read_key};
 use std::alloc::{AllocError, Global};
 use std::collections::BTreeMap;
 use std::marker::Model;
@@ -36,8 +36,8 @@ pub struct Staged {
 
 impl Model for Staged {
     ghost use Rattle.std.specs.Prelude.{All};
-    ghost use Rattle.rows.specs.Log.{Net as Writes};
-    ghost use Rattle.rows.specs.KeyEncoding.{IsShortKey};
+    ghost use Rattle.values.specs.Log.{Net as Writes};
+    ghost use Rattle.values.specs.KeyEncoding.{IsShortKey};
 
     ghost Value = { Writes };
 
@@ -60,7 +60,7 @@ impl Staged {
 
     /// By key: the rows that the transaction sees and that the keys of the table take.
     pub fn rows(&self, view: &View, table: &Table, keys: &Keys) -> Mem<BTreeMap<Key, Row>>
-        ensures ok { IfOk result (λ found. (schema : Schema) (m : Changes) → Reads schema table.now view.now self.now m → keys.now.table ≡ table.now.number → found.entries ≡ filter (λ e. takes table.now keys.now e.0) (seen m self.now)) }
+        ensures ok { IfOk result (λ found. (schema : Schema) (m : Changes) → Reads schema table.now view.now self.now m → keys.now.table ≡ table.now.number → found.entries ≡ filter (λ e. matches table.now keys.now e.0) (seen m self.now)) }
         ensures err { OnlyMemory result }
     {
         Ok(self.rows_found(view, view.last(), table, keys)?)
@@ -205,7 +205,7 @@ fn row_taken(alloc: Global, table: &Table, keys: &Keys, event: &Event) -> Mem<Op
     let Some(key) = read_key(alloc, table, &event.key)? else {
         return Ok(None);
     };
-    if !keys.takes(table, &key) {
+    if !keys.matches(table, &key) {
         return Ok(None);
     }
     match &event.row {
@@ -221,11 +221,11 @@ fn put_taken(
     writes: &BTreeMap<Key, Option<Row>>,
     found: &mut BTreeMap<Key, Row>,
 ) -> Result<(), AllocError>
-    ensures put { OnOk result (found.new.entries ≡ apply_net found.old.entries (filter (λ c. takes table.now keys.now c.0) writes.now.entries)) }
+    ensures put { OnOk result (found.new.entries ≡ apply_net found.old.entries (filter (λ c. matches table.now keys.now c.0) writes.now.entries)) }
     ensures ordered { IsOrdered key_cmp writes.now }
 {
     for (key, row) in writes {
-        if keys.takes(table, key) {
+        if keys.matches(table, key) {
             set_row(found, key, row)?;
         }
     }

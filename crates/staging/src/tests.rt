@@ -1,11 +1,11 @@
 //! Transactions over what was committed before.
 ghost use Rattle.std.specs.Prelude.{◌≡◌, ◌<◌, ◌≤◌, IfOk, OnOk};
-ghost use Rattle.rows.specs.KeyEncoding.{IsShortKey};
-ghost use Rattle.rows.specs.Tables.{IsTable};
+ghost use Rattle.values.specs.KeyEncoding.{IsShortKey};
+ghost use Rattle.values.specs.Tables.{IsTable};
 
 use crate::{Staged, View};
 use keyrange::KeyRange;
-use rows::{
+use values::{
     Chars, Comparison, Instant, Key, KeyBytes, Keys, Mem, Operator, Refusal, Row, Schema, Sequence,
     Set, Table, Value, Values, key_bytes,
 };

@@ -2,14 +2,14 @@
 use Rattle.std.proofs.Common.{◌≡◌, ◌⊎◌, ℕ, Bool, true, false, List, [], ◌∷◌, length, Ok, Err, inl, inr, refl, ap, sym, ◌∙◌, subst}
 use Rattle.std.specs.Prelude.{Result, ◌==◌, ◌-◌, if◌then◌else◌}
 use Rattle.std.proofs.lemmas.Bool.{and_parts, false≢true}
-use Rattle.rows.specs.Tables.{Schema}
-use Rattle.rows.specs.declared.refusals.Refusal.{Refusal}
-use Rattle.rows.specs.declared.refusals.Refusal.TheVariants.{Syntax}
-use Rattle.statement.specs.declared.steps.Line.{Line}
-use Rattle.statement.specs.declared.steps.Line.TheVariants.{Nothing}
-use Rattle.statement.specs.declared.lines.Written.{Written}
-use Rattle.statement.specs.Tokens.{Read, is_blank, next}
-use Rattle.statement.specs.Lines.{is_nothing, written_at, meaning_of, body_says}
+use Rattle.values.specs.Tables.{Schema}
+use Rattle.values.specs.declared.refusal.Refusal.{Refusal}
+use Rattle.values.specs.declared.refusal.Refusal.TheVariants.{Syntax}
+use Rattle.statement.specs.declared.line.Line.{Line}
+use Rattle.statement.specs.declared.line.Line.TheVariants.{Nothing}
+use Rattle.statement.specs.declared.line.Written.{Written}
+use Rattle.statement.specs.Token.{Read, is_blank, next}
+use Rattle.statement.specs.Line.{is_nothing, written_at, meaning_of, body_says}
 use Rattle.statement.specs.Grammar.{Ends, Blanks, IsNothing, IsLine}
 use Rattle.statement.specs.GrammarLaws.{LinesAreRead, LinesSayOneThing, NothingIsRead, IsRefused, OnlyLinesAreRead}
 use Rattle.statement.proofs.Runs.{blanks_before, next_is}

@@ -4,8 +4,8 @@ use Rattle.std.specs.Prelude.{if◌then◌else◌, ◌==◌, IfSome}
 use Rattle.std.proofs.lemmas.Bool.Decides.{nat_tests}
 use Rattle.std.proofs.KnownBytes.{Appends-trans, Appends-nil, Consumes-nil, Consumes-trans, Consumes-kept}
 use Rattle.std.specs.Io.KnownBytes.{Appends, Consumes, Keeps, IsAtEnd}
-use Rattle.rows.specs.Tables.{Schema}
-use Rattle.statement.specs.Puts.{AppendsFront}
+use Rattle.values.specs.Tables.{Schema}
+use Rattle.statement.specs.Writer.{AppendsFront}
 use Rattle.statement.specs.Transcript.{Partial, Progress, Reading, beginning, add, ended, line_reply, line_leaves, last_reply, last_leaves, mark, marks_after, transcript, leaves, IsStopped}
 use Rattle.statement.specs.Taking.{Feeds, Breaks}
 use Rattle.statement.proofs.Fronts.{front_then}

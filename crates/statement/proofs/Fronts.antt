@@ -5,7 +5,7 @@ use Rattle.std.specs.List.{flat_map}
 use Rattle.std.proofs.Math.Seq.{drop-cons}
 use Rattle.std.proofs.KnownBytes.{Appends-trans, Appends-nil}
 use Rattle.std.specs.Io.KnownBytes.{Appends, Keeps}
-use Rattle.statement.specs.Puts.{AppendsFront, Puts}
+use Rattle.statement.specs.Writer.{AppendsFront, Puts}
 
 pub front_first : (a b : Option (List ℕ)) (x y : List ℕ) → AppendsFront a b x → AppendsFront a b (x ++ y)
 front_first a b x y f = record { out = f.out; left = f.left ++ y; wrote = f.wrote; front = ap (λ l. l ++ y) f.front ∙ append_assoc f.out f.left y }

@@ -2,15 +2,15 @@
 use Rattle.std.proofs.Common.{◌≡◌, ◌<◌, ◌≤◌, ◌+◌, ℕ, Bool, true, false, List, [], ◌∷◌, ◌++◌, length, inl, inr, ap, arith, lit<, ℤ}
 use Rattle.std.specs.Prelude.{codes}
 use Rattle.std.proofs.lemmas.List.{length-append}
-use Rattle.rows.specs.Tables.{Schema}
-use Rattle.rows.specs.declared.queries.Comparison.{Comparison}
-use Rattle.rows.specs.declared.queries.Operator.{Operator}
-use Rattle.rows.specs.declared.queries.Operator.TheVariants.{Equal, Below, AtMost, Above, AtLeast}
-use Rattle.rows.specs.declared.queries.Set.{Set}
-use Rattle.rows.specs.declared.values.Value.{Value}
-use Rattle.rows.specs.declared.values.Value.TheVariants.{Int, Text, Bool as Truth, Null}
-use Rattle.rows.specs.Log.{Row}
-use Rattle.statement.specs.Words.{is_name_byte}
+use Rattle.values.specs.Tables.{Schema}
+use Rattle.values.specs.declared.query.Comparison.{Comparison}
+use Rattle.values.specs.declared.query.Operator.{Operator}
+use Rattle.values.specs.declared.query.Operator.TheVariants.{Equal, Below, AtMost, Above, AtLeast}
+use Rattle.values.specs.declared.query.Set.{Set}
+use Rattle.values.specs.declared.value.Value.{Value}
+use Rattle.values.specs.declared.value.Value.TheVariants.{Int, Text, Bool as Truth, Null}
+use Rattle.values.specs.Log.{Row}
+use Rattle.statement.specs.Word.{is_name_byte}
 use Rattle.statement.specs.Grammar.{Piece, ◌⋯◌, Blanks, Run, Exactly, Symbol, Word, Name, Digits, Number, Quoted, doubled, Literal, Listed, Enclosed, IsRow, IsOperator, IsColumn, IsSet, IsComparison}
 use Rattle.statement.proofs.Whole.{some_written}
 
@@ -59,7 +59,7 @@ word_takes word some = record {
 }
 
 takes_within : (P : Piece) → TakesSome P → KeepsWithin P
-takes_within P takes = record { within = λ bytes rest is. omega (arith, takes.below bytes rest is) }
+takes_within P matches = record { within = λ bytes rest is. omega (arith, matches.below bytes rest is) }
 
 word_within : (word : List ℕ) → 0 < length word → KeepsWithin (Word word)
 word_within word some = takes_within (Word word) (word_takes word some)

@@ -4,7 +4,7 @@ use Rattle.std.specs.Prelude.{◌==◌, ◌&&◌, nat_lt, slice_index, if◌then
 use Rattle.std.proofs.lemmas.Bool.{and_parts, and_from}
 use Rattle.std.proofs.lemmas.Bool.Decides.{nat_tests}
 use Rattle.std.proofs.lemmas.List.{append_assoc, length_push, get_or_at, take_at, take_all, take_more}
-use Rattle.statement.specs.Lines.{without_last, before_feed, body_of}
+use Rattle.statement.specs.Line.{without_last, before_feed, body_of}
 use Rattle.statement.specs.GrammarLaws.{EndsOtherwise, LineEndsAreNoTokens}
 use Rattle.statement.proofs.Sound.{same_byte}
 use Rattle.statement.proofs.Whole.{same_number}

@@ -6,10 +6,10 @@ use Rattle.std.specs.Str.Parse.{AllDigits}
 use Rattle.std.proofs.lemmas.Fmt.{decimal_is_IsNumeral}
 use Rattle.std.proofs.lemmas.List.{append_assoc}
 use Rattle.std.proofs.lemmas.Bool.Decides.{nat_tests}
-use Rattle.rows.specs.declared.values.Value.{Value}
-use Rattle.rows.specs.declared.values.Value.TheVariants.{Int, Text, Bool as Truth, Null}
-use Rattle.statement.specs.Words.{is_name_byte}
-use Rattle.statement.specs.Replies.{quoted, value_text, next_text, values_text}
+use Rattle.values.specs.declared.value.Value.{Value}
+use Rattle.values.specs.declared.value.Value.TheVariants.{Int, Text, Bool as Truth, Null}
+use Rattle.statement.specs.Word.{is_name_byte}
+use Rattle.statement.specs.Print.{quoted, value_text, next_text, values_text}
 use Rattle.statement.specs.Grammar.{AllBytes, Blanks, Symbol, Digits, is_quote, Literal, Listed, IsRow}
 use Rattle.statement.specs.GrammarLaws.{IsPlain, ArePlain, PrintedRowsAreRead}
 use Rattle.statement.proofs.SoundLiterals.{literal_behind}

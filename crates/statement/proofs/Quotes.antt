@@ -2,7 +2,7 @@
 use Rattle.std.proofs.Common.{◌≡◌, ℕ, ◌==◌, Bool, true, false, List, [], ◌∷◌, ◌++◌, refl, ap}
 use Rattle.std.specs.Prelude.{if◌then◌else◌, ◌||◌}
 use Rattle.std.specs.List.{list_any}
-use Rattle.statement.specs.Replies.{quoted}
+use Rattle.statement.specs.Print.{quoted}
 
 step : (b : ℕ) (rest text : List ℕ) (is : Bool) (others : Bool) → (is || others) ≡ false → (others ≡ false → text ≡ rest) → (if is then 39 ∷ 39 ∷ [] else b ∷ []) ++ text ≡ b ∷ rest
 step b rest text true others e same = cc

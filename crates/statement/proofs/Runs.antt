@@ -2,7 +2,7 @@
 use Rattle.std.proofs.Common.{◌≡◌, ℕ, ◌+◌, suc, Bool, true, false, cond, List, [], ◌∷◌, ◌++◌, length, take, drop, refl, ap, sym, ◌∙◌, arith}
 use Rattle.std.specs.List.{prefix_len}
 use Rattle.std.proofs.lemmas.List.{take-append-drop, take_at, drop_at, append_assoc}
-use Rattle.statement.specs.Tokens.{is_blank, next}
+use Rattle.statement.specs.Token.{is_blank, next}
 use Rattle.statement.specs.Grammar.{AllBytes, Ends, Blanks, Run}
 
 pub one_more : (n : ℕ) → 1 + n ≡ suc n

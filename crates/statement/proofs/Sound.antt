@@ -2,9 +2,9 @@
 use Rattle.std.proofs.Common.{◌≡◌, ℕ, Bool, true, false, List, [], ◌∷◌, take, drop, Ok, Err, refl, ap, arith}
 use Rattle.std.specs.Prelude.{◌==◌, if◌then◌else◌}
 use Rattle.std.proofs.lemmas.Bool.Decides.{nat_tests}
-use Rattle.rows.specs.Names.{same_name}
-use Rattle.statement.specs.Tokens.{next, symbol_at}
-use Rattle.statement.specs.Words.{is_name_byte, word_length, word_at, is_name, name_at}
+use Rattle.values.specs.Names.{same_name}
+use Rattle.statement.specs.Token.{next, symbol_at}
+use Rattle.statement.specs.Word.{is_name_byte, word_length, word_at, is_name, name_at}
 use Rattle.statement.specs.Grammar.{Blanks, Symbol, Word, Name}
 use Rattle.statement.proofs.Runs.{run_of, blanks_before}
 use Rattle.statement.proofs.Holds.{Holds, Leaves}

@@ -1,16 +1,16 @@
 -- What is read as a statement or as a line is one.
 use Rattle.std.proofs.Common.{◌≡◌, ◌⊎◌, ℕ, Bool, true, false, List, [], ◌∷◌, Ok, Err, Some, None, inl, inr, refl, subst}
 use Rattle.std.specs.Prelude.{◌-◌, ◌^◌, if◌then◌else◌, codes}
-use Rattle.rows.specs.Tables.{Schema}
-use Rattle.rows.specs.declared.queries.Comparison.{Comparison}
-use Rattle.rows.specs.declared.queries.Keys.{Keys}
-use Rattle.statement.specs.declared.lines.Written.TheVariants.{Clock, Session}
-use Rattle.statement.specs.declared.statements.Statement.TheVariants.{Begin, Insert, Update, Delete, Select, Commit, Rollback}
-use Rattle.statement.specs.Tokens.{After, next, symbol_at, end_at, after_semicolon}
-use Rattle.statement.specs.Words.{word_at, after_word}
-use Rattle.statement.specs.Wheres.{keys_at}
-use Rattle.statement.specs.Statements.{start_at, listed_at, insert_at, update_at, delete_at, select_at, data_at, statement_at}
-use Rattle.statement.specs.Lines.{begins_digit, clock_at, session_at, written_at}
+use Rattle.values.specs.Tables.{Schema}
+use Rattle.values.specs.declared.query.Comparison.{Comparison}
+use Rattle.values.specs.declared.query.Keys.{Keys}
+use Rattle.statement.specs.declared.line.Written.TheVariants.{Clock, Session}
+use Rattle.statement.specs.declared.statement.Statement.TheVariants.{Begin, Insert, Update, Delete, Select, Commit, Rollback}
+use Rattle.statement.specs.Token.{After, next, symbol_at, end_at, after_semicolon}
+use Rattle.statement.specs.Word.{word_at, after_word}
+use Rattle.statement.specs.Condition.{keys_at}
+use Rattle.statement.specs.Statement.{start_at, listed_at, insert_at, update_at, delete_at, select_at, data_at, statement_at}
+use Rattle.statement.specs.Line.{begins_digit, clock_at, session_at, written_at}
 use Rattle.statement.specs.Grammar.{◌∣◌, Empty, Blanks, Symbol, Word, Listed, IsTable, IsSet, IsComparison, IsColumnList, IsWhere, IsStatement, IsLine}
 use Rattle.statement.proofs.Runs.{blanks_before}
 use Rattle.statement.proofs.Sound.{symbol_sound, word_sound}

@@ -2,15 +2,15 @@
 use Rattle.std.proofs.Common.{◌≡◌, ℕ, Bool, true, false, List, [], ◌∷◌, ◌++◌, Ok, Err, refl, ap, sym, ◌∙◌, subst}
 use Rattle.std.specs.Prelude.{◌==◌, if◌then◌else◌, codes}
 use Rattle.std.proofs.lemmas.List.{append-nil, append_assoc}
-use Rattle.rows.specs.Tables.{Schema}
-use Rattle.rows.specs.declared.queries.Form.TheVariants.{Plain, AsOf}
-use Rattle.rows.specs.declared.queries.Operator.{Operator}
-use Rattle.rows.specs.declared.queries.Operator.TheVariants.{Equal, Below, AtMost, Above, AtLeast}
-use Rattle.statement.specs.Tokens.{After, Read, next, symbol_at, more_at, list_at, enclosed_at}
-use Rattle.statement.specs.Words.{word_at}
-use Rattle.statement.specs.Literals.{literal_at, row_at, rows_at}
-use Rattle.statement.specs.Wheres.{table_of, column_of, table_name_at, column_name_at, or_equal, operator_of, operator_at, set_at, comparison_at, sets_at, comparisons_at, columns_at}
-use Rattle.statement.specs.Statements.{instant_at, as_of_at, form_at}
+use Rattle.values.specs.Tables.{Schema}
+use Rattle.values.specs.declared.query.Form.TheVariants.{Plain, AsOf}
+use Rattle.values.specs.declared.query.Operator.{Operator}
+use Rattle.values.specs.declared.query.Operator.TheVariants.{Equal, Below, AtMost, Above, AtLeast}
+use Rattle.statement.specs.Token.{After, Read, next, symbol_at, more_at, list_at, enclosed_at}
+use Rattle.statement.specs.Word.{word_at}
+use Rattle.statement.specs.Literal.{literal_at, row_at, rows_at}
+use Rattle.statement.specs.Condition.{table_of, column_of, table_name_at, column_name_at, or_equal, operator_of, operator_at, set_at, comparison_at, sets_at, comparisons_at, columns_at}
+use Rattle.statement.specs.Statement.{instant_at, as_of_at, form_at}
 use Rattle.statement.specs.Grammar.{Piece, ◌⋯◌, Empty, Ends, Blanks, Symbol, Word, Literal, Listed, Enclosed, IsRow, IsOperator, IsInstant, IsForm, IsTable, IsColumn, IsSet, IsComparison}
 use Rattle.statement.proofs.Runs.{blanks_before}
 use Rattle.statement.proofs.Sound.{symbol_sound, word_sound, name_sound, same_byte}

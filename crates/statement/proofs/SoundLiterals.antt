@@ -9,10 +9,10 @@ use Rattle.std.proofs.lemmas.Str.{IsUtf8-from_is_utf8}
 use Rattle.std.proofs.lemmas.List.{append-nil, append_assoc}
 use Rattle.std.proofs.lemmas.List.Folds.{length-prefix_len}
 use Rattle.std.proofs.lemmas.Bool.Decides.{nat_tests}
-use Rattle.rows.specs.declared.values.Value.{Value}
-use Rattle.rows.specs.declared.values.Value.TheVariants.{Int, Text, Bool as Truth, Null}
-use Rattle.statement.specs.Tokens.{Read, ◌>>=◌, next}
-use Rattle.statement.specs.Literals.{digit_count, digits_here, digits_at, begins_with, above_nought, below_nought, number_at, quoted_from, quoted, text_of, text_at, constant_at, begins_number, literal_at}
+use Rattle.values.specs.declared.value.Value.{Value}
+use Rattle.values.specs.declared.value.Value.TheVariants.{Int, Text, Bool as Truth, Null}
+use Rattle.statement.specs.Token.{Read, ◌>>=◌, next}
+use Rattle.statement.specs.Literal.{digit_count, digits_here, digits_at, begins_with, above_nought, below_nought, number_at, quoted_from, quoted, text_of, text_at, constant_at, begins_number, literal_at}
 use Rattle.statement.specs.Grammar.{◌⋯◌, Ends, Blanks, Symbol, Digits, Number, doubled, is_quote, Literal}
 use Rattle.statement.proofs.Runs.{run_of, blanks_before, blanks_join}
 use Rattle.statement.proofs.Sound.{symbol_sound, word_sound, same_byte}

@@ -1,9 +1,9 @@
 -- The turns of a loop that reads a list.
 use Rattle.std.proofs.Common.{◌≡◌, ℕ, ◌+◌, ◌<◌, ◌≤◌, List, [], ◌∷◌, ◌++◌, length, drop, Ok, Err, ap, ◌∙◌}
 use Rattle.std.proofs.lemmas.List.{at_drop_more, at_drop_all}
-use Rattle.statement.specs.declared.tokens.Stop.{Stop}
-use Rattle.statement.specs.declared.tokens.Stop.TheVariants.{Here, Memory}
-use Rattle.statement.specs.Tokens.{After, Read, Stops, more_at}
+use Rattle.statement.specs.declared.token.Stop.{Stop}
+use Rattle.statement.specs.declared.token.Stop.TheVariants.{Here, Memory}
+use Rattle.statement.specs.Token.{After, Read, Stops, more_at}
 
 -- where reading ends at a token, so does the rest
 pub stops_alike : {A B : Type 0} (stop : Stop) (read : Read A) (other : Read B) → ((at : List ℕ) → read ≡ Err at → other ≡ Err at) → Stops stop read → Stops stop other

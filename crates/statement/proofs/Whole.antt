@@ -5,9 +5,9 @@ use Rattle.std.specs.List.{prefix_len}
 use Rattle.std.specs.Char.{to_ascii_lowercase, eq_ignore_ascii_case}
 use Rattle.std.proofs.lemmas.Bool.{and_parts, and_from, and_left}
 use Rattle.std.proofs.lemmas.Bool.Decides.{nat_tests}
-use Rattle.rows.specs.Names.{same_name, same_letters}
-use Rattle.statement.specs.Tokens.{After, is_blank, next, symbol_at}
-use Rattle.statement.specs.Words.{is_name_byte, word_length, word_at, is_name, name_at}
+use Rattle.values.specs.Names.{same_name, same_letters}
+use Rattle.statement.specs.Token.{After, is_blank, next, symbol_at}
+use Rattle.statement.specs.Word.{is_name_byte, word_length, word_at, is_name, name_at}
 use Rattle.statement.specs.Grammar.{AllBytes, Ends, Blanks, Run, Symbol, Word, Name}
 use Rattle.statement.proofs.Runs.{next_is, run_taken, run_left}
 

@@ -1,16 +1,16 @@
 -- What is of the grammar is read: lines.
 use Rattle.std.proofs.Common.{◌≡◌, ◌<◌, ℕ, false, List, [], ◌∷◌, length, Ok, Err, inl, inr, refl, ap, ◌∙◌, arith, lit<}
 use Rattle.std.specs.Prelude.{◌==◌, ◌&&◌, ◌-◌, ◌^◌, if◌then◌else◌, codes}
-use Rattle.rows.specs.Tables.{Schema}
-use Rattle.rows.specs.Names.{same_name}
-use Rattle.statement.specs.declared.lines.Written.{Written}
-use Rattle.statement.specs.declared.lines.Written.TheVariants.{Clock, Session}
-use Rattle.statement.specs.declared.statements.Statement.{Statement}
-use Rattle.statement.specs.declared.statements.Statement.TheVariants.{Begin, Insert, Update, Delete, Select, Commit, Rollback}
-use Rattle.statement.specs.Tokens.{After, Read, next, end_at, after_semicolon}
-use Rattle.statement.specs.Words.{word_at, after_word}
-use Rattle.statement.specs.Statements.{start_at, insert_at, update_at, delete_at, select_at, data_at, statement_at}
-use Rattle.statement.specs.Lines.{is_nothing, begins_digit, clock_at, session_at, written_at}
+use Rattle.values.specs.Tables.{Schema}
+use Rattle.values.specs.Names.{same_name}
+use Rattle.statement.specs.declared.line.Written.{Written}
+use Rattle.statement.specs.declared.line.Written.TheVariants.{Clock, Session}
+use Rattle.statement.specs.declared.statement.Statement.{Statement}
+use Rattle.statement.specs.declared.statement.Statement.TheVariants.{Begin, Insert, Update, Delete, Select, Commit, Rollback}
+use Rattle.statement.specs.Token.{After, Read, next, end_at, after_semicolon}
+use Rattle.statement.specs.Word.{word_at, after_word}
+use Rattle.statement.specs.Statement.{start_at, insert_at, update_at, delete_at, select_at, data_at, statement_at}
+use Rattle.statement.specs.Line.{is_nothing, begins_digit, clock_at, session_at, written_at}
 use Rattle.statement.specs.Grammar.{◌⋯◌, ◌∣◌, Empty, Blanks, Symbol, Word, Digits, IsStatement, IsLine}
 use Rattle.statement.proofs.Runs.{next_is}
 use Rattle.statement.proofs.Whole.{word_whole, symbol_whole, next_symbol, next_run, some_written, other_word_refused, symbol_refused, symbol_refused_at_end, word_refused, word_refused_at_end}

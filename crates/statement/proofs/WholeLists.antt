@@ -2,7 +2,7 @@
 use Rattle.std.proofs.Common.{◌≡◌, ◌≤◌, ℕ, List, [], ◌∷◌, ◌++◌, length, Ok, Err, refl, ap, sym, ◌∙◌, arith}
 use Rattle.std.specs.Prelude.{Result}
 use Rattle.std.proofs.lemmas.List.{append-nil, append_assoc}
-use Rattle.statement.specs.Tokens.{After, Read, ◌>>=◌, symbol_at, more_at, list_at, enclosed_at}
+use Rattle.statement.specs.Token.{After, Read, ◌>>=◌, symbol_at, more_at, list_at, enclosed_at}
 use Rattle.statement.specs.Grammar.{Piece, Symbol, Listed, Enclosed}
 use Rattle.statement.proofs.Whole.{Refused, next_symbol, symbol_whole, symbol_refused}
 use Rattle.statement.proofs.SoundLists.{More}
@@ -22,12 +22,12 @@ module _ {A : Type 0} (S : Piece) (P : A → Piece) where
   module _ (separator : List ℕ → After) (item : List ℕ → Read A)
       (separator_whole : (bytes rest : List ℕ) → S bytes rest → separator bytes ≡ Ok rest)
       (item_whole : (x : A) (bytes rest : List ℕ) → P x bytes rest → item bytes ≡ Ok (x, rest))
-      (takes : TakesSome S) (within : (x : A) → KeepsWithin (P x)) where
+      (matches : TakesSome S) (within : (x : A) → KeepsWithin (P x)) where
     long : (xs : List A) (bytes rest : List ℕ) → More S P xs bytes rest → length xs ≤ length bytes
     long [] bytes rest is = omega arith
     long (x ∷ xs) bytes rest is =
         let h = long xs is.1.1.0 rest is.1.1.1.1 in
-        omega (arith, takes.below bytes is.0 is.1.0, (within x).within is.0 is.1.1.0 is.1.1.1.0, h)
+        omega (arith, matches.below bytes is.0 is.1.0, (within x).within is.0 is.1.1.0 is.1.1.1.0, h)
 
     abbrev on_item : List ℕ → List A → Read A → Read (List A)
     on_item turns front r = elim r [ Err at ↦ Err at | Ok x ↦ more_at separator item turns (front ++ x.0 ∷ []) x.1 ]

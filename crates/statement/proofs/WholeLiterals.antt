@@ -8,12 +8,12 @@ use Rattle.std.proofs.lemmas.Str.{is_utf8-from_IsUtf8}
 use Rattle.std.proofs.lemmas.List.{append-nil, append_assoc}
 use Rattle.std.proofs.lemmas.Bool.{and_parts}
 use Rattle.std.proofs.lemmas.Bool.Decides.{nat_tests}
-use Rattle.rows.specs.Names.{same_name, same_letters}
-use Rattle.rows.specs.declared.values.Value.{Value}
-use Rattle.rows.specs.declared.values.Value.TheVariants.{Int, Text, Bool as Truth, Null}
-use Rattle.statement.specs.Tokens.{After, Read, ◌>>=◌, is_blank, next, symbol_at}
-use Rattle.statement.specs.Words.{word_at}
-use Rattle.statement.specs.Literals.{digit_count, value_within, digits_here, digits_at, begins_with, above_nought, below_nought, number_at, quoted_from, quoted, text_of, text_at, constant_at, begins_number, literal_at}
+use Rattle.values.specs.Names.{same_name, same_letters}
+use Rattle.values.specs.declared.value.Value.{Value}
+use Rattle.values.specs.declared.value.Value.TheVariants.{Int, Text, Bool as Truth, Null}
+use Rattle.statement.specs.Token.{After, Read, ◌>>=◌, is_blank, next, symbol_at}
+use Rattle.statement.specs.Word.{word_at}
+use Rattle.statement.specs.Literal.{digit_count, value_within, digits_here, digits_at, begins_with, above_nought, below_nought, number_at, quoted_from, quoted, text_of, text_at, constant_at, begins_number, literal_at}
 use Rattle.statement.specs.Grammar.{◌⋯◌, AllBytes, Ends, Blanks, Word, Digits, Number, doubled, is_quote, Quoted, Literal}
 use Rattle.statement.proofs.Runs.{next_is, length_of, run_taken, run_left}
 use Rattle.statement.proofs.Whole.{word_whole, symbol_whole, other_word_refused, next_run, some_written}

@@ -1,21 +1,21 @@
 -- What is of the grammar is read: statements.
 use Rattle.std.proofs.Common.{◌≡◌, ◌<◌, ℕ, List, [], ◌∷◌, length, Ok, Err, Some, None, inl, inr, refl, ap, ◌∙◌, lit<}
 use Rattle.std.specs.Prelude.{Option, ◌==◌, if◌then◌else◌, codes}
-use Rattle.rows.specs.Tables.{Schema}
-use Rattle.rows.specs.declared.queries.Comparison.{Comparison}
-use Rattle.rows.specs.declared.queries.Form.{Form}
-use Rattle.rows.specs.declared.queries.Form.TheVariants.{Plain, AsOf, FromTo, Between}
-use Rattle.rows.specs.declared.queries.Keys.{Keys}
-use Rattle.rows.specs.declared.queries.Operator.{Operator}
-use Rattle.rows.specs.declared.queries.Operator.TheVariants.{Equal, Below, AtMost, Above, AtLeast}
-use Rattle.rows.specs.declared.queries.Set.{Set}
-use Rattle.rows.specs.Log.{Row}
-use Rattle.statement.specs.declared.statements.Statement.TheVariants.{Insert, Update, Delete, Select}
-use Rattle.statement.specs.Tokens.{After, Read, ◌>>=◌, symbol_at}
-use Rattle.statement.specs.Words.{word_at, after_word}
-use Rattle.statement.specs.Literals.{literal_at, row_at, rows_at}
-use Rattle.statement.specs.Wheres.{table_name_at, column_name_at, or_equal, operator_of, operator_at, set_at, comparison_at, sets_at, comparisons_at, columns_at, keys_at}
-use Rattle.statement.specs.Statements.{instant_at, as_of_at, form_at, listed_at, insert_at, update_at, delete_at, select_at}
+use Rattle.values.specs.Tables.{Schema}
+use Rattle.values.specs.declared.query.Comparison.{Comparison}
+use Rattle.values.specs.declared.query.Form.{Form}
+use Rattle.values.specs.declared.query.Form.TheVariants.{Plain, AsOf, FromTo, Between}
+use Rattle.values.specs.declared.query.Keys.{Keys}
+use Rattle.values.specs.declared.query.Operator.{Operator}
+use Rattle.values.specs.declared.query.Operator.TheVariants.{Equal, Below, AtMost, Above, AtLeast}
+use Rattle.values.specs.declared.query.Set.{Set}
+use Rattle.values.specs.Log.{Row}
+use Rattle.statement.specs.declared.statement.Statement.TheVariants.{Insert, Update, Delete, Select}
+use Rattle.statement.specs.Token.{After, Read, ◌>>=◌, symbol_at}
+use Rattle.statement.specs.Word.{word_at, after_word}
+use Rattle.statement.specs.Literal.{literal_at, row_at, rows_at}
+use Rattle.statement.specs.Condition.{table_name_at, column_name_at, or_equal, operator_of, operator_at, set_at, comparison_at, sets_at, comparisons_at, columns_at, keys_at}
+use Rattle.statement.specs.Statement.{instant_at, as_of_at, form_at, listed_at, insert_at, update_at, delete_at, select_at}
 use Rattle.statement.specs.Grammar.{◌⋯◌, ◌∣◌, Empty, Ends, Symbol, Word, Literal, Listed, Enclosed, IsRow, IsOperator, IsInstant, IsForm, IsTable, IsColumn, IsSet, IsComparison, IsColumnList, IsWhere}
 use Rattle.statement.proofs.Whole.{Refused, word_whole, name_whole, symbol_whole, next_symbol, begun, symbol_refused_at_word, other_word_refused}
 use Rattle.statement.proofs.WholeLiterals.{digits_whole, literal_whole}

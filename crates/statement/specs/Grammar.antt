@@ -2,24 +2,24 @@
 use Rattle.std.specs.Prelude.{◌≡◌, ℕ, ◌<◌, ◌≤◌, ◌-◌, ◌^◌, ◌==◌, List, [], ◌∷◌, ◌++◌, Bool, true, false, Option, Some, None, ℤ, pos, neg_ℤ, ◌⊎◌, flat_map, length, codes, if◌then◌else◌, IsUtf8}
 use Rattle.std.specs.Char.{is_ascii_digit}
 use Rattle.std.specs.Str.Parse.{digits_value}
-use Rattle.rows.specs.declared.values.Value.{Value}
-use Rattle.rows.specs.declared.values.Value.TheVariants.{Int, Text, Bool as Truth, Null}
-use Rattle.rows.specs.Tables.{Schema}
-use Rattle.rows.specs.declared.queries.Comparison.{Comparison}
-use Rattle.rows.specs.declared.queries.Form.{Form}
-use Rattle.rows.specs.declared.queries.Form.TheVariants.{Plain, AsOf, FromTo, Between}
-use Rattle.rows.specs.declared.queries.Operator.{Operator}
-use Rattle.rows.specs.declared.queries.Operator.TheVariants.{Equal, Below, AtMost, Above, AtLeast}
-use Rattle.rows.specs.declared.queries.Set.{Set}
-use Rattle.rows.specs.Log.{Row}
-use Rattle.rows.specs.Names.{same_name}
-use Rattle.statement.specs.declared.lines.Written.{Written}
-use Rattle.statement.specs.declared.lines.Written.TheVariants.{Clock, Session}
-use Rattle.statement.specs.declared.statements.Statement.{Statement}
-use Rattle.statement.specs.declared.statements.Statement.TheVariants.{Begin, Insert, Update, Delete, Select, Commit, Rollback}
-use Rattle.statement.specs.Tokens.{is_blank}
-use Rattle.statement.specs.Words.{is_name_byte, is_name}
-use Rattle.statement.specs.Wheres.{table_of, column_of}
+use Rattle.values.specs.declared.value.Value.{Value}
+use Rattle.values.specs.declared.value.Value.TheVariants.{Int, Text, Bool as Truth, Null}
+use Rattle.values.specs.Tables.{Schema}
+use Rattle.values.specs.declared.query.Comparison.{Comparison}
+use Rattle.values.specs.declared.query.Form.{Form}
+use Rattle.values.specs.declared.query.Form.TheVariants.{Plain, AsOf, FromTo, Between}
+use Rattle.values.specs.declared.query.Operator.{Operator}
+use Rattle.values.specs.declared.query.Operator.TheVariants.{Equal, Below, AtMost, Above, AtLeast}
+use Rattle.values.specs.declared.query.Set.{Set}
+use Rattle.values.specs.Log.{Row}
+use Rattle.values.specs.Names.{same_name}
+use Rattle.statement.specs.declared.line.Written.{Written}
+use Rattle.statement.specs.declared.line.Written.TheVariants.{Clock, Session}
+use Rattle.statement.specs.declared.statement.Statement.{Statement}
+use Rattle.statement.specs.declared.statement.Statement.TheVariants.{Begin, Insert, Update, Delete, Select, Commit, Rollback}
+use Rattle.statement.specs.Token.{is_blank}
+use Rattle.statement.specs.Word.{is_name_byte, is_name}
+use Rattle.statement.specs.Condition.{table_of, column_of}
 
 abbrev pub Piece : Type 1
 Piece = List ℕ → List ℕ → Type 0

@@ -1,15 +1,15 @@
 -- What reading from the left amounts to, in the words of the grammar.
 use Rattle.std.specs.Prelude.{◌≡◌, ℕ, ◌<◌, ◌^◌, List, [], ◌∷◌, ◌++◌, ◌⊎◌, Ok, Err, pos, negsuc, length, IsUtf8}
-use Rattle.rows.specs.declared.values.Value.{Value}
-use Rattle.rows.specs.declared.values.Value.TheVariants.{Int, Text, Bool as Truth, Null}
-use Rattle.rows.specs.Log.{Row}
-use Rattle.rows.specs.Tables.{Schema}
-use Rattle.rows.specs.declared.refusals.Refusal.TheVariants.{Syntax}
-use Rattle.statement.specs.declared.steps.Line.TheVariants.{Nothing}
-use Rattle.statement.specs.declared.lines.Written.{Written}
-use Rattle.statement.specs.Lines.{before_feed, body_of, meaning_of, body_says}
-use Rattle.statement.specs.Literals.{row_at}
-use Rattle.statement.specs.Replies.{values_text}
+use Rattle.values.specs.declared.value.Value.{Value}
+use Rattle.values.specs.declared.value.Value.TheVariants.{Int, Text, Bool as Truth, Null}
+use Rattle.values.specs.Log.{Row}
+use Rattle.values.specs.Tables.{Schema}
+use Rattle.values.specs.declared.refusal.Refusal.TheVariants.{Syntax}
+use Rattle.statement.specs.declared.line.Line.TheVariants.{Nothing}
+use Rattle.statement.specs.declared.line.Written.{Written}
+use Rattle.statement.specs.Line.{before_feed, body_of, meaning_of, body_says}
+use Rattle.statement.specs.Literal.{row_at}
+use Rattle.statement.specs.Print.{values_text}
 use Rattle.statement.specs.Grammar.{IsNothing, IsLine}
 
 module _ (schema : Schema) where

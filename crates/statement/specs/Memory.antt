@@ -1,7 +1,7 @@
 -- Want of memory.
 use Rattle.std.specs.Prelude.{◌≡◌, Result, Err}
-use Rattle.rows.specs.declared.refusals.Refusal.{Refusal}
-use Rattle.rows.specs.declared.refusals.Refusal.TheVariants.{Memory}
+use Rattle.values.specs.declared.refusal.Refusal.{Refusal}
+use Rattle.values.specs.declared.refusal.Refusal.TheVariants.{Memory}
 
 -- the answer, unless memory ran out
 abbrev pub UnlessMemory : {A : Type 0} → Result A Refusal → Result A Refusal → Type 0

@@ -1,7 +1,7 @@
 -- What taking some bytes of a text does, whatever follows them.
 use Rattle.std.specs.Prelude.{◌≡◌, ℕ, List, ◌++◌, Bool, Option}
 use Rattle.std.specs.Io.KnownBytes.{Appends}
-use Rattle.rows.specs.Tables.{Schema}
+use Rattle.values.specs.Tables.{Schema}
 use Rattle.statement.specs.Transcript.{Partial, Progress, Reading, transcript, leaves}
 
 module _ (schema : Schema) (read : Reading) where

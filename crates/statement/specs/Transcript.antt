@@ -1,14 +1,14 @@
 -- What is written for a text of lines.
 use Rattle.std.specs.Prelude.{ℕ, List, [], ◌∷◌, ◌++◌, ◌==◌, Bool, true, false, Option, Some, None, Result, Ok, Err, if◌then◌else◌, length, nat_lt, codes}
 use Rattle.std.specs.Io.KnownBytes.{Appends, Consumes}
-use Rattle.rows.specs.Tables.{Schema}
-use Rattle.rows.specs.declared.refusals.Refusal.{Refusal}
-use Rattle.rows.specs.declared.refusals.Refusal.TheVariants.{Memory, LineTooLong}
-use Rattle.statement.specs.declared.steps.Line.{Line}
-use Rattle.statement.specs.declared.steps.Line.TheVariants.{Nothing, Clock, Step as Asks}
-use Rattle.statement.specs.History.{History, reply}
-use Rattle.statement.specs.Puts.{AppendsFront}
-use Rattle.statement.specs.Replies.{line, refusal_text, reply_text}
+use Rattle.values.specs.Tables.{Schema}
+use Rattle.values.specs.declared.refusal.Refusal.{Refusal}
+use Rattle.values.specs.declared.refusal.Refusal.TheVariants.{Memory, LineTooLong}
+use Rattle.statement.specs.declared.line.Line.{Line}
+use Rattle.statement.specs.declared.line.Line.TheVariants.{Nothing, Clock, Step as Asks}
+use Rattle.histories.specs.History.{History, reply}
+use Rattle.statement.specs.Writer.{AppendsFront}
+use Rattle.statement.specs.Print.{line, refusal_text, reply_text}
 
 -- a line as far as it goes, or none where it has over 8,192 bytes
 abbrev pub Partial : Type 0

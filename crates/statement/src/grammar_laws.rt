@@ -1,4 +1,4 @@
-ghost use Rattle.rows.specs.Tables.{Schema};
+ghost use Rattle.values.specs.Tables.{Schema};
 ghost use Rattle.statement.specs.GrammarLaws.{LinesAreRead, LinesSayOneThing, NothingIsRead, OnlyLinesAreRead, LineEndsAreNoTokens, PrintedRowsAreRead};
 
 /// Reading from the left reads the lines of the grammar and no others.

@@ -2,10 +2,10 @@
 
 ghost use Rattle.std.specs.List.{list_any};
 ghost use Rattle.std.specs.Prelude.{◌≡◌, ◌==◌, ◌++◌, ◌∷◌, [], decimal, codes, flat_map};
-ghost use Rattle.statement.specs.Puts.{Puts};
-ghost use Rattle.statement.specs.Replies.{line, numbered, quoted_byte, quoted, value_text, next_text, values_text, end_text, row_line, shown_line, listing_text, refusal_text, reply_text};
+ghost use Rattle.statement.specs.Writer.{Puts};
+ghost use Rattle.statement.specs.Print.{line, numbered, quoted_byte, quoted, value_text, next_text, values_text, end_text, row_line, shown_line, listing_text, refusal_text, reply_text};
 
-use crate::puts::{WriteFault, put_all, put_number};
+use crate::writer::{WriteFault, put_all, put_number};
 use crate::steps::{Listing, Reply};
 use rows::{Instant, Key, Refusal, Row, Shown, Value};
 use std::io::Write;

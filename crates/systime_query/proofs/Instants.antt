@@ -8,23 +8,23 @@ use Rattle.std.specs.List.Sorted.{IsStrictlySortedBy}
 use Rattle.std.specs.Option.{option_to_list}
 use Rattle.std.proofs.lemmas.Bool.Decides.{nat_tests}
 use Rattle.std.proofs.lemmas.List.Elements.{recursion_from_All}
-use Rattle.rows.specs.declared.events.Event.{Event}
-use Rattle.rows.specs.declared.tables.Table.{Table}
-use Rattle.rows.specs.declared.queries.Form.{Form}
-use Rattle.rows.specs.declared.queries.Form.TheVariants.{Plain, AsOf}
-use Rattle.rows.specs.declared.queries.Keys.{Keys}
-use Rattle.rows.specs.declared.queries.Shown.{Shown}
-use Rattle.rows.specs.declared.refusals.Refusal.{Refusal}
-use Rattle.rows.specs.Log.{Row}
-use Rattle.rows.specs.Versions.{selects, ends_after, takes}
-use Rattle.rows.specs.KeyReading.{whole_key, parts_from}
-use Rattle.rows.specs.Events.{bytes_cmp, is_bytes, event_cmp}
+use Rattle.values.specs.Event.{Event}
+use Rattle.values.specs.declared.table.Table.{Table}
+use Rattle.values.specs.declared.query.Form.{Form}
+use Rattle.values.specs.declared.query.Form.TheVariants.{Plain, AsOf}
+use Rattle.values.specs.declared.query.Keys.{Keys}
+use Rattle.values.specs.declared.query.Shown.{Shown}
+use Rattle.values.specs.declared.refusal.Refusal.{Refusal}
+use Rattle.values.specs.Log.{Row}
+use Rattle.values.specs.Versions.{selects, ends_after, matches}
+use Rattle.values.specs.KeyReading.{whole_key, parts_from}
+use Rattle.values.specs.Events.{bytes_cmp, is_bytes, event_cmp}
 use Rattle.keyrange.specs.Points.{is_below}
 use Rattle.eventlist.specs.Listing.{is_of_table}
-use Rattle.eventlist.specs.Places.{AreFirst}
-use Rattle.eventlist.specs.Runs.{first_key, AreOfKey, AreAbove}
+use Rattle.eventlist.specs.Place.{AreFirst}
+use Rattle.eventlist.specs.KeyGroup.{first_key, AreOfKey, AreAbove}
 use Rattle.eventlist.proofs.Ordered.{bytes_total, is_own, same_bytes, is_lower, sorted_head, sorted_tail, within_tail, within_rest, within_head}
-use Rattle.systime_query.specs.Selected.{next_of, is_taken, shown_of, selected_by, instant_of}
+use Rattle.systime_query.specs.Selection.{next_of, is_taken, shown_of, selected_by, instant_of}
 
 clash : ◌≡◌ {A = Bool} true false → ⊥
 clash h = cc
@@ -111,7 +111,7 @@ module _ (table : Table) (form : Form) (keys : Keys) where
 
   pub other_table : (key : List ℕ) → is_of_table table.number key ≡ false → is_taken table keys key ≡ false
   other_table [] h = refl
-  other_table (b ∷ bs) h = ap (λ c. elim (cond c (whole_key table (parts_from table table.key bs)) None) [ None ↦ false | Some key ↦ takes table keys key ]) h
+  other_table (b ∷ bs) h = ap (λ c. elim (cond c (whole_key table (parts_from table table.key bs)) None) [ None ↦ false | Some key ↦ matches table keys key ]) h
 
   -- an event's next one is of its table, or there is none
   next_kept : (e : Event) (es : List Event) → of e ≡ true → AllByRecursion (λ d. event_cmp e d ≡ Less) es → IsStrictlySortedBy event_cmp es → next_of e es ≡ next_of e (filter of es)

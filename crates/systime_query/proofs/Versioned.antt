@@ -10,30 +10,30 @@ use Rattle.std.specs.FinMap.Entries.{below_all}
 use Rattle.std.specs.Ordering.{nat_cmp, ordering_then, ordering_reverse, is_eq, is_lt}
 use Rattle.std.specs.declared.cmp.Ordering.{Ordering}
 use Rattle.std.specs.declared.cmp.Ordering.TheVariants.{Less, Equal, Greater}
-use Rattle.rows.specs.declared.events.Event.{Event}
-use Rattle.rows.specs.declared.keys.Key.{Key}
-use Rattle.rows.specs.declared.keys.Point.{Point}
-use Rattle.rows.specs.declared.tables.Table.{Table}
-use Rattle.rows.specs.declared.queries.Form.{Form}
-use Rattle.rows.specs.declared.queries.Form.TheVariants.{Plain, AsOf}
-use Rattle.rows.specs.declared.queries.Keys.{Keys}
-use Rattle.rows.specs.declared.queries.Shown.{Shown}
-use Rattle.rows.specs.Tables.{Schema, table_at}
-use Rattle.rows.specs.Order.{key_cmp, is_key}
-use Rattle.rows.specs.Log.{Changes, Row, point_cmp}
-use Rattle.rows.specs.Versions.{Version, next_change, version_of, versions, selects, holds, takes, shown, answer}
-use Rattle.rows.specs.KeyEncoding.{bytes_of_key, part_bytes}
-use Rattle.rows.specs.KeyReading.{whole_key, parts_from}
-use Rattle.rows.specs.Events.{event_cmp, events_of, event_of, IsKeyOfAny, IsKeyIn, AreChangesIn}
-use Rattle.rows.proofs.Orders.{key_cmp_total, first, second, below}
-use Rattle.rows.proofs.Sorted.{sorted_from}
-use Rattle.rows.proofs.KeyReads.{key_back}
-use Rattle.rows.proofs.EventKeys.{same_key}
-use Rattle.rows.specs.declared.refusals.Refusal.{Refusal}
+use Rattle.values.specs.Event.{Event}
+use Rattle.values.specs.declared.key.Key.{Key}
+use Rattle.values.specs.declared.key.Point.{Point}
+use Rattle.values.specs.declared.table.Table.{Table}
+use Rattle.values.specs.declared.query.Form.{Form}
+use Rattle.values.specs.declared.query.Form.TheVariants.{Plain, AsOf}
+use Rattle.values.specs.declared.query.Keys.{Keys}
+use Rattle.values.specs.declared.query.Shown.{Shown}
+use Rattle.values.specs.Tables.{Schema, table_at}
+use Rattle.values.specs.Order.{key_cmp, is_key}
+use Rattle.values.specs.Log.{Changes, Row, point_cmp}
+use Rattle.values.specs.Versions.{Version, next_change, version_of, versions, selects, holds, matches, shown, answer}
+use Rattle.values.specs.KeyEncoding.{bytes_of_key, part_bytes}
+use Rattle.values.specs.KeyReading.{whole_key, parts_from}
+use Rattle.values.specs.Events.{event_cmp, events_of, event_of, IsKeyOfAny, IsKeyIn, AreChangesIn}
+use Rattle.values.proofs.Orders.{key_cmp_total, first, second, below}
+use Rattle.values.proofs.Sorted.{sorted_from}
+use Rattle.values.proofs.KeyReads.{key_back}
+use Rattle.values.proofs.EventKeys.{same_key}
+use Rattle.values.specs.declared.refusal.Refusal.{Refusal}
 use Rattle.eventlist.specs.Listing.{is_of_table}
 use Rattle.staging.specs.Committed.{Committed, Holds}
 use Rattle.systime_query.proofs.Instants.{of_table_alone, now_shown}
-use Rattle.systime_query.specs.Selected.{next_of, is_taken, shown_of, selected_by}
+use Rattle.systime_query.specs.Selection.{next_of, is_taken, shown_of, selected_by}
 
 -- ---- the next change of a key stands right behind it
 
@@ -137,23 +137,23 @@ equal : (a b : ℕ) → (a == b) ≡ true → a ≡ b
 equal a b e = grind (arith, nat_tests)
 
 module _ (schema : Schema) (table : Table) (form : Form) (keys : Keys) (is_table : table_at schema table.number ≡ Some table) (of_table : keys.table ≡ table.number) where
-  taken_is : (k : Key) → IsKeyIn schema k → is_taken table keys (bytes_of_key k) ≡ takes table keys k
+  taken_is : (k : Key) → IsKeyIn schema k → is_taken table keys (bytes_of_key k) ≡ matches table keys k
   taken_is k h = by (k.table == table.number) refl
     where
       found : Option Key → Bool
       found None = false
-      found (Some key) = takes table keys key
+      found (Some key) = matches table keys key
 
-      by : (b : Bool) → (k.table == table.number) ≡ b → is_taken table keys (bytes_of_key k) ≡ takes table keys k
+      by : (b : Bool) → (k.table == table.number) ≡ b → is_taken table keys (bytes_of_key k) ≡ matches table keys k
       by true e =
-          ap (λ (o : Option Key). elim o [ None ↦ false | Some key ↦ takes table keys key ])
+          ap (λ (o : Option Key). elim o [ None ↦ false | Some key ↦ matches table keys key ])
           (key_back table k (subst (λ o. IsKeyOfAny o k) (ap (table_at schema) (equal k.table table.number e) ∙ is_table) h))
       by false e =
-          ap (λ b. elim (cond b (whole_key table (parts_from table table.key (flat_map part_bytes k.parts))) None) [ None ↦ false | Some key ↦ takes table keys key ]) e
+          ap (λ b. elim (cond b (whole_key table (parts_from table table.key (flat_map part_bytes k.parts))) None) [ None ↦ false | Some key ↦ matches table keys key ]) e
           ∙ sym (ap (λ n. (k.table == n) && list_all (holds table k) keys.comparisons) of_table ∙ ap (λ b. b && list_all (holds table k) keys.comparisons) e)
 
   abbrev picks : Version → Bool
-  picks v = takes table keys v.key && selects form v.from v.to
+  picks v = matches table keys v.key && selects form v.from v.to
 
   abbrev shown_by : Option Version → Option Shown
   shown_by None = None
@@ -177,7 +177,7 @@ module _ (schema : Schema) (table : Table) (form : Form) (keys : Keys) (is_table
   shown_is (p, None) to h = refl
   shown_is (p, Some row) to h =
       ap (λ b. cond (selects form p.instant to && b) (Some (record { row = row; from = p.instant; to = to })) None) (taken_is p.key h)
-      ∙ ap (λ b. cond b (Some (record { row = row; from = p.instant; to = to })) None) (swapped (selects form p.instant to) (takes table keys p.key))
+      ∙ ap (λ b. cond b (Some (record { row = row; from = p.instant; to = to })) None) (swapped (selects form p.instant to) (matches table keys p.key))
 
   next_is : (c : Point × Option Row) (cs : Changes) → AreChangesIn schema (c ∷ cs) → next_of (event_of c) (events_of cs) ≡ behind c.0 cs
   next_is c [] h = refl

@@ -1,1 +1,1 @@
-pub mod Selected
+pub mod Selection

@@ -1,10 +1,10 @@
 //! What a query shows of what was committed, in all forms of FOR SYSTEM_TIME.
 #![tactic(auto)]
 
-mod answers;
-mod periods;
-mod snapshots;
+mod selection;
+mod period;
+mod snapshot;
 #[cfg(test)]
 mod tests;
 
-pub use answers::answer;
+pub use selection::answer;

@@ -2,7 +2,7 @@
 ghost use Rattle.std.specs.Prelude.{◌≡◌, IfOk};
 
 use crate::answer;
-use rows::{
+use values::{
     Chars, Comparison, Form, Instant, Keys, Operator, Row, Schema, Sequence, Set, Shown, Value,
 };
 use staging::{Staged, View};

@@ -1,7 +1,7 @@
 -- The events of the current half are counted.
 use Rattle.std.proofs.Common.{◌≡◌, ℕ, ◌+◌, ◌<◌, Bool, ◌||◌, cond, List, [], ◌∷◌, Option, Some, None, IfSome, length, take, get_or, refl, sym, ap, ◌∙◌, arith, nat_le, filter}
 use Rattle.std.proofs.lemmas.List.Filters.{length-filter_more}
-use Rattle.rows.specs.declared.events.Event.{Event}
+use Rattle.values.specs.Event.{Event}
 use Rattle.keyrange.specs.Points.{Area}
 use Rattle.keyrange.specs.Cuts.{halves_by_time}
 use Rattle.datanode.specs.Cut.{carried, cut}

@@ -1,10 +1,10 @@
 //! Data nodes split at an instant.
 #![tactic(auto)]
 
-mod counts;
-mod splits;
+mod stay;
+mod split;
 #[cfg(test)]
 mod tests;
 
-pub use counts::stay_count;
-pub use splits::split_time;
+pub use stay::stay_count;
+pub use split::split_time;

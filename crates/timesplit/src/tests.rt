@@ -5,7 +5,7 @@ ghost use Rattle.keyrange.specs.Cuts.{is_time_inside};
 use crate::{split_time, stay_count};
 use datanode::DataNode;
 use keyrange::{KeyRange, Rect, TimeRange};
-use rows::{Event, Instant, KeyBytes, LAST, Mem, Row, Value};
+use values::{Event, Instant, KeyBytes, LAST, Mem, Row, Value};
 use std::alloc::Global;
 use std::process::Abort;
 use std::test::Fail;
@@ -36,7 +36,7 @@ fn put(
 ) -> Mem<()> {
     let key = KeyBytes::new(vec![in alloc; 1]?).expect(rt, "one byte is short");
     let event = Event { key, at, row };
-    assert!(rt; node.takes(&event), "at {at}");
+    assert!(rt; node.accepts(&event), "at {at}");
     node.put(event)
 }
 
@@ -103,7 +103,7 @@ fn shape(rt: &impl Abort, alloc: Global, changes: &[Change]) -> Mem<Vec<usize>> 
     let mut node = empty(rt, alloc)?;
     for change in changes {
         let event = event(rt, alloc, change)?;
-        assert!(rt; node.takes(&event), "at {}", change.1);
+        assert!(rt; node.accepts(&event), "at {}", change.1);
         node.put(event)?;
         if let Some(instant) = change.3 {
             check_inside(rt, &node, instant);

@@ -1,3 +1,3 @@
 pub mod Words
-pub mod Faults
-pub mod Runs
+pub mod Fault
+pub mod Program

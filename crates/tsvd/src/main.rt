@@ -1,14 +1,14 @@
 //! The program `tsvd`: system-versioned tables from the command line.
 #![tactic(auto)]
 
-mod faults;
+mod fault;
 mod program;
-mod schemas;
+mod schema_file;
 #[cfg(test)]
 mod tests;
 mod words;
 
-use crate::faults::{Fault, tell};
+use crate::fault::{Fault, tell};
 use crate::program::program;
 use crate::words::WordsFault;
 use std::env;

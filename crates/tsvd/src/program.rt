@@ -1,11 +1,11 @@
 //! What the program does with its words and streams.
 ghost use Rattle.std.specs.Prelude.{◌≡◌, ◌≤◌, ◌⊎◌, IfErr, OnOk, is_ok, map, option_map, true, false};
-ghost use Rattle.rows.specs.declared.tables.Schema.{Schema};
-ghost use Rattle.tsvd.specs.Runs.{HasRun, HasStopped, IsDone, IsFaulty, IsIdle, IsRefused};
-ghost use Rattle.tsvd.specs.Faults.{is_of_words};
+ghost use Rattle.rows.specs.declared.schema.Schema.{Schema};
+ghost use Rattle.tsvd.specs.Program.{HasRun, HasStopped, IsDone, IsFaulty, IsIdle, IsRefused};
+ghost use Rattle.tsvd.specs.Fault.{is_of_words};
 
-use crate::faults::{FAULT, Fault, WORDS, run_fault, tell, words_fault};
-use crate::schemas::schema_of;
+use crate::fault::{FAULT, Fault, WORDS, run_fault, tell, words_fault};
+use crate::schema_file::schema_of;
 use crate::words;
 use interleaving::{RunFault, System, run_script};
 use rows::Schema;

@@ -4,7 +4,7 @@ mod dialogues;
 mod files;
 mod words;
 
-use crate::faults::{FAULT, WORDS};
+use crate::fault::{FAULT, WORDS};
 use crate::program::{DONE, program};
 use crate::tests::dialogues::DIALOGUES;
 use std::alloc::AllocError;

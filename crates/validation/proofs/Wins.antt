@@ -2,22 +2,22 @@
 use Rattle.std.proofs.Common.{◌≡◌, ◌≢◌, ℕ, List, [], ◌∷◌, Option, Some, None, refl, ap, ◌∙◌, Result, Ok, Err, max, ◌+◌, nat_lt, if◌then◌else◌}
 use Rattle.std.proofs.lemmas.List.Elements.{All-head, All-tail}
 use Rattle.std.specs.Map.{keys_of}
-use Rattle.rows.specs.Tables.{Schema}
-use Rattle.rows.specs.declared.keys.Key.{Key}
-use Rattle.rows.specs.Log.{Changes, Net}
-use Rattle.rows.specs.declared.refusals.Refusal.{Refusal}
-use Rattle.rows.specs.declared.refusals.Refusal.TheVariants.{Conflict, ClockEnd, Memory}
-use Rattle.rows.specs.Commits.{changed_since, won, outcome, last_instant}
-use Rattle.rows.specs.KeyEncoding.{bytes_of_key}
-use Rattle.rows.specs.Events.{events_of, event_since, IsKeyIn, AreChangesIn, AreKeysIn}
-use Rattle.rows.proofs.EventKeys.{since_is}
+use Rattle.values.specs.Tables.{Schema}
+use Rattle.values.specs.declared.key.Key.{Key}
+use Rattle.values.specs.Log.{Changes, Net}
+use Rattle.values.specs.declared.refusal.Refusal.{Refusal}
+use Rattle.values.specs.declared.refusal.Refusal.TheVariants.{Conflict, ClockEnd, Memory}
+use Rattle.values.specs.Commits.{changed_since, won, outcome, max_instant}
+use Rattle.values.specs.KeyEncoding.{bytes_of_key}
+use Rattle.values.specs.Events.{events_of, event_since, IsKeyIn, AreChangesIn, AreKeysIn}
+use Rattle.values.proofs.EventKeys.{since_is}
 use Rattle.staging.specs.Committed.{Committed, Holds}
-use Rattle.validation.specs.Outcomes.{won_by, outcome_by}
+use Rattle.validation.specs.Outcome.{won_by, outcome_by}
 
 -- how a transaction that changes something ends, by the keys that were changed since
 abbrev by_won : ℕ → ℕ → List (Key × ℕ) → Result (Option ℕ) Refusal
 by_won latest reading (first ∷ others) = Err (Conflict first.0 first.1)
-by_won latest reading [] = let instant = max reading (latest + 1) in if nat_lt last_instant instant then Err ClockEnd else Ok (Some instant)
+by_won latest reading [] = let instant = max reading (latest + 1) in if nat_lt max_instant instant then Err ClockEnd else Ok (Some instant)
 
 abbrev with : Key → List (Key × ℕ) → Option ℕ → List (Key × ℕ)
 with key others None = others

@@ -1,16 +1,16 @@
 //! The committed transactions and the clock.
 ghost use Rattle.std.specs.Prelude.{◌≡◌, ◌≢◌, ◌≤◌, ◌<◌, [], Result, Err, IfOk, IfSome, IfNone, OnErr};
 ghost use Rattle.std.specs.List.{slice_get};
-ghost use Rattle.rows.specs.Log.{Changes, add_net};
-ghost use Rattle.rows.specs.Tables.{Schema};
-ghost use Rattle.rows.specs.Commits.{outcome, last_instant};
-ghost use Rattle.rows.specs.Events.{AreKeysIn, put_net};
-ghost use Rattle.rows.specs.Memory.{OnlyMemory};
+ghost use Rattle.values.specs.Log.{Changes, add_net};
+ghost use Rattle.values.specs.Tables.{Schema};
+ghost use Rattle.values.specs.Commits.{outcome, max_instant};
+ghost use Rattle.values.specs.Events.{AreKeysIn, put_net};
+ghost use Rattle.values.specs.Memory.{OnlyMemory};
 ghost use Rattle.staging.specs.Committed.{Holds};
-ghost use Rattle.validation.specs.Outcomes.{won_by, outcome_by};
+ghost use Rattle.validation.specs.Outcome.{won_by, outcome_by};
 
 use commitclock::Clock;
-use rows::{Instant, Key, Mem, Refusal, key_bytes};
+use values::{Instant, Key, Mem, Refusal, key_bytes};
 use staging::{Net, View};
 use std::alloc::Global;
 use std::marker::Model;
@@ -99,7 +99,7 @@ impl Engine {
     ) -> Result<Option<Instant>, Refusal>
         ensures outcome { result ≢ Err Refusal.Memory → result ≡ outcome_by self.now.events self.now.last start net.now reading }
         ensures later { IfOk result (λ end. IfSome end (λ instant. self.now.last < instant)) }
-        ensures in_range { IfOk result (λ end. IfSome end (λ instant. instant ≤ last_instant)) }
+        ensures in_range { IfOk result (λ end. IfSome end (λ instant. instant ≤ max_instant)) }
     {
         if net.changes().is_empty() {
             return Ok(None);

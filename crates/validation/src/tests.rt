@@ -1,7 +1,7 @@
 //! Transactions that overlap.
 
 use crate::Engine;
-use rows::{Chars, Key, Refusal, Row, Schema, Value, Values};
+use values::{Chars, Key, Refusal, Row, Schema, Value, Values};
 use staging::{Net, Staged, View};
 use std::alloc::{AllocError, Global};
 use std::test::Fail;

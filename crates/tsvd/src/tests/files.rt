@@ -1,6 +1,6 @@
 //! Schema files and script files.
 
-use crate::faults::{FAULT, WORDS};
+use crate::fault::{FAULT, WORDS};
 use crate::program::{DONE, program};
 use rows::SAMPLE;
 use std::path::PathBuf;

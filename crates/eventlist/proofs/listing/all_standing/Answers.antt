@@ -1,7 +1,7 @@
 use Rattle.std.proofs.Common.{◌∙◌, ◌++◌, [], ◌∷◌, sym, ap, filter}
 use Rattle.std.proofs.lemmas.List.{append-nil}
 use Rattle.eventlist.specs.Listing.{stands_at}
-use Rattle.eventlist.specs.Runs.{first_key}
+use Rattle.eventlist.specs.KeyGroup.{first_key}
 use Rattle.eventlist.proofs.Jumps.{stand_step}
 use Rattle.eventlist.proofs.listing.all_standing.Goals as goal
 

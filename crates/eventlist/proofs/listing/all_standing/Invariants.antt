@@ -1,6 +1,6 @@
 use Rattle.std.proofs.Common.{◌≡◌, ◌++◌, filter, length}
 use Rattle.std.specs.List.Sorted.{IsStrictlySortedBy}
-use Rattle.rows.specs.Events.{event_cmp}
+use Rattle.values.specs.Events.{event_cmp}
 use Rattle.eventlist.specs.Listing.{stands_at}
 use Rattle.eventlist.proofs.listing.all_standing.Given as goal
 

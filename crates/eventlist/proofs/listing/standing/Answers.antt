@@ -1,5 +1,5 @@
 use Rattle.std.proofs.Common.{◌∙◌, List, ap, sym, filter}
-use Rattle.rows.specs.declared.events.Event.{Event}
+use Rattle.values.specs.Event.{Event}
 use Rattle.eventlist.specs.Listing.{stands_at}
 use Rattle.eventlist.proofs.Jumps.{standing_is}
 use Rattle.eventlist.proofs.listing.standing.Goals as goal

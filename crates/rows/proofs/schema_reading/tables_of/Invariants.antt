@@ -1,6 +1,6 @@
 use Rattle.std.proofs.Common.{◌≡◌, [], drop}
-use Rattle.rows.specs.Tables.{AreTables}
-use Rattle.rows.specs.SchemaTables.{tables_from}
+use Rattle.values.specs.Tables.{AreTables}
+use Rattle.rows.specs.SchemaTable.{tables_from}
 use Rattle.rows.proofs.schema_reading.tables_of.Given as goal
 
 abbrev pub invariant-loop-declaration : goal.invariant-loop-declaration

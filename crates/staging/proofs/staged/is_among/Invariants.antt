@@ -1,6 +1,6 @@
 use Rattle.std.proofs.Common.{◌≡◌, drop}
 use Rattle.std.specs.List.{list_any}
-use Rattle.rows.specs.Order.{is_key}
+use Rattle.values.specs.Order.{is_key}
 use Rattle.staging.proofs.staged.is_among.Given as goal
 
 abbrev pub invariant-loop-other : goal.invariant-loop-other

@@ -1,7 +1,7 @@
 use Rattle.std.proofs.Common.{arith}
 use Rattle.std.proofs.lemmas.Grind.{common_steps}
 use Rattle.std.proofs.lemmas.List.Elements.{All-rest}
-use Rattle.rows.specs.KeyEncoding.{IsShortKey}
+use Rattle.values.specs.KeyEncoding.{IsShortKey}
 use Rattle.staging.proofs.staged.net_of.Goals as goal
 
 pub loop-key-preserved-in_ok-push : goal.loop-key-preserved-in_ok-push

@@ -1,5 +1,5 @@
 use Rattle.std.proofs.Common.{◌≡◌, ◌++◌, All}
-use Rattle.rows.specs.KeyEncoding.{IsShortKey}
+use Rattle.values.specs.KeyEncoding.{IsShortKey}
 use Rattle.staging.specs.Writing.{net_in}
 use Rattle.staging.proofs.staged.net_of.Given as goal
 

@@ -1,6 +1,6 @@
 use Rattle.std.proofs.Common.{◌≡◌, [], drop}
 use Rattle.std.specs.List.{filter_map}
-use Rattle.rows.specs.Writes.{insert_all}
+use Rattle.values.specs.Writes.{insert_all}
 use Rattle.staging.specs.Writing.{row_taken}
 use Rattle.staging.proofs.staged.rows_taken.Given as goal
 

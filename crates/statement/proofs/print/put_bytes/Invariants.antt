@@ -1,7 +1,7 @@
 use Rattle.std.proofs.Common.{drop}
 use Rattle.std.specs.List.{flat_map}
 use Rattle.statement.proofs.Fronts.{Left}
-use Rattle.statement.specs.Replies.{quoted_byte}
+use Rattle.statement.specs.Print.{quoted_byte}
 use Rattle.statement.proofs.print.put_bytes.Given as goal
 
 abbrev pub invariant-loop-byte : goal.invariant-loop-byte

@@ -1,5 +1,5 @@
 use Rattle.std.proofs.Common.{sym, subst, ◌∙◌}
-use Rattle.statement.specs.Puts.{Puts}
+use Rattle.statement.specs.Writer.{Puts}
 use Rattle.statement.proofs.Quotes.{quoted-plain}
 use Rattle.statement.proofs.print.put_doubled.Goals as goal
 

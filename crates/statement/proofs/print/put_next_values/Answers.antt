@@ -1,4 +1,4 @@
-use Rattle.statement.specs.Replies.{next_text}
+use Rattle.statement.specs.Print.{next_text}
 use Rattle.statement.proofs.Fronts.{each_taken, each_stopped}
 use Rattle.statement.proofs.print.put_next_values.Goals as goal
 

@@ -1,7 +1,7 @@
 use Rattle.std.proofs.Common.{drop}
 use Rattle.std.specs.List.{flat_map}
 use Rattle.statement.proofs.Fronts.{Left}
-use Rattle.statement.specs.Replies.{next_text}
+use Rattle.statement.specs.Print.{next_text}
 use Rattle.statement.proofs.print.put_next_values.Given as goal
 
 abbrev pub invariant-loop-value : goal.invariant-loop-value

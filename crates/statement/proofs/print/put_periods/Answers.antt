@@ -1,5 +1,5 @@
 use Rattle.std.proofs.Common.{codes, length}
-use Rattle.statement.specs.Replies.{numbered}
+use Rattle.statement.specs.Print.{numbered}
 use Rattle.statement.proofs.Fronts.{stopped}
 use Rattle.statement.proofs.print.put_periods.Goals as goal
 

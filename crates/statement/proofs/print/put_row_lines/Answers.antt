@@ -1,4 +1,4 @@
-use Rattle.statement.specs.Replies.{row_line}
+use Rattle.statement.specs.Print.{row_line}
 use Rattle.statement.proofs.Fronts.{each_taken, each_stopped}
 use Rattle.statement.proofs.print.put_row_lines.Goals as goal
 

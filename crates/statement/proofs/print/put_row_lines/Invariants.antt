@@ -1,7 +1,7 @@
 use Rattle.std.proofs.Common.{drop}
 use Rattle.std.specs.List.{flat_map}
 use Rattle.statement.proofs.Fronts.{Left}
-use Rattle.statement.specs.Replies.{row_line}
+use Rattle.statement.specs.Print.{row_line}
 use Rattle.statement.proofs.print.put_row_lines.Given as goal
 
 abbrev pub invariant-loop-row : goal.invariant-loop-row

@@ -1,4 +1,4 @@
-use Rattle.statement.specs.Replies.{shown_line}
+use Rattle.statement.specs.Print.{shown_line}
 use Rattle.statement.proofs.Fronts.{each_taken, each_stopped}
 use Rattle.statement.proofs.print.put_shown_lines.Goals as goal
 

@@ -1,7 +1,7 @@
 use Rattle.std.proofs.Common.{drop}
 use Rattle.std.specs.List.{flat_map}
 use Rattle.statement.proofs.Fronts.{Left}
-use Rattle.statement.specs.Replies.{shown_line}
+use Rattle.statement.specs.Print.{shown_line}
 use Rattle.statement.proofs.print.put_shown_lines.Given as goal
 
 abbrev pub invariant-loop-one : goal.invariant-loop-one

@@ -1,5 +1,5 @@
 use Rattle.std.proofs.Common.{◌≡◌, drop}
-use Rattle.validation.specs.Outcomes.{won_by}
+use Rattle.validation.specs.Outcome.{won_by}
 use Rattle.validation.proofs.engine.first_won.Given as goal
 
 abbrev pub invariant-loop-key : goal.invariant-loop-key

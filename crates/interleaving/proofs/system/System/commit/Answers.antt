@@ -1,6 +1,6 @@
 use Rattle.std.proofs.Common.{◌≡◌, sym, ap, ◌∙◌, None, set}
-use Rattle.statement.specs.declared.steps.Reply.{Reply}
-use Rattle.turns.specs.Runs.{is_out}
+use Rattle.histories.specs.declared.step.Reply.{Reply}
+use Rattle.histories.specs.Due.{is_out}
 use Rattle.interleaving.specs.Keeping.{world}
 use Rattle.interleaving.proofs.Keeps.{with_session}
 use Rattle.interleaving.proofs.Written.{found}

@@ -1,6 +1,6 @@
 use Rattle.std.proofs.Common.{ap, ◌∙◌, sym}
-use Rattle.statement.specs.declared.steps.Reply.TheVariants.{Deleted}
-use Rattle.turns.proofs.Idle.{fits_table}
+use Rattle.histories.specs.declared.step.Reply.TheVariants.{Deleted}
+use Rattle.histories.proofs.Idle.{fits_table}
 use Rattle.interleaving.proofs.Written.{delete_turn, found, reply_to}
 use Rattle.interleaving.proofs.system.System.delete.Goals as goal
 use Rattle.interleaving.proofs.system.System.delete.Goals.{in-Ok, in-Err}

@@ -1,5 +1,5 @@
 use Rattle.std.specs.Vec.Iter.{into_iter_items}
-use Rattle.turns.proofs.Ran.{Ran}
+use Rattle.histories.proofs.Ran.{Ran}
 use Rattle.interleaving.proofs.system.System.run.Given as goal
 
 abbrev pub invariant-loop-step : goal.invariant-loop-step

@@ -1,9 +1,9 @@
 use Rattle.std.proofs.Common.{ap, ◌∙◌}
-use Rattle.rows.specs.Tables.{Schema}
-use Rattle.statement.specs.declared.steps.Reply.TheVariants.{Refused}
-use Rattle.statement.specs.History.{misfit}
-use Rattle.turns.specs.World.{World}
-use Rattle.turns.proofs.Turned.{stepped, refused_turn}
+use Rattle.values.specs.Tables.{Schema}
+use Rattle.histories.specs.declared.step.Reply.TheVariants.{Refused}
+use Rattle.histories.specs.History.{misfit}
+use Rattle.histories.specs.World.{World}
+use Rattle.histories.proofs.Turned.{stepped, refused_turn}
 use Rattle.interleaving.proofs.Stepped.{answers, same_schema}
 use Rattle.interleaving.proofs.system.System.step.Goals as goal
 

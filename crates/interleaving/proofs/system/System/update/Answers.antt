@@ -1,6 +1,6 @@
 use Rattle.std.proofs.Common.{ap, ◌∙◌, sym}
-use Rattle.statement.specs.declared.steps.Reply.TheVariants.{Updated}
-use Rattle.turns.proofs.Idle.{fits_table}
+use Rattle.histories.specs.declared.step.Reply.TheVariants.{Updated}
+use Rattle.histories.proofs.Idle.{fits_table}
 use Rattle.interleaving.proofs.Written.{update_turn, found, reply_to}
 use Rattle.interleaving.proofs.system.System.update.Goals as goal
 use Rattle.interleaving.proofs.system.System.update.Goals.{in-Ok, in-Err}

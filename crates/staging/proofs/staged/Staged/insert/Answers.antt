@@ -1,10 +1,10 @@
 use Rattle.std.proofs.Common.{◌≡◌, Some, None, All, sym, ap, subst, ◌∙◌}
 use Rattle.std.proofs.lemmas.List.Elements.{All-weaker}
-use Rattle.rows.specs.KeyEncoding.{IsShortKey}
-use Rattle.rows.specs.KeyReading.{IsKeyOf}
-use Rattle.rows.specs.Fits.{rows_fault}
-use Rattle.rows.specs.Writes.{duplicate}
-use Rattle.rows.specs.Events.{IsKeyIn}
+use Rattle.values.specs.KeyEncoding.{IsShortKey}
+use Rattle.values.specs.KeyReading.{IsKeyOf}
+use Rattle.values.specs.Fit.{rows_fault}
+use Rattle.values.specs.Writes.{duplicate}
+use Rattle.values.specs.Events.{IsKeyIn}
 use Rattle.staging.specs.Own.{seen, own}
 use Rattle.staging.specs.Writing.{insertions}
 use Rattle.staging.proofs.Bridge.{key_in}

@@ -1,10 +1,10 @@
 use Rattle.std.proofs.Common.{All, ◌||◌, is_some, sym, ap, subst, ◌∙◌}
 use Rattle.std.specs.Map.{keys_of}
 use Rattle.std.specs.List.Sorted.{IsStrictlySortedBy}
-use Rattle.rows.specs.Order.{key_cmp}
-use Rattle.rows.specs.Log.{Net}
-use Rattle.rows.specs.KeyEncoding.{IsShortKey, bytes_of_key}
-use Rattle.rows.specs.Events.{IsKeyIn, AreKeysIn, row_until}
+use Rattle.values.specs.Order.{key_cmp}
+use Rattle.values.specs.Log.{Net}
+use Rattle.values.specs.KeyEncoding.{IsShortKey, bytes_of_key}
+use Rattle.values.specs.Events.{IsKeyIn, AreKeysIn, row_until}
 use Rattle.staging.specs.Writing.{net_in}
 use Rattle.staging.proofs.Calls.{net_of_view, kept_entries, kept_keys}
 use Rattle.staging.proofs.staged.Staged.net.Goals as goal

@@ -1,6 +1,6 @@
 use Rattle.std.proofs.Common.{◌≡◌, ◌≢◌, subst, Ok, Err}
-use Rattle.rows.specs.declared.refusals.Refusal.TheVariants.{Memory}
-use Rattle.validation.specs.Outcomes.{outcome_by}
+use Rattle.values.specs.declared.refusal.Refusal.TheVariants.{Memory}
+use Rattle.validation.specs.Outcome.{outcome_by}
 use Rattle.validation.proofs.Wins.{said_of_changes}
 use Rattle.validation.proofs.engine.Engine.commit.Goals as goal
 

@@ -1,0 +1,88 @@
+ghost use Rattle.std.specs.Prelude.{◌≡◌, ◌<◌, ◌≤◌, IfOk};
+ghost use Rattle.commitclock.specs.NextInstant.{next_instant};
+
+use values::{Instant, LAST, Refusal};
+use std::marker::Model;
+
+/// The last commit instant, which contracts see as a number: 0 before the first commit, and never above `LAST`.
+#[derive(Debug, Drop)]
+pub struct Clock {
+    last: Instant,
+}
+
+impl Model for Clock {
+    ghost use Rattle.std.specs.Prelude.{ℕ, ◌≤◌};
+    ghost use Rattle.values.specs.Commits.{max_instant};
+
+    ghost Value = { ℕ };
+
+    ghost view = { λ c. c.last };
+
+    ghost invariant = { λ c. c.last ≤ max_instant };
+}
+
+impl Clock {
+    ghost use Rattle.values.specs.Commits.{max_instant};
+
+    /// The clock before the first commit.
+    pub fn new() -> Clock
+        ensures { result ≡ 0 }
+    {
+        Clock { last: 0 }
+    }
+
+    /// The instant of the last commit, 0 where there is none.
+    pub fn last(&self) -> Instant
+        ensures last { result ≡ self.now }
+        ensures in_range { result ≤ max_instant }
+    {
+        self.last
+    }
+
+    /// The instant of a commit that reads the clock so: the reading, or where that has passed the instant after the last one.
+    /// `ClockEnd` where that is above `LAST`. The clock stays as it is until it is moved.
+    pub fn next(&self, reading: Instant) -> Result<Instant, Refusal>
+        ensures next { result ≡ next_instant self.now reading }
+        ensures rises { IfOk result (λ instant. self.now < instant) }
+        ensures in_range { IfOk result (λ instant. instant ≤ max_instant) }
+    {
+        let instant = reading.max(self.last + 1);
+        if instant > LAST {
+            return Err(Refusal::ClockEnd);
+        }
+        Ok(instant)
+    }
+
+    /// Moves the clock to a commit's instant.
+    pub fn advance(&mut self, instant: Instant)
+        requires later { self.old < instant }
+        requires in_range { instant ≤ max_instant }
+        ensures { self.new ≡ instant }
+    {
+        self.last = instant;
+    }
+}
+
+#[cfg(test)]
+mod tests {
+    use super::*;
+
+    #[test]
+    fn a_commit_takes_the_reading_or_the_instant_after_the_last(rt: HostRuntime) {
+        let mut clock = Clock::new();
+        assert_eq!(rt; clock.last(), 0);
+        for (reading, instant) in [(0, 1), (100, 100), (50, 101), (101, 102), (LAST, LAST)] {
+            let Ok(next) = clock.next(reading) else {
+                assert!(rt; false, "refused at {reading}");
+                return;
+            };
+            assert_eq!(rt; next, instant, "at {reading}");
+            clock.advance(next);
+            assert_eq!(rt; clock.last(), instant, "at {reading}");
+        }
+        for reading in [0, LAST, u64::MAX] {
+            assert_eq!(rt; clock.next(reading), Err(Refusal::ClockEnd), "at {reading}");
+        }
+        assert_eq!(rt; Clock::new().next(LAST + 1), Err(Refusal::ClockEnd));
+    }
+}

@@ -1,8 +1,0 @@
-use Rattle.std.proofs.Common.{subst, sym}
-use Rattle.rows.specs.Events.{event_cmp}
-use Rattle.eventlist.proofs.Ordered.{sorted_none}
-use Rattle.datanode.specs.Cut.{IsMap}
-use Rattle.datanode.proofs.nodes.DataNode.new.Goals as goal
-
-pub node_of-requires-clause-map : goal.node_of-requires-clause-map
-node_of-requires-clause-map c = subst IsMap (sym c.new.ensures.items) (sorted_none event_cmp)

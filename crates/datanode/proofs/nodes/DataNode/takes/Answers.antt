@@ -1,7 +1,0 @@
-use Rattle.std.proofs.Common.{◌↔◌, IsTrue, sym, subst}
-use Rattle.datanode.specs.Node.{Takes}
-use Rattle.datanode.proofs.Lasts.{takes_is}
-use Rattle.datanode.proofs.nodes.DataNode.takes.Goals as goal
-
-pub returns : goal.returns
-returns c = subst (λ b. IsTrue b ↔ Takes c.args.self.now c.args.event.now) (sym c.is_taken.ensures.taken) (takes_is c.args.self.now c.args.event.now c.is_taken.ensures.map)

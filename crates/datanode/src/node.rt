@@ -1,0 +1,207 @@
+//! Data nodes.
+ghost use Rattle.std.specs.Prelude.{◌≡◌, ◌↔◌, ◌<◌, ◌≤◌, ◌-◌, [], List, None, Bool, true, false, IsTrue, IfOk, OnOk, OnErr, HoldsAt, length, option_copied};
+ghost use Rattle.values.specs.Event.{Event as Change};
+ghost use Rattle.values.specs.Memory.{OnlyMemory};
+ghost use Rattle.values.specs.Events.{row_until, put_event};
+ghost use Rattle.keyrange.specs.Points.{has_point, is_key_in};
+ghost use Rattle.eventlist.specs.Listing.{events_in, overtakes};
+ghost use Rattle.datanode.specs.Cut.{IsMap, IsInside, cut};
+ghost use Rattle.datanode.specs.Node.{IsNode, IsCutOf, IsLast, Accepts, last_before, kept_from, is_after, accepts};
+
+use crate::cut::cut;
+use eventlist::{event_until, events_in, is_overtaken, place_behind_key, place_of};
+use keyrange::{KeyRange, Rect};
+use values::{Event, Instant, KeyBytes, Mem, Row, SharedEvent};
+use std::alloc::{AllocError, Global};
+use std::marker::Model;
+
+/// The events that a rectangle holds of all changes. They are shared: of a node that is copied or split no event is copied.
+#[derive(Drop)]
+pub struct DataNode {
+    alloc: Global,
+    rect: Rect,
+    events: Vec<SharedEvent>,
+}
+
+impl Model for DataNode {
+    ghost use Rattle.datanode.specs.Node.{Node, IsNode};
+
+    ghost Value = { Node };
+
+    ghost view = { λ n. record { rect = n.rect; events = n.events.items } };
+
+    ghost invariant = { λ n. IsNode n.rect n.events.items };
+}
+
+impl DataNode {
+    /// The node of a rectangle without events.
+    pub fn new(alloc: Global, rect: Rect) -> Mem<DataNode>
+        ensures ok { IfOk result (λ n. n ≡ record { rect = rect; events = [] }) }
+        ensures err { OnlyMemory result }
+    {
+        Ok(node_of(alloc, rect, Vec::new(alloc)))
+    }
+
+    pub fn rect(&self) -> &Rect
+        ensures { result.now ≡ self.now.rect }
+    {
+        &self.rect
+    }
+
+    /// How many events the node holds.
+    pub fn len(&self) -> usize
+        ensures { result ≡ length self.now.events }
+    {
+        self.events.len()
+    }
+
+    pub fn events(&self) -> &[SharedEvent]
+        ensures are { result.now ≡ self.now.events }
+        ensures node { IsNode self.now.rect self.now.events }
+    {
+        &self.events
+    }
+
+    /// A key's row at an instant.
+    pub fn at(&self, key: &KeyBytes, instant: Instant) -> Option<&Row>
+        ensures row { option_copied result ≡ row_until self.now.events key.now instant }
+        ensures of_map { (m : List Change) → IsCutOf self.now m → IsTrue (has_point self.now.rect key.now instant) → option_copied result ≡ row_until m key.now instant }
+    {
+        match event_until(&self.events, key, instant) {
+            None => None,
+            Some(event) => event.row.as_ref(),
+        }
+    }
+
+    /// A key's last event.
+    pub fn latest(&self, key: &KeyBytes) -> Option<&Event>
+        ensures last { option_copied result ≡ last_before None self.now.events key.now }
+        ensures of_map { (m : List Change) → IsCutOf self.now m → IsTrue (is_key_in self.now.rect.keys key.now) → option_copied result ≡ kept_from self.now.rect.time.from (last_before self.now.rect.time.to m key.now) }
+    {
+        last_of(&self.events, key)
+    }
+
+    /// Whether the node takes an event: it has no end, its rectangle holds the event's point, and the event is later than each of its key.
+    pub fn accepts(&self, event: &Event) -> bool
+        ensures { IsTrue result ↔ Accepts self.now event.now }
+    {
+        self.is_taken(event)
+    }
+
+    fn is_taken(&self, event: &Event) -> bool
+        ensures map { IsMap self.now.events }
+        ensures taken { result ≡ accepts self.now event.now }
+    {
+        self.rect.time().to.is_none()
+            && self.rect.contains(&event.key, event.at)
+            && is_after(event, self.latest(&event.key))
+    }
+
+    /// Takes an event. At the first instant it takes the place of the carried event of its key. Where memory runs out nothing has changed.
+    pub fn put(&mut self, event: Event) -> Mem<()>
+        requires { Accepts self.old event }
+        ensures ok { OnOk result (self.new ≡ record { rect = self.old.rect; events = cut self.old.rect (put_event event self.old.events) }) }
+        ensures of_map { OnOk result ((m : List Change) → IsCutOf self.old m → IsCutOf self.new (put_event event m)) }
+        ensures err { OnErr result (self.new ≡ self.old) }
+        ensures memory { OnlyMemory result }
+    {
+        let event = SharedEvent::new(self.alloc, event)?;
+        put(&mut self.events, &self.rect, event)?;
+        Ok(())
+    }
+
+    /// The node's events of a range of keys, from an instant to another and with it, carried ones too.
+    pub fn events_in(
+        &self,
+        alloc: Global,
+        range: &KeyRange,
+        from: Instant,
+        to: Instant,
+    ) -> Mem<Vec<SharedEvent>>
+        ensures ok { IfOk result (λ v. v.items ≡ events_in self.now.events range.now from to) }
+        ensures err { OnlyMemory result }
+    {
+        events_in(alloc, &self.events, range, from, to)
+    }
+
+    /// An equal node, of which no event is copied.
+    pub fn copy(&self) -> Mem<DataNode>
+        ensures ok { IfOk result (λ n. n ≡ self.now) }
+        ensures err { OnlyMemory result }
+    {
+        self.part(self.rect.copy()?)
+    }
+
+    /// The node of a rectangle inside this one, of which no event is copied.
+    pub fn part(&self, rect: Rect) -> Mem<DataNode>
+        requires { IsInside rect self.now.rect }
+        ensures ok { IfOk result (λ p. p ≡ record { rect = rect; events = cut rect self.now.events }) }
+        ensures of_map { IfOk result (λ p. (m : List Change) → IsCutOf self.now m → IsCutOf p m) }
+        ensures err { OnlyMemory result }
+    {
+        let events = cut(self.alloc, &self.events, &rect)?;
+        Ok(node_of(self.alloc, rect, events))
+    }
+}
+
+fn is_after(event: &Event, last: Option<&Event>) -> bool
+    ensures { result ≡ is_after event.now (option_copied last.entry) }
+{
+    last.is_none_or(|last| last.at < event.at)
+}
+
+fn node_of(alloc: Global, rect: Rect, events: Vec<SharedEvent>) -> DataNode
+    requires map { IsMap events.items }
+    requires whole { events.items ≡ cut rect events.items }
+    ensures { result ≡ record { rect = rect; events = events.items } }
+{
+    DataNode {
+        alloc,
+        rect,
+        events,
+    }
+}
+
+/// A key's last event.
+fn last_of<'a>(events: &'a [SharedEvent], key: &KeyBytes) -> Option<&'a Event>
+    requires { IsMap events.now }
+    ensures { option_copied result ≡ last_before None events.now key.now }
+{
+    let place = place_behind_key(events, key);
+    if place == 0 {
+        return None;
+    }
+    let event = events[place - 1].event();
+    if event.key.cmp(key).is_eq() {
+        Some(event)
+    } else {
+        None
+    }
+}
+
+/// Puts an event in its place, or in that of the carried event of its key.
+fn put(events: &mut Vec<SharedEvent>, rect: &Rect, event: SharedEvent) -> Result<(), AllocError>
+    requires node { IsNode rect.now events.old.items }
+    requires inside { IsTrue (has_point rect.now event.key event.at) }
+    requires last { IsLast event events.old.items }
+    ensures ok { OnOk result (events.new.items ≡ cut rect.now (put_event event events.old.items)) }
+    ensures err { OnErr result (events.new.items ≡ events.old.items) }
+{
+    let place = place_of(events, event.event());
+    if is_replaced(events, place, rect.time().from, &event) {
+        events[place - 1] = event;
+    } else {
+        events.insert(place, event)?;
+    }
+    Ok(())
+}
+
+/// Whether the event before a place is carried no more, once another one comes.
+fn is_replaced(events: &[SharedEvent], place: usize, instant: Instant, event: &SharedEvent) -> bool
+    requires { place ≤ length events.now }
+    ensures positive { result ≡ true → 0 < place }
+    ensures replaced { result ≡ true → HoldsAt (λ d. overtakes d instant event.now ≡ true) events.now (place - 1) }
+    ensures kept { result ≡ false → 0 < place → HoldsAt (λ d. overtakes d instant event.now ≡ false) events.now (place - 1) }
+{
+    place > 0 && is_overtaken(events[place - 1].event(), instant, Some(event))
+}

@@ -1,7 +1,0 @@
-use Rattle.std.proofs.Common.{ap, ◌∙◌}
-use Rattle.eventlist.specs.Places.{since}
-use Rattle.eventlist.proofs.Found.{since_last}
-use Rattle.eventlist.proofs.places.event_since.Goals as goal
-
-pub returns : goal.returns
-returns c = c.since.ensures ∙ ap (since c.args.start) c.last_event.ensures ∙ since_last c.args.events.now c.args.start c.args.key.now c.requires

@@ -1,8 +1,0 @@
-use Rattle.std.proofs.Common.{rules}
-use Rattle.std.proofs.lemmas.List.Sorted.{IsPartitionPoint-from_clause}
-use Rattle.eventlist.proofs.Ranges.{not_above, not_above_parts}
-use Rattle.eventlist.proofs.places.place_behind_key.Goals as goal
-
-pub returns-clause-first : goal.returns-clause-first
-returns-clause-first c =
-    IsPartitionPoint-from_clause (not_above c.args.key.now) c.args.events.now c.partition_point.result c.partition_point.ensures.partitioned (not_above_parts c.args.key.now c.args.events.now c.requires) (λ a r q k. search rules)

@@ -1,0 +1,49 @@
+-- Places in a list of events, which are in order.
+use Rattle.std.specs.Prelude.{◌≡◌, ℕ, List, [], ◌∷◌, Bool, true, false, not, nat_le, nat_lt, Option, Some, None, if◌then◌else◌}
+use Rattle.std.specs.Ordering.{match_ordering, is_lt, is_eq}
+use Rattle.std.specs.List.Sorted.{IsPartitionPoint}
+use Rattle.values.specs.Event.{Event}
+use Rattle.values.specs.Events.{bytes_cmp, is_bytes, event_cmp, later}
+use Rattle.keyrange.specs.Points.{is_below}
+use Rattle.eventlist.specs.Listing.{overtakes}
+
+-- the first n events are those that pass the test
+abbrev pub AreFirst : (Event → Bool) → List Event → ℕ → Type 0
+AreFirst p es n = IsPartitionPoint (λ e. p e ≡ true) (λ e. p e ≡ false) es n
+
+-- the event is of a lesser key, or of the key and at the instant or before it
+abbrev pub is_until : List ℕ → ℕ → Event → Bool
+is_until key t e = match_ordering (bytes_cmp e.key key) true (nat_le e.at t) false
+
+-- the event, if it is of the key
+abbrev pub of_key : List ℕ → Option Event → Option Event
+of_key key None = None
+of_key key (Some e) = if is_bytes key e.key then Some e else None
+
+-- the key's last event
+abbrev pub last_event : List Event → List ℕ → Option Event
+last_event [] key = None
+last_event (e ∷ es) key = later (last_event es key) (if is_bytes key e.key then Some e else None)
+
+abbrev pub is_before : Event → Event → Bool
+is_before e d = is_lt (event_cmp d e)
+
+-- an event of e's key and instant
+abbrev pub is_same : Event → Option Event → Bool
+is_same e None = false
+is_same e (Some d) = is_eq (event_cmp e d)
+
+-- the event's instant, where it is above another
+abbrev pub since : ℕ → Option Event → Option ℕ
+since start None = None
+since start (Some e) = if nat_lt start e.at then Some e.at else None
+
+-- the next event is a later one of e's key, at the instant or before it
+abbrev pub is_overtaken : Event → ℕ → Option Event → Bool
+is_overtaken e t None = false
+is_overtaken e t (Some d) = overtakes e t d
+
+-- the event is of the key or of a lesser one
+abbrev pub is_up_to : List ℕ → Option Event → Bool
+is_up_to key None = false
+is_up_to key (Some e) = not (is_below key e.key)

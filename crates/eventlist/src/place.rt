@@ -1,0 +1,116 @@
+//! Places in lists of shared events, which are in order.
+ghost use Rattle.std.specs.Prelude.{◌≡◌, ◌≤◌, Some, length, not, option_copied};
+ghost use Rattle.std.specs.List.Sorted.{IsStrictlySortedBy};
+ghost use Rattle.values.specs.Events.{event_cmp, event_until, event_since};
+ghost use Rattle.keyrange.specs.Points.{is_below};
+ghost use Rattle.eventlist.specs.Place.{AreFirst, is_until, of_key, last_event, since, is_before};
+
+use values::{Event, Instant, KeyBytes, SharedEvent};
+use std::cmp::Ordering;
+
+fn is_until(key: &KeyBytes, instant: Instant, event: &Event) -> bool
+    ensures { result ≡ is_until key.now instant event.now }
+{
+    match event.key.cmp(key) {
+        Ordering::Less => true,
+        Ordering::Equal => event.at <= instant,
+        Ordering::Greater => false,
+    }
+}
+
+/// How many events are of lesser keys, or of the key and at the instant or before it.
+pub fn place_after(events: &[SharedEvent], key: &KeyBytes, instant: Instant) -> usize
+    requires { IsStrictlySortedBy event_cmp events.now }
+    ensures bound { result ≤ length events.now }
+    ensures first { AreFirst (is_until key.now instant) events.now result }
+{
+    events.partition_point(|event| is_until(key, instant, event.event()))
+}
+
+/// A key's last event at an instant or before it.
+pub fn event_until<'a>(
+    events: &'a [SharedEvent],
+    key: &KeyBytes,
+    instant: Instant,
+) -> Option<&'a Event>
+    requires { IsStrictlySortedBy event_cmp events.now }
+    ensures { option_copied result ≡ event_until events.now key.now instant }
+{
+    let place = place_after(events, key, instant);
+    if place == 0 {
+        return None;
+    }
+    of_key(key, events[place - 1].event())
+}
+
+fn of_key<'a>(key: &KeyBytes, event: &'a Event) -> Option<&'a Event>
+    ensures { option_copied result ≡ of_key key.now (Some event.now) }
+{
+    if key.cmp(&event.key).is_eq() {
+        Some(event)
+    } else {
+        None
+    }
+}
+
+/// The instant of a key's last event above `start`, where there is one.
+pub fn event_since(events: &[SharedEvent], key: &KeyBytes, start: Instant) -> Option<Instant>
+    requires { IsStrictlySortedBy event_cmp events.now }
+    ensures { result ≡ event_since events.now start key.now }
+{
+    since(start, last_event(events, key))
+}
+
+fn last_event<'a>(events: &'a [SharedEvent], key: &KeyBytes) -> Option<&'a Event>
+    requires { IsStrictlySortedBy event_cmp events.now }
+    ensures { option_copied result ≡ last_event events.now key.now }
+{
+    let end = place_behind_key(events, key);
+    if end == 0 {
+        return None;
+    }
+    of_key(key, events[end - 1].event())
+}
+
+/// The event's instant, where it is above another.
+fn since(start: Instant, event: Option<&Event>) -> Option<Instant>
+    ensures { result ≡ since start (option_copied event.entry) }
+{
+    match event {
+        Some(event) if start < event.at => Some(event.at),
+        _ => None,
+    }
+}
+
+pub(crate) fn compare(event: &Event, other: &Event) -> Ordering
+    ensures { result ≡ event_cmp event.now other.now }
+{
+    event.key.cmp(&other.key).then(event.at.cmp(&other.at))
+}
+
+/// How many events are before another.
+pub fn place_of(events: &[SharedEvent], event: &Event) -> usize
+    requires { IsStrictlySortedBy event_cmp events.now }
+    ensures bound { result ≤ length events.now }
+    ensures first { AreFirst (is_before event.now) events.now result }
+{
+    events.partition_point(|other| compare(other.event(), event).is_lt())
+}
+
+/// How many events are of lesser keys.
+pub fn place_of_key(events: &[SharedEvent], key: &KeyBytes) -> usize
+    requires { IsStrictlySortedBy event_cmp events.now }
+    ensures bound { result ≤ length events.now }
+    ensures first { AreFirst (λ e. is_below e.key key.now) events.now result }
+{
+    events.partition_point(|event| event.event().key.cmp(key).is_lt())
+}
+
+/// How many events are of the key or of lesser ones.
+pub fn place_behind_key(events: &[SharedEvent], key: &KeyBytes) -> usize
+    requires { IsStrictlySortedBy event_cmp events.now }
+    ensures bound { result ≤ length events.now }
+    ensures first { AreFirst (λ e. not (is_below key.now e.key)) events.now result }
+{
+    events.partition_point(|event| !key.cmp(&event.event().key).is_lt())
+}

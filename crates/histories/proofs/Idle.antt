@@ -1,0 +1,126 @@
+-- Steps that change nothing of what is open or committed.
+use Rattle.std.proofs.Common.{◌≡◌, ℕ, ◌≤◌, ◌<◌, Bool, true, false, List, [], ◌∷◌, ◌++◌, Option, Some, None, refl, sym, ap, ◌∙◌, arith}
+use Rattle.std.specs.Prelude.{if◌then◌else◌, ◌&&◌, ◌==◌, nat_lt, nat_le, is_none, is_some, not, length}
+use Rattle.std.proofs.lemmas.Bool.Decides.{nat_tests}
+use Rattle.values.specs.declared.key.Key.{Key}
+use Rattle.values.specs.Tables.{Schema}
+use Rattle.values.specs.declared.table.Table.{Table}
+use Rattle.values.specs.declared.refusal.Refusal.{Refusal}
+use Rattle.values.specs.declared.refusal.Refusal.TheVariants.{NoSession, NoTable, DuplicateKey, TooManyWrites}
+use Rattle.values.specs.Log.{Log, State, last, changes}
+use Rattle.values.specs.Tables.{table_at}
+use Rattle.values.specs.Writes.{add_keys}
+use Rattle.values.specs.Commits.{after}
+use Rattle.histories.specs.declared.step.Step.{Step}
+use Rattle.histories.specs.declared.step.Step.TheVariants.{Begin, Insert, Update, Delete, Select, Commit, Rollback, SplitKey, SplitTime, Migrate}
+use Rattle.histories.specs.declared.step.Reply.TheVariants.{Refused}
+use Rattle.histories.specs.History.{History, log, opened, own, mine, written, write_reply, writes, write_count, duplicate_in, is_write_of, is_refused, ends, begins, misfit, misfit_of, bad_row, no_session, net_change_of}
+use Rattle.histories.specs.World.{World}
+use Rattle.histories.specs.Stands.{Stands, session, session_from}
+
+-- the system stands for the history with the step, where log and sessions stay
+pub idle_stands : (w : World) (h : History) (step : Step) → Stands w h → log w.schema (step ∷ h) ≡ log w.schema h → ((j : ℕ) → j ≤ 64 → session w.schema (step ∷ h) j ≡ session w.schema h j) → Stands w (step ∷ h)
+idle_stands w h step stands is_log same = record {
+  wide = stands.wide;
+  changes_are = stands.changes_are ∙ sym (ap changes is_log);
+  latest_is = stands.latest_is ∙ sym (ap last is_log);
+  sessions_are = λ j small. stands.sessions_are j small ∙ sym (same j small);
+}
+
+-- ---- sessions above 64
+
+begins_none : (i : ℕ) (step : Step) → 64 < i → begins i step ≡ false
+begins_none i (Begin j) h = by (i == j)
+  where
+    large : nat_le i 64 ≡ false
+    large = grind (arith, nat_tests)
+
+    by : (b : Bool) → (b && nat_le i 64) ≡ false
+    by true = large
+    by false = refl
+begins_none i (Insert j number rows) h = refl
+begins_none i (Update j keys sets) h = refl
+begins_none i (Delete j keys) h = refl
+begins_none i (Select j form keys) h = refl
+begins_none i (Commit j reading) h = refl
+begins_none i (Rollback j) h = refl
+begins_none i (SplitKey key) h = refl
+begins_none i (SplitTime key instant) h = refl
+begins_none i Migrate h = refl
+
+-- none of them opens
+pub none_open : (schema : Schema) (h : History) (i : ℕ) → 64 < i → opened schema h i ≡ None
+none_open schema [] i large = refl
+none_open schema (step ∷ h) i large = (λ k. if ends i step then None else if begins_none i step large k && is_none (opened schema h i) then Some (log schema h) else none_open schema h i large k) ∙ closed (ends i step)
+  where
+    closed : (b : Bool) → ◌≡◌ {A = Option Log} (if b then None else None) None
+    closed true = refl
+    closed false = refl
+
+-- ---- steps that do not fit
+
+refused_write : (schema : Schema) (step : Step) (refusal : Refusal) (m : State) (keys : List Key) → misfit schema step ≡ Some refusal → is_refused (write_reply schema step m keys) ≡ true
+refused_write schema step refusal m keys is =
+    λ k. is_refused (elim (is k) [
+      | Some refusal ↦ Refused refusal
+      | None ↦ elim (duplicate_in schema step m) [
+        | Some key ↦ Refused (DuplicateKey key)
+        | None ↦ if nat_lt 1000 (length (add_keys (writes schema step m) keys)) then Refused TooManyWrites else write_count step (writes schema step m)
+      ]
+    ])
+
+dropped : (b c : Bool) (xs ys : List Step) → (if b && c && not true then xs else ys) ≡ ys
+dropped true true xs ys = refl
+dropped true false xs ys = refl
+dropped false true xs ys = refl
+dropped false false xs ys = refl
+
+kept_session : (schema : Schema) (h : History) (step : Step) (j : ℕ) (refusal : Refusal) → misfit schema step ≡ Some refusal → ends j step ≡ false → begins j step ≡ false → log schema (step ∷ h) ≡ log schema h
+    → session schema (step ∷ h) j ≡ session schema h j
+kept_session schema h step j refusal is no_end no_begin same_log =
+    (λ k. session_from schema (same_log k) (if no_end k then None else if no_begin k && is_none (opened schema h j) then Some (log schema h) else opened schema h j)
+    (if no_end k then [] else if is_write_of j step && is_some (opened schema h j) && not (refused_write schema step refusal (mine schema h j) (written schema h j) is k) then own schema h j ++ step ∷ [] else own schema h j))
+    ∙ ap (session_from schema (log schema h) (opened schema h j)) (dropped (is_write_of j step) (is_some (opened schema h j)) (own schema h j ++ step ∷ []) (own schema h j))
+
+large : (b : Bool) (refusal : Refusal) (i : ℕ) → nat_lt 64 i ≡ b → ◌≡◌ {A = Option Refusal} (if b then Some NoSession else None) (Some refusal) → 64 < i
+large true refusal i at is = grind (arith, nat_tests)
+large false refusal i at is = cc
+
+other : (i j : ℕ) → 64 < i → j ≤ 64 → (j == i) ≡ false
+other i j large small = grind (arith, nat_tests)
+
+pub misfit_stands : (w : World) (h : History) (step : Step) (refusal : Refusal) → misfit w.schema step ≡ Some refusal → Stands w h → Stands w (step ∷ h)
+misfit_stands w h (Begin i) refusal is stands = idle_stands w h (Begin i) stands refl (λ j small. kept_session w.schema h (Begin i) j refusal is refl (begun j (other i j (large (nat_lt 64 i) refusal i refl is) small)) refl)
+  where
+    begun : (j : ℕ) → (j == i) ≡ false → ((j == i) && nat_le j 64) ≡ false
+    begun j e = ap (λ b. b && nat_le j 64) e
+misfit_stands w h (Insert i number rows) refusal is stands = idle_stands w h (Insert i number rows) stands refl (λ j small. kept_session w.schema h (Insert i number rows) j refusal is refl refl refl)
+misfit_stands w h (Update i keys sets) refusal is stands = idle_stands w h (Update i keys sets) stands refl (λ j small. kept_session w.schema h (Update i keys sets) j refusal is refl refl refl)
+misfit_stands w h (Delete i keys) refusal is stands = idle_stands w h (Delete i keys) stands refl (λ j small. kept_session w.schema h (Delete i keys) j refusal is refl refl refl)
+misfit_stands w h (Select i form keys) refusal is stands = idle_stands w h (Select i form keys) stands refl (λ j small. kept_session w.schema h (Select i form keys) j refusal is refl refl refl)
+misfit_stands w h (Commit i reading) refusal is stands = idle_stands w h (Commit i reading) stands same_log (λ j small. kept_session w.schema h (Commit i reading) j refusal is (other i j (large (nat_lt 64 i) refusal i refl is) small) refl same_log)
+  where
+    same_log : log w.schema (Commit i reading ∷ h) ≡ log w.schema h
+    same_log = ap (λ (o : Option Log). let l : Log = elim o [ None ↦ log w.schema h | Some before ↦ after (log w.schema h) (last before) (net_change_of w.schema (log w.schema h) (opened w.schema h i) (own w.schema h i)) reading ] in l) (none_open w.schema h i (large (nat_lt 64 i) refusal i refl is))
+misfit_stands w h (Rollback i) refusal is stands = idle_stands w h (Rollback i) stands refl (λ j small. kept_session w.schema h (Rollback i) j refusal is (other i j (large (nat_lt 64 i) refusal i refl is) small) refl refl)
+misfit_stands w h (SplitKey key) refusal is stands = idle_stands w h (SplitKey key) stands refl (λ j small. refl)
+misfit_stands w h (SplitTime key instant) refusal is stands = idle_stands w h (SplitTime key instant) stands refl (λ j small. refl)
+misfit_stands w h Migrate refusal is stands = idle_stands w h Migrate stands refl (λ j small. refl)
+
+-- ---- what a step that fits has
+
+pub fits_session : (i : ℕ) → no_session i ≡ None → i ≤ 64
+fits_session i is = by (nat_lt 64 i) refl is
+  where
+    by : (b : Bool) → nat_lt 64 i ≡ b → ◌≡◌ {A = Option Refusal} (if b then Some NoSession else None) None → i ≤ 64
+    by true at is = cc
+    by false at is = grind (arith, nat_tests)
+
+pub fits_table : (schema : Schema) (i number : ℕ) (fault : Table → Option ℕ) → misfit_of schema i number fault ≡ None → (i ≤ 64) × ((t : Table) × (table_at schema number ≡ Some t))
+fits_table schema i number fault is = by (nat_lt 64 i) (table_at schema number) refl refl is
+  where
+    by : (b : Bool) (t : Option Table) → nat_lt 64 i ≡ b → table_at schema number ≡ t → ◌≡◌ {A = Option Refusal} (if b then Some NoSession else elim t [ None ↦ Some NoTable | Some table ↦ bad_row (fault table) ]) None
+        → (i ≤ 64) × ((t : Table) × (table_at schema number ≡ Some t))
+    by true t at there is = cc
+    by false None at there is = cc
+    by false (Some t) at there is = (grind (arith, nat_tests), (t, there))

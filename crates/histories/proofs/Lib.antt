@@ -1,0 +1,14 @@
+pub mod Ends
+pub mod Growth
+pub mod Idle
+pub mod Nows
+pub mod OpenTurns
+pub mod Opens
+pub mod Past
+pub mod Ran
+pub mod Shown
+pub mod Snapshots
+pub mod Turned
+pub mod Winners
+pub mod WorldGrowth
+pub mod Wrote

@@ -1,0 +1,177 @@
+-- Each step's turn is the reply of the history, and leaves a system that stands for the history with the step.
+use Rattle.std.proofs.Common.{◌≡◌, ◌≢◌, ℕ, Bool, true, false, List, [], ◌∷◌, Option, Some, None, refl, sym, ap, subst, ◌∙◌}
+use Rattle.std.specs.Prelude.{Result, Ok, Err, if◌then◌else◌, nat_lt, max, ◌+◌, length, map}
+use Rattle.values.specs.declared.key.Key.{Key}
+use Rattle.values.specs.declared.table.Table.{Table}
+use Rattle.values.specs.Tables.{Schema}
+use Rattle.values.specs.declared.refusal.Refusal.{Refusal}
+use Rattle.values.specs.declared.refusal.Refusal.TheVariants.{NoSession, NoTable, NoTransaction, InTransaction, DuplicateKey, TooManyWrites, Conflict, ClockEnd, Memory}
+use Rattle.values.specs.Log.{Net, Changes, State}
+use Rattle.values.specs.Tables.{table_at}
+use Rattle.values.specs.Writes.{key_of, duplicate, insert_rows, update_rows, delete_rows, met, add_keys}
+use Rattle.values.specs.Commits.{won, outcome, max_instant}
+use Rattle.histories.specs.declared.step.Step.{Step}
+use Rattle.histories.specs.declared.step.Step.TheVariants.{Begin, Insert, Update, Delete, Select, Commit, Rollback, SplitKey, SplitTime, Migrate}
+use Rattle.histories.specs.declared.step.Reply.{Reply}
+use Rattle.histories.specs.declared.step.Reply.TheVariants.{Begun, Inserted, Updated, Deleted, RolledBack, Refused}
+use Rattle.histories.specs.History.{History, reply, reply_in, misfit, bad_row}
+use Rattle.histories.specs.World.{Session, World}
+use Rattle.histories.specs.Stands.{Stands, session_at}
+use Rattle.histories.specs.Turn.{put, Turn, turn, turn_in, end_turn, net_in, opened_now, writing, insert_into, update_in, delete_from}
+use Rattle.histories.specs.Due.{is_want, is_out}
+use Rattle.histories.proofs.OpenTurns.{begin_answers}
+use Rattle.histories.proofs.Ends.{rollback_answers, commit_answers}
+use Rattle.histories.proofs.Wrote.{insert_answers, update_answers, delete_answers}
+use Rattle.histories.proofs.Shown.{select_is}
+use Rattle.histories.proofs.Idle.{idle_stands, misfit_stands, fits_session, fits_table}
+
+answers_in : (w : World) (h : History) (step : Step) → misfit w.schema step ≡ None → Stands w h → ((turn_in w step).0 ≡ reply_in w.schema h step) × Stands (turn_in w step).1 (step ∷ h)
+answers_in w h (Begin i) fits stands = begin_answers w h i (fits_session i fits) stands
+answers_in w h (Insert i number rows) fits stands = let fit = fits_table w.schema i number _ fits in insert_answers w h i number rows fit.1.0 fit.1.1 fits fit.0 stands
+answers_in w h (Update i keys sets) fits stands = let fit = fits_table w.schema i keys.table _ fits in update_answers w h i keys sets fit.1.0 fit.1.1 fits fit.0 stands
+answers_in w h (Delete i keys) fits stands = let fit = fits_table w.schema i keys.table _ fits in delete_answers w h i keys fit.1.0 fit.1.1 fits fit.0 stands
+answers_in w h (Select i form keys) fits stands = let fit = fits_table w.schema i keys.table _ fits in (select_is w h i form keys fit.0 stands, idle_stands w h (Select i form keys) stands refl (λ j small. refl))
+answers_in w h (Commit i reading) fits stands = commit_answers w h i reading (fits_session i fits) stands
+answers_in w h (Rollback i) fits stands = rollback_answers w h i (fits_session i fits) stands
+answers_in w h (SplitKey key) fits stands = (refl, idle_stands w h (SplitKey key) stands refl (λ j small. refl))
+answers_in w h (SplitTime key instant) fits stands = (refl, idle_stands w h (SplitTime key instant) stands refl (λ j small. refl))
+answers_in w h Migrate fits stands = (refl, idle_stands w h Migrate stands refl (λ j small. refl))
+
+-- ---- a turn is never that memory ran out
+
+abbrev want_of : Option Refusal → Bool
+want_of None = false
+want_of (Some refusal) = is_want refusal
+
+session_wants : (b : Bool) → want_of (if b then Some NoSession else None) ≡ false
+session_wants true = refl
+session_wants false = refl
+
+table_wants : (b : Bool) (t : Option Table) (fault : Table → Option ℕ) → want_of (if b then Some NoSession else elim t [ None ↦ Some NoTable | Some table ↦ bad_row (fault table) ]) ≡ false
+table_wants true t fault = refl
+table_wants false None fault = refl
+table_wants false (Some t) fault = by (fault t)
+  where
+    by : (f : Option ℕ) → want_of (bad_row f) ≡ false
+    by None = refl
+    by (Some n) = refl
+
+misfit_wants : (schema : Schema) (step : Step) → want_of (misfit schema step) ≡ false
+misfit_wants schema (Begin i) = session_wants (nat_lt 64 i)
+misfit_wants schema (Insert i number rows) = table_wants (nat_lt 64 i) (table_at schema number) _
+misfit_wants schema (Update i keys sets) = table_wants (nat_lt 64 i) (table_at schema keys.table) _
+misfit_wants schema (Delete i keys) = table_wants (nat_lt 64 i) (table_at schema keys.table) _
+misfit_wants schema (Select i form keys) = table_wants (nat_lt 64 i) (table_at schema keys.table) _
+misfit_wants schema (Commit i reading) = session_wants (nat_lt 64 i)
+misfit_wants schema (Rollback i) = session_wants (nat_lt 64 i)
+misfit_wants schema (SplitKey key) = table_wants (nat_lt 64 0) (table_at schema key.table) _
+misfit_wants schema (SplitTime key instant) = table_wants (nat_lt 64 0) (table_at schema key.table) _
+misfit_wants schema Migrate = refl
+
+-- the turn leaves the schema, and its reply is not that memory ran out
+record IsPlain (w : World) (t : Turn) : Type 0 where
+  answered : is_out t.0 ≡ false
+  same_schema : t.1.schema ≡ w.schema
+
+begin_plain : (w : World) (i : ℕ) (o : Option Session) → let t : Turn = elim o [ Some s ↦ (Refused InTransaction, w) | None ↦ (Begun w.latest, put w i (Some (opened_now w))) ] in IsPlain w t
+begin_plain w i None = record { answered = refl; same_schema = refl }
+begin_plain w i (Some s) = record { answered = refl; same_schema = refl }
+
+rollback_plain : (w : World) (i : ℕ) (o : Option Session) → let t : Turn = elim o [ None ↦ (Refused NoTransaction, w) | Some s ↦ (RolledBack, put w i None) ] in IsPlain w t
+rollback_plain w i None = record { answered = refl; same_schema = refl }
+rollback_plain w i (Some s) = record { answered = refl; same_schema = refl }
+
+write_plain : (w : World) (i : ℕ) (does : Table → Session → Reply × Session) (o : Option Session) (t : Option Table) → ((table : Table) (s : Session) → is_out (does table s).0 ≡ false)
+    → let turn : Turn = elim o [ None ↦ (Refused NoTransaction, w) | Some s ↦ elim t [ None ↦ (Refused NoTable, w) | Some table ↦ ((does table s).0, put w i (Some (does table s).1)) ] ] in IsPlain w turn
+write_plain w i does None t h = record { answered = refl; same_schema = refl }
+write_plain w i does (Some s) None h = record { answered = refl; same_schema = refl }
+write_plain w i does (Some s) (Some table) h = record { answered = h table s; same_schema = refl }
+
+writing_answered : (keys : List Key) (reply : Reply) (rows : State) (s : Session) → is_out reply ≡ false → is_out (writing keys reply rows s).0 ≡ false
+writing_answered keys reply rows s h = by (nat_lt 1000 (length (add_keys keys s.written)))
+  where
+    by : (full : Bool) → let p : Reply × Session = if full then (Refused TooManyWrites, s) else (reply, record { start = s.start; rows = rows; written = add_keys keys s.written }) in is_out p.0 ≡ false
+    by true = refl
+    by false = h
+
+insert_answered : (d : Option Key) (s : Session) (p : Reply × Session) → is_out p.0 ≡ false → let q : Reply × Session = elim d [ Some key ↦ (Refused (DuplicateKey key), s) | None ↦ p ] in is_out q.0 ≡ false
+insert_answered None s p h = h
+insert_answered (Some key) s p h = refl
+
+select_plain : (w : World) (o : Option Table) (f : Table → Reply) → ((t : Table) → is_out (f t) ≡ false) → is_out (elim o [ None ↦ Refused NoTable | Some table ↦ f table ]) ≡ false
+select_plain w None f h = refl
+select_plain w (Some t) f h = h t
+
+abbrev end_wants : Result (Option ℕ) Refusal → Bool
+end_wants (Ok instant) = false
+end_wants (Err refusal) = is_want refusal
+
+end_plain : (w : World) (i : ℕ) (net : Net) (end : Result (Option ℕ) Refusal) → end_wants end ≡ false → IsPlain w (end_turn w i net end)
+end_plain w i net (Ok (Some instant)) h = record { answered = refl; same_schema = refl }
+end_plain w i net (Ok None) h = record { answered = refl; same_schema = refl }
+end_plain w i net (Err refusal) h = record { answered = h; same_schema = refl }
+
+outcome_wants : (m : Changes) (latest start : ℕ) (net : Net) (reading : ℕ) → end_wants (outcome m latest start net reading) ≡ false
+outcome_wants m latest start [] reading = refl
+outcome_wants m latest start (change ∷ net) reading = by (won m start (change ∷ net)) (nat_lt max_instant (max reading (latest + 1)))
+  where
+    by : (found : List (Key × ℕ)) (late : Bool) → end_wants (elim found [ first ∷ others ↦ Err (Conflict first.0 first.1) | [] ↦ if late then Err ClockEnd else Ok (Some (max reading (latest + 1))) ]) ≡ false
+    by [] true = refl
+    by [] false = refl
+    by (first ∷ others) late = refl
+
+commit_plain : (w : World) (i reading : ℕ) (o : Option Session) → let t : Turn = elim o [ None ↦ (Refused NoTransaction, w) | Some s ↦ end_turn w i (net_in w.changes s) (outcome w.changes w.latest s.start (net_in w.changes s) reading) ] in IsPlain w t
+commit_plain w i reading None = record { answered = refl; same_schema = refl }
+commit_plain w i reading (Some s) = end_plain w i (net_in w.changes s) (outcome w.changes w.latest s.start (net_in w.changes s) reading) (outcome_wants w.changes w.latest s.start (net_in w.changes s) reading)
+
+plain_in : (w : World) (step : Step) → IsPlain w (turn_in w step)
+plain_in w (Begin i) = begin_plain w i (session_at w i)
+plain_in w (Insert i number rows) = write_plain w i (λ table s. insert_into table rows s) (session_at w i) (table_at w.schema number) (λ table s. insert_answered (duplicate table rows s.rows) s (writing (map (key_of table) rows) (Inserted (length rows)) (insert_rows table rows s.rows) s) (writing_answered (map (key_of table) rows) (Inserted (length rows)) (insert_rows table rows s.rows) s refl))
+plain_in w (Update i keys sets) = write_plain w i (λ table s. update_in table keys sets s) (session_at w i) (table_at w.schema keys.table) (λ table s. writing_answered (met table keys s.rows) (Updated (length (met table keys s.rows))) (update_rows table keys sets s.rows) s refl)
+plain_in w (Delete i keys) = write_plain w i (λ table s. delete_from table keys s) (session_at w i) (table_at w.schema keys.table) (λ table s. writing_answered (met table keys s.rows) (Deleted (length (met table keys s.rows))) (delete_rows table keys s.rows) s refl)
+plain_in w (Select i form keys) = record { answered = select_plain w (table_at w.schema keys.table) _ (λ t. refl); same_schema = refl }
+plain_in w (Commit i reading) = commit_plain w i reading (session_at w i)
+plain_in w (Rollback i) = rollback_plain w i (session_at w i)
+plain_in w (SplitKey key) = record { answered = refl; same_schema = refl }
+plain_in w (SplitTime key instant) = record { answered = refl; same_schema = refl }
+plain_in w Migrate = record { answered = refl; same_schema = refl }
+
+plain_by : (w : World) (step : Step) (m : Option Refusal) → want_of m ≡ false → let t : Turn = elim m [ Some refusal ↦ (Refused refusal, w) | None ↦ turn_in w step ] in IsPlain w t
+plain_by w step None h = plain_in w step
+plain_by w step (Some refusal) h = record { answered = h; same_schema = refl }
+
+is_plain : (w : World) (step : Step) → IsPlain w (turn w step)
+is_plain w step = plain_by w step (misfit w.schema step) (misfit_wants w.schema step)
+
+-- ---- every step
+
+answers_by : (w : World) (h : History) (step : Step) (m : Option Refusal) → misfit w.schema step ≡ m → Stands w h
+    → let t : Turn = elim m [ Some refusal ↦ (Refused refusal, w) | None ↦ turn_in w step ] in (t.0 ≡ elim m [ Some refusal ↦ Refused refusal | None ↦ reply_in w.schema h step ]) × Stands t.1 (step ∷ h)
+answers_by w h step None is stands = answers_in w h step is stands
+answers_by w h step (Some refusal) is stands = (refl, misfit_stands w h step refusal is stands)
+
+-- what a step answered and left, where that is its turn
+pub record Stepped (w now : World) (step : Step) (answer : Reply) : Type 0 where
+  pub answers : (h : History) → Stands w h → (answer ≡ reply w.schema h step) × Stands now (step ∷ h)
+  pub answered : is_out answer ≡ false
+  pub same_schema : now.schema ≡ w.schema
+
+pub stepped : (w now : World) (step : Step) (answer : Reply) → ◌≡◌ {A = Turn} (answer, now) (turn w step) → Stepped w now step answer
+stepped w now step answer is =
+    subst (λ (t : Turn). Stepped w t.1 step t.0) (sym is) (record {
+      answers = λ h stands. answers_by w h step (misfit w.schema step) refl stands;
+      answered = (is_plain w step).answered;
+      same_schema = (is_plain w step).same_schema;
+    })
+
+-- a step that does not fit
+pub refused_turn : (w : World) (step : Step) (refusal : Refusal) → Some refusal ≡ misfit w.schema step → ◌≡◌ {A = Turn} (Refused refusal, w) (turn w step)
+refused_turn w step refusal is = λ k. elim (is k) [ Some refusal ↦ (Refused refusal, w) | None ↦ turn_in w step ]
+
+-- one that fits
+pub fitting_turn : (w now : World) (step : Step) (answer : Reply) → None ≡ misfit w.schema step → ◌≡◌ {A = Turn} (answer, now) (turn_in w step) → ◌≡◌ {A = Turn} (answer, now) (turn w step)
+fitting_turn w now step answer fits is = is ∙ (λ k. elim (fits k) [ Some refusal ↦ (Refused refusal, w) | None ↦ turn_in w step ])
+
+-- a reply that memory ran out is no other
+pub not_out : (answer : Reply) → is_out answer ≡ false → answer ≢ Refused Memory
+not_out answer h e = cc (sym h ∙ ap is_out e)

@@ -1,0 +1,95 @@
+-- A commit changes nothing of what open transactions saw.
+use Rattle.std.proofs.Common.{◌≡◌, ℕ, ◌≤◌, ◌<◌, Bool, true, false, List, [], ◌∷◌, ◌++◌, Option, Some, None, refl, ap, subst, ◌∙◌, arith}
+use Rattle.std.specs.Prelude.{Result, Ok, Err, if◌then◌else◌, nat_le, ◌&&◌, ◌==◌, is_none}
+use Rattle.std.proofs.lemmas.Bool.Decides.{nat_tests}
+use Rattle.values.specs.declared.key.Transaction.{Transaction}
+use Rattle.values.specs.declared.refusal.Refusal.{Refusal}
+use Rattle.values.specs.Tables.{Schema}
+use Rattle.values.specs.Log.{Log, Net, replay, last, last_from, upto, state, changes}
+use Rattle.values.specs.Commits.{outcome, ended, after}
+use Rattle.histories.specs.declared.step.Step.{Step}
+use Rattle.histories.specs.declared.step.Step.TheVariants.{Begin, Insert, Update, Delete, Select, Commit, Rollback, SplitKey, SplitTime, Migrate}
+use Rattle.histories.proofs.Growth.{outcome_above}
+use Rattle.histories.specs.Stands.{session, session_from}
+use Rattle.histories.specs.History.{History, log, opened, own, ends, begins, net_change_of, rewrite_all, written_by}
+
+later_test : (a s : ℕ) → s < a → nat_le a s ≡ false
+later_test a s h = grind (arith, nat_tests)
+
+-- a later transaction is not among those up to an instant
+pub upto_later : (log : Log) (t : Transaction) (s : ℕ) → s < t.instant → upto (log ++ t ∷ []) s ≡ upto log s
+upto_later [] t s h = ap (λ b. if b then t ∷ [] else []) (later_test t.instant s h)
+upto_later (u ∷ log) t s h = ap (λ (l : Log). if nat_le u.instant s then u ∷ l else l) (upto_later log t s h)
+
+last_from_push : (n : ℕ) (log : Log) (t : Transaction) → last_from n (log ++ t ∷ []) ≡ t.instant
+last_from_push n [] t = refl
+last_from_push n (u ∷ log) t = last_from_push u.instant log t
+
+pub last_push : (log : Log) (t : Transaction) → last (log ++ t ∷ []) ≡ t.instant
+last_push log t = last_from_push 0 log t
+
+upto_ended : (log : Log) (net : Net) (end : Result (Option ℕ) Refusal) (s : ℕ) → s ≤ last log → ((i : ℕ) → end ≡ Ok (Some i) → last log < i) → upto (ended log net end) s ≡ upto log s
+upto_ended log net (Ok (Some i)) s below above = upto_later log _ s (let h : last log < i = above i refl in omega arith)
+upto_ended log net (Ok None) s below above = refl
+upto_ended log net (Err e) s below above = refl
+
+last_ended : (log : Log) (net : Net) (end : Result (Option ℕ) Refusal) → ((i : ℕ) → end ≡ Ok (Some i) → last log < i) → last log ≤ last (ended log net end)
+last_ended log net (Ok (Some i)) above = let h : last log < i = above i refl in omega (arith, last_push log (record { instant = i; net = net }))
+last_ended log net (Ok None) above = omega arith
+last_ended log net (Err e) above = omega arith
+
+-- a transaction that stays open sees what it saw
+pub session_kept : (schema : Schema) (log now : Log) (o : Option Log) (own : List Step) → ((before : Log) → o ≡ Some before → state now (last before) ≡ state log (last before))
+    → session_from schema now o own ≡ session_from schema log o own
+session_kept schema log now None own same = refl
+session_kept schema log now (Some before) own same =
+    ap (λ m. Some (record { start = last before; rows = rewrite_all schema own m; written = written_by schema own m [] })) (same before refl)
+
+pub state_after : (log : Log) (start : ℕ) (net : Net) (reading s : ℕ) → s ≤ last log → state (after log start net reading) s ≡ state log s
+state_after log start net reading s below =
+    ap (replay []) (upto_ended log net (outcome (changes log) (last log) start net reading) s below (λ i e. outcome_above (changes log) (last log) start net reading i e))
+
+pub last_after : (log : Log) (start : ℕ) (net : Net) (reading : ℕ) → last log ≤ last (after log start net reading)
+last_after log start net reading = last_ended log net (outcome (changes log) (last log) start net reading) (λ i e. outcome_above (changes log) (last log) start net reading i e)
+
+log_step : (schema : Schema) (h : History) (step : Step) → last (log schema h) ≤ last (log schema (step ∷ h))
+log_step schema h (Commit i reading) = by (opened schema h i) refl
+  where
+    by : (o : Option Log) → opened schema h i ≡ o → last (log schema h) ≤ last (elim o [ None ↦ log schema h | Some before ↦ after (log schema h) (last before) (net_change_of schema (log schema h) (opened schema h i) (own schema h i)) reading ])
+    by None e = omega arith
+    by (Some before) e = last_after (log schema h) (last before) _ reading
+log_step schema h (Begin i) = omega arith
+log_step schema h (Insert i number rows) = omega arith
+log_step schema h (Update i keys sets) = omega arith
+log_step schema h (Delete i keys) = omega arith
+log_step schema h (Select i form keys) = omega arith
+log_step schema h (Rollback i) = omega arith
+log_step schema h (SplitKey key) = omega arith
+log_step schema h (SplitTime key instant) = omega arith
+log_step schema h Migrate = omega arith
+
+opened_step : (e b : Bool) (o : Option Log) (now before : Log) (later : ℕ) → ◌≡◌ {A = Option Log} (if e then None else (if b && is_none o then Some now else o)) (Some before)
+    → last now ≤ later → ((x : Log) → o ≡ Some x → last x ≤ later) → last before ≤ later
+opened_step true b o now before later is up old = cc
+opened_step false true None now before later is up old = let same : now ≡ before = cc in subst (λ l. last l ≤ later) same up
+opened_step false false None now before later is up old = cc
+opened_step false true (Some x) now before later is up old = old before is
+opened_step false false (Some x) now before later is up old = old before is
+
+-- a transaction began at no later log than there is now
+pub opened_below : (schema : Schema) (h : History) (i : ℕ) (before : Log) → opened schema h i ≡ Some before → last before ≤ last (log schema h)
+opened_below schema [] i before e = cc
+opened_below schema (step ∷ h) i before e =
+    opened_step (ends i step) (begins i step) (opened schema h i) (log schema h) before (last (log schema (step ∷ h))) e (log_step schema h step)
+    (λ x is. let below : last x ≤ last (log schema h) = opened_below schema h i x is in omega (arith, below, log_step schema h step))
+
+-- a commit of one session changes nothing of another
+pub session_other_commit : (schema : Schema) (h : History) (i j reading : ℕ) → (j == i) ≡ false → session schema (Commit i reading ∷ h) j ≡ session schema h j
+session_other_commit schema h i j reading other =
+    ap (λ b. session_from schema (log schema (Commit i reading ∷ h)) (if b then None else opened schema h j) (if b then [] else own schema h j)) other
+    ∙ session_kept schema (log schema h) (log schema (Commit i reading ∷ h)) (opened schema h j) (own schema h j) (λ before is. by (opened schema h i) before (opened_below schema h j before is))
+  where
+    by : (o : Option Log) (before : Log) → last before ≤ last (log schema h)
+        → state (elim o [ None ↦ log schema h | Some first ↦ after (log schema h) (last first) (net_change_of schema (log schema h) (opened schema h i) (own schema h i)) reading ]) (last before) ≡ state (log schema h) (last before)
+    by None before below = refl
+    by (Some first) before below = state_after (log schema h) (last first) _ reading (last before) below

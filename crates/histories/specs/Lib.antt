@@ -1,0 +1,9 @@
+pub mod Due
+pub mod History
+pub mod Laws
+pub mod Stands
+pub mod Turn
+pub mod TurnLaws
+pub mod Winners
+pub mod Worked
+pub mod World

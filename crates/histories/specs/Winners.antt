@@ -1,0 +1,38 @@
+-- The transactions that were committed, with the instants at which they began.
+use Rattle.std.specs.Prelude.{ℕ, ◌<◌, List, [], ◌∷◌, ◌++◌, Option, Some, None, Result, Ok, Contains}
+use Rattle.std.specs.Map.{keys_of}
+use Rattle.values.specs.declared.key.Key.{Key}
+use Rattle.values.specs.declared.key.Transaction.{Transaction}
+use Rattle.values.specs.declared.refusal.Refusal.{Refusal}
+use Rattle.values.specs.Tables.{Schema}
+use Rattle.values.specs.Log.{Net, last, changes}
+use Rattle.values.specs.Commits.{outcome}
+use Rattle.histories.specs.declared.step.Step.TheVariants.{Commit}
+use Rattle.histories.specs.History.{History, log, opened, net}
+
+-- a committed transaction, and the instant of its snapshot
+pub record Winner : Type 0 where
+  pub start : ℕ
+  pub transaction : Transaction
+
+-- with the transaction that ended so, where it was committed
+abbrev pub winners_with : List Winner → ℕ → Net → Result (Option ℕ) Refusal → List Winner
+winners_with earlier start changed (Ok (Some instant)) = earlier ++ record { start = start; transaction = record { instant = instant; net = changed } } ∷ []
+winners_with earlier start changed _ = earlier
+
+-- the oldest first
+abbrev pub winners : Schema → History → List Winner
+winners schema [] = []
+winners schema (Commit i reading ∷ h) = elim (opened schema h i) [
+  | None ↦ winners schema h
+  | Some before ↦ winners_with (winners schema h) (last before) (net schema h i) (outcome (changes (log schema h)) (last (log schema h)) (last before) (net schema h i) reading)
+]
+winners schema (step ∷ h) = winners schema h
+
+-- each began before the other was committed
+abbrev pub AreConcurrent : Winner → Winner → Type 0
+AreConcurrent v w = (v.start < w.transaction.instant) × (w.start < v.transaction.instant)
+
+-- a key stands in both net changes
+abbrev pub ShareAKey : Winner → Winner → Type 0
+ShareAKey v w = (k : Key) × (Contains (keys_of v.transaction.net) k × Contains (keys_of w.transaction.net) k)

@@ -1,0 +1,14 @@
+//! Steps, replies, what a history of steps comes to, and what contracts see of a system that takes steps.
+#![tactic(auto)]
+
+mod laws;
+mod misfit;
+mod step;
+mod turn_laws;
+
+pub use laws::{
+    concurrent_commits_share_no_key, log_only_grows, opens_at_its_begin, past_stays,
+    reads_depend_on_snapshot_and_own_writes, worked_examples_hold,
+};
+pub use step::{Listing, Reply, Step};
+pub use turn_laws::turns_give_the_replies;

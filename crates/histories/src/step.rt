@@ -1,0 +1,42 @@
+use rows::{Form, Instant, Key, Keys, Refusal, Rows, Sets, ShownRows};
+
+/// What a session or the service asks. The first seven name their session, a number from 0 to 64.
+#[derive(Drop)]
+pub enum Step {
+    Begin(u8),
+    /// A table, by its number from 1, and the rows to insert.
+    Insert(u8, u8, Rows),
+    Update(u8, Keys, Sets),
+    Delete(u8, Keys),
+    Select(u8, Form, Keys),
+    /// The commit's reading of the clock.
+    Commit(u8, Instant),
+    Rollback(u8),
+    SplitKey(Key),
+    SplitTime(Key, Instant),
+    Migrate,
+}
+
+/// What a query shows: the rows alone, or with their periods.
+#[derive(Drop)]
+pub enum Listing {
+    Rows(Rows),
+    Periods(ShownRows),
+}
+
+/// What is answered to a step.
+#[derive(Drop)]
+pub enum Reply {
+    /// The last commit instant, 0 at first.
+    Begun(Instant),
+    /// How many rows.
+    Inserted(usize),
+    Updated(usize),
+    Deleted(usize),
+    Shown(Listing),
+    /// The commit instant, or none where the transaction left no net change.
+    Committed(Option<Instant>),
+    RolledBack,
+    Done,
+    Refused(Refusal),
+}

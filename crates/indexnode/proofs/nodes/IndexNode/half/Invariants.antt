@@ -1,7 +1,0 @@
-use Rattle.std.proofs.Common.{◌≡◌, take}
-use Rattle.std.specs.List.{filter}
-use Rattle.indexnode.specs.Halves.{takes}
-use Rattle.indexnode.proofs.nodes.IndexNode.half.Given as goal
-
-abbrev pub invariant-loop-reference : goal.invariant-loop-reference
-invariant-loop-reference g l = l.references.items ≡ filter (λ r. takes l.half r.rect) (take l.reference-index l.reference-items)

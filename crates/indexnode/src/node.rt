@@ -1,0 +1,89 @@
+//! A node, the reference at a point, and those that meet a rectangle.
+ghost use Rattle.std.specs.Prelude.{◌≡◌, ◌↔◌, ◌∷◌, [], IfOk, IsTrue, Contains, filter, map, All, length};
+ghost use Rattle.values.specs.Memory.{OnlyMemory};
+ghost use Rattle.keyrange.specs.Points.{has_point, Common};
+ghost use Rattle.indexnode.specs.Tiling.{Tiles, at_point};
+ghost use Rattle.indexnode.specs.Meeting.{meet, MeetsWhereCommon};
+
+use crate::reference::Reference;
+use keyrange::Rect;
+use values::{Instant, KeyBytes, Mem};
+use std::alloc::Global;
+
+/// A rectangle, and references that tile it.
+#[derive(Drop)]
+pub struct IndexNode<C> {
+    pub(crate) alloc: Global,
+    pub(crate) rect: Rect,
+    pub(crate) references: Vec<Reference<C>>,
+}
+
+impl<C> IndexNode<C> {
+    /// A node of a rectangle and the references that tile it.
+    pub fn new(alloc: Global, rect: Rect, references: Vec<Reference<C>>) -> Mem<IndexNode<C>>
+        requires { Tiles rect references.items }
+        ensures rect { IfOk result (λ n. n.rect ≡ rect) }
+        ensures references { IfOk result (λ n. n.references.items ≡ references.items) }
+        ensures err { OnlyMemory result }
+    {
+        Ok(IndexNode {
+            alloc,
+            rect,
+            references,
+        })
+    }
+
+    pub fn rect(&self) -> &Rect
+        ensures { result.now ≡ self.now.rect }
+    {
+        &self.rect
+    }
+
+    /// The references, in their order.
+    pub fn references(&self) -> &[Reference<C>]
+        ensures { result.now ≡ self.now.references.items }
+    {
+        self.references.as_slice()
+    }
+
+    /// The one reference at a point of the node's rectangle.
+    pub fn find(&self, key: &KeyBytes, instant: Instant) -> &Reference<C>
+        requires inside { IsTrue (has_point self.now.rect key.now instant) }
+        requires tiled { Tiles self.now.rect self.now.references.items }
+        ensures only { at_point key.now instant self.now.references.items ≡ result.now ∷ [] }
+        ensures holds { IsTrue (has_point result.now.rect key.now instant) }
+        ensures among { Contains self.now.references.items result.now }
+    {
+        let mut place = 0;
+        while !self.references[place].rect.contains(key, instant) {
+            place += 1;
+        }
+        &self.references[place]
+    }
+
+    /// The references that have a point in common with a rectangle, in their order.
+    pub fn meeting(&self, alloc: Global, rect: &Rect) -> Mem<Vec<&Reference<C>>>
+        ensures are { IfOk result (λ v. map (λ r. r.now) v.items ≡ filter (λ r. meet r.rect rect.now) self.now.references.items) }
+        ensures common { IfOk result (λ _. All (MeetsWhereCommon rect.now) self.now.references.items) }
+        ensures err { OnlyMemory result }
+    {
+        let mut found = Vec::new(alloc);
+        for reference in &self.references {
+            if meets(&reference.rect, rect) {
+                found.push(reference)?;
+            }
+        }
+        Ok(found)
+    }
+}
+
+/// Whether two rectangles have a point in common.
+fn meets(first: &Rect, second: &Rect) -> bool
+    ensures test { result ≡ meet first.now second.now }
+    ensures common { IsTrue result ↔ Common first.now second.now }
+{
+    // Who reads the keys knows that the ranges are not empty.
+    let _first = first.keys();
+    let _second = second.keys();
+    first.meets(second)
+}

@@ -1,0 +1,53 @@
+//! References that take the place of another.
+ghost use Rattle.std.specs.Prelude.{◌≡◌, ◌≢◌, ◌↔◌, IfOk, IsTrue, IsFalse, OnErr, IsSome, All, MatchOption};
+ghost use Rattle.values.specs.Memory.{OnlyMemory};
+ghost use Rattle.indexnode.specs.Tiling.{Tiles, LiesIn, AllMeet};
+ghost use Rattle.indexnode.specs.Halves.{AreCurrentIn};
+ghost use Rattle.indexnode.specs.Choice.{HasNoCurrent};
+ghost use Rattle.indexnode.specs.Replacement.{HasRect, Replaced, IsFirstPlace};
+
+use crate::node::IndexNode;
+use crate::reference::Reference;
+use keyrange::Rect;
+use values::Mem;
+
+impl<C: Drop> IndexNode<C> {
+    /// Puts references in the place of the one that has a rectangle; false where none has it. Where it is false, or memory runs out, nothing has changed.
+    pub fn replace(&mut self, rect: &Rect, given: Vec<Reference<C>>) -> Mem<bool>
+        requires tiles { Tiles rect.now given.items }
+        requires inside { All (λ r. LiesIn r.rect rect.now) given.items }
+        ensures answer { IfOk result (λ done. IsTrue done ↔ HasRect rect.now self.old.references.items) }
+        ensures replaced { IfOk result (λ done. IsTrue done → Replaced rect.now given.items self.old.references.items self.new.references.items) }
+        ensures kept { IfOk result (λ done. IsFalse done → self.new.references.items ≡ self.old.references.items) }
+        ensures rect { self.new.rect ≡ self.old.rect }
+        ensures tiled { Tiles self.old.rect self.old.references.items → Tiles self.new.rect self.new.references.items }
+        ensures current { AreCurrentIn self.old.rect self.old.references.items → (IsSome rect.now.time.to → HasNoCurrent given.items) → AreCurrentIn self.new.rect self.new.references.items }
+        ensures meet { AllMeet self.old.rect self.old.references.items → AllMeet self.old.rect given.items → AllMeet self.new.rect self.new.references.items }
+        ensures err { OnErr result (self.new.references.items ≡ self.old.references.items) }
+        ensures memory { OnlyMemory result }
+    {
+        let Some(place) = place_of(rect, &self.references) else {
+            return Ok(false);
+        };
+        let _replaced = self.references.splice(place..place + 1, given)?;
+        Ok(true)
+    }
+}
+
+/// The first place of a rectangle.
+fn place_of<C>(rect: &Rect, references: &[Reference<C>]) -> Option<usize>
+    ensures { MatchOption result (All (λ r. r.rect ≢ rect.now) references.now) (IsFirstPlace rect.now references.now) }
+{
+    for (place, reference) in references.iter().enumerate() {
+        if is_same(&reference.rect, rect) {
+            return Some(place);
+        }
+    }
+    None
+}
+
+fn is_same(one: &Rect, other: &Rect) -> bool
+    ensures { IsTrue result ↔ (one.now ≡ other.now) }
+{
+    one.keys() == other.keys() && one.time() == other.time()
+}

@@ -1,0 +1,18 @@
+use Rattle.std.proofs.Common.{◌≡◌, Some, true, sym, ◌∙◌}
+use Rattle.keyrange.specs.Cuts.{halves_by_time, is_time_inside, pair_of, made}
+use Rattle.keyrange.proofs.Halves.{times_made, parted_time}
+use Rattle.keyrange.proofs.rect.Rect.cut_time.Goals as goal
+
+halves_is : goal.returns-clause-halves
+halves_is c =
+    let past : c.in_ok-past.past ≡ c.args.self.now.keys = c.in_ok-past.ensures.ok ∙ c.keys.ensures.keys in
+    let keys : c.in_ok-copy.field-0 ≡ c.args.self.now.keys = c.in_ok-copy.ensures.ok ∙ c.keys-2.ensures.keys in
+    c.time_halves.ensures
+    ∙ (λ i. pair_of (made (past i) (record { from = (c.time.ensures i).from; to = Some c.args.instant })) (made (keys i) (record { from = c.args.instant; to = (c.time.ensures i).to })))
+    ∙ times_made c.args.self.now c.args.instant c.keys.ensures.area (sym c.is_time_inside.ensures ∙ c.if-not-is_time_inside.false)
+
+pub returns-clause-halves : goal.returns-clause-halves
+returns-clause-halves c = halves_is c
+
+pub returns-clause-parts : goal.returns-clause-parts
+returns-clause-parts c = parted_time c.args.self.now c.args.instant c.time_halves.result (halves_is c)

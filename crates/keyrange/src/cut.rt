@@ -1,0 +1,102 @@
+ghost use Rattle.std.specs.Prelude.{◌≡◌, Some, IfOk, IfSome};
+ghost use Rattle.values.specs.Memory.{OnlyMemory};
+ghost use Rattle.keyrange.specs.Cuts.{pair_of, made, is_key_inside, is_time_inside};
+
+use crate::range::{KeyRange, TimeRange, is_before_end, is_below, is_early};
+use crate::rect::Rect;
+use values::{Instant, KeyBytes, LAST, Mem};
+
+impl Rect {
+    ghost use Rattle.keyrange.specs.Cuts.{halves_by_key, halves_by_time, PartsKeys, PartsTime};
+
+    /// The half below a key and the half from it on; None where the key is not strictly inside.
+    pub fn cut_key(&self, key: &KeyBytes) -> Mem<Option<(Rect, Rect)>>
+        ensures halves { IfOk result (λ h. h ≡ halves_by_key self.now key.now) }
+        ensures parts { IfOk result (λ h. IfSome h (λ p. PartsKeys self.now p.0 p.1 key.now)) }
+        ensures err { OnlyMemory result }
+    {
+        if !is_key_inside(self, key) {
+            return Ok(None);
+        }
+        let whole = self.keys().copy()?;
+        Ok(key_halves(whole, key.copy()?, key.copy()?, self.time()))
+    }
+
+    /// The half before an instant and the half from it on; None where the instant is not strictly inside, or above the last.
+    pub fn cut_time(&self, instant: Instant) -> Mem<Option<(Rect, Rect)>>
+        ensures halves { IfOk result (λ h. h ≡ halves_by_time self.now instant) }
+        ensures parts { IfOk result (λ h. IfSome h (λ p. PartsTime self.now p.0 p.1 instant)) }
+        ensures err { OnlyMemory result }
+    {
+        if !is_time_inside(self, instant) {
+            return Ok(None);
+        }
+        let past = self.keys().copy()?;
+        Ok(time_halves(past, self.keys().copy()?, self.time(), instant))
+    }
+}
+
+/// The rectangles of the keys below a cut and of those from it on.
+fn key_halves(
+    whole: KeyRange,
+    end: KeyBytes,
+    start: KeyBytes,
+    time: TimeRange,
+) -> Option<(Rect, Rect)>
+    ensures { result ≡ pair_of (made (record { lo = whole.lo; hi = Some end }) time) (made (record { lo = start; hi = whole.hi }) time) }
+{
+    let below = KeyRange {
+        lo: whole.lo,
+        hi: Some(end),
+    };
+    let above = KeyRange {
+        lo: start,
+        hi: whole.hi,
+    };
+    both(Rect::new(below, time), Rect::new(above, time))
+}
+
+/// The rectangles of the instants before a cut and of those from it on, each with its keys.
+fn time_halves(
+    past_keys: KeyRange,
+    keys: KeyRange,
+    time: TimeRange,
+    cut: Instant,
+) -> Option<(Rect, Rect)>
+    ensures { result ≡ pair_of (made past_keys (record { from = time.from; to = Some cut })) (made keys (record { from = cut; to = time.to })) }
+{
+    let past = TimeRange {
+        from: time.from,
+        to: Some(cut),
+    };
+    let now = TimeRange {
+        from: cut,
+        to: time.to,
+    };
+    both(Rect::new(past_keys, past), Rect::new(keys, now))
+}
+
+/// Whether a key is strictly inside.
+fn is_key_inside(rect: &Rect, key: &KeyBytes) -> bool
+    ensures { result ≡ is_key_inside rect.now key.now }
+{
+    is_below(&rect.keys().lo, key) && is_before_end(key, &rect.keys().hi)
+}
+
+/// Whether an instant is strictly inside, and not above the last.
+fn is_time_inside(rect: &Rect, instant: Instant) -> bool
+    ensures { result ≡ is_time_inside rect.now instant }
+{
+    let time = rect.time();
+    time.from < instant && is_early(instant, time.to) && instant <= LAST
+}
+
+/// Both halves, where both are rectangles.
+fn both(first: Option<Rect>, second: Option<Rect>) -> Option<(Rect, Rect)>
+    ensures { result ≡ pair_of first second }
+{
+    match (first, second) {
+        (Some(first), Some(second)) => Some((first, second)),
+        _ => None,
+    }
+}

@@ -1,0 +1,87 @@
+ghost use Rattle.std.specs.Prelude.{◌≡◌, ◌↔◌, IsTrue, IfOk, Some, None, if◌then◌else◌};
+ghost use Rattle.values.specs.Memory.{OnlyMemory};
+ghost use Rattle.keyrange.specs.Points.{is_area, has_point, Common};
+
+use crate::range::{KeyRange, TimeRange, is_before_end, is_early};
+use values::{Instant, KeyBytes, LAST, Mem};
+use std::marker::Model;
+
+/// A range of keys and one of instants, neither of them empty, with instants from 1 to the last.
+#[derive(Debug, Drop)]
+pub struct Rect {
+    keys: KeyRange,
+    time: TimeRange,
+}
+
+impl Model for Rect {
+    ghost use Rattle.std.specs.Prelude.{IsTrue};
+    ghost use Rattle.keyrange.specs.Points.{Area, is_area};
+
+    ghost Value = { Area };
+
+    ghost view = { λ r. record { keys = r.keys; time = r.time } };
+
+    ghost invariant = { λ r. IsTrue (is_area r.keys r.time) };
+}
+
+impl Rect {
+    /// None where a range is empty, or an instant is none from 1 to the last.
+    pub fn new(keys: KeyRange, time: TimeRange) -> Option<Rect>
+        ensures { result ≡ (if is_area keys time then Some (record { keys = keys; time = time }) else None) }
+    {
+        if is_area(&keys, time) {
+            Some(Rect { keys, time })
+        } else {
+            None
+        }
+    }
+
+    pub fn keys(&self) -> &KeyRange
+        ensures keys { result.now ≡ self.now.keys }
+        ensures area { IsTrue (is_area self.now.keys self.now.time) }
+    {
+        &self.keys
+    }
+
+    pub fn time(&self) -> TimeRange
+        ensures { result ≡ self.now.time }
+    {
+        self.time
+    }
+
+    /// Whether the point of a key and an instant lies in the rectangle.
+    pub fn contains(&self, key: &KeyBytes, instant: Instant) -> bool
+        ensures { result ≡ has_point self.now key.now instant }
+    {
+        self.keys.contains(key) && self.time.contains(instant)
+    }
+
+    /// Whether the two have a point in common.
+    pub fn meets(&self, other: &Rect) -> bool
+        ensures common { IsTrue result → Common self.now other.now }
+        ensures apart { Common self.now other.now → IsTrue result }
+    {
+        self.keys.meets(&other.keys) && self.time.meets(&other.time)
+    }
+
+    /// An equal rectangle.
+    pub fn copy(&self) -> Mem<Rect>
+        ensures ok { IfOk result (λ r. r ≡ self.now) }
+        ensures err { OnlyMemory result }
+    {
+        Ok(Rect {
+            keys: self.keys.copy()?,
+            time: self.time,
+        })
+    }
+}
+
+fn is_area(keys: &KeyRange, time: TimeRange) -> bool
+    ensures { result ≡ is_area keys.now time }
+{
+    is_before_end(&keys.lo, &keys.hi)
+        && 1 <= time.from
+        && time.from <= LAST
+        && is_early(time.from, time.to)
+        && time.to.is_none_or(|to| to <= LAST)
+}

@@ -1,6 +1,0 @@
-use Rattle.std.proofs.Common.{◌≡◌, drop}
-use Rattle.rows.specs.Writes.{set_all}
-use Rattle.plain.proofs.updates.set_all.Given as goal
-
-abbrev pub invariant-loop-set : goal.invariant-loop-set
-invariant-loop-set l = set_all (drop l.set-index l.sets) l.values.items ≡ set_all l.sets l.row

@@ -1,6 +1,0 @@
-use Rattle.std.proofs.Common.{◌≡◌, ◌-◌, length}
-use Rattle.rows.specs.SchemaSyntax.{joined, marks_upto}
-use Rattle.rows.proofs.declarations.marks_at.Given as goal
-
-abbrev pub invariant-loop : goal.invariant-loop
-invariant-loop l = joined l.marks.items (marks_upto (l.end - l.counter) l.rest) ≡ marks_upto (length l.bytes) l.bytes

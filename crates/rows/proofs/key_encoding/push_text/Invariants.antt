@@ -1,6 +1,0 @@
-use Rattle.std.proofs.Common.{◌≡◌, ◌++◌, drop}
-use Rattle.rows.specs.KeyEncoding.{text_bytes}
-use Rattle.rows.proofs.key_encoding.push_text.Given as goal
-
-abbrev pub invariant-loop-byte : goal.invariant-loop-byte
-invariant-loop-byte l = l.bytes.items ++ text_bytes (drop l.byte-index l.text) ≡ l.initial.bytes.items ++ text_bytes l.text

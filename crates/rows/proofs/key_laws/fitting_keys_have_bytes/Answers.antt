@@ -1,5 +1,0 @@
-use Rattle.rows.proofs.KeyLengths.{fitting_keys_are_short}
-use Rattle.rows.proofs.key_laws.fitting_keys_have_bytes.Goals as goal
-
-pub returns : goal.returns
-returns c = fitting_keys_are_short

@@ -1,6 +1,0 @@
-use Rattle.std.proofs.Common.{◌≡◌, ◌-◌}
-use Rattle.rows.specs.RowReading.{after, values_from}
-use Rattle.rows.proofs.row_encoding.values_from.Given as goal
-
-abbrev pub invariant-loop : goal.invariant-loop
-invariant-loop l = after l.values.items (values_from (l.n - l.counter) l.rest) ≡ values_from l.n l.bytes

@@ -1,0 +1,7 @@
+use Rattle.std.proofs.Common.{◌≡◌, ◌++◌, drop}
+use Rattle.std.specs.List.{filter_map}
+use Rattle.rows.specs.SchemaTable.{user_column}
+use Rattle.rows.proofs.schema_table.columns_of.Given as goal
+
+abbrev pub invariant-loop-entry : goal.invariant-loop-entry
+invariant-loop-entry l = l.columns.items ++ filter_map user_column (drop l.entry-index l.entries) ≡ filter_map user_column l.entries

@@ -1,9 +1,0 @@
-use Rattle.std.proofs.Common.{◌≡◌, ◌+◌, drop}
-use Rattle.std.specs.List.{position_from}
-use Rattle.rows.specs.declared.tables.Column.{Column}
-use Rattle.rows.specs.Names.{same_name}
-use Rattle.rows.proofs.schema_tables.column_in.Given as goal
-
-abbrev pub invariant-loop-i : goal.invariant-loop-i
-invariant-loop-i l =
-    position_from (λ (c : Column). same_name c.name l.name) (l.i + 1) (drop l.i l.columns) ≡ position_from (λ (c : Column). same_name c.name l.name) 1 l.columns

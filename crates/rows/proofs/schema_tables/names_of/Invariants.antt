@@ -1,7 +1,0 @@
-use Rattle.std.proofs.Common.{◌≡◌, ◌++◌, drop}
-use Rattle.std.specs.List.{filter_map}
-use Rattle.rows.specs.SchemaTables.{column_name}
-use Rattle.rows.proofs.schema_tables.names_of.Given as goal
-
-abbrev pub invariant-loop-entry : goal.invariant-loop-entry
-invariant-loop-entry l = l.names.items ++ filter_map column_name (drop l.entry-index l.entries) ≡ filter_map column_name l.entries

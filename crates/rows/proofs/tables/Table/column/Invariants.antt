@@ -1,7 +1,0 @@
-use Rattle.std.proofs.Common.{◌≡◌, ◌+◌, drop}
-use Rattle.std.specs.List.{position_from}
-use Rattle.rows.specs.Names.{same_name}
-use Rattle.rows.proofs.tables.Table.column.Given as goal
-
-abbrev pub invariant-loop-i : goal.invariant-loop-i
-invariant-loop-i l = position_from (λ c. same_name c.name l.name) (l.i + 1) (drop l.i l.self.columns) ≡ position_from (λ c. same_name c.name l.name) 1 l.self.columns

@@ -1,6 +1,0 @@
-use Rattle.std.proofs.Common.{◌≡◌, ◌+◌, drop}
-use Rattle.rows.specs.Fits.{first_fault}
-use Rattle.rows.proofs.tables.Table.first_fault.Given as goal
-
-abbrev pub invariant-loop-i : goal.invariant-loop-i
-invariant-loop-i l = first_fault l.self (l.i + 1) (drop l.i l.columns) (drop l.i l.values) ≡ first_fault l.self 1 l.columns l.values

@@ -1,6 +1,0 @@
-use Rattle.std.proofs.Common.{◌≡◌, drop}
-use Rattle.rows.specs.Fits.{parts_fault}
-use Rattle.rows.proofs.tables.Table.parts_fault.Given as goal
-
-abbrev pub invariant-loop-i : goal.invariant-loop-i
-invariant-loop-i l = parts_fault l.self (drop l.i l.columns) (drop l.i l.parts) ≡ parts_fault l.self l.columns l.parts

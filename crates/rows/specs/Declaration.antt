@@ -1,0 +1,223 @@
+-- Reading the statements of a schema from the left.
+use Rattle.std.specs.Prelude.{ℕ, List, [], ◌∷◌, ◌++◌, ◌||◌, Bool, true, false, Ok, Err, Option, Some, None, not, if◌then◌else◌, length, codes, zero, suc}
+use Rattle.values.specs.declared.table.ColumnType.{ColumnType}
+use Rattle.values.specs.declared.table.ColumnType.TheVariants.{Int, Text, Varchar, Boolean}
+use Rattle.rows.specs.declared.declaration.Mark.{Mark}
+use Rattle.rows.specs.declared.declaration.Mark.TheVariants.{NotNull, PrimaryKey}
+use Rattle.rows.specs.declared.declaration.Side.{Side}
+use Rattle.rows.specs.declared.declaration.Side.TheVariants.{Start, End}
+use Rattle.rows.specs.declared.declaration.Entry.{Entry}
+use Rattle.rows.specs.declared.declaration.Entry.TheVariants.{User, Generated, Period, Key}
+use Rattle.rows.specs.declared.declaration.Declaration.{Declaration}
+use Rattle.rows.specs.SchemaToken.{Read, ◌>>=◌, next, after_symbol, symbol_at, is_word_at, after_word, word_at, name_at, digits_at}
+
+-- what was read comes after these
+abbrev pub joined : {A : Type 0} → List A → Read (List A) → Read (List A)
+joined xs (Ok (ys, rest)) = Ok (xs ++ ys, rest)
+joined xs (Err at) = Err at
+
+-- items with commas between them, at most n
+abbrev pub listed : {A : Type 0} → (List ℕ → Read A) → ℕ → List ℕ → Read (List A)
+listed item zero bytes = Err bytes
+listed item (suc n) bytes = do
+  x ← item bytes
+  elim (after_symbol 44 x.1) [ None ↦ Ok (x.0 ∷ [], x.1) | Some more ↦ joined (x.0 ∷ []) (listed item n more) ]
+
+-- each takes a byte or more
+unfoldable pub names_at : List ℕ → Read (List (List ℕ))
+names_at bytes = listed name_at (length bytes) bytes
+
+-- "(" digits ")"
+unfoldable pub size_at : List ℕ → Read ℕ
+size_at bytes = do
+  opened ← symbol_at 40 bytes
+  n ← digits_at opened.1
+  closed ← symbol_at 41 n.1
+  Ok (n.0, closed.1)
+
+unfoldable pub is_whole_number_at : List ℕ → Bool
+is_whole_number_at bytes = is_word_at (codes "INT") bytes || is_word_at (codes "INTEGER") bytes || is_word_at (codes "BIGINT") bytes
+
+-- VARCHAR "(" digits ")"
+unfoldable pub varchar_at : List ℕ → Read ColumnType
+varchar_at bytes = do
+  word ← word_at (codes "VARCHAR") bytes
+  n ← size_at word.1
+  Ok (Varchar n.0, n.1)
+
+unfoldable pub type_at : List ℕ → Read ColumnType
+type_at bytes =
+    if is_whole_number_at bytes then Ok (Int, after_word bytes)
+    else if is_word_at (codes "TEXT") bytes then Ok (Text, after_word bytes)
+    else if is_word_at (codes "BOOLEAN") bytes then Ok (Boolean, after_word bytes)
+    else varchar_at bytes
+
+-- NOT NULL
+unfoldable pub not_null_at : List ℕ → Read (Unit {0})
+not_null_at bytes = do
+  negation ← word_at (codes "NOT") bytes
+  word_at (codes "NULL") negation.1
+
+-- PRIMARY KEY
+unfoldable pub primary_key_at : List ℕ → Read (Unit {0})
+primary_key_at bytes = do
+  primary ← word_at (codes "PRIMARY") bytes
+  word_at (codes "KEY") primary.1
+
+unfoldable pub mark_at : List ℕ → Read Mark
+mark_at bytes =
+    if is_word_at (codes "NOT") bytes
+    then (not_null_at bytes >>= (λ x. Ok (NotNull, x.1)))
+    else (primary_key_at bytes >>= (λ x. Ok (PrimaryKey, x.1)))
+
+unfoldable pub is_mark_at : List ℕ → Bool
+is_mark_at bytes = is_word_at (codes "NOT") bytes || is_word_at (codes "PRIMARY") bytes
+
+-- as many as come, at most n
+abbrev pub marks_upto : ℕ → List ℕ → Read (List Mark)
+marks_upto zero bytes = Ok ([], bytes)
+marks_upto (suc n) bytes =
+    if is_mark_at bytes
+    then (mark_at bytes >>= (λ x. joined (x.0 ∷ []) (marks_upto n x.1)))
+    else Ok ([], bytes)
+
+unfoldable pub marks_at : List ℕ → Read (List Mark)
+marks_at bytes = marks_upto (length bytes) bytes
+
+-- type {NOT NULL | PRIMARY KEY}
+unfoldable pub user_at : List ℕ → List ℕ → Read Entry
+user_at name bytes = do
+  type ← type_at bytes
+  marks ← marks_at type.1
+  Ok (User (record { name = name; of = type.0; marks = marks.0 }), marks.1)
+
+-- ["(" digits ")"]
+unfoldable pub precision_at : List ℕ → Read (Option ℕ)
+precision_at bytes = elim (after_symbol 40 bytes) [
+  | None ↦ Ok (None, bytes)
+  | Some rest ↦ (size_at bytes >>= (λ n. Ok (Some n.0, n.1)))
+]
+
+-- [NOT NULL]
+unfoldable pub maybe_not_null_at : List ℕ → Read Bool
+maybe_not_null_at bytes =
+    if is_word_at (codes "NOT") bytes
+    then (not_null_at bytes >>= (λ x. Ok (true, x.1)))
+    else Ok (false, bytes)
+
+-- START | END
+unfoldable pub side_at : List ℕ → Read Side
+side_at bytes =
+    if is_word_at (codes "START") bytes then Ok (Start, after_word bytes)
+    else (word_at (codes "END") bytes >>= (λ x. Ok (End, x.1)))
+
+-- GENERATED ALWAYS AS ROW (START | END)
+unfoldable pub row_side_at : List ℕ → Read Side
+row_side_at bytes = do
+  generated ← word_at (codes "GENERATED") bytes
+  always ← word_at (codes "ALWAYS") generated.1
+  «as» ← word_at (codes "AS") always.1
+  row ← word_at (codes "ROW") «as».1
+  side_at row.1
+
+-- TIMESTAMP ["(" digits ")"] [NOT NULL] GENERATED ALWAYS AS ROW (START | END) [NOT NULL]
+unfoldable pub generated_at : List ℕ → List ℕ → Read Entry
+generated_at name bytes = do
+  timestamp ← word_at (codes "TIMESTAMP") bytes
+  digits ← precision_at timestamp.1
+  before ← maybe_not_null_at digits.1
+  side ← row_side_at before.1
+  after ← maybe_not_null_at side.1
+  Ok (Generated (record { name = name; digits = digits.0; side = side.0; not_null_before = before.0; not_null_after = after.0 }), after.1)
+
+-- "(" name "," name ")"
+unfoldable pub two_names_at : List ℕ → Read Entry
+two_names_at bytes = do
+  opened ← symbol_at 40 bytes
+  start ← name_at opened.1
+  comma ← symbol_at 44 start.1
+  end ← name_at comma.1
+  closed ← symbol_at 41 end.1
+  Ok (Period (record { start = start.0; end = end.0 }), closed.1)
+
+-- PERIOD FOR SYSTEM_TIME "(" name "," name ")"
+unfoldable pub period_at : List ℕ → Read Entry
+period_at bytes = do
+  period ← word_at (codes "PERIOD") bytes
+  for ← word_at (codes "FOR") period.1
+  system_time ← word_at (codes "SYSTEM_TIME") for.1
+  two_names_at system_time.1
+
+-- PRIMARY KEY "(" name {"," name} ")"
+unfoldable pub key_at : List ℕ → Read Entry
+key_at bytes = do
+  primary_key ← primary_key_at bytes
+  opened ← symbol_at 40 primary_key.1
+  names ← names_at opened.1
+  closed ← symbol_at 41 names.1
+  Ok (Key names.0, closed.1)
+
+-- an entry that begins with a column's name
+unfoldable pub column_at : List ℕ → Read Entry
+column_at bytes = do
+  name ← name_at bytes
+  if is_word_at (codes "TIMESTAMP") name.1 then generated_at name.0 name.1 else user_at name.0 name.1
+
+unfoldable pub entry_at : List ℕ → Read Entry
+entry_at bytes =
+    if is_word_at (codes "PERIOD") bytes then period_at bytes
+    else if is_word_at (codes "PRIMARY") bytes then key_at bytes
+    else column_at bytes
+
+unfoldable pub entries_at : List ℕ → Read (List Entry)
+entries_at bytes = listed entry_at (length bytes) bytes
+
+-- "(" entry {"," entry} ")"
+unfoldable pub body_at : List ℕ → Read (List Entry)
+body_at bytes = do
+  opened ← symbol_at 40 bytes
+  entries ← entries_at opened.1
+  closed ← symbol_at 41 entries.1
+  Ok (entries.0, closed.1)
+
+-- WITH SYSTEM VERSIONING
+unfoldable pub versioning_at : List ℕ → Read (Unit {0})
+versioning_at bytes = do
+  with ← word_at (codes "WITH") bytes
+  system ← word_at (codes "SYSTEM") with.1
+  word_at (codes "VERSIONING") system.1
+
+-- CREATE TABLE name "(" entry {"," entry} ")" WITH SYSTEM VERSIONING
+unfoldable pub create_at : List ℕ → Read Declaration
+create_at bytes = do
+  create ← word_at (codes "CREATE") bytes
+  table ← word_at (codes "TABLE") create.1
+  name ← name_at table.1
+  entries ← body_at name.1
+  versioning ← versioning_at entries.1
+  Ok (record { name = name.0; entries = entries.0 }, versioning.1)
+
+-- nothing comes next
+abbrev pub is_nothing : List ℕ → Bool
+is_nothing [] = true
+is_nothing (b ∷ bs) = false
+
+unfoldable pub is_end_at : List ℕ → Bool
+is_end_at bytes = is_nothing (next bytes)
+
+-- [";"] at the end, or ";" and what comes after it
+unfoldable pub more_at : List ℕ → Read Bool
+more_at bytes =
+    if is_end_at bytes then Ok (false, bytes)
+    else (symbol_at 59 bytes >>= (λ x. Ok (not (is_end_at x.1), x.1)))
+
+-- statements with semicolons between them, at most n
+abbrev pub creates_upto : ℕ → List ℕ → Read (List Declaration)
+creates_upto zero bytes = Err bytes
+creates_upto (suc n) bytes = do
+  create ← create_at bytes
+  more ← more_at create.1
+  if more.0 then joined (create.0 ∷ []) (creates_upto n more.1) else Ok (create.0 ∷ [], more.1)
+
+unfoldable pub creates_at : List ℕ → Read (List Declaration)
+creates_at bytes = creates_upto (length bytes) bytes

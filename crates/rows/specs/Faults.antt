@@ -1,8 +1,0 @@
--- The refusal that names the column at fault.
-use Rattle.std.specs.Prelude.{ℕ, Option, Some, None, Result, Ok, Err}
-use Rattle.rows.specs.declared.refusals.Refusal.{Refusal}
-use Rattle.rows.specs.declared.refusals.Refusal.TheVariants.{BadRow}
-
-abbrev pub no_fault : Option ℕ → Result (Unit {0}) Refusal
-no_fault None = Ok tt
-no_fault (Some column) = Err (BadRow column)

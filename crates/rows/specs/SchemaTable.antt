@@ -1,0 +1,147 @@
+-- The tables that declarations make, and which declarations make none.
+use Rattle.std.specs.Prelude.{◌≡◌, ℕ, ◌+◌, ◌-◌, List, [], ◌∷◌, ◌++◌, ◌==◌, ◌&&◌, Bool, true, false, not, nat_le, nat_lt, Option, Some, None, Result, Ok, Err, if◌then◌else◌, length, map, filter, count_by, option_and_then}
+use Rattle.std.specs.List.{list_any, list_all, filter_map, flat_map, position_from}
+use Rattle.std.specs.Option.{unwrap_or}
+use Rattle.values.specs.declared.table.ColumnType.{ColumnType}
+use Rattle.values.specs.declared.table.ColumnType.TheVariants.{Varchar}
+use Rattle.values.specs.declared.table.Column.{Column}
+use Rattle.values.specs.declared.table.Table.{Table}
+use Rattle.values.specs.Tables.{Schema}
+use Rattle.rows.specs.declared.declaration.Mark.{Mark}
+use Rattle.rows.specs.declared.declaration.Mark.TheVariants.{NotNull, PrimaryKey}
+use Rattle.rows.specs.declared.declaration.Side.{Side}
+use Rattle.rows.specs.declared.declaration.Side.TheVariants.{Start, End}
+use Rattle.rows.specs.declared.declaration.PeriodNames.{PeriodNames}
+use Rattle.rows.specs.declared.declaration.Entry.{Entry}
+use Rattle.rows.specs.declared.declaration.Entry.TheVariants.{User, Generated, Period, Key}
+use Rattle.rows.specs.declared.declaration.Declaration.{Declaration}
+use Rattle.rows.specs.declared.schema_reading.SchemaFault.{SchemaFault}
+use Rattle.rows.specs.declared.schema_reading.SchemaFault.TheVariants.{Syntax, BadTable, Memory}
+use Rattle.values.specs.Names.{same_name}
+use Rattle.rows.specs.Declaration.{creates_at}
+
+abbrev pub is_not_null : Mark → Bool
+is_not_null NotNull = true
+is_not_null PrimaryKey = false
+
+abbrev pub is_primary_key : Mark → Bool
+is_primary_key NotNull = false
+is_primary_key PrimaryKey = true
+
+abbrev pub same_side : Side → Side → Bool
+same_side Start Start = true
+same_side End End = true
+same_side _ _ = false
+
+abbrev pub user_column : Entry → Option Column
+user_column (User c) = Some (record { name = c.name; of = c.of; not_null = list_any is_not_null c.marks })
+user_column _ = None
+
+-- the name of a user or generated column
+abbrev pub column_name : Entry → Option (List ℕ)
+column_name (User c) = Some c.name
+column_name (Generated g) = Some g.name
+column_name _ = None
+
+-- the name of the ROW START or the ROW END column
+abbrev pub side_name : Side → Entry → Option (List ℕ)
+side_name side (Generated g) = if same_side g.side side then Some g.name else None
+side_name side _ = None
+
+abbrev pub period_names : Entry → Option PeriodNames
+period_names (Period p) = Some p
+period_names _ = None
+
+-- the keys that an entry gives: a clause gives one, and so does each mark of a column
+abbrev pub keys_in : Entry → List (List (List ℕ))
+keys_in (Key names) = names ∷ []
+keys_in (User c) = map (λ mark. c.name ∷ []) (filter is_primary_key c.marks)
+keys_in _ = []
+
+-- VARCHAR has 1 to 1,000 characters
+abbrev pub is_good_type : ColumnType → Bool
+is_good_type (Varchar n) = nat_le 1 n && nat_le n 1000
+is_good_type _ = true
+
+-- TIMESTAMP has at most 12 digits
+abbrev pub is_good_precision : Option ℕ → Bool
+is_good_precision None = true
+is_good_precision (Some n) = nat_le n 12
+
+-- NOT NULL stands once at most
+abbrev pub is_good_entry : Entry → Bool
+is_good_entry (User c) = is_good_type c.of && nat_le (count_by is_not_null c.marks) 1
+is_good_entry (Generated g) = is_good_precision g.digits && not (g.not_null_before && g.not_null_after)
+is_good_entry _ = true
+
+-- no name stands twice
+abbrev pub are_distinct : List (List ℕ) → Bool
+are_distinct [] = true
+are_distinct (name ∷ names) = not (list_any (same_name name) names) && are_distinct names
+
+-- the one element
+abbrev pub only : {A : Type 0} → List A → Option A
+only (x ∷ []) = Some x
+only _ = None
+
+-- a user column's number, from 1, or 0 where none has the name
+abbrev pub number_in : List Column → List ℕ → ℕ
+number_in columns name = unwrap_or (position_from (λ c. same_name c.name name) 1 columns) 0
+
+-- one to four different user columns
+abbrev pub is_good_key : List (List ℕ) → List ℕ → Bool
+is_good_key names numbers = nat_le (length names) 4 && are_distinct names && not (list_any (λ n. n == 0) numbers)
+
+-- the period names the ROW START and the ROW END column
+abbrev pub is_good_period : List ℕ → List ℕ → PeriodNames → Bool
+is_good_period start end period = same_name start period.start && same_name end period.end
+
+-- 1 to 16 user columns
+abbrev pub is_good_width : List Column → Bool
+is_good_width columns = nat_le 1 (length columns) && nat_le (length columns) 16
+
+abbrev pub are_good_entries : List Entry → Bool
+are_good_entries entries = list_all is_good_entry entries && are_distinct (filter_map column_name entries)
+
+infixl 10 ◌>>=◌
+abbrev ◌>>=◌ : {A B : Type 0} → Option A → (A → Option B) → Option B
+o >>= f = option_and_then f o
+
+-- the table with a number, where the declaration makes one
+unfoldable pub table_of : ℕ → Declaration → Option Table
+table_of number d = do
+  start ← only (filter_map (side_name Start) d.entries)
+  end ← only (filter_map (side_name End) d.entries)
+  period ← only (filter_map period_names d.entries)
+  names ← only (flat_map keys_in d.entries)
+  let columns = filter_map user_column d.entries
+  let key = map (number_in columns) names
+  if is_good_period start end period && is_good_key names key && is_good_width columns && are_good_entries d.entries
+      then Some (record { number = number; name = d.name; columns = columns; key = key; row_start = start; row_end = end })
+      else None
+
+-- the table after these: there are at most 16, and no two of one name
+unfoldable pub next_table : List Table → Declaration → Option Table
+next_table tables d =
+    if nat_lt (length tables) 16 && not (list_any (λ t. same_name t.name d.name) tables) then table_of (length tables + 1) d else None
+
+-- these tables and those of the declarations, or the number of the first declaration that makes none
+abbrev pub tables_from : List Table → List Declaration → Result Schema SchemaFault
+tables_from tables [] = Ok (record { tables = tables })
+tables_from tables (d ∷ ds) = elim (next_table tables d) [ None ↦ Err (BadTable (length tables + 1)) | Some t ↦ tables_from (tables ++ t ∷ []) ds ]
+
+-- the schema of a text, or where its first fault is: syntax is looked for in the whole text before any table is
+unfoldable pub read_schema : List ℕ → Result Schema SchemaFault
+read_schema text =
+    if nat_lt 65536 (length text) then Err (Syntax 65536)
+    else elim (creates_at text) [
+      | Err at ↦ Err (Syntax (length text - length at))
+      | Ok declarations ↦ tables_from [] declarations.0
+    ]
+
+-- What a function returned is this, unless memory ran out.
+abbrev pub IsOrMemory : Result Schema SchemaFault → Result Schema SchemaFault → Type 0
+IsOrMemory (Err Memory) r = Unit {0}
+IsOrMemory (Ok schema) r = Ok schema ≡ r
+IsOrMemory (Err (Syntax at)) r = Err (Syntax at) ≡ r
+IsOrMemory (Err (BadTable n)) r = Err (BadTable n) ≡ r

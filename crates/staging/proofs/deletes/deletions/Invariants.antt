@@ -1,6 +1,0 @@
-use Rattle.std.proofs.Common.{◌≡◌, ◌++◌}
-use Rattle.staging.specs.Writing.{deletions}
-use Rattle.staging.proofs.deletes.deletions.Given as goal
-
-abbrev pub invariant-loop-key : goal.invariant-loop-key
-invariant-loop-key l = l.changes.items ++ deletions l.key-iterator ≡ deletions l.rows.entries

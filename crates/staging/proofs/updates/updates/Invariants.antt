@@ -1,6 +1,0 @@
-use Rattle.std.proofs.Common.{◌≡◌, ◌++◌}
-use Rattle.staging.specs.Writing.{updates}
-use Rattle.staging.proofs.updates.updates.Given as goal
-
-abbrev pub invariant-loop-key : goal.invariant-loop-key
-invariant-loop-key l = l.changes.items ++ updates l.sets l.key-iterator ≡ updates l.sets l.rows.entries

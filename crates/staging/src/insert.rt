@@ -1,0 +1,66 @@
+//! INSERT.
+ghost use Rattle.std.specs.Prelude.{◌≡◌, ◌≢◌, All, None, Result, Err, IfOk, OnErr, length, map};
+ghost use Rattle.values.specs.Log.{Changes};
+ghost use Rattle.values.specs.Tables.{Schema, IsTable};
+ghost use Rattle.values.specs.Fit.{rows_fault};
+ghost use Rattle.values.specs.Memory.{OnlyMemory};
+ghost use Rattle.values.specs.KeyReading.{IsKeyOf};
+ghost use Rattle.values.specs.Writes.{key_of};
+ghost use Rattle.values.specs.Events.{AreKeysIn};
+ghost use Rattle.staging.specs.Own.{Reads, own, insert_into};
+ghost use Rattle.staging.specs.Writing.{insertions};
+
+use crate::staged::Staged;
+use crate::view::View;
+use values::{Key, Mem, Refusal, Row, Table};
+use std::alloc::{AllocError, Global};
+
+impl Staged {
+    /// Inserts rows of a table, and answers their number. `BadRow` where one does not fit, `DuplicateKey` for the first whose key the transaction sees or an earlier one has,
+    /// `TooManyWrites` where it would have written over 1,000 keys. After a refusal nothing has changed.
+    pub fn insert(&mut self, view: &View, table: &Table, rows: &[Row]) -> Result<usize, Refusal>
+        requires { IsTable table.now.number table.now }
+        ensures answers { (schema : Schema) (m : Changes) → Reads schema table.now view.now self.old m → result ≢ Err Refusal.Memory → (result, own m self.new) ≡ insert_into table.now rows.now (own m self.old) }
+        ensures keys { (schema : Schema) (m : Changes) → Reads schema table.now view.now self.old m → AreKeysIn schema self.new }
+        ensures refused { OnErr result (self.new ≡ self.old) }
+    {
+        if let Err(refusal) = table.check_rows(rows) {
+            return Err(refusal);
+        }
+        let keys = keys_of(self.alloc, table, rows)?;
+        if let Some(key) = self.first_seen(view, view.last(), &keys)? {
+            return Err(Refusal::DuplicateKey(key));
+        }
+        let changes = insertions(self.alloc, &keys, rows)?;
+        self.put(changes)
+    }
+}
+
+fn keys_of(alloc: Global, table: &Table, rows: &[Row]) -> Mem<Vec<Key>>
+    requires table { IsTable table.now.number table.now }
+    requires fit { rows_fault table.now rows.now ≡ None }
+    ensures ok { IfOk result (λ keys. keys.items ≡ map (key_of table.now) rows.now) }
+    ensures own { IfOk result (λ keys. All (IsKeyOf table.now) keys.items) }
+    ensures err { OnlyMemory result }
+{
+    let mut keys = Vec::new(alloc);
+    for row in rows {
+        keys.push(table.key(alloc, row)?)?;
+    }
+    Ok(keys)
+}
+
+fn insertions(
+    alloc: Global,
+    keys: &[Key],
+    rows: &[Row],
+) -> Result<Vec<(Key, Option<Row>)>, AllocError>
+    requires { length keys.now ≡ length rows.now }
+    ensures { IfOk result (λ v. v.items ≡ insertions keys.now rows.now) }
+{
+    let mut changes = Vec::new(alloc);
+    for (i, key) in keys.iter().enumerate() {
+        changes.push((key.clone()?, Some(rows[i].clone()?)))?;
+    }
+    Ok(changes)
+}

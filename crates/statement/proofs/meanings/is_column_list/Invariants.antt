@@ -1,6 +1,0 @@
-use Rattle.std.proofs.Common.{◌≡◌, drop}
-use Rattle.statement.specs.Meanings.{is_column_list}
-use Rattle.statement.proofs.meanings.is_column_list.Given as goal
-
-abbrev pub invariant-loop-i : goal.invariant-loop-i
-invariant-loop-i l = is_column_list (drop l.i l.columns) ≡ is_column_list l.columns

@@ -1,0 +1,175 @@
+ghost use Rattle.std.specs.Prelude.{◌≡◌};
+ghost use Rattle.statement.specs.Token.{Makes, Gives};
+ghost use Rattle.statement.specs.Memory.{UnlessMemory};
+ghost use Rattle.statement.specs.Line.{without_last, before_feed, body_of, is_nothing, begins_digit, clock_at, session_at, written_at, meaning_of, body_says, line_says};
+
+use crate::literal::digits_at;
+use crate::meaning::step_of;
+use crate::statement::{Statement, instant_at, statement_at};
+use crate::steps::Line;
+use crate::token::{Made, Read, Stop, after_semicolon, end_at, next, symbol_at};
+use crate::word::word_at;
+use rows::{Instant, Refusal, Schema};
+use std::alloc::Global;
+
+/// The bytes that a line may have before its line feed.
+const LINE: usize = 8192;
+
+/// The greatest number of a session that the grammar has.
+const SESSION: u64 = (1 << 63) - 1;
+
+/// What a line of a script says.
+#[derive(Drop)]
+pub enum Line {
+    /// A blank line or a comment.
+    Nothing,
+    /// The clock's reading from now on.
+    Clock(Instant),
+    Step(Step),
+}
+
+/// A line as it is written.
+#[derive(Drop)]
+pub enum Written {
+    Clock(Instant),
+    /// A session's number, which is of the grammar even where there is no such session, and its statement.
+    Session(u64, Statement),
+}
+
+/// The bytes without the last, where that is this one.
+fn without_last(byte: u8, bytes: &[u8]) -> &[u8]
+    ensures { result.now ≡ without_last byte bytes.now }
+{
+    match bytes {
+        [front @ .., last] if *last == byte => front,
+        _ => bytes,
+    }
+}
+
+fn before_feed(line: &[u8]) -> &[u8]
+    ensures { result.now ≡ before_feed line.now }
+{
+    without_last(b'\n', line)
+}
+
+/// The bytes of a line's tokens. A carriage return is dropped where a line feed follows it, and stays in a last line without one.
+fn body_of(line: &[u8]) -> &[u8]
+    ensures { result.now ≡ body_of line.now }
+{
+    let front = before_feed(line);
+    if front.len() == line.len() {
+        line
+    } else {
+        without_last(b'\r', front)
+    }
+}
+
+/// Whether a line is, at its first token, blank or a comment.
+fn is_nothing(at: &[u8]) -> bool
+    ensures { result ≡ is_nothing at.now }
+{
+    match at {
+        [] => true,
+        [a, b, ..] => *a == b'-' && *b == b'-',
+        _ => false,
+    }
+}
+
+fn begins_digit(at: &[u8]) -> bool
+    ensures { result ≡ begins_digit at.now }
+{
+    match at {
+        [byte, ..] => byte.is_ascii_digit(),
+        [] => false,
+    }
+}
+
+#[tactic(auto, unfolding(crate::specs::Line::clock_at))]
+fn clock_at(bytes: &[u8]) -> Read<'_, Written>
+    ensures { Gives result (clock_at bytes.now) }
+{
+    let rest = word_at(b"CLOCK", bytes)?;
+    let rest = symbol_at(b':', rest)?;
+    let (instant, rest) = instant_at(rest)?;
+    let rest = end_at(rest)?;
+    Ok((Written::Clock(instant), rest))
+}
+
+#[tactic(auto, unfolding(crate::specs::Line::session_at))]
+fn session_at<'a>(alloc: Global, schema: &Schema, bytes: &'a [u8]) -> Made<'a, Written>
+    ensures { Makes result (session_at schema.now bytes.now) }
+{
+    let (session, rest) = digits_at(SESSION, bytes)?;
+    let rest = symbol_at(b':', rest)?;
+    let (statement, rest) = statement_at(alloc, schema, rest)?;
+    let rest = end_at(after_semicolon(rest))?;
+    Ok((Written::Session(session, statement), rest))
+}
+
+#[tactic(auto, unfolding(crate::specs::Line::written_at))]
+fn written_at<'a>(alloc: Global, schema: &Schema, bytes: &'a [u8]) -> Made<'a, Written>
+    ensures { Makes result (written_at schema.now bytes.now) }
+{
+    if begins_digit(next(bytes)) {
+        session_at(alloc, schema, bytes)
+    } else {
+        Ok(clock_at(bytes)?)
+    }
+}
+
+#[tactic(auto, unfolding(crate::specs::Line::meaning_of))]
+fn meaning_of(
+    alloc: Global,
+    schema: &Schema,
+    reading: Instant,
+    written: Written,
+) -> Result<Line, Refusal>
+    ensures { UnlessMemory result (meaning_of schema.now reading written) }
+{
+    match written {
+        Written::Clock(instant) => Ok(Line::Clock(instant)),
+        Written::Session(session, statement) => {
+            match step_of(alloc, schema, reading, session, statement) {
+                Ok(step) => Ok(Line::Step(step)),
+                Err(refusal) => Err(refusal),
+            }
+        }
+    }
+}
+
+#[tactic(auto, unfolding(crate::specs::Line::body_says))]
+fn body_says(
+    alloc: Global,
+    bytes: &[u8],
+    schema: &Schema,
+    reading: Instant,
+) -> Result<Line, Refusal>
+    ensures { UnlessMemory result (body_says schema.now reading bytes.now) }
+{
+    if is_nothing(next(bytes)) {
+        return Ok(Line::Nothing);
+    }
+    match written_at(alloc, schema, bytes) {
+        Ok((written, _end)) => meaning_of(alloc, schema, reading, written),
+        Err(Stop::Here(at)) => Err(Refusal::Syntax(bytes.len().saturating_sub(at.len()))),
+        Err(Stop::Memory) => Err(Refusal::Memory),
+    }
+}
+
+/// Reads a line of a script, which ends with its line feed or, as a last line may, without one. A COMMIT takes the reading of the clock.
+///
+/// Want of memory is answered where it is met, before any refusal that is not yet reached.
+#[tactic(auto, unfolding(crate::specs::Line::line_says))]
+pub fn read_line(
+    alloc: Global,
+    line: &[u8],
+    schema: &Schema,
+    reading: Instant,
+) -> Result<Line, Refusal>
+    ensures { UnlessMemory result (line_says schema.now reading line.now) }
+{
+    if before_feed(line).len() > LINE {
+        return Err(Refusal::LineTooLong);
+    }
+    body_says(alloc, body_of(line), schema, reading)
+}

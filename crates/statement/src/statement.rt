@@ -1,0 +1,163 @@
+ghost use Rattle.std.specs.Prelude.{◌≡◌};
+ghost use Rattle.statement.specs.Token.{Gives, Makes};
+ghost use Rattle.statement.specs.Statement.{instant_at, as_of_at, form_at, start_at, listed_at, insert_at, update_at, delete_at, select_at, data_at, statement_at};
+
+use crate::literal::{digits_at, rows_at};
+use crate::token::{Made, Read, symbol_at};
+use crate::condition::{columns_at, keys_at, sets_at, table_name_at};
+use crate::word::{after_word, word_at};
+use rows::{ColumnNumber, Form, Instant, Keys, LAST, Rows, Schema, Sequence, Sets};
+use std::alloc::Global;
+
+/// A column list, in its order.
+pub type Columns = Sequence<ColumnNumber>;
+
+/// A statement as it is written. The names of tables and columns are their numbers, or 0 where there is none.
+#[derive(Drop)]
+pub enum Statement {
+    Begin,
+    /// A table, the columns that its list names where one stands, and rows whose values stand in the list's order or else in the table's.
+    Insert(u8, Option<Columns>, Rows),
+    Update(Keys, Sets),
+    Delete(Keys),
+    Select(Form, Keys),
+    Commit,
+    Rollback,
+}
+
+#[tactic(auto, unfolding(crate::specs::Statement::instant_at))]
+pub fn instant_at(bytes: &[u8]) -> Read<'_, Instant>
+    ensures { Gives result (instant_at bytes.now) }
+{
+    digits_at(LAST, bytes)
+}
+
+/// Which versions a SELECT asks for.
+#[tactic(auto, unfolding(crate::specs::Statement::form_at))]
+fn form_at(bytes: &[u8]) -> Read<'_, Form>
+    ensures { Gives result (form_at bytes.now) }
+{
+    match word_at(b"FOR", bytes) {
+        Ok(rest) => as_of_at(rest),
+        Err(_) => Ok((Form::Plain, bytes)),
+    }
+}
+
+#[tactic(auto, unfolding(crate::specs::Statement::as_of_at))]
+fn as_of_at(bytes: &[u8]) -> Read<'_, Form>
+    ensures { Gives result (as_of_at bytes.now) }
+{
+    let rest = word_at(b"SYSTEM_TIME", bytes)?;
+    let rest = word_at(b"AS", rest)?;
+    let rest = word_at(b"OF", rest)?;
+    let (instant, rest) = instant_at(rest)?;
+    Ok((Form::AsOf(instant), rest))
+}
+
+/// A column list, where one stands.
+#[tactic(auto, unfolding(crate::specs::Statement::listed_at))]
+fn listed_at<'a>(
+    alloc: Global,
+    schema: &Schema,
+    table: u8,
+    bytes: &'a [u8],
+) -> Made<'a, Option<Columns>>
+    ensures { Makes result (listed_at schema.now table bytes.now) }
+{
+    if symbol_at(b'(', bytes).is_err() {
+        return Ok((None, bytes));
+    }
+    let (columns, rest) = columns_at(alloc, schema, table, bytes)?;
+    Ok((Some(columns), rest))
+}
+
+#[tactic(auto, unfolding(crate::specs::Statement::insert_at))]
+fn insert_at<'a>(alloc: Global, schema: &Schema, bytes: &'a [u8]) -> Made<'a, Statement>
+    ensures { Makes result (insert_at schema.now bytes.now) }
+{
+    let rest = word_at(b"INTO", bytes)?;
+    let (table, rest) = table_name_at(schema, rest)?;
+    let (columns, rest) = listed_at(alloc, schema, table, rest)?;
+    let rest = word_at(b"VALUES", rest)?;
+    let (rows, rest) = rows_at(alloc, rest)?;
+    Ok((Statement::Insert(table, columns, rows), rest))
+}
+
+#[tactic(auto, unfolding(crate::specs::Statement::update_at))]
+fn update_at<'a>(alloc: Global, schema: &Schema, bytes: &'a [u8]) -> Made<'a, Statement>
+    ensures { Makes result (update_at schema.now bytes.now) }
+{
+    let (table, rest) = table_name_at(schema, bytes)?;
+    let rest = word_at(b"SET", rest)?;
+    let (sets, rest) = sets_at(alloc, schema, table, rest)?;
+    let (keys, rest) = keys_at(alloc, schema, table, rest)?;
+    Ok((Statement::Update(keys, sets), rest))
+}
+
+#[tactic(auto, unfolding(crate::specs::Statement::delete_at))]
+fn delete_at<'a>(alloc: Global, schema: &Schema, bytes: &'a [u8]) -> Made<'a, Statement>
+    ensures { Makes result (delete_at schema.now bytes.now) }
+{
+    let rest = word_at(b"FROM", bytes)?;
+    let (table, rest) = table_name_at(schema, rest)?;
+    let (keys, rest) = keys_at(alloc, schema, table, rest)?;
+    Ok((Statement::Delete(keys), rest))
+}
+
+#[tactic(auto, unfolding(crate::specs::Statement::select_at))]
+fn select_at<'a>(alloc: Global, schema: &Schema, bytes: &'a [u8]) -> Made<'a, Statement>
+    ensures { Makes result (select_at schema.now bytes.now) }
+{
+    let rest = symbol_at(b'*', bytes)?;
+    let rest = word_at(b"FROM", rest)?;
+    let (table, rest) = table_name_at(schema, rest)?;
+    let (form, rest) = form_at(rest)?;
+    let (keys, rest) = keys_at(alloc, schema, table, rest)?;
+    Ok((Statement::Select(form, keys), rest))
+}
+
+#[tactic(auto, unfolding(crate::specs::Statement::start_at))]
+fn start_at(bytes: &[u8]) -> Read<'_, Statement>
+    ensures { Gives result (start_at bytes.now) }
+{
+    let rest = word_at(b"TRANSACTION", bytes)?;
+    Ok((Statement::Begin, rest))
+}
+
+/// A statement on rows, by its first word.
+#[tactic(auto, unfolding(crate::specs::Statement::data_at))]
+fn data_at<'a>(alloc: Global, schema: &Schema, bytes: &'a [u8]) -> Made<'a, Statement>
+    ensures { Makes result (data_at schema.now bytes.now) }
+{
+    if let Ok(rest) = word_at(b"INSERT", bytes) {
+        return insert_at(alloc, schema, rest);
+    }
+    if let Ok(rest) = word_at(b"UPDATE", bytes) {
+        return update_at(alloc, schema, rest);
+    }
+    if let Ok(rest) = word_at(b"DELETE", bytes) {
+        return delete_at(alloc, schema, rest);
+    }
+    let rest = word_at(b"SELECT", bytes)?;
+    select_at(alloc, schema, rest)
+}
+
+/// Any statement, by its first word.
+#[tactic(auto, unfolding(crate::specs::Statement::statement_at))]
+pub fn statement_at<'a>(alloc: Global, schema: &Schema, bytes: &'a [u8]) -> Made<'a, Statement>
+    ensures { Makes result (statement_at schema.now bytes.now) }
+{
+    if let Ok(rest) = word_at(b"BEGIN", bytes) {
+        return Ok((Statement::Begin, rest));
+    }
+    if let Ok(rest) = word_at(b"START", bytes) {
+        return Ok(start_at(rest)?);
+    }
+    if let Ok(rest) = word_at(b"COMMIT", bytes) {
+        return Ok((Statement::Commit, after_word(b"WORK", rest)));
+    }
+    if let Ok(rest) = word_at(b"ROLLBACK", bytes) {
+        return Ok((Statement::Rollback, after_word(b"WORK", rest)));
+    }
+    data_at(alloc, schema, bytes)
+}

@@ -1,0 +1,32 @@
+ghost use Rattle.std.specs.Prelude.{◌≡◌};
+ghost use Rattle.statement.specs.Writer.{Puts};
+
+use itoa::{Buffer, Integer};
+use std::io::Write;
+
+/// A writer refused bytes. What it took is a front of what was to be written.
+#[derive(Clone, Copy, Debug, PartialEq, Eq)]
+pub struct WriteFault;
+
+/// Writes all of a text, or stops in its midst.
+pub fn put_all<W: Write>(writer: &mut W, text: &[u8]) -> Result<(), WriteFault>
+    ensures { Puts (W.contents writer.old) (W.contents writer.new) result text.now }
+{
+    let mut rest = text;
+    while !rest.is_empty() {
+        match writer.write(rest) {
+            Ok(0) => return Err(WriteFault),
+            Ok(n) => rest = rest.split_at(n).1,
+            Err(_error) => return Err(WriteFault),
+        }
+    }
+    Ok(())
+}
+
+/// Writes a number in decimal.
+pub fn put_number<W: Write, N: Integer>(writer: &mut W, number: N) -> Result<(), WriteFault>
+    ensures { Puts (W.contents writer.old) (W.contents writer.new) result (N.text number) }
+{
+    let mut buffer = Buffer::new();
+    put_all(writer, buffer.format(number).as_bytes())
+}

@@ -1,0 +1,35 @@
+-- Which versions a query selects, by events in order.
+use Rattle.std.specs.Prelude.{ℕ, List, [], ◌∷◌, Option, Some, None, Bool, false, ◌&&◌, if◌then◌else◌}
+use Rattle.std.specs.List.{cons_option}
+use Rattle.values.specs.Event.{Event}
+use Rattle.values.specs.declared.table.Table.{Table}
+use Rattle.values.specs.declared.query.Form.{Form}
+use Rattle.values.specs.declared.query.Keys.{Keys}
+use Rattle.values.specs.declared.query.Shown.{Shown}
+use Rattle.values.specs.Versions.{selects, matches}
+use Rattle.values.specs.KeyReading.{key_from}
+use Rattle.values.specs.Events.{is_bytes}
+
+-- the instant of the event behind, where it is of the same key
+abbrev pub next_of : Event → List Event → Option ℕ
+next_of e [] = None
+next_of e (d ∷ ds) = if is_bytes e.key d.key then Some d.at else None
+
+-- the bytes are of a key that the query takes
+abbrev pub is_taken : Table → Keys → List ℕ → Bool
+is_taken table keys bytes = elim (key_from table bytes) [ None ↦ false | Some key ↦ matches table keys key ]
+
+-- the version that an event begins, of those behind it, where the query selects it
+abbrev pub shown_of : Table → Form → Keys → Event → Option ℕ → Option Shown
+shown_of table form keys e to = elim e.row [
+  | None ↦ None
+  | Some row ↦ if selects form e.at to && is_taken table keys e.key then Some (record { row = row; from = e.at; to = to }) else None
+]
+
+abbrev pub selected_by : Table → Form → Keys → List Event → List Shown
+selected_by table form keys [] = []
+selected_by table form keys (e ∷ es) = cons_option (shown_of table form keys e (next_of e es)) (selected_by table form keys es)
+
+abbrev pub instant_of : Option Event → Option ℕ
+instant_of None = None
+instant_of (Some e) = Some e.at

@@ -1,0 +1,69 @@
+//! The versions that a query selects.
+ghost use Rattle.std.specs.Prelude.{◌≡◌, ◌++◌, [], None, IfOk, Some};
+ghost use Rattle.values.specs.Log.{Changes};
+ghost use Rattle.values.specs.Tables.{Schema, table_at};
+ghost use Rattle.values.specs.Versions.{answer};
+ghost use Rattle.values.specs.Memory.{OnlyMemory};
+ghost use Rattle.staging.specs.Committed.{Holds};
+ghost use Rattle.systime_query.specs.Selection.{next_of, selected_by};
+
+use crate::period::{is_same, shown_of};
+use crate::snapshot::selected_at;
+use values::{Event, Form, Instant, Keys, Mem, SharedEvent, Shown, Table};
+use staging::View;
+use std::alloc::Global;
+
+/// The versions of a table's rows that a query selects, with their periods, by key and then by start. The keys are of that table.
+/// An end after the view's last instant is none.
+pub fn answer(alloc: Global, view: &View, table: &Table, form: Form, keys: &Keys) -> Mem<Vec<Shown>>
+    ensures ok { IfOk result (λ v. (schema : Schema) (m : Changes) → Holds schema view.now m → table_at schema table.now.number ≡ Some table.now → keys.now.table ≡ table.now.number → v.items ≡ answer m table.now form keys.now) }
+    ensures err { OnlyMemory result }
+{
+    let events = view.of_table(table.number);
+    let last = view.last();
+    match form {
+        Form::Plain => selected_at(alloc, events, last, table, keys),
+        Form::AsOf(instant) => selected_at(alloc, events, instant, table, keys),
+        Form::FromTo(_, _) | Form::Between(_, _) => selected(alloc, events, table, form, keys),
+    }
+}
+
+/// The versions that a query selects, of events in order.
+fn selected(
+    alloc: Global,
+    events: &[SharedEvent],
+    table: &Table,
+    form: Form,
+    keys: &Keys,
+) -> Mem<Vec<Shown>>
+    ensures ok { IfOk result (λ v. v.items ≡ selected_by table.now form keys.now events.now) }
+    ensures err { OnlyMemory result }
+{
+    let mut shown = Vec::new(alloc);
+    let mut rest = events;
+    while let [event, behind @ ..] = rest {
+        rest = behind;
+        let event = event.event();
+        if let Some(version) = shown_of(alloc, event, next_of(event, behind), table, form, keys)? {
+            shown.push(version)?;
+        }
+    }
+    Ok(shown)
+}
+
+/// The instant of the first of the events, where it is of the same key.
+fn next_of(event: &Event, behind: &[SharedEvent]) -> Option<Instant>
+    ensures { result ≡ next_of event.now behind.now }
+{
+    match behind {
+        [next, ..] => {
+            let next = next.event();
+            if is_same(&event.key, &next.key) {
+                Some(next.at)
+            } else {
+                None
+            }
+        }
+        [] => None,
+    }
+}

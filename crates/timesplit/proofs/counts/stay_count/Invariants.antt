@@ -1,6 +1,0 @@
-use Rattle.std.proofs.Common.{◌≡◌, ◌≤◌, length, take, filter}
-use Rattle.timesplit.proofs.Counted.{stays}
-use Rattle.timesplit.proofs.counts.stay_count.Given as goal
-
-abbrev pub invariant-loop-place : goal.invariant-loop-place
-invariant-loop-place l = record { counted : l.count ≡ length (filter (stays l.events l.instant) (take l.place l.events)); few : l.count ≤ l.place }

@@ -1,0 +1,23 @@
+-- The faults of schemas and of runs as faults of the program.
+use Rattle.std.specs.Prelude.{Bool, true, false}
+use Rattle.interleaving.specs.declared.script.RunFault.{RunFault}
+use Rattle.interleaving.specs.declared.script.RunFault.TheVariants as run
+use Rattle.rows.specs.declared.schema_reading.SchemaFault.{SchemaFault}
+use Rattle.rows.specs.declared.schema_reading.SchemaFault.TheVariants as schema
+use Rattle.tsvd.specs.declared.fault.Fault.{Fault}
+use Rattle.tsvd.specs.declared.fault.Fault.TheVariants.{Words, SchemaSyntax, BadTable, SchemaMemory, Read, Write, Memory}
+
+-- the words are at fault
+abbrev pub is_of_words : Fault → Bool
+is_of_words (Words fault) = true
+is_of_words fault = false
+
+abbrev pub of_schema : SchemaFault → Fault
+of_schema (schema.Syntax at) = SchemaSyntax at
+of_schema (schema.BadTable number) = BadTable number
+of_schema schema.Memory = SchemaMemory
+
+abbrev pub of_run : RunFault → Fault
+of_run run.Read = Read
+of_run run.Write = Write
+of_run run.Memory = Memory

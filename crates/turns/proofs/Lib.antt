@@ -1,9 +1,0 @@
-pub mod Growth
-pub mod Nows
-pub mod Opens
-pub mod Ends
-pub mod Idle
-pub mod Shown
-pub mod Wrote
-pub mod Turned
-pub mod Ran

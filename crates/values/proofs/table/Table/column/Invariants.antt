@@ -1,0 +1,7 @@
+use Rattle.std.proofs.Common.{◌≡◌, ◌+◌, drop}
+use Rattle.std.specs.List.{position_from}
+use Rattle.values.specs.Names.{same_name}
+use Rattle.values.proofs.table.Table.column.Given as goal
+
+abbrev pub invariant-loop-i : goal.invariant-loop-i
+invariant-loop-i l = position_from (λ c. same_name c.name l.name) (l.i + 1) (drop l.i l.self.columns) ≡ position_from (λ c. same_name c.name l.name) 1 l.self.columns

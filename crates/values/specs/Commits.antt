@@ -1,0 +1,45 @@
+-- How a transaction ends: the first committer wins.
+use Rattle.std.specs.Prelude.{ℕ, List, [], ◌∷◌, ◌++◌, ◌+◌, Option, Some, None, Result, Ok, Err, nat_lt, max, ◌&&◌, if◌then◌else◌}
+use Rattle.values.specs.declared.key.Key.{Key}
+use Rattle.values.specs.declared.refusal.Refusal.{Refusal}
+use Rattle.values.specs.declared.refusal.Refusal.TheVariants.{Conflict, ClockEnd}
+use Rattle.values.specs.Order.{is_key}
+use Rattle.values.specs.Log.{Log, Net, Changes, last, changes}
+
+abbrev pub max_instant : ℕ
+max_instant = 999999999999999999
+
+abbrev pub or_else : Option ℕ → Option ℕ → Option ℕ
+or_else (Some a) b = Some a
+or_else None b = b
+
+-- the latest instant above start at which the key was changed: changes of a key are in order, so it is the last
+abbrev pub changed_since : Changes → ℕ → Key → Option ℕ
+changed_since [] start key = None
+changed_since (c ∷ cs) start key = or_else (changed_since cs start key) (if is_key key c.0.key && nat_lt start c.0.instant then Some c.0.instant else None)
+
+-- the keys of the net changes that were changed since, each with the latest instant, by key
+abbrev pub won : Changes → ℕ → Net → List (Key × ℕ)
+won m start [] = []
+won m start (change ∷ net) = elim (changed_since m start change.0) [
+  | None ↦ won m start net
+  | Some instant ↦ (change.0, instant) ∷ won m start net
+]
+
+-- how a transaction ends, by the changes that were committed and the last instant
+abbrev pub outcome : Changes → ℕ → ℕ → Net → ℕ → Result (Option ℕ) Refusal
+outcome m latest start [] reading = Ok None
+outcome m latest start (change ∷ net) reading = elim (won m start (change ∷ net)) [
+  | first ∷ others ↦ Err (Conflict first.0 first.1)
+  | [] ↦
+      let instant = max reading (latest + 1) in
+      if nat_lt max_instant instant then Err ClockEnd else Ok (Some instant)
+]
+
+-- the log once a transaction has ended so
+abbrev pub ended : Log → Net → Result (Option ℕ) Refusal → Log
+ended log net (Ok (Some instant)) = log ++ record { instant = instant; net = net } ∷ []
+ended log net _ = log
+
+abbrev pub after : Log → ℕ → Net → ℕ → Log
+after log start net reading = ended log net (outcome (changes log) (last log) start net reading)

@@ -1,0 +1,23 @@
+-- Names of tables and columns, which are compared without regard to case.
+use Rattle.std.specs.Prelude.{ℕ, ◌==◌, length, List, ◌∷◌, Bool, true, ◌&&◌, Option, find}
+use Rattle.std.specs.List.{position_from}
+use Rattle.std.specs.Option.{option_map}
+use Rattle.std.specs.Char.{eq_ignore_ascii_case}
+use Rattle.values.specs.declared.table.Table.{Table}
+use Rattle.values.specs.Tables.{Schema}
+
+-- letter by letter, as far as both go
+abbrev pub same_letters : List ℕ → List ℕ → Bool
+same_letters (a ∷ x) (b ∷ y) = eq_ignore_ascii_case a b && same_letters x y
+same_letters _ _ = true
+
+abbrev pub same_name : List ℕ → List ℕ → Bool
+same_name x y = (length x == length y) && same_letters x y
+
+-- the number of the first table with the name
+abbrev pub table_number : Schema → List ℕ → Option ℕ
+table_number schema name = option_map (λ t. t.number) (find (λ t. same_name t.name name) schema.tables)
+
+-- the number of the first column with the name, from 1
+abbrev pub column_number : Table → List ℕ → Option ℕ
+column_number table name = position_from (λ c. same_name c.name name) 1 table.columns

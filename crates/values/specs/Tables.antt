@@ -1,0 +1,48 @@
+-- Tables by their numbers, and the values of their columns by theirs: both are numbered from 1.
+use Rattle.std.specs.Prelude.{◌≡◌, ℕ, ◌+◌, ◌-◌, ◌≤◌, ◌==◌, List, [], ◌∷◌, Bool, Option, Some, None, if◌then◌else◌, length, All}
+use Rattle.std.specs.List.{slice_get, list_any}
+use Rattle.std.specs.Option.{unwrap_or}
+use Rattle.values.specs.declared.value.Value.{Value}
+use Rattle.values.specs.declared.value.Value.TheVariants.{Null}
+use Rattle.values.specs.declared.table.Column.{Column}
+use Rattle.values.specs.declared.table.Table.{Table}
+
+-- tables in order
+pub record Schema : Type 0 where
+  pub tables : List Table
+
+abbrev pub table_at : Schema → ℕ → Option Table
+table_at schema number = if number == 0 then None else slice_get schema.tables (number - 1)
+
+abbrev pub column_at : Table → ℕ → Option Column
+column_at table number = if number == 0 then None else slice_get table.columns (number - 1)
+
+-- the column is one of the key's
+abbrev pub is_key_column : Table → ℕ → Bool
+is_key_column table number = list_any (λ k. k == number) table.key
+
+-- a row's value of a column, NULL past its end
+abbrev pub value_at : List Value → ℕ → Value
+value_at row number = unwrap_or (slice_get row (number - 1)) Null
+
+-- the column is one of the table's
+pub record IsColumnOf (table : Table) (number : ℕ) : Type 0 where
+  pub from_1 : 1 ≤ number
+  pub within : number ≤ length table.columns
+
+-- the table has the number, 1 to 16 columns, and at most four key columns, which are among them
+pub record IsTable (number : ℕ) (table : Table) : Type 0 where
+  pub numbered : table.number ≡ number
+  pub some_columns : 1 ≤ length table.columns
+  pub few_columns : length table.columns ≤ 16
+  pub few_key_columns : length table.key ≤ 4
+  pub own_key_columns : All (IsColumnOf table) table.key
+
+-- such tables, with the numbers from one on
+abbrev pub AreTables : ℕ → List Table → Type 0
+AreTables number [] = Unit {0}
+AreTables number (table ∷ tables) = IsTable number table × AreTables (number + 1) tables
+
+-- the schema has a table of the number
+abbrev pub IsNumberIn : Schema → ℕ → Type 0
+IsNumberIn schema number = (table : Table) × (table_at schema number ≡ Some table)

@@ -1,0 +1,57 @@
+-- What statements do to the rows that a transaction sees.
+use Rattle.std.specs.Prelude.{List, [], ◌∷◌, ◌++◌, ◌||◌, Option, Some, None, filter, map, is_some, if◌then◌else◌, not, slice_set, ◌-◌}
+use Rattle.std.specs.BTreeMap.{insert_entry}
+use Rattle.std.specs.BTreeSet.{insert_key}
+use Rattle.std.specs.List.{list_any}
+use Rattle.values.specs.declared.key.Key.{Key}
+use Rattle.values.specs.declared.table.Table.{Table}
+use Rattle.values.specs.declared.query.Keys.{Keys}
+use Rattle.values.specs.declared.query.Set.{Set}
+use Rattle.values.specs.Order.{key_cmp, is_key}
+use Rattle.values.specs.Log.{State, Net, Row, row_at}
+use Rattle.values.specs.Tables.{value_at}
+use Rattle.values.specs.Versions.{matches}
+
+abbrev pub key_of : Table → Row → Key
+key_of table row = record { table = table.number; parts = map (value_at row) table.key }
+
+abbrev pub insert_rows : Table → List Row → State → State
+insert_rows table [] m = m
+insert_rows table (row ∷ rows) m = insert_rows table rows (insert_entry key_cmp m (key_of table row) row)
+
+-- the first of the keys that m has, or that is among the earlier ones
+abbrev pub duplicate_from : State → List Key → List Key → Option Key
+duplicate_from m earlier [] = None
+duplicate_from m earlier (k ∷ ks) = if is_some (row_at m k) || list_any (is_key k) earlier then Some k else duplicate_from m (earlier ++ k ∷ []) ks
+
+-- the key of the first row whose key m has, or an earlier row has
+abbrev pub duplicate : Table → List Row → State → Option Key
+duplicate table rows m = duplicate_from m [] (map (key_of table) rows)
+
+abbrev pub set_all : List Set → Row → Row
+set_all [] row = row
+set_all (s ∷ sets) row = set_all sets (slice_set row (s.column - 1) s.value)
+
+abbrev pub update_rows : Table → Keys → List Set → State → State
+update_rows table keys sets m = map (λ e. if matches table keys e.0 then (e.0, set_all sets e.1) else e) m
+
+abbrev pub delete_rows : Table → Keys → State → State
+delete_rows table keys m = filter (λ e. not (matches table keys e.0)) m
+
+-- the keys that the comparisons meet
+abbrev pub met : Table → Keys → State → List Key
+met table keys m = map (λ e. e.0) (filter (λ e. matches table keys e.0) m)
+
+-- a set of keys, in order, with more keys
+abbrev pub add_keys : List Key → List Key → List Key
+add_keys [] ls = ls
+add_keys (k ∷ ks) ls = add_keys ks (insert_key key_cmp ls k)
+
+-- what the keys have in the end, without those that are absent both before and after
+abbrev pub net_of : State → State → List Key → Net
+net_of before now keys = filter (λ c. is_some c.1 || is_some (row_at before c.0)) (map (λ k. (k, row_at now k)) keys)
+
+-- rows with their keys, inserted in turn
+abbrev pub insert_all : State → State → State
+insert_all m [] = m
+insert_all m (e ∷ es) = insert_all (insert_entry key_cmp m e.0 e.1) es

@@ -1,0 +1,177 @@
+ghost use Rattle.std.specs.Prelude.{◌≡◌, ℤ, ◌++◌, ◌∷◌, [], IfOk, OnOk, Option, Some, None, if◌then◌else◌, nat_le, length, ◌<◌};
+ghost use Rattle.values.specs.KeyEncoding.{raised, text_bytes, part_bytes, bytes_of_key, IsShortKey};
+ghost use Rattle.values.specs.Memory.{OnlyMemory};
+
+use crate::key::Key;
+use crate::refusal::Mem;
+use crate::value::Value;
+use std::alloc::{AllocError, Global};
+use std::cmp::Ordering;
+use std::marker::Model;
+
+/// The longest bytes of a key: the table, and four texts of 200 bytes that are all 0.
+const LONGEST: usize = 1609;
+
+/// At most 1,609 bytes, ordered by bytes. The empty one is the least, and is no key's.
+#[derive(Debug, Drop)]
+pub struct KeyBytes {
+    bytes: Vec<u8>,
+}
+
+impl Model for KeyBytes {
+    ghost use Rattle.std.specs.Prelude.{List, ℕ, length, ◌≤◌};
+
+    ghost Value = { List ℕ };
+
+    ghost view = { λ k. k.bytes.items };
+
+    ghost invariant = { λ k. length k.bytes.items ≤ 1609 };
+}
+
+impl KeyBytes {
+    /// None where there are over 1,609 bytes.
+    pub fn new(bytes: Vec<u8>) -> Option<KeyBytes>
+        ensures { result ≡ (if nat_le (length bytes.items) 1609 then Some bytes.items else None) }
+    {
+        if bytes.len() <= LONGEST {
+            Some(KeyBytes { bytes })
+        } else {
+            None
+        }
+    }
+
+    /// The least: no bytes.
+    pub fn least(alloc: Global) -> KeyBytes
+        ensures { result ≡ [] }
+    {
+        KeyBytes {
+            bytes: Vec::new(alloc),
+        }
+    }
+
+    pub fn bytes(&self) -> &[u8]
+        ensures { result.now ≡ self.now }
+    {
+        self.bytes.as_slice()
+    }
+
+    /// Equal bytes.
+    pub fn copy(&self) -> Mem<KeyBytes>
+        ensures ok { IfOk result (λ k. k ≡ self.now) }
+        ensures err { OnlyMemory result }
+    {
+        Ok(self.clone()?)
+    }
+}
+
+impl Clone for KeyBytes {
+    ghost use Rattle.std.specs.Prelude.{◌≡◌};
+
+    ghost is_clone = { λ x y. y ≡ x };
+
+    fn clone(&self) -> Result<KeyBytes, AllocError> {
+        Ok(KeyBytes {
+            bytes: self.bytes.clone()?,
+        })
+    }
+}
+
+impl PartialEq for KeyBytes {
+    ghost use Rattle.std.specs.Prelude.{nat_eq};
+    ghost use Rattle.std.specs.Cmp.{partial_equiv_from_equiv};
+    ghost use Rattle.std.specs.Cmp.Lexicographic.{pointwise, nat_list_eq_equiv};
+
+    ghost eq = { pointwise nat_eq };
+
+    ghost laws = { partial_equiv_from_equiv nat_list_eq_equiv };
+
+    fn eq(&self, other: &KeyBytes) -> bool {
+        self.bytes() == other.bytes()
+    }
+}
+
+impl Eq for KeyBytes {
+    ghost use Rattle.std.specs.Cmp.Lexicographic.{nat_list_eq_equiv};
+
+    ghost laws = { nat_list_eq_equiv };
+}
+
+impl PartialOrd for KeyBytes {
+    ghost use Rattle.std.specs.Prelude.{Some};
+    ghost use Rattle.std.specs.Ordering.{nat_cmp};
+    ghost use Rattle.std.specs.Cmp.Lexicographic.{slice_cmp, texts_po};
+
+    ghost partial_cmp = { λ x y. Some (slice_cmp nat_cmp x y) };
+
+    ghost laws = { texts_po };
+
+    fn partial_cmp(&self, other: &KeyBytes) -> Option<Ordering> {
+        Some(self.cmp(other))
+    }
+}
+
+impl Ord for KeyBytes {
+    ghost use Rattle.std.specs.Prelude.{refl};
+    ghost use Rattle.std.specs.Ordering.{nat_cmp};
+    ghost use Rattle.std.specs.Cmp.Lexicographic.{slice_cmp, nat_list_cmp_total, texts_ties};
+
+    ghost cmp = { slice_cmp nat_cmp };
+
+    ghost total = { nat_list_cmp_total };
+
+    ghost matches_partial_cmp = { λ _ _. refl };
+
+    ghost matches_eq = { texts_ties };
+
+    fn cmp(&self, other: &KeyBytes) -> Ordering {
+        self.bytes().cmp(other.bytes())
+    }
+}
+
+/// The bytes of a key: the table's number, then each value.
+pub fn key_bytes(alloc: Global, key: &Key) -> Mem<KeyBytes>
+    requires { IsShortKey key.now }
+    ensures ok { IfOk result (λ b. b ≡ bytes_of_key key.now) }
+    ensures err { OnlyMemory result }
+{
+    let mut bytes = Vec::new(alloc);
+    bytes.push(key.table)?;
+    for part in key.parts.items() {
+        push_part(&mut bytes, part)?;
+    }
+    Ok(KeyBytes { bytes })
+}
+
+fn push_part(bytes: &mut Vec<u8>, part: &Value) -> Result<(), AllocError>
+    ensures { OnOk result (bytes.new.items ≡ bytes.old.items ++ part_bytes part.now) }
+{
+    match part {
+        Value::Int(number) => bytes.extend_from_slice(&raised(*number).to_be_bytes()),
+        Value::Text(text) => push_text(bytes, text.text().as_bytes()),
+        Value::Bool(truth) => bytes.extend_from_slice(&[*truth as u8]),
+        Value::Null => Ok(()),
+    }
+}
+
+/// The number plus 2^63.
+fn raised(number: i64) -> u64
+    ensures { result ≡ raised number }
+{
+    if number < 0 {
+        (number - i64::MIN) as u64
+    } else {
+        number as u64 + (1 << 63)
+    }
+}
+
+fn push_text(bytes: &mut Vec<u8>, text: &[u8]) -> Result<(), AllocError>
+    ensures { OnOk result (bytes.new.items ≡ bytes.old.items ++ text_bytes text.now) }
+{
+    for byte in text {
+        bytes.push(*byte)?;
+        if *byte == 0 {
+            bytes.push(255)?;
+        }
+    }
+    bytes.extend_from_slice(&[0, 0])
+}

@@ -1,0 +1,43 @@
+//! Values, rows, keys, refusals, and the words that speak of what was committed.
+#![tactic(auto)]
+
+mod chars;
+mod event;
+#[cfg(test)]
+mod event_tests;
+mod fit;
+mod form;
+mod key;
+mod key_encoding;
+mod key_laws;
+mod key_reading;
+#[cfg(test)]
+mod key_tests;
+mod laws;
+mod query;
+mod refusal;
+mod row;
+mod row_encoding;
+mod row_laws;
+#[cfg(test)]
+mod row_tests;
+mod search_condition;
+mod sequence;
+mod table;
+mod value;
+
+pub use chars::Chars;
+pub use event::{Event, SharedEvent};
+pub use key::{Instant, Key, LAST, Net, Point, Transaction};
+pub use key_encoding::{KeyBytes, key_bytes};
+pub use key_laws::{bytes_stand_for_keys, fitting_keys_have_bytes, fitting_rows_have_keys};
+pub use key_reading::read_key;
+pub use laws::{as_of_shows_the_state, empty_net_leaves_the_log, states_are_versions};
+pub use query::{ColumnNumber, Comparison, Form, Keys, Operator, Rows, Set, Sets, Shown, ShownRows};
+pub use refusal::{Mem, Refusal};
+pub use row::Row;
+pub use row_encoding::{read_row, row_bytes};
+pub use row_laws::{bytes_stand_for_rows, fitting_rows_have_bytes};
+pub use sequence::Sequence;
+pub use table::{Column, ColumnType, Table, same_name};
+pub use value::{Value, Values};

@@ -1,0 +1,69 @@
+use crate::key::Instant;
+use crate::sequence::Sequence;
+use crate::row::Row;
+use crate::value::Value;
+
+/// Which versions a query selects.
+#[derive(Clone, Copy, Debug, PartialEq, Eq)]
+pub enum Form {
+    /// Those that have not ended.
+    Plain,
+    /// Those that had begun and not ended at an instant.
+    AsOf(Instant),
+    /// Those of a time from an instant on, and before another.
+    FromTo(Instant, Instant),
+    /// Those of a time from an instant on, up to another and with it.
+    Between(Instant, Instant),
+}
+
+/// How a key column compares with a value.
+#[derive(Clone, Copy, Debug, PartialEq, Eq)]
+pub enum Operator {
+    Equal,
+    Below,
+    AtMost,
+    Above,
+    AtLeast,
+}
+
+/// A user column's number, from 1. A name that is no column of its table is 0.
+pub type ColumnNumber = usize;
+
+/// A column compared with a value.
+#[derive(Debug, Drop)]
+pub struct Comparison {
+    pub column: ColumnNumber,
+    pub operator: Operator,
+    pub value: Value,
+}
+
+/// The keys of a table, by its number from 1, that meet all comparisons.
+#[derive(Drop)]
+pub struct Keys {
+    pub table: u8,
+    pub comparisons: Sequence<Comparison>,
+}
+
+/// A column and its new value.
+#[derive(Debug, Drop)]
+pub struct Set {
+    pub column: ColumnNumber,
+    pub value: Value,
+}
+
+/// What an UPDATE sets, in the order of the statement.
+pub type Sets = Sequence<Set>;
+
+/// Rows in order.
+pub type Rows = Sequence<Row>;
+
+/// A row with its period, which has no end where none has come.
+#[derive(Debug, Drop)]
+pub struct Shown {
+    pub row: Row,
+    pub from: Instant,
+    pub to: Option<Instant>,
+}
+
+/// Rows with their periods, in order.
+pub type ShownRows = Sequence<Shown>;

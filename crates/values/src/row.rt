@@ -1,0 +1,124 @@
+//! Rows that can be stored.
+ghost use Rattle.std.specs.Prelude.{◌≡◌, IfOk, IfSome, IsSome};
+ghost use Rattle.std.specs.List.{list_any, list_all};
+ghost use Rattle.values.specs.Fit.{is_line_break, fits_text};
+ghost use Rattle.values.specs.Memory.{OnlyMemory};
+ghost use Rattle.values.specs.RowEncoding.{IsStoredRow, is_stored, is_stored_row, is_width};
+
+use crate::refusal::Mem;
+use crate::value::Value;
+use std::alloc::AllocError;
+use std::marker::Model;
+
+/// The values that a row may have.
+pub(crate) const WIDTH: usize = 16;
+
+/// The bytes that a text may have.
+const TEXT: usize = 1000;
+
+/// A row of a table: 1 to 16 values, in the table's order, with texts of one line and at most 1,000 bytes. Contracts see it as a list.
+#[derive(Debug, Drop)]
+pub struct Row {
+    values: Vec<Value>,
+}
+
+impl Model for Row {
+    ghost use Rattle.std.specs.Prelude.{List};
+    ghost use Rattle.values.specs.declared.value.Value.{Value as Cell};
+
+    ghost Value = { List Cell };
+
+    ghost use Rattle.values.specs.RowEncoding.{IsStoredRow};
+
+    ghost view = { λ r. r.values.items };
+
+    ghost invariant = { λ r. IsStoredRow r.values.items };
+}
+
+impl Row {
+    /// None where the values are not 1 to 16, or one is a text of over 1,000 bytes or of two lines.
+    #[tactic(auto, using(crate::proofs::StoredRows::stored_row, crate::proofs::StoredRows::is_stored_row_of))]
+    pub fn new(values: Vec<Value>) -> Option<Row>
+        ensures are { IfSome result (λ r. r ≡ values.items) }
+        ensures stored { IsStoredRow values.items → IsSome result }
+    {
+        if is_stored_row(&values) {
+            Some(Row { values })
+        } else {
+            None
+        }
+    }
+
+    pub fn values(&self) -> &[Value]
+        ensures are { result.now ≡ self.now }
+        ensures stored { IsStoredRow result.now }
+    {
+        self.values.as_slice()
+    }
+
+    /// An equal row.
+    pub fn copy(&self) -> Mem<Row>
+        ensures ok { IfOk result (λ r. r ≡ self.now) }
+        ensures err { OnlyMemory result }
+    {
+        Ok(self.clone()?)
+    }
+}
+
+impl Clone for Row {
+    ghost use Rattle.std.specs.Prelude.{◌≡◌};
+
+    ghost is_clone = { λ x y. y ≡ x };
+
+    fn clone(&self) -> Result<Row, AllocError> {
+        Ok(Row {
+            values: self.values.clone()?,
+        })
+    }
+}
+
+fn is_stored_row(values: &[Value]) -> bool
+    ensures { result ≡ is_stored_row values.now }
+{
+    is_width(values.len()) && are_stored(values)
+}
+
+fn are_stored(values: &[Value]) -> bool
+    ensures { result ≡ list_all is_stored values.now }
+{
+    values.iter().all(|value| is_stored(value))
+}
+
+fn is_width(width: usize) -> bool
+    ensures { result ≡ is_width width }
+{
+    1 <= width && width <= WIDTH
+}
+
+fn is_stored(value: &Value) -> bool
+    ensures { result ≡ is_stored value.now }
+{
+    match value {
+        Value::Text(text) => fits_text(text.text().as_bytes()),
+        Value::Int(_) | Value::Bool(_) | Value::Null => true,
+    }
+}
+
+/// Whether bytes are on one line, and at most 1,000.
+pub(crate) fn fits_text(bytes: &[u8]) -> bool
+    ensures { result ≡ fits_text 1000 bytes.now }
+{
+    bytes.len() <= TEXT && !has_line_break(bytes)
+}
+
+fn has_line_break(bytes: &[u8]) -> bool
+    ensures { result ≡ list_any is_line_break bytes.now }
+{
+    bytes.iter().any(|byte| is_line_break(*byte))
+}
+
+fn is_line_break(byte: u8) -> bool
+    ensures { result ≡ is_line_break byte }
+{
+    byte == b'\n' || byte == b'\r'
+}
