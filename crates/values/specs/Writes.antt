@@ -1,5 +1,5 @@
 -- What statements do to the rows that a transaction sees.
-use Rattle.std.specs.Prelude.{List, [], ◌∷◌, ◌++◌, ◌||◌, Option, Some, None, filter, map, is_some, if◌then◌else◌, not, slice_set, ◌-◌}
+use Rattle.std.specs.Prelude.{ℕ, List, [], ◌∷◌, ◌++◌, ◌||◌, Option, Some, None, Result, Ok, Err, filter, map, is_some, if◌then◌else◌, not, nat_lt, length, slice_set, ◌-◌}
 use Rattle.std.specs.BTreeMap.{insert_entry}
 use Rattle.std.specs.BTreeSet.{insert_key}
 use Rattle.std.specs.List.{list_any}
@@ -7,10 +7,16 @@ use Rattle.values.specs.declared.key.Key.{Key}
 use Rattle.values.specs.declared.table.Table.{Table}
 use Rattle.values.specs.declared.query.Keys.{Keys}
 use Rattle.values.specs.declared.query.Set.{Set}
+use Rattle.values.specs.declared.refusal.Refusal.{Refusal}
+use Rattle.values.specs.declared.refusal.Refusal.TheVariants.{DuplicateKey, TooManyWrites}
 use Rattle.values.specs.Order.{key_cmp, is_key}
 use Rattle.values.specs.Log.{State, Net, Row, row_at}
 use Rattle.values.specs.Tables.{value_at}
 use Rattle.values.specs.Versions.{matches}
+
+-- the keys that a transaction may write
+abbrev pub most_written : ℕ
+most_written = 1000
 
 abbrev pub key_of : Table → Row → Key
 key_of table row = record { table = table.number; parts = map (value_at row) table.key }
@@ -55,3 +61,32 @@ net_of before now keys = filter (λ c. is_some c.1 || is_some (row_at before c.0
 abbrev pub insert_all : State → State → State
 insert_all m [] = m
 insert_all m (e ∷ es) = insert_all (insert_entry key_cmp m e.0 e.1) es
+
+-- ---- what INSERT, UPDATE and DELETE do to an open transaction
+
+-- the rows that a transaction sees, and the keys that it wrote
+pub record Own : Type 0 where
+  pub rows : State
+  pub written : List Key
+
+-- what a write answers, the number of its rows or a refusal, and what it leaves
+abbrev pub Written : Type 0
+Written = Result ℕ Refusal × Own
+
+-- a write of keys, unless they are too many
+abbrev pub writing : List Key → ℕ → State → Own → Written
+writing keys count rows o =
+    let written = add_keys keys o.written in
+    if nat_lt most_written (length written) then (Err TooManyWrites, o) else (Ok count, record { rows = rows; written = written })
+
+abbrev pub insert_into : Table → List Row → Own → Written
+insert_into table rows o = elim (duplicate table rows o.rows) [
+  | Some key ↦ (Err (DuplicateKey key), o)
+  | None ↦ writing (map (key_of table) rows) (length rows) (insert_rows table rows o.rows) o
+]
+
+abbrev pub update_in : Table → Keys → List Set → Own → Written
+update_in table keys sets o = writing (met table keys o.rows) (length (met table keys o.rows)) (update_rows table keys sets o.rows) o
+
+abbrev pub delete_from : Table → Keys → Own → Written
+delete_from table keys o = writing (met table keys o.rows) (length (met table keys o.rows)) (delete_rows table keys o.rows) o
