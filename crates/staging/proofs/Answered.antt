@@ -34,9 +34,9 @@ use Rattle.values.specs.KeyReading.{IsKeyOf, key_from, whole_key, parts_from, is
 use Rattle.values.specs.Events.{event_cmp, events_of, IsKeyIn, AreKeysIn}
 use Rattle.values.proofs.KeyLengths.{fitting_keys_are_short, first_none}
 use Rattle.values.proofs.RowKeys.{fitting_key, keys_are_short}
-use Rattle.staging.specs.Committed.{Committed}
+use Rattle.staging.specs.View.{events, Committed}
 use Rattle.staging.specs.Own.{Own, Reads, Written, seen, own, writing, fitting, insert_into, of_table, update_in, delete_from}
-use Rattle.staging.specs.Writing.{put_all, put_answer, insertions, updates, deletions, sees, first_seen, row_taken, rows_in}
+use Rattle.staging.specs.Staged.{put_all, put_answer, insertions, updates, deletions, sees, first_seen, row_taken, rows_in}
 use Rattle.staging.proofs.Entries.{sorted_from, sorted_apply, apply-updates, apply-deletions}
 use Rattle.staging.proofs.Bridge.{are_seen, sorted_base, sees_is, key_in}
 use Rattle.staging.proofs.Calls.{put_is, put_keys}
@@ -100,8 +100,8 @@ duplicates schema es t s w (k ∷ ks) earlier h same =
     λ i. cond (same k h.0 i || list_any (is_key k) earlier) (Some k) (duplicates schema es t s w ks (earlier ++ k ∷ []) h.1 same i)
 
 -- the first key that is seen is the first duplicate
-pub duplicate_is : (schema : Schema) (table : Table) (view : Committed) (t : ℕ) (m : Changes) (w : Net) (rows : List Row) (keys : List Key) → Reads schema table view w m → IsStrictlySortedBy event_cmp view.events → All (λ e. e.at ≤ t) view.events
-    → IsStrictlySortedBy key_cmp (keys_of w) → keys ≡ map (key_of table) rows → All (IsKeyOf table) keys → first_seen (sees view.events t w) [] keys ≡ duplicate table rows (seen m w)
+pub duplicate_is : (schema : Schema) (table : Table) (view : Committed) (t : ℕ) (m : Changes) (w : Net) (rows : List Row) (keys : List Key) → Reads schema table view w m → IsStrictlySortedBy event_cmp (events view) → All (λ e. e.at ≤ t) (events view)
+    → IsStrictlySortedBy key_cmp (keys_of w) → keys ≡ map (key_of table) rows → All (IsKeyOf table) keys → first_seen (sees (events view) t w) [] keys ≡ duplicate table rows (seen m w)
 duplicate_is schema table view t m w rows keys reads sorted upto ordered same own =
     ap (λ es. first_seen (sees es t w) [] keys) reads.held.events_are
     ∙ duplicates schema (events_of m) t (seen m w) w keys [] (recursion_from_All (IsKeyIn schema) keys (All-weaker (IsKeyOf table) (IsKeyIn schema) (λ k h. key_in schema table k reads.is_table h) keys own))
@@ -186,7 +186,7 @@ module _ (P : Key → Type 0) where
   deleted_entries es h = All-from_recursion (λ c. P c.0) (deletions es) (deleted_all es (recursion_from_All (λ e. P e.0) es h))
 
 -- the keys of the rows that are seen are of the schema
-pub seen_keys : (schema : Schema) (table : Table) (view : Committed) (t : ℕ) (m : Changes) (w : Net) (p : Key × Row → Bool) → Reads schema table view w m → IsStrictlySortedBy event_cmp view.events → All (λ e. e.at ≤ t) view.events
+pub seen_keys : (schema : Schema) (table : Table) (view : Committed) (t : ℕ) (m : Changes) (w : Net) (p : Key × Row → Bool) → Reads schema table view w m → IsStrictlySortedBy event_cmp (events view) → All (λ e. e.at ≤ t) (events view)
     → All (λ e. IsKeyIn schema e.0) (filter p (seen m w))
 seen_keys schema table view t m w p reads sorted upto =
     All-from_recursion (λ e. IsKeyIn schema e.0) (filter p (seen m w))

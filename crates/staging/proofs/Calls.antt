@@ -22,23 +22,23 @@ use Rattle.values.specs.Writes.{add_keys}
 use Rattle.values.specs.Versions.{matches}
 use Rattle.values.specs.Events.{event_cmp, AreKeysIn}
 use Rattle.eventlist.specs.Listing.{standing}
-use Rattle.staging.specs.Committed.{Committed, Holds}
+use Rattle.staging.specs.View.{events, Committed, Holds}
 use Rattle.staging.specs.Own.{Reads, Written, seen, own, net_over, writing}
-use Rattle.staging.specs.Writing.{put_all, put_answer, rows_in, net_in}
+use Rattle.staging.specs.Staged.{put_all, put_answer, rows_in, net_in}
 use Rattle.staging.proofs.Entries.{sorted_from, apply-put_all, keys_put_all}
 use Rattle.staging.proofs.Bridge.{are_seen, sorted_base, net_is}
 use Rattle.staging.proofs.Seen.{rows_are}
 
 -- ---- what is read of a view
 
-pub rows_of_view : (schema : Schema) (table : Table) (keys : Keys) (view : Committed) (t : ℕ) (m : Changes) (w : Net) → Reads schema table view w m → keys.table ≡ table.number → IsStrictlySortedBy event_cmp view.events → All (λ e. e.at ≤ t) view.events
-    → IsStrictlySortedBy key_cmp (keys_of w) → rows_in table keys (standing view.events table.number t) w ≡ filter (λ e. matches table keys e.0) (seen m w)
+pub rows_of_view : (schema : Schema) (table : Table) (keys : Keys) (view : Committed) (t : ℕ) (m : Changes) (w : Net) → Reads schema table view w m → keys.table ≡ table.number → IsStrictlySortedBy event_cmp (events view) → All (λ e. e.at ≤ t) (events view)
+    → IsStrictlySortedBy key_cmp (keys_of w) → rows_in table keys (standing (events view) (is_of_table table.number) t) w ≡ filter (λ e. matches table keys e.0) (seen m w)
 rows_of_view schema table keys view t m w reads same sorted upto ordered =
-    ap (λ es. rows_in table keys (standing es table.number t) w) reads.held.events_are
+    ap (λ es. rows_in table keys (standing es (is_of_table table.number) t) w) reads.held.events_are
     ∙ rows_are schema table keys t m w reads.is_table same (are_seen schema view t m reads.held sorted upto) (sorted_from w ordered)
 
-pub net_of_view : (schema : Schema) (view : Committed) (t : ℕ) (m : Changes) (w : Net) → Holds schema view m → AreKeysIn schema w → IsStrictlySortedBy event_cmp view.events → All (λ e. e.at ≤ t) view.events → IsStrictlySortedBy key_cmp (keys_of w)
-    → net_in view.events t w ≡ net_over m w
+pub net_of_view : (schema : Schema) (view : Committed) (t : ℕ) (m : Changes) (w : Net) → Holds schema view m → AreKeysIn schema w → IsStrictlySortedBy event_cmp (events view) → All (λ e. e.at ≤ t) (events view) → IsStrictlySortedBy key_cmp (keys_of w)
+    → net_in (events view) t w ≡ net_over m w
 net_of_view schema view t m w held keys sorted upto ordered =
     ap (λ es. net_in es t w) held.events_are ∙ net_is schema t m w (are_seen schema view t m held sorted upto) (sorted_from w ordered) keys
 
@@ -88,15 +88,15 @@ module _ (P : Key → Type 0) where
 
 pub few_answer : (cs w new : Net) (count n : ℕ) → new ≡ put_all cs w → count ≡ length cs → n ≡ length new → n ≤ 1000 → ◌≡◌ {A = Result ℕ Refusal} (Ok count) (put_answer cs w)
 few_answer cs w new count n is c l few =
-    sym (ap (λ (b : Bool). if b then Err TooManyWrites else Ok (length cs)) (ap (λ m. nat_lt 1000 (length m)) (sym is) ∙ ap (nat_lt 1000) (sym l) ∙ small n few) ∙ ap Ok (sym c))
+    sym (ap (λ (b : Bool). if b then Err TooManyWrites else Ok (length cs)) (ap (λ m. nat_lt most_written (length m)) (sym is) ∙ ap (nat_lt most_written) (sym l) ∙ small n few) ∙ ap Ok (sym c))
   where
-    small : (n : ℕ) → n ≤ 1000 → nat_lt 1000 n ≡ false
+    small : (n : ℕ) → n ≤ 1000 → nat_lt most_written n ≡ false
     small n h = grind (arith, nat_tests)
 
 -- a write of changes, over what was seen
 pub put_is : (m : Changes) (cs w new : Net) (r : Result ℕ Refusal) → T (is_sorted key_cmp w) → r ≡ put_answer cs w → OnOk r (new ≡ put_all cs w) → OnErr r (new ≡ w)
     → ◌≡◌ {A = Written} (r, own m new) (writing (keys_of cs) (length cs) (apply_net (seen m w) cs) (own m w))
-put_is m cs w new r sorted is ok err = by (nat_lt 1000 (length (put_all cs w))) refl
+put_is m cs w new r sorted is ok err = by (nat_lt most_written (length (put_all cs w))) refl
   where
     same_length : length (put_all cs w) ≡ length (add_keys (keys_of cs) (keys_of w))
     same_length = sym (length-map (put_all cs w) (λ c. c.0)) ∙ ap length (keys_put_all cs w)
@@ -104,14 +104,14 @@ put_is m cs w new r sorted is ok err = by (nat_lt 1000 (length (put_all cs w))) 
     own_put : own m (put_all cs w) ≡ record { rows = apply_net (seen m w) cs; written = add_keys (keys_of cs) (keys_of w) }
     own_put = λ i. record { rows = apply-put_all cs w (rows_after [] m) (sorted_base m) sorted i; written = keys_put_all cs w i }
 
-    at : (b : Bool) → nat_lt 1000 (length (put_all cs w)) ≡ b → writing (keys_of cs) (length cs) (apply_net (seen m w) cs) (own m w)
+    at : (b : Bool) → nat_lt most_written (length (put_all cs w)) ≡ b → writing (keys_of cs) (length cs) (apply_net (seen m w) cs) (own m w)
         ≡ (if b then (Err TooManyWrites, own m w) else (Ok (length cs), record { rows = apply_net (seen m w) cs; written = add_keys (keys_of cs) (keys_of w) }))
-    at b h = ap (λ (b : Bool). if b then (Err TooManyWrites, own m w) else (Ok (length cs), record { rows = apply_net (seen m w) cs; written = add_keys (keys_of cs) (keys_of w) })) (ap (nat_lt 1000) (sym same_length) ∙ h)
+    at b h = ap (λ (b : Bool). if b then (Err TooManyWrites, own m w) else (Ok (length cs), record { rows = apply_net (seen m w) cs; written = add_keys (keys_of cs) (keys_of w) })) (ap (nat_lt most_written) (sym same_length) ∙ h)
 
-    answer : (b : Bool) → nat_lt 1000 (length (put_all cs w)) ≡ b → r ≡ (if b then Err TooManyWrites else Ok (length cs))
+    answer : (b : Bool) → nat_lt most_written (length (put_all cs w)) ≡ b → r ≡ (if b then Err TooManyWrites else Ok (length cs))
     answer b h = is ∙ ap (λ (b : Bool). if b then Err TooManyWrites else Ok (length cs)) h
 
-    by : (b : Bool) → nat_lt 1000 (length (put_all cs w)) ≡ b → ◌≡◌ {A = Written} (r, own m new) (writing (keys_of cs) (length cs) (apply_net (seen m w) cs) (own m w))
+    by : (b : Bool) → nat_lt most_written (length (put_all cs w)) ≡ b → ◌≡◌ {A = Written} (r, own m new) (writing (keys_of cs) (length cs) (apply_net (seen m w) cs) (own m w))
     by true h =
         let same : new ≡ w = subst (λ r. OnErr r (new ≡ w)) (answer true h) err in
         (λ i. (answer true h i, own m (same i))) ∙ sym (at true h)

@@ -19,7 +19,7 @@ use Rattle.values.specs.Writes.{set_all, add_keys}
 use Rattle.values.proofs.Orders.{key_cmp_total, key_cmp-IsAntisymmetric, both, first, second}
 use Rattle.values.proofs.Maps.{same_map, sorted_insert, lookup-insert_entry}
 use Rattle.values.proofs.States.{row_at-set_row, sorted_set_row}
-use Rattle.staging.specs.Writing.{put_all, updates, deletions}
+use Rattle.staging.specs.Staged.{put_all, updates, deletions}
 
 is_less : (o : Ordering) → T (is_lt o) → o ≡ Less
 is_less Less h = refl

@@ -9,7 +9,7 @@ use Rattle.values.specs.Log.{Net}
 use Rattle.values.specs.Events.{event_cmp, put_event, put_net}
 use Rattle.eventlist.proofs.Ordered.{sorted_none}
 use Rattle.eventlist.proofs.Placed.{all_put, sorted_put}
-use Rattle.staging.specs.Committed.{IsCommitted}
+use Rattle.staging.specs.View.{IsCommitted}
 
 pub sorted_net : (instant : ℕ) (net : Net) (es : List Event) → IsStrictlySortedBy event_cmp es → IsStrictlySortedBy event_cmp (put_net instant net es)
 sorted_net instant [] es h = h

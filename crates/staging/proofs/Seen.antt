@@ -25,7 +25,7 @@ use Rattle.values.proofs.Maps.{same_map, sorted_insert, lookup-insert_entry}
 use Rattle.values.proofs.KeyReads.{key_back}
 use Rattle.eventlist.specs.Listing.{overtakes, stands_at, standing, is_of_table}
 use Rattle.staging.specs.Own.{seen}
-use Rattle.staging.specs.Writing.{row_taken, rows_in}
+use Rattle.staging.specs.Staged.{row_taken, rows_in}
 use Rattle.eventlist.proofs.Ordered.{sorted_head, sorted_tail, is_lower}
 use Rattle.eventlist.proofs.Overtaken.{not_earlier, not_itself, overtakes_is, is_overtakes, never}
 use Rattle.staging.proofs.Entries.{upon, apply-filter, lookup-filter, same_key}

@@ -1,3 +1,4 @@
-pub mod Committed
+pub mod View
 pub mod Own
-pub mod Writing
+pub mod Net
+pub mod Staged

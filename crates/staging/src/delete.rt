@@ -1,10 +1,9 @@
 //! DELETE.
 ghost use Rattle.std.specs.Prelude.{◌≡◌, ◌≢◌, Result, Err, IfOk, OnErr};
-ghost use Rattle.values.specs.Log.{Changes};
-ghost use Rattle.values.specs.Tables.{Schema, IsTable};
+ghost use Rattle.values.specs.Tables.{IsTable};
 ghost use Rattle.values.specs.Events.{AreKeysIn};
-ghost use Rattle.staging.specs.Own.{Reads, own, delete_from};
-ghost use Rattle.staging.specs.Writing.{deletions};
+ghost use Rattle.staging.specs.Own.{WhenRead, own, checked_delete};
+ghost use Rattle.staging.specs.Staged.{deletions};
 
 use crate::staged::Staged;
 use crate::view::View;
@@ -17,8 +16,13 @@ impl Staged {
     /// `BadRow` where a comparison does not fit, `TooManyWrites` where the transaction would have written over 1,000 keys. After a refusal nothing has changed.
     pub fn delete(&mut self, view: &View, table: &Table, keys: &Keys) -> Result<usize, Refusal>
         requires { IsTable table.now.number table.now }
-        ensures answers { (schema : Schema) (m : Changes) → Reads schema table.now view.now self.old m → result ≢ Err Refusal.Memory → (result, own m self.new) ≡ delete_from table.now keys.now (own m self.old) }
-        ensures keys { (schema : Schema) (m : Changes) → Reads schema table.now view.now self.old m → AreKeysIn schema self.new }
+        ensures answers {
+            WhenRead table.now view.now self.old (λ schema m.
+                result ≢ Err Refusal.Memory → (result, own m self.new) ≡ checked_delete table.now keys.now (own m self.old))
+        }
+        ensures keys {
+            WhenRead table.now view.now self.old (λ schema m. AreKeysIn schema self.new)
+        }
         ensures refused { OnErr result (self.new ≡ self.old) }
     {
         if keys.table != table.number {

@@ -1,14 +1,13 @@
 //! INSERT.
 ghost use Rattle.std.specs.Prelude.{◌≡◌, ◌≢◌, All, None, Result, Err, IfOk, OnErr, length, map};
-ghost use Rattle.values.specs.Log.{Changes};
-ghost use Rattle.values.specs.Tables.{Schema, IsTable};
+ghost use Rattle.values.specs.Tables.{IsTable};
 ghost use Rattle.values.specs.Fit.{rows_fault};
 ghost use Rattle.values.specs.Memory.{OnlyMemory};
 ghost use Rattle.values.specs.KeyReading.{IsKeyOf};
 ghost use Rattle.values.specs.Writes.{key_of};
 ghost use Rattle.values.specs.Events.{AreKeysIn};
-ghost use Rattle.staging.specs.Own.{Reads, own, insert_into};
-ghost use Rattle.staging.specs.Writing.{insertions};
+ghost use Rattle.staging.specs.Own.{WhenRead, own, checked_insert};
+ghost use Rattle.staging.specs.Staged.{insertions};
 
 use crate::staged::Staged;
 use crate::view::View;
@@ -20,8 +19,13 @@ impl Staged {
     /// `TooManyWrites` where it would have written over 1,000 keys. After a refusal nothing has changed.
     pub fn insert(&mut self, view: &View, table: &Table, rows: &[Row]) -> Result<usize, Refusal>
         requires { IsTable table.now.number table.now }
-        ensures answers { (schema : Schema) (m : Changes) → Reads schema table.now view.now self.old m → result ≢ Err Refusal.Memory → (result, own m self.new) ≡ insert_into table.now rows.now (own m self.old) }
-        ensures keys { (schema : Schema) (m : Changes) → Reads schema table.now view.now self.old m → AreKeysIn schema self.new }
+        ensures answers {
+            WhenRead table.now view.now self.old (λ schema m.
+                result ≢ Err Refusal.Memory → (result, own m self.new) ≡ checked_insert table.now rows.now (own m self.old))
+        }
+        ensures keys {
+            WhenRead table.now view.now self.old (λ schema m. AreKeysIn schema self.new)
+        }
         ensures refused { OnErr result (self.new ≡ self.old) }
     {
         if let Err(refusal) = table.check_rows(rows) {

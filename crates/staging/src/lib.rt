@@ -5,6 +5,8 @@ mod delete;
 mod insert;
 mod net;
 mod staged;
+mod store;
+mod table_range;
 #[cfg(test)]
 mod tests;
 mod update;
@@ -12,4 +14,6 @@ mod view;
 
 pub use net::Net;
 pub use staged::Staged;
+pub use store::EventStore;
+pub use table_range::range_of_table;
 pub use view::View;

@@ -12,12 +12,13 @@ ghost use Rattle.values.specs.Versions.{matches};
 ghost use Rattle.values.specs.Writes.{insert_all};
 ghost use Rattle.values.specs.KeyEncoding.{IsShortKey, bytes_of_key};
 ghost use Rattle.values.specs.Events.{AreKeysIn, row_until};
-ghost use Rattle.eventlist.specs.Listing.{standing};
-ghost use Rattle.staging.specs.Committed.{Holds};
-ghost use Rattle.staging.specs.Own.{Reads, seen, net_over};
-ghost use Rattle.staging.specs.Writing.{put_all, put_answer, sees, first_seen, row_taken, rows_in, net_in};
+ghost use Rattle.eventlist.specs.Listing.{is_of_table, standing};
+ghost use Rattle.staging.specs.View.{events, Holds};
+ghost use Rattle.staging.specs.Own.{WhenRead, seen, net_over};
+ghost use Rattle.staging.specs.Staged.{put_all, put_answer, sees, first_seen, row_taken, rows_in, net_in};
 
 use crate::net::Net;
+use crate::table_range::range_of_table;
 use crate::view::View;
 use values::{Event, Instant, Key, Keys, Mem, Refusal, Row, SharedEvent, Table, key_bytes, read_key};
 use std::alloc::{AllocError, Global};
@@ -60,7 +61,11 @@ impl Staged {
 
     /// By key: the rows that the transaction sees and that the keys of the table take.
     pub fn rows(&self, view: &View, table: &Table, keys: &Keys) -> Mem<BTreeMap<Key, Row>>
-        ensures ok { IfOk result (λ found. (schema : Schema) (m : Changes) → Reads schema table.now view.now self.now m → keys.now.table ≡ table.now.number → found.entries ≡ filter (λ e. matches table.now keys.now e.0) (seen m self.now)) }
+        ensures ok {
+            IfOk result (λ found. WhenRead table.now view.now self.now (λ schema m.
+                keys.now.table ≡ table.now.number
+                    → found.entries ≡ filter (λ e. matches table.now keys.now e.0) (seen m self.now)))
+        }
         ensures err { OnlyMemory result }
     {
         Ok(self.rows_found(view, view.last(), table, keys)?)
@@ -68,7 +73,10 @@ impl Staged {
 
     /// What the transaction changes: what each key that it wrote has in the end, without those that are absent both then and in the view.
     pub fn net(&self, view: &View) -> Mem<Net>
-        ensures ok { IfOk result (λ net. (schema : Schema) (m : Changes) → Holds schema view.now m → AreKeysIn schema self.now → net ≡ net_over m self.now) }
+        ensures ok {
+            IfOk result (λ net. (schema : Schema) (m : Changes)
+                → Holds schema view.now m → AreKeysIn schema self.now → net ≡ net_over m self.now)
+        }
         ensures keys { IfOk result (λ net. (schema : Schema) → AreKeysIn schema self.now → AreKeysIn schema net) }
         ensures err { OnlyMemory result }
     {
@@ -84,12 +92,17 @@ impl Staged {
         table: &Table,
         keys: &Keys,
     ) -> Mem<BTreeMap<Key, Row>>
-        ensures ok { IfOk result (λ found. found.entries ≡ rows_in table.now keys.now (standing view.now.events table.now.number last) self.now) }
+        ensures ok {
+            IfOk result (λ found. found.entries
+                ≡ rows_in table.now keys.now
+                    (standing (events view.now) (is_of_table table.now.number) last) self.now)
+        }
         ensures err { OnlyMemory result }
         ensures ordered { OnOk result (IsStrictlySortedBy key_cmp (keys_of self.now)) }
         ensures short { IsTable table.now.number table.now → IfOk result (λ found. All (λ e. IsShortKey e.0) found.entries) }
     {
-        let standing = view.standing(self.alloc, table.number, last)?;
+        let range = range_of_table(self.alloc, table.number)?;
+        let standing = view.standing(self.alloc, &range, last)?;
         let mut found = rows_taken(self.alloc, table, keys, &standing)?;
         put_taken(table, keys, &self.writes, &mut found)?;
         Ok(found)
@@ -98,7 +111,7 @@ impl Staged {
     /// Whether the transaction sees a row of a key: what it wrote, or else what the view has at an instant.
     fn sees(&self, view: &View, last: Instant, key: &Key) -> Mem<bool>
         requires { IsShortKey key.now }
-        ensures ok { IfOk result (λ b. b ≡ sees view.now.events last self.now key.now) }
+        ensures ok { IfOk result (λ b. b ≡ sees (events view.now) last self.now key.now) }
         ensures err { OnlyMemory result }
     {
         match self.writes.get(key) {
@@ -109,7 +122,7 @@ impl Staged {
 
     fn is_taken(&self, view: &View, last: Instant, key: &Key, earlier: &[Key]) -> Mem<bool>
         requires { IsShortKey key.now }
-        ensures ok { IfOk result (λ b. b ≡ (sees view.now.events last self.now key.now || list_any (is_key key.now) earlier.now)) }
+        ensures ok { IfOk result (λ b. b ≡ (sees (events view.now) last self.now key.now || list_any (is_key key.now) earlier.now)) }
         ensures err { OnlyMemory result }
     {
         let seen = self.sees(view, last, key)?;
@@ -119,7 +132,7 @@ impl Staged {
     /// The first of the keys that the transaction sees, or that came before.
     pub(crate) fn first_seen(&self, view: &View, last: Instant, keys: &[Key]) -> Mem<Option<Key>>
         requires { All IsShortKey keys.now }
-        ensures ok { IfOk result (λ found. found ≡ first_seen (sees view.now.events last self.now) [] keys.now) }
+        ensures ok { IfOk result (λ found. found ≡ first_seen (sees (events view.now) last self.now) [] keys.now) }
         ensures err { OnlyMemory result }
         ensures ordered { IsStrictlySortedBy key_cmp (keys_of self.now) }
     {
@@ -142,7 +155,7 @@ impl Staged {
         ensures ordered { IsStrictlySortedBy key_cmp (keys_of self.old) }
     {
         let count = changes.len();
-        let mut writes = copied(self.alloc, &self.writes)?;
+        let mut writes = copy_of(self.alloc, &self.writes)?;
         put_all(&mut writes, changes)?;
         if writes.len() > MOST_WRITTEN {
             return Err(Refusal::TooManyWrites);
@@ -152,7 +165,7 @@ impl Staged {
     }
 }
 
-fn copied(
+fn copy_of(
     alloc: Global,
     writes: &BTreeMap<Key, Option<Row>>,
 ) -> Result<BTreeMap<Key, Option<Row>>, AllocError>
@@ -202,13 +215,13 @@ fn row_taken(alloc: Global, table: &Table, keys: &Keys, event: &Event) -> Mem<Op
     ensures ok { IfOk result (λ found. found ≡ row_taken table.now keys.now event.now) }
     ensures err { OnlyMemory result }
 {
-    let Some(key) = read_key(alloc, table, &event.key)? else {
+    let Some(key) = read_key(alloc, table, event.key())? else {
         return Ok(None);
     };
     if !keys.matches(table, &key) {
         return Ok(None);
     }
-    match &event.row {
+    match event.row() {
         Some(row) => Ok(Some((key, row.clone()?))),
         None => Ok(None),
     }
@@ -249,7 +262,7 @@ fn set_row(rows: &mut BTreeMap<Key, Row>, key: &Key, row: &Option<Row>) -> Resul
 /// Whether a key has a row at an instant.
 fn has_row(alloc: Global, view: &View, instant: Instant, key: &Key) -> Mem<bool>
     requires { IsShortKey key.now }
-    ensures ok { IfOk result (λ b. b ≡ is_some (row_until view.now.events (bytes_of_key key.now) instant)) }
+    ensures ok { IfOk result (λ b. b ≡ is_some (row_until (events view.now) (bytes_of_key key.now) instant)) }
     ensures err { OnlyMemory result }
 {
     let bytes = key_bytes(alloc, key)?;
@@ -264,7 +277,7 @@ fn net_of(
     writes: &BTreeMap<Key, Option<Row>>,
 ) -> Mem<Vec<(Key, Option<Row>)>>
     requires { All (λ w. IsShortKey w.0) writes.now.entries }
-    ensures ok { IfOk result (λ net. net.items ≡ net_in view.now.events last writes.now.entries) }
+    ensures ok { IfOk result (λ net. net.items ≡ net_in (events view.now) last writes.now.entries) }
     ensures err { OnlyMemory result }
     ensures ordered { OnOk result (IsOrdered key_cmp writes.now) }
 {
@@ -280,7 +293,7 @@ fn net_of(
 /// Whether a written key has a row, in the end or in the view.
 fn stays(alloc: Global, view: &View, last: Instant, key: &Key, row: &Option<Row>) -> Mem<bool>
     requires { IsShortKey key.now }
-    ensures ok { IfOk result (λ b. b ≡ (is_some row.now || is_some (row_until view.now.events (bytes_of_key key.now) last))) }
+    ensures ok { IfOk result (λ b. b ≡ (is_some row.now || is_some (row_until (events view.now) (bytes_of_key key.now) last))) }
     ensures err { OnlyMemory result }
 {
     if row.is_some() {

@@ -1,11 +1,11 @@
 //! UPDATE.
-ghost use Rattle.std.specs.Prelude.{◌≡◌, ◌≢◌, Result, Err, IfOk, OnErr};
-ghost use Rattle.values.specs.Log.{Changes};
-ghost use Rattle.values.specs.Tables.{Schema, IsTable};
+ghost use Rattle.std.specs.Prelude.{◌≡◌, ◌≢◌, All, Result, Err, IfOk, OnErr};
+ghost use Rattle.values.specs.RowEncoding.{IsStored};
+ghost use Rattle.values.specs.Tables.{IsTable};
 ghost use Rattle.values.specs.Writes.{set_all};
 ghost use Rattle.values.specs.Events.{AreKeysIn};
-ghost use Rattle.staging.specs.Own.{Reads, own, update_in};
-ghost use Rattle.staging.specs.Writing.{updates};
+ghost use Rattle.staging.specs.Own.{WhenRead, own, checked_update};
+ghost use Rattle.staging.specs.Staged.{updates};
 
 use crate::staged::Staged;
 use crate::view::View;
@@ -24,8 +24,13 @@ impl Staged {
         sets: &[Set],
     ) -> Result<usize, Refusal>
         requires { IsTable table.now.number table.now }
-        ensures answers { (schema : Schema) (m : Changes) → Reads schema table.now view.now self.old m → result ≢ Err Refusal.Memory → (result, own m self.new) ≡ update_in table.now keys.now sets.now (own m self.old) }
-        ensures keys { (schema : Schema) (m : Changes) → Reads schema table.now view.now self.old m → AreKeysIn schema self.new }
+        ensures answers {
+            WhenRead table.now view.now self.old (λ schema m.
+                result ≢ Err Refusal.Memory → (result, own m self.new) ≡ checked_update table.now keys.now sets.now (own m self.old))
+        }
+        ensures keys {
+            WhenRead table.now view.now self.old (λ schema m. AreKeysIn schema self.new)
+        }
         ensures refused { OnErr result (self.new ≡ self.old) }
     {
         if keys.table != table.number {
@@ -49,6 +54,7 @@ fn updates(
     sets: &[Set],
     rows: &BTreeMap<Key, Row>,
 ) -> Result<Vec<(Key, Option<Row>)>, AllocError>
+    requires { All (λ s. IsStored s.value) sets.now }
     ensures { IfOk result (λ v. v.items ≡ updates sets.now rows.now.entries) }
 {
     let mut changes = Vec::new(alloc);
@@ -60,6 +66,7 @@ fn updates(
 
 /// A row with new values, set in turn.
 fn set_all(alloc: Global, sets: &[Set], row: &Row) -> Result<Row, AllocError>
+    requires { All (λ s. IsStored s.value) sets.now }
     ensures { IfOk result (λ r. r ≡ set_all sets.now row.now) }
 {
     let mut values = row.values().to_vec(alloc)?;
@@ -69,5 +76,8 @@ fn set_all(alloc: Global, sets: &[Set], row: &Row) -> Result<Row, AllocError>
             values[place] = set.value.clone()?;
         }
     }
-    Ok(Row::new(values))
+    match Row::new(values) {
+        Some(row) => Ok(row),
+        None => unreachable!(),
+    }
 }

@@ -1,19 +1,19 @@
 //! What was committed until an instant.
-ghost use Rattle.std.specs.Prelude.{◌≡◌, ◌≤◌, ◌<◌, ◌&&◌, [], All, IfOk, OnOk, OnErr, filter};
+ghost use Rattle.std.specs.Prelude.{◌≡◌, ◌≤◌, All, IfOk, option_copied};
 ghost use Rattle.std.specs.List.Sorted.{IsStrictlySortedBy};
-ghost use Rattle.values.specs.KeyEncoding.{IsShortKey};
 ghost use Rattle.values.specs.Memory.{OnlyMemory};
 ghost use Rattle.values.specs.Commits.{max_instant};
-ghost use Rattle.values.specs.Events.{event_cmp, row_until, event_since, put_net};
-ghost use Rattle.eventlist.specs.Listing.{events_in, is_of_table, standing};
+ghost use Rattle.values.specs.Events.{event_cmp, row_until, event_since};
+ghost use Rattle.keyrange.specs.Points.{is_key_in};
+ghost use Rattle.eventlist.specs.Listing.{events_in, standing};
+ghost use Rattle.staging.specs.View.{events, last, IsCommitted, IsEmpty};
 
-use crate::net::Net;
-use eventlist::{event_since, event_until, events_in, of_table, put_event, standing};
+use eventlist::{event_since, event_until, events_in, standing};
 use keyrange::KeyRange;
-use values::{Event, Instant, Key, KeyBytes, Mem, Row, SharedEvent, key_bytes};
-use std::alloc::Global;
+use std::alloc::{AllocError, Global};
 use std::marker::Model;
 use std::sync::Arc;
+use values::{Instant, KeyBytes, Mem, Row, SharedEvent};
 
 /// The events of all transactions until an instant, the last. They are shared: of a view that is taken no event is copied.
 #[derive(Drop)]
@@ -23,11 +23,11 @@ pub struct View {
 }
 
 impl Model for View {
-    ghost use Rattle.staging.specs.Committed.{Committed, IsCommitted};
+    ghost use Rattle.staging.specs.View.{Committed, IsCommitted};
 
     ghost Value = { Committed };
 
-    ghost view = { λ v. record { events = v.events.value.items; last = v.last } };
+    ghost view = { λ v. record { kept = v.events.value.items; latest = v.last } };
 
     ghost invariant = { λ v. IsCommitted v.events.value.items v.last };
 }
@@ -35,19 +35,18 @@ impl Model for View {
 impl View {
     /// The view before the first commit.
     pub fn new(alloc: Global) -> Mem<View>
-        ensures ok { IfOk result (λ v. v ≡ record { events = []; last = 0 }) }
+        ensures ok { IfOk result IsEmpty }
         ensures err { OnlyMemory result }
     {
-        let events = Arc::new(alloc, Vec::new(alloc))?;
-        Ok(View { events, last: 0 })
+        View::of(alloc, Vec::new(alloc), 0)
     }
 
     /// The instant of the last commit, 0 where there is none.
     pub fn last(&self) -> Instant
-        ensures last { result ≡ self.now.last }
+        ensures last { result ≡ last self.now }
         ensures in_range { result ≤ max_instant }
-        ensures upto { All (λ e. e.at ≤ result) self.now.events }
-        ensures ordered { IsStrictlySortedBy event_cmp self.now.events }
+        ensures upto { All (λ e. e.at ≤ result) (events self.now) }
+        ensures ordered { IsStrictlySortedBy event_cmp (events self.now) }
     {
         self.last
     }
@@ -66,18 +65,18 @@ impl View {
 
     /// A key's row at an instant: that of its last event at the instant or before it.
     pub fn get(&self, key: &KeyBytes, instant: Instant) -> Mem<Option<Row>>
-        ensures ok { IfOk result (λ row. row ≡ row_until self.now.events key.now instant) }
+        ensures ok { IfOk result (λ row. row ≡ row_until (events self.now) key.now instant) }
         ensures err { OnlyMemory result }
     {
         match event_until(self.list(), key, instant) {
             None => Ok(None),
-            Some(event) => Ok(event.row.clone()?),
+            Some(event) => Ok(copy_of(event.row())?),
         }
     }
 
     /// The instant of a key's last event above `start`, if there is one.
     pub fn changed_since(&self, key: &KeyBytes, start: Instant) -> Mem<Option<Instant>>
-        ensures ok { IfOk result (λ found. found ≡ event_since self.now.events start key.now) }
+        ensures ok { IfOk result (λ found. found ≡ event_since (events self.now) start key.now) }
         ensures err { OnlyMemory result }
     {
         Ok(event_since(self.list(), key, start))
@@ -91,45 +90,45 @@ impl View {
         from: Instant,
         to: Instant,
     ) -> Mem<Vec<SharedEvent>>
-        ensures ok { IfOk result (λ v. v.items ≡ events_in self.now.events range.now from to) }
+        ensures ok { IfOk result (λ v. v.items ≡ events_in (events self.now) range.now from to) }
         ensures err { OnlyMemory result }
     {
         events_in(alloc, self.list(), range, from, to)
     }
 
-    /// The events of a table, of which none is copied.
-    pub fn of_table(&self, table: u8) -> &[SharedEvent]
-        ensures are { result.now ≡ filter (λ e. is_of_table table e.key) self.now.events }
-        ensures sorted { IsStrictlySortedBy event_cmp result.now }
-    {
-        of_table(self.list(), table)
-    }
-
-    /// By key: the event of each key of a table whose row stands at an instant.
-    pub fn standing(&self, alloc: Global, table: u8, instant: Instant) -> Mem<Vec<SharedEvent>>
-        ensures ok { IfOk result (λ v. v.items ≡ standing self.now.events table instant) }
+    /// By key: of each key of a range the event that shows its row at an instant, where it has one.
+    pub fn standing(
+        &self,
+        alloc: Global,
+        range: &KeyRange,
+        instant: Instant,
+    ) -> Mem<Vec<SharedEvent>>
+        ensures ok { IfOk result (λ v. v.items ≡ standing (events self.now) (is_key_in range.now) instant) }
         ensures err { OnlyMemory result }
     {
-        standing(alloc, self.list(), table, instant)
+        standing(alloc, self.list(), range, instant)
     }
 
-    /// Adds what a transaction changed, at an instant above all others. Where memory runs out nothing has changed.
-    pub fn apply(&mut self, alloc: Global, instant: Instant, net: &Net) -> Mem<()>
-        requires later { self.old.last < instant }
-        requires in_range { instant ≤ max_instant }
-        ensures ok { OnOk result (self.new ≡ record { events = put_net instant net.now self.old.events; last = instant }) }
-        ensures err { OnErr result (self.new ≡ self.old) }
-        ensures memory { OnlyMemory result }
+    /// A view of these events, of which none is after the instant.
+    pub(crate) fn of(alloc: Global, events: Vec<SharedEvent>, last: Instant) -> Mem<View>
+        requires { IsCommitted events.items last }
+        ensures ok { IfOk result (λ v. v ≡ record { kept = events.items; latest = last }) }
+        ensures err { OnlyMemory result }
     {
-        let mut events = shared(alloc, self.list())?;
-        put_net(alloc, instant, net.changes(), &mut events)?;
-        self.events = Arc::new(alloc, events)?;
-        self.last = instant;
-        Ok(())
+        let events = Arc::new(alloc, events)?;
+        Ok(View { events, last })
+    }
+
+    /// The same events, of which none is copied.
+    pub(crate) fn list_copy(&self, alloc: Global) -> Mem<Vec<SharedEvent>>
+        ensures ok { IfOk result (λ v. v.items ≡ events self.now) }
+        ensures err { OnlyMemory result }
+    {
+        shares_of(alloc, self.list())
     }
 
     fn list(&self) -> &[SharedEvent]
-        ensures are { result.now ≡ self.now.events }
+        ensures are { result.now ≡ events self.now }
         ensures sorted { IsStrictlySortedBy event_cmp result.now }
     {
         &self.events
@@ -137,7 +136,7 @@ impl View {
 }
 
 /// The same events, of which none is copied.
-fn shared(alloc: Global, events: &[SharedEvent]) -> Mem<Vec<SharedEvent>>
+fn shares_of(alloc: Global, events: &[SharedEvent]) -> Mem<Vec<SharedEvent>>
     ensures ok { IfOk result (λ v. v.items ≡ events.now) }
     ensures err { OnlyMemory result }
 {
@@ -148,24 +147,11 @@ fn shared(alloc: Global, events: &[SharedEvent]) -> Mem<Vec<SharedEvent>>
     Ok(list)
 }
 
-fn put_net(
-    alloc: Global,
-    instant: Instant,
-    net: &[(Key, Option<Row>)],
-    events: &mut Vec<SharedEvent>,
-) -> Mem<()>
-    requires short { All (λ c. IsShortKey c.0) net.now }
-    requires sorted { IsStrictlySortedBy event_cmp events.old.items }
-    ensures ok { OnOk result (events.new.items ≡ put_net instant net.now events.old.items) }
-    ensures err { OnlyMemory result }
+fn copy_of(row: Option<&Row>) -> Result<Option<Row>, AllocError>
+    ensures { IfOk result (λ r. r ≡ option_copied row.entry) }
 {
-    for (key, row) in net {
-        let event = Event {
-            key: key_bytes(alloc, key)?,
-            at: instant,
-            row: row.clone()?,
-        };
-        put_event(events, SharedEvent::new(alloc, event)?)?;
+    match row {
+        None => Ok(None),
+        Some(row) => Ok(Some(row.clone()?)),
     }
-    Ok(())
 }

@@ -1,5 +1,5 @@
 use Rattle.std.proofs.Common.{◌≡◌, ◌++◌, drop}
-use Rattle.staging.specs.Writing.{insertions}
+use Rattle.staging.specs.Staged.{insertions}
 use Rattle.staging.proofs.insert.insertions.Given as goal
 
 abbrev pub invariant-loop-i : goal.invariant-loop-i

@@ -2,7 +2,7 @@ use Rattle.std.proofs.Common.{sym, ap, ◌∙◌, rules}
 use Rattle.std.specs.Map.{keys_of}
 use Rattle.std.specs.List.Sorted.{IsStrictlySortedBy}
 use Rattle.values.specs.Order.{key_cmp}
-use Rattle.staging.specs.Writing.{put_all}
+use Rattle.staging.specs.Staged.{put_all}
 use Rattle.staging.proofs.Entries.{put_copied}
 use Rattle.staging.proofs.staged.copied.Goals as goal
 

@@ -1,5 +1,5 @@
 use Rattle.std.proofs.Common.{◌≡◌, []}
-use Rattle.staging.specs.Writing.{put_all}
+use Rattle.staging.specs.Staged.{put_all}
 use Rattle.staging.proofs.staged.copied.Given as goal
 
 abbrev pub invariant-loop-key : goal.invariant-loop-key

@@ -1,6 +1,6 @@
 use Rattle.std.proofs.Common.{◌≡◌}
 use Rattle.std.specs.Vec.Iter.{into_iter_items}
-use Rattle.staging.specs.Writing.{put_all}
+use Rattle.staging.specs.Staged.{put_all}
 use Rattle.staging.proofs.staged.put_all.Given as goal
 
 abbrev pub invariant-loop-key : goal.invariant-loop-key

@@ -1,7 +1,7 @@
 use Rattle.std.proofs.Common.{◌≡◌, [], drop}
 use Rattle.std.specs.List.{filter_map}
 use Rattle.values.specs.Writes.{insert_all}
-use Rattle.staging.specs.Writing.{row_taken}
+use Rattle.staging.specs.Staged.{row_taken}
 use Rattle.staging.proofs.staged.rows_taken.Given as goal
 
 abbrev pub invariant-loop-event : goal.invariant-loop-event

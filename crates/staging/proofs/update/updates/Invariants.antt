@@ -1,5 +1,5 @@
 use Rattle.std.proofs.Common.{◌≡◌, ◌++◌}
-use Rattle.staging.specs.Writing.{updates}
+use Rattle.staging.specs.Staged.{updates}
 use Rattle.staging.proofs.update.updates.Given as goal
 
 abbrev pub invariant-loop-key : goal.invariant-loop-key

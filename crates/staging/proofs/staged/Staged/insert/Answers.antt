@@ -6,7 +6,7 @@ use Rattle.values.specs.Fit.{rows_fault}
 use Rattle.values.specs.Writes.{duplicate}
 use Rattle.values.specs.Events.{IsKeyIn}
 use Rattle.staging.specs.Own.{seen, own}
-use Rattle.staging.specs.Writing.{insertions}
+use Rattle.staging.specs.Staged.{insertions}
 use Rattle.staging.proofs.Bridge.{key_in}
 use Rattle.staging.proofs.Entries.{sorted_from}
 use Rattle.staging.proofs.Answered.{no_fault_is, short_keys, inserted_entries, duplicate_is, insert_duplicate, insert_done, keys_after}

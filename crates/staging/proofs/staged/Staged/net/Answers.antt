@@ -5,22 +5,23 @@ use Rattle.values.specs.Order.{key_cmp}
 use Rattle.values.specs.Log.{Net}
 use Rattle.values.specs.KeyEncoding.{IsShortKey, bytes_of_key}
 use Rattle.values.specs.Events.{IsKeyIn, AreKeysIn, row_until}
-use Rattle.staging.specs.Writing.{net_in}
+use Rattle.staging.specs.Staged.{net_in}
+use Rattle.staging.specs.View.{events}
 use Rattle.staging.proofs.Calls.{net_of_view, kept_entries, kept_keys}
 use Rattle.staging.proofs.staged.Staged.net.Goals as goal
 
 pub of-requires : goal.of-requires
 of-requires c =
     subst (All (λ w. IsShortKey w.0)) (sym c.in_ok-net.ensures.ok)
-    (kept_entries IsShortKey (λ w. is_some w.1 || is_some (row_until c.args.view.now.events (bytes_of_key w.0) c.last.result)) c.self.inside.writes.entries c.self.invariant)
+    (kept_entries IsShortKey (λ w. is_some w.1 || is_some (row_until (events c.args.view.now) (bytes_of_key w.0) c.last.result)) c.self.inside.writes.entries c.self.invariant)
 
 pub returns-clause-ok : goal.returns-clause-ok
 returns-clause-ok c = λ schema m held keys.
-    c.of.ensures ∙ c.in_ok-net.ensures.ok ∙ ap (net_in c.args.view.now.events c.last.result) c.self.view_is
+    c.of.ensures ∙ c.in_ok-net.ensures.ok ∙ ap (net_in (events c.args.view.now) c.last.result) c.self.view_is
     ∙ net_of_view schema c.args.view.now c.last.result m c.args.self.now held keys c.last.ensures.ordered c.last.ensures.upto
     (subst (λ (w : Net). IsStrictlySortedBy key_cmp (keys_of w)) c.self.view_is c.in_ok-net.ensures.ordered)
 
 pub returns-clause-keys : goal.returns-clause-keys
 returns-clause-keys c = λ schema keys.
-    subst (AreKeysIn schema) (sym (c.of.ensures ∙ c.in_ok-net.ensures.ok ∙ ap (net_in c.args.view.now.events c.last.result) c.self.view_is))
-    (kept_keys (IsKeyIn schema) (λ w. is_some w.1 || is_some (row_until c.args.view.now.events (bytes_of_key w.0) c.last.result)) c.args.self.now keys)
+    subst (AreKeysIn schema) (sym (c.of.ensures ∙ c.in_ok-net.ensures.ok ∙ ap (net_in (events c.args.view.now) c.last.result) c.self.view_is))
+    (kept_keys (IsKeyIn schema) (λ w. is_some w.1 || is_some (row_until (events c.args.view.now) (bytes_of_key w.0) c.last.result)) c.args.self.now keys)

@@ -1,6 +1,6 @@
 use Rattle.std.proofs.Common.{◌≡◌, All, length, sym, ap, subst, ◌∙◌, rules}
 use Rattle.values.specs.KeyEncoding.{IsShortKey}
-use Rattle.staging.specs.Writing.{put_all}
+use Rattle.staging.specs.Staged.{put_all}
 use Rattle.staging.proofs.Calls.{put_entries, few_answer}
 use Rattle.staging.proofs.staged.Staged.put.Goals as goal
 

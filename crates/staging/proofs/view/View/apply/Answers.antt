@@ -1,7 +1,7 @@
 use Rattle.std.proofs.Common.{◌≡◌, ◌<◌, List, subst, ap, sym, ◌∙◌}
 use Rattle.values.specs.Event.{Event}
 use Rattle.values.specs.Events.{put_net}
-use Rattle.staging.specs.Committed.{Committed, IsCommitted}
+use Rattle.staging.specs.View.{Committed, IsCommitted}
 use Rattle.staging.proofs.Placed.{put_committed}
 use Rattle.staging.proofs.view.View.apply.Goals as goal
 

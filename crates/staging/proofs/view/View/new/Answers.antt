@@ -1,6 +1,6 @@
 use Rattle.std.proofs.Common.{◌≡◌, List, [], subst, rules}
 use Rattle.values.specs.Event.{Event}
-use Rattle.staging.specs.Committed.{IsCommitted}
+use Rattle.staging.specs.View.{IsCommitted}
 use Rattle.staging.proofs.Placed.{none_committed}
 use Rattle.staging.proofs.view.View.new.Goals as goal
 

@@ -14,7 +14,7 @@ use Rattle.values.specs.declared.refusal.Refusal.TheVariants.{TooManyWrites}
 use Rattle.values.specs.Order.{key_cmp, is_key}
 use Rattle.values.specs.Log.{State, Net, Row, apply_net}
 use Rattle.values.specs.Versions.{matches}
-use Rattle.values.specs.Writes.{set_all, insert_all}
+use Rattle.values.specs.Writes.{most_written, set_all, insert_all}
 use Rattle.values.specs.KeyEncoding.{bytes_of_key}
 use Rattle.values.specs.KeyReading.{key_from}
 use Rattle.values.specs.Events.{row_until}
@@ -26,7 +26,7 @@ put_all (c ∷ cs) w = put_all cs (insert_entry key_cmp w c.0 c.1)
 
 -- the number of the changes, unless the keys are too many
 abbrev pub put_answer : Net → Net → Result ℕ Refusal
-put_answer changes w = if nat_lt 1000 (length (put_all changes w)) then Err TooManyWrites else Ok (length changes)
+put_answer changes w = if nat_lt most_written (length (put_all changes w)) then Err TooManyWrites else Ok (length changes)
 
 abbrev pub insertions : List Key → List Row → Net
 insertions (k ∷ ks) (row ∷ rows) = (k, Some row) ∷ insertions ks rows

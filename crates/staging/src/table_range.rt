@@ -1,0 +1,31 @@
+//! The keys of a table.
+ghost use Rattle.std.specs.Prelude.{◌≡◌, ◌<◌, [], ◌∷◌, IfOk};
+ghost use Rattle.values.specs.Memory.{OnlyMemory};
+ghost use Rattle.staging.specs.View.{range_of_table};
+
+use keyrange::KeyRange;
+use std::alloc::Global;
+use values::{KeyBytes, Mem};
+
+/// The range of a table's keys, by its number: the first byte of each.
+pub fn range_of_table(alloc: Global, table: u8) -> Mem<KeyRange>
+    requires { table < 255 }
+    ensures ok { IfOk result (λ range. range ≡ range_of_table table) }
+    ensures err { OnlyMemory result }
+{
+    Ok(KeyRange {
+        lo: one_byte(alloc, table)?,
+        hi: Some(one_byte(alloc, table + 1)?),
+    })
+}
+
+fn one_byte(alloc: Global, byte: u8) -> Mem<KeyBytes>
+    ensures ok { IfOk result (λ key. key ≡ byte ∷ []) }
+    ensures err { OnlyMemory result }
+{
+    let bytes = vec![in alloc; byte]?;
+    match KeyBytes::new(bytes) {
+        Some(key) => Ok(key),
+        None => unreachable!(),
+    }
+}
