@@ -23,7 +23,7 @@ pub fn split_first_key(events: &[SharedEvent]) -> (&[SharedEvent], &[SharedEvent
     ensures front_sorted { IsStrictlySortedBy event_cmp result.0.now }
     ensures back_sorted { IsStrictlySortedBy event_cmp result.1.now }
 {
-    let key = &events[0].event().key;
+    let key = events[0].event().key();
     events.split_at(end_of_key(events, key))
 }
 
@@ -56,7 +56,7 @@ fn is_up_to(events: &[SharedEvent], place: usize, key: &KeyBytes) -> bool
 {
     match events.get(place) {
         None => false,
-        Some(event) => !key.cmp(&event.event().key).is_lt(),
+        Some(event) => !key.cmp(event.event().key()).is_lt(),
     }
 }
 
@@ -68,7 +68,7 @@ pub fn place_until(events: &[SharedEvent], instant: Instant) -> usize
     ensures first { AreFirst (λ e. nat_le e.at instant) events.now result }
 {
     match events {
-        [first, ..] => place_after(events, &first.event().key, instant),
+        [first, ..] => place_after(events, first.event().key(), instant),
         [] => 0,
     }
 }
@@ -89,7 +89,7 @@ pub(crate) fn standing_of(events: &[SharedEvent], instant: Instant) -> Option<&S
 fn with_row(event: &SharedEvent) -> Option<&SharedEvent>
     ensures { option_copied result ≡ (if is_some event.now.row then Some event.now else None) }
 {
-    if event.event().row.is_some() {
+    if event.event().row().is_some() {
         Some(event)
     } else {
         None

@@ -65,7 +65,7 @@ fn place_of_end(events: &[SharedEvent], end: &Option<KeyBytes>) -> usize
 fn is_in(event: &Event, range: &KeyRange, from: Instant, to: Instant) -> bool
     ensures { result ≡ (is_key_in range.now event.now.key && (nat_le from event.now.at && nat_le event.now.at to)) }
 {
-    range.contains(&event.key) && from <= event.at && event.at <= to
+    range.contains(event.key()) && from <= event.at() && event.at() <= to
 }
 
 /// By key: the event of each key of a table whose row stands at an instant. It jumps from key to key.

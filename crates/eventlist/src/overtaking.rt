@@ -10,7 +10,7 @@ use values::{Event, Instant, SharedEvent};
 fn overtakes(event: &Event, instant: Instant, other: &Event) -> bool
     ensures { result ≡ overtakes event.now instant other.now }
 {
-    event.key.cmp(&other.key).is_eq() && event.at < other.at && other.at <= instant
+    event.key().cmp(other.key()).is_eq() && event.at() < other.at() && other.at() <= instant
 }
 
 /// Whether the next event is a later one of an event's key, at the instant or before it.

@@ -11,9 +11,9 @@ use std::cmp::Ordering;
 fn is_until(key: &KeyBytes, instant: Instant, event: &Event) -> bool
     ensures { result ≡ is_until key.now instant event.now }
 {
-    match event.key.cmp(key) {
+    match event.key().cmp(key) {
         Ordering::Less => true,
-        Ordering::Equal => event.at <= instant,
+        Ordering::Equal => event.at() <= instant,
         Ordering::Greater => false,
     }
 }
@@ -46,7 +46,7 @@ pub fn event_until<'a>(
 fn of_key<'a>(key: &KeyBytes, event: &'a Event) -> Option<&'a Event>
     ensures { option_copied result ≡ of_key key.now (Some event.now) }
 {
-    if key.cmp(&event.key).is_eq() {
+    if key.cmp(event.key()).is_eq() {
         Some(event)
     } else {
         None
@@ -77,7 +77,7 @@ fn since(start: Instant, event: Option<&Event>) -> Option<Instant>
     ensures { result ≡ since start (option_copied event.entry) }
 {
     match event {
-        Some(event) if start < event.at => Some(event.at),
+        Some(event) if start < event.at() => Some(event.at()),
         _ => None,
     }
 }
@@ -85,7 +85,7 @@ fn since(start: Instant, event: Option<&Event>) -> Option<Instant>
 pub(crate) fn compare(event: &Event, other: &Event) -> Ordering
     ensures { result ≡ event_cmp event.now other.now }
 {
-    event.key.cmp(&other.key).then(event.at.cmp(&other.at))
+    event.key().cmp(other.key()).then(event.at().cmp(&other.at()))
 }
 
 /// How many events are before another.
@@ -103,7 +103,7 @@ pub fn place_of_key(events: &[SharedEvent], key: &KeyBytes) -> usize
     ensures bound { result ≤ length events.now }
     ensures first { AreFirst (λ e. is_below e.key key.now) events.now result }
 {
-    events.partition_point(|event| event.event().key.cmp(key).is_lt())
+    events.partition_point(|event| event.event().key().cmp(key).is_lt())
 }
 
 /// How many events are of the key or of lesser ones.
@@ -112,5 +112,5 @@ pub fn place_behind_key(events: &[SharedEvent], key: &KeyBytes) -> usize
     ensures bound { result ≤ length events.now }
     ensures first { AreFirst (λ e. not (is_below key.now e.key)) events.now result }
 {
-    events.partition_point(|event| !key.cmp(&event.event().key).is_lt())
+    events.partition_point(|event| !key.cmp(event.event().key()).is_lt())
 }

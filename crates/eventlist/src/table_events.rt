@@ -44,7 +44,7 @@ fn place_of_table(events: &[SharedEvent], table: u8) -> usize
     ensures bound { result ≤ length events.now }
     ensures first { AreFirst (λ e. is_before_table table e.key) events.now result }
 {
-    events.partition_point(|event| is_before_table(table, &event.event().key))
+    events.partition_point(|event| is_before_table(table, event.event().key()))
 }
 
 /// How many events are of the table, where none is of one before it.
@@ -54,5 +54,5 @@ fn count_of_table(events: &[SharedEvent], table: u8) -> usize
     ensures bound { result ≤ length events.now }
     ensures first { AreFirst (λ e. is_of_table table e.key) events.now result }
 {
-    events.partition_point(|event| is_of_table(table, &event.event().key))
+    events.partition_point(|event| is_of_table(table, event.event().key()))
 }

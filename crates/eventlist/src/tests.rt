@@ -30,7 +30,7 @@ fn bytes(alloc: Global, table: u8, number: i64) -> Mem<KeyBytes> {
 
 fn row(alloc: Global, there: bool) -> Result<Option<Row>, AllocError> {
     if there {
-        Ok(Some(Row::new(vec![in alloc; Value::Int(1)]?)))
+        Ok(Row::new(vec![in alloc; Value::Int(1)]?))
     } else {
         Ok(None)
     }
@@ -47,12 +47,10 @@ fn put(
     requires { IsStrictlySortedBy event_cmp events.old.items }
     ensures { IsStrictlySortedBy event_cmp events.new.items }
 {
-    let event = Event {
-        key: bytes(alloc, table, number)?,
-        at,
-        row: row(alloc, there)?,
-    };
-    put_event(events, SharedEvent::new(alloc, event)?)
+    match Event::new(bytes(alloc, table, number)?, at, row(alloc, there)?) {
+        Some(event) => put_event(events, SharedEvent::new(alloc, event)?),
+        None => Ok(()),
+    }
 }
 
 /// Of table 1 the keys 1 (a row at 100, deleted at 200) and 2 (a row at 150), of table 2 the key 1 (a row at 50).
@@ -101,7 +99,7 @@ fn a_keys_last_event_is_found_by_its_instant(rt: HostRuntime) -> Result<(), Fail
         (200, Some(200)),
     ] {
         let event = event_until(&events, &key, at);
-        assert_eq!(rt; event.map(|event| event.at), found, "at {at}");
+        assert_eq!(rt; event.map(|event| event.at()), found, "at {at}");
     }
     Ok(())
 }
@@ -147,8 +145,8 @@ fn rows_stand_until_the_next_event_of_their_key(rt: HostRuntime) -> Result<(), F
 fn a_tables_events_stand_together_and_a_keys(rt: HostRuntime) -> Result<(), Fail> {
     let alloc = rt.alloc();
     let events = some(alloc)?;
-    assert!(rt; is_of_table(1, &at(&rt, &events, 0).key));
-    assert!(rt; !is_of_table(1, &at(&rt, &events, 3).key));
+    assert!(rt; is_of_table(1, at(&rt, &events, 0).key()));
+    assert!(rt; !is_of_table(1, at(&rt, &events, 3).key()));
     assert_eq!(rt; of_table(&events, 0).len(), 0);
     assert_eq!(rt; of_table(&events, 1).len(), 3);
     assert_eq!(rt; of_table(&events, 2).len(), 1);

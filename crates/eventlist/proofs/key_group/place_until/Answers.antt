@@ -9,5 +9,5 @@ pub returns-in-len1-up-clause-first : goal.returns-in-len1-up-clause-first
 returns-in-len1-up-clause-first c =
     by_instant (first_key c.args.events.now) c.args.instant c.args.events.now c.place_after.result c.place_after.ensures.bound c.requires.one_key
     (subst (λ (key : List ℕ). AreFirst (is_until key c.args.instant) c.args.events.now c.place_after.result)
-    (ap (λ (e : Event). e.key) c.event.ensures ∙ first_is c.args.events.now c.first-item.result (let some = c.in-len1-up.len_at_least in omega arith) c.first-item.is)
+    (c.key.ensures.is ∙ ap (λ (e : Event). e.key) c.event.ensures ∙ first_is c.args.events.now c.first-item.result (let some = c.in-len1-up.len_at_least in omega arith) c.first-item.is)
     c.place_after.ensures.first)

@@ -12,7 +12,7 @@ use Rattle.eventlist.proofs.key_group.split_first_key.Goals as goal
 parted : (c : goal.After-split_at) → AreFirst (not_above (first_key c.args.events.now)) c.args.events.now c.end_of_key.result
 parted c =
     subst (λ (key : List _). AreFirst (not_above key) c.args.events.now c.end_of_key.result)
-    (ap (λ (e : Event). e.key) c.event.ensures ∙ first_is c.args.events.now c.index-events-0.result c.requires.some c.index-events-0.is)
+    (c.key-key.ensures.is ∙ ap (λ (e : Event). e.key) c.event.ensures ∙ first_is c.args.events.now c.index-events-0.result c.requires.some c.index-events-0.is)
     c.end_of_key.ensures.first
 
 pub returns-clause-some : goal.returns-clause-some
