@@ -12,7 +12,7 @@ use Rattle.std.proofs.lemmas.List.Folds.{list_any-append}
 use Rattle.values.specs.Event.{Event}
 use Rattle.values.specs.Events.{bytes_cmp, event_cmp}
 use Rattle.keyrange.specs.Points.{is_below}
-use Rattle.eventlist.specs.Listing.{overtakes, stands_at, is_of_table, standing}
+use Rattle.eventlist.specs.Listing.{overtakes, stands_at, standing}
 use Rattle.eventlist.specs.Place.{AreFirst, is_until, is_overtaken, is_up_to}
 use Rattle.eventlist.specs.KeyGroup.{first_key, AreOfKey, AreAbove}
 use Rattle.eventlist.proofs.Ordered.{bytes_tie, bytes_exact, is_lower, sorted_head, sorted_tail, within_tail, within_rest, within_head}
@@ -242,14 +242,14 @@ module _ (key : List ℕ) (t : ℕ) where
       above : AllByRecursion (λ d. is_below key d.key ≡ true) behind
       above = recursion_from_All (λ (d : Event). is_below key d.key ≡ true) behind others
 
--- ---- a table's events alone
+-- ---- the events of some keys alone
 
-module _ (number t : ℕ) where
+module _ (p : List ℕ → Bool) (t : ℕ) where
   abbrev of : Event → Bool
-  of e = is_of_table number e.key
+  of e = p e.key
 
   other : (e d : Event) → of e ≡ true → of d ≡ false → overtakes e t d ≡ false
-  other e d own is = never (overtakes e t d) (λ over. (let clash : ◌≡◌ {A = Bool} true false = sym own ∙ ap (is_of_table number) (overtakes_is e t d over).of_key ∙ is in cc))
+  other e d own is = never (overtakes e t d) (λ over. (let clash : ◌≡◌ {A = Bool} true false = sym own ∙ ap p (overtakes_is e t d over).of_key ∙ is in cc))
 
   by_its_own : (e : Event) → of e ≡ true → (ds : List Event) → list_any (overtakes e t) ds ≡ list_any (overtakes e t) (filter of ds)
   by_its_own e own [] = refl
@@ -259,18 +259,18 @@ module _ (number t : ℕ) where
       by true is more = ap (λ b. overtakes e t d || b) more
       by false is more = ap (λ b. b || list_any (overtakes e t) ds) (other e d own is) ∙ more
 
-  table_alone : (all es : List Event) → filter (λ e. of e && stands_at all t e) es ≡ filter (stands_at (filter of all) t) (filter of es)
+  keys_alone : (all es : List Event) → filter (λ e. of e && stands_at all t e) es ≡ filter (stands_at (filter of all) t) (filter of es)
   unfolding stands_at
-  table_alone all [] = refl
-  table_alone all (e ∷ es) = by (of e) refl (table_alone all es)
+  keys_alone all [] = refl
+  keys_alone all (e ∷ es) = by (of e) refl (keys_alone all es)
     where
       by : (b : Bool) → of e ≡ b → filter (λ e. of e && stands_at all t e) es ≡ filter (stands_at (filter of all) t) (filter of es)
           → cond (b && stands_at all t e) (e ∷ filter (λ e. of e && stands_at all t e) es) (filter (λ e. of e && stands_at all t e) es) ≡ filter (stands_at (filter of all) t) (cond b (e ∷ filter of es) (filter of es))
       by false is rest = rest
       by true is rest = λ i. cond (nat_le e.at t && (is_some e.row && not (by_its_own e is all i))) (e ∷ rest i) (rest i)
 
-  pub standing_is : (es : List Event) → standing es number t ≡ lasting (filter of es) t
-  standing_is es = table_alone es es
+  pub standing_is : (es : List Event) → standing es p t ≡ lasting (filter of es) t
+  standing_is es = keys_alone es es
 
 -- one key more
 pub stand_step : (all found new rest run behind one : List Event) (key : List ℕ) (t : ℕ) → run ++ behind ≡ rest → AreOfKey key run → AreAbove key behind → one ≡ lasting run t → found ++ lasting rest t ≡ all → new ≡ found ++ one → new ++ lasting behind t ≡ all

@@ -1,8 +1,8 @@
-pub mod Ordered
 pub mod Found
-pub mod Placed
-pub mod Overtaken
-pub mod Ranges
-pub mod Parts
-pub mod Leads
 pub mod Jumps
+pub mod Ordered
+pub mod Overtaken
+pub mod Parts
+pub mod Placed
+pub mod RangeEvents
+pub mod Ranges

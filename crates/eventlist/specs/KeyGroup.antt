@@ -1,5 +1,5 @@
 -- The events of one key stand together.
-use Rattle.std.specs.Prelude.{◌≡◌, ℕ, List, [], ◌∷◌, Bool, true, nat_lt, All}
+use Rattle.std.specs.Prelude.{◌≡◌, ℕ, List, [], ◌∷◌, true, All}
 use Rattle.values.specs.Event.{Event}
 use Rattle.keyrange.specs.Points.{is_below}
 
@@ -14,8 +14,3 @@ AreOfKey key es = All (λ e. e.key ≡ key) es
 -- of greater keys
 abbrev pub AreAbove : List ℕ → List Event → Type 0
 AreAbove key es = All (λ e. is_below key e.key ≡ true) es
-
--- the first byte of a key is below a table's number, or there is none
-abbrev pub is_before_table : ℕ → List ℕ → Bool
-is_before_table number [] = true
-is_before_table number (b ∷ bs) = nat_lt b number

@@ -23,6 +23,6 @@ abbrev pub is_of_table : ℕ → List ℕ → Bool
 is_of_table number [] = false
 is_of_table number (b ∷ bs) = b == number
 
--- by key: of each key of a table, the event whose row stands at an instant
-abbrev pub standing : List Event → ℕ → ℕ → List Event
-standing es number t = filter (λ e. is_of_table number e.key && stands_at es t e) es
+-- by key: of each key that passes a test, the event whose row stands at an instant
+abbrev pub standing : List Event → (List ℕ → Bool) → ℕ → List Event
+standing es p t = filter (λ e. p e.key && stands_at es t e) es

@@ -3,13 +3,12 @@ ghost use Rattle.std.specs.Prelude.{◌≡◌, ◌≤◌, ◌&&◌, IfOk, length
 ghost use Rattle.std.specs.List.Sorted.{IsStrictlySortedBy};
 ghost use Rattle.values.specs.Events.{event_cmp};
 ghost use Rattle.values.specs.Memory.{OnlyMemory};
-ghost use Rattle.keyrange.specs.Points.{is_before_end, is_key_in};
+ghost use Rattle.keyrange.specs.Points.{is_key_in};
 ghost use Rattle.eventlist.specs.Listing.{events_in, standing, stands_at};
-ghost use Rattle.eventlist.specs.Place.{AreFirst};
 
 use crate::place::place_of_key;
 use crate::key_group::{split_first_key, standing_of};
-use crate::table_events::of_table;
+use crate::range::{of_range, place_of_end};
 use keyrange::KeyRange;
 use values::{Event, Instant, KeyBytes, Mem, SharedEvent};
 use std::alloc::Global;
@@ -50,36 +49,24 @@ fn passed(
     Ok(found)
 }
 
-/// How many events are of keys before the end, which may be none.
-fn place_of_end(events: &[SharedEvent], end: &Option<KeyBytes>) -> usize
-    requires { IsStrictlySortedBy event_cmp events.now }
-    ensures bound { result ≤ length events.now }
-    ensures first { AreFirst (λ e. is_before_end e.key end.now) events.now result }
-{
-    match end {
-        None => events.len(),
-        Some(end) => place_of_key(events, end),
-    }
-}
-
 fn is_in(event: &Event, range: &KeyRange, from: Instant, to: Instant) -> bool
     ensures { result ≡ (is_key_in range.now event.now.key && (nat_le from event.now.at && nat_le event.now.at to)) }
 {
     range.contains(event.key()) && from <= event.at() && event.at() <= to
 }
 
-/// By key: the event of each key of a table whose row stands at an instant. It jumps from key to key.
+/// By key: the event of each key of a range whose row stands at an instant. It jumps from key to key.
 pub fn standing(
     alloc: Global,
     events: &[SharedEvent],
-    table: u8,
+    range: &KeyRange,
     instant: Instant,
 ) -> Mem<Vec<SharedEvent>>
     requires { IsStrictlySortedBy event_cmp events.now }
-    ensures ok { IfOk result (λ v. v.items ≡ standing events.now table instant) }
+    ensures ok { IfOk result (λ v. v.items ≡ standing events.now (is_key_in range.now) instant) }
     ensures err { OnlyMemory result }
 {
-    Ok(all_standing(alloc, of_table(events, table), instant)?)
+    Ok(all_standing(alloc, of_range(events, range), instant)?)
 }
 
 fn all_standing(alloc: Global, events: &[SharedEvent], instant: Instant) -> Mem<Vec<SharedEvent>>

@@ -5,7 +5,7 @@ ghost use Rattle.values.specs.KeyEncoding.{IsShortKey};
 ghost use Rattle.values.specs.Events.{event_cmp};
 
 use crate::{
-    event_since, event_until, events_in, is_of_table, is_overtaken, of_table, place_after,
+    event_since, event_until, events_in, is_overtaken, of_range, place_after,
     place_behind_key, place_of, place_of_key, place_until, put_event, split_first_key, standing,
 };
 use keyrange::KeyRange;
@@ -26,6 +26,16 @@ fn key(alloc: Global, table: u8, number: i64) -> Result<Key, AllocError>
 fn bytes(alloc: Global, table: u8, number: i64) -> Mem<KeyBytes> {
     let key = key(alloc, table, number)?;
     Ok(key_bytes(alloc, &key)?)
+}
+
+/// The keys of table 0, 1 or 2.
+fn keys_of_table(rt: &impl Abort, alloc: Global, table: u8) -> Result<KeyRange, AllocError> {
+    let lo = vec![in alloc; table]?;
+    let hi = vec![in alloc; table.wrapping_add(1)]?;
+    Ok(KeyRange {
+        lo: KeyBytes::new(lo).expect(rt, "one byte is few"),
+        hi: Some(KeyBytes::new(hi).expect(rt, "one byte is few")),
+    })
 }
 
 fn row(alloc: Global, there: bool) -> Result<Option<Row>, AllocError> {
@@ -133,8 +143,9 @@ fn events_of_a_range_are_listed(rt: HostRuntime) -> Result<(), Fail> {
 fn rows_stand_until_the_next_event_of_their_key(rt: HostRuntime) -> Result<(), Fail> {
     let alloc = rt.alloc();
     let events = some(alloc)?;
+    let range = keys_of_table(&rt, alloc, 1)?;
     for (at, count) in [(99, 0), (100, 1), (150, 2), (199, 2), (200, 1)] {
-        assert_eq!(rt; standing(alloc, &events, 1, at)?.len(), count, "at {at}");
+        assert_eq!(rt; standing(alloc, &events, &range, at)?.len(), count, "at {at}");
     }
     assert!(rt; !is_overtaken(at(&rt, &events, 0), 199, events.get(1)));
     assert!(rt; is_overtaken(at(&rt, &events, 0), 200, events.get(1)));
@@ -142,14 +153,13 @@ fn rows_stand_until_the_next_event_of_their_key(rt: HostRuntime) -> Result<(), F
 }
 
 #[test]
-fn a_tables_events_stand_together_and_a_keys(rt: HostRuntime) -> Result<(), Fail> {
+fn the_events_of_a_range_stand_together(rt: HostRuntime) -> Result<(), Fail> {
     let alloc = rt.alloc();
     let events = some(alloc)?;
-    assert!(rt; is_of_table(1, at(&rt, &events, 0).key()));
-    assert!(rt; !is_of_table(1, at(&rt, &events, 3).key()));
-    assert_eq!(rt; of_table(&events, 0).len(), 0);
-    assert_eq!(rt; of_table(&events, 1).len(), 3);
-    assert_eq!(rt; of_table(&events, 2).len(), 1);
+    for (table, count) in [(0u8, 0), (1, 3), (2, 1)] {
+        let range = keys_of_table(&rt, alloc, table)?;
+        assert_eq!(rt; of_range(&events, &range).len(), count, "of table {table}");
+    }
     Ok(())
 }
 

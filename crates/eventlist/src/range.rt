@@ -1,0 +1,32 @@
+//! The events of a range of keys, which stand together.
+ghost use Rattle.std.specs.Prelude.{◌≡◌, ◌≤◌, length, filter};
+ghost use Rattle.std.specs.List.Sorted.{IsStrictlySortedBy};
+ghost use Rattle.values.specs.Events.{event_cmp};
+ghost use Rattle.keyrange.specs.Points.{is_before_end, is_key_in};
+ghost use Rattle.eventlist.specs.Place.{AreFirst};
+
+use crate::place::place_of_key;
+use keyrange::KeyRange;
+use values::{KeyBytes, SharedEvent};
+
+/// The events of a range of keys.
+pub fn of_range<'a>(events: &'a [SharedEvent], range: &KeyRange) -> &'a [SharedEvent]
+    requires { IsStrictlySortedBy event_cmp events.now }
+    ensures are { result.now ≡ filter (λ e. is_key_in range.now e.key) events.now }
+    ensures sorted { IsStrictlySortedBy event_cmp result.now }
+{
+    let rest = events.split_at(place_of_key(events, &range.lo)).1;
+    rest.split_at(place_of_end(rest, &range.hi)).0
+}
+
+/// How many events are of keys before the end, which may be none.
+pub(crate) fn place_of_end(events: &[SharedEvent], end: &Option<KeyBytes>) -> usize
+    requires { IsStrictlySortedBy event_cmp events.now }
+    ensures bound { result ≤ length events.now }
+    ensures first { AreFirst (λ e. is_before_end e.key end.now) events.now result }
+{
+    match end {
+        None => events.len(),
+        Some(end) => place_of_key(events, end),
+    }
+}
