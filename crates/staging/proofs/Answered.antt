@@ -25,7 +25,7 @@ use Rattle.values.specs.Log.{State, Net, Row, Changes, row_at, set_row, apply_ne
 use Rattle.values.specs.Tables.{Schema, IsTable}
 use Rattle.values.specs.Fit.{rows_fault, row_fault, key_fault, comparisons_fault, sets_fault, first_of}
 use Rattle.values.specs.Faults.{no_fault}
-use Rattle.values.specs.Writes.{key_of, insert_rows, insert_all, duplicate, duplicate_from, update_rows, delete_rows, met, set_all}
+use Rattle.values.specs.Writes.{Own, Written, writing, insert_into, update_in, delete_from, key_of, insert_rows, insert_all, duplicate, duplicate_from, update_rows, delete_rows, met, set_all}
 use Rattle.values.specs.Versions.{matches}
 use Rattle.values.specs.KeyEncoding.{IsShortKey}
 use Rattle.values.specs.RowEncoding.{IsHeld}
@@ -35,7 +35,7 @@ use Rattle.values.specs.Events.{event_cmp, events_of, IsKeyIn, AreKeysIn}
 use Rattle.values.proofs.KeyLengths.{fitting_keys_are_short, first_none}
 use Rattle.values.proofs.RowKeys.{fitting_key, keys_are_short}
 use Rattle.staging.specs.View.{events, Committed}
-use Rattle.staging.specs.Own.{Own, Reads, Written, seen, own, writing, fitting, insert_into, of_table, update_in, delete_from}
+use Rattle.staging.specs.Own.{Reads, seen, own, fitting, checked_insert, of_table, checked_update, checked_delete}
 use Rattle.staging.specs.Staged.{put_all, put_answer, insertions, updates, deletions, sees, first_seen, row_taken, rows_in}
 use Rattle.staging.proofs.Entries.{sorted_from, sorted_apply, apply-updates, apply-deletions}
 use Rattle.staging.proofs.Bridge.{are_seen, sorted_base, sees_is, key_in}
@@ -114,12 +114,12 @@ unless_duplicate table rows o found = elim found [
   | None ↦ writing (map (key_of table) rows) (length rows) (insert_rows table rows o.rows) o
 ]
 
-pub insert_duplicate : (table : Table) (rows : List Row) (o : Own) (key : Key) → rows_fault table rows ≡ None → duplicate table rows o.rows ≡ Some key → ◌≡◌ {A = Written} (Err (DuplicateKey key), o) (insert_into table rows o)
+pub insert_duplicate : (table : Table) (rows : List Row) (o : Own) (key : Key) → rows_fault table rows ≡ None → duplicate table rows o.rows ≡ Some key → ◌≡◌ {A = Written} (Err (DuplicateKey key), o) (checked_insert table rows o)
 insert_duplicate table rows o key fits is =
     sym (ap (λ f. fitting f (unless_duplicate table rows o (duplicate table rows o.rows)) o) fits ∙ ap (unless_duplicate table rows o) is)
 
 pub insert_done : (table : Table) (rows : List Row) (m : Changes) (w new : Net) (r : Result ℕ Refusal) (cs : Net) → rows_fault table rows ≡ None → duplicate table rows (seen m w) ≡ None → cs ≡ insertions (map (key_of table) rows) rows
-    → T (is_sorted key_cmp w) → r ≡ put_answer cs w → OnOk r (new ≡ put_all cs w) → OnErr r (new ≡ w) → ◌≡◌ {A = Written} (r, own m new) (insert_into table rows (own m w))
+    → T (is_sorted key_cmp w) → r ≡ put_answer cs w → OnOk r (new ≡ put_all cs w) → OnErr r (new ≡ w) → ◌≡◌ {A = Written} (r, own m new) (checked_insert table rows (own m w))
 insert_done table rows m w new r cs fits none is sorted answer ok err =
     put_is m cs w new r sorted answer ok err
     ∙ ap (λ cs. writing (keys_of cs) (length cs) (apply_net (seen m w) cs) (own m w)) is
@@ -256,7 +256,7 @@ delete_keys (e ∷ es) = ap (λ l. e.0 ∷ l) (delete_keys es)
 
 pub update_done : (table : Table) (keys : Keys) (sets : List Set) (m : Changes) (w new : Net) (r : Result ℕ Refusal) (cs : Net) (found : State) → keys.table ≡ table.number → sets_fault table [] sets ≡ None → comparisons_fault table keys.comparisons ≡ None
     → found ≡ filter (λ e. matches table keys e.0) (seen m w) → cs ≡ updates sets found → T (is_sorted key_cmp w) → r ≡ put_answer cs w → OnOk r (new ≡ put_all cs w) → OnErr r (new ≡ w)
-    → ◌≡◌ {A = Written} (r, own m new) (update_in table keys sets (own m w))
+    → ◌≡◌ {A = Written} (r, own m new) (checked_update table keys sets (own m w))
 update_done table keys sets m w new r cs found same no_set no_comparison found_is is sorted answer ok err =
     own_table table keys _ (r, own m new) (own m w) same (
     put_is m cs w new r sorted answer ok err
@@ -273,7 +273,7 @@ update_done table keys sets m w new r cs found same no_set no_comparison found_i
 
 pub delete_done : (table : Table) (keys : Keys) (m : Changes) (w new : Net) (r : Result ℕ Refusal) (cs : Net) (found : State) → keys.table ≡ table.number → comparisons_fault table keys.comparisons ≡ None
     → found ≡ filter (λ e. matches table keys e.0) (seen m w) → cs ≡ deletions found → T (is_sorted key_cmp w) → r ≡ put_answer cs w → OnOk r (new ≡ put_all cs w) → OnErr r (new ≡ w)
-    → ◌≡◌ {A = Written} (r, own m new) (delete_from table keys (own m w))
+    → ◌≡◌ {A = Written} (r, own m new) (checked_delete table keys (own m w))
 delete_done table keys m w new r cs found same no_comparison found_is is sorted answer ok err =
     own_table table keys _ (r, own m new) (own m w) same (
     put_is m cs w new r sorted answer ok err

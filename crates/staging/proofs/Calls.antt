@@ -18,13 +18,15 @@ use Rattle.values.specs.declared.refusal.Refusal.TheVariants.{TooManyWrites}
 use Rattle.values.specs.Order.{key_cmp}
 use Rattle.values.specs.Log.{Net, Row, Changes, apply_net, rows_after}
 use Rattle.values.specs.Tables.{Schema}
-use Rattle.values.specs.Writes.{add_keys}
+use Rattle.values.specs.Writes.{Written, writing, most_written, insert_all, add_keys}
 use Rattle.values.specs.Versions.{matches}
 use Rattle.values.specs.Events.{event_cmp, AreKeysIn}
-use Rattle.eventlist.specs.Listing.{standing}
-use Rattle.staging.specs.View.{events, Committed, Holds}
-use Rattle.staging.specs.Own.{Reads, Written, seen, own, net_over, writing}
+use Rattle.keyrange.specs.Points.{is_key_in}
+use Rattle.eventlist.specs.Listing.{is_of_table, standing}
+use Rattle.staging.specs.View.{events, range_of_table, Committed, Holds}
+use Rattle.staging.specs.Own.{Reads, seen, own, net_over}
 use Rattle.staging.specs.Staged.{put_all, put_answer, rows_in, net_in}
+use Rattle.staging.proofs.TableRange.{in_range, narrowed}
 use Rattle.staging.proofs.Entries.{sorted_from, apply-put_all, keys_put_all}
 use Rattle.staging.proofs.Bridge.{are_seen, sorted_base, net_is}
 use Rattle.staging.proofs.Seen.{rows_are}
@@ -32,9 +34,10 @@ use Rattle.staging.proofs.Seen.{rows_are}
 -- ---- what is read of a view
 
 pub rows_of_view : (schema : Schema) (table : Table) (keys : Keys) (view : Committed) (t : ℕ) (m : Changes) (w : Net) → Reads schema table view w m → keys.table ≡ table.number → IsStrictlySortedBy event_cmp (events view) → All (λ e. e.at ≤ t) (events view)
-    → IsStrictlySortedBy key_cmp (keys_of w) → rows_in table keys (standing (events view) (is_of_table table.number) t) w ≡ filter (λ e. matches table keys e.0) (seen m w)
+    → IsStrictlySortedBy key_cmp (keys_of w) → rows_in table keys (standing (events view) (is_key_in (range_of_table table.number)) t) w ≡ filter (λ e. matches table keys e.0) (seen m w)
 rows_of_view schema table keys view t m w reads same sorted upto ordered =
-    ap (λ es. rows_in table keys (standing es (is_of_table table.number) t) w) reads.held.events_are
+    ap (λ es. apply_net (insert_all [] es) (filter (λ c. matches table keys c.0) w)) (narrowed table keys (is_key_in (range_of_table table.number)) (in_range table.number) t (events view) (events view))
+    ∙ ap (λ es. rows_in table keys (standing es (is_of_table table.number) t) w) reads.held.events_are
     ∙ rows_are schema table keys t m w reads.is_table same (are_seen schema view t m reads.held sorted upto) (sorted_from w ordered)
 
 pub net_of_view : (schema : Schema) (view : Committed) (t : ℕ) (m : Changes) (w : Net) → Holds schema view m → AreKeysIn schema w → IsStrictlySortedBy event_cmp (events view) → All (λ e. e.at ≤ t) (events view) → IsStrictlySortedBy key_cmp (keys_of w)
@@ -84,13 +87,29 @@ module _ (P : Key → Type 0) where
   pub kept_keys : (p : Key × Option Row → Bool) (w : Net) → All P (keys_of w) → All P (keys_of (filter p w))
   kept_keys p w h = All-from_recursion P (keys_of (filter p w)) (all_keys (filter p w) (all_kept p w (keys_all w (recursion_from_All P (keys_of w) h))))
 
+-- ---- what is kept is in order
+
+pub kept_ordered : (p : Key × Option Row → Bool) (w : Net) → IsStrictlySortedBy key_cmp (keys_of w) → IsStrictlySortedBy key_cmp (keys_of (filter p w))
+unfolding IsStrictlySortedBy
+kept_ordered p [] h = tt
+kept_ordered p (c ∷ w) h =
+    elim (p c) as (λ b. IsStrictlySortedBy key_cmp (keys_of (cond b (c ∷ filter p w) (filter p w)))) [
+      | true ↦ (above w h.0, kept_ordered p w h.1)
+      | false ↦ kept_ordered p w h.1
+    ]
+  where
+    above : (ds : Net) → AllByRecursion (λ k. key_cmp c.0 k ≡ Less) (keys_of ds) → AllByRecursion (λ k. key_cmp c.0 k ≡ Less) (keys_of (filter p ds))
+    above [] h = tt
+    above (d ∷ ds) h =
+        elim (p d) as (λ b. AllByRecursion (λ k. key_cmp c.0 k ≡ Less) (keys_of (cond b (d ∷ filter p ds) (filter p ds)))) [ true ↦ (h.0, above ds h.1) | false ↦ above ds h.1 ]
+
 -- ---- what is put
 
-pub few_answer : (cs w new : Net) (count n : ℕ) → new ≡ put_all cs w → count ≡ length cs → n ≡ length new → n ≤ 1000 → ◌≡◌ {A = Result ℕ Refusal} (Ok count) (put_answer cs w)
+pub few_answer : (cs w new : Net) (count n : ℕ) → new ≡ put_all cs w → count ≡ length cs → n ≡ length new → n ≤ most_written → ◌≡◌ {A = Result ℕ Refusal} (Ok count) (put_answer cs w)
 few_answer cs w new count n is c l few =
     sym (ap (λ (b : Bool). if b then Err TooManyWrites else Ok (length cs)) (ap (λ m. nat_lt most_written (length m)) (sym is) ∙ ap (nat_lt most_written) (sym l) ∙ small n few) ∙ ap Ok (sym c))
   where
-    small : (n : ℕ) → n ≤ 1000 → nat_lt most_written n ≡ false
+    small : (n : ℕ) → n ≤ most_written → nat_lt most_written n ≡ false
     small n h = grind (arith, nat_tests)
 
 -- a write of changes, over what was seen

@@ -44,7 +44,7 @@ later_ones number t c es (d ∷ ds) h =
     λ i. cond (is_of_table number d.key && (nat_le d.at t && (is_some d.row && not (not_earlier c d t h.0 i || list_any (overtakes d t) es)))) (d ∷ later_ones number t c es ds h.1 i) (later_ones number t c es ds h.1 i)
 
 standing_cons : (number t : ℕ) (c : Event) (es : List Event) → IsStrictlySortedBy event_cmp (c ∷ es)
-    → standing (c ∷ es) number t ≡ cond (stands_over number t es c) (c ∷ standing es number t) (standing es number t)
+    → standing (c ∷ es) (is_of_table number) t ≡ cond (stands_over number t es c) (c ∷ standing es (is_of_table number) t) (standing es (is_of_table number) t)
 unfolding stands_at
 standing_cons number t c es h =
     λ i. cond (is_of_table number c.key && (nat_le c.at t && (is_some c.row && not (not_itself c t i || list_any (overtakes c t) es)))) (c ∷ later_ones number t c es es (sorted_head event_cmp c es h) i) (later_ones number t c es es (sorted_head event_cmp c es h) i)
@@ -102,7 +102,7 @@ read_row schema table keys c at hc is =
 
 -- the rows of the events that stand are those of the last changes
 taken_is : (schema : Schema) (table : Table) (keys : Keys) (t : ℕ) (m : Changes) → table_at schema table.number ≡ Some table → keys.table ≡ table.number → AreSeen schema t m
-    → filter_map (row_taken table keys) (standing (events_of m) table.number t) ≡ taken_rest table keys m
+    → filter_map (row_taken table keys) (standing (events_of m) (is_of_table table.number) t) ≡ taken_rest table keys m
 taken_is schema table keys t [] at same h = refl
 taken_is schema table keys t (c ∷ cs) at same h =
     ap (filter_map (row_taken table keys)) (standing_cons table.number t (event_of c) (events_of cs) h.sorted)
@@ -112,7 +112,7 @@ taken_is schema table keys t (c ∷ cs) at same h =
     ∙ ap (cons_option (taken_at table keys c cs)) (taken_is schema table keys t cs at same (rest_seen schema t c cs h))
   where
     rest : List Event
-    rest = standing (events_of cs) table.number t
+    rest = standing (events_of cs) (is_of_table table.number) t
 
     by : (b : Bool) (o : Option Row) → (c.0.key.table == table.number) ≡ b → c.1 ≡ o
         → filter_map (row_taken table keys) (cond ((c.0.key.table == table.number) && (true && (is_some c.1 && not (has_later c.0.key cs)))) (event_of c ∷ rest) rest) ≡ cons_option (taken_at table keys c cs) (filter_map (row_taken table keys) rest)
@@ -231,7 +231,7 @@ sorted_inserted [] s h = h
 sorted_inserted (e ∷ es) s h = sorted_inserted es _ (sorted_insert key_cmp_total s e.0 e.1 h)
 
 base_is : (schema : Schema) (table : Table) (keys : Keys) (t : ℕ) (m : Changes) → table_at schema table.number ≡ Some table → keys.table ≡ table.number → AreSeen schema t m
-    → insert_all [] (filter_map (row_taken table keys) (standing (events_of m) table.number t)) ≡ filter (λ e. matches table keys e.0) (rows_after [] m)
+    → insert_all [] (filter_map (row_taken table keys) (standing (events_of m) (is_of_table table.number) t)) ≡ filter (λ e. matches table keys e.0) (rows_after [] m)
 base_is schema table keys t m at same h =
     ap (insert_all []) (taken_is schema table keys t m at same h)
     ∙ same_map key_cmp_total key_cmp-IsAntisymmetric (insert_all [] (taken_rest table keys m)) (filter (λ e. matches table keys e.0) (rows_after [] m))
@@ -246,6 +246,6 @@ base_is schema table keys t m at same h =
 
 -- the rows that a transaction sees and that the keys take
 pub rows_are : (schema : Schema) (table : Table) (keys : Keys) (t : ℕ) (m : Changes) (w : Net) → table_at schema table.number ≡ Some table → keys.table ≡ table.number → AreSeen schema t m → T (is_sorted key_cmp w)
-    → rows_in table keys (standing (events_of m) table.number t) w ≡ filter (λ e. matches table keys e.0) (seen m w)
+    → rows_in table keys (standing (events_of m) (is_of_table table.number) t) w ≡ filter (λ e. matches table keys e.0) (seen m w)
 rows_are schema table keys t m w at same h sorted =
     ap (λ s. apply_net s (filter (λ c. matches table keys c.0) w)) (base_is schema table keys t m at same h) ∙ apply-filter (matches table keys) w (rows_after [] m) (sorted_base m) sorted

@@ -1,5 +1,5 @@
 -- What was committed, as contracts see a view of it.
-use Rattle.std.specs.Prelude.{◌≡◌, ℕ, ◌≤◌, ◌+◌, List, [], ◌∷◌, Some, All}
+use Rattle.std.specs.Prelude.{◌≡◌, ℕ, ◌≤◌, ◌+◌, ◌==◌, List, [], ◌∷◌, Some, None, if◌then◌else◌, All}
 use Rattle.std.specs.Map.{keys_of}
 use Rattle.std.specs.List.Sorted.{IsStrictlySortedBy}
 use Rattle.keyrange.specs.declared.range.KeyRange.{KeyRange}
@@ -43,6 +43,7 @@ pub record Adds (instant : ℕ) (net : Net) (old new : Committed) : Type 0 where
   pub events_are : events new ≡ put_net instant net (events old)
   pub last_is : last new ≡ instant
 
--- the keys of a table, by its number: the first byte of each
+-- the keys of a table, by its number: the first byte of each; 255 is the greatest byte
 abbrev pub range_of_table : ℕ → KeyRange
-range_of_table number = record { lo = number ∷ []; hi = Some ((number + 1) ∷ []) }
+range_of_table number =
+    record { lo = number ∷ []; hi = if number == 255 then None else Some ((number + 1) ∷ []) }

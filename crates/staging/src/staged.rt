@@ -12,8 +12,9 @@ ghost use Rattle.values.specs.Versions.{matches};
 ghost use Rattle.values.specs.Writes.{insert_all};
 ghost use Rattle.values.specs.KeyEncoding.{IsShortKey, bytes_of_key};
 ghost use Rattle.values.specs.Events.{AreKeysIn, row_until};
-ghost use Rattle.eventlist.specs.Listing.{is_of_table, standing};
-ghost use Rattle.staging.specs.View.{events, Holds};
+ghost use Rattle.keyrange.specs.Points.{is_key_in};
+ghost use Rattle.eventlist.specs.Listing.{standing};
+ghost use Rattle.staging.specs.View.{events, range_of_table, Holds};
 ghost use Rattle.staging.specs.Own.{WhenRead, seen, net_over};
 ghost use Rattle.staging.specs.Staged.{put_all, put_answer, sees, first_seen, row_taken, rows_in, net_in};
 
@@ -95,7 +96,7 @@ impl Staged {
         ensures ok {
             IfOk result (λ found. found.entries
                 ≡ rows_in table.now keys.now
-                    (standing (events view.now) (is_of_table table.now.number) last) self.now)
+                    (standing (events view.now) (is_key_in (range_of_table table.now.number)) last) self.now)
         }
         ensures err { OnlyMemory result }
         ensures ordered { OnOk result (IsStrictlySortedBy key_cmp (keys_of self.now)) }

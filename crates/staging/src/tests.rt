@@ -2,11 +2,12 @@
 ghost use Rattle.std.specs.Prelude.{◌≡◌, ◌<◌, ◌≤◌, IfOk, OnOk};
 ghost use Rattle.values.specs.KeyEncoding.{IsShortKey};
 ghost use Rattle.values.specs.Tables.{IsTable};
+ghost use Rattle.staging.specs.View.{last};
 
-use crate::{Staged, View};
+use crate::{EventStore, Staged, View, range_of_table};
 use keyrange::KeyRange;
 use values::{
-    Chars, Comparison, Instant, Key, KeyBytes, Keys, Mem, Operator, Refusal, Row, Schema, Sequence,
+    Chars, Comparison, Instant, Key, KeyBytes, Keys, Mem, Operator, Refusal, Row, Sequence,
     Set, Table, Value, Values, key_bytes,
 };
 use std::alloc::{AllocError, Global};
@@ -17,9 +18,10 @@ fn text(alloc: Global, text: &str) -> Result<Value, AllocError> {
     Ok(Value::Text(Chars::new(String::from_str(alloc, text)?)))
 }
 
-fn emp(alloc: Global, number: i64, name: &str) -> Result<Row, AllocError> {
+fn emp(alloc: Global, number: i64, name: &str) -> Mem<Row> {
     let name = text(alloc, name)?;
-    Ok(Row::new(vec![in alloc; Value::Int(number), name]?))
+    let row = Row::new(vec![in alloc; Value::Int(number), name]?);
+    row.ok_or(Refusal::BadRow(2))
 }
 
 fn key(alloc: Global, number: i64) -> Result<Key, AllocError>
@@ -63,12 +65,6 @@ fn named(alloc: Global, name: &str) -> Result<Set, AllocError> {
     })
 }
 
-fn emp_of<'a>(rt: &impl Abort, schema: &'a Schema) -> &'a Table
-    ensures { IsTable result.now.number result.now }
-{
-    schema.table_at(1).expect(rt, "the sample has a table")
-}
-
 /// Inserts an employee.
 fn inserted(
     alloc: Global,
@@ -89,41 +85,41 @@ fn inserted(
 fn record(
     alloc: Global,
     table: &Table,
-    view: &mut View,
+    store: &mut EventStore,
     at: Instant,
     number: i64,
     name: &str,
 ) -> Mem<()>
     requires table { IsTable table.now.number table.now }
-    requires later { view.old.last < at }
+    requires later { last store.old < at }
     requires in_range { at ≤ 1000 }
-    ensures { OnOk result (view.new.last ≡ at) }
+    ensures { OnOk result (last store.new ≡ at) }
 {
     let mut staged = Staged::new(alloc)?;
-    if let Err(refusal) = inserted(alloc, table, view, &mut staged, number, name) {
+    if let Err(refusal) = inserted(alloc, table, store.current(), &mut staged, number, name) {
         return Err(refusal);
     }
-    let net = staged.net(view)?;
-    Ok(view.apply(alloc, at, &net)?)
+    let net = staged.net(store.current())?;
+    Ok(store.apply(at, net)?)
 }
 
-/// A view of one employee, Ann with the number 1 from 100 on.
-fn ann(alloc: Global, table: &Table) -> Mem<View>
+/// A store of one employee, Ann with the number 1 from 100 on.
+fn ann(alloc: Global, table: &Table) -> Mem<EventStore>
     requires { IsTable table.now.number table.now }
-    ensures { IfOk result (λ v. v.last ≡ 100) }
+    ensures { IfOk result (λ s. last s ≡ 100) }
 {
-    let mut view = View::new(alloc)?;
-    record(alloc, table, &mut view, 100, 1, "Ann")?;
-    Ok(view)
+    let mut store = EventStore::new(alloc)?;
+    record(alloc, table, &mut store, 100, 1, "Ann")?;
+    Ok(store)
 }
 
 /// Ann, and Bea with the number 2 from 200 on.
-fn two(alloc: Global, table: &Table) -> Mem<View>
+fn two(alloc: Global, table: &Table) -> Mem<EventStore>
     requires { IsTable table.now.number table.now }
 {
-    let mut view = ann(alloc, table)?;
-    record(alloc, table, &mut view, 200, 2, "Bea")?;
-    Ok(view)
+    let mut store = ann(alloc, table)?;
+    record(alloc, table, &mut store, 200, 2, "Bea")?;
+    Ok(store)
 }
 
 fn has_row(alloc: Global, view: &View, number: i64, instant: Instant) -> Mem<bool> {
@@ -146,7 +142,8 @@ fn events(alloc: Global, view: &View, from: Instant, to: Instant) -> Mem<usize> 
 }
 
 fn standing(alloc: Global, view: &View, table: u8, instant: Instant) -> Mem<usize> {
-    Ok(view.standing(alloc, table, instant)?.len())
+    let range = range_of_table(alloc, table)?;
+    Ok(view.standing(alloc, &range, instant)?.len())
 }
 
 /// How many net changes a transaction has.
@@ -170,56 +167,54 @@ fn deleted(
 #[test]
 fn a_view_has_the_row_from_its_instant_on(rt: HostRuntime) -> Result<(), Fail> {
     let alloc = rt.alloc();
-    let schema = Schema::sample(alloc)?;
-    let view = ann(alloc, emp_of(&rt, &schema))?;
+    let store = ann(alloc, &Table::sample(alloc)?)?;
+    let view = store.current();
     assert_eq!(rt; view.last(), 100);
-    assert!(rt; !has_row(alloc, &view, 1, 99)?);
-    assert!(rt; has_row(alloc, &view, 1, 100)?);
-    assert!(rt; !has_row(alloc, &view, 2, 100)?);
+    assert!(rt; !has_row(alloc, view, 1, 99)?);
+    assert!(rt; has_row(alloc, view, 1, 100)?);
+    assert!(rt; !has_row(alloc, view, 2, 100)?);
     Ok(())
 }
 
 #[test]
 fn a_key_was_changed_at_its_last_instant(rt: HostRuntime) -> Result<(), Fail> {
     let alloc = rt.alloc();
-    let schema = Schema::sample(alloc)?;
-    let view = ann(alloc, emp_of(&rt, &schema))?;
-    assert_eq!(rt; changed(alloc, &view, 1, 99)?, Some(100));
-    assert_eq!(rt; changed(alloc, &view, 1, 100)?, None);
+    let store = ann(alloc, &Table::sample(alloc)?)?;
+    let view = store.current();
+    assert_eq!(rt; changed(alloc, view, 1, 99)?, Some(100));
+    assert_eq!(rt; changed(alloc, view, 1, 100)?, None);
     Ok(())
 }
 
 #[test]
 fn a_view_lists_the_events_of_a_range(rt: HostRuntime) -> Result<(), Fail> {
     let alloc = rt.alloc();
-    let schema = Schema::sample(alloc)?;
-    let view = two(alloc, emp_of(&rt, &schema))?;
-    assert_eq!(rt; events(alloc, &view, 0, 300)?, 1);
-    assert_eq!(rt; events(alloc, &view, 101, 300)?, 0);
+    let store = two(alloc, &Table::sample(alloc)?)?;
+    let view = store.current();
+    assert_eq!(rt; events(alloc, view, 0, 300)?, 1);
+    assert_eq!(rt; events(alloc, view, 101, 300)?, 0);
     Ok(())
 }
 
 #[test]
 fn a_view_lists_the_rows_that_stand(rt: HostRuntime) -> Result<(), Fail> {
     let alloc = rt.alloc();
-    let schema = Schema::sample(alloc)?;
-    let view = two(alloc, emp_of(&rt, &schema))?;
-    assert_eq!(rt; standing(alloc, &view, 1, 200)?, 2);
-    assert_eq!(rt; standing(alloc, &view, 1, 199)?, 1);
-    assert_eq!(rt; standing(alloc, &view, 2, 200)?, 0);
-    assert_eq!(rt; view.of_table(1).len(), 2);
-    assert_eq!(rt; view.of_table(2).len(), 0);
+    let store = two(alloc, &Table::sample(alloc)?)?;
+    let view = store.current();
+    assert_eq!(rt; standing(alloc, view, 1, 200)?, 2);
+    assert_eq!(rt; standing(alloc, view, 1, 199)?, 1);
+    assert_eq!(rt; standing(alloc, view, 2, 200)?, 0);
     Ok(())
 }
 
 #[test]
 fn a_shared_view_stays(rt: HostRuntime) -> Result<(), Fail> {
     let alloc = rt.alloc();
-    let schema = Schema::sample(alloc)?;
-    let table = emp_of(&rt, &schema);
-    let mut view = ann(alloc, table)?;
-    let kept = view.share()?;
-    record(alloc, table, &mut view, 200, 2, "Bea")?;
+    let table = &Table::sample(alloc)?;
+    let mut store = ann(alloc, table)?;
+    let kept = store.current().share()?;
+    record(alloc, table, &mut store, 200, 2, "Bea")?;
+    assert_eq!(rt; store.current().last(), 200);
     assert_eq!(rt; kept.last(), 100);
     assert_eq!(rt; standing(alloc, &kept, 1, 300)?, 1);
     Ok(())
@@ -228,13 +223,13 @@ fn a_shared_view_stays(rt: HostRuntime) -> Result<(), Fail> {
 #[test]
 fn a_transaction_sees_its_own_writes(rt: HostRuntime) -> Result<(), Fail> {
     let alloc = rt.alloc();
-    let schema = Schema::sample(alloc)?;
-    let table = emp_of(&rt, &schema);
-    let view = ann(alloc, table)?;
+    let table = &Table::sample(alloc)?;
+    let store = ann(alloc, table)?;
+    let view = store.current();
     let mut staged = Staged::new(alloc)?;
-    assert!(rt; inserted(alloc, table, &view, &mut staged, 2, "Bea") == Ok(1));
-    assert!(rt; deleted(alloc, table, &view, &mut staged, 1) == Ok(1));
-    let found = staged.rows(&view, table, &all(alloc))?;
+    assert!(rt; inserted(alloc, table, view, &mut staged, 2, "Bea") == Ok(1));
+    assert!(rt; deleted(alloc, table, view, &mut staged, 1) == Ok(1));
+    let found = staged.rows(view, table, &all(alloc))?;
     assert_eq!(rt; found.len(), 1);
     Ok(())
 }
@@ -242,47 +237,47 @@ fn a_transaction_sees_its_own_writes(rt: HostRuntime) -> Result<(), Fail> {
 #[test]
 fn an_update_sets_a_column(rt: HostRuntime) -> Result<(), Fail> {
     let alloc = rt.alloc();
-    let schema = Schema::sample(alloc)?;
-    let table = emp_of(&rt, &schema);
-    let view = ann(alloc, table)?;
+    let table = &Table::sample(alloc)?;
+    let store = ann(alloc, table)?;
+    let view = store.current();
     let mut staged = Staged::new(alloc)?;
     let sets = vec![in alloc; named(alloc, "Fay")?]?;
-    assert!(rt; staged.update(&view, table, &all(alloc), &sets) == Ok(1));
-    assert_eq!(rt; changes(&staged, &view)?, 1);
+    assert!(rt; staged.update(view, table, &all(alloc), &sets) == Ok(1));
+    assert_eq!(rt; changes(&staged, view)?, 1);
     Ok(())
 }
 
 #[test]
 fn a_key_that_is_absent_before_and_after_is_no_change(rt: HostRuntime) -> Result<(), Fail> {
     let alloc = rt.alloc();
-    let schema = Schema::sample(alloc)?;
-    let table = emp_of(&rt, &schema);
-    let view = ann(alloc, table)?;
+    let table = &Table::sample(alloc)?;
+    let store = ann(alloc, table)?;
+    let view = store.current();
     let mut staged = Staged::new(alloc)?;
-    assert!(rt; inserted(alloc, table, &view, &mut staged, 9, "tmp") == Ok(1));
-    assert_eq!(rt; changes(&staged, &view)?, 1);
-    assert!(rt; deleted(alloc, table, &view, &mut staged, 9) == Ok(1));
-    assert_eq!(rt; changes(&staged, &view)?, 0);
+    assert!(rt; inserted(alloc, table, view, &mut staged, 9, "tmp") == Ok(1));
+    assert_eq!(rt; changes(&staged, view)?, 1);
+    assert!(rt; deleted(alloc, table, view, &mut staged, 9) == Ok(1));
+    assert_eq!(rt; changes(&staged, view)?, 0);
     Ok(())
 }
 
 #[test]
 fn a_refused_insert_changes_nothing(rt: HostRuntime) -> Result<(), Fail> {
     let alloc = rt.alloc();
-    let schema = Schema::sample(alloc)?;
-    let table = emp_of(&rt, &schema);
-    let view = ann(alloc, table)?;
+    let table = &Table::sample(alloc)?;
+    let store = ann(alloc, table)?;
+    let view = store.current();
     let mut staged = Staged::new(alloc)?;
-    let there = inserted(alloc, table, &view, &mut staged, 1, "Al");
+    let there = inserted(alloc, table, view, &mut staged, 1, "Al");
     assert!(rt; there == Err(Refusal::DuplicateKey(key(alloc, 1)?)));
-    let broken = inserted(alloc, table, &view, &mut staged, 2, "two\nlines");
+    let broken = inserted(alloc, table, view, &mut staged, 2, "two\nlines");
     assert!(rt; broken == Err(Refusal::BadRow(2)));
-    assert_eq!(rt; changes(&staged, &view)?, 0);
+    assert_eq!(rt; changes(&staged, view)?, 0);
     Ok(())
 }
 
 /// So many employees.
-fn many(alloc: Global, count: i64) -> Result<Vec<Row>, AllocError> {
+fn many(alloc: Global, count: i64) -> Mem<Vec<Row>> {
     let mut rows = Vec::new(alloc);
     for number in 0..count {
         rows.push(emp(alloc, number, "n")?)?;
@@ -293,12 +288,11 @@ fn many(alloc: Global, count: i64) -> Result<Vec<Row>, AllocError> {
 #[test]
 fn a_transaction_writes_1000_keys_at_most(rt: HostRuntime) -> Result<(), Fail> {
     let alloc = rt.alloc();
-    let schema = Schema::sample(alloc)?;
-    let table = emp_of(&rt, &schema);
-    let view = View::new(alloc)?;
+    let table = &Table::sample(alloc)?;
+    let view = &View::new(alloc)?;
     let mut staged = Staged::new(alloc)?;
-    assert!(rt; staged.insert(&view, table, &many(alloc, 1000)?) == Ok(1000));
-    let more = inserted(alloc, table, &view, &mut staged, 1000, "n");
+    assert!(rt; staged.insert(view, table, &many(alloc, 1000)?) == Ok(1000));
+    let more = inserted(alloc, table, view, &mut staged, 1000, "n");
     assert!(rt; more == Err(Refusal::TooManyWrites));
     Ok(())
 }
@@ -306,14 +300,13 @@ fn a_transaction_writes_1000_keys_at_most(rt: HostRuntime) -> Result<(), Fail> {
 #[test]
 fn keys_of_another_table_are_refused(rt: HostRuntime) -> Result<(), Fail> {
     let alloc = rt.alloc();
-    let schema = Schema::sample(alloc)?;
-    let table = emp_of(&rt, &schema);
-    let view = View::new(alloc)?;
+    let table = &Table::sample(alloc)?;
+    let view = &View::new(alloc)?;
     let mut staged = Staged::new(alloc)?;
     let other = Keys {
         table: 2,
         comparisons: Sequence::new(Vec::new(alloc)),
     };
-    assert!(rt; staged.delete(&view, table, &other) == Err(Refusal::NoTable));
+    assert!(rt; staged.delete(view, table, &other) == Err(Refusal::NoTable));
     Ok(())
 }

@@ -122,6 +122,7 @@ impl View {
     /// The same events, of which none is copied.
     pub(crate) fn list_copy(&self, alloc: Global) -> Mem<Vec<SharedEvent>>
         ensures ok { IfOk result (λ v. v.items ≡ events self.now) }
+        ensures committed { IsCommitted (events self.now) (last self.now) }
         ensures err { OnlyMemory result }
     {
         shares_of(alloc, self.list())
@@ -130,6 +131,7 @@ impl View {
     fn list(&self) -> &[SharedEvent]
         ensures are { result.now ≡ events self.now }
         ensures sorted { IsStrictlySortedBy event_cmp result.now }
+        ensures committed { IsCommitted result.now (last self.now) }
     {
         &self.events
     }

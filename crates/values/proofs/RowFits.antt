@@ -42,7 +42,7 @@ limit : (in_key : Bool) → text_limit in_key ≤ 1000
 limit true = omega arith
 limit false = omega arith
 
-value_stored : (in_key : Bool) (c : Column) (v : Value) → fits_value in_key c v ≡ true → IsStored v
+pub value_stored : (in_key : Bool) (c : Column) (v : Value) → fits_value in_key c v ≡ true → IsStored v
 value_stored in_key c Null e = refl
 value_stored in_key c (Int x) e = refl
 value_stored in_key c (Truth x) e = refl

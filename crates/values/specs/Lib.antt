@@ -16,6 +16,7 @@ pub mod OrderLaws
 pub mod RowEncoding
 pub mod RowLaws
 pub mod RowReading
+pub mod Sample
 pub mod Tables
 pub mod Versions
 pub mod Writes

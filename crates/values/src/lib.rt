@@ -21,6 +21,7 @@ mod row_encoding;
 mod row_laws;
 #[cfg(test)]
 mod row_tests;
+mod sample;
 mod search_condition;
 mod sequence;
 mod table;

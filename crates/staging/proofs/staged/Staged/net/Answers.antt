@@ -1,19 +1,24 @@
-use Rattle.std.proofs.Common.{All, ◌||◌, is_some, sym, ap, subst, ◌∙◌}
+use Rattle.std.proofs.Common.{All, Option, ◌||◌, is_some, sym, ap, subst, ◌∙◌}
 use Rattle.std.specs.Map.{keys_of}
 use Rattle.std.specs.List.Sorted.{IsStrictlySortedBy}
 use Rattle.values.specs.Order.{key_cmp}
-use Rattle.values.specs.Log.{Net}
+use Rattle.values.specs.declared.key.Key.{Key}
+use Rattle.values.specs.Log.{Net, Row}
+use Rattle.staging.specs.Net.{IsNet}
 use Rattle.values.specs.KeyEncoding.{IsShortKey, bytes_of_key}
 use Rattle.values.specs.Events.{IsKeyIn, AreKeysIn, row_until}
 use Rattle.staging.specs.Staged.{net_in}
 use Rattle.staging.specs.View.{events}
-use Rattle.staging.proofs.Calls.{net_of_view, kept_entries, kept_keys}
+use Rattle.staging.proofs.Calls.{net_of_view, kept_entries, kept_keys, kept_ordered}
 use Rattle.staging.proofs.staged.Staged.net.Goals as goal
 
 pub of-requires : goal.of-requires
 of-requires c =
-    subst (All (λ w. IsShortKey w.0)) (sym c.in_ok-net.ensures.ok)
-    (kept_entries IsShortKey (λ w. is_some w.1 || is_some (row_until (events c.args.view.now) (bytes_of_key w.0) c.last.result)) c.self.inside.writes.entries c.self.invariant)
+    let p = λ (w : Key × Option Row). is_some w.1 || is_some (row_until (events c.args.view.now) (bytes_of_key w.0) c.last.result) in
+    subst IsNet (sym c.in_ok-net.ensures.ok) (record {
+      ordered = kept_ordered p c.self.inside.writes.entries c.in_ok-net.ensures.ordered;
+      short = kept_entries IsShortKey p c.self.inside.writes.entries c.self.invariant;
+    })
 
 pub returns-clause-ok : goal.returns-clause-ok
 returns-clause-ok c = λ schema m held keys.

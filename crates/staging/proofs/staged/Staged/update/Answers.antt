@@ -5,10 +5,15 @@ use Rattle.values.specs.Faults.{no_fault}
 use Rattle.values.specs.Versions.{matches}
 use Rattle.values.specs.Events.{IsKeyIn}
 use Rattle.staging.specs.Own.{seen}
+use Rattle.staging.proofs.StoredSets.{sets_stored}
 use Rattle.staging.proofs.Entries.{sorted_from}
 use Rattle.staging.proofs.Calls.{rows_of_view}
 use Rattle.staging.proofs.Answered.{no_fault_is, updated_entries, update_done, keys_after, seen_keys}
 use Rattle.staging.proofs.staged.Staged.update.Goals as goal
+
+pub updates-requires : goal.updates-requires
+updates-requires c =
+    sets_stored c.args.table.now c.args.sets.now (no_fault_is (sets_fault c.args.table.now [] c.args.sets.now) (sym c.in_default.is ∙ c.check_sets.ensures))
 
 pub put-requires : goal.put-requires
 put-requires c = subst (All (λ w. IsShortKey w.0)) (sym c.in_ok-changes.ensures) (updated_entries IsShortKey c.args.sets.now c.in_ok-found.found.entries (c.in_ok-found.ensures.short c.requires))

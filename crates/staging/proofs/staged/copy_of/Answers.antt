@@ -4,7 +4,7 @@ use Rattle.std.specs.List.Sorted.{IsStrictlySortedBy}
 use Rattle.values.specs.Order.{key_cmp}
 use Rattle.staging.specs.Staged.{put_all}
 use Rattle.staging.proofs.Entries.{put_copied}
-use Rattle.staging.proofs.staged.copied.Goals as goal
+use Rattle.staging.proofs.staged.copy_of.Goals as goal
 
 pub returns-clause-ok : goal.returns-clause-ok
 returns-clause-ok c =
