@@ -4,5 +4,6 @@ pub mod Calls
 pub mod Entries
 pub mod Placed
 pub mod Seen
+pub mod Sorted
 pub mod StoredSets
 pub mod TableRange

@@ -91,6 +91,7 @@ impl View {
         to: Instant,
     ) -> Mem<Vec<SharedEvent>>
         ensures ok { IfOk result (λ v. v.items ≡ events_in (events self.now) range.now from to) }
+        ensures sorted { IfOk result (λ v. IsStrictlySortedBy event_cmp v.items) }
         ensures err { OnlyMemory result }
     {
         events_in(alloc, self.list(), range, from, to)
@@ -104,6 +105,7 @@ impl View {
         instant: Instant,
     ) -> Mem<Vec<SharedEvent>>
         ensures ok { IfOk result (λ v. v.items ≡ standing (events self.now) (is_key_in range.now) instant) }
+        ensures ordered { IsStrictlySortedBy event_cmp (events self.now) }
         ensures err { OnlyMemory result }
     {
         standing(alloc, self.list(), range, instant)

@@ -106,14 +106,20 @@ module _ (table : Table) (form : Form) (keys : Keys) where
 
   -- ---- a table shows what its own events show
 
-  abbrev of : Event → Bool
-  of e = is_of_table table.number e.key
-
   pub other_table : (key : List ℕ) → is_of_table table.number key ≡ false → is_taken table keys key ≡ false
   other_table [] h = refl
   other_table (b ∷ bs) h = ap (λ c. elim (cond c (whole_key table (parts_from table table.key bs)) None) [ None ↦ false | Some key ↦ matches table keys key ]) h
 
-  -- an event's next one is of its table, or there is none
+-- ---- keys that a test passes, among them all that the query takes
+
+module _ (table : Table) (form : Form) (keys : Keys) (p : List ℕ → Bool) (others : (key : List ℕ) → p key ≡ false → is_taken table keys key ≡ false) where
+  abbrev own_sel : List Event → List Shown
+  own_sel es = selected_by table form keys es
+
+  abbrev of : Event → Bool
+  of e = p e.key
+
+  -- an event's next one is of its keys, or there is none
   next_kept : (e : Event) (es : List Event) → of e ≡ true → AllByRecursion (λ d. event_cmp e d ≡ Less) es → IsStrictlySortedBy event_cmp es → next_of e es ≡ next_of e (filter of es)
   next_kept e [] own above sorted = refl
   next_kept e (d ∷ ds) own above sorted = by (of d) refl
@@ -123,7 +129,7 @@ module _ (table : Table) (form : Form) (keys : Keys) where
         where
           within : (b : Bool) → is_bytes e.key d.key ≡ b → b ≡ false
           within false same = refl
-          within true same = sym own ∙ ap (is_of_table table.number) (same_bytes e.key d.key same) ∙ is
+          within true same = sym own ∙ ap p (same_bytes e.key d.key same) ∙ is
 
       past : of d ≡ false → (ys : List Event) → AllByRecursion (λ y. event_cmp d y ≡ Less) ys → next_of e (filter of ys) ≡ None
       past is [] h = refl
@@ -132,8 +138,8 @@ module _ (table : Table) (form : Form) (keys : Keys) where
           apart : is_bytes e.key y.key ≡ true → ⊥
           apart same =
               let one : e.key ≡ y.key = same_bytes e.key y.key same in
-              let low : bytes_cmp e.key d.key ≡ Less = (is_lower e d above.0).other (λ k. clash (sym own ∙ ap (is_of_table table.number) k ∙ is)) in
-              let high : bytes_cmp d.key y.key ≡ Less = (is_lower d y h.0).other (λ k. clash (sym own ∙ ap (is_of_table table.number) (one ∙ sym k) ∙ is)) in
+              let low : bytes_cmp e.key d.key ≡ Less = (is_lower e d above.0).other (λ k. clash (sym own ∙ ap p k ∙ is)) in
+              let high : bytes_cmp d.key y.key ≡ Less = (is_lower d y h.0).other (λ k. clash (sym own ∙ ap p (one ∙ sym k) ∙ is)) in
               clash (sym same ∙ ap is_eq (bytes_total.trans e.key d.key y.key low high))
 
           within : (b : Bool) → of y ≡ b → next_of e (filter of ys) ≡ None → next_of e (cond b (y ∷ filter of ys) (filter of ys)) ≡ None
@@ -144,12 +150,12 @@ module _ (table : Table) (form : Form) (keys : Keys) where
       by true is = refl
       by false is = ap (λ b. cond b (Some d.at) None) (other is) ∙ sym (past is ds (sorted_head event_cmp d ds sorted))
 
-  pub of_table_alone : (es : List Event) → IsStrictlySortedBy event_cmp es → sel es ≡ sel (filter of es)
-  of_table_alone [] sorted = refl
-  of_table_alone (e ∷ es) sorted = by (of e) refl (of_table_alone es (sorted_tail event_cmp e es sorted))
+  pub range_alone : (es : List Event) → IsStrictlySortedBy event_cmp es → own_sel es ≡ own_sel (filter of es)
+  range_alone [] sorted = refl
+  range_alone (e ∷ es) sorted = by (of e) refl (range_alone es (sorted_tail event_cmp e es sorted))
     where
-      by : (b : Bool) → of e ≡ b → sel es ≡ sel (filter of es) → cons_option (shown_of table form keys e (next_of e es)) (sel es) ≡ sel (cond b (e ∷ filter of es) (filter of es))
-      by false is more = ap (λ o. cons_option o (sel es)) (not_taken e (next_of e es) (other_table e.key is)) ∙ more
+      by : (b : Bool) → of e ≡ b → own_sel es ≡ own_sel (filter of es) → cons_option (shown_of table form keys e (next_of e es)) (own_sel es) ≡ own_sel (cond b (e ∷ filter of es) (filter of es))
+      by false is more = ap (λ o. cons_option o (own_sel es)) (not_taken table form keys e (next_of e es) (others e.key is)) ∙ more
       by true is more = λ i. cons_option (shown_of table form keys e (next_kept e es is (sorted_head event_cmp e es sorted) (sorted_tail event_cmp e es sorted) i)) (more i)
 
 -- ---- one key's events at an instant

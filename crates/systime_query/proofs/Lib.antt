@@ -1,2 +1,3 @@
-mod Versioned
-mod Instants
+pub mod Instants
+pub mod Stands
+pub mod Versioned

@@ -1,8 +1,8 @@
 -- What events in order show is what the versions of the changes show.
-use Rattle.std.proofs.Common.{◌≡◌, ℕ, ◌<◌, List, [], ◌∷◌, Option, Some, None, Bool, true, false, T, refl, sym, ap, ◌∙◌, subst, cond, map, filter, nat_lt, ◌&&◌, ◌==◌, All, arith, ◌≤◌, Result, Ok, Err, IfOk}
+use Rattle.std.proofs.Common.{◌≡◌, ℕ, ◌<◌, List, [], ◌∷◌, Option, Some, None, Bool, true, false, T, refl, sym, ap, ◌∙◌, subst, cond, map, filter, nat_lt, nat_le, ◌&&◌, ◌==◌, All, arith, ◌≤◌, Result, Ok, Err, IfOk}
 use Rattle.std.proofs.lemmas.Bool.Decides.{nat_tests}
 use Rattle.std.proofs.lemmas.List.Elements.{All-head, All-tail, All-filter, recursion_from_All}
-use Rattle.std.specs.List.{filter_map, cons_option, flat_map, list_all}
+use Rattle.std.specs.List.{AllByRecursion, filter_map, cons_option, flat_map, list_all}
 use Rattle.std.specs.List.Sorted.{IsStrictlySortedBy}
 use Rattle.std.specs.Map.{keys_of}
 use Rattle.std.specs.FinMap.{is_sorted}
@@ -30,10 +30,13 @@ use Rattle.values.proofs.Sorted.{sorted_from}
 use Rattle.values.proofs.KeyReads.{key_back}
 use Rattle.values.proofs.EventKeys.{same_key}
 use Rattle.values.specs.declared.refusal.Refusal.{Refusal}
-use Rattle.eventlist.specs.Listing.{is_of_table}
-use Rattle.staging.specs.Committed.{Committed, Holds}
-use Rattle.systime_query.proofs.Instants.{of_table_alone, now_shown}
-use Rattle.systime_query.specs.Selection.{next_of, is_taken, shown_of, selected_by}
+use Rattle.keyrange.specs.declared.range.KeyRange.{KeyRange}
+use Rattle.keyrange.specs.Points.{is_key_in}
+use Rattle.eventlist.specs.Listing.{is_of_table, events_in}
+use Rattle.staging.specs.View.{Committed, events, range_of_table, Holds}
+use Rattle.staging.proofs.TableRange.{in_range}
+use Rattle.systime_query.proofs.Instants.{range_alone, other_table, now_shown}
+use Rattle.systime_query.specs.Selection.{WhenShown, next_of, is_taken, shown_of, selected_by}
 
 -- ---- the next change of a key stands right behind it
 
@@ -196,23 +199,61 @@ module _ (schema : Schema) (table : Table) (form : Form) (keys : Keys) (is_table
 
 -- ---- what a view shows
 
-abbrev of_table : Table → List Event → List Event
-of_table table es = filter (λ e. is_of_table table.number e.key) es
+abbrev of_range : Table → List Event → List Event
+of_range table es = filter (λ e. is_key_in (range_of_table table.number) e.key) es
 
-pub answered : {A : Type 0} (items : A → List Shown) (view : Committed) (events : List Event) (table : Table) (form : Form) (keys : Keys) (r : Result A Refusal)
-    → IsStrictlySortedBy event_cmp view.events → events ≡ of_table table view.events → IfOk r (λ v. items v ≡ selected_by table form keys events)
-    → IfOk r (λ v. (schema : Schema) (m : Changes) → Holds schema view m → table_at schema table.number ≡ Some table → keys.table ≡ table.number → items v ≡ answer m table form keys)
-answered items view events table form keys (Err e) sorted are is = tt
-answered items view events table form keys (Ok v) sorted are is = λ schema m held is_table same.
-    is ∙ ap (selected_by table form keys) are
-    ∙ sym (of_table_alone table form keys view.events sorted)
-    ∙ ap (selected_by table form keys) held.events_are
-    ∙ selected_is schema table form keys is_table same m held.keys (sorted_from point_cmp m held.in_order)
+-- of the range of a table's keys all events until the last instant are all
+pub range_events : (table : Table) (last : ℕ) (es : List Event) → AllByRecursion (λ e. e.at ≤ last) es → events_in es (range_of_table table.number) 0 last ≡ of_range table es
+range_events table last [] h = refl
+range_events table last (e ∷ es) h = one (range_events table last es h.1)
+  where
+    alone : (b : Bool) → (b && true) ≡ b
+    alone true = refl
+    alone false = refl
 
-pub now_answered : {A : Type 0} (items : A → List Shown) (view : Committed) (events : List Event) (table : Table) (last : ℕ) (keys : Keys) (r : Result A Refusal)
-    → All (λ e. e.at ≤ last) view.events → events ≡ of_table table view.events → IfOk r (λ v. items v ≡ selected_by table (AsOf last) keys events)
-    → IfOk r (λ v. items v ≡ selected_by table Plain keys events)
-now_answered items view events table last keys (Err e) upto are is = tt
-now_answered items view events table last keys (Ok v) upto are is =
-    is ∙ now_shown table last keys events
-    (recursion_from_All (λ (e : Event). e.at ≤ last) events (subst (All (λ (e : Event). e.at ≤ last)) (sym are) (All-filter (λ e. is_of_table table.number e.key) (λ (e : Event). e.at ≤ last) view.events upto)))
+    early : (n : ℕ) → nat_le 0 n ≡ true
+    early n = grind (arith, nat_tests)
+
+    late : (n : ℕ) → n ≤ last → nat_le n last ≡ true
+    late n h = grind (arith, nat_tests)
+
+    one : events_in es (range_of_table table.number) 0 last ≡ of_range table es → events_in (e ∷ es) (range_of_table table.number) 0 last ≡ of_range table (e ∷ es)
+    one rest =
+        (λ i. cond (is_key_in (range_of_table table.number) e.key && (early e.at i && late e.at h.0 i)) (e ∷ rest i) (rest i))
+        ∙ ap (λ b. cond b (e ∷ of_range table es) (of_range table es)) (alone (is_key_in (range_of_table table.number) e.key))
+
+module _ (view : Committed) (table : Table) (keys : Keys) where
+  pub others : (key : List ℕ) → is_key_in (range_of_table table.number) key ≡ false → is_taken table keys key ≡ false
+  others key out = other_table table Plain keys key (by (is_of_table table.number key) refl)
+    where
+      by : (b : Bool) → is_of_table table.number key ≡ b → b ≡ false
+      by false is = refl
+      by true is = sym (in_range table.number key is) ∙ out
+
+  pub view_selected : (form : Form) (schema : Schema) (m : Changes) → Holds schema view m → table_at schema table.number ≡ Some table → keys.table ≡ table.number
+      → selected_by table form keys (events view) ≡ answer m table form keys
+  view_selected form schema m held is_table same =
+      ap (selected_by table form keys) held.events_are ∙ selected_is schema table form keys is_table same m held.keys (sorted_from point_cmp m held.in_order)
+
+  pub answered : {A : Type 0} (items : A → List Shown) (found : List Event) (form : Form) (r : Result A Refusal)
+      → IsStrictlySortedBy event_cmp (events view) → found ≡ of_range table (events view) → IfOk r (λ v. items v ≡ selected_by table form keys found)
+      → IfOk r (λ v. WhenShown view table keys (λ m. items v ≡ answer m table form keys))
+  answered items found form (Err e) sorted are is = tt
+  answered items found form (Ok v) sorted are is = λ schema m held is_table same.
+      is ∙ ap (selected_by table form keys) are
+      ∙ sym (range_alone table form keys (is_key_in (range_of_table table.number)) others (events view) sorted)
+      ∙ view_selected form schema m held is_table same
+
+  pub now_answered : {A : Type 0} (items : A → List Shown) (found : List Event) (last : ℕ) (r : Result A Refusal)
+      → All (λ e. e.at ≤ last) (events view) → found ≡ of_range table (events view) → IfOk r (λ v. items v ≡ selected_by table (AsOf last) keys found)
+      → IfOk r (λ v. items v ≡ selected_by table Plain keys found)
+  now_answered items found last (Err e) upto are is = tt
+  now_answered items found last (Ok v) upto are is =
+      is ∙ now_shown table last keys found
+      (recursion_from_All (λ (e : Event). e.at ≤ last) found (subst (All (λ (e : Event). e.at ≤ last)) (sym are) (All-filter (λ e. is_key_in (range_of_table table.number) e.key) (λ (e : Event). e.at ≤ last) (events view) upto)))
+
+  -- what a call listed of the range
+  pub listed : (range : KeyRange) (last : ℕ) (slice found : List Event) → All (λ e. e.at ≤ last) (events view) → slice ≡ found → found ≡ events_in (events view) range 0 last → range ≡ range_of_table table.number
+      → slice ≡ of_range table (events view)
+  listed range last slice found upto same is range_is =
+      same ∙ is ∙ ap (λ r. events_in (events view) r 0 last) range_is ∙ range_events table last (events view) (recursion_from_All (λ (e : Event). e.at ≤ last) (events view) upto)

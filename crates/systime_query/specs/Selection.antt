@@ -1,12 +1,15 @@
 -- Which versions a query selects, by events in order.
-use Rattle.std.specs.Prelude.{ℕ, List, [], ◌∷◌, Option, Some, None, Bool, false, ◌&&◌, if◌then◌else◌}
+use Rattle.std.specs.Prelude.{◌≡◌, ℕ, List, [], ◌∷◌, Option, Some, None, Bool, false, ◌&&◌, if◌then◌else◌}
 use Rattle.std.specs.List.{cons_option}
 use Rattle.values.specs.Event.{Event}
 use Rattle.values.specs.declared.table.Table.{Table}
 use Rattle.values.specs.declared.query.Form.{Form}
 use Rattle.values.specs.declared.query.Keys.{Keys}
 use Rattle.values.specs.declared.query.Shown.{Shown}
+use Rattle.values.specs.Log.{Changes}
+use Rattle.values.specs.Tables.{Schema, table_at}
 use Rattle.values.specs.Versions.{selects, matches}
+use Rattle.staging.specs.View.{Committed, Holds}
 use Rattle.values.specs.KeyReading.{key_from}
 use Rattle.values.specs.Events.{is_bytes}
 
@@ -33,3 +36,9 @@ selected_by table form keys (e ∷ es) = cons_option (shown_of table form keys e
 abbrev pub instant_of : Option Event → Option ℕ
 instant_of None = None
 instant_of (Some e) = Some e.at
+
+-- of all changes that the view shows, where the table is one of the schema's and the keys are its own
+abbrev pub WhenShown : Committed → Table → Keys → (Changes → Type 0) → Type 0
+WhenShown view table keys P =
+    (schema : Schema) (m : Changes) → Holds schema view m → table_at schema table.number ≡ Some table
+        → keys.table ≡ table.number → P m

@@ -4,7 +4,9 @@
 mod selection;
 mod period;
 mod snapshot;
+mod standing;
 #[cfg(test)]
 mod tests;
 
 pub use selection::answer;
+pub use standing::{current_rows, rows_at};

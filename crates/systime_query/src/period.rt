@@ -19,21 +19,21 @@ pub(crate) fn shown_of(
     ensures ok { IfOk result (λ s. s ≡ shown_of table.now form keys.now event.now to) }
     ensures err { OnlyMemory result }
 {
-    let Some(row) = &event.row else {
+    let Some(row) = event.row() else {
         return Ok(None);
     };
-    if !form.selects(event.at, to) || !is_taken(alloc, table, keys, &event.key)? {
+    if !form.selects(event.at(), to) || !is_taken(alloc, table, keys, event.key())? {
         return Ok(None);
     }
     Ok(Some(Shown {
         row: row.copy()?,
-        from: event.at,
+        from: event.at(),
         to,
     }))
 }
 
 /// Whether bytes are of a key that the query takes.
-fn is_taken(alloc: Global, table: &Table, keys: &Keys, bytes: &KeyBytes) -> Mem<bool>
+pub(crate) fn is_taken(alloc: Global, table: &Table, keys: &Keys, bytes: &KeyBytes) -> Mem<bool>
     ensures ok { IfOk result (λ b. b ≡ is_taken table.now keys.now bytes.now) }
     ensures err { OnlyMemory result }
 {

@@ -1,30 +1,31 @@
 //! The versions that a query selects.
 ghost use Rattle.std.specs.Prelude.{◌≡◌, ◌++◌, [], None, IfOk, Some};
-ghost use Rattle.values.specs.Log.{Changes};
-ghost use Rattle.values.specs.Tables.{Schema, table_at};
 ghost use Rattle.values.specs.Versions.{answer};
 ghost use Rattle.values.specs.Memory.{OnlyMemory};
-ghost use Rattle.staging.specs.Committed.{Holds};
-ghost use Rattle.systime_query.specs.Selection.{next_of, selected_by};
+ghost use Rattle.systime_query.specs.Selection.{WhenShown, next_of, selected_by};
 
 use crate::period::{is_same, shown_of};
 use crate::snapshot::selected_at;
 use values::{Event, Form, Instant, Keys, Mem, SharedEvent, Shown, Table};
-use staging::View;
+use staging::{View, range_of_table};
 use std::alloc::Global;
 
 /// The versions of a table's rows that a query selects, with their periods, by key and then by start. The keys are of that table.
 /// An end after the view's last instant is none.
 pub fn answer(alloc: Global, view: &View, table: &Table, form: Form, keys: &Keys) -> Mem<Vec<Shown>>
-    ensures ok { IfOk result (λ v. (schema : Schema) (m : Changes) → Holds schema view.now m → table_at schema table.now.number ≡ Some table.now → keys.now.table ≡ table.now.number → v.items ≡ answer m table.now form keys.now) }
+    ensures ok {
+        IfOk result (λ v. WhenShown view.now table.now keys.now (λ m.
+            v.items ≡ answer m table.now form keys.now))
+    }
     ensures err { OnlyMemory result }
 {
-    let events = view.of_table(table.number);
+    let range = range_of_table(alloc, table.number)?;
     let last = view.last();
+    let events = view.events(alloc, &range, 0, last)?;
     match form {
-        Form::Plain => selected_at(alloc, events, last, table, keys),
-        Form::AsOf(instant) => selected_at(alloc, events, instant, table, keys),
-        Form::FromTo(_, _) | Form::Between(_, _) => selected(alloc, events, table, form, keys),
+        Form::Plain => selected_at(alloc, &events, last, table, keys),
+        Form::AsOf(instant) => selected_at(alloc, &events, instant, table, keys),
+        Form::FromTo(_, _) | Form::Between(_, _) => selected(alloc, &events, table, form, keys),
     }
 }
 
@@ -58,8 +59,8 @@ fn next_of(event: &Event, behind: &[SharedEvent]) -> Option<Instant>
     match behind {
         [next, ..] => {
             let next = next.event();
-            if is_same(&event.key, &next.key) {
-                Some(next.at)
+            if is_same(event.key(), next.key()) {
+                Some(next.at())
             } else {
                 None
             }

@@ -63,7 +63,7 @@ fn instant_of(event: Option<&SharedEvent>) -> Option<Instant>
     ensures { result ≡ instant_of (option_copied event.entry) }
 {
     match event {
-        Some(event) => Some(event.event().at),
+        Some(event) => Some(event.event().at()),
         None => None,
     }
 }

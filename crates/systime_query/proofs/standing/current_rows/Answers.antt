@@ -1,0 +1,12 @@
+use Rattle.std.proofs.Common.{◌∙◌}
+use Rattle.systime_query.proofs.Stands.{shown_now}
+use Rattle.systime_query.proofs.standing.current_rows.Goals as goal
+
+pub returns-clause-ok : goal.returns-clause-ok
+returns-clause-ok c =
+    shown_now c.args.view.now c.args.table.now c.args.keys.now c.in_ok-rows_shown.field-0.items c.deref.result.now c.in_ok-range.range c.last-last.result (record {
+      sorted = c.in_ok-standing.ensures.ordered;
+      rows_are = c.in_ok-rows_shown.ensures.ok;
+      stand = c.deref.ensures.value ∙ c.in_ok-standing.ensures.ok;
+      range_is = c.in_ok-range.ensures.ok;
+    }) c.last-last.ensures.upto
