@@ -1,25 +1,25 @@
 -- Steps that change nothing of what is open or committed.
 use Rattle.std.proofs.Common.{◌≡◌, ℕ, ◌≤◌, ◌<◌, Bool, true, false, List, [], ◌∷◌, ◌++◌, Option, Some, None, refl, sym, ap, ◌∙◌, arith}
-use Rattle.std.specs.Prelude.{if◌then◌else◌, ◌&&◌, ◌==◌, nat_lt, nat_le, is_none, is_some, not, length}
+use Rattle.std.specs.Prelude.{if◌then◌else◌, ◌&&◌, ◌==◌, nat_lt, nat_le, is_none, is_some, not}
 use Rattle.std.proofs.lemmas.Bool.Decides.{nat_tests}
-use Rattle.values.specs.declared.key.Key.{Key}
 use Rattle.values.specs.Tables.{Schema}
 use Rattle.values.specs.declared.table.Table.{Table}
 use Rattle.values.specs.declared.refusal.Refusal.{Refusal}
-use Rattle.values.specs.declared.refusal.Refusal.TheVariants.{NoSession, NoTable, DuplicateKey, TooManyWrites}
-use Rattle.values.specs.Log.{Log, State, last, changes}
+use Rattle.values.specs.declared.refusal.Refusal.TheVariants.{NoSession, NoTable}
+use Rattle.values.specs.Log.{Log, last, changes}
 use Rattle.values.specs.Tables.{table_at}
-use Rattle.values.specs.Writes.{add_keys}
+use Rattle.values.specs.Writes.{Own}
 use Rattle.values.specs.Commits.{after}
 use Rattle.histories.specs.declared.step.Step.{Step}
 use Rattle.histories.specs.declared.step.Step.TheVariants.{Begin, Insert, Update, Delete, Select, Commit, Rollback, SplitKey, SplitTime, Migrate}
 use Rattle.histories.specs.declared.step.Reply.TheVariants.{Refused}
-use Rattle.histories.specs.History.{History, log, opened, own, mine, written, write_reply, writes, write_count, duplicate_in, is_write_of, is_refused, ends, begins, misfit, misfit_of, bad_row, no_session, net_change_of}
+use Rattle.histories.specs.Misfit.{max_session, misfit, misfit_of, bad_row, no_session}
+use Rattle.histories.specs.History.{History, log, opened, own, own_of, write, written_reply, write_reply, is_write_of, is_refused, ends, begins, net_change_of}
 use Rattle.histories.specs.World.{World}
-use Rattle.histories.specs.Stands.{Stands, session, session_from}
+use Rattle.histories.specs.Stands.{Stands, open_in, open_from}
 
 -- the system stands for the history with the step, where log and sessions stay
-pub idle_stands : (w : World) (h : History) (step : Step) → Stands w h → log w.schema (step ∷ h) ≡ log w.schema h → ((j : ℕ) → j ≤ 64 → session w.schema (step ∷ h) j ≡ session w.schema h j) → Stands w (step ∷ h)
+pub idle_stands : (w : World) (h : History) (step : Step) → Stands w h → log w.schema (step ∷ h) ≡ log w.schema h → ((j : ℕ) → j ≤ max_session → open_in w.schema (step ∷ h) j ≡ open_in w.schema h j) → Stands w (step ∷ h)
 idle_stands w h step stands is_log same = record {
   wide = stands.wide;
   changes_are = stands.changes_are ∙ sym (ap changes is_log);
@@ -59,15 +59,9 @@ none_open schema (step ∷ h) i large = (λ k. if ends i step then None else if 
 
 -- ---- steps that do not fit
 
-refused_write : (schema : Schema) (step : Step) (refusal : Refusal) (m : State) (keys : List Key) → misfit schema step ≡ Some refusal → is_refused (write_reply schema step m keys) ≡ true
-refused_write schema step refusal m keys is =
-    λ k. is_refused (elim (is k) [
-      | Some refusal ↦ Refused refusal
-      | None ↦ elim (duplicate_in schema step m) [
-        | Some key ↦ Refused (DuplicateKey key)
-        | None ↦ if nat_lt 1000 (length (add_keys (writes schema step m) keys)) then Refused TooManyWrites else write_count step (writes schema step m)
-      ]
-    ])
+refused_write : (schema : Schema) (step : Step) (refusal : Refusal) (o : Own) → misfit schema step ≡ Some refusal → is_refused (write_reply schema step o) ≡ true
+refused_write schema step refusal o is =
+    λ k. is_refused (elim (is k) [ Some refusal ↦ Refused refusal | None ↦ written_reply step (write schema step o).0 ])
 
 dropped : (b c : Bool) (xs ys : List Step) → (if b && c && not true then xs else ys) ≡ ys
 dropped true true xs ys = refl
@@ -76,17 +70,17 @@ dropped false true xs ys = refl
 dropped false false xs ys = refl
 
 kept_session : (schema : Schema) (h : History) (step : Step) (j : ℕ) (refusal : Refusal) → misfit schema step ≡ Some refusal → ends j step ≡ false → begins j step ≡ false → log schema (step ∷ h) ≡ log schema h
-    → session schema (step ∷ h) j ≡ session schema h j
+    → open_in schema (step ∷ h) j ≡ open_in schema h j
 kept_session schema h step j refusal is no_end no_begin same_log =
-    (λ k. session_from schema (same_log k) (if no_end k then None else if no_begin k && is_none (opened schema h j) then Some (log schema h) else opened schema h j)
-    (if no_end k then [] else if is_write_of j step && is_some (opened schema h j) && not (refused_write schema step refusal (mine schema h j) (written schema h j) is k) then own schema h j ++ step ∷ [] else own schema h j))
-    ∙ ap (session_from schema (log schema h) (opened schema h j)) (dropped (is_write_of j step) (is_some (opened schema h j)) (own schema h j ++ step ∷ []) (own schema h j))
+    (λ k. open_from schema (same_log k) (if no_end k then None else if no_begin k && is_none (opened schema h j) then Some (log schema h) else opened schema h j)
+    (if no_end k then [] else if is_write_of j step && is_some (opened schema h j) && not (refused_write schema step refusal (own_of schema (log schema h) (opened schema h j) (own schema h j)) is k) then own schema h j ++ step ∷ [] else own schema h j))
+    ∙ ap (open_from schema (log schema h) (opened schema h j)) (dropped (is_write_of j step) (is_some (opened schema h j)) (own schema h j ++ step ∷ []) (own schema h j))
 
 large : (b : Bool) (refusal : Refusal) (i : ℕ) → nat_lt 64 i ≡ b → ◌≡◌ {A = Option Refusal} (if b then Some NoSession else None) (Some refusal) → 64 < i
 large true refusal i at is = grind (arith, nat_tests)
 large false refusal i at is = cc
 
-other : (i j : ℕ) → 64 < i → j ≤ 64 → (j == i) ≡ false
+other : (i j : ℕ) → 64 < i → j ≤ max_session → (j == i) ≡ false
 other i j large small = grind (arith, nat_tests)
 
 pub misfit_stands : (w : World) (h : History) (step : Step) (refusal : Refusal) → misfit w.schema step ≡ Some refusal → Stands w h → Stands w (step ∷ h)
@@ -109,18 +103,18 @@ misfit_stands w h Migrate refusal is stands = idle_stands w h Migrate stands ref
 
 -- ---- what a step that fits has
 
-pub fits_session : (i : ℕ) → no_session i ≡ None → i ≤ 64
+pub fits_session : (i : ℕ) → no_session i ≡ None → i ≤ max_session
 fits_session i is = by (nat_lt 64 i) refl is
   where
-    by : (b : Bool) → nat_lt 64 i ≡ b → ◌≡◌ {A = Option Refusal} (if b then Some NoSession else None) None → i ≤ 64
+    by : (b : Bool) → nat_lt 64 i ≡ b → ◌≡◌ {A = Option Refusal} (if b then Some NoSession else None) None → i ≤ max_session
     by true at is = cc
     by false at is = grind (arith, nat_tests)
 
-pub fits_table : (schema : Schema) (i number : ℕ) (fault : Table → Option ℕ) → misfit_of schema i number fault ≡ None → (i ≤ 64) × ((t : Table) × (table_at schema number ≡ Some t))
+pub fits_table : (schema : Schema) (i number : ℕ) (fault : Table → Option ℕ) → misfit_of schema i number fault ≡ None → (i ≤ max_session) × ((t : Table) × (table_at schema number ≡ Some t))
 fits_table schema i number fault is = by (nat_lt 64 i) (table_at schema number) refl refl is
   where
     by : (b : Bool) (t : Option Table) → nat_lt 64 i ≡ b → table_at schema number ≡ t → ◌≡◌ {A = Option Refusal} (if b then Some NoSession else elim t [ None ↦ Some NoTable | Some table ↦ bad_row (fault table) ]) None
-        → (i ≤ 64) × ((t : Table) × (table_at schema number ≡ Some t))
+        → (i ≤ max_session) × ((t : Table) × (table_at schema number ≡ Some t))
     by true t at there is = cc
     by false None at there is = cc
     by false (Some t) at there is = (grind (arith, nat_tests), (t, there))

@@ -11,4 +11,5 @@ pub mod Snapshots
 pub mod Turned
 pub mod Winners
 pub mod WorldGrowth
+pub mod Written
 pub mod Wrote

@@ -10,6 +10,7 @@ use Rattle.values.specs.Log.{Log, last, last_from, upto, replay, changes}
 use Rattle.values.specs.Laws.{IsLog, shown_rows}
 use Rattle.values.proofs.AsOf.{as_of_shows_state, Rises-upto, Rises-rest, upto-append}
 use Rattle.values.proofs.Now.{last_above}
+use Rattle.histories.specs.Misfit.{max_session}
 use Rattle.histories.specs.declared.step.Step.{Step}
 use Rattle.histories.specs.declared.step.Listing.TheVariants.{Rows}
 use Rattle.histories.specs.History.{History, log, opened, snap, snap_of, rows_taken}
@@ -64,7 +65,7 @@ read_alike schema h later i j t table keys at_first later_on =
     ∙ ap (λ (l : Log). rows_taken table keys (replay [] l)) (upto_stays schema h later t (omega (arith, at_first, snap_below schema h i)))
     ∙ sym (shown_at (log schema h) (snap schema h i) t table keys (log_rises schema h) at_first))
 
-within : (i : ℕ) → i ≤ 64 → nat_lt 64 i ≡ false
+within : (i : ℕ) → i ≤ max_session → nat_lt 64 i ≡ false
 within i small = grind (arith, nat_tests)
 
 pub told_alike : (schema : Schema) → PastIsToldAlike schema

@@ -21,7 +21,8 @@ use Rattle.histories.specs.declared.step.Listing.{Listing}
 use Rattle.histories.specs.declared.step.Listing.TheVariants.{Rows, Periods}
 use Rattle.histories.specs.declared.step.Reply.{Reply}
 use Rattle.histories.specs.declared.step.Reply.TheVariants.{Refused, Shown as Shows}
-use Rattle.histories.specs.History.{History, ends, begins, log, opened, own, snap_of, rewrite_all, rows_taken, rows_of, listing, bad_row}
+use Rattle.histories.specs.Misfit.{bad_row}
+use Rattle.histories.specs.History.{History, ends, begins, log, opened, own, snap_of, rewrite_all, rows_taken, rows_of, listing}
 use Rattle.histories.specs.Laws.{ReadsBySnapshot, SelectsBySnapshot}
 use Rattle.histories.proofs.Growth.{log_rises, step_adds}
 
@@ -61,14 +62,14 @@ upto_snapshot schema h i before is =
 
 module _ (schema : Schema) where
   abbrev listing_at : Log → List Step → Form → Table → Keys → Listing
-  listing_at before writes Plain table keys = Rows (rows_taken table keys (rewrite_all schema writes (replay [] before)))
+  listing_at before writes Plain table keys = Rows (rows_taken table keys (rewrite_all schema writes (record { rows = replay [] before; written = [] })).rows)
   listing_at before writes (AsOf t) table keys = Rows (rows_of (answer (changes before) table (AsOf t) keys))
   listing_at before writes (FromTo a b) table keys = Periods (answer (changes before) table (FromTo a b) keys)
   listing_at before writes (Between a b) table keys = Periods (answer (changes before) table (Between a b) keys)
 
   abbrev plain_by : Log → Option Log → List Step → Table → Keys → Listing
   plain_by seen o writes table keys = elim o [
-    | Some before ↦ Rows (rows_taken table keys (rewrite_all schema writes (replay [] seen)))
+    | Some before ↦ Rows (rows_taken table keys (rewrite_all schema writes (record { rows = replay [] seen; written = [] })).rows)
     | None ↦ Rows (rows_of (answer (changes seen) table Plain keys))
   ]
 

@@ -1,24 +1,25 @@
 -- Each step's turn is the reply of the history, and leaves a system that stands for the history with the step.
 use Rattle.std.proofs.Common.{◌≡◌, ◌≢◌, ℕ, Bool, true, false, List, [], ◌∷◌, Option, Some, None, refl, sym, ap, subst, ◌∙◌}
-use Rattle.std.specs.Prelude.{Result, Ok, Err, if◌then◌else◌, nat_lt, max, ◌+◌, length, map}
+use Rattle.std.specs.Prelude.{Result, Ok, Err, if◌then◌else◌, nat_lt, max, ◌+◌}
 use Rattle.values.specs.declared.key.Key.{Key}
 use Rattle.values.specs.declared.table.Table.{Table}
 use Rattle.values.specs.Tables.{Schema}
 use Rattle.values.specs.declared.refusal.Refusal.{Refusal}
-use Rattle.values.specs.declared.refusal.Refusal.TheVariants.{NoSession, NoTable, NoTransaction, InTransaction, DuplicateKey, TooManyWrites, Conflict, ClockEnd, Memory}
-use Rattle.values.specs.Log.{Net, Changes, State}
+use Rattle.values.specs.declared.refusal.Refusal.TheVariants.{NoSession, NoTable, NoTransaction, InTransaction, Conflict, ClockEnd, Memory}
+use Rattle.values.specs.Log.{Net, Changes}
 use Rattle.values.specs.Tables.{table_at}
-use Rattle.values.specs.Writes.{key_of, duplicate, insert_rows, update_rows, delete_rows, met, add_keys}
 use Rattle.values.specs.Commits.{won, outcome, max_instant}
 use Rattle.histories.specs.declared.step.Step.{Step}
 use Rattle.histories.specs.declared.step.Step.TheVariants.{Begin, Insert, Update, Delete, Select, Commit, Rollback, SplitKey, SplitTime, Migrate}
 use Rattle.histories.specs.declared.step.Reply.{Reply}
-use Rattle.histories.specs.declared.step.Reply.TheVariants.{Begun, Inserted, Updated, Deleted, RolledBack, Refused}
-use Rattle.histories.specs.History.{History, reply, reply_in, misfit, bad_row}
-use Rattle.histories.specs.World.{Session, World}
-use Rattle.histories.specs.Stands.{Stands, session_at}
-use Rattle.histories.specs.Turn.{put, Turn, turn, turn_in, end_turn, net_in, opened_now, writing, insert_into, update_in, delete_from}
+use Rattle.histories.specs.declared.step.Reply.TheVariants.{Begun, RolledBack, Refused}
+use Rattle.histories.specs.Misfit.{misfit, bad_row}
+use Rattle.histories.specs.History.{History, reply, reply_in, write, written_reply}
+use Rattle.histories.specs.World.{OpenTransaction, World}
+use Rattle.histories.specs.Stands.{Stands, open_at}
+use Rattle.histories.specs.Turn.{put, Turn, turn, turn_in, end_turn, net_in, opened_now, own_in, with_own}
 use Rattle.histories.specs.Due.{is_want, is_out}
+use Rattle.histories.proofs.Written.{wants, write_is}
 use Rattle.histories.proofs.OpenTurns.{begin_answers}
 use Rattle.histories.proofs.Ends.{rollback_answers, commit_answers}
 use Rattle.histories.proofs.Wrote.{insert_answers, update_answers, delete_answers}
@@ -27,9 +28,9 @@ use Rattle.histories.proofs.Idle.{idle_stands, misfit_stands, fits_session, fits
 
 answers_in : (w : World) (h : History) (step : Step) → misfit w.schema step ≡ None → Stands w h → ((turn_in w step).0 ≡ reply_in w.schema h step) × Stands (turn_in w step).1 (step ∷ h)
 answers_in w h (Begin i) fits stands = begin_answers w h i (fits_session i fits) stands
-answers_in w h (Insert i number rows) fits stands = let fit = fits_table w.schema i number _ fits in insert_answers w h i number rows fit.1.0 fit.1.1 fits fit.0 stands
-answers_in w h (Update i keys sets) fits stands = let fit = fits_table w.schema i keys.table _ fits in update_answers w h i keys sets fit.1.0 fit.1.1 fits fit.0 stands
-answers_in w h (Delete i keys) fits stands = let fit = fits_table w.schema i keys.table _ fits in delete_answers w h i keys fit.1.0 fit.1.1 fits fit.0 stands
+answers_in w h (Insert i number rows) fits stands = insert_answers w h i number rows fits (fits_table w.schema i number _ fits).0 stands
+answers_in w h (Update i keys sets) fits stands = update_answers w h i keys sets fits (fits_table w.schema i keys.table _ fits).0 stands
+answers_in w h (Delete i keys) fits stands = delete_answers w h i keys fits (fits_table w.schema i keys.table _ fits).0 stands
 answers_in w h (Select i form keys) fits stands = let fit = fits_table w.schema i keys.table _ fits in (select_is w h i form keys fit.0 stands, idle_stands w h (Select i form keys) stands refl (λ j small. refl))
 answers_in w h (Commit i reading) fits stands = commit_answers w h i reading (fits_session i fits) stands
 answers_in w h (Rollback i) fits stands = rollback_answers w h i (fits_session i fits) stands
@@ -73,65 +74,62 @@ record IsPlain (w : World) (t : Turn) : Type 0 where
   answered : is_out t.0 ≡ false
   same_schema : t.1.schema ≡ w.schema
 
-begin_plain : (w : World) (i : ℕ) (o : Option Session) → let t : Turn = elim o [ Some s ↦ (Refused InTransaction, w) | None ↦ (Begun w.latest, put w i (Some (opened_now w))) ] in IsPlain w t
+begin_plain : (w : World) (i : ℕ) (o : Option OpenTransaction) → let t : Turn = elim o [ Some s ↦ (Refused InTransaction, w) | None ↦ (Begun w.latest, put w i (Some (opened_now w))) ] in IsPlain w t
 begin_plain w i None = record { answered = refl; same_schema = refl }
 begin_plain w i (Some s) = record { answered = refl; same_schema = refl }
 
-rollback_plain : (w : World) (i : ℕ) (o : Option Session) → let t : Turn = elim o [ None ↦ (Refused NoTransaction, w) | Some s ↦ (RolledBack, put w i None) ] in IsPlain w t
+rollback_plain : (w : World) (i : ℕ) (o : Option OpenTransaction) → let t : Turn = elim o [ None ↦ (Refused NoTransaction, w) | Some s ↦ (RolledBack, put w i None) ] in IsPlain w t
 rollback_plain w i None = record { answered = refl; same_schema = refl }
 rollback_plain w i (Some s) = record { answered = refl; same_schema = refl }
 
-write_plain : (w : World) (i : ℕ) (does : Table → Session → Reply × Session) (o : Option Session) (t : Option Table) → ((table : Table) (s : Session) → is_out (does table s).0 ≡ false)
-    → let turn : Turn = elim o [ None ↦ (Refused NoTransaction, w) | Some s ↦ elim t [ None ↦ (Refused NoTable, w) | Some table ↦ ((does table s).0, put w i (Some (does table s).1)) ] ] in IsPlain w turn
-write_plain w i does None t h = record { answered = refl; same_schema = refl }
-write_plain w i does (Some s) None h = record { answered = refl; same_schema = refl }
-write_plain w i does (Some s) (Some table) h = record { answered = h table s; same_schema = refl }
+want_written : (step : Step) (r : Result ℕ Refusal) → wants r ≡ false → is_out (written_reply step r) ≡ false
+want_written (Insert i number rows) (Ok count) h = refl
+want_written (Update i keys sets) (Ok count) h = refl
+want_written (Delete i keys) (Ok count) h = refl
+want_written (Begin i) (Ok count) h = refl
+want_written (Select i form keys) (Ok count) h = refl
+want_written (Commit i reading) (Ok count) h = refl
+want_written (Rollback i) (Ok count) h = refl
+want_written (SplitKey key) (Ok count) h = refl
+want_written (SplitTime key instant) (Ok count) h = refl
+want_written Migrate (Ok count) h = refl
+want_written step (Err refusal) h = h
 
-writing_answered : (keys : List Key) (reply : Reply) (rows : State) (s : Session) → is_out reply ≡ false → is_out (writing keys reply rows s).0 ≡ false
-writing_answered keys reply rows s h = by (nat_lt 1000 (length (add_keys keys s.written)))
-  where
-    by : (full : Bool) → let p : Reply × Session = if full then (Refused TooManyWrites, s) else (reply, record { start = s.start; rows = rows; written = add_keys keys s.written }) in is_out p.0 ≡ false
-    by true = refl
-    by false = h
-
-insert_answered : (d : Option Key) (s : Session) (p : Reply × Session) → is_out p.0 ≡ false → let q : Reply × Session = elim d [ Some key ↦ (Refused (DuplicateKey key), s) | None ↦ p ] in is_out q.0 ≡ false
-insert_answered None s p h = h
-insert_answered (Some key) s p h = refl
+write_plain : (w : World) (i : ℕ) (step : Step) (o : Option OpenTransaction)
+    → let turn : Turn = elim o [ None ↦ (Refused NoTransaction, w) | Some s ↦ (written_reply step (write w.schema step (own_in s)).0, put w i (Some (with_own s (write w.schema step (own_in s)).1))) ] in IsPlain w turn
+write_plain w i step None = record { answered = refl; same_schema = refl }
+write_plain w i step (Some s) = record { answered = want_written step (write w.schema step (own_in s)).0 (write_is w.schema step (own_in s)).answered; same_schema = refl }
 
 select_plain : (w : World) (o : Option Table) (f : Table → Reply) → ((t : Table) → is_out (f t) ≡ false) → is_out (elim o [ None ↦ Refused NoTable | Some table ↦ f table ]) ≡ false
 select_plain w None f h = refl
 select_plain w (Some t) f h = h t
 
-abbrev end_wants : Result (Option ℕ) Refusal → Bool
-end_wants (Ok instant) = false
-end_wants (Err refusal) = is_want refusal
-
-end_plain : (w : World) (i : ℕ) (net : Net) (end : Result (Option ℕ) Refusal) → end_wants end ≡ false → IsPlain w (end_turn w i net end)
+end_plain : (w : World) (i : ℕ) (net : Net) (end : Result (Option ℕ) Refusal) → wants end ≡ false → IsPlain w (end_turn w i net end)
 end_plain w i net (Ok (Some instant)) h = record { answered = refl; same_schema = refl }
 end_plain w i net (Ok None) h = record { answered = refl; same_schema = refl }
 end_plain w i net (Err refusal) h = record { answered = h; same_schema = refl }
 
-outcome_wants : (m : Changes) (latest start : ℕ) (net : Net) (reading : ℕ) → end_wants (outcome m latest start net reading) ≡ false
+outcome_wants : (m : Changes) (latest start : ℕ) (net : Net) (reading : ℕ) → wants (outcome m latest start net reading) ≡ false
 outcome_wants m latest start [] reading = refl
 outcome_wants m latest start (change ∷ net) reading = by (won m start (change ∷ net)) (nat_lt max_instant (max reading (latest + 1)))
   where
-    by : (found : List (Key × ℕ)) (late : Bool) → end_wants (elim found [ first ∷ others ↦ Err (Conflict first.0 first.1) | [] ↦ if late then Err ClockEnd else Ok (Some (max reading (latest + 1))) ]) ≡ false
+    by : (found : List (Key × ℕ)) (late : Bool) → wants (elim found [ first ∷ others ↦ Err (Conflict first.0 first.1) | [] ↦ if late then Err ClockEnd else Ok (Some (max reading (latest + 1))) ]) ≡ false
     by [] true = refl
     by [] false = refl
     by (first ∷ others) late = refl
 
-commit_plain : (w : World) (i reading : ℕ) (o : Option Session) → let t : Turn = elim o [ None ↦ (Refused NoTransaction, w) | Some s ↦ end_turn w i (net_in w.changes s) (outcome w.changes w.latest s.start (net_in w.changes s) reading) ] in IsPlain w t
+commit_plain : (w : World) (i reading : ℕ) (o : Option OpenTransaction) → let t : Turn = elim o [ None ↦ (Refused NoTransaction, w) | Some s ↦ end_turn w i (net_in w.changes s) (outcome w.changes w.latest s.start (net_in w.changes s) reading) ] in IsPlain w t
 commit_plain w i reading None = record { answered = refl; same_schema = refl }
 commit_plain w i reading (Some s) = end_plain w i (net_in w.changes s) (outcome w.changes w.latest s.start (net_in w.changes s) reading) (outcome_wants w.changes w.latest s.start (net_in w.changes s) reading)
 
 plain_in : (w : World) (step : Step) → IsPlain w (turn_in w step)
-plain_in w (Begin i) = begin_plain w i (session_at w i)
-plain_in w (Insert i number rows) = write_plain w i (λ table s. insert_into table rows s) (session_at w i) (table_at w.schema number) (λ table s. insert_answered (duplicate table rows s.rows) s (writing (map (key_of table) rows) (Inserted (length rows)) (insert_rows table rows s.rows) s) (writing_answered (map (key_of table) rows) (Inserted (length rows)) (insert_rows table rows s.rows) s refl))
-plain_in w (Update i keys sets) = write_plain w i (λ table s. update_in table keys sets s) (session_at w i) (table_at w.schema keys.table) (λ table s. writing_answered (met table keys s.rows) (Updated (length (met table keys s.rows))) (update_rows table keys sets s.rows) s refl)
-plain_in w (Delete i keys) = write_plain w i (λ table s. delete_from table keys s) (session_at w i) (table_at w.schema keys.table) (λ table s. writing_answered (met table keys s.rows) (Deleted (length (met table keys s.rows))) (delete_rows table keys s.rows) s refl)
+plain_in w (Begin i) = begin_plain w i (open_at w i)
+plain_in w (Insert i number rows) = write_plain w i (Insert i number rows) (open_at w i)
+plain_in w (Update i keys sets) = write_plain w i (Update i keys sets) (open_at w i)
+plain_in w (Delete i keys) = write_plain w i (Delete i keys) (open_at w i)
 plain_in w (Select i form keys) = record { answered = select_plain w (table_at w.schema keys.table) _ (λ t. refl); same_schema = refl }
-plain_in w (Commit i reading) = commit_plain w i reading (session_at w i)
-plain_in w (Rollback i) = rollback_plain w i (session_at w i)
+plain_in w (Commit i reading) = commit_plain w i reading (open_at w i)
+plain_in w (Rollback i) = rollback_plain w i (open_at w i)
 plain_in w (SplitKey key) = record { answered = refl; same_schema = refl }
 plain_in w (SplitTime key instant) = record { answered = refl; same_schema = refl }
 plain_in w Migrate = record { answered = refl; same_schema = refl }

@@ -10,8 +10,8 @@ use Rattle.values.specs.Commits.{outcome, ended, after}
 use Rattle.histories.specs.declared.step.Step.{Step}
 use Rattle.histories.specs.declared.step.Step.TheVariants.{Begin, Insert, Update, Delete, Select, Commit, Rollback, SplitKey, SplitTime, Migrate}
 use Rattle.histories.proofs.Growth.{outcome_above}
-use Rattle.histories.specs.Stands.{session, session_from}
-use Rattle.histories.specs.History.{History, log, opened, own, ends, begins, net_change_of, rewrite_all, written_by}
+use Rattle.histories.specs.Stands.{open_in, open_from}
+use Rattle.histories.specs.History.{History, log, opened, own, ends, begins, net_change_of, rewrite_all}
 
 later_test : (a s : ℕ) → s < a → nat_le a s ≡ false
 later_test a s h = grind (arith, nat_tests)
@@ -40,10 +40,10 @@ last_ended log net (Err e) above = omega arith
 
 -- a transaction that stays open sees what it saw
 pub session_kept : (schema : Schema) (log now : Log) (o : Option Log) (own : List Step) → ((before : Log) → o ≡ Some before → state now (last before) ≡ state log (last before))
-    → session_from schema now o own ≡ session_from schema log o own
+    → open_from schema now o own ≡ open_from schema log o own
 session_kept schema log now None own same = refl
 session_kept schema log now (Some before) own same =
-    ap (λ m. Some (record { start = last before; rows = rewrite_all schema own m; written = written_by schema own m [] })) (same before refl)
+    ap (λ m. Some (let o = rewrite_all schema own (record { rows = m; written = [] }) in record { start = last before; rows = o.rows; written = o.written })) (same before refl)
 
 pub state_after : (log : Log) (start : ℕ) (net : Net) (reading s : ℕ) → s ≤ last log → state (after log start net reading) s ≡ state log s
 state_after log start net reading s below =
@@ -84,9 +84,9 @@ opened_below schema (step ∷ h) i before e =
     (λ x is. let below : last x ≤ last (log schema h) = opened_below schema h i x is in omega (arith, below, log_step schema h step))
 
 -- a commit of one session changes nothing of another
-pub session_other_commit : (schema : Schema) (h : History) (i j reading : ℕ) → (j == i) ≡ false → session schema (Commit i reading ∷ h) j ≡ session schema h j
+pub session_other_commit : (schema : Schema) (h : History) (i j reading : ℕ) → (j == i) ≡ false → open_in schema (Commit i reading ∷ h) j ≡ open_in schema h j
 session_other_commit schema h i j reading other =
-    ap (λ b. session_from schema (log schema (Commit i reading ∷ h)) (if b then None else opened schema h j) (if b then [] else own schema h j)) other
+    ap (λ b. open_from schema (log schema (Commit i reading ∷ h)) (if b then None else opened schema h j) (if b then [] else own schema h j)) other
     ∙ session_kept schema (log schema h) (log schema (Commit i reading ∷ h)) (opened schema h j) (own schema h j) (λ before is. by (opened schema h i) before (opened_below schema h j before is))
   where
     by : (o : Option Log) (before : Log) → last before ≤ last (log schema h)

@@ -11,6 +11,7 @@ use Rattle.values.specs.Log.{Log, last, changes}
 use Rattle.values.specs.Laws.{IsLog, shown_rows}
 use Rattle.histories.specs.declared.step.Step.{Step}
 use Rattle.histories.specs.declared.step.Step.TheVariants.{Select}
+use Rattle.histories.specs.Misfit.{max_session}
 use Rattle.histories.specs.History.{History, before_open, log, opened, own, snap, listing, reply}
 use Rattle.histories.specs.Winners.{winners, AreConcurrent, ShareAKey}
 
@@ -38,7 +39,7 @@ PastIsReadAlike schema = (h : History) (later : List Step) (i j t : ℕ) (table 
 
 -- and it has one reply
 abbrev pub PastIsToldAlike : Schema → Type 0
-PastIsToldAlike schema = (h : History) (later : List Step) (i j t : ℕ) (keys : Keys) → i ≤ 64 → j ≤ 64 → t ≤ snap schema h i → t ≤ snap schema (later ++ h) j
+PastIsToldAlike schema = (h : History) (later : List Step) (i j t : ℕ) (keys : Keys) → i ≤ max_session → j ≤ max_session → t ≤ snap schema h i → t ≤ snap schema (later ++ h) j
     → reply schema (later ++ h) (Select j (AsOf t) keys) ≡ reply schema h (Select i (AsOf t) keys)
 
 -- no key stands in the net changes of two committed transactions of which each began before the other was committed

@@ -1,6 +1,7 @@
 pub mod Due
 pub mod History
 pub mod Laws
+pub mod Misfit
 pub mod Stands
 pub mod Turn
 pub mod TurnLaws

@@ -1,95 +1,91 @@
 -- What a step answers and leaves, by what contracts see of the system.
-use Rattle.std.specs.Prelude.{ℕ, List, [], ◌∷◌, Option, Some, None, Result, Ok, Err, Bool, false, slice_set, nat_lt, nat_le, ◌&&◌, ◌||◌, if◌then◌else◌, length, map, filter, is_some}
+use Rattle.std.specs.Prelude.{ℕ, List, [], ◌∷◌, Option, Some, None, Result, Ok, Err, Bool, false, slice_set, nat_le, ◌&&◌, ◌||◌, if◌then◌else◌, map, filter, is_some}
 use Rattle.values.specs.declared.key.Key.{Key}
 use Rattle.values.specs.declared.table.Table.{Table}
 use Rattle.values.specs.declared.query.Form.{Form}
 use Rattle.values.specs.declared.query.Form.TheVariants.{Plain, AsOf, FromTo, Between}
 use Rattle.values.specs.declared.query.Keys.{Keys}
-use Rattle.values.specs.declared.query.Set.{Set}
 use Rattle.values.specs.declared.query.Shown.{Shown as Version}
 use Rattle.values.specs.declared.refusal.Refusal.{Refusal}
-use Rattle.values.specs.declared.refusal.Refusal.TheVariants.{NoTable, NoTransaction, InTransaction, DuplicateKey, TooManyWrites}
+use Rattle.values.specs.declared.refusal.Refusal.TheVariants.{NoTable, NoTransaction, InTransaction}
 use Rattle.values.specs.Order.{is_key}
-use Rattle.values.specs.Log.{Changes, State, Net, Row, row_at, add_net, rows_after}
+use Rattle.values.specs.Log.{Changes, Net, Row, row_at, add_net, rows_after}
 use Rattle.values.specs.Laws.{changes_upto}
 use Rattle.values.specs.Events.{later}
 use Rattle.values.specs.Tables.{table_at}
 use Rattle.values.specs.Versions.{answer}
-use Rattle.values.specs.Writes.{key_of, insert_rows, duplicate, update_rows, delete_rows, met, add_keys}
+use Rattle.values.specs.Writes.{Own}
 use Rattle.values.specs.Commits.{outcome}
 use Rattle.histories.specs.declared.step.Step.{Step}
 use Rattle.histories.specs.declared.step.Step.TheVariants.{Begin, Insert, Update, Delete, Select, Commit, Rollback, SplitKey, SplitTime, Migrate}
 use Rattle.histories.specs.declared.step.Listing.{Listing}
 use Rattle.histories.specs.declared.step.Listing.TheVariants.{Rows, Periods}
 use Rattle.histories.specs.declared.step.Reply.{Reply}
-use Rattle.histories.specs.declared.step.Reply.TheVariants.{Begun, Inserted, Updated, Deleted, Shown, Committed, RolledBack, Done, Refused}
-use Rattle.histories.specs.History.{misfit, rows_taken, rows_of}
-use Rattle.histories.specs.World.{Session, World}
-use Rattle.histories.specs.Stands.{session_at}
+use Rattle.histories.specs.declared.step.Reply.TheVariants.{Begun, Shown, Committed, RolledBack, Done, Refused}
+use Rattle.histories.specs.Misfit.{misfit}
+use Rattle.histories.specs.History.{write, written_reply, rows_taken, rows_of}
+use Rattle.histories.specs.World.{OpenTransaction, World}
+use Rattle.histories.specs.Stands.{open_at}
 
 -- a reply, and the system after it
 abbrev pub Turn : Type 0
 Turn = Reply × World
 
-abbrev pub put : World → ℕ → Option Session → World
-put w i session = record { schema = w.schema; changes = w.changes; latest = w.latest; sessions = slice_set w.sessions i session }
+abbrev pub put : World → ℕ → Option OpenTransaction → World
+put w i transaction = record {
+  schema = w.schema;
+  changes = w.changes;
+  latest = w.latest;
+  sessions = slice_set w.sessions i transaction;
+}
 
 -- ---- BEGIN and ROLLBACK
 
 -- a transaction that begins now
-abbrev pub opened_now : World → Session
+abbrev pub opened_now : World → OpenTransaction
 opened_now w = record { start = w.latest; rows = rows_after [] w.changes; written = [] }
 
 abbrev pub begin_turn : World → ℕ → Turn
-begin_turn w i = elim (session_at w i) [
+begin_turn w i = elim (open_at w i) [
   | Some s ↦ (Refused InTransaction, w)
   | None ↦ (Begun w.latest, put w i (Some (opened_now w)))
 ]
 
 abbrev pub rollback_turn : World → ℕ → Turn
-rollback_turn w i = elim (session_at w i) [ None ↦ (Refused NoTransaction, w) | Some s ↦ (RolledBack, put w i None) ]
+rollback_turn w i = elim (open_at w i) [
+  | None ↦ (Refused NoTransaction, w)
+  | Some s ↦ (RolledBack, put w i None)
+]
 
 -- ---- INSERT, UPDATE, DELETE
 
--- a write of keys, unless they are too many: what it answers, and the rows that it leaves
-abbrev pub writing : List Key → Reply → State → Session → Reply × Session
-writing keys reply rows s =
-    let written = add_keys keys s.written in
-    if nat_lt 1000 (length written) then (Refused TooManyWrites, s) else (reply, record { start = s.start; rows = rows; written = written })
+abbrev pub own_in : OpenTransaction → Own
+own_in s = record { rows = s.rows; written = s.written }
 
-abbrev pub insert_into : Table → List Row → Session → Reply × Session
-insert_into table rows s = elim (duplicate table rows s.rows) [
-  | Some key ↦ (Refused (DuplicateKey key), s)
-  | None ↦ writing (map (key_of table) rows) (Inserted (length rows)) (insert_rows table rows s.rows) s
-]
+-- the transaction, with these rows and keys of its own
+abbrev pub with_own : OpenTransaction → Own → OpenTransaction
+with_own s o = record { start = s.start; rows = o.rows; written = o.written }
 
-abbrev pub update_in : Table → Keys → List Set → Session → Reply × Session
-update_in table keys sets s = writing (met table keys s.rows) (Updated (length (met table keys s.rows))) (update_rows table keys sets s.rows) s
-
-abbrev pub delete_from : Table → Keys → Session → Reply × Session
-delete_from table keys s = writing (met table keys s.rows) (Deleted (length (met table keys s.rows))) (delete_rows table keys s.rows) s
-
--- a write of a table in a session's open transaction
-abbrev pub write_turn : World → ℕ → ℕ → (Table → Session → Reply × Session) → Turn
-write_turn w i number write = elim (session_at w i) [
+-- a write in a session's open transaction
+abbrev pub write_turn : World → ℕ → Step → Turn
+write_turn w i step = elim (open_at w i) [
   | None ↦ (Refused NoTransaction, w)
-  | Some s ↦ elim (table_at w.schema number) [
-    | None ↦ (Refused NoTable, w)
-    | Some table ↦ let done = write table s in (done.0, put w i (Some done.1))
-  ]
+  | Some s ↦
+      let done = write w.schema step (own_in s) in
+      (written_reply step done.0, put w i (Some (with_own s done.1)))
 ]
 
 -- ---- SELECT
 
-abbrev pub start_of : World → Option Session → ℕ
+abbrev pub start_of : World → Option OpenTransaction → ℕ
 start_of w None = w.latest
 start_of w (Some s) = s.start
 
 -- what a session sees of what was committed
-abbrev pub answer_to : World → Option Session → Table → Form → Keys → List Version
+abbrev pub answer_to : World → Option OpenTransaction → Table → Form → Keys → List Version
 answer_to w s table form keys = answer (changes_upto w.changes (start_of w s)) table form keys
 
-abbrev pub listing : World → Option Session → Form → Table → Keys → Listing
+abbrev pub listing : World → Option OpenTransaction → Form → Table → Keys → Listing
 listing w (Some s) Plain table keys = Rows (rows_taken table keys s.rows)
 listing w None Plain table keys = Rows (rows_of (answer_to w None table Plain keys))
 listing w s (AsOf t) table keys = Rows (rows_of (answer_to w s table (AsOf t) keys))
@@ -97,26 +93,37 @@ listing w s (FromTo a b) table keys = Periods (answer_to w s table (FromTo a b) 
 listing w s (Between a b) table keys = Periods (answer_to w s table (Between a b) keys)
 
 abbrev pub select_reply : World → ℕ → Form → Keys → Reply
-select_reply w i form keys = elim (table_at w.schema keys.table) [ None ↦ Refused NoTable | Some table ↦ Shown (listing w (session_at w i) form table keys) ]
+select_reply w i form keys = elim (table_at w.schema keys.table) [
+  | None ↦ Refused NoTable
+  | Some table ↦ Shown (listing w (open_at w i) form table keys)
+]
 
 -- ---- COMMIT
 
 -- the key's last change at the instant or before it
 abbrev pub last_until : Changes → ℕ → Key → Option (ℕ × Option Row)
 last_until [] t key = None
-last_until (c ∷ cs) t key = later (last_until cs t key) (if is_key key c.0.key && nat_le c.0.instant t then Some (c.0.instant, c.1) else None)
+last_until (c ∷ cs) t key =
+    later (last_until cs t key)
+    (if is_key key c.0.key && nat_le c.0.instant t then Some (c.0.instant, c.1) else None)
 
 -- the key had a row at the instant
 abbrev pub was_there : Changes → ℕ → Key → Bool
 was_there m t key = elim (last_until m t key) [ Some c ↦ is_some c.1 | None ↦ false ]
 
 -- what the written keys have in the end, without those that are absent both then and before
-abbrev pub net_in : Changes → Session → Net
-net_in m s = filter (λ c. is_some c.1 || was_there m s.start c.0) (map (λ k. (k, row_at s.rows k)) s.written)
+abbrev pub net_in : Changes → OpenTransaction → Net
+net_in m s =
+    filter (λ c. is_some c.1 || was_there m s.start c.0) (map (λ k. (k, row_at s.rows k)) s.written)
 
 -- with what a transaction committed at an instant
 abbrev pub applied : ℕ → Net → World → World
-applied instant net w = record { schema = w.schema; changes = add_net instant w.changes net; latest = instant; sessions = w.sessions }
+applied instant net w = record {
+  schema = w.schema;
+  changes = add_net instant w.changes net;
+  latest = instant;
+  sessions = w.sessions;
+}
 
 abbrev pub end_turn : World → ℕ → Net → Result (Option ℕ) Refusal → Turn
 end_turn w i net (Ok (Some instant)) = (Committed (Some instant), put (applied instant net w) i None)
@@ -124,9 +131,11 @@ end_turn w i net (Ok None) = (Committed None, put w i None)
 end_turn w i net (Err refusal) = (Refused refusal, put w i None)
 
 abbrev pub commit_turn : World → ℕ → ℕ → Turn
-commit_turn w i reading = elim (session_at w i) [
+commit_turn w i reading = elim (open_at w i) [
   | None ↦ (Refused NoTransaction, w)
-  | Some s ↦ end_turn w i (net_in w.changes s) (outcome w.changes w.latest s.start (net_in w.changes s) reading)
+  | Some s ↦
+      let net = net_in w.changes s in
+      end_turn w i net (outcome w.changes w.latest s.start net reading)
 ]
 
 -- ---- every step
@@ -134,9 +143,9 @@ commit_turn w i reading = elim (session_at w i) [
 -- a step that fits the schema
 abbrev pub turn_in : World → Step → Turn
 turn_in w (Begin i) = begin_turn w i
-turn_in w (Insert i number rows) = write_turn w i number (λ table s. insert_into table rows s)
-turn_in w (Update i keys sets) = write_turn w i keys.table (λ table s. update_in table keys sets s)
-turn_in w (Delete i keys) = write_turn w i keys.table (λ table s. delete_from table keys s)
+turn_in w (Insert i number rows) = write_turn w i (Insert i number rows)
+turn_in w (Update i keys sets) = write_turn w i (Update i keys sets)
+turn_in w (Delete i keys) = write_turn w i (Delete i keys)
 turn_in w (Select i form keys) = (select_reply w i form keys, w)
 turn_in w (Commit i reading) = commit_turn w i reading
 turn_in w (Rollback i) = rollback_turn w i
@@ -145,4 +154,7 @@ turn_in w (SplitTime key instant) = (Done, w)
 turn_in w Migrate = (Done, w)
 
 abbrev pub turn : World → Step → Turn
-turn w step = elim (misfit w.schema step) [ Some refusal ↦ (Refused refusal, w) | None ↦ turn_in w step ]
+turn w step = elim (misfit w.schema step) [
+  | Some refusal ↦ (Refused refusal, w)
+  | None ↦ turn_in w step
+]

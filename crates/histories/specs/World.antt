@@ -4,8 +4,8 @@ use Rattle.values.specs.declared.key.Key.{Key}
 use Rattle.values.specs.Tables.{Schema}
 use Rattle.values.specs.Log.{Changes, State}
 
--- an open transaction: its start, the rows that it sees, and the keys that it wrote
-pub record Session : Type 0 where
+-- its start, the rows that it sees, and the keys that it wrote
+pub record OpenTransaction : Type 0 where
   pub start : ℕ
   pub rows : State
   pub written : List Key
@@ -15,4 +15,4 @@ pub record World : Type 0 where
   pub schema : Schema
   pub changes : Changes
   pub latest : ℕ
-  pub sessions : List (Option Session)
+  pub sessions : List (Option OpenTransaction)

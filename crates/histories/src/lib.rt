@@ -10,5 +10,5 @@ pub use laws::{
     concurrent_commits_share_no_key, log_only_grows, opens_at_its_begin, past_stays,
     reads_depend_on_snapshot_and_own_writes, worked_examples_hold,
 };
-pub use step::{Listing, Reply, Step};
+pub use step::{Listing, MAX_SESSION, Reply, Step};
 pub use turn_laws::turns_give_the_replies;

@@ -1,15 +1,11 @@
-ghost use Rattle.std.specs.Prelude.{◌≡◌, ℕ, [], Option, IfOk, IfErr};
+ghost use Rattle.std.specs.Prelude.{◌≡◌, ℕ, Option, IfOk, IfErr};
 ghost use Rattle.values.specs.declared.table.Table.{Table};
 ghost use Rattle.values.specs.Tables.{table_at};
-ghost use Rattle.values.specs.Fit.{rows_fault, key_fault, comparisons_fault, sets_fault};
-ghost use Rattle.values.specs.Fit.{first_of};
-ghost use Rattle.histories.specs.History.{misfit, misfit_of, no_session};
+ghost use Rattle.values.specs.Fit.{rows_fault, key_fault};
+ghost use Rattle.histories.specs.Misfit.{misfit, misfit_of, no_session, keys_fault, update_fault};
 
-use crate::step::Step;
+use crate::step::{MAX_SESSION, Step};
 use rows::{Key, Keys, Refusal, Row, Schema, Set, Table};
-
-/// The highest session number.
-const SESSIONS: u8 = 64;
 
 impl Step {
     /// Why a step does not fit the schema: its session's number, then its table, then the first column at fault.
@@ -38,7 +34,7 @@ impl Step {
 fn no_session(session: u8) -> Option<Refusal>
     ensures { result ≡ no_session session }
 {
-    if session > SESSIONS {
+    if session > MAX_SESSION {
         Some(Refusal::NoSession)
     } else {
         None
@@ -55,7 +51,7 @@ fn insert_misfit(schema: &Schema, session: u8, table: u8, rows: &[Row]) -> Optio
 }
 
 fn update_misfit(schema: &Schema, session: u8, keys: &Keys, sets: &[Set]) -> Option<Refusal>
-    ensures { result ≡ misfit_of schema.now session keys.now.table (λ t. first_of (sets_fault t [] sets.now) (comparisons_fault t keys.now.comparisons)) }
+    ensures { result ≡ misfit_of schema.now session keys.now.table (update_fault keys.now sets.now) }
 {
     match table_of(schema, session, keys.table) {
         Ok(table) => match table.check_sets(sets) {
@@ -67,7 +63,7 @@ fn update_misfit(schema: &Schema, session: u8, keys: &Keys, sets: &[Set]) -> Opt
 }
 
 fn keys_misfit(schema: &Schema, session: u8, keys: &Keys) -> Option<Refusal>
-    ensures { result ≡ misfit_of schema.now session keys.now.table (λ t. comparisons_fault t keys.now.comparisons) }
+    ensures { result ≡ misfit_of schema.now session keys.now.table (keys_fault keys.now) }
 {
     match table_of(schema, session, keys.table) {
         Ok(table) => table.check_comparisons(keys.comparisons.items()).err(),
@@ -86,8 +82,10 @@ fn key_misfit(schema: &Schema, key: &Key) -> Option<Refusal>
 
 /// The table that a session names, or why there is none for it.
 fn table_of(schema: &Schema, session: u8, number: u8) -> Result<&Table, Refusal>
-    ensures found { IfOk result (λ t. (no_session session ≡ None) × (table_at schema.now number ≡ Some t.now)) }
-    ensures refused { IfErr result (λ e. (fault : Table → Option ℕ) → misfit_of schema.now session number fault ≡ Some e) }
+    ensures session { IfOk result (λ t. no_session session ≡ None) }
+    ensures found { IfOk result (λ t. table_at schema.now number ≡ Some t.now) }
+    ensures refused { IfErr result (λ e. (fault : Table → Option ℕ) →
+        misfit_of schema.now session number fault ≡ Some e) }
 {
     if let Some(refusal) = no_session(session) {
         return Err(refusal);

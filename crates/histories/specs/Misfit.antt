@@ -1,0 +1,51 @@
+-- Why a step does not fit the schema.
+use Rattle.std.specs.Prelude.{ℕ, List, [], Option, Some, None, if◌then◌else◌, nat_lt}
+use Rattle.std.specs.Option.{option_map}
+use Rattle.values.specs.declared.refusal.Refusal.{Refusal}
+use Rattle.values.specs.declared.refusal.Refusal.TheVariants.{NoTable, BadRow, NoSession}
+use Rattle.values.specs.declared.table.Table.{Table}
+use Rattle.values.specs.declared.query.Keys.{Keys}
+use Rattle.values.specs.declared.query.Set.{Set}
+use Rattle.values.specs.Tables.{Schema, table_at}
+use Rattle.values.specs.Fit.{rows_fault, key_fault, comparisons_fault, sets_fault, first_of}
+use Rattle.histories.specs.declared.step.Step.{Step}
+use Rattle.histories.specs.declared.step.Step.TheVariants.{Begin, Insert, Update, Delete, Select, Commit, Rollback, SplitKey, SplitTime, Migrate}
+
+-- sessions are numbered from 0 to this
+abbrev pub max_session : ℕ
+max_session = 64
+
+-- the refusal of a column that does not fit
+abbrev pub bad_row : Option ℕ → Option Refusal
+bad_row fault = option_map BadRow fault
+
+-- the refusal of a session that there is not
+abbrev pub no_session : ℕ → Option Refusal
+no_session i = if nat_lt max_session i then Some NoSession else None
+
+-- why what a session asks of a table does not fit: its number, the table, the columns
+abbrev pub misfit_of : Schema → ℕ → ℕ → (Table → Option ℕ) → Option Refusal
+misfit_of schema i number fault =
+    if nat_lt max_session i then Some NoSession
+    else elim (table_at schema number) [ None ↦ Some NoTable | Some table ↦ bad_row (fault table) ]
+
+-- new values come before comparisons
+abbrev pub update_fault : Keys → List Set → Table → Option ℕ
+update_fault keys sets table =
+    first_of (sets_fault table [] sets) (comparisons_fault table keys.comparisons)
+
+abbrev pub keys_fault : Keys → Table → Option ℕ
+keys_fault keys table = comparisons_fault table keys.comparisons
+
+-- why a step does not fit the schema
+abbrev pub misfit : Schema → Step → Option Refusal
+misfit schema (Begin i) = no_session i
+misfit schema (Insert i number rows) = misfit_of schema i number (λ table. rows_fault table rows)
+misfit schema (Update i keys sets) = misfit_of schema i keys.table (update_fault keys sets)
+misfit schema (Delete i keys) = misfit_of schema i keys.table (keys_fault keys)
+misfit schema (Select i form keys) = misfit_of schema i keys.table (keys_fault keys)
+misfit schema (Commit i reading) = no_session i
+misfit schema (Rollback i) = no_session i
+misfit schema (SplitKey key) = misfit_of schema 0 key.table (λ table. key_fault table key.parts)
+misfit schema (SplitTime key instant) = misfit_of schema 0 key.table (λ table. key_fault table key.parts)
+misfit schema Migrate = None
