@@ -56,7 +56,7 @@ not_other i j other = grind (arith, nat_tests)
 pub itself : (i : ℕ) → (i == i) ≡ true
 itself i = grind (arith, nat_tests)
 
-pub small_enough : (i : ℕ) → i ≤ max_session → nat_lt 64 i ≡ false
+pub small_enough : (i : ℕ) → i ≤ max_session → nat_lt max_session i ≡ false
 small_enough i small = grind (arith, nat_tests)
 
 -- ---- ROLLBACK

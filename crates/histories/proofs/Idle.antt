@@ -27,15 +27,15 @@ idle_stands w h step stands is_log same = record {
   sessions_are = λ j small. stands.sessions_are j small ∙ sym (same j small);
 }
 
--- ---- sessions above 64
+-- ---- sessions that there are not
 
-begins_none : (i : ℕ) (step : Step) → 64 < i → begins i step ≡ false
+begins_none : (i : ℕ) (step : Step) → max_session < i → begins i step ≡ false
 begins_none i (Begin j) h = by (i == j)
   where
-    large : nat_le i 64 ≡ false
+    large : nat_le i max_session ≡ false
     large = grind (arith, nat_tests)
 
-    by : (b : Bool) → (b && nat_le i 64) ≡ false
+    by : (b : Bool) → (b && nat_le i max_session) ≡ false
     by true = large
     by false = refl
 begins_none i (Insert j number rows) h = refl
@@ -49,7 +49,7 @@ begins_none i (SplitTime key instant) h = refl
 begins_none i Migrate h = refl
 
 -- none of them opens
-pub none_open : (schema : Schema) (h : History) (i : ℕ) → 64 < i → opened schema h i ≡ None
+pub none_open : (schema : Schema) (h : History) (i : ℕ) → max_session < i → opened schema h i ≡ None
 none_open schema [] i large = refl
 none_open schema (step ∷ h) i large = (λ k. if ends i step then None else if begins_none i step large k && is_none (opened schema h i) then Some (log schema h) else none_open schema h i large k) ∙ closed (ends i step)
   where
@@ -76,27 +76,27 @@ kept_session schema h step j refusal is no_end no_begin same_log =
     (if no_end k then [] else if is_write_of j step && is_some (opened schema h j) && not (refused_write schema step refusal (own_of schema (log schema h) (opened schema h j) (own schema h j)) is k) then own schema h j ++ step ∷ [] else own schema h j))
     ∙ ap (open_from schema (log schema h) (opened schema h j)) (dropped (is_write_of j step) (is_some (opened schema h j)) (own schema h j ++ step ∷ []) (own schema h j))
 
-large : (b : Bool) (refusal : Refusal) (i : ℕ) → nat_lt 64 i ≡ b → ◌≡◌ {A = Option Refusal} (if b then Some NoSession else None) (Some refusal) → 64 < i
+large : (b : Bool) (refusal : Refusal) (i : ℕ) → nat_lt max_session i ≡ b → ◌≡◌ {A = Option Refusal} (if b then Some NoSession else None) (Some refusal) → max_session < i
 large true refusal i at is = grind (arith, nat_tests)
 large false refusal i at is = cc
 
-other : (i j : ℕ) → 64 < i → j ≤ max_session → (j == i) ≡ false
+other : (i j : ℕ) → max_session < i → j ≤ max_session → (j == i) ≡ false
 other i j large small = grind (arith, nat_tests)
 
 pub misfit_stands : (w : World) (h : History) (step : Step) (refusal : Refusal) → misfit w.schema step ≡ Some refusal → Stands w h → Stands w (step ∷ h)
-misfit_stands w h (Begin i) refusal is stands = idle_stands w h (Begin i) stands refl (λ j small. kept_session w.schema h (Begin i) j refusal is refl (begun j (other i j (large (nat_lt 64 i) refusal i refl is) small)) refl)
+misfit_stands w h (Begin i) refusal is stands = idle_stands w h (Begin i) stands refl (λ j small. kept_session w.schema h (Begin i) j refusal is refl (begun j (other i j (large (nat_lt max_session i) refusal i refl is) small)) refl)
   where
-    begun : (j : ℕ) → (j == i) ≡ false → ((j == i) && nat_le j 64) ≡ false
-    begun j e = ap (λ b. b && nat_le j 64) e
+    begun : (j : ℕ) → (j == i) ≡ false → ((j == i) && nat_le j max_session) ≡ false
+    begun j e = ap (λ b. b && nat_le j max_session) e
 misfit_stands w h (Insert i number rows) refusal is stands = idle_stands w h (Insert i number rows) stands refl (λ j small. kept_session w.schema h (Insert i number rows) j refusal is refl refl refl)
 misfit_stands w h (Update i keys sets) refusal is stands = idle_stands w h (Update i keys sets) stands refl (λ j small. kept_session w.schema h (Update i keys sets) j refusal is refl refl refl)
 misfit_stands w h (Delete i keys) refusal is stands = idle_stands w h (Delete i keys) stands refl (λ j small. kept_session w.schema h (Delete i keys) j refusal is refl refl refl)
 misfit_stands w h (Select i form keys) refusal is stands = idle_stands w h (Select i form keys) stands refl (λ j small. kept_session w.schema h (Select i form keys) j refusal is refl refl refl)
-misfit_stands w h (Commit i reading) refusal is stands = idle_stands w h (Commit i reading) stands same_log (λ j small. kept_session w.schema h (Commit i reading) j refusal is (other i j (large (nat_lt 64 i) refusal i refl is) small) refl same_log)
+misfit_stands w h (Commit i reading) refusal is stands = idle_stands w h (Commit i reading) stands same_log (λ j small. kept_session w.schema h (Commit i reading) j refusal is (other i j (large (nat_lt max_session i) refusal i refl is) small) refl same_log)
   where
     same_log : log w.schema (Commit i reading ∷ h) ≡ log w.schema h
-    same_log = ap (λ (o : Option Log). let l : Log = elim o [ None ↦ log w.schema h | Some before ↦ after (log w.schema h) (last before) (net_change_of w.schema (log w.schema h) (opened w.schema h i) (own w.schema h i)) reading ] in l) (none_open w.schema h i (large (nat_lt 64 i) refusal i refl is))
-misfit_stands w h (Rollback i) refusal is stands = idle_stands w h (Rollback i) stands refl (λ j small. kept_session w.schema h (Rollback i) j refusal is (other i j (large (nat_lt 64 i) refusal i refl is) small) refl refl)
+    same_log = ap (λ (o : Option Log). let l : Log = elim o [ None ↦ log w.schema h | Some before ↦ after (log w.schema h) (last before) (net_change_of w.schema (log w.schema h) (opened w.schema h i) (own w.schema h i)) reading ] in l) (none_open w.schema h i (large (nat_lt max_session i) refusal i refl is))
+misfit_stands w h (Rollback i) refusal is stands = idle_stands w h (Rollback i) stands refl (λ j small. kept_session w.schema h (Rollback i) j refusal is (other i j (large (nat_lt max_session i) refusal i refl is) small) refl refl)
 misfit_stands w h (SplitKey key) refusal is stands = idle_stands w h (SplitKey key) stands refl (λ j small. refl)
 misfit_stands w h (SplitTime key instant) refusal is stands = idle_stands w h (SplitTime key instant) stands refl (λ j small. refl)
 misfit_stands w h Migrate refusal is stands = idle_stands w h Migrate stands refl (λ j small. refl)
@@ -104,16 +104,16 @@ misfit_stands w h Migrate refusal is stands = idle_stands w h Migrate stands ref
 -- ---- what a step that fits has
 
 pub fits_session : (i : ℕ) → no_session i ≡ None → i ≤ max_session
-fits_session i is = by (nat_lt 64 i) refl is
+fits_session i is = by (nat_lt max_session i) refl is
   where
-    by : (b : Bool) → nat_lt 64 i ≡ b → ◌≡◌ {A = Option Refusal} (if b then Some NoSession else None) None → i ≤ max_session
+    by : (b : Bool) → nat_lt max_session i ≡ b → ◌≡◌ {A = Option Refusal} (if b then Some NoSession else None) None → i ≤ max_session
     by true at is = cc
     by false at is = grind (arith, nat_tests)
 
 pub fits_table : (schema : Schema) (i number : ℕ) (fault : Table → Option ℕ) → misfit_of schema i number fault ≡ None → (i ≤ max_session) × ((t : Table) × (table_at schema number ≡ Some t))
-fits_table schema i number fault is = by (nat_lt 64 i) (table_at schema number) refl refl is
+fits_table schema i number fault is = by (nat_lt max_session i) (table_at schema number) refl refl is
   where
-    by : (b : Bool) (t : Option Table) → nat_lt 64 i ≡ b → table_at schema number ≡ t → ◌≡◌ {A = Option Refusal} (if b then Some NoSession else elim t [ None ↦ Some NoTable | Some table ↦ bad_row (fault table) ]) None
+    by : (b : Bool) (t : Option Table) → nat_lt max_session i ≡ b → table_at schema number ≡ t → ◌≡◌ {A = Option Refusal} (if b then Some NoSession else elim t [ None ↦ Some NoTable | Some table ↦ bad_row (fault table) ]) None
         → (i ≤ max_session) × ((t : Table) × (table_at schema number ≡ Some t))
     by true t at there is = cc
     by false None at there is = cc

@@ -1,6 +1,8 @@
 pub mod Ends
 pub mod Growth
 pub mod Idle
+pub mod Maintenance
+pub mod Memory
 pub mod Nows
 pub mod OpenTurns
 pub mod Opens

@@ -65,7 +65,7 @@ read_alike schema h later i j t table keys at_first later_on =
     ∙ ap (λ (l : Log). rows_taken table keys (replay [] l)) (upto_stays schema h later t (omega (arith, at_first, snap_below schema h i)))
     ∙ sym (shown_at (log schema h) (snap schema h i) t table keys (log_rises schema h) at_first))
 
-within : (i : ℕ) → i ≤ max_session → nat_lt 64 i ≡ false
+within : (i : ℕ) → i ≤ max_session → nat_lt max_session i ≡ false
 within i small = grind (arith, nat_tests)
 
 pub told_alike : (schema : Schema) → PastIsToldAlike schema

@@ -21,7 +21,7 @@ use Rattle.histories.specs.declared.step.Listing.{Listing}
 use Rattle.histories.specs.declared.step.Listing.TheVariants.{Rows, Periods}
 use Rattle.histories.specs.declared.step.Reply.{Reply}
 use Rattle.histories.specs.declared.step.Reply.TheVariants.{Refused, Shown as Shows}
-use Rattle.histories.specs.Misfit.{bad_row}
+use Rattle.histories.specs.Misfit.{max_session, bad_row}
 use Rattle.histories.specs.History.{History, ends, begins, log, opened, own, snap_of, rewrite_all, rows_taken, rows_of, listing}
 use Rattle.histories.specs.Laws.{ReadsBySnapshot, SelectsBySnapshot}
 use Rattle.histories.proofs.Growth.{log_rises, step_adds}
@@ -90,10 +90,10 @@ module _ (schema : Schema) where
 
 -- ---- the replies
 
-begun_small : (i : ℕ) (step : Step) → begins i step ≡ true → nat_lt 64 i ≡ false
-begun_small i (Begin j) is = small (and_parts (i == j) (nat_le i 64) is).1
+begun_small : (i : ℕ) (step : Step) → begins i step ≡ true → nat_lt max_session i ≡ false
+begun_small i (Begin j) is = small (and_parts (i == j) (nat_le i max_session) is).1
   where
-    small : nat_le i 64 ≡ true → nat_lt 64 i ≡ false
+    small : nat_le i max_session ≡ true → nat_lt max_session i ≡ false
     small h = grind (arith, nat_tests)
 begun_small i (Insert j number rows) is = cc
 begun_small i (Update j keys sets) is = cc
@@ -112,7 +112,7 @@ small_step false true o now before is begun old = begun refl
 small_step false false o now before is begun old = old before is
 
 -- a session that has a transaction open is there
-opened_small : (schema : Schema) (h : History) (i : ℕ) (before : Log) → opened schema h i ≡ Some before → nat_lt 64 i ≡ false
+opened_small : (schema : Schema) (h : History) (i : ℕ) (before : Log) → opened schema h i ≡ Some before → nat_lt max_session i ≡ false
 opened_small schema [] i before is = cc
 opened_small schema (step ∷ h) i before is =
     small_step (ends i step) (begins i step) (opened schema h i) (log schema h) before is (begun_small i step) (λ x was. opened_small schema h i x was)

@@ -13,13 +13,13 @@ use Rattle.histories.specs.declared.step.Step.{Step}
 use Rattle.histories.specs.declared.step.Step.TheVariants.{Begin, Insert, Update, Delete, Select, Commit, Rollback, SplitKey, SplitTime, Migrate}
 use Rattle.histories.specs.declared.step.Reply.{Reply}
 use Rattle.histories.specs.declared.step.Reply.TheVariants.{Begun, RolledBack, Refused}
-use Rattle.histories.specs.Misfit.{misfit, bad_row}
+use Rattle.histories.specs.Misfit.{max_session, misfit, bad_row}
 use Rattle.histories.specs.History.{History, reply, reply_in, write, written_reply}
 use Rattle.histories.specs.World.{OpenTransaction, World}
 use Rattle.histories.specs.Stands.{Stands, open_at}
 use Rattle.histories.specs.Turn.{put, Turn, turn, turn_in, end_turn, net_in, opened_now, own_in, with_own}
-use Rattle.histories.specs.Due.{is_want, is_out}
-use Rattle.histories.proofs.Written.{wants, write_is}
+use Rattle.histories.specs.Memory.{is_memory, is_out_of_memory}
+use Rattle.histories.proofs.Written.{names_memory, write_is}
 use Rattle.histories.proofs.OpenTurns.{begin_answers}
 use Rattle.histories.proofs.Ends.{rollback_answers, commit_answers}
 use Rattle.histories.proofs.Wrote.{insert_answers, update_answers, delete_answers}
@@ -40,38 +40,38 @@ answers_in w h Migrate fits stands = (refl, idle_stands w h Migrate stands refl 
 
 -- ---- a turn is never that memory ran out
 
-abbrev want_of : Option Refusal → Bool
-want_of None = false
-want_of (Some refusal) = is_want refusal
+abbrev names_memory_in : Option Refusal → Bool
+names_memory_in None = false
+names_memory_in (Some refusal) = is_memory refusal
 
-session_wants : (b : Bool) → want_of (if b then Some NoSession else None) ≡ false
-session_wants true = refl
-session_wants false = refl
+session_is_other : (b : Bool) → names_memory_in (if b then Some NoSession else None) ≡ false
+session_is_other true = refl
+session_is_other false = refl
 
-table_wants : (b : Bool) (t : Option Table) (fault : Table → Option ℕ) → want_of (if b then Some NoSession else elim t [ None ↦ Some NoTable | Some table ↦ bad_row (fault table) ]) ≡ false
-table_wants true t fault = refl
-table_wants false None fault = refl
-table_wants false (Some t) fault = by (fault t)
+table_is_other : (b : Bool) (t : Option Table) (fault : Table → Option ℕ) → names_memory_in (if b then Some NoSession else elim t [ None ↦ Some NoTable | Some table ↦ bad_row (fault table) ]) ≡ false
+table_is_other true t fault = refl
+table_is_other false None fault = refl
+table_is_other false (Some t) fault = by (fault t)
   where
-    by : (f : Option ℕ) → want_of (bad_row f) ≡ false
+    by : (f : Option ℕ) → names_memory_in (bad_row f) ≡ false
     by None = refl
     by (Some n) = refl
 
-misfit_wants : (schema : Schema) (step : Step) → want_of (misfit schema step) ≡ false
-misfit_wants schema (Begin i) = session_wants (nat_lt 64 i)
-misfit_wants schema (Insert i number rows) = table_wants (nat_lt 64 i) (table_at schema number) _
-misfit_wants schema (Update i keys sets) = table_wants (nat_lt 64 i) (table_at schema keys.table) _
-misfit_wants schema (Delete i keys) = table_wants (nat_lt 64 i) (table_at schema keys.table) _
-misfit_wants schema (Select i form keys) = table_wants (nat_lt 64 i) (table_at schema keys.table) _
-misfit_wants schema (Commit i reading) = session_wants (nat_lt 64 i)
-misfit_wants schema (Rollback i) = session_wants (nat_lt 64 i)
-misfit_wants schema (SplitKey key) = table_wants (nat_lt 64 0) (table_at schema key.table) _
-misfit_wants schema (SplitTime key instant) = table_wants (nat_lt 64 0) (table_at schema key.table) _
-misfit_wants schema Migrate = refl
+misfit_is_other : (schema : Schema) (step : Step) → names_memory_in (misfit schema step) ≡ false
+misfit_is_other schema (Begin i) = session_is_other (nat_lt max_session i)
+misfit_is_other schema (Insert i number rows) = table_is_other (nat_lt max_session i) (table_at schema number) _
+misfit_is_other schema (Update i keys sets) = table_is_other (nat_lt max_session i) (table_at schema keys.table) _
+misfit_is_other schema (Delete i keys) = table_is_other (nat_lt max_session i) (table_at schema keys.table) _
+misfit_is_other schema (Select i form keys) = table_is_other (nat_lt max_session i) (table_at schema keys.table) _
+misfit_is_other schema (Commit i reading) = session_is_other (nat_lt max_session i)
+misfit_is_other schema (Rollback i) = session_is_other (nat_lt max_session i)
+misfit_is_other schema (SplitKey key) = table_is_other (nat_lt max_session 0) (table_at schema key.table) _
+misfit_is_other schema (SplitTime key instant) = table_is_other (nat_lt max_session 0) (table_at schema key.table) _
+misfit_is_other schema Migrate = refl
 
 -- the turn leaves the schema, and its reply is not that memory ran out
 record IsPlain (w : World) (t : Turn) : Type 0 where
-  answered : is_out t.0 ≡ false
+  answered : is_out_of_memory t.0 ≡ false
   same_schema : t.1.schema ≡ w.schema
 
 begin_plain : (w : World) (i : ℕ) (o : Option OpenTransaction) → let t : Turn = elim o [ Some s ↦ (Refused InTransaction, w) | None ↦ (Begun w.latest, put w i (Some (opened_now w))) ] in IsPlain w t
@@ -82,45 +82,45 @@ rollback_plain : (w : World) (i : ℕ) (o : Option OpenTransaction) → let t : 
 rollback_plain w i None = record { answered = refl; same_schema = refl }
 rollback_plain w i (Some s) = record { answered = refl; same_schema = refl }
 
-want_written : (step : Step) (r : Result ℕ Refusal) → wants r ≡ false → is_out (written_reply step r) ≡ false
-want_written (Insert i number rows) (Ok count) h = refl
-want_written (Update i keys sets) (Ok count) h = refl
-want_written (Delete i keys) (Ok count) h = refl
-want_written (Begin i) (Ok count) h = refl
-want_written (Select i form keys) (Ok count) h = refl
-want_written (Commit i reading) (Ok count) h = refl
-want_written (Rollback i) (Ok count) h = refl
-want_written (SplitKey key) (Ok count) h = refl
-want_written (SplitTime key instant) (Ok count) h = refl
-want_written Migrate (Ok count) h = refl
-want_written step (Err refusal) h = h
+written_is_other : (step : Step) (r : Result ℕ Refusal) → names_memory r ≡ false → is_out_of_memory (written_reply step r) ≡ false
+written_is_other (Insert i number rows) (Ok count) h = refl
+written_is_other (Update i keys sets) (Ok count) h = refl
+written_is_other (Delete i keys) (Ok count) h = refl
+written_is_other (Begin i) (Ok count) h = refl
+written_is_other (Select i form keys) (Ok count) h = refl
+written_is_other (Commit i reading) (Ok count) h = refl
+written_is_other (Rollback i) (Ok count) h = refl
+written_is_other (SplitKey key) (Ok count) h = refl
+written_is_other (SplitTime key instant) (Ok count) h = refl
+written_is_other Migrate (Ok count) h = refl
+written_is_other step (Err refusal) h = h
 
 write_plain : (w : World) (i : ℕ) (step : Step) (o : Option OpenTransaction)
     → let turn : Turn = elim o [ None ↦ (Refused NoTransaction, w) | Some s ↦ (written_reply step (write w.schema step (own_in s)).0, put w i (Some (with_own s (write w.schema step (own_in s)).1))) ] in IsPlain w turn
 write_plain w i step None = record { answered = refl; same_schema = refl }
-write_plain w i step (Some s) = record { answered = want_written step (write w.schema step (own_in s)).0 (write_is w.schema step (own_in s)).answered; same_schema = refl }
+write_plain w i step (Some s) = record { answered = written_is_other step (write w.schema step (own_in s)).0 (write_is w.schema step (own_in s)).answered; same_schema = refl }
 
-select_plain : (w : World) (o : Option Table) (f : Table → Reply) → ((t : Table) → is_out (f t) ≡ false) → is_out (elim o [ None ↦ Refused NoTable | Some table ↦ f table ]) ≡ false
+select_plain : (w : World) (o : Option Table) (f : Table → Reply) → ((t : Table) → is_out_of_memory (f t) ≡ false) → is_out_of_memory (elim o [ None ↦ Refused NoTable | Some table ↦ f table ]) ≡ false
 select_plain w None f h = refl
 select_plain w (Some t) f h = h t
 
-end_plain : (w : World) (i : ℕ) (net : Net) (end : Result (Option ℕ) Refusal) → wants end ≡ false → IsPlain w (end_turn w i net end)
+end_plain : (w : World) (i : ℕ) (net : Net) (end : Result (Option ℕ) Refusal) → names_memory end ≡ false → IsPlain w (end_turn w i net end)
 end_plain w i net (Ok (Some instant)) h = record { answered = refl; same_schema = refl }
 end_plain w i net (Ok None) h = record { answered = refl; same_schema = refl }
 end_plain w i net (Err refusal) h = record { answered = h; same_schema = refl }
 
-outcome_wants : (m : Changes) (latest start : ℕ) (net : Net) (reading : ℕ) → wants (outcome m latest start net reading) ≡ false
-outcome_wants m latest start [] reading = refl
-outcome_wants m latest start (change ∷ net) reading = by (won m start (change ∷ net)) (nat_lt max_instant (max reading (latest + 1)))
+outcome_is_other : (m : Changes) (latest start : ℕ) (net : Net) (reading : ℕ) → names_memory (outcome m latest start net reading) ≡ false
+outcome_is_other m latest start [] reading = refl
+outcome_is_other m latest start (change ∷ net) reading = by (won m start (change ∷ net)) (nat_lt max_instant (max reading (latest + 1)))
   where
-    by : (found : List (Key × ℕ)) (late : Bool) → wants (elim found [ first ∷ others ↦ Err (Conflict first.0 first.1) | [] ↦ if late then Err ClockEnd else Ok (Some (max reading (latest + 1))) ]) ≡ false
+    by : (found : List (Key × ℕ)) (late : Bool) → names_memory (elim found [ first ∷ others ↦ Err (Conflict first.0 first.1) | [] ↦ if late then Err ClockEnd else Ok (Some (max reading (latest + 1))) ]) ≡ false
     by [] true = refl
     by [] false = refl
     by (first ∷ others) late = refl
 
 commit_plain : (w : World) (i reading : ℕ) (o : Option OpenTransaction) → let t : Turn = elim o [ None ↦ (Refused NoTransaction, w) | Some s ↦ end_turn w i (net_in w.changes s) (outcome w.changes w.latest s.start (net_in w.changes s) reading) ] in IsPlain w t
 commit_plain w i reading None = record { answered = refl; same_schema = refl }
-commit_plain w i reading (Some s) = end_plain w i (net_in w.changes s) (outcome w.changes w.latest s.start (net_in w.changes s) reading) (outcome_wants w.changes w.latest s.start (net_in w.changes s) reading)
+commit_plain w i reading (Some s) = end_plain w i (net_in w.changes s) (outcome w.changes w.latest s.start (net_in w.changes s) reading) (outcome_is_other w.changes w.latest s.start (net_in w.changes s) reading)
 
 plain_in : (w : World) (step : Step) → IsPlain w (turn_in w step)
 plain_in w (Begin i) = begin_plain w i (open_at w i)
@@ -134,12 +134,12 @@ plain_in w (SplitKey key) = record { answered = refl; same_schema = refl }
 plain_in w (SplitTime key instant) = record { answered = refl; same_schema = refl }
 plain_in w Migrate = record { answered = refl; same_schema = refl }
 
-plain_by : (w : World) (step : Step) (m : Option Refusal) → want_of m ≡ false → let t : Turn = elim m [ Some refusal ↦ (Refused refusal, w) | None ↦ turn_in w step ] in IsPlain w t
+plain_by : (w : World) (step : Step) (m : Option Refusal) → names_memory_in m ≡ false → let t : Turn = elim m [ Some refusal ↦ (Refused refusal, w) | None ↦ turn_in w step ] in IsPlain w t
 plain_by w step None h = plain_in w step
 plain_by w step (Some refusal) h = record { answered = h; same_schema = refl }
 
 is_plain : (w : World) (step : Step) → IsPlain w (turn w step)
-is_plain w step = plain_by w step (misfit w.schema step) (misfit_wants w.schema step)
+is_plain w step = plain_by w step (misfit w.schema step) (misfit_is_other w.schema step)
 
 -- ---- every step
 
@@ -151,7 +151,7 @@ answers_by w h step (Some refusal) is stands = (refl, misfit_stands w h step ref
 -- what a step answered and left, where that is its turn
 pub record Stepped (w now : World) (step : Step) (answer : Reply) : Type 0 where
   pub answers : (h : History) → Stands w h → (answer ≡ reply w.schema h step) × Stands now (step ∷ h)
-  pub answered : is_out answer ≡ false
+  pub answered : is_out_of_memory answer ≡ false
   pub same_schema : now.schema ≡ w.schema
 
 pub stepped : (w now : World) (step : Step) (answer : Reply) → ◌≡◌ {A = Turn} (answer, now) (turn w step) → Stepped w now step answer
@@ -171,5 +171,5 @@ pub fitting_turn : (w now : World) (step : Step) (answer : Reply) → None ≡ m
 fitting_turn w now step answer fits is = is ∙ (λ k. elim (fits k) [ Some refusal ↦ (Refused refusal, w) | None ↦ turn_in w step ])
 
 -- a reply that memory ran out is no other
-pub not_out : (answer : Reply) → is_out answer ≡ false → answer ≢ Refused Memory
-not_out answer h e = cc (sym h ∙ ap is_out e)
+pub not_out : (answer : Reply) → is_out_of_memory answer ≡ false → answer ≢ Refused Memory
+not_out answer h e = cc (sym h ∙ ap is_out_of_memory e)

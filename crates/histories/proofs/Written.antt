@@ -1,4 +1,4 @@
--- A write that is refused leaves its transaction as it was, and is never refused for want of memory.
+-- A write that is refused leaves its transaction as it was, and is never refused for memory.
 use Rattle.std.proofs.Common.{◌≡◌, ℕ, Bool, true, false, List, Option, Some, None, length, refl}
 use Rattle.std.specs.Prelude.{if◌then◌else◌, nat_lt, map, Result, Ok, Err}
 use Rattle.values.specs.declared.table.Table.{Table}
@@ -13,19 +13,19 @@ use Rattle.values.specs.Writes.{Own, Written, most_written, writing, insert_into
 use Rattle.histories.specs.declared.step.Step.{Step}
 use Rattle.histories.specs.declared.step.Step.TheVariants.{Begin, Insert, Update, Delete, Select, Commit, Rollback, SplitKey, SplitTime, Migrate}
 use Rattle.histories.specs.History.{write}
-use Rattle.histories.specs.Due.{is_want}
+use Rattle.histories.specs.Memory.{is_memory}
 
 abbrev pub is_err : Result ℕ Refusal → Bool
 is_err (Ok count) = false
 is_err (Err refusal) = true
 
-abbrev pub wants : {A : Type 0} → Result A Refusal → Bool
-wants (Ok x) = false
-wants (Err refusal) = is_want refusal
+abbrev pub names_memory : {A : Type 0} → Result A Refusal → Bool
+names_memory (Ok x) = false
+names_memory (Err refusal) = is_memory refusal
 
 pub record IsWritten (o : Own) (done : Written) : Type 0 where
   pub leaves : is_err done.0 ≡ true → done.1 ≡ o
-  pub answered : wants done.0 ≡ false
+  pub answered : names_memory done.0 ≡ false
 
 writing_is : (keys : List Key) (count : ℕ) (rows : State) (o : Own) → IsWritten o (writing keys count rows o)
 writing_is keys count rows o = by (nat_lt most_written (length (add_keys keys o.written)))

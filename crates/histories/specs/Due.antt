@@ -1,35 +1,32 @@
--- The replies to a list of steps.
-use Rattle.std.specs.Prelude.{◌≡◌, List, [], ◌∷◌, Bool, true, false, if◌then◌else◌, not}
+-- The replies to a list of steps, at some of which memory ran out.
+use Rattle.std.specs.Prelude.{◌≡◌, List, [], ◌∷◌, Bool, true, if◌then◌else◌, not, ◌&&◌}
 use Rattle.std.specs.List.{list_all}
 use Rattle.values.specs.Tables.{Schema}
-use Rattle.values.specs.declared.refusal.Refusal.{Refusal}
-use Rattle.values.specs.declared.refusal.Refusal.TheVariants.{Memory}
 use Rattle.histories.specs.declared.step.Step.{Step}
-use Rattle.histories.specs.declared.step.Step.TheVariants.{Rollback}
 use Rattle.histories.specs.declared.step.Reply.{Reply}
-use Rattle.histories.specs.declared.step.Reply.TheVariants.{Refused}
 use Rattle.histories.specs.History.{History, reply, replies}
+use Rattle.histories.specs.Memory.{is_out_of_memory, takes_no_memory_after}
 
-abbrev pub is_want : Refusal → Bool
-is_want Memory = true
-is_want _ = false
-
--- the reply is that memory ran out
-abbrev pub is_out : Reply → Bool
-is_out (Refused refusal) = is_want refusal
-is_out _ = false
-
--- a step that takes no memory, and so is never refused for want of it
-abbrev pub is_rollback : Step → Bool
-is_rollback (Rollback i) = true
-is_rollback step = false
-
--- the replies without those that memory ran out
+-- at none did memory run out
 abbrev pub AllAnswered : List Reply → Type 0
-AllAnswered replies = list_all (λ r. not (is_out r)) replies ≡ true
+AllAnswered replies = list_all (λ r. not (is_out_of_memory r)) replies ≡ true
 
 -- the replies that are due: a step that is answered out of memory is none of the history
 abbrev pub due : Schema → History → List Step → List Reply → List Reply
 due schema h [] given = []
 due schema h (step ∷ steps) [] = replies schema h (step ∷ steps)
-due schema h (step ∷ steps) (r ∷ given) = if is_out r then r ∷ due schema h steps given else reply schema h step ∷ due schema (step ∷ h) steps given
+due schema h (step ∷ steps) (r ∷ given) =
+    if is_out_of_memory r then r ∷ due schema h steps given
+    else reply schema h step ∷ due schema (step ∷ h) steps given
+
+-- memory ran out only at steps that take some
+abbrev pub is_out_where_taken : Schema → History → List Step → List Reply → Bool
+is_out_where_taken schema h [] given = true
+is_out_where_taken schema h (step ∷ steps) [] = true
+is_out_where_taken schema h (step ∷ steps) (r ∷ given) =
+    if is_out_of_memory r
+    then not (takes_no_memory_after schema h step) && is_out_where_taken schema h steps given
+    else is_out_where_taken schema (step ∷ h) steps given
+
+abbrev pub OutWhereTaken : Schema → List Step → List Reply → Type 0
+OutWhereTaken schema steps given = is_out_where_taken schema [] steps given ≡ true

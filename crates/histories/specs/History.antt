@@ -52,9 +52,12 @@ write_table schema number write o = elim (table_at schema number) [
 
 -- what a write answers, and what it leaves of its transaction's own rows and keys
 abbrev pub write : Schema → Step → Own → Written
-write schema (Insert i number rows) o = write_table schema number (λ table. insert_into table rows) o
-write schema (Update i keys sets) o = write_table schema keys.table (λ table. update_in table keys sets) o
-write schema (Delete i keys) o = write_table schema keys.table (λ table. delete_from table keys) o
+write schema (Insert i number rows) o =
+    write_table schema number (λ table. insert_into table rows) o
+write schema (Update i keys sets) o =
+    write_table schema keys.table (λ table. update_in table keys sets) o
+write schema (Delete i keys) o =
+    write_table schema keys.table (λ table. delete_from table keys) o
 write schema step o = (Ok 0, o)
 
 -- what writes leave, one after another
@@ -92,7 +95,8 @@ writer step = None
 abbrev pub is_write_of : ℕ → Step → Bool
 is_write_of i step = elim (writer step) [ Some j ↦ i == j | None ↦ false ]
 
--- of an open transaction, by the log now, the log at its BEGIN, where one is open, and its writes so far
+-- of an open transaction, by the log now, the log at its BEGIN, where one is open, and its writes
+-- so far
 abbrev pub snap_of : Log → Option Log → ℕ
 snap_of now None = last now
 snap_of now (Some before) = last before
@@ -112,7 +116,8 @@ committed (Err refusal) = Refused refusal
 
 module _ (schema : Schema) where
   abbrev pub own_of : Log → Option Log → List Step → Own
-  own_of now opened own = rewrite_all schema own (record { rows = seen_of now opened; written = [] })
+  own_of now opened own =
+      rewrite_all schema own (record { rows = seen_of now opened; written = [] })
 
   abbrev pub mine_of : Log → Option Log → List Step → State
   mine_of now opened own = (own_of now opened own).rows

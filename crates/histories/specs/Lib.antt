@@ -1,6 +1,8 @@
 pub mod Due
 pub mod History
 pub mod Laws
+pub mod Maintenance
+pub mod Memory
 pub mod Misfit
 pub mod Stands
 pub mod Turn

@@ -4,6 +4,7 @@ use Rattle.std.specs.Option.{option_map}
 use Rattle.values.specs.declared.refusal.Refusal.{Refusal}
 use Rattle.values.specs.declared.refusal.Refusal.TheVariants.{NoTable, BadRow, NoSession}
 use Rattle.values.specs.declared.table.Table.{Table}
+use Rattle.values.specs.declared.key.Key.{Key}
 use Rattle.values.specs.declared.query.Keys.{Keys}
 use Rattle.values.specs.declared.query.Set.{Set}
 use Rattle.values.specs.Tables.{Schema, table_at}
@@ -37,6 +38,10 @@ update_fault keys sets table =
 abbrev pub keys_fault : Keys → Table → Option ℕ
 keys_fault keys table = comparisons_fault table keys.comparisons
 
+-- no session names a key
+abbrev pub key_misfit : Schema → Key → Option Refusal
+key_misfit schema key = misfit_of schema 0 key.table (λ table. key_fault table key.parts)
+
 -- why a step does not fit the schema
 abbrev pub misfit : Schema → Step → Option Refusal
 misfit schema (Begin i) = no_session i
@@ -46,6 +51,6 @@ misfit schema (Delete i keys) = misfit_of schema i keys.table (keys_fault keys)
 misfit schema (Select i form keys) = misfit_of schema i keys.table (keys_fault keys)
 misfit schema (Commit i reading) = no_session i
 misfit schema (Rollback i) = no_session i
-misfit schema (SplitKey key) = misfit_of schema 0 key.table (λ table. key_fault table key.parts)
-misfit schema (SplitTime key instant) = misfit_of schema 0 key.table (λ table. key_fault table key.parts)
+misfit schema (SplitKey key) = key_misfit schema key
+misfit schema (SplitTime key instant) = key_misfit schema key
 misfit schema Migrate = None

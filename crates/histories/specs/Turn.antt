@@ -126,7 +126,8 @@ applied instant net w = record {
 }
 
 abbrev pub end_turn : World → ℕ → Net → Result (Option ℕ) Refusal → Turn
-end_turn w i net (Ok (Some instant)) = (Committed (Some instant), put (applied instant net w) i None)
+end_turn w i net (Ok (Some instant)) =
+    (Committed (Some instant), put (applied instant net w) i None)
 end_turn w i net (Ok None) = (Committed None, put w i None)
 end_turn w i net (Err refusal) = (Refused refusal, put w i None)
 

@@ -2,10 +2,19 @@
 use Rattle.std.specs.Prelude.{◌≡◌, ◌∷◌}
 use Rattle.histories.specs.declared.step.Step.{Step}
 use Rattle.histories.specs.History.{History, reply}
+use Rattle.histories.specs.Memory.{takes_no_memory, takes_no_memory_after}
 use Rattle.histories.specs.World.{World}
 use Rattle.histories.specs.Stands.{Stands}
 use Rattle.histories.specs.Turn.{turn}
 
--- a turn answers as the definitions do, and leaves a system that stands for the history with the step
+-- a turn answers as the definitions do, and leaves what stands for the history with the step
 abbrev pub TurnsGiveTheReplies : Type 0
-TurnsGiveTheReplies = (w : World) (h : History) (step : Step) → Stands w h → ((turn w step).0 ≡ reply w.schema h step) × Stands (turn w step).1 (step ∷ h)
+TurnsGiveTheReplies =
+    (w : World) (h : History) (step : Step) → Stands w h
+    → ((turn w step).0 ≡ reply w.schema h step) × Stands (turn w step).1 (step ∷ h)
+
+-- which steps take no memory is one thing by the system and by the history
+abbrev pub MemoryIsTakenAlike : Type 0
+MemoryIsTakenAlike =
+    (w : World) (h : History) (step : Step) → Stands w h
+    → takes_no_memory w step ≡ takes_no_memory_after w.schema h step

@@ -5,7 +5,7 @@ use Rattle.values.specs.declared.key.Key.{Key}
 use Rattle.values.specs.declared.key.Transaction.{Transaction}
 use Rattle.values.specs.declared.refusal.Refusal.{Refusal}
 use Rattle.values.specs.Tables.{Schema}
-use Rattle.values.specs.Log.{Net, last, changes}
+use Rattle.values.specs.Log.{Log, Net, last, changes}
 use Rattle.values.specs.Commits.{outcome}
 use Rattle.histories.specs.declared.step.Step.TheVariants.{Commit}
 use Rattle.histories.specs.History.{History, log, opened, net}
@@ -17,15 +17,26 @@ pub record Winner : Type 0 where
 
 -- with the transaction that ended so, where it was committed
 abbrev pub winners_with : List Winner → ℕ → Net → Result (Option ℕ) Refusal → List Winner
-winners_with earlier start changed (Ok (Some instant)) = earlier ++ record { start = start; transaction = record { instant = instant; net = changed } } ∷ []
+winners_with earlier start changed (Ok (Some instant)) =
+    earlier ++ record {
+      start = start;
+      transaction = record { instant = instant; net = changed };
+    } ∷ []
 winners_with earlier start changed _ = earlier
+
+-- how the transaction ends that a session has open
+abbrev pub end_of : Schema → History → ℕ → Log → ℕ → Result (Option ℕ) Refusal
+end_of schema h i before reading =
+    outcome (changes (log schema h)) (last (log schema h)) (last before) (net schema h i) reading
 
 -- the oldest first
 abbrev pub winners : Schema → History → List Winner
 winners schema [] = []
 winners schema (Commit i reading ∷ h) = elim (opened schema h i) [
   | None ↦ winners schema h
-  | Some before ↦ winners_with (winners schema h) (last before) (net schema h i) (outcome (changes (log schema h)) (last (log schema h)) (last before) (net schema h i) reading)
+  | Some before ↦
+      winners_with (winners schema h) (last before) (net schema h i)
+      (end_of schema h i before reading)
 ]
 winners schema (step ∷ h) = winners schema h
 
@@ -35,4 +46,5 @@ AreConcurrent v w = (v.start < w.transaction.instant) × (w.start < v.transactio
 
 -- a key stands in both net changes
 abbrev pub ShareAKey : Winner → Winner → Type 0
-ShareAKey v w = (k : Key) × (Contains (keys_of v.transaction.net) k × Contains (keys_of w.transaction.net) k)
+ShareAKey v w =
+    (k : Key) × (Contains (keys_of v.transaction.net) k × Contains (keys_of w.transaction.net) k)

@@ -17,7 +17,7 @@ use Rattle.histories.specs.declared.step.Listing.TheVariants.{Rows, Periods}
 use Rattle.histories.specs.declared.step.Reply.{Reply}
 use Rattle.histories.specs.declared.step.Reply.TheVariants.{Begun, Inserted, Updated, Deleted, Shown as Shows, Committed, RolledBack, Refused}
 use Rattle.histories.specs.History.{replies}
-use Rattle.histories.specs.Winners.{winners}
+use Rattle.histories.specs.Winners.{Winner, winners}
 
 abbrev pub emp : ℕ → List ℕ → Row
 emp n name = Int (pos n) ∷ Text name ∷ []
@@ -26,7 +26,10 @@ abbrev pub all : Keys
 all = record { table = 1; comparisons = [] }
 
 abbrev pub number : ℕ → Keys
-number n = record { table = 1; comparisons = record { column = 1; operator = Equal; value = Int (pos n) } ∷ [] }
+number n = record {
+  table = 1;
+  comparisons = record { column = 1; operator = Equal; value = Int (pos n) } ∷ [];
+}
 
 abbrev pub rename : List ℕ → List Set
 rename name = record { column = 2; value = Text name } ∷ []
@@ -40,37 +43,57 @@ number_key n = record { table = 1; parts = Int (pos n) ∷ [] }
 abbrev pub rows : List Row → Reply
 rows shown = Shows (Rows shown)
 
+abbrev pub periods : List Shown → Reply
+periods shown = Shows (Periods shown)
+
+abbrev pub ann : Row
+ann = emp 1 (codes "Ann")
+
+abbrev pub bea : Row
+bea = emp 1 (codes "Bea")
+
 -- from an empty store on, these steps have these replies
 abbrev pub Answers : List Step → List Reply → Type 0
 Answers steps expected = replies sample [] steps ≡ expected
 
 -- a period is closed at its start
 abbrev pub first : List Step
-first = Begin 1 ∷ Insert 1 1 (emp 1 (codes "Ann") ∷ []) ∷ Commit 1 100 ∷ Select 1 (AsOf 99) all ∷ Select 1 (AsOf 100) all ∷ []
+first =
+    Begin 1 ∷ Insert 1 1 (ann ∷ []) ∷ Commit 1 100
+    ∷ Select 1 (AsOf 99) all ∷ Select 1 (AsOf 100) all ∷ []
 
 abbrev pub first_replies : List Reply
-first_replies = Begun 0 ∷ Inserted 1 ∷ Committed (Some 100) ∷ rows [] ∷ rows (emp 1 (codes "Ann") ∷ []) ∷ []
+first_replies = Begun 0 ∷ Inserted 1 ∷ Committed (Some 100) ∷ rows [] ∷ rows (ann ∷ []) ∷ []
 
 abbrev pub ClosedStart : Type 0
 ClosedStart = Answers first first_replies
 
 -- and open at its end
 abbrev pub second : List Step
-second = first ++ Begin 1 ∷ Update 1 (number 1) (rename (codes "Bea")) ∷ Commit 1 200 ∷ Select 1 (AsOf 199) all ∷ Select 1 (AsOf 200) all ∷ Select 1 (FromTo 100 200) all ∷ Select 1 (Between 100 200) all ∷ []
+second =
+    first ++ Begin 1 ∷ Update 1 (number 1) (rename (codes "Bea")) ∷ Commit 1 200
+    ∷ Select 1 (AsOf 199) all ∷ Select 1 (AsOf 200) all
+    ∷ Select 1 (FromTo 100 200) all ∷ Select 1 (Between 100 200) all ∷ []
 
 abbrev pub second_replies : List Reply
-second_replies = first_replies ++ Begun 100 ∷ Updated 1 ∷ Committed (Some 200) ∷ rows (emp 1 (codes "Ann") ∷ []) ∷ rows (emp 1 (codes "Bea") ∷ [])
-    ∷ Shows (Periods (version (emp 1 (codes "Ann")) 100 (Some 200) ∷ [])) ∷ Shows (Periods (version (emp 1 (codes "Ann")) 100 (Some 200) ∷ version (emp 1 (codes "Bea")) 200 None ∷ [])) ∷ []
+second_replies =
+    first_replies ++ Begun 100 ∷ Updated 1 ∷ Committed (Some 200)
+    ∷ rows (ann ∷ []) ∷ rows (bea ∷ [])
+    ∷ periods (version ann 100 (Some 200) ∷ [])
+    ∷ periods (version ann 100 (Some 200) ∷ version bea 200 None ∷ []) ∷ []
 
 abbrev pub OpenEnd : Type 0
 OpenEnd = Answers second second_replies
 
 -- a time that ends where it begins, or before, has no rows, but for one that counts its end in
 abbrev pub third : List Step
-third = second ++ Select 1 (FromTo 150 150) all ∷ Select 1 (Between 200 200) all ∷ Select 1 (FromTo 300 100) all ∷ []
+third =
+    second ++ Select 1 (FromTo 150 150) all ∷ Select 1 (Between 200 200) all
+    ∷ Select 1 (FromTo 300 100) all ∷ []
 
 abbrev pub third_replies : List Reply
-third_replies = second_replies ++ Shows (Periods []) ∷ Shows (Periods (version (emp 1 (codes "Bea")) 200 None ∷ [])) ∷ Shows (Periods []) ∷ []
+third_replies =
+    second_replies ++ periods [] ∷ periods (version bea 200 None ∷ []) ∷ periods [] ∷ []
 
 abbrev pub DegeneratePeriods : Type 0
 DegeneratePeriods = Answers third third_replies
@@ -87,45 +110,87 @@ ClockRunsBack = Answers fourth fourth_replies
 
 -- of two transactions that change one key, the first to commit wins
 abbrev pub FirstCommitter : Type 0
-FirstCommitter = Answers (third ++ Begin 1 ∷ Begin 2 ∷ Update 1 (number 1) (rename (codes "Cat")) ∷ Update 2 (number 1) (rename (codes "Dan")) ∷ Commit 1 200 ∷ Commit 2 200 ∷ [])
-    (third_replies ++ Begun 200 ∷ Begun 200 ∷ Updated 1 ∷ Updated 1 ∷ Committed (Some 201) ∷ Refused (Conflict (number_key 1) 201) ∷ [])
+FirstCommitter =
+    Answers (third ++ Begin 1 ∷ Begin 2
+    ∷ Update 1 (number 1) (rename (codes "Cat")) ∷ Update 2 (number 1) (rename (codes "Dan"))
+    ∷ Commit 1 200 ∷ Commit 2 200 ∷ [])
+    (third_replies ++ Begun 200 ∷ Begun 200
+    ∷ Updated 1 ∷ Updated 1
+    ∷ Committed (Some 201) ∷ Refused (Conflict (number_key 1) 201) ∷ [])
 
 -- two that change different keys both commit
 abbrev pub sixth : List Step
-sixth = fourth ++ Begin 1 ∷ Begin 2 ∷ Update 1 (number 2) (rename (codes "Cat")) ∷ Update 2 (number 1) (rename (codes "Dan")) ∷ Commit 1 50 ∷ Commit 2 50 ∷ []
+sixth =
+    fourth ++ Begin 1 ∷ Begin 2
+    ∷ Update 1 (number 2) (rename (codes "Cat")) ∷ Update 2 (number 1) (rename (codes "Dan"))
+    ∷ Commit 1 50 ∷ Commit 2 50 ∷ []
 
 abbrev pub sixth_replies : List Reply
-sixth_replies = fourth_replies ++ Begun 201 ∷ Begun 201 ∷ Updated 1 ∷ Updated 1 ∷ Committed (Some 202) ∷ Committed (Some 203) ∷ []
+sixth_replies =
+    fourth_replies ++ Begun 201 ∷ Begun 201
+    ∷ Updated 1 ∷ Updated 1
+    ∷ Committed (Some 202) ∷ Committed (Some 203) ∷ []
 
 abbrev pub WriteSkew : Type 0
 WriteSkew = Answers sixth sixth_replies
 
--- the last two of its committed transactions, by start and instant, each began before the other was committed
+abbrev pub span : Winner → ℕ × ℕ
+span w = (w.start, w.transaction.instant)
+
+-- the last two of its committed transactions, by start and instant, each began before the other was
+-- committed
 abbrev pub ConcurrentWinners : Type 0
-ConcurrentWinners = map {B = ℕ × ℕ} (λ w. (w.start, w.transaction.instant)) (winners sample (reverse sixth)) ≡ (0, 100) ∷ (100, 200) ∷ (200, 201) ∷ (201, 202) ∷ (201, 203) ∷ []
+ConcurrentWinners =
+    map span (winners sample (reverse sixth))
+    ≡ (0, 100) ∷ (100, 200) ∷ (200, 201) ∷ (201, 202) ∷ (201, 203) ∷ []
 
 -- a row that was inserted and deleted leaves no change, and takes no instant
 abbrev pub NetChange : Type 0
-NetChange = Answers (sixth ++ Begin 1 ∷ Insert 1 1 (emp 9 (codes "tmp") ∷ []) ∷ Delete 1 (number 9) ∷ Commit 1 50 ∷ Begin 1 ∷ [])
+NetChange =
+    Answers (sixth ++ Begin 1 ∷ Insert 1 1 (emp 9 (codes "tmp") ∷ []) ∷ Delete 1 (number 9)
+    ∷ Commit 1 50 ∷ Begin 1 ∷ [])
     (sixth_replies ++ Begun 203 ∷ Inserted 1 ∷ Deleted 1 ∷ Committed None ∷ Begun 203 ∷ [])
 
 -- so such a transaction meets no other
 abbrev pub NoChangeNoConflict : Type 0
-NoChangeNoConflict = Answers (fourth ++ Begin 1 ∷ Begin 2 ∷ Insert 1 1 (emp 8 (codes "a") ∷ []) ∷ Delete 1 (number 8) ∷ Insert 2 1 (emp 8 (codes "b") ∷ []) ∷ Commit 2 50 ∷ Commit 1 50 ∷ [])
-    (fourth_replies ++ Begun 201 ∷ Begun 201 ∷ Inserted 1 ∷ Deleted 1 ∷ Inserted 1 ∷ Committed (Some 202) ∷ Committed None ∷ [])
+NoChangeNoConflict =
+    Answers (fourth ++ Begin 1 ∷ Begin 2
+    ∷ Insert 1 1 (emp 8 (codes "a") ∷ []) ∷ Delete 1 (number 8)
+    ∷ Insert 2 1 (emp 8 (codes "b") ∷ []) ∷ Commit 2 50 ∷ Commit 1 50 ∷ [])
+    (fourth_replies ++ Begun 201 ∷ Begun 201
+    ∷ Inserted 1 ∷ Deleted 1
+    ∷ Inserted 1 ∷ Committed (Some 202) ∷ Committed None ∷ [])
 
 -- own writes have no instant
 abbrev pub OwnWrites : Type 0
-OwnWrites = Answers (fourth ++ Begin 1 ∷ Insert 1 1 (emp 5 (codes "Gus") ∷ []) ∷ Select 1 Plain (number 5) ∷ Select 1 (AsOf 201) (number 5) ∷ Rollback 1 ∷ [])
-    (fourth_replies ++ Begun 201 ∷ Inserted 1 ∷ rows (emp 5 (codes "Gus") ∷ []) ∷ rows [] ∷ RolledBack ∷ [])
+OwnWrites =
+    Answers (fourth ++ Begin 1 ∷ Insert 1 1 (emp 5 (codes "Gus") ∷ [])
+    ∷ Select 1 Plain (number 5) ∷ Select 1 (AsOf 201) (number 5) ∷ Rollback 1 ∷ [])
+    (fourth_replies ++ Begun 201 ∷ Inserted 1
+    ∷ rows (emp 5 (codes "Gus") ∷ []) ∷ rows [] ∷ RolledBack ∷ [])
 
 -- after the last instant there is none
 abbrev pub LargestInstant : Type 0
-LargestInstant = Answers (Begin 1 ∷ Insert 1 1 (emp 1 (codes "Ann") ∷ []) ∷ Commit 1 max_instant ∷ Begin 1 ∷ Update 1 (number 1) (rename (codes "Bea")) ∷ Commit 1 max_instant ∷ [])
-    (Begun 0 ∷ Inserted 1 ∷ Committed (Some max_instant) ∷ Begun max_instant ∷ Updated 1 ∷ Refused ClockEnd ∷ [])
+LargestInstant =
+    Answers (Begin 1 ∷ Insert 1 1 (ann ∷ []) ∷ Commit 1 max_instant
+    ∷ Begin 1 ∷ Update 1 (number 1) (rename (codes "Bea")) ∷ Commit 1 max_instant ∷ [])
+    (Begun 0 ∷ Inserted 1 ∷ Committed (Some max_instant)
+    ∷ Begun max_instant ∷ Updated 1 ∷ Refused ClockEnd ∷ [])
 
 -- of several refusals the first of their order is answered
 abbrev pub RefusalsInOrder : Type 0
-RefusalsInOrder = Answers (Select 1 Plain (record { table = 2; comparisons = [] }) ∷ Insert 1 1 ((Text (codes "x") ∷ Text (codes "Ann") ∷ []) ∷ []) ∷ Insert 1 1 ((Int (pos 1) ∷ []) ∷ []) ∷ Insert 1 1 (emp 1 (codes "Ann") ∷ [])
-    ∷ Begin 1 ∷ Begin 1 ∷ Insert 1 1 (emp 1 (codes "a") ∷ emp 1 (codes "b") ∷ []) ∷ Select 1 Plain all ∷ [])
-    (Refused NoTable ∷ Refused (BadRow 1) ∷ Refused (BadRow 0) ∷ Refused NoTransaction ∷ Begun 0 ∷ Refused InTransaction ∷ Refused (DuplicateKey (number_key 1)) ∷ rows [] ∷ [])
+RefusalsInOrder =
+    Answers (Select 1 Plain (record { table = 2; comparisons = [] })
+    ∷ Insert 1 1 ((Text (codes "x") ∷ Text (codes "Ann") ∷ []) ∷ [])
+    ∷ Insert 1 1 ((Int (pos 1) ∷ []) ∷ [])
+    ∷ Insert 1 1 (ann ∷ [])
+    ∷ Begin 1 ∷ Begin 1
+    ∷ Insert 1 1 (emp 1 (codes "a") ∷ emp 1 (codes "b") ∷ [])
+    ∷ Select 1 Plain all ∷ [])
+    (Refused NoTable
+    ∷ Refused (BadRow 1)
+    ∷ Refused (BadRow 0)
+    ∷ Refused NoTransaction
+    ∷ Begun 0 ∷ Refused InTransaction
+    ∷ Refused (DuplicateKey (number_key 1))
+    ∷ rows [] ∷ [])

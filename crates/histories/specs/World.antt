@@ -10,7 +10,8 @@ pub record OpenTransaction : Type 0 where
   pub rows : State
   pub written : List Key
 
--- what was committed, with the last instant, and the sessions' open transactions by their numbers, from 0
+-- what was committed, with the last instant, and the sessions' open transactions by their numbers,
+-- from 0
 pub record World : Type 0 where
   pub schema : Schema
   pub changes : Changes

@@ -1,14 +1,15 @@
 ghost use Rattle.std.specs.Prelude.{◌≡◌, ℕ, Option, IfOk, IfErr};
 ghost use Rattle.values.specs.declared.table.Table.{Table};
 ghost use Rattle.values.specs.Tables.{table_at};
-ghost use Rattle.values.specs.Fit.{rows_fault, key_fault};
-ghost use Rattle.histories.specs.Misfit.{misfit, misfit_of, no_session, keys_fault, update_fault};
+ghost use Rattle.values.specs.Fit.{rows_fault};
+ghost use Rattle.histories.specs.Misfit.{misfit, misfit_of, key_misfit, no_session, keys_fault, update_fault};
 
 use crate::step::{MAX_SESSION, Step};
 use rows::{Key, Keys, Refusal, Row, Schema, Set, Table};
 
 impl Step {
-    /// Why a step does not fit the schema: its session's number, then its table, then the first column at fault.
+    /// Why a step does not fit the schema: its session's number, then its table, then the first
+    /// column at fault.
     pub fn misfit(&self, schema: &Schema) -> Option<Refusal>
         ensures { result ≡ misfit schema.now self.now }
     {
@@ -51,7 +52,8 @@ fn insert_misfit(schema: &Schema, session: u8, table: u8, rows: &[Row]) -> Optio
 }
 
 fn update_misfit(schema: &Schema, session: u8, keys: &Keys, sets: &[Set]) -> Option<Refusal>
-    ensures { result ≡ misfit_of schema.now session keys.now.table (update_fault keys.now sets.now) }
+    ensures { result ≡
+        misfit_of schema.now session keys.now.table (update_fault keys.now sets.now) }
 {
     match table_of(schema, session, keys.table) {
         Ok(table) => match table.check_sets(sets) {
@@ -72,7 +74,7 @@ fn keys_misfit(schema: &Schema, session: u8, keys: &Keys) -> Option<Refusal>
 }
 
 fn key_misfit(schema: &Schema, key: &Key) -> Option<Refusal>
-    ensures { result ≡ misfit_of schema.now 0 key.now.table (λ t. key_fault t key.now.parts) }
+    ensures { result ≡ key_misfit schema.now key.now }
 {
     match table_of(schema, 0, key.table) {
         Ok(table) => table.check_key(key.parts.items()).err(),

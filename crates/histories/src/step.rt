@@ -3,7 +3,8 @@ use rows::{Form, Instant, Key, Keys, Refusal, Rows, Sets, ShownRows};
 /// The highest session number; 0 is the service's own.
 pub const MAX_SESSION: u8 = 64;
 
-/// What a session or the service asks. The first seven name their session, a number from 0 to `MAX_SESSION`.
+/// What a session or the service asks. The first seven name their session, a number from 0 to
+/// `MAX_SESSION`.
 #[derive(Drop)]
 pub enum Step {
     Begin(u8),
