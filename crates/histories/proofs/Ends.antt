@@ -1,6 +1,6 @@
 -- A system that stands for a history stands for it with one more step, where that session's part does and no other's changes.
 use Rattle.std.proofs.Common.{◌≡◌, ◌≢◌, ℕ, ◌≤◌, true, false, List, [], ◌∷◌, Option, Some, None, get_or, set, refl, sym, ap, subst, ◌∙◌, arith}
-use Rattle.std.specs.Prelude.{filter, map, is_some, ◌||◌, Result, Ok, Err, if◌then◌else◌, ◌==◌, nat_lt}
+use Rattle.std.specs.Prelude.{filter, map, is_some, ◌||◌, Result, Ok, Err, if◌then◌else◌, ◌==◌}
 use Rattle.std.proofs.lemmas.Bool.Decides.{nat_tests}
 use Rattle.std.proofs.lemmas.List.{get_or-set_same, get_or-set_other}
 use Rattle.std.proofs.Math.ListN.{length-set}
@@ -55,9 +55,6 @@ not_other i j other = grind (arith, nat_tests)
 
 pub itself : (i : ℕ) → (i == i) ≡ true
 itself i = grind (arith, nat_tests)
-
-pub small_enough : (i : ℕ) → i ≤ max_session → nat_lt max_session i ≡ false
-small_enough i small = grind (arith, nat_tests)
 
 -- ---- ROLLBACK
 

@@ -7,6 +7,7 @@ pub mod Nows
 pub mod OpenTurns
 pub mod Opens
 pub mod Past
+pub mod Prefixes
 pub mod Ran
 pub mod Shown
 pub mod Snapshots

@@ -6,35 +6,26 @@ use Rattle.values.specs.declared.query.Form.TheVariants.{AsOf}
 use Rattle.values.specs.declared.query.Keys.{Keys}
 use Rattle.values.specs.declared.table.Table.{Table}
 use Rattle.values.specs.Tables.{Schema}
-use Rattle.values.specs.Log.{Log, last, last_from, upto, replay, changes}
+use Rattle.values.specs.Log.{Log, last, upto, replay, changes}
 use Rattle.values.specs.Laws.{IsLog, shown_rows}
-use Rattle.values.proofs.AsOf.{as_of_shows_state, Rises-upto, Rises-rest, upto-append}
-use Rattle.values.proofs.Now.{last_above}
+use Rattle.values.proofs.AsOf.{as_of_shows_state, Rises-upto, upto-append}
 use Rattle.histories.specs.Misfit.{max_session}
 use Rattle.histories.specs.declared.step.Step.{Step}
 use Rattle.histories.specs.declared.step.Listing.TheVariants.{Rows}
 use Rattle.histories.specs.History.{History, log, opened, snap, snap_of, rows_taken}
 use Rattle.histories.specs.Laws.{PastIsReadAlike, PastIsToldAlike}
 use Rattle.histories.proofs.Growth.{log_rises, later_steps_add}
-use Rattle.histories.proofs.Snapshots.{IsFront, opened_front, select_by}
+use Rattle.histories.proofs.Prefixes.{opened_below}
+use Rattle.histories.proofs.Snapshots.{select_by}
 
 -- ---- a snapshot is at or before the last instant
 
-last_more : (before added : Log) (n : ℕ) → last_from n (before ++ added) ≡ last_from (last_from n before) added
-last_more [] added n = refl
-last_more (t ∷ before) added n = last_more before added t.instant
-
-front_below : (before now : Log) → IsFront before now → IsLog now → last before ≤ last now
-front_below before now front rises =
-    let above : last before ≤ last_from (last before) front.0 = last_above front.0 (last before) (Rises-rest before front.0 0 (subst IsLog front.1 rises)) in
-    omega (arith, above, ap last front.1, last_more before front.0 0)
-
 snap_below : (schema : Schema) (h : History) (i : ℕ) → snap schema h i ≤ last (log schema h)
-snap_below schema h i = by (opened schema h i) (opened_front schema h i)
+snap_below schema h i = by (opened schema h i) (opened_below schema h i)
   where
-    by : (o : Option Log) → ((before : Log) → o ≡ Some before → IsFront before (log schema h)) → snap_of (log schema h) o ≤ last (log schema h)
-    by None front = omega arith
-    by (Some before) front = front_below before (log schema h) (front before refl) (log_rises schema h)
+    by : (o : Option Log) → ((before : Log) → o ≡ Some before → last before ≤ last (log schema h)) → snap_of (log schema h) o ≤ last (log schema h)
+    by None below = omega arith
+    by (Some before) below = below before refl
 
 -- ---- up to an instant before a snapshot
 

@@ -1,5 +1,5 @@
 -- What an open transaction reads is what was committed when it began, and its own writes.
-use Rattle.std.proofs.Common.{◌≡◌, ℕ, Bool, true, false, List, [], ◌∷◌, ◌++◌, Option, Some, None, refl, sym, ap, subst, ◌∙◌, append-nil, append_assoc, arith}
+use Rattle.std.proofs.Common.{◌≡◌, ℕ, Bool, true, false, List, [], ◌∷◌, ◌++◌, Option, Some, None, refl, sym, ap, subst, ◌∙◌, arith}
 use Rattle.std.specs.Prelude.{if◌then◌else◌, nat_lt, nat_le, ◌&&◌, ◌==◌, is_none}
 use Rattle.std.proofs.lemmas.Bool.Decides.{nat_tests}
 use Rattle.std.proofs.lemmas.Bool.{and_parts}
@@ -24,39 +24,19 @@ use Rattle.histories.specs.declared.step.Reply.TheVariants.{Refused, Shown as Sh
 use Rattle.histories.specs.Misfit.{max_session, bad_row}
 use Rattle.histories.specs.History.{History, ends, begins, log, opened, own, snap_of, rewrite_all, rows_taken, rows_of, listing}
 use Rattle.histories.specs.Laws.{ReadsBySnapshot, SelectsBySnapshot}
-use Rattle.histories.proofs.Growth.{log_rises, step_adds}
+use Rattle.histories.proofs.Growth.{log_rises}
+use Rattle.histories.proofs.Prefixes.{opened_prefix}
 
--- ---- an open transaction began at a front of the log
-
-abbrev pub IsFront : Log → Log → Type 0
-IsFront before now = (added : Log) × (now ≡ before ++ added)
-
-front_more : (before now later : Log) → IsFront before now → IsFront now later → IsFront before later
-front_more before now later f g = (f.0 ++ g.0, g.1 ∙ ap (λ (l : Log). l ++ g.0) f.1 ∙ append_assoc before f.0 g.0)
-
-opened_step : (e b : Bool) (o : Option Log) (now before : Log) → ◌≡◌ {A = Option Log} (if e then None else (if b && is_none o then Some now else o)) (Some before)
-    → ((x : Log) → o ≡ Some x → IsFront x now) → IsFront before now
-opened_step true b o now before is old = cc
-opened_step false true None now before is old = let same : before ≡ now = cc in ([], sym same ∙ sym (append-nil before))
-opened_step false false None now before is old = cc
-opened_step false true (Some x) now before is old = old before is
-opened_step false false (Some x) now before is old = old before is
-
-pub opened_front : (schema : Schema) (h : History) (i : ℕ) (before : Log) → opened schema h i ≡ Some before → IsFront before (log schema h)
-opened_front schema [] i before is = cc
-opened_front schema (step ∷ h) i before is =
-    front_more before (log schema h) (log schema (step ∷ h))
-    (opened_step (ends i step) (begins i step) (opened schema h i) (log schema h) before is (λ x was. opened_front schema h i x was))
-    (step_adds schema h step)
+-- ---- its snapshot
 
 -- the transactions up to its snapshot are those at its BEGIN
-upto_front : (before added : Log) → IsLog (before ++ added) → upto (before ++ added) (last before) ≡ before
-upto_front before added rises = upto-append before added 0 (last before) (omega arith) rises ∙ upto_all before 0 (last before) (Rises-front before added 0 rises) (omega arith)
+upto_prefix : (before added : Log) → IsLog (before ++ added) → upto (before ++ added) (last before) ≡ before
+upto_prefix before added rises = upto-append before added 0 (last before) (omega arith) rises ∙ upto_all before 0 (last before) (Rises-front before added 0 rises) (omega arith)
 
 upto_snapshot : (schema : Schema) (h : History) (i : ℕ) (before : Log) → opened schema h i ≡ Some before → upto (log schema h) (last before) ≡ before
 upto_snapshot schema h i before is =
-    let front = opened_front schema h i before is in
-    ap (λ (l : Log). upto l (last before)) front.1 ∙ upto_front before front.0 (subst IsLog front.1 (log_rises schema h))
+    let is_prefix = opened_prefix schema h i before is in
+    ap (λ (l : Log). upto l (last before)) is_prefix.1 ∙ upto_prefix before is_prefix.0 (subst IsLog is_prefix.1 (log_rises schema h))
 
 -- ---- what it reads, by what was committed at its BEGIN and its own writes
 

@@ -1,6 +1,6 @@
 -- A commit changes nothing of what open transactions saw.
-use Rattle.std.proofs.Common.{◌≡◌, ℕ, ◌≤◌, ◌<◌, Bool, true, false, List, [], ◌∷◌, ◌++◌, Option, Some, None, refl, ap, subst, ◌∙◌, arith}
-use Rattle.std.specs.Prelude.{Result, Ok, Err, if◌then◌else◌, nat_le, ◌&&◌, ◌==◌, is_none}
+use Rattle.std.proofs.Common.{◌≡◌, ℕ, ◌≤◌, ◌<◌, false, List, [], ◌∷◌, ◌++◌, Option, Some, None, refl, ap, ◌∙◌, arith}
+use Rattle.std.specs.Prelude.{Result, Ok, Err, if◌then◌else◌, nat_le, ◌==◌}
 use Rattle.std.proofs.lemmas.Bool.Decides.{nat_tests}
 use Rattle.values.specs.declared.key.Transaction.{Transaction}
 use Rattle.values.specs.declared.refusal.Refusal.{Refusal}
@@ -8,10 +8,11 @@ use Rattle.values.specs.Tables.{Schema}
 use Rattle.values.specs.Log.{Log, Net, replay, last, last_from, upto, state, changes}
 use Rattle.values.specs.Commits.{outcome, ended, after}
 use Rattle.histories.specs.declared.step.Step.{Step}
-use Rattle.histories.specs.declared.step.Step.TheVariants.{Begin, Insert, Update, Delete, Select, Commit, Rollback, SplitKey, SplitTime, Migrate}
+use Rattle.histories.specs.declared.step.Step.TheVariants.{Commit}
 use Rattle.histories.proofs.Growth.{outcome_above}
+use Rattle.histories.proofs.Prefixes.{opened_below}
 use Rattle.histories.specs.Stands.{open_in, open_from}
-use Rattle.histories.specs.History.{History, log, opened, own, ends, begins, net_change_of, rewrite_all}
+use Rattle.histories.specs.History.{History, log, opened, own, net_change_of, rewrite_all}
 
 later_test : (a s : ℕ) → s < a → nat_le a s ≡ false
 later_test a s h = grind (arith, nat_tests)
@@ -33,11 +34,6 @@ upto_ended log net (Ok (Some i)) s below above = upto_later log _ s (let h : las
 upto_ended log net (Ok None) s below above = refl
 upto_ended log net (Err e) s below above = refl
 
-last_ended : (log : Log) (net : Net) (end : Result (Option ℕ) Refusal) → ((i : ℕ) → end ≡ Ok (Some i) → last log < i) → last log ≤ last (ended log net end)
-last_ended log net (Ok (Some i)) above = let h : last log < i = above i refl in omega (arith, last_push log (record { instant = i; net = net }))
-last_ended log net (Ok None) above = omega arith
-last_ended log net (Err e) above = omega arith
-
 -- a transaction that stays open sees what it saw
 pub session_kept : (schema : Schema) (log now : Log) (o : Option Log) (own : List Step) → ((before : Log) → o ≡ Some before → state now (last before) ≡ state log (last before))
     → open_from schema now o own ≡ open_from schema log o own
@@ -48,40 +44,6 @@ session_kept schema log now (Some before) own same =
 pub state_after : (log : Log) (start : ℕ) (net : Net) (reading s : ℕ) → s ≤ last log → state (after log start net reading) s ≡ state log s
 state_after log start net reading s below =
     ap (replay []) (upto_ended log net (outcome (changes log) (last log) start net reading) s below (λ i e. outcome_above (changes log) (last log) start net reading i e))
-
-pub last_after : (log : Log) (start : ℕ) (net : Net) (reading : ℕ) → last log ≤ last (after log start net reading)
-last_after log start net reading = last_ended log net (outcome (changes log) (last log) start net reading) (λ i e. outcome_above (changes log) (last log) start net reading i e)
-
-log_step : (schema : Schema) (h : History) (step : Step) → last (log schema h) ≤ last (log schema (step ∷ h))
-log_step schema h (Commit i reading) = by (opened schema h i) refl
-  where
-    by : (o : Option Log) → opened schema h i ≡ o → last (log schema h) ≤ last (elim o [ None ↦ log schema h | Some before ↦ after (log schema h) (last before) (net_change_of schema (log schema h) (opened schema h i) (own schema h i)) reading ])
-    by None e = omega arith
-    by (Some before) e = last_after (log schema h) (last before) _ reading
-log_step schema h (Begin i) = omega arith
-log_step schema h (Insert i number rows) = omega arith
-log_step schema h (Update i keys sets) = omega arith
-log_step schema h (Delete i keys) = omega arith
-log_step schema h (Select i form keys) = omega arith
-log_step schema h (Rollback i) = omega arith
-log_step schema h (SplitKey key) = omega arith
-log_step schema h (SplitTime key instant) = omega arith
-log_step schema h Migrate = omega arith
-
-opened_step : (e b : Bool) (o : Option Log) (now before : Log) (later : ℕ) → ◌≡◌ {A = Option Log} (if e then None else (if b && is_none o then Some now else o)) (Some before)
-    → last now ≤ later → ((x : Log) → o ≡ Some x → last x ≤ later) → last before ≤ later
-opened_step true b o now before later is up old = cc
-opened_step false true None now before later is up old = let same : now ≡ before = cc in subst (λ l. last l ≤ later) same up
-opened_step false false None now before later is up old = cc
-opened_step false true (Some x) now before later is up old = old before is
-opened_step false false (Some x) now before later is up old = old before is
-
--- a transaction began at no later log than there is now
-pub opened_below : (schema : Schema) (h : History) (i : ℕ) (before : Log) → opened schema h i ≡ Some before → last before ≤ last (log schema h)
-opened_below schema [] i before e = cc
-opened_below schema (step ∷ h) i before e =
-    opened_step (ends i step) (begins i step) (opened schema h i) (log schema h) before (last (log schema (step ∷ h))) e (log_step schema h step)
-    (λ x is. let below : last x ≤ last (log schema h) = opened_below schema h i x is in omega (arith, below, log_step schema h step))
 
 -- a commit of one session changes nothing of another
 pub session_other_commit : (schema : Schema) (h : History) (i j reading : ℕ) → (j == i) ≡ false → open_in schema (Commit i reading ∷ h) j ≡ open_in schema h j
