@@ -1,11 +1,14 @@
 //! Two employees over time.
-ghost use Rattle.std.specs.Prelude.{◌≡◌, IfOk};
+ghost use Rattle.std.specs.Prelude.{◌≡◌, ◌<◌, ◌≤◌, IfOk, OnOk};
+ghost use Rattle.values.specs.Tables.{IsTable};
+ghost use Rattle.staging.specs.View.{last};
 
-use crate::answer;
+use crate::{answer, current_rows, rows_at};
 use values::{
-    Chars, Comparison, Form, Instant, Keys, Operator, Row, Schema, Sequence, Set, Shown, Value,
+    Chars, Comparison, Form, Instant, Keys, Mem, Operator, Refusal, Row, Sequence, Set, Shown,
+    Table, Value,
 };
-use staging::{Staged, View};
+use staging::{EventStore, Staged};
 use std::alloc::{AllocError, Global};
 use std::test::Fail;
 
@@ -26,39 +29,67 @@ fn by(alloc: Global, operator: Operator, number: i64) -> Result<Keys, AllocError
     })
 }
 
-/// Ann comes at 100 as number 1, and is Bea from 200 on.
-fn recorded(alloc: Global, schema: &Schema) -> Result<View, Fail>
-    ensures { IfOk result (λ v. v.last ≡ 200) }
+fn employee(alloc: Global, number: i64, name: &str) -> Mem<Row> {
+    let values = vec![in alloc; Value::Int(number), text(alloc, name)?]?;
+    Row::new(values).ok_or(Refusal::BadRow(2))
+}
+
+/// Inserts an employee, and commits it at an instant.
+fn hire(
+    alloc: Global,
+    table: &Table,
+    store: &mut EventStore,
+    at: Instant,
+    number: i64,
+    name: &str,
+) -> Result<(), Fail>
+    requires table { IsTable table.now.number table.now }
+    requires later { last store.old < at }
+    requires in_range { at ≤ 1000 }
+    ensures { OnOk result (last store.new ≡ at) }
 {
-    let table = schema.table_at(1).ok_or("no table")?;
-    let mut view = View::new(alloc)?;
     let mut staged = Staged::new(alloc)?;
-    let row = Row::new(vec![in alloc; Value::Int(1), text(alloc, "Ann")?]?);
-    staged.insert(&view, table, vec![in alloc; row]?.as_slice())?;
-    let net = staged.net(&view)?;
-    view.apply(alloc, 100, &net)?;
+    let row = employee(alloc, number, name)?;
+    staged.insert(store.current(), table, vec![in alloc; row]?.as_slice())?;
+    let net = staged.net(store.current())?;
+    store.apply(at, net)?;
+    Ok(())
+}
+
+/// Calls the employee with the number 1 Bea from 200 on.
+fn rename(alloc: Global, table: &Table, store: &mut EventStore) -> Result<(), Fail>
+    requires table { IsTable table.now.number table.now }
+    requires later { last store.old < 200 }
+    ensures { OnOk result (last store.new ≡ 200) }
+{
     let mut staged = Staged::new(alloc)?;
     let set = Set {
         column: 2,
         value: text(alloc, "Bea")?,
     };
-    staged.update(
-        &view,
-        table,
-        &by(alloc, Operator::Equal, 1)?,
-        vec![in alloc; set]?.as_slice(),
-    )?;
-    let net = staged.net(&view)?;
-    view.apply(alloc, 200, &net)?;
-    Ok(view)
+    let one = by(alloc, Operator::Equal, 1)?;
+    staged.update(store.current(), table, &one, vec![in alloc; set]?.as_slice())?;
+    let net = staged.net(store.current())?;
+    store.apply(200, net)?;
+    Ok(())
+}
+
+/// Ann comes at 100 as number 1, and is Bea from 200 on.
+fn recorded(alloc: Global, table: &Table) -> Result<EventStore, Fail>
+    requires { IsTable table.now.number table.now }
+    ensures { IfOk result (λ s. last s ≡ 200) }
+{
+    let mut store = EventStore::new(alloc)?;
+    hire(alloc, table, &mut store, 100, 1, "Ann")?;
+    rename(alloc, table, &mut store)?;
+    Ok(store)
 }
 
 /// The periods of what a query shows.
 fn periods(alloc: Global, form: Form) -> Result<Vec<(Instant, Option<Instant>)>, Fail> {
-    let schema = Schema::sample(alloc)?;
-    let table = schema.table_at(1).ok_or("no table")?;
-    let view = recorded(alloc, &schema)?;
-    let shown: Vec<Shown> = answer(alloc, &view, table, form, &by(alloc, Operator::AtMost, 1)?)?;
+    let table = &Table::sample(alloc)?;
+    let store = recorded(alloc, table)?;
+    let shown: Vec<Shown> = answer(alloc, store.current(), table, form, &by(alloc, Operator::AtMost, 1)?)?;
     let mut periods = Vec::new(alloc);
     for version in shown {
         periods.push((version.from, version.to))?;
@@ -92,23 +123,19 @@ fn a_version_is_closed_at_its_start_and_open_at_its_end(rt: HostRuntime) -> Resu
 }
 
 /// Cid comes at 300 as number 2.
-fn hired(alloc: Global, schema: &Schema) -> Result<View, Fail> {
-    let table = schema.table_at(1).ok_or("no table")?;
-    let mut view = recorded(alloc, schema)?;
-    let mut staged = Staged::new(alloc)?;
-    let row = Row::new(vec![in alloc; Value::Int(2), text(alloc, "Cid")?]?);
-    staged.insert(&view, table, vec![in alloc; row]?.as_slice())?;
-    let net = staged.net(&view)?;
-    view.apply(alloc, 300, &net)?;
-    Ok(view)
+fn two(alloc: Global, table: &Table) -> Result<EventStore, Fail>
+    requires { IsTable table.now.number table.now }
+{
+    let mut store = recorded(alloc, table)?;
+    hire(alloc, table, &mut store, 300, 2, "Cid")?;
+    Ok(store)
 }
 
 #[test]
 fn each_key_shows_one_version_at_an_instant(rt: HostRuntime) -> Result<(), Fail> {
     let alloc = rt.alloc();
-    let schema = Schema::sample(alloc)?;
-    let table = schema.table_at(1).ok_or("no table")?;
-    let view = hired(alloc, &schema)?;
+    let table = &Table::sample(alloc)?;
+    let store = two(alloc, table)?;
     let keys = by(alloc, Operator::AtLeast, 1)?;
     let cases = [
         (Form::Plain, 2),
@@ -118,7 +145,21 @@ fn each_key_shows_one_version_at_an_instant(rt: HostRuntime) -> Result<(), Fail>
         (Form::Between(1, 300), 3),
     ];
     for (form, count) in cases {
-        assert_eq!(rt; answer(alloc, &view, table, form, &keys)?.len(), count);
+        assert_eq!(rt; answer(alloc, store.current(), table, form, &keys)?.len(), count);
     }
+    Ok(())
+}
+
+#[test]
+fn rows_at_an_instant_are_those_that_stand(rt: HostRuntime) -> Result<(), Fail> {
+    let alloc = rt.alloc();
+    let table = &Table::sample(alloc)?;
+    let store = two(alloc, table)?;
+    let keys = by(alloc, Operator::AtLeast, 1)?;
+    for (at, count) in [(99, 0), (100, 1), (299, 1), (300, 2)] {
+        let rows = rows_at(alloc, store.current(), table, at, &keys)?;
+        assert_eq!(rt; rows.len(), count, "at {at}");
+    }
+    assert_eq!(rt; current_rows(alloc, store.current(), table, &keys)?.len(), 2);
     Ok(())
 }

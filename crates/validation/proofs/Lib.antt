@@ -1,1 +1,2 @@
-mod Wins
+pub mod Adding
+pub mod Conflicts

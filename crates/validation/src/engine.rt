@@ -1,55 +1,55 @@
 //! The committed transactions and the clock.
-ghost use Rattle.std.specs.Prelude.{◌≡◌, ◌≢◌, ◌≤◌, ◌<◌, [], Result, Err, IfOk, IfSome, IfNone, OnErr};
+ghost use Rattle.std.specs.Prelude.{◌≡◌, ◌≢◌, ◌≤◌, ◌<◌, Result, Err, IfOk, IfSome, IfNone, OnErr};
 ghost use Rattle.std.specs.List.{slice_get};
-ghost use Rattle.values.specs.Log.{Changes, add_net};
+ghost use Rattle.values.specs.Log.{Changes, Net, add_net};
 ghost use Rattle.values.specs.Tables.{Schema};
-ghost use Rattle.values.specs.Commits.{outcome, max_instant};
-ghost use Rattle.values.specs.Events.{AreKeysIn, put_net};
+ghost use Rattle.values.specs.Commits.{outcome, outcome_by, won_by, max_instant};
+ghost use Rattle.values.specs.Events.{AreKeysIn};
 ghost use Rattle.values.specs.Memory.{OnlyMemory};
-ghost use Rattle.staging.specs.Committed.{Holds};
-ghost use Rattle.validation.specs.Outcome.{won_by, outcome_by};
+ghost use Rattle.staging.specs.View.{events, last, IsEmpty, Holds, Adds};
+ghost use Rattle.validation.specs.Outcome.{changed_in};
 
 use commitclock::Clock;
-use values::{Instant, Key, Mem, Refusal, key_bytes};
-use staging::{Net, View};
+use staging::{EventStore, Net, View};
 use std::alloc::Global;
 use std::marker::Model;
+use values::{Instant, Key, Mem, Refusal, key_bytes};
 
 /// What was committed, and the clock that gives commits their instants.
 #[derive(Drop)]
 pub struct Engine {
     alloc: Global,
-    view: View,
+    store: EventStore,
     clock: Clock,
 }
 
 impl Model for Engine {
     ghost use Rattle.std.specs.Prelude.{◌≡◌};
-    ghost use Rattle.staging.specs.Committed.{Committed};
+    ghost use Rattle.staging.specs.View.{Committed, last};
 
     ghost Value = { Committed };
 
-    ghost view = { λ e. e.view };
+    ghost view = { λ e. e.store };
 
-    ghost invariant = { λ e. e.clock ≡ e.view.last };
+    ghost invariant = { λ e. e.clock ≡ last e.store };
 }
 
 impl Engine {
     /// Before the first commit.
     pub fn new(alloc: Global) -> Mem<Engine>
-        ensures ok { IfOk result (λ e. e ≡ record { events = []; last = 0 }) }
+        ensures ok { IfOk result IsEmpty }
         ensures err { OnlyMemory result }
     {
         Ok(Engine {
             alloc,
-            view: View::new(alloc)?,
+            store: EventStore::new(alloc)?,
             clock: Clock::new(),
         })
     }
 
     /// The instant of the last commit, 0 where there is none.
     pub fn last(&self) -> Instant
-        ensures { result ≡ self.now.last }
+        ensures { result ≡ last self.now }
     {
         self.clock.last()
     }
@@ -59,7 +59,7 @@ impl Engine {
         ensures ok { IfOk result (λ v. v ≡ self.now) }
         ensures err { OnlyMemory result }
     {
-        self.view.share()
+        self.store.current().share()
     }
 
     /// Ends a transaction of this start with these net changes, by this reading of the clock, and answers its instant, none where it changed nothing.
@@ -68,17 +68,28 @@ impl Engine {
     pub fn commit(
         &mut self,
         start: Instant,
-        net: &Net,
+        net: Net,
         reading: Instant,
     ) -> Result<Option<Instant>, Refusal>
-        ensures outcome { (schema : Schema) (m : Changes) → Holds schema self.old m → AreKeysIn schema net.now → result ≢ Err Refusal.Memory → result ≡ outcome m self.old.last start net.now reading }
-        ensures committed { IfOk result (λ end. IfSome end (λ instant. self.new ≡ record { events = put_net instant net.now self.old.events; last = instant })) }
-        ensures later { IfOk result (λ end. IfSome end (λ instant. self.old.last < instant)) }
+        ensures outcome {
+            (schema : Schema) (m : Changes) → Holds schema self.old m → AreKeysIn schema net
+                → result ≢ Err Refusal.Memory
+                → result ≡ outcome m (last self.old) start net reading
+        }
+        ensures committed {
+            IfOk result (λ end. IfSome end (λ instant. Adds instant net self.old self.new))
+        }
+        ensures holds {
+            IfOk result (λ end. IfSome end (λ instant. (schema : Schema) (m : Changes)
+                → Holds schema self.old m → AreKeysIn schema net
+                → Holds schema self.new (add_net instant m net)))
+        }
+        ensures later { IfOk result (λ end. IfSome end (λ instant. last self.old < instant)) }
         ensures nothing { IfOk result (λ end. IfNone end (self.new ≡ self.old)) }
         ensures refused { OnErr result (self.new ≡ self.old) }
     {
-        match self.outcome(start, net, reading) {
-            Ok(Some(instant)) => match self.view.apply(self.alloc, instant, net) {
+        match self.outcome(start, &net, reading) {
+            Ok(Some(instant)) => match self.store.apply(instant, net) {
                 Ok(()) => {
                     self.clock.advance(instant);
                     Ok(Some(instant))
@@ -97,14 +108,17 @@ impl Engine {
         net: &Net,
         reading: Instant,
     ) -> Result<Option<Instant>, Refusal>
-        ensures outcome { result ≢ Err Refusal.Memory → result ≡ outcome_by self.now.events self.now.last start net.now reading }
-        ensures later { IfOk result (λ end. IfSome end (λ instant. self.now.last < instant)) }
+        ensures outcome {
+            result ≢ Err Refusal.Memory
+                → result ≡ outcome_by (changed_in (events self.now) start) (last self.now) net.now reading
+        }
+        ensures later { IfOk result (λ end. IfSome end (λ instant. last self.now < instant)) }
         ensures in_range { IfOk result (λ end. IfSome end (λ instant. instant ≤ max_instant)) }
     {
         if net.changes().is_empty() {
             return Ok(None);
         }
-        match first_won(self.alloc, &self.view, start, net) {
+        match first_conflict(self.alloc, self.store.current(), start, net) {
             Ok(Some((key, instant))) => Err(Refusal::Conflict(key, instant)),
             Ok(None) => match self.clock.next(reading) {
                 Ok(instant) => Ok(Some(instant)),
@@ -116,8 +130,16 @@ impl Engine {
 }
 
 /// The first of the keys that was changed since, with the latest instant.
-fn first_won(alloc: Global, view: &View, start: Instant, net: &Net) -> Mem<Option<(Key, Instant)>>
-    ensures ok { IfOk result (λ found. found ≡ slice_get (won_by view.now.events start net.now) 0) }
+fn first_conflict(
+    alloc: Global,
+    view: &View,
+    start: Instant,
+    net: &Net,
+) -> Mem<Option<(Key, Instant)>>
+    ensures ok {
+        IfOk result (λ found.
+            found ≡ slice_get (won_by (changed_in (events view.now) start) net.now) 0)
+    }
     ensures err { OnlyMemory result }
 {
     for (key, _row) in net.changes() {

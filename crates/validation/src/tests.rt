@@ -1,14 +1,14 @@
 //! Transactions that overlap.
 
 use crate::Engine;
-use values::{Chars, Key, Refusal, Row, Schema, Value, Values};
+use values::{Chars, Key, Mem, Refusal, Row, Table, Value, Values};
 use staging::{Net, Staged, View};
 use std::alloc::{AllocError, Global};
 use std::test::Fail;
 
-fn employee(alloc: Global, number: i64, name: &str) -> Result<Row, AllocError> {
+fn employee(alloc: Global, number: i64, name: &str) -> Mem<Row> {
     let name = Value::Text(Chars::new(String::from_str(alloc, name)?));
-    Ok(Row::new(vec![in alloc; Value::Int(number), name]?))
+    Row::new(vec![in alloc; Value::Int(number), name]?).ok_or(Refusal::BadRow(2))
 }
 
 fn key(alloc: Global, number: i64) -> Result<Key, AllocError> {
@@ -20,8 +20,7 @@ fn key(alloc: Global, number: i64) -> Result<Key, AllocError> {
 
 /// The net change of a transaction that inserts an employee.
 fn inserting(alloc: Global, view: &View, number: i64) -> Result<Net, Fail> {
-    let schema = Schema::sample(alloc)?;
-    let table = schema.table_at(1).ok_or("no table")?;
+    let table = &Table::sample(alloc)?;
     let rows = vec![in alloc; employee(alloc, number, "Ann")?]?;
     let mut staged = Staged::new(alloc)?;
     staged.insert(view, table, rows.as_slice())?;
@@ -36,8 +35,8 @@ fn the_first_committer_wins(rt: HostRuntime) -> Result<(), Fail> {
     let first = inserting(alloc, &view, 1)?;
     let second = inserting(alloc, &view, 1)?;
     let conflict = Refusal::Conflict(key(alloc, 1)?, 100);
-    assert_eq!(rt; engine.commit(0, &first, 100), Ok(Some(100)));
-    assert_eq!(rt; engine.commit(0, &second, 200), Err(conflict));
+    assert_eq!(rt; engine.commit(0, first, 100), Ok(Some(100)));
+    assert_eq!(rt; engine.commit(0, second, 200), Err(conflict));
     assert_eq!(rt; engine.last(), 100);
     Ok(())
 }
@@ -49,8 +48,8 @@ fn other_keys_both_commit(rt: HostRuntime) -> Result<(), Fail> {
     let view = engine.begin()?;
     let first = inserting(alloc, &view, 1)?;
     let second = inserting(alloc, &view, 2)?;
-    assert_eq!(rt; engine.commit(0, &first, 100), Ok(Some(100)));
-    assert_eq!(rt; engine.commit(0, &second, 50), Ok(Some(101)));
+    assert_eq!(rt; engine.commit(0, first, 100), Ok(Some(100)));
+    assert_eq!(rt; engine.commit(0, second, 50), Ok(Some(101)));
     assert_eq!(rt; view.last(), 0);
     assert_eq!(rt; engine.begin()?.last(), 101);
     Ok(())
@@ -62,7 +61,7 @@ fn no_change_takes_no_instant(rt: HostRuntime) -> Result<(), Fail> {
     let mut engine = Engine::new(alloc)?;
     let view = engine.begin()?;
     let nothing = Staged::new(alloc)?.net(&view)?;
-    assert_eq!(rt; engine.commit(0, &nothing, 100), Ok(None));
+    assert_eq!(rt; engine.commit(0, nothing, 100), Ok(None));
     assert_eq!(rt; engine.last(), 0);
     Ok(())
 }
