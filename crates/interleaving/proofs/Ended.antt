@@ -1,14 +1,10 @@
 -- A commit is the turn's: its net changes are those that contracts see, and what it leaves is a system's.
-use Rattle.std.proofs.Common.{◌≡◌, ◌≢◌, ℕ, ◌≤◌, ◌<◌, List, [], ◌∷◌, Option, Some, None, Bool, true, false, T, cond, refl, sym, ap, ◌∙◌, subst, map, filter, nat_le, ◌||◌, ◌&&◌, is_some, arith, set, Result, Ok, Err, IfOk, IfSome, IfNone, OnErr}
+use Rattle.std.proofs.Common.{◌≡◌, ◌≢◌, ℕ, ◌≤◌, ◌<◌, List, [], ◌∷◌, Option, Some, None, Bool, true, false, T, cond, refl, sym, ap, ◌∙◌, subst, map, filter, nat_le, ◌||◌, ◌&&◌, is_some, arith, set, Result, Ok, Err, IfOk, IfSome, IfNone, OnErr, All}
 use Rattle.std.proofs.lemmas.Bool.Decides.{nat_tests}
 use Rattle.std.proofs.lemmas.List.{map-set}
 use Rattle.std.proofs.lemmas.List.Elements.{All-from_recursion, recursion_from_All}
-use Rattle.std.specs.declared.cmp.Ordering.{Ordering}
-use Rattle.std.specs.declared.cmp.Ordering.TheVariants.{Less}
 use Rattle.std.specs.FinMap.{is_sorted}
-use Rattle.std.specs.FinMap.Entries.{below_all}
 use Rattle.std.specs.List.{AllByRecursion}
-use Rattle.std.specs.List.Sorted.{IsStrictlySortedBy}
 use Rattle.std.specs.Map.{keys_of}
 use Rattle.std.specs.Option.{option_map, option_flatten}
 use Rattle.values.specs.Event.{Event}
@@ -22,22 +18,22 @@ use Rattle.values.specs.Log.{Changes, Net, Row, point_cmp, row_at, add_net, rows
 use Rattle.values.specs.Laws.{changes_upto}
 use Rattle.values.specs.Commits.{outcome}
 use Rattle.values.specs.Events.{events_of, later, AreKeysIn, put_net}
-use Rattle.values.proofs.Orders.{point_cmp_total, first, second}
+use Rattle.values.proofs.Orders.{point_cmp_total}
 use Rattle.values.proofs.Maps.{insert_entry-put, sorted_insert}
 use Rattle.values.proofs.Latest.{Upto, latest, point}
-use Rattle.values.proofs.Sorted.{is_less, sorted_from}
+use Rattle.values.proofs.Sorted.{sorted_from}
 use Rattle.values.proofs.Upto.{late_put}
-use Rattle.values.proofs.EventKeys.{put_net_is, add_net_in}
 use Rattle.eventlist.proofs.Placed.{all_put}
-use Rattle.staging.specs.Committed.{Committed, Holds}
+use Rattle.staging.specs.View.{Committed, events, last, Holds, Adds}
 use Rattle.staging.specs.Own.{seen, net_over}
+use Rattle.transaction.specs.TransactionState.{TransactionState}
 use Rattle.histories.specs.declared.step.Reply.{Reply}
 use Rattle.histories.specs.declared.step.Reply.TheVariants.{Committed as Commits, Refused}
-use Rattle.histories.specs.World.{Session, World}
+use Rattle.histories.specs.World.{OpenTransaction, World}
 use Rattle.histories.specs.Turn.{Turn, put, last_until, was_there, net_in, applied, end_turn, commit_turn}
-use Rattle.histories.specs.Due.{is_out}
+use Rattle.histories.specs.Memory.{is_out_of_memory}
 use Rattle.histories.proofs.Nows.{row_after, flat, value, last_value, there}
-use Rattle.interleaving.specs.Keeping.{Begun, changes_in, session_of, world, IsOpen, IsSystem}
+use Rattle.interleaving.specs.SystemState.{changes_in, open_of, world_of, IsOpen, IsSystem}
 use Rattle.interleaving.proofs.Keeps.{changes_again, session_is, put_is}
 use Rattle.interleaving.proofs.Written.{IsFound}
 
@@ -74,26 +70,12 @@ there_is m t q =
     ∙ sym (there (last_until m t q))
 
 -- what is committed is what the turn commits
-pub net_is : (schema : Schema) (m : Changes) (b : Begun) → changes_in schema b.view.events ≡ changes_upto m b.view.last → net_over (changes_in schema b.view.events) b.writes ≡ net_in m (session_of schema b)
+pub net_is : (schema : Schema) (m : Changes) (b : TransactionState) → changes_in schema (events b.view) ≡ changes_upto m (last b.view) → net_over (changes_in schema (events b.view)) b.writes ≡ net_in m (open_of schema b)
 net_is schema m b part =
-    (λ i. filter (λ c. is_some c.1 || is_some (row_at (rows_after [] (part i)) c.0)) (map (λ k. (k, row_at (seen (changes_in schema b.view.events) b.writes) k)) (keys_of b.writes)))
-    ∙ (λ i. filter (λ c. is_some c.1 || there_is m b.view.last c.0 i) (map (λ k. (k, row_at (seen (changes_in schema b.view.events) b.writes) k)) (keys_of b.writes)))
+    (λ i. filter (λ c. is_some c.1 || is_some (row_at (rows_after [] (part i)) c.0)) (map (λ k. (k, row_at (seen (changes_in schema (events b.view)) b.writes) k)) (keys_of b.writes)))
+    ∙ (λ i. filter (λ c. is_some c.1 || there_is m (last b.view) c.0 i) (map (λ k. (k, row_at (seen (changes_in schema (events b.view)) b.writes) k)) (keys_of b.writes)))
 
 -- ---- what a commit adds
-
-module _ {K X : Type 0} (R : K → K → Ordering) where
-  below_to : (k : K) (es : List (K × X)) → T (below_all R k es) → AllByRecursion (λ y. R k y ≡ Less) (keys_of es)
-  below_to k [] h = tt
-  below_to k (e ∷ es) h = (is_less _ (first _ _ h), below_to k es (second _ _ h))
-
-  sorted_to : (es : List (K × X)) → T (is_sorted R es) → IsStrictlySortedBy R (keys_of es)
-  unfolding IsStrictlySortedBy
-  sorted_to [] h = tt
-  sorted_to (e ∷ es) h = (below_to e.0 es (first _ _ h), sorted_to es (second _ _ h))
-
-sorted_net : (net : Net) (i : ℕ) (m : Changes) → T (is_sorted point_cmp m) → T (is_sorted point_cmp (add_net i m net))
-sorted_net [] i m h = h
-sorted_net (c ∷ net) i m h = sorted_net net i _ (sorted_insert point_cmp_total m (point c.0 i) c.1 h)
 
 -- what is added later is not seen
 late_net : (net : Net) (t i : ℕ) (m : Changes) → nat_le i t ≡ false → T (is_sorted point_cmp m) → changes_upto (add_net i m net) t ≡ changes_upto m t
@@ -110,40 +92,29 @@ more_upto : (n t : ℕ) (es : List Event) → n ≤ t → AllByRecursion (λ e. 
 more_upto n t [] le h = tt
 more_upto n t (e ∷ es) le h = (let first : e.at ≤ n = h.0 in omega arith, more_upto n t es le h.1)
 
-abbrev added : ℕ → Net → Committed → Committed
-added instant net engine = record { events = put_net instant net engine.events; last = instant }
-
-module _ (schema : Schema) (engine : Committed) (held : Holds schema engine (changes_in schema engine.events)) (net : Net) (keys : AreKeysIn schema net) (instant : ℕ) where
+module _ (schema : Schema) (engine new : Committed) (held : Holds schema engine (changes_in schema (events engine))) (net : Net) (instant : ℕ)
+    (adds : Adds instant net engine new) (holds : Holds schema new (add_net instant (changes_in schema (events engine)) net)) where
   abbrev old : Changes
-  old = changes_in schema engine.events
+  old = changes_in schema (events engine)
 
-  added_events : put_net instant net engine.events ≡ events_of (add_net instant old net)
-  added_events = ap (put_net instant net) held.events_are ∙ put_net_is schema net instant old keys held.keys
+  added_changes : changes_in schema (events new) ≡ add_net instant old net
+  added_changes = ap (changes_in schema) holds.events_are ∙ changes_again schema (add_net instant old net) holds.keys
 
-  added_changes : changes_in schema (put_net instant net engine.events) ≡ add_net instant old net
-  added_changes = ap (changes_in schema) added_events ∙ changes_again schema (add_net instant old net) (add_net_in schema net instant old keys held.keys)
-
-  sorted_old : T (is_sorted point_cmp old)
-  sorted_old = sorted_from point_cmp old held.in_order
-
-  added_holds : Holds schema (added instant net engine) (changes_in schema (put_net instant net engine.events))
-  added_holds = subst (Holds schema (added instant net engine)) (sym added_changes) (record {
-    events_are = added_events;
-    keys = add_net_in schema net instant old keys held.keys;
-    in_order = sorted_to point_cmp (add_net instant old net) (sorted_net net instant old sorted_old);
-  })
+  added_holds : Holds schema new (changes_in schema (events new))
+  added_holds = subst (Holds schema new) (sym added_changes) holds
 
   -- an open transaction sees what it saw
-  added_begun : engine.last < instant → (o : Option Begun) → IsOpen schema engine o → IsOpen schema (added instant net engine) o
+  added_begun : last engine < instant → (o : Option TransactionState) → IsOpen schema engine o → IsOpen schema new o
   added_begun late None h = h
   added_begun late (Some b) h = record {
-    early = let early : b.view.last ≤ engine.last = h.early in omega arith;
+    early = subst (λ n. last b.view ≤ n) (sym adds.last_is) (let early : last b.view ≤ last engine = h.early in omega arith);
     held = h.held;
-    part = h.part ∙ sym (ap (λ m. changes_upto m b.view.last) added_changes ∙ late_net net b.view.last instant old (let early : b.view.last ≤ engine.last = h.early in grind (arith, nat_tests)) sorted_old);
+    part = h.part ∙ sym (ap (λ m. changes_upto m (last b.view)) added_changes
+        ∙ late_net net (last b.view) instant old (let early : last b.view ≤ last engine = h.early in grind (arith, nat_tests)) (sorted_from point_cmp old held.in_order));
     keys = h.keys;
   }
 
-all_open : (schema : Schema) (engine new : Committed) (sessions : List (Option Begun)) → ((o : Option Begun) → IsOpen schema engine o → IsOpen schema new o) → AllByRecursion (IsOpen schema engine) sessions → AllByRecursion (IsOpen schema new) sessions
+all_open : (schema : Schema) (engine new : Committed) (sessions : List (Option TransactionState)) → ((o : Option TransactionState) → IsOpen schema engine o → IsOpen schema new o) → AllByRecursion (IsOpen schema engine) sessions → AllByRecursion (IsOpen schema new) sessions
 all_open schema engine new [] f h = tt
 all_open schema engine new (o ∷ sessions) f h = (f o h.0, all_open schema engine new sessions f h.1)
 
@@ -151,28 +122,35 @@ all_open schema engine new (o ∷ sessions) f h = (f o h.0, all_open schema engi
 
 -- what the engine is left as, where a commit answers so
 pub record IsEnded (engine new : Committed) (net : Net) (r : Result (Option ℕ) Refusal) : Type 0 where
-  pub committed : IfOk r (λ end. IfSome end (λ instant. new ≡ added instant net engine))
-  pub late : IfOk r (λ end. IfSome end (λ instant. engine.last < instant))
+  pub committed : IfOk r (λ end. IfSome end (λ instant. Adds instant net engine new))
+  pub holds : IfOk r (λ end. IfSome end (λ instant. (schema : Schema) (m : Changes) → Holds schema engine m → AreKeysIn schema net → Holds schema new (add_net instant m net)))
+  pub late : IfOk r (λ end. IfSome end (λ instant. last engine < instant))
   pub nothing : IfOk r (λ end. IfNone end (new ≡ engine))
   pub refused : OnErr r (new ≡ engine)
 
-module _ (schema : Schema) (engine new : Committed) (sessions : List (Option Begun)) (net : Net) (keys : AreKeysIn schema net) (s : IsSystem schema engine sessions) where
+module _ (schema : Schema) (engine new : Committed) (sessions : List (Option TransactionState)) (net : Net) (keys : AreKeysIn schema net) (s : IsSystem schema engine sessions) where
   ended_none : new ≡ engine → IsSystem schema new sessions
   ended_none is = subst (λ e. IsSystem schema e sessions) (sym is) s
 
-  ended_added : (instant : ℕ) → engine.last < instant → new ≡ added instant net engine → IsSystem schema new sessions
-  ended_added instant late is = subst (λ e. IsSystem schema e sessions) (sym is) (record {
+  late_events : (instant : ℕ) → last engine < instant → Adds instant net engine new → All (λ e. e.at ≤ last new) (events new)
+  late_events instant late adds =
+      subst (λ (es : List Event). All (λ e. e.at ≤ last new) es) (sym adds.events_are)
+      (subst (λ n. All (λ (e : Event). e.at ≤ n) (put_net instant net (events engine))) (sym adds.last_is)
+      (All-from_recursion (λ (e : Event). e.at ≤ instant) (put_net instant net (events engine))
+      (upto_net instant net (events engine) (more_upto (last engine) instant (events engine) (omega arith) (recursion_from_All (λ (e : Event). e.at ≤ last engine) (events engine) s.upto)))))
+
+  ended_added : (instant : ℕ) → last engine < instant → Adds instant net engine new → Holds schema new (add_net instant (changes_in schema (events engine)) net) → IsSystem schema new sessions
+  ended_added instant late adds holds = record {
     wide = s.wide;
-    held = added_holds schema engine s.held net keys instant;
-    upto = All-from_recursion (λ (e : Event). e.at ≤ instant) (put_net instant net engine.events)
-        (upto_net instant net engine.events (more_upto engine.last instant engine.events (omega arith) (recursion_from_All (λ (e : Event). e.at ≤ engine.last) engine.events s.upto)));
-    begun = All-from_recursion (IsOpen schema (added instant net engine)) sessions
-        (all_open schema engine (added instant net engine) sessions (added_begun schema engine s.held net keys instant late) (recursion_from_All (IsOpen schema engine) sessions s.begun));
-  })
+    held = added_holds schema engine new s.held net instant adds holds;
+    upto = late_events instant late adds;
+    each_open = All-from_recursion (IsOpen schema new) sessions
+        (all_open schema engine new sessions (added_begun schema engine new s.held net instant adds holds late) (recursion_from_All (IsOpen schema engine) sessions s.each_open));
+  }
 
   -- the system is one still
   pub ended_is : (r : Result (Option ℕ) Refusal) → IsEnded engine new net r → IsSystem schema new sessions
-  ended_is (Ok (Some instant)) e = ended_added instant e.late e.committed
+  ended_is (Ok (Some instant)) e = ended_added instant e.late e.committed (e.holds schema (changes_in schema (events engine)) s.held keys)
   ended_is (Ok None) e = ended_none e.nothing
   ended_is (Err refusal) e = ended_none e.refused
 
@@ -180,43 +158,43 @@ abbrev pub end_reply : Result (Option ℕ) Refusal → Reply
 end_reply (Ok instant) = Commits instant
 end_reply (Err refusal) = Refused refusal
 
-module _ (schema : Schema) (engine new : Committed) (sessions : List (Option Begun)) (net : Net) (keys : AreKeysIn schema net) (held : Holds schema engine (changes_in schema engine.events)) (i : ℕ) where
-  abbrev closed : List (Option Begun)
+module _ (schema : Schema) (engine new : Committed) (sessions : List (Option TransactionState)) (net : Net) (keys : AreKeysIn schema net) (held : Holds schema engine (changes_in schema (events engine))) (i : ℕ) where
+  abbrev closed : List (Option TransactionState)
   closed = set sessions i None
 
-  left_none : new ≡ engine → world schema new closed ≡ put (world schema engine sessions) i None
-  left_none is = ap (λ e. world schema e closed) is ∙ put_is schema engine sessions i None
+  left_none : new ≡ engine → world_of schema new closed ≡ put (world_of schema engine sessions) i None
+  left_none is = ap (λ e. world_of schema e closed) is ∙ put_is schema engine sessions i None
 
-  left_added : (instant : ℕ) → new ≡ added instant net engine → world schema new closed ≡ put (applied instant net (world schema engine sessions)) i None
-  left_added instant is =
-      ap (λ e. world schema e closed) is
-      ∙ (λ j. record { schema = schema; changes = added_changes schema engine held net keys instant j; latest = instant; sessions = map-set (option_map (session_of schema)) sessions i None j })
+  left_added : (instant : ℕ) → Adds instant net engine new → Holds schema new (add_net instant (changes_in schema (events engine)) net)
+      → world_of schema new closed ≡ put (applied instant net (world_of schema engine sessions)) i None
+  left_added instant adds holds =
+      λ j. record { schema = schema; changes = added_changes schema engine new held net instant adds holds j; latest = adds.last_is j; sessions = map-set (option_map (open_of schema)) sessions i None j }
 
-  ended_turn : (r : Result (Option ℕ) Refusal) → IsEnded engine new net r → ◌≡◌ {A = Turn} (end_reply r, world schema new closed) (end_turn (world schema engine sessions) i net r)
-  ended_turn (Ok (Some instant)) e = λ j. (Commits (Some instant), left_added instant e.committed j)
+  ended_turn : (r : Result (Option ℕ) Refusal) → IsEnded engine new net r → ◌≡◌ {A = Turn} (end_reply r, world_of schema new closed) (end_turn (world_of schema engine sessions) i net r)
+  ended_turn (Ok (Some instant)) e = λ j. (Commits (Some instant), left_added instant e.committed (e.holds schema (changes_in schema (events engine)) held keys) j)
   ended_turn (Ok None) e = λ j. (Commits None, left_none e.nothing j)
   ended_turn (Err refusal) e = λ j. (Refused refusal, left_none e.refused j)
 
-abbrev by_commit : World → ℕ → ℕ → Option Session → Turn
+abbrev by_commit : World → ℕ → ℕ → Option OpenTransaction → Turn
 by_commit w i reading o = elim o [ None ↦ (Refused NoTransaction, w) | Some s ↦ end_turn w i (net_in w.changes s) (outcome w.changes w.latest s.start (net_in w.changes s) reading) ]
 
-pub committed : (schema : Schema) (engine new : Committed) (sessions : List (Option Begun)) (w : World) (i start reading : ℕ) (b : Begun) (net : Net) (r : Result (Option ℕ) Refusal)
-    → world schema engine sessions ≡ w → IsSystem schema engine sessions → IsFound schema engine sessions i b → start ≡ b.view.last
+pub committed : (schema : Schema) (engine new : Committed) (sessions : List (Option TransactionState)) (w : World) (i start reading : ℕ) (b : TransactionState) (net : Net) (r : Result (Option ℕ) Refusal)
+    → world_of schema engine sessions ≡ w → IsSystem schema engine sessions → IsFound schema engine sessions i b → start ≡ (last b.view)
     → ((schema : Schema) (m : Changes) → Holds schema b.view m → AreKeysIn schema b.writes → net ≡ net_over m b.writes) → AreKeysIn schema net
-    → ((schema : Schema) (m : Changes) → Holds schema engine m → AreKeysIn schema net → r ≢ Err Memory → r ≡ outcome m engine.last start net reading)
+    → ((schema : Schema) (m : Changes) → Holds schema engine m → AreKeysIn schema net → r ≢ Err Memory → r ≡ outcome m (last engine) start net reading)
     → IsEnded engine new net r → r ≢ Err Memory
-    → ◌≡◌ {A = Turn} (end_reply r, world schema new (set sessions i None)) (commit_turn w i reading)
+    → ◌≡◌ {A = Turn} (end_reply r, world_of schema new (set sessions i None)) (commit_turn w i reading)
 committed schema engine new sessions w i start reading b net r is s f begins nets keys ends e told =
-    let m : Changes = changes_in schema engine.events in
+    let m : Changes = changes_in schema (events engine) in
     ended_turn schema engine new sessions net keys s.held i r e
-    ∙ (λ j. end_turn (world schema engine sessions) i net ((ends schema (changes_in schema engine.events) s.held keys told ∙ (λ k. outcome (changes_in schema engine.events) engine.last (begins k) net reading)) j))
-    ∙ (λ j. end_turn (world schema engine sessions) i (same j) (outcome (changes_in schema engine.events) engine.last b.view.last (same j) reading))
-    ∙ (λ j. by_commit (world schema engine sessions) i reading (option_map (session_of schema) (f.at j)))
-    ∙ (λ j. by_commit (world schema engine sessions) i reading (sym (session_is schema engine sessions i) j))
+    ∙ (λ j. end_turn (world_of schema engine sessions) i net ((ends schema (changes_in schema (events engine)) s.held keys told ∙ (λ k. outcome (changes_in schema (events engine)) (last engine) (begins k) net reading)) j))
+    ∙ (λ j. end_turn (world_of schema engine sessions) i (same j) (outcome (changes_in schema (events engine)) (last engine) (last b.view) (same j) reading))
+    ∙ (λ j. by_commit (world_of schema engine sessions) i reading (option_map (open_of schema) (f.at j)))
+    ∙ (λ j. by_commit (world_of schema engine sessions) i reading (sym (session_is schema engine sessions i) j))
     ∙ ap (λ w. commit_turn w i reading) is
   where
-    same : net ≡ net_in (changes_in schema engine.events) (session_of schema b)
-    same = nets schema (changes_in schema b.view.events) f.begun.held f.begun.keys ∙ net_is schema (changes_in schema engine.events) b f.begun.part
+    same : net ≡ net_in (changes_in schema (events engine)) (open_of schema b)
+    same = nets schema (changes_in schema (events b.view)) f.begun.held f.begun.keys ∙ net_is schema (changes_in schema (events engine)) b f.begun.part
 
-pub not_want : (r : Result (Option ℕ) Refusal) → is_out (end_reply r) ≡ false → r ≢ Err Memory
-not_want r h e = cc (sym h ∙ ap (λ r. is_out (end_reply r)) e)
+pub not_want : (r : Result (Option ℕ) Refusal) → is_out_of_memory (end_reply r) ≡ false → r ≢ Err Memory
+not_want r h e = cc (sym h ∙ ap (λ r. is_out_of_memory (end_reply r)) e)

@@ -1,7 +1,5 @@
-pub mod Keeps
-pub mod Written
-pub mod Listed
 pub mod Ended
+pub mod Keeps
+pub mod Listed
 pub mod Stepped
-pub mod Scripting
-pub mod Running
+pub mod Written

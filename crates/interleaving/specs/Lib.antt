@@ -1,3 +1,1 @@
-pub mod Keeping
-pub mod Listings
-pub mod Script
+pub mod SystemState

@@ -1,36 +1,56 @@
 //! BEGIN and ROLLBACK.
-ghost use Rattle.std.specs.Prelude.{◌≡◌, ◌≤◌, IfOk, OnErr};
+ghost use Rattle.std.specs.Prelude.{◌≡◌, ◌≤◌, [], true, false, IfOk, is_some};
 ghost use Rattle.values.specs.Memory.{OnlyMemory};
+ghost use Rattle.histories.specs.Memory.{is_out_of_memory};
+ghost use Rattle.histories.specs.Misfit.{max_session};
+ghost use Rattle.histories.specs.Stands.{open_at};
 ghost use Rattle.histories.specs.Turn.{begin_turn, rollback_turn};
+ghost use Rattle.interleaving.specs.SystemState.{world};
 
-use crate::system::{Open, System};
+use crate::system::System;
+use histories::Reply;
 use rows::{Mem, Refusal};
-use staging::Staged;
-use statement::Reply;
+use transaction::OpenTransaction;
 
 impl System {
     /// Opens a transaction on what stands now.
-    pub(crate) fn begin(&mut self, session: u8) -> Mem<Reply>
-        requires { session ≤ 64 }
-        ensures ok { IfOk result (λ reply. (reply, self.new) ≡ begin_turn self.old session) }
-        ensures err { OnErr result (self.new ≡ self.old) }
-        ensures memory { OnlyMemory result }
+    pub(crate) fn begin(&mut self, session: u8) -> Reply
+        requires { session ≤ max_session }
+        ensures answered {
+            is_out_of_memory result ≡ false
+                → (result, world self.new) ≡ begin_turn (world self.old) session
+        }
+        ensures out { is_out_of_memory result ≡ true → self.new ≡ self.old }
+        ensures no_memory {
+            is_some (open_at (world self.old) session) ≡ true → is_out_of_memory result ≡ false
+        }
     {
         let place = session as usize;
         if self.sessions[place].is_some() {
-            return Ok(Reply::Refused(Refusal::InTransaction));
+            return Reply::Refused(Refusal::InTransaction);
         }
-        let view = self.engine.begin()?;
-        let start = view.last();
-        let staged = Staged::new(self.alloc)?;
-        self.sessions[place] = Some(Open { view, staged });
-        Ok(Reply::Begun(start))
+        match self.new_transaction() {
+            Ok(transaction) => {
+                let start = transaction.start();
+                self.sessions[place] = Some(transaction);
+                Reply::Begun(start)
+            }
+            Err(refusal) => Reply::Refused(refusal),
+        }
+    }
+
+    /// A transaction that sees all that was committed.
+    fn new_transaction(&self) -> Mem<OpenTransaction>
+        ensures ok { IfOk result (λ t. t ≡ record { view = self.now.engine; writes = [] }) }
+        ensures memory { OnlyMemory result }
+    {
+        OpenTransaction::begin(self.alloc, self.engine.begin()?)
     }
 
     /// Ends a transaction with no trace.
     pub(crate) fn rollback(&mut self, session: u8) -> Reply
-        requires { session ≤ 64 }
-        ensures { (result, self.new) ≡ rollback_turn self.old session }
+        requires { session ≤ max_session }
+        ensures { (result, world self.new) ≡ rollback_turn (world self.old) session }
     {
         let place = session as usize;
         if self.sessions[place].is_none() {

@@ -1,23 +1,32 @@
 //! Each step in turn.
 ghost use Rattle.std.specs.Prelude.{◌≡◌, ◌≢◌, ◌∷◌, None, true, false, IfOk, IfErr};
-ghost use Rattle.histories.specs.History.{misfit};
+ghost use Rattle.histories.specs.Misfit.{misfit};
 ghost use Rattle.histories.specs.Turn.{turn_in};
-ghost use Rattle.histories.specs.Due.{is_out, is_rollback};
+ghost use Rattle.interleaving.specs.SystemState.{world};
+ghost use Rattle.histories.specs.Memory.{is_out_of_memory, takes_no_memory};
 
 use crate::system::System;
 use rows::{Mem, Refusal};
-use statement::{Reply, Step};
+use histories::{Reply, Step};
 
 impl System {
     ghost use Rattle.histories.specs.History.{History, reply};
-    ghost use Rattle.histories.specs.Stands.{Stands};
+    ghost use Rattle.interleaving.specs.SystemState.{Stands};
 
     /// Takes a step. Where memory runs out nothing has changed, and the step may be taken again.
     pub fn step(&mut self, step: Step) -> Reply
-        ensures answers { (h : History) → Stands self.old h → result ≢ Reply.Refused Refusal.Memory → (result ≡ reply self.old.schema h step) × Stands self.new (step ∷ h) }
-        ensures out_of_memory { (h : History) → Stands self.old h → result ≡ Reply.Refused Refusal.Memory → Stands self.new h }
+        ensures answers {
+            (h : History) → Stands self.old h → result ≢ Reply.Refused Refusal.Memory
+                → (result ≡ reply self.old.schema h step) × Stands self.new (step ∷ h)
+        }
+        ensures out_of_memory {
+            (h : History) → Stands self.old h → result ≡ Reply.Refused Refusal.Memory
+                → Stands self.new h
+        }
         ensures schema { self.new.schema ≡ self.old.schema }
-        ensures rollback { is_rollback step ≡ true → is_out result ≡ false }
+        ensures no_memory {
+            takes_no_memory (world self.old) step ≡ true → is_out_of_memory result ≡ false
+        }
     {
         if let Some(refusal) = step.misfit(&self.schema) {
             return Reply::Refused(refusal);
@@ -28,12 +37,17 @@ impl System {
     /// Takes a step that fits the schema.
     fn step_in(&mut self, step: &Step) -> Reply
         requires { misfit self.old.schema step.now ≡ None }
-        ensures answered { is_out result ≡ false → (result, self.new) ≡ turn_in self.old step.now }
-        ensures out { is_out result ≡ true → self.new ≡ self.old }
-        ensures rollback { is_rollback step.now ≡ true → is_out result ≡ false }
+        ensures answered {
+            is_out_of_memory result ≡ false
+                → (result, world self.new) ≡ turn_in (world self.old) step.now
+        }
+        ensures out { is_out_of_memory result ≡ true → self.new ≡ self.old }
+        ensures no_memory {
+            takes_no_memory (world self.old) step.now ≡ true → is_out_of_memory result ≡ false
+        }
     {
         match step {
-            Step::Begin(session) => reply_of(self.begin(*session)),
+            Step::Begin(session) => self.begin(*session),
             Step::Insert(session, table, rows) => self.insert(*session, *table, rows.items()),
             Step::Update(session, keys, sets) => self.update(*session, keys, sets.items()),
             Step::Delete(session, keys) => self.delete(*session, keys),

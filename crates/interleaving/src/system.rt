@@ -3,28 +3,13 @@ ghost use Rattle.std.specs.Prelude.{◌≡◌, IfOk};
 ghost use Rattle.values.specs.Memory.{OnlyMemory};
 
 use rows::{Mem, Schema};
-use staging::{Staged, View};
 use std::alloc::Global;
 use std::marker::Model;
+use transaction::OpenTransaction;
 use validation::Engine;
 
 /// How many sessions there are: they are numbered from 0.
 pub(crate) const SESSIONS: usize = 65;
-
-/// An open transaction: what it sees of what was committed, and its own writes.
-#[derive(Drop)]
-pub(crate) struct Open {
-    pub(crate) view: View,
-    pub(crate) staged: Staged,
-}
-
-impl Model for Open {
-    ghost use Rattle.interleaving.specs.Keeping.{Begun};
-
-    ghost Value = { Begun };
-
-    ghost view = { λ o. record { view = o.view; writes = o.staged } };
-}
 
 /// The store: what was committed, and the open transactions by their sessions' numbers.
 #[derive(Drop)]
@@ -32,23 +17,24 @@ pub struct System {
     pub(crate) alloc: Global,
     pub(crate) schema: Schema,
     pub(crate) engine: Engine,
-    pub(crate) sessions: Vec<Option<Open>>,
+    pub(crate) sessions: Vec<Option<OpenTransaction>>,
 }
 
 impl Model for System {
-    ghost use Rattle.histories.specs.World.{World};
-    ghost use Rattle.interleaving.specs.Keeping.{world, IsSystem};
+    ghost use Rattle.interleaving.specs.SystemState.{SystemState, IsSystem};
 
-    ghost Value = { World };
+    ghost Value = { SystemState };
 
-    ghost view = { λ s. world s.schema s.engine s.sessions.items };
+    ghost view = {
+        λ s. record { schema = s.schema; engine = s.engine; sessions = s.sessions.items }
+    };
 
     ghost invariant = { λ s. IsSystem s.schema s.engine s.sessions.items };
 }
 
 impl System {
     ghost use Rattle.std.specs.Prelude.{[]};
-    ghost use Rattle.histories.specs.Stands.{Stands};
+    ghost use Rattle.interleaving.specs.SystemState.{Stands};
 
     /// A store in which nothing was committed.
     pub fn new(alloc: Global, schema: Schema) -> Mem<System>

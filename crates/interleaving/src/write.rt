@@ -1,20 +1,28 @@
 //! INSERT, UPDATE and DELETE: a session's open transaction keeps them, and nobody else sees them.
-ghost use Rattle.std.specs.Prelude.{◌≡◌, ◌≤◌, None, true, false};
+ghost use Rattle.std.specs.Prelude.{◌≡◌, None, true, false, is_some};
 ghost use Rattle.histories.specs.declared.step.Step.TheVariants.{Insert, Update, Delete};
-ghost use Rattle.histories.specs.History.{misfit};
-ghost use Rattle.histories.specs.Due.{is_out};
+ghost use Rattle.histories.specs.Misfit.{misfit};
+ghost use Rattle.histories.specs.Memory.{is_out_of_memory};
+ghost use Rattle.histories.specs.Stands.{open_at};
 ghost use Rattle.histories.specs.Turn.{turn_in};
+ghost use Rattle.interleaving.specs.SystemState.{world};
 
 use crate::system::System;
 use rows::{Keys, Refusal, Row, Set};
-use statement::Reply;
+use histories::Reply;
 
 impl System {
     /// Inserts rows of a table.
     pub(crate) fn insert(&mut self, session: u8, number: u8, rows: &[Row]) -> Reply
         requires { misfit self.old.schema (Insert session number rows.now) ≡ None }
-        ensures answered { is_out result ≡ false → (result, self.new) ≡ turn_in self.old (Insert session number rows.now) }
-        ensures out { is_out result ≡ true → self.new ≡ self.old }
+        ensures answered {
+            is_out_of_memory result ≡ false
+                → (result, world self.new) ≡ turn_in (world self.old) (Insert session number rows.now)
+        }
+        ensures out { is_out_of_memory result ≡ true → self.new ≡ self.old }
+        ensures no_memory {
+            is_some (open_at (world self.old) session) ≡ false → is_out_of_memory result ≡ false
+        }
     {
         let Some(transaction) = &mut self.sessions[session as usize] else {
             return Reply::Refused(Refusal::NoTransaction);
@@ -22,7 +30,7 @@ impl System {
         let Some(table) = self.schema.table_at(number) else {
             return Reply::Refused(Refusal::NoTable);
         };
-        match transaction.staged.insert(&transaction.view, table, rows) {
+        match transaction.insert(table, rows) {
             Ok(count) => Reply::Inserted(count),
             Err(refusal) => Reply::Refused(refusal),
         }
@@ -31,8 +39,14 @@ impl System {
     /// Sets columns of the rows whose keys meet all comparisons.
     pub(crate) fn update(&mut self, session: u8, keys: &Keys, sets: &[Set]) -> Reply
         requires { misfit self.old.schema (Update session keys.now sets.now) ≡ None }
-        ensures answered { is_out result ≡ false → (result, self.new) ≡ turn_in self.old (Update session keys.now sets.now) }
-        ensures out { is_out result ≡ true → self.new ≡ self.old }
+        ensures answered {
+            is_out_of_memory result ≡ false
+                → (result, world self.new) ≡ turn_in (world self.old) (Update session keys.now sets.now)
+        }
+        ensures out { is_out_of_memory result ≡ true → self.new ≡ self.old }
+        ensures no_memory {
+            is_some (open_at (world self.old) session) ≡ false → is_out_of_memory result ≡ false
+        }
     {
         let Some(transaction) = &mut self.sessions[session as usize] else {
             return Reply::Refused(Refusal::NoTransaction);
@@ -40,10 +54,7 @@ impl System {
         let Some(table) = self.schema.table_at(keys.table) else {
             return Reply::Refused(Refusal::NoTable);
         };
-        match transaction
-            .staged
-            .update(&transaction.view, table, keys, sets)
-        {
+        match transaction.update(table, keys, sets) {
             Ok(count) => Reply::Updated(count),
             Err(refusal) => Reply::Refused(refusal),
         }
@@ -52,8 +63,14 @@ impl System {
     /// Deletes the rows whose keys meet all comparisons.
     pub(crate) fn delete(&mut self, session: u8, keys: &Keys) -> Reply
         requires { misfit self.old.schema (Delete session keys.now) ≡ None }
-        ensures answered { is_out result ≡ false → (result, self.new) ≡ turn_in self.old (Delete session keys.now) }
-        ensures out { is_out result ≡ true → self.new ≡ self.old }
+        ensures answered {
+            is_out_of_memory result ≡ false
+                → (result, world self.new) ≡ turn_in (world self.old) (Delete session keys.now)
+        }
+        ensures out { is_out_of_memory result ≡ true → self.new ≡ self.old }
+        ensures no_memory {
+            is_some (open_at (world self.old) session) ≡ false → is_out_of_memory result ≡ false
+        }
     {
         let Some(transaction) = &mut self.sessions[session as usize] else {
             return Reply::Refused(Refusal::NoTransaction);
@@ -61,7 +78,7 @@ impl System {
         let Some(table) = self.schema.table_at(keys.table) else {
             return Reply::Refused(Refusal::NoTable);
         };
-        match transaction.staged.delete(&transaction.view, table, keys) {
+        match transaction.delete(table, keys) {
             Ok(count) => Reply::Deleted(count),
             Err(refusal) => Reply::Refused(refusal),
         }

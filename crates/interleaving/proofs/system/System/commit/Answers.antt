@@ -1,7 +1,7 @@
 use Rattle.std.proofs.Common.{◌≡◌, sym, ap, ◌∙◌, None, set}
 use Rattle.histories.specs.declared.step.Reply.{Reply}
-use Rattle.histories.specs.Due.{is_out}
-use Rattle.interleaving.specs.Keeping.{world}
+use Rattle.histories.specs.Memory.{is_out_of_memory}
+use Rattle.interleaving.specs.SystemState.{world, world_of}
 use Rattle.interleaving.proofs.Keeps.{with_session}
 use Rattle.interleaving.proofs.Written.{found}
 use Rattle.interleaving.proofs.Ended.{committed, ended_is, end_reply, not_want}
@@ -10,17 +10,17 @@ use Rattle.interleaving.proofs.system.System.commit.Goals.{in-Ok-commit, in-Err-
 
 pub returns-clause-answered : goal.returns-clause-answered
 returns-clause-answered c = λ answered.
-    let begun = found c.self.inside.schema c.self.inside.engine c.self.inside.sessions.items c.args.session c.index.result.now c.in-Some.transaction _ c.self.invariant c.requires c.index.ensures c.in-Some.is c.transaction.view_is in
+    let opened = found c.self.inside.schema c.self.inside.engine c.self.inside.sessions.items c.args.session c.index.result.now c.in-Some.transaction c.self.invariant c.requires c.index.ensures c.in-Some.is in
     let says = elim c.match-commit.branch as (λ b. c.match-commit.reply ≡ end_reply c.commit.result) [ in-Ok-commit w ↦ w.reply-is ∙ sym (ap end_reply w.in-Ok-commit.is) | in-Err-commit w ↦ w.reply-is ∙ sym (ap end_reply w.in-Err-commit.is) ] in
-    ap (λ (r : Reply). (r, world c.self.inside.schema c.commit.new.self (set c.self.inside.sessions.items c.args.session None))) says
-    ∙ committed c.self.inside.schema c.self.inside.engine c.commit.new.self c.self.inside.sessions.items c.args.self.now c.args.session c.last.result c.args.reading _ c.in-Ok.net c.commit.result
-    c.self.view_is c.self.invariant begun c.last.ensures.last c.in-Ok.ensures.ok (c.in-Ok.ensures.keys c.self.inside.schema begun.begun.keys) c.commit.ensures.outcome
-    (record { committed = c.commit.ensures.committed; late = c.commit.ensures.later; nothing = c.commit.ensures.nothing; refused = c.commit.ensures.refused })
-    (not_want c.commit.result (ap is_out (sym says) ∙ answered))
+    ap (λ (r : Reply). (r, world_of c.self.inside.schema c.commit.new.self (set c.self.inside.sessions.items c.args.session None))) says
+    ∙ committed c.self.inside.schema c.self.inside.engine c.commit.new.self c.self.inside.sessions.items (world c.args.self.now) c.args.session c.start.result c.args.reading c.in-Some.transaction c.in-Ok.net c.commit.result
+    (ap world c.self.view_is) c.self.invariant opened c.start.ensures c.in-Ok.ensures.ok (c.in-Ok.ensures.keys c.self.inside.schema opened.begun.keys) c.commit.ensures.outcome
+    (record { committed = c.commit.ensures.committed; holds = c.commit.ensures.holds; late = c.commit.ensures.later; nothing = c.commit.ensures.nothing; refused = c.commit.ensures.refused })
+    (not_want c.commit.result (ap is_out_of_memory (sym says) ∙ answered))
 
 pub invariant_of-self-2 : goal.invariant_of-self-2
 invariant_of-self-2 c =
-    let begun = found c.self.inside.schema c.self.inside.engine c.self.inside.sessions.items c.args.session c.index.result.now c.in-Some.transaction _ c.self.invariant c.requires c.index.ensures c.in-Some.is c.transaction.view_is in
+    let opened = found c.self.inside.schema c.self.inside.engine c.self.inside.sessions.items c.args.session c.index.result.now c.in-Some.transaction c.self.invariant c.requires c.index.ensures c.in-Some.is in
     with_session c.self.inside.schema c.commit.new.self c.self.inside.sessions.items c.args.session None tt
-    (ended_is c.self.inside.schema c.self.inside.engine c.commit.new.self c.self.inside.sessions.items c.in-Ok.net (c.in-Ok.ensures.keys c.self.inside.schema begun.begun.keys) c.self.invariant c.commit.result
-    (record { committed = c.commit.ensures.committed; late = c.commit.ensures.later; nothing = c.commit.ensures.nothing; refused = c.commit.ensures.refused }))
+    (ended_is c.self.inside.schema c.self.inside.engine c.commit.new.self c.self.inside.sessions.items c.in-Ok.net (c.in-Ok.ensures.keys c.self.inside.schema opened.begun.keys) c.self.invariant c.commit.result
+    (record { committed = c.commit.ensures.committed; holds = c.commit.ensures.holds; late = c.commit.ensures.later; nothing = c.commit.ensures.nothing; refused = c.commit.ensures.refused }))

@@ -1,14 +1,20 @@
 use Rattle.std.proofs.Common.{ap, ◌∙◌, sym}
-use Rattle.histories.specs.declared.step.Reply.TheVariants.{Deleted}
+use Rattle.histories.specs.declared.step.Step.TheVariants.{Delete}
+use Rattle.histories.specs.History.{written_reply}
 use Rattle.histories.proofs.Idle.{fits_table}
-use Rattle.interleaving.proofs.Written.{delete_turn, found, reply_to}
+use Rattle.interleaving.specs.SystemState.{world}
+use Rattle.interleaving.proofs.Written.{delete_turn, found, none_turn}
 use Rattle.interleaving.proofs.system.System.delete.Goals as goal
 use Rattle.interleaving.proofs.system.System.delete.Goals.{in-Ok, in-Err}
 
+pub returns-in_default-clause-answered : goal.returns-in_default-clause-answered
+returns-in_default-clause-answered c = λ _.
+    none_turn c.self.inside.schema c.self.inside.engine c.self.inside.sessions.items (world c.args.self.now) c.args.session (Delete c.args.session c.args.keys.now) c.index_mut.result.now (ap world c.self.view_is) c.self.invariant (fits_table _ c.args.session c.args.keys.now.table _ c.requires).0 c.index_mut.ensures.value c.in_default.is
+
 pub returns-clause-answered : goal.returns-clause-answered
 returns-clause-answered c =
-    delete_turn c.self.inside.schema c.self.inside.engine c.self.inside.sessions.items c.args.self.now c.args.session _ c.delete.new.self c.in-Some-table_at.table.now c.args.keys.now c.delete.result c.match-delete.result
-    c.self.view_is
-    (found c.self.inside.schema c.self.inside.engine c.self.inside.sessions.items c.args.session c.index_mut.result.now c.in-Some.transaction _ c.self.invariant (fits_table _ c.args.session c.args.keys.now.table _ c.requires).0 c.index_mut.ensures.value c.in-Some.is c.transaction.view_is)
-    c.in-Some-table_at.ensures.is c.in-Some-table_at.ensures.good c.requires (c.delete.ensures.answers c.self.inside.schema _)
-    (elim c.match-delete.branch [ in-Ok w ↦ w.result-is ∙ sym (ap (reply_to Deleted) w.in-Ok.is) | in-Err w ↦ w.result-is ∙ sym (ap (reply_to Deleted) w.in-Err.is) ])
+    let step = Delete c.args.session c.args.keys.now in
+    let opened = found c.self.inside.schema c.self.inside.engine c.self.inside.sessions.items c.args.session c.index_mut.result.now c.in-Some.transaction c.self.invariant (fits_table _ c.args.session c.args.keys.now.table _ c.requires).0 c.index_mut.ensures.value c.in-Some.is in
+    delete_turn c.self.inside.schema c.self.inside.engine c.self.inside.sessions.items (world c.args.self.now) c.args.session c.in-Some.transaction c.delete.new.self c.in-Some-table_at.table.now (ap world c.self.view_is) opened c.delete.ensures.view
+    c.args.keys.now c.delete.result c.match-delete.result c.in-Some-table_at.ensures.is c.in-Some-table_at.ensures.good c.requires c.delete.ensures.answers
+    (elim c.match-delete.branch [ in-Ok w ↦ w.result-is ∙ sym (ap (written_reply step) w.in-Ok.is) | in-Err w ↦ w.result-is ∙ sym (ap (written_reply step) w.in-Err.is) ])

@@ -1,19 +1,24 @@
 use Rattle.std.proofs.Common.{ap, ◌∙◌}
 use Rattle.values.specs.Tables.{Schema}
 use Rattle.histories.specs.declared.step.Reply.TheVariants.{Refused}
-use Rattle.histories.specs.History.{misfit}
-use Rattle.histories.specs.World.{World}
+use Rattle.histories.specs.Misfit.{misfit}
 use Rattle.histories.proofs.Turned.{stepped, refused_turn}
+use Rattle.interleaving.specs.SystemState.{SystemState, world}
 use Rattle.interleaving.proofs.Stepped.{answers, same_schema}
 use Rattle.interleaving.proofs.system.System.step.Goals as goal
 
 pub returns-in-Some-clause-answers : goal.returns-in-Some-clause-answers
 returns-in-Some-clause-answers c = λ h stands other.
-    let same = ap (λ (w : World). w.schema) c.self.view_is in
-    (stepped c.args.self.now c.args.self.now c.args.step (Refused c.in-Some.refusal) (refused_turn c.args.self.now c.args.step c.in-Some.refusal (c.in-Some.ensures ∙ ap (λ (s : Schema). misfit s c.args.step) same))).answers h stands
+    let w = world c.args.self.now in
+    let same = ap (λ (s : SystemState). s.schema) c.self.view_is in
+    (stepped w w c.args.step (Refused c.in-Some.refusal) (refused_turn w c.args.step c.in-Some.refusal (c.in-Some.ensures ∙ ap (λ (s : Schema). misfit s c.args.step) same))).answers h stands
 
 pub returns-clause-answers : goal.returns-clause-answers
-returns-clause-answers c = answers c.args.self.now c.step_in.new.self c.args.step c.step_in.result (c.in_default.ensures ∙ ap (λ (s : Schema). misfit s c.args.step) (ap (λ (w : World). w.schema) c.self.view_is)) c.step_in.ensures.answered c.step_in.ensures.out
+returns-clause-answers c =
+    answers (world c.args.self.now) (world c.step_in.new.self) c.args.step c.step_in.result
+    (c.in_default.ensures ∙ ap (λ (s : Schema). misfit s c.args.step) (ap (λ (s : SystemState). s.schema) c.self.view_is)) c.step_in.ensures.answered (λ out. ap world (c.step_in.ensures.out out))
 
 pub returns-clause-schema : goal.returns-clause-schema
-returns-clause-schema c = same_schema c.args.self.now c.step_in.new.self c.args.step c.step_in.result (c.in_default.ensures ∙ ap (λ (s : Schema). misfit s c.args.step) (ap (λ (w : World). w.schema) c.self.view_is)) c.step_in.ensures.answered c.step_in.ensures.out
+returns-clause-schema c =
+    same_schema (world c.args.self.now) (world c.step_in.new.self) c.args.step c.step_in.result
+    (c.in_default.ensures ∙ ap (λ (s : Schema). misfit s c.args.step) (ap (λ (s : SystemState). s.schema) c.self.view_is)) c.step_in.ensures.answered (λ out. ap world (c.step_in.ensures.out out))
