@@ -1,0 +1,4 @@
+pub mod Alike
+pub mod Ascii
+pub mod Runs
+pub mod Words

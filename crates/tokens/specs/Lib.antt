@@ -1,0 +1,4 @@
+pub mod Name
+pub mod Run
+pub mod Token
+pub mod Word

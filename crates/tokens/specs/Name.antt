@@ -1,0 +1,36 @@
+-- Names, and the words that are none.
+use Rattle.std.specs.Prelude.{ℕ, List, [], ◌∷◌, ◌&&◌, Bool, false, Ok, Err, not, nat_le, length, codes, if◌then◌else◌}
+use Rattle.std.specs.Char.{is_ascii_digit}
+use Rattle.std.specs.List.{list_any}
+use Rattle.values.specs.Names.{same_name}
+use Rattle.tokens.specs.Token.{Read, front_while, skip_while}
+use Rattle.tokens.specs.Word.{is_name_byte}
+
+-- the words of the grammars of schemas and of lines, which no name is
+unfoldable pub reserved : List (List ℕ)
+reserved =
+    codes "CREATE" ∷ codes "TABLE" ∷ codes "WITH" ∷ codes "SYSTEM" ∷ codes "VERSIONING" ∷ codes "NOT" ∷
+    codes "NULL" ∷ codes "PRIMARY" ∷ codes "KEY" ∷ codes "TIMESTAMP" ∷ codes "GENERATED" ∷ codes "ALWAYS" ∷
+    codes "AS" ∷ codes "ROW" ∷ codes "START" ∷ codes "END" ∷ codes "PERIOD" ∷ codes "FOR" ∷
+    codes "SYSTEM_TIME" ∷ codes "INT" ∷ codes "INTEGER" ∷ codes "BIGINT" ∷ codes "TEXT" ∷ codes "VARCHAR" ∷
+    codes "BOOLEAN" ∷ codes "CLOCK" ∷ codes "SPLIT" ∷ codes "TIME" ∷ codes "AT" ∷ codes "MIGRATE" ∷
+    codes "BEGIN" ∷ codes "TRANSACTION" ∷ codes "COMMIT" ∷ codes "WORK" ∷ codes "ROLLBACK" ∷ codes "INSERT" ∷
+    codes "INTO" ∷ codes "VALUES" ∷ codes "UPDATE" ∷ codes "SET" ∷ codes "DELETE" ∷ codes "FROM" ∷
+    codes "SELECT" ∷ codes "OF" ∷ codes "TO" ∷ codes "BETWEEN" ∷ codes "AND" ∷ codes "WHERE" ∷ codes "TRUE" ∷
+    codes "FALSE" ∷ codes "ALTER" ∷ codes "ADD" ∷ codes "COLUMN" ∷ codes "WITHOUT" ∷ codes "OVERLAPS" ∷
+    codes "PORTION" ∷ []
+
+unfoldable pub is_reserved : List ℕ → Bool
+is_reserved name = list_any (λ word. same_name word name) reserved
+
+-- letters, digits and underscores, as many as come, are a name: the first is no digit, there are at most 64, and they are no word of the grammars
+unfoldable pub is_name : List ℕ → Bool
+is_name [] = false
+is_name (b ∷ bs) = not (is_ascii_digit b) && nat_le (length (b ∷ bs)) 64 && not (is_reserved (b ∷ bs))
+
+module _ (next : List ℕ → List ℕ) where
+  unfoldable pub name_at : List ℕ → Read (List ℕ)
+  name_at bytes =
+      let at = next bytes in
+      let name = front_while is_name_byte at in
+      if is_name name then Ok (name, skip_while is_name_byte at) else Err at

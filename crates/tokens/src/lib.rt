@@ -1,0 +1,14 @@
+//! Tokens of schemas and of lines: symbols, words in any case, names and digits.
+#![tactic(auto)]
+
+mod digit;
+mod name;
+mod token;
+#[cfg(test)]
+mod token_tests;
+mod word;
+
+pub use digit::split_digits;
+pub use name::{is_reserved, name_at};
+pub use token::{After, Made, Read, Separators, Stop, symbol_at};
+pub use word::{after_word, is_word_at, word_at};

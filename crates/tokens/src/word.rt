@@ -1,0 +1,62 @@
+ghost use Rattle.std.specs.Prelude.{◌≡◌, ◌≤◌, length, IsUtf8};
+ghost use Rattle.tokens.specs.Token.{Leaves, front_while, skip_while};
+ghost use Rattle.tokens.specs.Word.{is_name_byte, word_length, is_word_at, after_word, word_at};
+
+use crate::token::{After, Separators};
+use values::same_name;
+
+fn is_name_byte(byte: u8) -> bool
+    ensures { result ≡ is_name_byte byte }
+{
+    byte.is_ascii_alphanumeric() || byte == b'_'
+}
+
+/// The number of bytes that the word or name at the front has.
+fn word_length(bytes: &[u8]) -> usize
+    ensures length { result ≡ word_length bytes.now }
+    ensures within { result ≤ length bytes.now }
+{
+    for (i, byte) in bytes.iter().enumerate() {
+        if !is_name_byte(*byte) {
+            return i;
+        }
+    }
+    bytes.len()
+}
+
+/// The word or name at the front, and the bytes after it.
+pub(crate) fn split_word(bytes: &[u8]) -> (&[u8], &[u8])
+    ensures word { result.0.now ≡ front_while is_name_byte bytes.now }
+    ensures rest { result.1.now ≡ skip_while is_name_byte bytes.now }
+    ensures text { IsUtf8 result.0.now }
+{
+    bytes.split_at(word_length(bytes))
+}
+
+/// Whether a word comes next, in any case.
+#[tactic(auto, unfolding(crate::specs::Word::is_word_at))]
+pub fn is_word_at<S: Separators>(word: &[u8], bytes: &[u8]) -> bool
+    ensures { result ≡ is_word_at S.next word.now bytes.now }
+{
+    same_name(word, split_word(S::next(bytes)).0)
+}
+
+/// The bytes after the word that comes next.
+#[tactic(auto, unfolding(crate::specs::Word::after_word))]
+pub fn after_word<S: Separators>(bytes: &[u8]) -> &[u8]
+    ensures { result.now ≡ after_word S.next bytes.now }
+{
+    split_word(S::next(bytes)).1
+}
+
+/// The bytes after a word, which is read in any case.
+#[tactic(auto, unfolding(crate::specs::Word::word_at))]
+pub fn word_at<'a, S: Separators>(word: &[u8], bytes: &'a [u8]) -> After<'a>
+    ensures { Leaves result (word_at S.next word.now bytes.now) }
+{
+    if is_word_at::<S>(word, bytes) {
+        Ok(after_word::<S>(bytes))
+    } else {
+        Err(S::next(bytes))
+    }
+}
