@@ -1,19 +1,12 @@
 -- Lists that are read item by item, one turn at a time.
-use Rattle.std.proofs.Common.{◌≡◌, ℕ, ◌+◌, ◌-◌, ◌<◌, List, [], ◌∷◌, ◌++◌, Option, Some, None, Result, Ok, Err, Bool, true, false, refl, sym, ap, ◌∙◌, arith, append_assoc, append-nil, suc}
+use Rattle.std.proofs.Common.{◌≡◌, ℕ, ◌+◌, ◌-◌, ◌<◌, List, [], ◌∷◌, ◌++◌, Result, Ok, Err, Bool, true, false, refl, sym, ap, ◌∙◌, append_assoc, append-nil}
 use Rattle.std.specs.Prelude.{if◌then◌else◌}
 use Rattle.values.proofs.Taken.{left}
-use Rattle.rows.specs.declared.schema_token.Stop.{Stop}
-use Rattle.rows.specs.declared.schema_token.Stop.TheVariants.{At, Memory}
 use Rattle.rows.specs.declared.declaration.Mark.{Mark}
 use Rattle.rows.specs.declared.declaration.Declaration.{Declaration}
-use Rattle.rows.specs.SchemaToken.{Read, ◌>>=◌, Gives, after_symbol}
+use Rattle.tokens.specs.Token.{After, Read, ◌>>=◌}
+use Rattle.rows.specs.SchemaToken.{symbol_at}
 use Rattle.rows.specs.Declaration.{joined, listed, marks_upto, is_mark_at, mark_at, creates_upto, create_at, more_at}
-
--- a stop of one reading is the stop of another
-pub stopped : {X Y X' Y' : Type 0} (view : X → Y) (view' : X' → Y') (s : Stop) (read : Read Y) (read' : Read Y')
-    → ((e : List ℕ) → read ≡ Err e → read' ≡ Err e) → Gives view (Err s) read → Gives view' (Err s) read'
-stopped view view' (At e) read read' f h = f e.now h
-stopped view view' Memory read read' f h = tt
 
 pub joined-none : {A : Type 0} (r : Read (List A)) → joined [] r ≡ r
 joined-none (Ok x) = refl
@@ -23,11 +16,11 @@ pub joined-joined : {A : Type 0} (xs ys : List A) (r : Read (List A)) → joined
 joined-joined xs ys (Ok x) = ap (λ l. Ok (l, x.1)) (sym (append_assoc xs ys x.0))
 joined-joined xs ys (Err e) = refl
 
-abbrev ended : {A : Type 0} → (List ℕ → Read A) → ℕ → (A × List ℕ) → Option (List ℕ) → Read (List A)
-ended item n x o = elim o [ None ↦ Ok (x.0 ∷ [], x.1) | Some more ↦ joined (x.0 ∷ []) (listed item n more) ]
+abbrev ended : {A : Type 0} → (List ℕ → Read A) → ℕ → (A × List ℕ) → After → Read (List A)
+ended item n x o = elim o [ Err _ ↦ Ok (x.0 ∷ [], x.1) | Ok more ↦ joined (x.0 ∷ []) (listed item n more) ]
 
 abbrev turned : {A : Type 0} → (List ℕ → Read A) → ℕ → Result (A × List ℕ) (List ℕ) → Read (List A)
-turned item n r = r >>= (λ x. ended item n x (after_symbol 44 x.1))
+turned item n r = r >>= (λ x. ended item n x (symbol_at 44 x.1))
 
 -- a turn of n, by what the item gives
 turns : {A : Type 0} (item : List ℕ → Read A) (n i : ℕ) (xs : List A) (bytes : List ℕ) (r : Result (A × List ℕ) (List ℕ))
@@ -39,13 +32,13 @@ pub listed_err : {A : Type 0} (item : List ℕ → Read A) (n i : ℕ) (xs : Lis
     → i < n → item bytes ≡ Err e → joined xs (listed item (n - i) bytes) ≡ Err e
 listed_err item n i xs bytes e h is = turns item n i xs bytes (Err e) h is
 
-pub listed_last : {A : Type 0} (item : List ℕ → Read A) (n i : ℕ) (xs : List A) (x : A) (bytes after : List ℕ)
-    → i < n → item bytes ≡ Ok (x, after) → after_symbol 44 after ≡ None → joined xs (listed item (n - i) bytes) ≡ Ok (xs ++ x ∷ [], after)
-listed_last item n i xs x bytes after h is comma =
+pub listed_last : {A : Type 0} (item : List ℕ → Read A) (n i : ℕ) (xs : List A) (x : A) (bytes after at : List ℕ)
+    → i < n → item bytes ≡ Ok (x, after) → symbol_at 44 after ≡ Err at → joined xs (listed item (n - i) bytes) ≡ Ok (xs ++ x ∷ [], after)
+listed_last item n i xs x bytes after at h is comma =
     turns item n i xs bytes (Ok (x, after)) h is ∙ ap (λ o. joined xs (ended item (n - (i + 1)) (x, after) o)) comma
 
 pub listed_more : {A : Type 0} (item : List ℕ → Read A) (n i : ℕ) (xs : List A) (x : A) (bytes after more : List ℕ)
-    → i < n → item bytes ≡ Ok (x, after) → after_symbol 44 after ≡ Some more
+    → i < n → item bytes ≡ Ok (x, after) → symbol_at 44 after ≡ Ok more
     → joined xs (listed item (n - i) bytes) ≡ joined (xs ++ x ∷ []) (listed item (n - (i + 1)) more)
 listed_more item n i xs x bytes after more h is comma =
     turns item n i xs bytes (Ok (x, after)) h is ∙ ap (λ o. joined xs (ended item (n - (i + 1)) (x, after) o)) comma

@@ -8,7 +8,7 @@ use Rattle.values.specs.declared.table.Table.{Table}
 use Rattle.rows.specs.declared.declaration.Declaration.{Declaration}
 use Rattle.rows.specs.declared.schema_reading.SchemaFault.{SchemaFault}
 use Rattle.rows.specs.declared.schema_reading.SchemaFault.TheVariants.{Syntax, BadTable}
-use Rattle.rows.specs.SchemaToken.{Read}
+use Rattle.tokens.specs.Token.{Read}
 use Rattle.rows.specs.Declaration.{creates_at}
 use Rattle.rows.specs.SchemaTable.{next_table, tables_from, read_schema}
 use Rattle.rows.specs.SchemaGrammar.{SchemaText}

@@ -1,6 +1,6 @@
 -- What is read is of the grammar: statements.
 use Rattle.std.proofs.Common.{◌≡◌, ℕ, List, [], ◌∷◌, ◌||◌, ◌⊎◌, inl, inr, Bool, true, false, Option, Some, None, Ok, Err, length, refl, sym, subst, ap, ◌∙◌, if◌then◌else◌, suc, zero, nat_lt, ◌-◌}
-use Rattle.std.specs.Prelude.{not, codes}
+use Rattle.std.specs.Prelude.{Result, not, codes}
 use Rattle.values.specs.declared.table.ColumnType.{ColumnType}
 use Rattle.values.specs.declared.table.ColumnType.TheVariants.{Int, Text, Varchar, Boolean}
 use Rattle.rows.specs.declared.declaration.Mark.{Mark}
@@ -9,14 +9,15 @@ use Rattle.rows.specs.declared.declaration.Side.{Side}
 use Rattle.rows.specs.declared.declaration.Side.TheVariants.{Start, End}
 use Rattle.rows.specs.declared.declaration.Entry.{Entry}
 use Rattle.rows.specs.declared.declaration.Declaration.{Declaration}
-use Rattle.rows.specs.SchemaToken as tokens
-use Rattle.rows.specs.SchemaToken.{Read, next, after_symbol, symbol_at, is_word_at, after_word, word_at, name_at, digits_at}
+use Rattle.tokens.specs.Token as tokens
+use Rattle.tokens.specs.Token.{After, Read}
+use Rattle.rows.specs.SchemaToken.{next, symbol_at, is_word_at, after_word, word_at, name_at, digits_at}
 use Rattle.rows.specs.Declaration.{joined, listed, names_at, size_at, is_whole_number_at, varchar_at, type_at, not_null_at, primary_key_at, mark_at, is_mark_at, marks_upto, marks_at, user_at, precision_at, maybe_not_null_at, side_at, row_side_at, generated_at, two_names_at, period_at, key_at, column_at, entry_at, entries_at, body_at, versioning_at, create_at, is_nothing, is_end_at, more_at, creates_upto, creates_at}
 use Rattle.rows.specs.SchemaGrammar.{Says, Symbol, Word, Name, Listed, Many, Size, TypeName, NotNullWords, PrimaryKeyWords, MarkWords, UserEntry, Precision, MaybeNotNull, RowSide, GeneratedAsRow, GeneratedEntry, TwoNames, PeriodEntry, KeyEntry, ColumnEntry, EntryText, Body, Versioning, CreateText, IsEnd, SchemaText}
 use Rattle.rows.specs.declared.schema_reading.SchemaFault.TheVariants.{Syntax}
 use Rattle.rows.specs.SchemaTable.{tables_from, read_schema}
 use Rattle.rows.specs.SchemaLaws.{HasSyntaxFault, OfTheGrammar}
-use Rattle.rows.proofs.SchemaSpelled.{next_is, same_read, symbol_next, symbol_says, word_next, word_says, name_says, digits_says}
+use Rattle.rows.proofs.SchemaSpelled.{next_is, same_read, symbol_says, word_next, word_says, name_says, digits_says}
 
 -- both parts of two readings, one after the other
 record Step {A B : Type 0} (r : Read A) (k : (A × List ℕ) → Read B) (y : B) (rest : List ℕ) : Type 0 where
@@ -29,12 +30,26 @@ step : {A B : Type 0} (r : Read A) (k : (A × List ℕ) → Read B) (y : B) (res
 step (Ok (x, m)) k y rest e = record { value = x; after = m; first = refl; second = e }
 step (Err at) k y rest e = cc
 
+-- the same where the first says nothing
+record Over {B : Type 0} (r : After) (k : List ℕ → Result B (List ℕ)) (y : B) : Type 0 where
+  value : Unit {0}
+  after : List ℕ
+  first : r ≡ Ok after
+  second : k after ≡ Ok y
+
+over_to : {B : Type 0} (r : After) (k : List ℕ → Result B (List ℕ)) (y : B) → tokens.◌>>=◌ r k ≡ Ok y → Over r k y
+over_to (Ok m) k y e = record { value = tt; after = m; first = refl; second = e }
+over_to (Err at) k y e = cc
+
+over : {A : Type 0} (r : After) (k : List ℕ → Read A) (x : A) (rest : List ℕ) → tokens.◌>>=◌ r k ≡ Ok (x, rest) → Over r k (x, rest)
+over r k x rest e = over_to r k (x, rest) e
+
 size_says : (n : ℕ) (bytes rest : List ℕ) → size_at bytes ≡ Ok (n, rest) → Size n bytes rest
 unfolding size_at
 size_says n bytes rest e =
-    let a = step (symbol_at 40 bytes) _ n rest e in
+    let a = over (symbol_at 40 bytes) _ n rest e in
     let b = step (digits_at a.after) _ n rest a.second in
-    let c = step (symbol_at 41 b.after) _ n rest b.second in
+    let c = over (symbol_at 41 b.after) _ n rest b.second in
     let d = same_read b.value n c.after rest c.second in
     (a.value, (a.after, (symbol_says 40 a.value bytes a.after a.first, (b.value, (b.after, (digits_says b.value a.after b.after b.first, (c.value, (c.after, (symbol_says 41 c.value b.after c.after c.first, d)))))))))
 
@@ -55,7 +70,7 @@ or_cases false b e = inr e
 varchar_says : (of : ColumnType) (bytes rest : List ℕ) → varchar_at bytes ≡ Ok (of, rest) → TypeName of bytes rest
 unfolding varchar_at
 varchar_says of bytes rest e =
-    let a = step (word_at (codes "VARCHAR") bytes) _ of rest e in
+    let a = over (word_at (codes "VARCHAR") bytes) _ of rest e in
     let b = step (size_at a.after) _ of rest a.second in
     inr (a.value, (a.after, (word_says (codes "VARCHAR") a.value bytes a.after a.first, (b.value, (b.after, (size_says b.value a.after b.after b.first, same_read (Varchar b.value) of b.after rest b.second))))))
 
@@ -82,23 +97,23 @@ type_says of bytes rest e = elim (either (is_whole_number_at bytes) _ _ _ e) [
   ]
 ]
 
-not_null_says : (x : Unit {0}) (bytes rest : List ℕ) → not_null_at bytes ≡ Ok (x, rest) → NotNullWords x bytes rest
+not_null_says : (x : Unit {0}) (bytes rest : List ℕ) → not_null_at bytes ≡ Ok rest → NotNullWords x bytes rest
 unfolding not_null_at
 not_null_says x bytes rest e =
-    let a = step (word_at (codes "NOT") bytes) _ x rest e in
+    let a = over_to (word_at (codes "NOT") bytes) _ rest e in
     (a.value, (a.after, (word_says (codes "NOT") a.value bytes a.after a.first, word_says (codes "NULL") x a.after rest a.second)))
 
-primary_key_says : (x : Unit {0}) (bytes rest : List ℕ) → primary_key_at bytes ≡ Ok (x, rest) → PrimaryKeyWords x bytes rest
+primary_key_says : (x : Unit {0}) (bytes rest : List ℕ) → primary_key_at bytes ≡ Ok rest → PrimaryKeyWords x bytes rest
 unfolding primary_key_at
 primary_key_says x bytes rest e =
-    let a = step (word_at (codes "PRIMARY") bytes) _ x rest e in
+    let a = over_to (word_at (codes "PRIMARY") bytes) _ rest e in
     (a.value, (a.after, (word_says (codes "PRIMARY") a.value bytes a.after a.first, word_says (codes "KEY") x a.after rest a.second)))
 
 mark_says : (m : Mark) (bytes rest : List ℕ) → mark_at bytes ≡ Ok (m, rest) → MarkWords m bytes rest
 unfolding mark_at
 mark_says m bytes rest e = elim (either (is_word_at (codes "NOT") bytes) _ _ _ e) [
-  | inl w ↦ let a = step (not_null_at bytes) _ m rest w.1 in inl (a.value, (a.after, (not_null_says a.value bytes a.after a.first, same_read NotNull m a.after rest a.second)))
-  | inr w ↦ let a = step (primary_key_at bytes) _ m rest w.1 in inr (a.value, (a.after, (primary_key_says a.value bytes a.after a.first, same_read PrimaryKey m a.after rest a.second)))
+  | inl w ↦ let a = over (not_null_at bytes) _ m rest w.1 in inl (a.value, (a.after, (not_null_says a.value bytes a.after a.first, same_read NotNull m a.after rest a.second)))
+  | inr w ↦ let a = over (primary_key_at bytes) _ m rest w.1 in inr (a.value, (a.after, (primary_key_says a.value bytes a.after a.first, same_read PrimaryKey m a.after rest a.second)))
 ]
 
 -- more of a list
@@ -132,18 +147,18 @@ user_says name x bytes rest e =
 
 precision_says : (x : Option ℕ) (bytes rest : List ℕ) → precision_at bytes ≡ Ok (x, rest) → Precision x bytes rest
 unfolding precision_at
-precision_says x bytes rest e = found (after_symbol 40 bytes) e
+precision_says x bytes rest e = found (symbol_at 40 bytes) e
   where
-    found : (o : Option (List ℕ)) → ◌≡◌ {A = Read (Option ℕ)} (elim o [ None ↦ Ok (None, bytes) | Some r ↦ tokens.◌>>=◌ (size_at bytes) (λ n. Ok (Some n.0, n.1)) ]) (Ok (x, rest)) → Precision x bytes rest
-    found None e = inr (same_read None x bytes rest e)
-    found (Some r) e =
+    found : (o : After) → ◌≡◌ {A = Read (Option ℕ)} (elim o [ Err _ ↦ Ok (None, bytes) | Ok _ ↦ tokens.◌>>=◌ (size_at bytes) (λ n. Ok (Some n.0, n.1)) ]) (Ok (x, rest)) → Precision x bytes rest
+    found (Err at) e = inr (same_read None x bytes rest e)
+    found (Ok r) e =
         let a = step (size_at bytes) _ x rest e in
         inl (a.value, (a.after, (size_says a.value bytes a.after a.first, same_read (Some a.value) x a.after rest a.second)))
 
 maybe_says : (x : Bool) (bytes rest : List ℕ) → maybe_not_null_at bytes ≡ Ok (x, rest) → MaybeNotNull x bytes rest
 unfolding maybe_not_null_at
 maybe_says x bytes rest e = elim (either (is_word_at (codes "NOT") bytes) _ _ _ e) [
-  | inl w ↦ let a = step (not_null_at bytes) _ x rest w.1 in inl (a.value, (a.after, (not_null_says a.value bytes a.after a.first, same_read true x a.after rest a.second)))
+  | inl w ↦ let a = over (not_null_at bytes) _ x rest w.1 in inl (a.value, (a.after, (not_null_says a.value bytes a.after a.first, same_read true x a.after rest a.second)))
   | inr w ↦ inr (same_read false x bytes rest w.1)
 ]
 
@@ -151,16 +166,16 @@ side_says : (x : Side) (bytes rest : List ℕ) → side_at bytes ≡ Ok (x, rest
 unfolding side_at
 side_says x bytes rest e = elim (either (is_word_at (codes "START") bytes) _ _ _ e) [
   | inl w ↦ inl (worded (codes "START") Start x bytes rest w.0 w.1)
-  | inr w ↦ let a = step (word_at (codes "END") bytes) _ x rest w.1 in inr (a.value, (a.after, (word_says (codes "END") a.value bytes a.after a.first, same_read End x a.after rest a.second)))
+  | inr w ↦ let a = over (word_at (codes "END") bytes) _ x rest w.1 in inr (a.value, (a.after, (word_says (codes "END") a.value bytes a.after a.first, same_read End x a.after rest a.second)))
 ]
 
 row_side_says : (x : Side) (bytes rest : List ℕ) → row_side_at bytes ≡ Ok (x, rest) → GeneratedAsRow x bytes rest
 unfolding row_side_at
 row_side_says x bytes rest e =
-    let a = step (word_at (codes "GENERATED") bytes) _ x rest e in
-    let b = step (word_at (codes "ALWAYS") a.after) _ x rest a.second in
-    let c = step (word_at (codes "AS") b.after) _ x rest b.second in
-    let d = step (word_at (codes "ROW") c.after) _ x rest c.second in (
+    let a = over (word_at (codes "GENERATED") bytes) _ x rest e in
+    let b = over (word_at (codes "ALWAYS") a.after) _ x rest a.second in
+    let c = over (word_at (codes "AS") b.after) _ x rest b.second in
+    let d = over (word_at (codes "ROW") c.after) _ x rest c.second in (
       a.value,
       (
         a.after,
@@ -192,7 +207,7 @@ row_side_says x bytes rest e =
 generated_says : (name : List ℕ) (x : Entry) (bytes rest : List ℕ) → generated_at name bytes ≡ Ok (x, rest) → GeneratedEntry name x bytes rest
 unfolding generated_at
 generated_says name x bytes rest e =
-    let a = step (word_at (codes "TIMESTAMP") bytes) _ x rest e in
+    let a = over (word_at (codes "TIMESTAMP") bytes) _ x rest e in
     let b = step (precision_at a.after) _ x rest a.second in
     let c = step (maybe_not_null_at b.after) _ x rest b.second in
     let d = step (row_side_at c.after) _ x rest c.second in
@@ -237,11 +252,11 @@ generated_says name x bytes rest e =
 two_names_say : (x : Entry) (bytes rest : List ℕ) → two_names_at bytes ≡ Ok (x, rest) → TwoNames x bytes rest
 unfolding two_names_at
 two_names_say x bytes rest e =
-    let a = step (symbol_at 40 bytes) _ x rest e in
+    let a = over (symbol_at 40 bytes) _ x rest e in
     let b = step (name_at a.after) _ x rest a.second in
-    let c = step (symbol_at 44 b.after) _ x rest b.second in
+    let c = over (symbol_at 44 b.after) _ x rest b.second in
     let d = step (name_at c.after) _ x rest c.second in
-    let f = step (symbol_at 41 d.after) _ x rest d.second in (
+    let f = over (symbol_at 41 d.after) _ x rest d.second in (
       a.value,
       (
         a.after,
@@ -282,9 +297,9 @@ two_names_say x bytes rest e =
 period_says : (x : Entry) (bytes rest : List ℕ) → period_at bytes ≡ Ok (x, rest) → PeriodEntry x bytes rest
 unfolding period_at
 period_says x bytes rest e =
-    let a = step (word_at (codes "PERIOD") bytes) _ x rest e in
-    let b = step (word_at (codes "FOR") a.after) _ x rest a.second in
-    let c = step (word_at (codes "SYSTEM_TIME") b.after) _ x rest b.second in (
+    let a = over (word_at (codes "PERIOD") bytes) _ x rest e in
+    let b = over (word_at (codes "FOR") a.after) _ x rest a.second in
+    let c = over (word_at (codes "SYSTEM_TIME") b.after) _ x rest b.second in (
       a.value,
       (
         a.after,
@@ -309,21 +324,21 @@ listed_says : {A : Type 0} (item : List ℕ → Read A) (R : Says A) → ((x : A
 listed_says item R says zero xs bytes rest e = cc
 listed_says {A = A} item R says (suc n) xs bytes rest e =
     let a = step (item bytes) _ xs rest e in
-    found a.value a.after a.first (after_symbol 44 a.after) refl a.second (λ ys more left f. listed_says item R says n ys more left f)
+    found a.value a.after a.first (symbol_at 44 a.after) refl a.second (λ ys more left f. listed_says item R says n ys more left f)
   where
     two : (x : A) (after more : List ℕ) (ys : List A) → R x bytes after → Symbol 44 tt after more → Listed R ys more rest → Listed R (x ∷ ys) bytes rest
     two x after more [] one comma others = absurd others
     two x after more (y ∷ ys) one comma others = (after, (more, (one, (comma, others))))
 
-    found : (x : A) (after : List ℕ) → item bytes ≡ Ok (x, after) → (o : Option (List ℕ)) → after_symbol 44 after ≡ o
-        → ◌≡◌ {A = Read (List A)} (elim o [ None ↦ Ok (x ∷ [], after) | Some more ↦ joined (x ∷ []) (listed item n more) ]) (Ok (xs, rest))
+    found : (x : A) (after : List ℕ) → item bytes ≡ Ok (x, after) → (o : After) → symbol_at 44 after ≡ o
+        → ◌≡◌ {A = Read (List A)} (elim o [ Err _ ↦ Ok (x ∷ [], after) | Ok more ↦ joined (x ∷ []) (listed item n more) ]) (Ok (xs, rest))
         → ((ys : List A) (more left : List ℕ) → listed item n more ≡ Ok (ys, left) → Listed R ys more left) → Listed R xs bytes rest
-    found x after first None comma e others =
+    found x after first (Err at) comma e others =
         let parts = same_read (x ∷ []) xs after rest e in
         subst (λ l. Listed R l bytes rest) parts.0 (subst (λ r. R x bytes r) parts.1 (says x bytes after first))
-    found x after first (Some more) comma e others =
+    found x after first (Ok more) comma e others =
         let b = more_of x (listed item n more) xs rest e in
-        subst (λ l. Listed R l bytes rest) b.1.1 (two x after more b.0 (says x bytes after first) (symbol_next 44 after more comma) (others b.0 more rest b.1.0))
+        subst (λ l. Listed R l bytes rest) b.1.1 (two x after more b.0 (says x bytes after first) (symbol_says 44 tt after more comma) (others b.0 more rest b.1.0))
 
 names_say : (xs : List (List ℕ)) (bytes rest : List ℕ) → names_at bytes ≡ Ok (xs, rest) → Listed Name xs bytes rest
 unfolding names_at
@@ -332,10 +347,10 @@ names_say xs bytes rest e = listed_says name_at Name name_says (length bytes) xs
 key_says : (x : Entry) (bytes rest : List ℕ) → key_at bytes ≡ Ok (x, rest) → KeyEntry x bytes rest
 unfolding key_at
 key_says x bytes rest e =
-    let a = step (primary_key_at bytes) _ x rest e in
-    let b = step (symbol_at 40 a.after) _ x rest a.second in
+    let a = over (primary_key_at bytes) _ x rest e in
+    let b = over (symbol_at 40 a.after) _ x rest a.second in
     let c = step (names_at b.after) _ x rest b.second in
-    let d = step (symbol_at 41 c.after) _ x rest c.second in (
+    let d = over (symbol_at 41 c.after) _ x rest c.second in (
       a.value,
       (
         a.after,
@@ -398,9 +413,9 @@ entries_say xs bytes rest e = listed_says entry_at EntryText entry_says (length 
 body_says : (xs : List Entry) (bytes rest : List ℕ) → body_at bytes ≡ Ok (xs, rest) → Body xs bytes rest
 unfolding body_at
 body_says xs bytes rest e =
-    let a = step (symbol_at 40 bytes) _ xs rest e in
+    let a = over (symbol_at 40 bytes) _ xs rest e in
     let b = step (entries_at a.after) _ xs rest a.second in
-    let c = step (symbol_at 41 b.after) _ xs rest b.second in (
+    let c = over (symbol_at 41 b.after) _ xs rest b.second in (
       a.value,
       (
         a.after,
@@ -420,11 +435,11 @@ body_says xs bytes rest e =
       ),
     )
 
-versioning_says : (x : Unit {0}) (bytes rest : List ℕ) → versioning_at bytes ≡ Ok (x, rest) → Versioning x bytes rest
+versioning_says : (x : Unit {0}) (bytes rest : List ℕ) → versioning_at bytes ≡ Ok rest → Versioning x bytes rest
 unfolding versioning_at
 versioning_says x bytes rest e =
-    let a = step (word_at (codes "WITH") bytes) _ x rest e in
-    let b = step (word_at (codes "SYSTEM") a.after) _ x rest a.second in (
+    let a = over_to (word_at (codes "WITH") bytes) _ rest e in
+    let b = over_to (word_at (codes "SYSTEM") a.after) _ rest a.second in (
       a.value,
       (
         a.after,
@@ -438,11 +453,11 @@ versioning_says x bytes rest e =
 pub create_says : (d : Declaration) (bytes rest : List ℕ) → create_at bytes ≡ Ok (d, rest) → CreateText d bytes rest
 unfolding create_at
 create_says d bytes rest e =
-    let a = step (word_at (codes "CREATE") bytes) _ d rest e in
-    let b = step (word_at (codes "TABLE") a.after) _ d rest a.second in
+    let a = over (word_at (codes "CREATE") bytes) _ d rest e in
+    let b = over (word_at (codes "TABLE") a.after) _ d rest a.second in
     let c = step (name_at b.after) _ d rest b.second in
     let f = step (body_at c.after) _ d rest c.second in
-    let g = step (versioning_at f.after) _ d rest f.second in (
+    let g = over (versioning_at f.after) _ d rest f.second in (
       a.value,
       (
         a.after,
@@ -498,7 +513,7 @@ unfolding more_at
 more_says more bytes rest e = elim (either (is_end_at bytes) _ _ _ e) [
   | inl w ↦ inl (sym (same_read false more bytes rest w.1).0, inl (end_says bytes w.0))
   | inr w ↦
-      let a = step (symbol_at 59 bytes) _ more rest w.1 in
+      let a = over (symbol_at 59 bytes) _ more rest w.1 in
       let parts = same_read (not (is_end_at a.after)) more a.after rest a.second in
       by_end a.value a.after (symbol_says 59 a.value bytes a.after a.first) (is_end_at a.after) refl parts.0 parts.1
 ]

@@ -1,15 +1,15 @@
 -- No piece of a schema leaves more of the text than it found, and most leave less.
-use Rattle.std.proofs.Common.{◌≡◌, ℕ, ◌+◌, ◌≤◌, ◌<◌, true, List, [], ◌∷◌, ◌++◌, Some, None, inl, inr, length, map, ap, arith, lit<}
+use Rattle.std.proofs.Common.{◌≡◌, ℕ, ◌+◌, ◌≤◌, ◌<◌, true, List, [], ◌∷◌, ◌++◌, Some, None, inl, inr, length, ap, arith, lit<}
 use Rattle.std.specs.Prelude.{codes}
-use Rattle.std.specs.Char.{to_ascii_uppercase}
-use Rattle.std.proofs.lemmas.List.{length-append, length-map}
+use Rattle.std.proofs.lemmas.List.{length-append}
 use Rattle.values.specs.declared.table.ColumnType.TheVariants.{Int, Text, Varchar, Boolean}
 use Rattle.rows.specs.declared.declaration.Mark.{Mark}
 use Rattle.rows.specs.declared.declaration.Mark.TheVariants.{NotNull, PrimaryKey}
 use Rattle.rows.specs.declared.declaration.Side.TheVariants.{Start, End}
 use Rattle.rows.specs.declared.declaration.Entry.{Entry}
 use Rattle.rows.specs.declared.declaration.Declaration.{Declaration}
-use Rattle.rows.specs.SchemaToken.{is_name}
+use Rattle.tokens.specs.Name.{is_name}
+use Rattle.tokens.proofs.Words.{some_written}
 use Rattle.rows.specs.SchemaGrammar.{Says, Piece, blank, comment, last_comment, Gap, IsNext, Symbol, Letters, Word, Name, Digits, ◌>>=◌, just, ◌or◌, Listed, Many, Size, TypeName, NotNullWords, PrimaryKeyWords, MarkWords, UserEntry, Precision, MaybeNotNull, RowSide, GeneratedAsRow, GeneratedEntry, TwoNames, PeriodEntry, KeyEntry, ColumnEntry, EntryText, Body, Versioning, CreateText, SchemaText}
 
 pub record Keeps {A : Type 0} (R : Says A) : Type 0 where
@@ -36,18 +36,16 @@ letters_left : (name bytes rest : List ℕ) → Letters name bytes rest → leng
 letters_left name bytes rest l = omega (arith, next_keeps bytes (name ++ rest) l.next, length-append name rest)
 
 pub some_letters : (name : List ℕ) → is_name name ≡ true → 0 < length name
+unfolding is_name
 some_letters [] e = cc
 some_letters (b ∷ bs) e = omega arith
-
-pub spelled_letters : (word name : List ℕ) → 0 < length word → map to_ascii_uppercase name ≡ word → 0 < length name
-spelled_letters word name some e = omega (arith, some, ap length e, length-map name to_ascii_uppercase)
 
 pub name_takes : Takes Name
 name_takes = record { below = λ name bytes rest n. omega (arith, letters_left name bytes rest n.letters, some_letters name n.fits) }
 
 word_takes : (word : List ℕ) → 0 < length word → Takes (Word word)
 word_takes word some = record {
-  below = λ x bytes rest w. omega (arith, letters_left w.name bytes rest w.letters, spelled_letters word w.name some w.spelled);
+  below = λ x bytes rest w. omega (arith, letters_left w.name bytes rest w.letters, some_written word w.name some w.spelled);
 }
 
 digits_keep : Keeps Digits

@@ -1,11 +1,21 @@
 -- What is read is of the grammar: tokens.
-use Rattle.std.proofs.Common.{◌≡◌, ℕ, ◌+◌, ◌≤◌, List, [], ◌∷◌, ◌++◌, ◌==◌, ◌&&◌, ◌⊎◌, inl, inr, Bool, true, false, Option, Some, None, Ok, Err, length, map, min, ◌-◌, ◌*◌, refl, sym, subst, ap, ◌∙◌, arith, if◌then◌else◌}
+use Rattle.std.proofs.Common.{◌≡◌, ℕ, ◌≤◌, List, [], ◌∷◌, ◌++◌, ◌==◌, ◌&&◌, ◌⊎◌, inl, inr, Bool, true, false, Ok, Err, length, refl, sym, subst, ap, ◌∙◌, arith, if◌then◌else◌}
 use Rattle.std.specs.Prelude.{not}
+use Rattle.std.specs.List.{prefix_len}
+use Rattle.std.proofs.lemmas.List.{take-append-drop}
+use Rattle.std.proofs.lemmas.List.Folds.{length-prefix_len}
 use Rattle.std.proofs.lemmas.Bool.Decides.{nat_tests}
-use Rattle.std.specs.Char.{is_ascii_digit, to_ascii_uppercase}
-use Rattle.rows.specs.SchemaToken.{Read, is_separator, token_from, next, is_name_byte, skip_while, front_while, after_symbol, symbol_at, has_word, is_word_at, after_word, word_at, is_name, name_at, begins_with_digit, number_from, digits_at}
-use Rattle.rows.specs.SchemaGrammar.{AllPass, Ends, is_on_the_line, Piece, blank, comment, last_comment, Gap, BeginsToken, IsNext, Symbol, Letters, Word, Name, Digits}
-use Rattle.rows.proofs.SchemaFronts.{front-skip}
+use Rattle.std.specs.Char.{is_ascii_digit}
+use Rattle.tokens.specs.Token.{After, Read, front_while, skip_while}
+use Rattle.tokens.specs.Token.{symbol_at as symbol_after}
+use Rattle.tokens.specs.Word.{is_name_byte}
+use Rattle.tokens.specs.Word.{is_word_at as is_word_after, after_word as rest_of_word, word_at as word_after}
+use Rattle.tokens.specs.Name.{is_name}
+use Rattle.tokens.specs.Name.{name_at as name_after}
+use Rattle.tokens.specs.Run.{AllBytes}
+use Rattle.tokens.proofs.Runs.{front_passes, rest_ends}
+use Rattle.rows.specs.SchemaToken.{is_separator, token_from, next, symbol_at, is_word_at, after_word, word_at, name_at, number_from, digits_at}
+use Rattle.rows.specs.SchemaGrammar.{is_on_the_line, Piece, blank, comment, last_comment, Gap, BeginsToken, IsNext, Symbol, Letters, Word, Name, Digits}
 
 equal : (a b : ℕ) → (a == b) ≡ true → a ≡ b
 equal a b e = grind (arith, nat_tests)
@@ -16,11 +26,11 @@ record Line (bytes at : List ℕ) : Type 0 where
   more : List ℕ
   gap : List Piece
   is_line : bytes ≡ text ++ 10 ∷ more
-  on_line : AllPass is_on_the_line text
+  on_line : AllBytes is_on_the_line text
   goes_on : Gap gap more at
 
 record LastLine (bytes at : List ℕ) : Type 0 where
-  on_last : AllPass is_on_the_line bytes
+  on_last : AllBytes is_on_the_line bytes
   nothing : at ≡ []
 
 abbrev Comment : List ℕ → List ℕ → Type 0
@@ -101,91 +111,49 @@ begins false (b ∷ c ∷ cs) = begun b c cs (is_separator b) (b == 45) (c == 45
 pub next_is : (bytes at : List ℕ) → next bytes ≡ at → IsNext bytes at
 next_is bytes at e = subst (λ a. IsNext bytes a) e (record { gap = (reached false bytes).0; skipped = (reached false bytes).1; begins = begins false bytes })
 
--- what is taken and what is left of letters and digits
-all_front : (p : ℕ → Bool) (bs : List ℕ) → AllPass p (front_while p bs)
-all_front p [] = tt
-all_front p (b ∷ bs) = one (p b) refl (all_front p bs)
-  where
-    one : (t : Bool) → p b ≡ t → AllPass p (front_while p bs) → AllPass p (if t then b ∷ front_while p bs else [])
-    one true e h = (e, h)
-    one false e h = tt
-
-ends_skip : (p : ℕ → Bool) (bs : List ℕ) → Ends p (skip_while p bs)
-ends_skip p [] = tt
-ends_skip p (b ∷ bs) = one (p b) refl (ends_skip p bs)
-  where
-    one : (t : Bool) → p b ≡ t → Ends p (skip_while p bs) → Ends p (if t then skip_while p bs else b ∷ bs)
-    one true e h = h
-    one false e h = e
+-- letters and digits at the front, as many as come
+pub front-skip : (p : ℕ → Bool) (bs : List ℕ) → front_while p bs ++ skip_while p bs ≡ bs
+front-skip p bs = take-append-drop (prefix_len p bs) bs
 
 letters_at : (bytes : List ℕ) → Letters (front_while is_name_byte (next bytes)) bytes (skip_while is_name_byte (next bytes))
 letters_at bytes = record {
   next = next_is bytes _ (sym (front-skip is_name_byte (next bytes)));
-  are_letters = all_front is_name_byte (next bytes);
-  as_many = ends_skip is_name_byte (next bytes);
+  are_letters = front_passes is_name_byte (next bytes);
+  as_many = rest_ends is_name_byte (next bytes);
 }
 
 pub same_read : {A : Type 0} (x y : A) (r s : List ℕ) → ◌≡◌ {A = Read A} (Ok (x, r)) (Ok (y, s)) → (x ≡ y) × (r ≡ s)
 same_read x y r s e = (ap (λ o. elim o [ Ok p ↦ p.0 | Err e ↦ x ]) e, ap (λ o. elim o [ Ok p ↦ p.1 | Err e ↦ r ]) e)
 
-pub symbol_next : (symbol : ℕ) (bytes rest : List ℕ) → after_symbol symbol bytes ≡ Some rest → Symbol symbol tt bytes rest
-unfolding after_symbol
-symbol_next symbol bytes rest e = found (next bytes) refl e
-  where
-    some_is : (bs rest : List ℕ) → ◌≡◌ {A = Option (List ℕ)} (Some bs) (Some rest) → bs ≡ rest
-    some_is bs rest e = ap (λ o. elim o [ Some x ↦ x | None ↦ bs ]) e
+pub same_rest : (r s : List ℕ) → ◌≡◌ {A = After} (Ok r) (Ok s) → r ≡ s
+same_rest r s e = ap (λ (o : After). elim o as (λ _. List ℕ) [ Ok p ↦ p | Err e ↦ r ]) e
 
-    by_byte : (b : ℕ) (bs : List ℕ) (t : Bool) → (b == symbol) ≡ t → next bytes ≡ b ∷ bs → ◌≡◌ {A = Option (List ℕ)} (if t then Some bs else None) (Some rest) → Symbol symbol tt bytes rest
-    by_byte b bs true q at e = record { next = next_is bytes (symbol ∷ rest) (at ∙ ap (λ n. n ∷ bs) (equal b symbol q) ∙ ap (λ l. symbol ∷ l) (some_is bs rest e)) }
+pub symbol_says : (symbol : ℕ) (x : Unit {0}) (bytes rest : List ℕ) → symbol_at symbol bytes ≡ Ok rest → Symbol symbol x bytes rest
+unfolding symbol_after
+symbol_says symbol x bytes rest e = found (next bytes) refl e
+  where
+    by_byte : (b : ℕ) (bs : List ℕ) (t : Bool) → (b == symbol) ≡ t → next bytes ≡ b ∷ bs → ◌≡◌ {A = After} (if t then Ok bs else Err (b ∷ bs)) (Ok rest) → Symbol symbol x bytes rest
+    by_byte b bs true q at e = record { next = next_is bytes (symbol ∷ rest) (at ∙ ap (λ n. n ∷ bs) (equal b symbol q) ∙ ap (λ l. symbol ∷ l) (same_rest bs rest e)) }
     by_byte b bs false q at e = cc
 
-    found : (at : List ℕ) → next bytes ≡ at → ◌≡◌ {A = Option (List ℕ)} (elim at [ [] ↦ None | b ∷ bs ↦ if b == symbol then Some bs else None ]) (Some rest) → Symbol symbol tt bytes rest
+    found : (at : List ℕ) → next bytes ≡ at → ◌≡◌ {A = After} (elim at [ [] ↦ Err [] | b ∷ bs ↦ if b == symbol then Ok bs else Err (b ∷ bs) ]) (Ok rest) → Symbol symbol x bytes rest
     found [] at e = cc
     found (b ∷ bs) at e = by_byte b bs (b == symbol) refl at e
 
-pub symbol_says : (symbol : ℕ) (x : Unit {0}) (bytes rest : List ℕ) → symbol_at symbol bytes ≡ Ok (x, rest) → Symbol symbol x bytes rest
-unfolding symbol_at
-symbol_says symbol x bytes rest e = found (after_symbol symbol bytes) refl e
-  where
-    found : (o : Option (List ℕ)) → after_symbol symbol bytes ≡ o → ◌≡◌ {A = Read (Unit {0})} (elim o [ Some rest ↦ Ok (tt, rest) | None ↦ Err (next bytes) ]) (Ok (x, rest)) → Symbol symbol x bytes rest
-    found None at e = cc
-    found (Some left) at e = subst (λ r. Symbol symbol tt bytes r) ((same_read tt x left rest e).1) (symbol_next symbol bytes left at)
-
--- the word, in any case
-spelled : (word bytes : List ℕ) → has_word word bytes ≡ true → map to_ascii_uppercase (front_while is_name_byte bytes) ≡ word
-spelled [] [] e = refl
-spelled (w ∷ word) [] e = cc
-spelled [] (b ∷ bs) e = ap (λ t. map to_ascii_uppercase (if t then b ∷ front_while is_name_byte bs else [])) (negated (is_name_byte b) e)
-  where
-    negated : (t : Bool) → not t ≡ true → t ≡ false
-    negated true e = sym e
-    negated false e = refl
-spelled (w ∷ word) (b ∷ bs) e = one (is_name_byte b) refl e (spelled word bs)
-  where
-    one : (t : Bool) → is_name_byte b ≡ t → ◌≡◌ {A = Bool} (if t then (w == to_ascii_uppercase b) && has_word word bs else false) true
-        → (has_word word bs ≡ true → map to_ascii_uppercase (front_while is_name_byte bs) ≡ word)
-        → map to_ascii_uppercase (if t then b ∷ front_while is_name_byte bs else []) ≡ w ∷ word
-    one false q e h = cc
-    one true q e h = both (w == to_ascii_uppercase b) refl e
-      where
-        both : (s : Bool) → (w == to_ascii_uppercase b) ≡ s → (s && has_word word bs) ≡ true → to_ascii_uppercase b ∷ map to_ascii_uppercase (front_while is_name_byte bs) ≡ w ∷ word
-        both true p e = ap (λ n. n ∷ map to_ascii_uppercase (front_while is_name_byte bs)) (sym (equal w (to_ascii_uppercase b) p)) ∙ ap (λ l. w ∷ l) (h e)
-        both false p e = cc
-
 pub word_next : (word bytes : List ℕ) → is_word_at word bytes ≡ true → Word word tt bytes (after_word bytes)
-unfolding is_word_at after_word
-word_next word bytes e = record { name = front_while is_name_byte (next bytes); letters = letters_at bytes; spelled = spelled word (next bytes) e }
+unfolding is_word_after rest_of_word
+word_next word bytes e = record { name = front_while is_name_byte (next bytes); letters = letters_at bytes; spelled = e }
 
-pub word_says : (word : List ℕ) (x : Unit {0}) (bytes rest : List ℕ) → word_at word bytes ≡ Ok (x, rest) → Word word x bytes rest
-unfolding word_at
+pub word_says : (word : List ℕ) (x : Unit {0}) (bytes rest : List ℕ) → word_at word bytes ≡ Ok rest → Word word x bytes rest
+unfolding word_after
 word_says word x bytes rest e = by_test (is_word_at word bytes) refl e
   where
-    by_test : (t : Bool) → is_word_at word bytes ≡ t → ◌≡◌ {A = Read (Unit {0})} (if t then Ok (tt, after_word bytes) else Err (next bytes)) (Ok (x, rest)) → Word word x bytes rest
-    by_test true q e = subst (λ r. Word word tt bytes r) ((same_read tt x (after_word bytes) rest e).1) (word_next word bytes q)
+    by_test : (t : Bool) → is_word_at word bytes ≡ t → ◌≡◌ {A = After} (if t then Ok (after_word bytes) else Err (next bytes)) (Ok rest) → Word word x bytes rest
+    by_test true q e = subst (λ r. Word word tt bytes r) (same_rest (after_word bytes) rest e) (word_next word bytes q)
     by_test false q e = cc
 
 pub name_says : (name bytes rest : List ℕ) → name_at bytes ≡ Ok (name, rest) → Name name bytes rest
-unfolding name_at
+unfolding name_after
 name_says name bytes rest e = by_test (is_name (front_while is_name_byte (next bytes))) refl e
   where
     by_test : (t : Bool) → is_name (front_while is_name_byte (next bytes)) ≡ t
@@ -195,39 +163,29 @@ name_says name bytes rest e = by_test (is_name (front_while is_name_byte (next b
         subst (λ n. Name n bytes rest) parts.0 (subst (λ r. Name (front_while is_name_byte (next bytes)) bytes r) parts.1 (record { letters = letters_at bytes; fits = q }))
     by_test false q e = cc
 
--- the digits at the front are the number's
-same_number : (n : ℕ) (bs : List ℕ) → number_from n (front_while is_ascii_digit bs) ≡ number_from n bs
-same_number n [] = refl
-same_number n (b ∷ bs) = one (is_ascii_digit b) refl (λ m. same_number m bs)
-  where
-    one : (t : Bool) → is_ascii_digit b ≡ t → ((m : ℕ) → number_from m (front_while is_ascii_digit bs) ≡ number_from m bs)
-        → number_from n (if t then b ∷ front_while is_ascii_digit bs else []) ≡ (if t then number_from (min (10 * n + (b - 48)) 65535) bs else n)
-    one true e h =
-        ap (λ t. if t then number_from (min (10 * n + (b - 48)) 65535) (front_while is_ascii_digit bs) else n) e ∙ h (min (10 * n + (b - 48)) 65535)
-    one false e h = refl
-
-some_digits : (bs : List ℕ) → begins_with_digit bs ≡ true → 1 ≤ length (front_while is_ascii_digit bs)
-some_digits [] e = cc
-some_digits (b ∷ bs) e = ap-le (is_ascii_digit b) e
-  where
-    ap-le : (t : Bool) → t ≡ true → 1 ≤ length (if t then b ∷ front_while is_ascii_digit bs else [])
-    ap-le true e = omega arith
-    ap-le false e = cc
+some_digits : (bs : List ℕ) → (prefix_len is_ascii_digit bs == 0) ≡ false → 1 ≤ length (front_while is_ascii_digit bs)
+some_digits bs is = let e = length-prefix_len is_ascii_digit bs in grind (arith, nat_tests, e)
 
 pub digits_says : (n : ℕ) (bytes rest : List ℕ) → digits_at bytes ≡ Ok (n, rest) → Digits n bytes rest
 unfolding digits_at
-digits_says n bytes rest e = by_test (begins_with_digit (next bytes)) refl e
+digits_says n bytes rest e = by_test (prefix_len is_ascii_digit at == 0) refl e
   where
-    by_test : (t : Bool) → begins_with_digit (next bytes) ≡ t
-        → ◌≡◌ {A = Read ℕ} (if t then Ok (number_from 0 (next bytes), skip_while is_ascii_digit (next bytes)) else Err (next bytes)) (Ok (n, rest)) → Digits n bytes rest
-    by_test false q e = cc
-    by_test true q e =
-        let parts = same_read (number_from 0 (next bytes)) n (skip_while is_ascii_digit (next bytes)) rest e in
-        subst (λ m. Digits m bytes rest) parts.0 (subst (λ r. Digits (number_from 0 (next bytes)) bytes r) parts.1 (record {
-          digits = front_while is_ascii_digit (next bytes);
-          next = next_is bytes _ (sym (front-skip is_ascii_digit (next bytes)));
-          some = some_digits (next bytes) q;
-          are_digits = all_front is_ascii_digit (next bytes);
-          as_many = ends_skip is_ascii_digit (next bytes);
-          number = same_number 0 (next bytes);
+    at : List ℕ
+    at = next bytes
+
+    digits : List ℕ
+    digits = front_while is_ascii_digit at
+
+    by_test : (t : Bool) → (prefix_len is_ascii_digit at == 0) ≡ t
+        → ◌≡◌ {A = Read ℕ} (if t then Err at else Ok (number_from 0 digits, skip_while is_ascii_digit at)) (Ok (n, rest)) → Digits n bytes rest
+    by_test true q e = cc
+    by_test false q e =
+        let parts = same_read (number_from 0 digits) n (skip_while is_ascii_digit at) rest e in
+        subst (λ m. Digits m bytes rest) parts.0 (subst (λ r. Digits (number_from 0 digits) bytes r) parts.1 (record {
+          digits = digits;
+          next = next_is bytes _ (sym (front-skip is_ascii_digit at));
+          some = some_digits at q;
+          are_digits = front_passes is_ascii_digit at;
+          as_many = rest_ends is_ascii_digit at;
+          number = refl;
         }))

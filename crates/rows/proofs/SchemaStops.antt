@@ -1,15 +1,21 @@
 -- Where reading stops, a token begins or the text ends.
 use Rattle.std.proofs.Common.{◌≡◌, ℕ, ◌≤◌, ◌<◌, Bool, true, false, List, [], ◌∷◌, ◌++◌, Option, Some, None, Ok, Err, length, refl, sym, subst, ap, ◌∙◌, arith, if◌then◌else◌, suc, zero}
-use Rattle.std.specs.Prelude.{codes, not}
+use Rattle.std.specs.Prelude.{codes, not, ◌==◌}
 use Rattle.std.proofs.lemmas.List.{length-append, append_assoc, append-nil}
 use Rattle.values.specs.declared.table.ColumnType.TheVariants.{Varchar}
-use Rattle.rows.specs.SchemaToken as tokens
-use Rattle.rows.specs.SchemaToken.{Read, is_name_byte, next, skip_while, front_while, after_symbol, symbol_at, is_word_at, after_word, word_at, is_name, name_at, begins_with_digit, number_from, digits_at}
+use Rattle.std.specs.List.{prefix_len}
+use Rattle.tokens.specs.Token as tokens
+use Rattle.tokens.specs.Token.{After, Read, skip_while, front_while}
+use Rattle.tokens.specs.Token.{symbol_at as symbol_after}
+use Rattle.tokens.specs.Word.{is_name_byte}
+use Rattle.tokens.specs.Word.{after_word as rest_of_word, word_at as word_after}
+use Rattle.tokens.specs.Name.{is_name}
+use Rattle.tokens.specs.Name.{name_at as name_after}
+use Rattle.rows.specs.SchemaToken.{next, symbol_at, is_word_at, after_word, word_at, name_at, number_from, digits_at}
 use Rattle.std.specs.Char.{is_ascii_digit}
 use Rattle.rows.specs.Declaration.{joined, listed, names_at, size_at, is_whole_number_at, varchar_at, type_at, not_null_at, primary_key_at, mark_at, is_mark_at, marks_upto, marks_at, user_at, precision_at, maybe_not_null_at, side_at, row_side_at, generated_at, two_names_at, period_at, key_at, column_at, entry_at, entries_at, body_at, versioning_at, create_at, is_end_at, more_at, creates_upto, creates_at}
 use Rattle.rows.specs.SchemaGrammar.{Says, Piece, blank, comment, last_comment, Gap, BeginsToken, Name, EntryText}
-use Rattle.rows.proofs.SchemaFronts.{front-skip}
-use Rattle.rows.proofs.SchemaSpelled.{next_is, symbol_next, name_says}
+use Rattle.rows.proofs.SchemaSpelled.{front-skip, next_is, symbol_says, name_says}
 use Rattle.rows.proofs.SchemaSays.{entry_says, create_says}
 use Rattle.rows.proofs.SchemaShrinks.{Takes, symbol_takes, name_takes, entry_takes, create_takes}
 
@@ -78,6 +84,43 @@ then_stops : {A B : Type 0} (bytes : List ℕ) (r : Read A) (k : (A × List ℕ)
 then_stops bytes (Ok (x, more)) k s go = wider bytes more (k (x, more)) (s.ended x more refl) (go x more refl)
 then_stops bytes (Err at) k s go = let p = s.stopped at refl in stops_at bytes at p.0 p.1
 
+-- the same of a token that says nothing
+record Leads (bytes : List ℕ) (r : After) : Type 0 where
+  led : (rest : List ℕ) → r ≡ Ok rest → EndsWith bytes rest
+  barred : (at : List ℕ) → r ≡ Err at → EndsWith bytes at × BeginsToken at
+
+left_by : List ℕ → After → List ℕ
+left_by bytes (Ok rest) = rest
+left_by bytes (Err at) = at
+
+leads_on : (bytes rest : List ℕ) → EndsWith bytes rest → Leads bytes (Ok rest)
+unfolding left_by
+leads_on bytes rest e = record { led = λ left is. subst (EndsWith bytes) (ap (left_by bytes) is) e; barred = λ at is. cc }
+
+leads_next : (bytes : List ℕ) → Leads bytes (Err (next bytes))
+unfolding left_by
+leads_next bytes = record {
+  led = λ left is. cc;
+  barred = λ at is.
+      let same : next bytes ≡ at = ap (left_by bytes) is in
+      (subst (EndsWith bytes) same (next_ends bytes), subst BeginsToken same (next_is bytes (next bytes) refl).begins);
+}
+
+if_leads : (bytes : List ℕ) (t : Bool) (p q : After) → Leads bytes p → Leads bytes q → Leads bytes (if t then p else q)
+if_leads bytes true p q a b = a
+if_leads bytes false p q a b = b
+
+then_after : {B : Type 0} (bytes : List ℕ) (r : After) (k : List ℕ → Read B) → Leads bytes r → ((x : Unit {0}) (more : List ℕ) → r ≡ Ok more → Stops more (k more)) → Stops bytes (tokens.◌>>=◌ r k)
+then_after bytes (Ok more) k s go = wider bytes more (k more) (s.led more refl) (go tt more refl)
+then_after bytes (Err at) k s go = let p = s.barred at refl in stops_at bytes at p.0 p.1
+
+leads_through : (bytes : List ℕ) (r : After) (k : List ℕ → After) → Leads bytes r → ((more : List ℕ) → Leads more (k more)) → Leads bytes (tokens.◌>>=◌ r k)
+leads_through bytes (Ok more) k s go = record {
+  led = λ rest is. through bytes more rest (s.led more refl) ((go more).led rest is);
+  barred = λ at is. let p = (go more).barred at is in (through bytes more at (s.led more refl) p.0, p.1);
+}
+leads_through bytes (Err at) k s go = record { led = λ rest is. cc; barred = λ other is. s.barred other is }
+
 if_stops : {A : Type 0} (bytes : List ℕ) (t : Bool) (p q : Read A) → Stops bytes p → Stops bytes q → Stops bytes (if t then p else q)
 if_stops bytes true p q a b = a
 if_stops bytes false p q a b = b
@@ -95,44 +138,53 @@ nothing_left (b ∷ bs) h = absurd (omega arith)
 skip_ends : (p : ℕ → Bool) (bytes : List ℕ) → EndsWith bytes (skip_while p (next bytes))
 skip_ends p bytes = through bytes (next bytes) (skip_while p (next bytes)) (next_ends bytes) (record { front = front_while p (next bytes); place = sym (front-skip p (next bytes)) })
 
-symbol_ends : (symbol : ℕ) (bytes rest : List ℕ) → after_symbol symbol bytes ≡ Some rest → EndsWith bytes rest
+symbol_ends : (symbol : ℕ) (bytes rest : List ℕ) → symbol_at symbol bytes ≡ Ok rest → EndsWith bytes rest
 symbol_ends symbol bytes rest e =
-    let s = symbol_next symbol bytes rest e in
+    let s = symbol_says symbol tt bytes rest e in
     through bytes (symbol ∷ rest) rest (gap_ends s.next.gap bytes (symbol ∷ rest) s.next.skipped) (record { front = symbol ∷ []; place = refl })
 
-symbol_stops : (symbol : ℕ) (bytes : List ℕ) → Stops bytes (symbol_at symbol bytes)
-unfolding symbol_at
-symbol_stops symbol bytes = by_symbol (after_symbol symbol bytes) refl
+symbol_stops : (symbol : ℕ) (bytes : List ℕ) → Leads bytes (symbol_at symbol bytes)
+unfolding symbol_after left_by
+symbol_stops symbol bytes = record { led = λ rest is. symbol_ends symbol bytes rest is; barred = λ at is. refused (next bytes) refl at is }
   where
-    by_symbol : (o : Option (List ℕ)) → after_symbol symbol bytes ≡ o → Stops {A = Unit {0}} bytes (elim o [ Some rest ↦ Ok (tt, rest) | None ↦ Err (next bytes) ])
-    by_symbol (Some rest) e = goes_on bytes rest tt (symbol_ends symbol bytes rest e)
-    by_symbol None e = stops_next bytes
+    here : (at : List ℕ) → next bytes ≡ at → EndsWith bytes at × BeginsToken at
+    here at e = (subst (EndsWith bytes) e (next_ends bytes), (next_is bytes at e).begins)
+
+    by_byte : (b : ℕ) (bs : List ℕ) (t : Bool) → next bytes ≡ b ∷ bs → (at : List ℕ) → ◌≡◌ {A = After} (if t then Ok bs else Err (b ∷ bs)) (Err at) → EndsWith bytes at × BeginsToken at
+    by_byte b bs true e at is = cc
+    by_byte b bs false e at is = here at (e ∙ ap (left_by bytes) is)
+
+    refused : (from : List ℕ) → next bytes ≡ from → (at : List ℕ) → ◌≡◌ {A = After} (elim from [ [] ↦ Err [] | b ∷ bs ↦ if b == symbol then Ok bs else Err (b ∷ bs) ]) (Err at) → EndsWith bytes at × BeginsToken at
+    refused [] e at is = here at (e ∙ ap (left_by bytes) is)
+    refused (b ∷ bs) e at is = by_byte b bs (b == symbol) e at is
 
 word_ends : (bytes : List ℕ) → EndsWith bytes (after_word bytes)
-unfolding after_word
+unfolding rest_of_word
 word_ends bytes = skip_ends is_name_byte bytes
 
-word_stops : (word bytes : List ℕ) → Stops bytes (word_at word bytes)
-unfolding word_at
-word_stops word bytes = if_stops bytes (is_word_at word bytes) _ _ (goes_on bytes (after_word bytes) tt (word_ends bytes)) (stops_next bytes)
+word_stops : (word bytes : List ℕ) → Leads bytes (word_at word bytes)
+unfolding word_after
+word_stops word bytes = if_leads bytes (is_word_at word bytes) _ _ (leads_on bytes (after_word bytes) (word_ends bytes)) (leads_next bytes)
 
 name_stops : (bytes : List ℕ) → Stops bytes (name_at bytes)
-unfolding name_at
+unfolding name_after
 name_stops bytes = if_stops bytes (is_name (front_while is_name_byte (next bytes))) _ _ (goes_on bytes _ _ (skip_ends is_name_byte bytes)) (stops_next bytes)
 
 digits_stop : (bytes : List ℕ) → Stops bytes (digits_at bytes)
 unfolding digits_at
-digits_stop bytes = if_stops bytes (begins_with_digit (next bytes)) _ _ (goes_on bytes _ (number_from 0 (next bytes)) (skip_ends is_ascii_digit bytes)) (stops_next bytes)
+digits_stop bytes =
+    if_stops bytes (prefix_len is_ascii_digit (next bytes) == 0) _ _ (stops_next bytes)
+    (goes_on bytes _ (number_from 0 (front_while is_ascii_digit (next bytes))) (skip_ends is_ascii_digit bytes))
 
 -- what stands in an entry
 size_stops : (bytes : List ℕ) → Stops bytes (size_at bytes)
 unfolding size_at
 size_stops bytes =
-    then_stops bytes (symbol_at 40 bytes) _ (symbol_stops 40 bytes)
-    (λ o a e. then_stops a (digits_at a) _ (digits_stop a) (λ n b f. then_stops b (symbol_at 41 b) _ (symbol_stops 41 b) (λ c d g. stays d n)))
+    then_after bytes (symbol_at 40 bytes) _ (symbol_stops 40 bytes)
+    (λ o a e. then_stops a (digits_at a) _ (digits_stop a) (λ n b f. then_after b (symbol_at 41 b) _ (symbol_stops 41 b) (λ c d g. stays d n)))
 
-said_by : {A : Type 0} (word : List ℕ) (v : A) (bytes : List ℕ) → Stops bytes (tokens.◌>>=◌ (word_at word bytes) (λ x. Ok (v, x.1)))
-said_by word v bytes = then_stops bytes (word_at word bytes) _ (word_stops word bytes) (λ x more e. stays more v)
+said_by : {A : Type 0} (word : List ℕ) (v : A) (bytes : List ℕ) → Stops bytes (tokens.◌>>=◌ (word_at word bytes) (λ rest. Ok (v, rest)))
+said_by word v bytes = then_after bytes (word_at word bytes) _ (word_stops word bytes) (λ x more e. stays more v)
 
 after_it : {A : Type 0} (v : A) (bytes : List ℕ) → Stops bytes (Ok (v, after_word bytes))
 after_it v bytes = goes_on bytes (after_word bytes) v (word_ends bytes)
@@ -140,7 +192,7 @@ after_it v bytes = goes_on bytes (after_word bytes) v (word_ends bytes)
 varchar_stops : (bytes : List ℕ) → Stops bytes (varchar_at bytes)
 unfolding varchar_at
 varchar_stops bytes =
-    then_stops bytes (word_at (codes "VARCHAR") bytes) _ (word_stops (codes "VARCHAR") bytes) (λ x a e. then_stops a (size_at a) _ (size_stops a) (λ n b f. stays b (Varchar n)))
+    then_after bytes (word_at (codes "VARCHAR") bytes) _ (word_stops (codes "VARCHAR") bytes) (λ x a e. then_stops a (size_at a) _ (size_stops a) (λ n b f. stays b (Varchar n)))
 
 type_stops : (bytes : List ℕ) → Stops bytes (type_at bytes)
 unfolding type_at
@@ -148,22 +200,22 @@ type_stops bytes =
     if_stops bytes (is_whole_number_at bytes) _ _ (after_it _ bytes)
     (if_stops bytes (is_word_at (codes "TEXT") bytes) _ _ (after_it _ bytes) (if_stops bytes (is_word_at (codes "BOOLEAN") bytes) _ _ (after_it _ bytes) (varchar_stops bytes)))
 
-two_words : (v w bytes : List ℕ) → Stops bytes (tokens.◌>>=◌ (word_at v bytes) (λ x. word_at w x.1))
-two_words v w bytes = then_stops bytes (word_at v bytes) _ (word_stops v bytes) (λ x more e. word_stops w more)
+two_words : (v w bytes : List ℕ) → Leads bytes (tokens.◌>>=◌ (word_at v bytes) (λ rest. word_at w rest))
+two_words v w bytes = leads_through bytes (word_at v bytes) _ (word_stops v bytes) (λ more. word_stops w more)
 
-not_null_stops : (bytes : List ℕ) → Stops bytes (not_null_at bytes)
+not_null_stops : (bytes : List ℕ) → Leads bytes (not_null_at bytes)
 unfolding not_null_at
 not_null_stops bytes = two_words (codes "NOT") (codes "NULL") bytes
 
-primary_key_stops : (bytes : List ℕ) → Stops bytes (primary_key_at bytes)
+primary_key_stops : (bytes : List ℕ) → Leads bytes (primary_key_at bytes)
 unfolding primary_key_at
 primary_key_stops bytes = two_words (codes "PRIMARY") (codes "KEY") bytes
 
 mark_stops : (bytes : List ℕ) → Stops bytes (mark_at bytes)
 unfolding mark_at
 mark_stops bytes =
-    if_stops bytes (is_word_at (codes "NOT") bytes) _ _ (then_stops bytes (not_null_at bytes) _ (not_null_stops bytes) (λ x more e. stays more _))
-    (then_stops bytes (primary_key_at bytes) _ (primary_key_stops bytes) (λ x more e. stays more _))
+    if_stops bytes (is_word_at (codes "NOT") bytes) _ _ (then_after bytes (not_null_at bytes) _ (not_null_stops bytes) (λ x more e. stays more _))
+    (then_after bytes (primary_key_at bytes) _ (primary_key_stops bytes) (λ x more e. stays more _))
 
 upto_stops : (n : ℕ) (bytes : List ℕ) → Stops bytes (marks_upto n bytes)
 upto_stops zero bytes = stays bytes []
@@ -182,16 +234,16 @@ user_stops name bytes =
 
 precision_stops : (bytes : List ℕ) → Stops bytes (precision_at bytes)
 unfolding precision_at
-precision_stops bytes = by_symbol (after_symbol 40 bytes)
+precision_stops bytes = by_symbol (symbol_at 40 bytes)
   where
-    by_symbol : (o : Option (List ℕ)) → Stops {A = Option ℕ} bytes (elim o [ None ↦ Ok (None, bytes) | Some rest ↦ tokens.◌>>=◌ (size_at bytes) (λ n. Ok (Some n.0, n.1)) ])
-    by_symbol None = stays bytes None
-    by_symbol (Some rest) = then_stops bytes (size_at bytes) _ (size_stops bytes) (λ n more e. stays more (Some n))
+    by_symbol : (o : After) → Stops {A = Option ℕ} bytes (elim o [ Err _ ↦ Ok (None, bytes) | Ok _ ↦ tokens.◌>>=◌ (size_at bytes) (λ n. Ok (Some n.0, n.1)) ])
+    by_symbol (Err at) = stays bytes None
+    by_symbol (Ok rest) = then_stops bytes (size_at bytes) _ (size_stops bytes) (λ n more e. stays more (Some n))
 
 maybe_stops : (bytes : List ℕ) → Stops bytes (maybe_not_null_at bytes)
 unfolding maybe_not_null_at
 maybe_stops bytes =
-    if_stops bytes (is_word_at (codes "NOT") bytes) _ _ (then_stops bytes (not_null_at bytes) _ (not_null_stops bytes) (λ x more e. stays more true)) (stays bytes false)
+    if_stops bytes (is_word_at (codes "NOT") bytes) _ _ (then_after bytes (not_null_at bytes) _ (not_null_stops bytes) (λ x more e. stays more true)) (stays bytes false)
 
 side_stops : (bytes : List ℕ) → Stops bytes (side_at bytes)
 unfolding side_at
@@ -200,14 +252,14 @@ side_stops bytes = if_stops bytes (is_word_at (codes "START") bytes) _ _ (after_
 row_side_stops : (bytes : List ℕ) → Stops bytes (row_side_at bytes)
 unfolding row_side_at
 row_side_stops bytes =
-    then_stops bytes (word_at (codes "GENERATED") bytes) _ (word_stops (codes "GENERATED") bytes)
-    (λ w a e. then_stops a (word_at (codes "ALWAYS") a) _ (word_stops (codes "ALWAYS") a)
-    (λ x b f. then_stops b (word_at (codes "AS") b) _ (word_stops (codes "AS") b) (λ y c g. then_stops c (word_at (codes "ROW") c) _ (word_stops (codes "ROW") c) (λ z d h. side_stops d))))
+    then_after bytes (word_at (codes "GENERATED") bytes) _ (word_stops (codes "GENERATED") bytes)
+    (λ w a e. then_after a (word_at (codes "ALWAYS") a) _ (word_stops (codes "ALWAYS") a)
+    (λ x b f. then_after b (word_at (codes "AS") b) _ (word_stops (codes "AS") b) (λ y c g. then_after c (word_at (codes "ROW") c) _ (word_stops (codes "ROW") c) (λ z d h. side_stops d))))
 
 generated_stops : (name bytes : List ℕ) → Stops bytes (generated_at name bytes)
 unfolding generated_at
 generated_stops name bytes =
-    then_stops bytes (word_at (codes "TIMESTAMP") bytes) _ (word_stops (codes "TIMESTAMP") bytes)
+    then_after bytes (word_at (codes "TIMESTAMP") bytes) _ (word_stops (codes "TIMESTAMP") bytes)
     (λ w a e. then_stops a (precision_at a) _ (precision_stops a)
     (λ x b f. then_stops b (maybe_not_null_at b) _ (maybe_stops b)
     (λ y c g. then_stops c (row_side_at c) _ (row_side_stops c) (λ z d h. then_stops d (maybe_not_null_at d) _ (maybe_stops d) (λ u k i. stays k _)))))
@@ -216,16 +268,16 @@ generated_stops name bytes =
 two_names_stop : (bytes : List ℕ) → Stops bytes (two_names_at bytes)
 unfolding two_names_at
 two_names_stop bytes =
-    then_stops bytes (symbol_at 40 bytes) _ (symbol_stops 40 bytes)
+    then_after bytes (symbol_at 40 bytes) _ (symbol_stops 40 bytes)
     (λ o a e. then_stops a (name_at a) _ (name_stops a)
-    (λ x b f. then_stops b (symbol_at 44 b) _ (symbol_stops 44 b) (λ y c g. then_stops c (name_at c) _ (name_stops c) (λ z d h. then_stops d (symbol_at 41 d) _ (symbol_stops 41 d) (λ u k i. stays k _)))))
+    (λ x b f. then_after b (symbol_at 44 b) _ (symbol_stops 44 b) (λ y c g. then_stops c (name_at c) _ (name_stops c) (λ z d h. then_after d (symbol_at 41 d) _ (symbol_stops 41 d) (λ u k i. stays k _)))))
 
 period_stops : (bytes : List ℕ) → Stops bytes (period_at bytes)
 unfolding period_at
 period_stops bytes =
-    then_stops bytes (word_at (codes "PERIOD") bytes) _ (word_stops (codes "PERIOD") bytes)
-    (λ w a e. then_stops a (word_at (codes "FOR") a) _ (word_stops (codes "FOR") a)
-    (λ x b f. then_stops b (word_at (codes "SYSTEM_TIME") b) _ (word_stops (codes "SYSTEM_TIME") b) (λ y c g. two_names_stop c)))
+    then_after bytes (word_at (codes "PERIOD") bytes) _ (word_stops (codes "PERIOD") bytes)
+    (λ w a e. then_after a (word_at (codes "FOR") a) _ (word_stops (codes "FOR") a)
+    (λ x b f. then_after b (word_at (codes "SYSTEM_TIME") b) _ (word_stops (codes "SYSTEM_TIME") b) (λ y c g. two_names_stop c)))
 
 -- lists: the turns are enough, since each item takes a byte or more
 module _ {A : Type 0} (item : List ℕ → Read A) (R : Says A) (says : (x : A) (bytes rest : List ℕ) → item bytes ≡ Ok (x, rest) → R x bytes rest) (matches : Takes R)
@@ -234,14 +286,14 @@ module _ {A : Type 0} (item : List ℕ → Read A) (R : Says A) (says : (x : A) 
   listed_stops zero bytes h = nothing_left bytes h
   listed_stops (suc n) bytes h =
       then_stops bytes (item bytes) _ (item_stops bytes)
-      (λ x more e. by_comma x more (matches.below x bytes more (says x bytes more e)) (after_symbol 44 more) refl (λ left enough. listed_stops n left enough))
+      (λ x more e. by_comma x more (matches.below x bytes more (says x bytes more e)) (symbol_at 44 more) refl (λ left enough. listed_stops n left enough))
     where
-      by_comma : (x : A) (more : List ℕ) → length more < length bytes → (o : Option (List ℕ)) → after_symbol 44 more ≡ o → ((left : List ℕ) → length left ≤ n → Stops left (listed item n left))
-          → Stops {A = List A} more (elim o [ None ↦ Ok (x ∷ [], more) | Some left ↦ joined (x ∷ []) (listed item n left) ])
-      by_comma x more less None e others = stays more (x ∷ [])
-      by_comma x more less (Some left) e others =
+      by_comma : (x : A) (more : List ℕ) → length more < length bytes → (o : After) → symbol_at 44 more ≡ o → ((left : List ℕ) → length left ≤ n → Stops left (listed item n left))
+          → Stops {A = List A} more (elim o [ Err _ ↦ Ok (x ∷ [], more) | Ok left ↦ joined (x ∷ []) (listed item n left) ])
+      by_comma x more less (Err at) e others = stays more (x ∷ [])
+      by_comma x more less (Ok left) e others =
           wider more left (joined (x ∷ []) (listed item n left)) (symbol_ends 44 more left e)
-          (joined_stops (x ∷ []) left (listed item n left) (others left (omega (arith, h, less, (symbol_takes 44).below tt more left (symbol_next 44 more left e)))))
+          (joined_stops (x ∷ []) left (listed item n left) (others left (omega (arith, h, less, (symbol_takes 44).below tt more left (symbol_says 44 tt more left e)))))
 
 names_stop : (bytes : List ℕ) → Stops bytes (names_at bytes)
 unfolding names_at
@@ -250,8 +302,8 @@ names_stop bytes = listed_stops name_at Name name_says name_takes name_stops (le
 key_stops : (bytes : List ℕ) → Stops bytes (key_at bytes)
 unfolding key_at
 key_stops bytes =
-    then_stops bytes (primary_key_at bytes) _ (primary_key_stops bytes)
-    (λ w a e. then_stops a (symbol_at 40 a) _ (symbol_stops 40 a) (λ x b f. then_stops b (names_at b) _ (names_stop b) (λ y c g. then_stops c (symbol_at 41 c) _ (symbol_stops 41 c) (λ z d h. stays d _))))
+    then_after bytes (primary_key_at bytes) _ (primary_key_stops bytes)
+    (λ w a e. then_after a (symbol_at 40 a) _ (symbol_stops 40 a) (λ x b f. then_stops b (names_at b) _ (names_stop b) (λ y c g. then_after c (symbol_at 41 c) _ (symbol_stops 41 c) (λ z d h. stays d _))))
 
 column_stops : (bytes : List ℕ) → Stops bytes (column_at bytes)
 unfolding column_at
@@ -270,24 +322,24 @@ entries_stop bytes = listed_stops entry_at EntryText entry_says entry_takes entr
 body_stops : (bytes : List ℕ) → Stops bytes (body_at bytes)
 unfolding body_at
 body_stops bytes =
-    then_stops bytes (symbol_at 40 bytes) _ (symbol_stops 40 bytes)
-    (λ o a e. then_stops a (entries_at a) _ (entries_stop a) (λ xs b f. then_stops b (symbol_at 41 b) _ (symbol_stops 41 b) (λ c d g. stays d xs)))
+    then_after bytes (symbol_at 40 bytes) _ (symbol_stops 40 bytes)
+    (λ o a e. then_stops a (entries_at a) _ (entries_stop a) (λ xs b f. then_after b (symbol_at 41 b) _ (symbol_stops 41 b) (λ c d g. stays d xs)))
 
-versioning_stops : (bytes : List ℕ) → Stops bytes (versioning_at bytes)
+versioning_stops : (bytes : List ℕ) → Leads bytes (versioning_at bytes)
 unfolding versioning_at
-versioning_stops bytes = then_stops bytes (word_at (codes "WITH") bytes) _ (word_stops (codes "WITH") bytes) (λ x more e. two_words (codes "SYSTEM") (codes "VERSIONING") more)
+versioning_stops bytes = leads_through bytes (word_at (codes "WITH") bytes) _ (word_stops (codes "WITH") bytes) (λ more. two_words (codes "SYSTEM") (codes "VERSIONING") more)
 
 create_stops : (bytes : List ℕ) → Stops bytes (create_at bytes)
 unfolding create_at
 create_stops bytes =
-    then_stops bytes (word_at (codes "CREATE") bytes) _ (word_stops (codes "CREATE") bytes)
-    (λ w a e. then_stops a (word_at (codes "TABLE") a) _ (word_stops (codes "TABLE") a)
-    (λ x b f. then_stops b (name_at b) _ (name_stops b) (λ name c g. then_stops c (body_at c) _ (body_stops c) (λ xs d h. then_stops d (versioning_at d) _ (versioning_stops d) (λ z k i. stays k _)))))
+    then_after bytes (word_at (codes "CREATE") bytes) _ (word_stops (codes "CREATE") bytes)
+    (λ w a e. then_after a (word_at (codes "TABLE") a) _ (word_stops (codes "TABLE") a)
+    (λ x b f. then_stops b (name_at b) _ (name_stops b) (λ name c g. then_stops c (body_at c) _ (body_stops c) (λ xs d h. then_after d (versioning_at d) _ (versioning_stops d) (λ z k i. stays k _)))))
 
 more_stops : (bytes : List ℕ) → Stops bytes (more_at bytes)
 unfolding more_at
 more_stops bytes =
-    if_stops bytes (is_end_at bytes) _ _ (stays bytes false) (then_stops bytes (symbol_at 59 bytes) _ (symbol_stops 59 bytes) (λ x more e. stays more (not (is_end_at more))))
+    if_stops bytes (is_end_at bytes) _ _ (stays bytes false) (then_after bytes (symbol_at 59 bytes) _ (symbol_stops 59 bytes) (λ x more e. stays more (not (is_end_at more))))
 
 upto_creates_stop : (n : ℕ) (bytes : List ℕ) → length bytes ≤ n → Stops bytes (creates_upto n bytes)
 upto_creates_stop zero bytes h = nothing_left bytes h

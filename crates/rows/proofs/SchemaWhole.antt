@@ -1,23 +1,32 @@
 -- What is of the grammar is read: statements.
 use Rattle.std.proofs.Common.{◌≡◌, ℕ, ◌≤◌, ◌<◌, List, [], ◌∷◌, ◌||◌, inl, inr, Bool, true, false, Option, Some, None, Ok, length, refl, ap, ◌∙◌, arith, lit<, if◌then◌else◌, suc, zero}
-use Rattle.std.specs.Prelude.{not, codes}
+use Rattle.std.specs.Prelude.{Result, Err, not, codes}
 use Rattle.values.specs.declared.table.ColumnType.{ColumnType}
 use Rattle.values.specs.declared.table.ColumnType.TheVariants.{Int}
 use Rattle.rows.specs.declared.declaration.Mark.{Mark}
 use Rattle.rows.specs.declared.declaration.Side.{Side}
 use Rattle.rows.specs.declared.declaration.Entry.{Entry}
 use Rattle.rows.specs.declared.declaration.Declaration.{Declaration}
-use Rattle.rows.specs.SchemaToken as tokens
-use Rattle.rows.specs.SchemaToken.{Read, next, after_symbol, symbol_at, is_word_at, after_word, word_at, name_at, digits_at}
+use Rattle.values.specs.Names.{same_name}
+use Rattle.tokens.specs.Token as tokens
+use Rattle.tokens.specs.Token.{After, Read, front_while}
+use Rattle.tokens.specs.Word.{is_name_byte}
+use Rattle.tokens.specs.Word.{is_word_at as is_word_after}
+use Rattle.tokens.proofs.Words.{Refused, none_same}
+use Rattle.rows.specs.SchemaToken.{next, symbol_at, is_word_at, after_word, name_at}
 use Rattle.rows.specs.Declaration.{joined, listed, names_at, size_at, is_whole_number_at, varchar_at, type_at, not_null_at, primary_key_at, mark_at, is_mark_at, marks_upto, marks_at, user_at, precision_at, maybe_not_null_at, side_at, row_side_at, generated_at, two_names_at, period_at, key_at, column_at, entry_at, entries_at, body_at, versioning_at, create_at, is_nothing, is_end_at, more_at, creates_upto, creates_at}
 use Rattle.rows.specs.SchemaGrammar.{Says, Symbol, Word, Name, Listed, Many, Size, TypeName, NotNullWords, PrimaryKeyWords, MarkWords, UserEntry, Precision, MaybeNotNull, RowSide, GeneratedAsRow, GeneratedEntry, TwoNames, PeriodEntry, KeyEntry, ColumnEntry, EntryText, Body, Versioning, CreateText, IsEnd, SchemaText}
-use Rattle.rows.proofs.SchemaRead.{next_reads, symbol_reads, symbol_read, word_is_at, word_after, word_read, name_read, digits_read}
+use Rattle.rows.proofs.SchemaRead.{next_reads, symbol_read, word_is_at, word_left, word_read, name_read, digits_read}
 use Rattle.rows.proofs.SchemaApart.{other_word, period_no_name, primary_no_name, no_word_at_symbol, no_symbol_at_symbol, no_symbol_at_word}
 use Rattle.rows.proofs.SchemaShrinks.{names_long, entries_long, marks_long, schema_long}
 
 -- one step of a reading, and its end
 ok_then : {A B : Type 0} {r : Read A} (k : (A × List ℕ) → Read B) {x : A} {more : List ℕ} {y : Read B} → r ≡ Ok (x, more) → k (x, more) ≡ y → tokens.◌>>=◌ r k ≡ y
 ok_then k is go = ap (λ q. tokens.◌>>=◌ q k) is ∙ go
+
+-- the same where the first says nothing
+after_then : {B : Type 0} {r : After} (k : List ℕ → Result B (List ℕ)) {more : List ℕ} {y : Result B (List ℕ)} → r ≡ Ok more → k more ≡ y → tokens.◌>>=◌ r k ≡ y
+after_then k is go = ap (λ q. tokens.◌>>=◌ q k) is ∙ go
 
 said : {A : Type 0} {x y : A} {r s : List ℕ} → x ≡ y → r ≡ s → ◌≡◌ {A = Read A} (Ok (x, r)) (Ok (y, s))
 said {y = y} {r = r} p q = ap (λ x. Ok (x, r)) p ∙ ap (λ s. Ok (y, s)) q
@@ -47,10 +56,10 @@ left_none false b e = refl
 size_read : (n : ℕ) (bytes rest : List ℕ) → Size n bytes rest → size_at bytes ≡ Ok (n, rest)
 unfolding size_at
 size_read n bytes rest (o, (a, (opened, (m, (b, (digits, (c, (d, (closed, (same, at)))))))))) =
-    ok_then _ (symbol_read 40 o bytes a opened) (ok_then _ (digits_read m a b digits) (ok_then _ (symbol_read 41 c b d closed) (said same at)))
+    after_then _ (symbol_read 40 o bytes a opened) (ok_then _ (digits_read m a b digits) (after_then _ (symbol_read 41 c b d closed) (said same at)))
 
-no_size : (n : ℕ) (bytes rest : List ℕ) → Size n bytes rest → (more : List ℕ) × (after_symbol 40 bytes ≡ Some more)
-no_size n bytes rest s = (s.1.0, symbol_reads 40 bytes s.1.0 s.1.1.0)
+no_size : (n : ℕ) (bytes rest : List ℕ) → Size n bytes rest → (more : List ℕ) × (symbol_at 40 bytes ≡ Ok more)
+no_size n bytes rest s = (s.1.0, symbol_read 40 s.0 bytes s.1.0 s.1.1.0)
 
 -- types
 not_whole : (w : List ℕ) (x : Unit {0}) (bytes rest : List ℕ) → Word w x bytes rest → is_word_at (codes "INT") bytes ≡ false → is_word_at (codes "INTEGER") bytes ≡ false → is_word_at (codes "BIGINT") bytes ≡ false
@@ -77,29 +86,29 @@ bigint_at bytes e = or_right (is_word_at (codes "INT") bytes || is_word_at (code
 type_read : (of : ColumnType) (bytes rest : List ℕ) → TypeName of bytes rest → type_at bytes ≡ Ok (of, rest)
 unfolding type_at varchar_at
 type_read of bytes rest (inl (inl (inl (inl (inl (x, (more, (w, (same, at))))))))) =
-    whole_read of bytes rest (int_at bytes (word_is_at (codes "INT") x bytes more w)) (word_after (codes "INT") x bytes more w ∙ at) same
+    whole_read of bytes rest (int_at bytes (word_is_at (codes "INT") x bytes more w)) (word_left (codes "INT") x bytes more w ∙ at) same
 type_read of bytes rest (inl (inl (inl (inl (inr (x, (more, (w, (same, at))))))))) =
-    whole_read of bytes rest (integer_at bytes (word_is_at (codes "INTEGER") x bytes more w)) (word_after (codes "INTEGER") x bytes more w ∙ at) same
+    whole_read of bytes rest (integer_at bytes (word_is_at (codes "INTEGER") x bytes more w)) (word_left (codes "INTEGER") x bytes more w ∙ at) same
 type_read of bytes rest (inl (inl (inl (inr (x, (more, (w, (same, at)))))))) =
-    whole_read of bytes rest (bigint_at bytes (word_is_at (codes "BIGINT") x bytes more w)) (word_after (codes "BIGINT") x bytes more w ∙ at) same
+    whole_read of bytes rest (bigint_at bytes (word_is_at (codes "BIGINT") x bytes more w)) (word_left (codes "BIGINT") x bytes more w ∙ at) same
 type_read of bytes rest (inl (inl (inr (x, (more, (w, (same, at))))))) =
     let here = codes "TEXT" in
     unless (is_whole_number_at bytes) _ _ _
     (not_whole here x bytes more w (other_word (codes "INT") here refl x bytes more w) (other_word (codes "INTEGER") here refl x bytes more w) (other_word (codes "BIGINT") here refl x bytes more w))
-    (when (is_word_at here bytes) _ _ _ (word_is_at here x bytes more w) (said same (word_after here x bytes more w ∙ at)))
+    (when (is_word_at here bytes) _ _ _ (word_is_at here x bytes more w) (said same (word_left here x bytes more w ∙ at)))
 type_read of bytes rest (inl (inr (x, (more, (w, (same, at)))))) =
     let here = codes "BOOLEAN" in
     unless (is_whole_number_at bytes) _ _ _
     (not_whole here x bytes more w (other_word (codes "INT") here refl x bytes more w) (other_word (codes "INTEGER") here refl x bytes more w) (other_word (codes "BIGINT") here refl x bytes more w))
     (unless (is_word_at (codes "TEXT") bytes) _ _ _ (other_word (codes "TEXT") here refl x bytes more w)
-    (when (is_word_at here bytes) _ _ _ (word_is_at here x bytes more w) (said same (word_after here x bytes more w ∙ at))))
+    (when (is_word_at here bytes) _ _ _ (word_is_at here x bytes more w) (said same (word_left here x bytes more w ∙ at))))
 type_read of bytes rest (inr (x, (more, (w, (n, (left, (size, (same, at)))))))) =
     let here = codes "VARCHAR" in
     unless (is_whole_number_at bytes) _ _ _
     (not_whole here x bytes more w (other_word (codes "INT") here refl x bytes more w) (other_word (codes "INTEGER") here refl x bytes more w) (other_word (codes "BIGINT") here refl x bytes more w))
     (unless (is_word_at (codes "TEXT") bytes) _ _ _ (other_word (codes "TEXT") here refl x bytes more w)
     (unless (is_word_at (codes "BOOLEAN") bytes) _ _ _ (other_word (codes "BOOLEAN") here refl x bytes more w)
-    (ok_then _ (word_read here x bytes more w) (ok_then _ (size_read n more left size) (said same at)))))
+    (after_then _ (word_read here x bytes more w) (ok_then _ (size_read n more left size) (said same at)))))
 
 -- a type begins with a word of its own
 no_timestamp : (of : ColumnType) (bytes rest : List ℕ) → TypeName of bytes rest → is_word_at (codes "TIMESTAMP") bytes ≡ false
@@ -111,13 +120,13 @@ no_timestamp of bytes rest (inl (inr (x, (more, (w, e))))) = other_word (codes "
 no_timestamp of bytes rest (inr (x, (more, (w, e)))) = other_word (codes "TIMESTAMP") (codes "VARCHAR") refl x bytes more w
 
 -- marks
-not_null_read : (x : Unit {0}) (bytes rest : List ℕ) → NotNullWords x bytes rest → not_null_at bytes ≡ Ok (x, rest)
+not_null_read : (x : Unit {0}) (bytes rest : List ℕ) → NotNullWords x bytes rest → not_null_at bytes ≡ Ok rest
 unfolding not_null_at
-not_null_read x bytes rest (y, (more, (negation, null))) = ok_then _ (word_read (codes "NOT") y bytes more negation) (word_read (codes "NULL") x more rest null)
+not_null_read x bytes rest (y, (more, (negation, null))) = after_then _ (word_read (codes "NOT") y bytes more negation) (word_read (codes "NULL") x more rest null)
 
-primary_key_read : (x : Unit {0}) (bytes rest : List ℕ) → PrimaryKeyWords x bytes rest → primary_key_at bytes ≡ Ok (x, rest)
+primary_key_read : (x : Unit {0}) (bytes rest : List ℕ) → PrimaryKeyWords x bytes rest → primary_key_at bytes ≡ Ok rest
 unfolding primary_key_at
-primary_key_read x bytes rest (y, (more, (primary, key))) = ok_then _ (word_read (codes "PRIMARY") y bytes more primary) (word_read (codes "KEY") x more rest key)
+primary_key_read x bytes rest (y, (more, (primary, key))) = after_then _ (word_read (codes "PRIMARY") y bytes more primary) (word_read (codes "KEY") x more rest key)
 
 not_begins : (x : Unit {0}) (bytes rest : List ℕ) → NotNullWords x bytes rest → is_word_at (codes "NOT") bytes ≡ true
 not_begins x bytes rest (y, (more, (negation, null))) = word_is_at (codes "NOT") y bytes more negation
@@ -129,9 +138,9 @@ primary_begins x bytes rest (y, (more, (primary, key))) =
 mark_read : (m : Mark) (bytes rest : List ℕ) → MarkWords m bytes rest → mark_at bytes ≡ Ok (m, rest)
 unfolding mark_at
 mark_read m bytes rest (inl (x, (more, (words, (same, at))))) =
-    when (is_word_at (codes "NOT") bytes) _ _ _ (not_begins x bytes more words) (ok_then _ (not_null_read x bytes more words) (said same at))
+    when (is_word_at (codes "NOT") bytes) _ _ _ (not_begins x bytes more words) (after_then _ (not_null_read x bytes more words) (said same at))
 mark_read m bytes rest (inr (x, (more, (words, (same, at))))) =
-    unless (is_word_at (codes "NOT") bytes) _ _ _ (primary_begins x bytes more words).1 (ok_then _ (primary_key_read x bytes more words) (said same at))
+    unless (is_word_at (codes "NOT") bytes) _ _ _ (primary_begins x bytes more words).1 (after_then _ (primary_key_read x bytes more words) (said same at))
 
 mark_begins : (m : Mark) (bytes rest : List ℕ) → MarkWords m bytes rest → is_mark_at bytes ≡ true
 unfolding is_mark_at
@@ -160,48 +169,49 @@ user_read name x bytes rest done (of, (more, (type, (ms, (left, (marks, (same, a
     ok_then _ (type_read of bytes more type) (ok_then _ (marks_read ms more left (ap is_mark_at at ∙ done) marks) (said same at))
 
 -- generated columns
-precision_read : (x : Option ℕ) (bytes rest : List ℕ) → after_symbol 40 rest ≡ None → Precision x bytes rest → precision_at bytes ≡ Ok (x, rest)
+precision_read : (x : Option ℕ) (bytes rest : List ℕ) → Refused (symbol_at 40 rest) → Precision x bytes rest → precision_at bytes ≡ Ok (x, rest)
 unfolding precision_at
 precision_read x bytes rest none (inl (n, (more, (size, (same, at))))) =
-    ap (λ (o : Option (List ℕ)). elim o as (λ _. Read (Option ℕ)) [ None ↦ Ok (None, bytes) | Some rest ↦ tokens.◌>>=◌ (size_at bytes) (λ n. Ok (Some n.0, n.1)) ]) (no_size n bytes more size).1
+    ap (λ (o : After). elim o as (λ _. Read (Option ℕ)) [ Err _ ↦ Ok (None, bytes) | Ok _ ↦ tokens.◌>>=◌ (size_at bytes) (λ n. Ok (Some n.0, n.1)) ]) (no_size n bytes more size).1
     ∙ ok_then _ (size_read n bytes more size) (said same at)
 precision_read x bytes rest none (inr (same, at)) =
-    ap (λ (o : Option (List ℕ)). elim o as (λ _. Read (Option ℕ)) [ None ↦ Ok (None, bytes) | Some rest ↦ tokens.◌>>=◌ (size_at bytes) (λ n. Ok (Some n.0, n.1)) ]) (ap (after_symbol 40) at ∙ none)
+    ap (λ (o : After). elim o as (λ _. Read (Option ℕ)) [ Err _ ↦ Ok (None, bytes) | Ok _ ↦ tokens.◌>>=◌ (size_at bytes) (λ n. Ok (Some n.0, n.1)) ]) (ap (symbol_at 40) at ∙ none.is)
     ∙ said same at
 
 maybe_read : (x : Bool) (bytes rest : List ℕ) → is_word_at (codes "NOT") rest ≡ false → MaybeNotNull x bytes rest → maybe_not_null_at bytes ≡ Ok (x, rest)
 unfolding maybe_not_null_at
 maybe_read x bytes rest none (inl (y, (more, (words, (same, at))))) =
-    when (is_word_at (codes "NOT") bytes) _ _ _ (not_begins y bytes more words) (ok_then _ (not_null_read y bytes more words) (said same at))
+    when (is_word_at (codes "NOT") bytes) _ _ _ (not_begins y bytes more words) (after_then _ (not_null_read y bytes more words) (said same at))
 maybe_read x bytes rest none (inr (same, at)) =
     unless (is_word_at (codes "NOT") bytes) _ _ _ (ap (is_word_at (codes "NOT")) at ∙ none) (said same at)
 
 side_read : (x : Side) (bytes rest : List ℕ) → RowSide x bytes rest → side_at bytes ≡ Ok (x, rest)
 unfolding side_at
 side_read x bytes rest (inl (y, (more, (w, (same, at))))) =
-    when (is_word_at (codes "START") bytes) _ _ _ (word_is_at (codes "START") y bytes more w) (said same (word_after (codes "START") y bytes more w ∙ at))
+    when (is_word_at (codes "START") bytes) _ _ _ (word_is_at (codes "START") y bytes more w) (said same (word_left (codes "START") y bytes more w ∙ at))
 side_read x bytes rest (inr (y, (more, (w, (same, at))))) =
-    unless (is_word_at (codes "START") bytes) _ _ _ (other_word (codes "START") (codes "END") refl y bytes more w) (ok_then _ (word_read (codes "END") y bytes more w) (said same at))
+    unless (is_word_at (codes "START") bytes) _ _ _ (other_word (codes "START") (codes "END") refl y bytes more w) (after_then _ (word_read (codes "END") y bytes more w) (said same at))
 
 row_side_read : (x : Side) (bytes rest : List ℕ) → GeneratedAsRow x bytes rest → row_side_at bytes ≡ Ok (x, rest)
 unfolding row_side_at
 row_side_read x bytes rest (g, (a, (generated, (h, (b, (always, (i, (c, (by, (j, (d, (row, side)))))))))))) =
-    ok_then _ (word_read (codes "GENERATED") g bytes a generated)
-    (ok_then _ (word_read (codes "ALWAYS") h a b always) (ok_then _ (word_read (codes "AS") i b c by) (ok_then _ (word_read (codes "ROW") j c d row) (side_read x d rest side))))
+    after_then _ (word_read (codes "GENERATED") g bytes a generated)
+    (after_then _ (word_read (codes "ALWAYS") h a b always) (after_then _ (word_read (codes "AS") i b c by) (after_then _ (word_read (codes "ROW") j c d row) (side_read x d rest side))))
 
 -- where GENERATED comes, no NOT does, and no parenthesis, whether NOT NULL stands in front of it or not
 no_not_at_row : (x : Side) (bytes rest : List ℕ) → GeneratedAsRow x bytes rest → is_word_at (codes "NOT") bytes ≡ false
 no_not_at_row x bytes rest (g, (a, (generated, others))) = other_word (codes "NOT") (codes "GENERATED") refl g bytes a generated
 
-no_size_before : (y : Bool) (x : Side) (bytes more rest : List ℕ) → MaybeNotNull y bytes more → GeneratedAsRow x more rest → after_symbol 40 bytes ≡ None
+no_size_before : (y : Bool) (x : Side) (bytes more rest : List ℕ) → MaybeNotNull y bytes more → GeneratedAsRow x more rest → Refused (symbol_at 40 bytes)
 no_size_before y x bytes more rest (inl (z, (left, ((u, (a, (negation, null))), e)))) row = no_symbol_at_word 40 refl (codes "NOT") (lit< tt) u bytes a negation
 no_size_before y x bytes more rest (inr (same, at)) (g, (a, (generated, others))) =
-    ap (after_symbol 40) at ∙ no_symbol_at_word 40 refl (codes "GENERATED") (lit< tt) g more a generated
+    let none = no_symbol_at_word 40 refl (codes "GENERATED") (lit< tt) g more a generated in
+    record { at = none.at; is = ap (symbol_at 40) at ∙ none.is }
 
 generated_read : (name : List ℕ) (x : Entry) (bytes rest : List ℕ) → is_word_at (codes "NOT") rest ≡ false → GeneratedEntry name x bytes rest → generated_at name bytes ≡ Ok (x, rest)
 unfolding generated_at
 generated_read name x bytes rest done (t, (a, (timestamp, (p, (b, (precision, (y, (c, (before, (s, (d, (row, (z, (f, (after, (same, at)))))))))))))))) =
-    ok_then _ (word_read (codes "TIMESTAMP") t bytes a timestamp)
+    after_then _ (word_read (codes "TIMESTAMP") t bytes a timestamp)
     (ok_then _ (precision_read p a b (no_size_before y s b c d before row) precision)
     (ok_then _ (maybe_read y b c (no_not_at_row s c d row) before)
     (ok_then _ (row_side_read s c d row) (ok_then _ (maybe_read z d f (ap (is_word_at (codes "NOT")) at ∙ done) after) (said same at)))))
@@ -210,31 +220,31 @@ generated_read name x bytes rest done (t, (a, (timestamp, (p, (b, (precision, (y
 two_names_read : (x : Entry) (bytes rest : List ℕ) → TwoNames x bytes rest → two_names_at bytes ≡ Ok (x, rest)
 unfolding two_names_at
 two_names_read x bytes rest (o, (a, (opened, (start, (b, (first, (u, (c, (comma, (end, (d, (second, (v, (f, (closed, (same, at)))))))))))))))) =
-    ok_then _ (symbol_read 40 o bytes a opened)
-    (ok_then _ (name_read start a b first) (ok_then _ (symbol_read 44 u b c comma) (ok_then _ (name_read end c d second) (ok_then _ (symbol_read 41 v d f closed) (said same at)))))
+    after_then _ (symbol_read 40 o bytes a opened)
+    (ok_then _ (name_read start a b first) (after_then _ (symbol_read 44 u b c comma) (ok_then _ (name_read end c d second) (after_then _ (symbol_read 41 v d f closed) (said same at)))))
 
 period_read : (x : Entry) (bytes rest : List ℕ) → PeriodEntry x bytes rest → period_at bytes ≡ Ok (x, rest)
 unfolding period_at
 period_read x bytes rest (p, (a, (period, (q, (b, (for, (r, (c, (system_time, names))))))))) =
-    ok_then _ (word_read (codes "PERIOD") p bytes a period)
-    (ok_then _ (word_read (codes "FOR") q a b for) (ok_then _ (word_read (codes "SYSTEM_TIME") r b c system_time) (two_names_read x c rest names)))
+    after_then _ (word_read (codes "PERIOD") p bytes a period)
+    (after_then _ (word_read (codes "FOR") q a b for) (after_then _ (word_read (codes "SYSTEM_TIME") r b c system_time) (two_names_read x c rest names)))
 
 -- lists
-abbrev ended : {A : Type 0} → (List ℕ → Read A) → ℕ → A → List ℕ → Option (List ℕ) → Read (List A)
-ended item n x after o = elim o [ None ↦ Ok (x ∷ [], after) | Some more ↦ joined (x ∷ []) (listed item n more) ]
+abbrev ended : {A : Type 0} → (List ℕ → Read A) → ℕ → A → List ℕ → After → Read (List A)
+ended item n x after o = elim o [ Err _ ↦ Ok (x ∷ [], after) | Ok more ↦ joined (x ∷ []) (listed item n more) ]
 
 module _ {A : Type 0} (item : List ℕ → Read A) (R : Says A) (Follows : List ℕ → Type 0)
     (item_read : (x : A) (bytes rest : List ℕ) → Follows rest → R x bytes rest → item bytes ≡ Ok (x, rest))
     (comma_follows : (bytes rest : List ℕ) → Symbol 44 tt bytes rest → Follows bytes) where
-  listed_read : (xs : List A) (n : ℕ) (bytes rest : List ℕ) → length xs ≤ n → Follows rest → after_symbol 44 rest ≡ None → Listed R xs bytes rest → listed item n bytes ≡ Ok (xs, rest)
+  listed_read : (xs : List A) (n : ℕ) (bytes rest : List ℕ) → length xs ≤ n → Follows rest → Refused (symbol_at 44 rest) → Listed R xs bytes rest → listed item n bytes ≡ Ok (xs, rest)
   listed_read [] n bytes rest enough done none e = absurd e
   listed_read (x ∷ xs) zero bytes rest enough done none e = absurd (omega arith)
-  listed_read (x ∷ []) (suc n) bytes rest enough done none e = ok_then _ (item_read x bytes rest done e) (ap (ended item n x rest) none)
+  listed_read (x ∷ []) (suc n) bytes rest enough done none e = ok_then _ (item_read x bytes rest done e) (ap (ended item n x rest) none.is)
   listed_read (x ∷ y ∷ ys) (suc n) bytes rest enough done none (after, (more, (one, (comma, others)))) =
       ok_then _ (item_read x bytes after (comma_follows after more comma) one)
-      (ap (ended item n x after) (symbol_reads 44 after more comma) ∙ ap (joined (x ∷ [])) (listed_read (y ∷ ys) n more rest (omega arith) done none others))
+      (ap (ended item n x after) (symbol_read 44 tt after more comma) ∙ ap (joined (x ∷ [])) (listed_read (y ∷ ys) n more rest (omega arith) done none others))
 
-names_read : (xs : List (List ℕ)) (bytes rest : List ℕ) → after_symbol 44 rest ≡ None → Listed Name xs bytes rest → names_at bytes ≡ Ok (xs, rest)
+names_read : (xs : List (List ℕ)) (bytes rest : List ℕ) → Refused (symbol_at 44 rest) → Listed Name xs bytes rest → names_at bytes ≡ Ok (xs, rest)
 unfolding names_at
 names_read xs bytes rest none e =
     listed_read name_at Name (λ r. Unit {0}) (λ x b r done n. name_read x b r n) (λ b r s. tt) xs (length bytes) bytes rest (names_long xs bytes rest e) tt none e
@@ -242,8 +252,8 @@ names_read xs bytes rest none e =
 key_read : (x : Entry) (bytes rest : List ℕ) → KeyEntry x bytes rest → key_at bytes ≡ Ok (x, rest)
 unfolding key_at
 key_read x bytes rest (p, (a, (primary_key, (o, (b, (opened, (names, (c, (listed, (v, (d, (closed, (same, at))))))))))))) =
-    ok_then _ (primary_key_read p bytes a primary_key)
-    (ok_then _ (symbol_read 40 o a b opened) (ok_then _ (names_read names b c (no_symbol_at_symbol 44 41 refl v c d closed) listed) (ok_then _ (symbol_read 41 v c d closed) (said same at))))
+    after_then _ (primary_key_read p bytes a primary_key)
+    (after_then _ (symbol_read 40 o a b opened) (ok_then _ (names_read names b c (no_symbol_at_symbol 44 41 refl v c d closed) listed) (after_then _ (symbol_read 41 v c d closed) (said same at))))
 
 -- entries
 column_read : (x : Entry) (bytes rest : List ℕ) → is_mark_at rest ≡ false → ColumnEntry x bytes rest → column_at bytes ≡ Ok (x, rest)
@@ -267,12 +277,12 @@ entry_read x bytes rest done (inr column) =
     unless (is_word_at (codes "PERIOD") bytes) _ _ _ (period_no_name column.0 bytes column.1.0 column.1.1.0)
     (unless (is_word_at (codes "PRIMARY") bytes) _ _ _ (primary_no_name column.0 bytes column.1.0 column.1.1.0) (column_read x bytes rest done column))
 
-no_mark_at_symbol : (symbol : ℕ) → tokens.is_name_byte symbol ≡ false → (x : Unit {0}) (bytes rest : List ℕ) → Symbol symbol x bytes rest → is_mark_at bytes ≡ false
+no_mark_at_symbol : (symbol : ℕ) → is_name_byte symbol ≡ false → (x : Unit {0}) (bytes rest : List ℕ) → Symbol symbol x bytes rest → is_mark_at bytes ≡ false
 unfolding is_mark_at
 no_mark_at_symbol symbol none x bytes rest s =
     or_none _ _ (no_word_at_symbol _ _ symbol none x bytes rest s) (no_word_at_symbol _ _ symbol none x bytes rest s)
 
-entries_read : (xs : List Entry) (bytes rest : List ℕ) → is_mark_at rest ≡ false → after_symbol 44 rest ≡ None → Listed EntryText xs bytes rest → entries_at bytes ≡ Ok (xs, rest)
+entries_read : (xs : List Entry) (bytes rest : List ℕ) → is_mark_at rest ≡ false → Refused (symbol_at 44 rest) → Listed EntryText xs bytes rest → entries_at bytes ≡ Ok (xs, rest)
 unfolding entries_at
 entries_read xs bytes rest done none e =
     listed_read entry_at EntryText (λ r. is_mark_at r ≡ false) entry_read (λ b r s. no_mark_at_symbol 44 refl tt b r s) xs (length bytes) bytes rest (entries_long xs bytes rest e) done none e
@@ -280,20 +290,20 @@ entries_read xs bytes rest done none e =
 body_read : (xs : List Entry) (bytes rest : List ℕ) → Body xs bytes rest → body_at bytes ≡ Ok (xs, rest)
 unfolding body_at
 body_read xs bytes rest (o, (a, (opened, (entries, (b, (listed, (v, (c, (closed, (same, at)))))))))) =
-    ok_then _ (symbol_read 40 o bytes a opened)
-    (ok_then _ (entries_read entries a b (no_mark_at_symbol 41 refl v b c closed) (no_symbol_at_symbol 44 41 refl v b c closed) listed) (ok_then _ (symbol_read 41 v b c closed) (said same at)))
+    after_then _ (symbol_read 40 o bytes a opened)
+    (ok_then _ (entries_read entries a b (no_mark_at_symbol 41 refl v b c closed) (no_symbol_at_symbol 44 41 refl v b c closed) listed) (after_then _ (symbol_read 41 v b c closed) (said same at)))
 
-versioning_read : (x : Unit {0}) (bytes rest : List ℕ) → Versioning x bytes rest → versioning_at bytes ≡ Ok (x, rest)
+versioning_read : (x : Unit {0}) (bytes rest : List ℕ) → Versioning x bytes rest → versioning_at bytes ≡ Ok rest
 unfolding versioning_at
 versioning_read x bytes rest (w, (a, (with, (s, (b, (system, versioning)))))) =
-    ok_then _ (word_read (codes "WITH") w bytes a with) (ok_then _ (word_read (codes "SYSTEM") s a b system) (word_read (codes "VERSIONING") x b rest versioning))
+    after_then _ (word_read (codes "WITH") w bytes a with) (after_then _ (word_read (codes "SYSTEM") s a b system) (word_read (codes "VERSIONING") x b rest versioning))
 
 create_read : (d : Declaration) (bytes rest : List ℕ) → CreateText d bytes rest → create_at bytes ≡ Ok (d, rest)
 unfolding create_at
 create_read d bytes rest (u, (a, (create, (v, (b, (table, (name, (c, (is, (entries, (f, (body, (w, (g, (versioning, (same, at)))))))))))))))) =
-    ok_then _ (word_read (codes "CREATE") u bytes a create)
-    (ok_then _ (word_read (codes "TABLE") v a b table)
-    (ok_then _ (name_read name b c is) (ok_then _ (body_read entries c f body) (ok_then _ (versioning_read w f g versioning) (said same at)))))
+    after_then _ (word_read (codes "CREATE") u bytes a create)
+    (after_then _ (word_read (codes "TABLE") v a b table)
+    (ok_then _ (name_read name b c is) (ok_then _ (body_read entries c f body) (after_then _ (versioning_read w f g versioning) (said same at)))))
 
 -- statements
 end_read : (bytes : List ℕ) → IsEnd bytes → is_end_at bytes ≡ true
@@ -305,13 +315,12 @@ unfolding is_end_at
 no_end_at_symbol symbol x bytes rest s = ap is_nothing (next_reads bytes (symbol ∷ rest) s.next)
 
 no_end_at_word : (word : List ℕ) → 0 < length word → (x : Unit {0}) (bytes rest : List ℕ) → Word word x bytes rest → is_end_at bytes ≡ false
-unfolding is_end_at is_word_at
+unfolding is_end_at is_word_after
 no_end_at_word word some x bytes rest w = by_rest word some (next bytes) (word_is_at word x bytes rest w)
   where
-    by_rest : (word : List ℕ) → 0 < length word → (at : List ℕ) → tokens.has_word word at ≡ true → is_nothing at ≡ false
-    by_rest [] some at e = absurd (omega arith)
-    by_rest (w ∷ ws) some [] e = cc
-    by_rest (w ∷ ws) some (b ∷ bs) e = refl
+    by_rest : (word : List ℕ) → 0 < length word → (at : List ℕ) → same_name word (front_while is_name_byte at) ≡ true → is_nothing at ≡ false
+    by_rest word some [] e = let no = none_same word some in cc
+    by_rest word some (b ∷ bs) e = refl
 
 no_end_at_schema : (d : Declaration) (ds : List Declaration) (bytes : List ℕ) → SchemaText (d ∷ ds) bytes → is_end_at bytes ≡ false
 no_end_at_schema d [] bytes (after, (create, end)) = no_end_at_word (codes "CREATE") (lit< tt) create.0 bytes create.1.0 create.1.1.0
@@ -324,7 +333,7 @@ last_read bytes e = when (is_end_at bytes) _ _ _ (end_read bytes e) refl
 after_read : (t : Bool) (bytes rest : List ℕ) → Symbol 59 tt bytes rest → is_end_at rest ≡ t → more_at bytes ≡ Ok (not t, rest)
 unfolding more_at
 after_read t bytes rest s e =
-    unless (is_end_at bytes) _ _ _ (no_end_at_symbol 59 tt bytes rest s) (ok_then _ (symbol_read 59 tt bytes rest s) (said (ap not e) refl))
+    unless (is_end_at bytes) _ _ _ (no_end_at_symbol 59 tt bytes rest s) (after_then _ (symbol_read 59 tt bytes rest s) (said (ap not e) refl))
 
 pub schema_read : (ds : List Declaration) (n : ℕ) (bytes : List ℕ) → length ds ≤ n → SchemaText ds bytes → (rest : List ℕ) × (creates_upto n bytes ≡ Ok (ds, rest))
 schema_read [] n bytes enough e = absurd e

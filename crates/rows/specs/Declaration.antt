@@ -9,7 +9,8 @@ use Rattle.rows.specs.declared.declaration.Side.TheVariants.{Start, End}
 use Rattle.rows.specs.declared.declaration.Entry.{Entry}
 use Rattle.rows.specs.declared.declaration.Entry.TheVariants.{User, Generated, Period, Key}
 use Rattle.rows.specs.declared.declaration.Declaration.{Declaration}
-use Rattle.rows.specs.SchemaToken.{Read, ◌>>=◌, next, after_symbol, symbol_at, is_word_at, after_word, word_at, name_at, digits_at}
+use Rattle.tokens.specs.Token.{After, Read, ◌>>=◌}
+use Rattle.rows.specs.SchemaToken.{next, symbol_at, is_word_at, after_word, word_at, name_at, digits_at}
 
 -- what was read comes after these
 abbrev pub joined : {A : Type 0} → List A → Read (List A) → Read (List A)
@@ -21,7 +22,7 @@ abbrev pub listed : {A : Type 0} → (List ℕ → Read A) → ℕ → List ℕ 
 listed item zero bytes = Err bytes
 listed item (suc n) bytes = do
   x ← item bytes
-  elim (after_symbol 44 x.1) [ None ↦ Ok (x.0 ∷ [], x.1) | Some more ↦ joined (x.0 ∷ []) (listed item n more) ]
+  elim (symbol_at 44 x.1) [ Err _ ↦ Ok (x.0 ∷ [], x.1) | Ok more ↦ joined (x.0 ∷ []) (listed item n more) ]
 
 -- each takes a byte or more
 unfoldable pub names_at : List ℕ → Read (List (List ℕ))
@@ -31,9 +32,9 @@ names_at bytes = listed name_at (length bytes) bytes
 unfoldable pub size_at : List ℕ → Read ℕ
 size_at bytes = do
   opened ← symbol_at 40 bytes
-  n ← digits_at opened.1
+  n ← digits_at opened
   closed ← symbol_at 41 n.1
-  Ok (n.0, closed.1)
+  Ok (n.0, closed)
 
 unfoldable pub is_whole_number_at : List ℕ → Bool
 is_whole_number_at bytes = is_word_at (codes "INT") bytes || is_word_at (codes "INTEGER") bytes || is_word_at (codes "BIGINT") bytes
@@ -42,7 +43,7 @@ is_whole_number_at bytes = is_word_at (codes "INT") bytes || is_word_at (codes "
 unfoldable pub varchar_at : List ℕ → Read ColumnType
 varchar_at bytes = do
   word ← word_at (codes "VARCHAR") bytes
-  n ← size_at word.1
+  n ← size_at word
   Ok (Varchar n.0, n.1)
 
 unfoldable pub type_at : List ℕ → Read ColumnType
@@ -53,22 +54,22 @@ type_at bytes =
     else varchar_at bytes
 
 -- NOT NULL
-unfoldable pub not_null_at : List ℕ → Read (Unit {0})
+unfoldable pub not_null_at : List ℕ → After
 not_null_at bytes = do
   negation ← word_at (codes "NOT") bytes
-  word_at (codes "NULL") negation.1
+  word_at (codes "NULL") negation
 
 -- PRIMARY KEY
-unfoldable pub primary_key_at : List ℕ → Read (Unit {0})
+unfoldable pub primary_key_at : List ℕ → After
 primary_key_at bytes = do
   primary ← word_at (codes "PRIMARY") bytes
-  word_at (codes "KEY") primary.1
+  word_at (codes "KEY") primary
 
 unfoldable pub mark_at : List ℕ → Read Mark
 mark_at bytes =
     if is_word_at (codes "NOT") bytes
-    then (not_null_at bytes >>= (λ x. Ok (NotNull, x.1)))
-    else (primary_key_at bytes >>= (λ x. Ok (PrimaryKey, x.1)))
+    then (not_null_at bytes >>= (λ rest. Ok (NotNull, rest)))
+    else (primary_key_at bytes >>= (λ rest. Ok (PrimaryKey, rest)))
 
 unfoldable pub is_mark_at : List ℕ → Bool
 is_mark_at bytes = is_word_at (codes "NOT") bytes || is_word_at (codes "PRIMARY") bytes
@@ -93,38 +94,38 @@ user_at name bytes = do
 
 -- ["(" digits ")"]
 unfoldable pub precision_at : List ℕ → Read (Option ℕ)
-precision_at bytes = elim (after_symbol 40 bytes) [
-  | None ↦ Ok (None, bytes)
-  | Some rest ↦ (size_at bytes >>= (λ n. Ok (Some n.0, n.1)))
+precision_at bytes = elim (symbol_at 40 bytes) [
+  | Err _ ↦ Ok (None, bytes)
+  | Ok _ ↦ (size_at bytes >>= (λ n. Ok (Some n.0, n.1)))
 ]
 
 -- [NOT NULL]
 unfoldable pub maybe_not_null_at : List ℕ → Read Bool
 maybe_not_null_at bytes =
     if is_word_at (codes "NOT") bytes
-    then (not_null_at bytes >>= (λ x. Ok (true, x.1)))
+    then (not_null_at bytes >>= (λ rest. Ok (true, rest)))
     else Ok (false, bytes)
 
 -- START | END
 unfoldable pub side_at : List ℕ → Read Side
 side_at bytes =
     if is_word_at (codes "START") bytes then Ok (Start, after_word bytes)
-    else (word_at (codes "END") bytes >>= (λ x. Ok (End, x.1)))
+    else (word_at (codes "END") bytes >>= (λ rest. Ok (End, rest)))
 
 -- GENERATED ALWAYS AS ROW (START | END)
 unfoldable pub row_side_at : List ℕ → Read Side
 row_side_at bytes = do
   generated ← word_at (codes "GENERATED") bytes
-  always ← word_at (codes "ALWAYS") generated.1
-  «as» ← word_at (codes "AS") always.1
-  row ← word_at (codes "ROW") «as».1
-  side_at row.1
+  always ← word_at (codes "ALWAYS") generated
+  «as» ← word_at (codes "AS") always
+  row ← word_at (codes "ROW") «as»
+  side_at row
 
 -- TIMESTAMP ["(" digits ")"] [NOT NULL] GENERATED ALWAYS AS ROW (START | END) [NOT NULL]
 unfoldable pub generated_at : List ℕ → List ℕ → Read Entry
 generated_at name bytes = do
   timestamp ← word_at (codes "TIMESTAMP") bytes
-  digits ← precision_at timestamp.1
+  digits ← precision_at timestamp
   before ← maybe_not_null_at digits.1
   side ← row_side_at before.1
   after ← maybe_not_null_at side.1
@@ -134,28 +135,28 @@ generated_at name bytes = do
 unfoldable pub two_names_at : List ℕ → Read Entry
 two_names_at bytes = do
   opened ← symbol_at 40 bytes
-  start ← name_at opened.1
+  start ← name_at opened
   comma ← symbol_at 44 start.1
-  end ← name_at comma.1
+  end ← name_at comma
   closed ← symbol_at 41 end.1
-  Ok (Period (record { start = start.0; end = end.0 }), closed.1)
+  Ok (Period (record { start = start.0; end = end.0 }), closed)
 
 -- PERIOD FOR SYSTEM_TIME "(" name "," name ")"
 unfoldable pub period_at : List ℕ → Read Entry
 period_at bytes = do
   period ← word_at (codes "PERIOD") bytes
-  for ← word_at (codes "FOR") period.1
-  system_time ← word_at (codes "SYSTEM_TIME") for.1
-  two_names_at system_time.1
+  for ← word_at (codes "FOR") period
+  system_time ← word_at (codes "SYSTEM_TIME") for
+  two_names_at system_time
 
 -- PRIMARY KEY "(" name {"," name} ")"
 unfoldable pub key_at : List ℕ → Read Entry
 key_at bytes = do
   primary_key ← primary_key_at bytes
-  opened ← symbol_at 40 primary_key.1
-  names ← names_at opened.1
+  opened ← symbol_at 40 primary_key
+  names ← names_at opened
   closed ← symbol_at 41 names.1
-  Ok (Key names.0, closed.1)
+  Ok (Key names.0, closed)
 
 -- an entry that begins with a column's name
 unfoldable pub column_at : List ℕ → Read Entry
@@ -176,26 +177,26 @@ entries_at bytes = listed entry_at (length bytes) bytes
 unfoldable pub body_at : List ℕ → Read (List Entry)
 body_at bytes = do
   opened ← symbol_at 40 bytes
-  entries ← entries_at opened.1
+  entries ← entries_at opened
   closed ← symbol_at 41 entries.1
-  Ok (entries.0, closed.1)
+  Ok (entries.0, closed)
 
 -- WITH SYSTEM VERSIONING
-unfoldable pub versioning_at : List ℕ → Read (Unit {0})
+unfoldable pub versioning_at : List ℕ → After
 versioning_at bytes = do
   with ← word_at (codes "WITH") bytes
-  system ← word_at (codes "SYSTEM") with.1
-  word_at (codes "VERSIONING") system.1
+  system ← word_at (codes "SYSTEM") with
+  word_at (codes "VERSIONING") system
 
 -- CREATE TABLE name "(" entry {"," entry} ")" WITH SYSTEM VERSIONING
 unfoldable pub create_at : List ℕ → Read Declaration
 create_at bytes = do
   create ← word_at (codes "CREATE") bytes
-  table ← word_at (codes "TABLE") create.1
-  name ← name_at table.1
+  table ← word_at (codes "TABLE") create
+  name ← name_at table
   entries ← body_at name.1
   versioning ← versioning_at entries.1
-  Ok (record { name = name.0; entries = entries.0 }, versioning.1)
+  Ok (record { name = name.0; entries = entries.0 }, versioning)
 
 -- nothing comes next
 abbrev pub is_nothing : List ℕ → Bool
@@ -209,7 +210,7 @@ is_end_at bytes = is_nothing (next bytes)
 unfoldable pub more_at : List ℕ → Read Bool
 more_at bytes =
     if is_end_at bytes then Ok (false, bytes)
-    else (symbol_at 59 bytes >>= (λ x. Ok (not (is_end_at x.1), x.1)))
+    else (symbol_at 59 bytes >>= (λ rest. Ok (not (is_end_at rest), rest)))
 
 -- statements with semicolons between them, at most n
 abbrev pub creates_upto : ℕ → List ℕ → Read (List Declaration)

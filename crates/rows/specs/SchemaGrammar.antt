@@ -1,6 +1,6 @@
 -- The grammar of schemas: relations between what a text says, the text, and what comes after it. They know nothing of reading.
-use Rattle.std.specs.Prelude.{◌≡◌, ℕ, ◌≤◌, List, [], ◌∷◌, ◌++◌, ◌==◌, ◌⊎◌, Bool, true, false, Option, Some, None, length, map, not, codes}
-use Rattle.std.specs.Char.{is_ascii_digit, to_ascii_uppercase}
+use Rattle.std.specs.Prelude.{◌≡◌, ℕ, ◌≤◌, List, [], ◌∷◌, ◌++◌, ◌==◌, ◌⊎◌, Bool, true, false, Option, Some, None, length, not, codes}
+use Rattle.std.specs.Char.{is_ascii_digit}
 use Rattle.values.specs.declared.table.ColumnType.{ColumnType}
 use Rattle.values.specs.declared.table.ColumnType.TheVariants.{Int, Text, Varchar, Boolean}
 use Rattle.rows.specs.declared.declaration.Mark.{Mark}
@@ -10,20 +10,15 @@ use Rattle.rows.specs.declared.declaration.Side.TheVariants.{Start, End}
 use Rattle.rows.specs.declared.declaration.Entry.{Entry}
 use Rattle.rows.specs.declared.declaration.Entry.TheVariants.{User, Generated, Period, Key}
 use Rattle.rows.specs.declared.declaration.Declaration.{Declaration}
-use Rattle.rows.specs.SchemaToken.{is_separator, is_name_byte, is_name, number_from}
+use Rattle.values.specs.Names.{same_name}
+use Rattle.tokens.specs.Run.{AllBytes, Ends}
+use Rattle.tokens.specs.Word.{is_name_byte}
+use Rattle.tokens.specs.Name.{is_name}
+use Rattle.rows.specs.SchemaToken.{is_separator, number_from}
 
 -- a value, a text, and what comes after the piece of it that says the value
 abbrev pub Says : Type 0 → Type 1
 Says A = A → List ℕ → List ℕ → Type 0
-
-abbrev pub AllPass : (ℕ → Bool) → List ℕ → Type 0
-AllPass p [] = Unit {0}
-AllPass p (b ∷ bs) = (p b ≡ true) × AllPass p bs
-
--- the first byte, where there is one, does not pass
-abbrev pub Ends : (ℕ → Bool) → List ℕ → Type 0
-Ends p [] = Unit {0}
-Ends p (b ∷ bs) = p b ≡ false
 
 abbrev pub is_on_the_line : ℕ → Bool
 is_on_the_line b = not (b == 10)
@@ -37,8 +32,8 @@ pub data Piece : Type 0 where
 abbrev pub Gap : List Piece → List ℕ → List ℕ → Type 0
 Gap [] bytes rest = bytes ≡ rest
 Gap (blank b ∷ gap) bytes rest = (more : List ℕ) × ((bytes ≡ b ∷ more) × ((is_separator b ≡ true) × Gap gap more rest))
-Gap (comment text ∷ gap) bytes rest = (more : List ℕ) × ((bytes ≡ 45 ∷ 45 ∷ (text ++ 10 ∷ more)) × (AllPass is_on_the_line text × Gap gap more rest))
-Gap (last_comment text ∷ gap) bytes rest = (bytes ≡ 45 ∷ 45 ∷ text) × (AllPass is_on_the_line text × (rest ≡ []))
+Gap (comment text ∷ gap) bytes rest = (more : List ℕ) × ((bytes ≡ 45 ∷ 45 ∷ (text ++ 10 ∷ more)) × (AllBytes is_on_the_line text × Gap gap more rest))
+Gap (last_comment text ∷ gap) bytes rest = (bytes ≡ 45 ∷ 45 ∷ text) × (AllBytes is_on_the_line text × (rest ≡ []))
 
 -- no separator and no comment comes first
 abbrev pub BeginsToken : List ℕ → Type 0
@@ -58,14 +53,14 @@ pub record Symbol (symbol : ℕ) (value : Unit {0}) (bytes rest : List ℕ) : Ty
 -- letters, digits and underscores, as many as come
 pub record Letters (name bytes rest : List ℕ) : Type 0 where
   pub next : IsNext bytes (name ++ rest)
-  pub are_letters : AllPass is_name_byte name
+  pub are_letters : AllBytes is_name_byte name
   pub as_many : Ends is_name_byte rest
 
 -- a word of the grammar, in any case
 pub record Word (word : List ℕ) (value : Unit {0}) (bytes rest : List ℕ) : Type 0 where
   pub name : List ℕ
   pub letters : Letters name bytes rest
-  pub spelled : map to_ascii_uppercase name ≡ word
+  pub spelled : same_name word name ≡ true
 
 pub record Name (name bytes rest : List ℕ) : Type 0 where
   pub letters : Letters name bytes rest
@@ -76,7 +71,7 @@ pub record Digits (n : ℕ) (bytes rest : List ℕ) : Type 0 where
   pub digits : List ℕ
   pub next : IsNext bytes (digits ++ rest)
   pub some : 1 ≤ length digits
-  pub are_digits : AllPass is_ascii_digit digits
+  pub are_digits : AllBytes is_ascii_digit digits
   pub as_many : Ends is_ascii_digit rest
   pub number : number_from 0 digits ≡ n
 

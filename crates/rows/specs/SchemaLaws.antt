@@ -5,7 +5,7 @@ use Rattle.rows.specs.Sample.{sample}
 use Rattle.rows.specs.declared.schema_reading.SchemaFault.{SchemaFault}
 use Rattle.rows.specs.declared.schema_reading.SchemaFault.TheVariants.{Syntax, BadTable}
 use Rattle.rows.specs.declared.declaration.Declaration.{Declaration}
-use Rattle.rows.specs.SchemaTable.{tables_from, read_schema}
+use Rattle.rows.specs.SchemaTable.{longest_text, tables_from, read_schema}
 use Rattle.rows.specs.SchemaToken.{symbol_at, word_at, name_at, digits_at}
 use Rattle.rows.specs.SchemaGrammar.{BeginsToken, Symbol, Word, Name, Digits, SchemaText}
 use Rattle.rows.specs.GoodTables.{TablesAreGood, AreTablesOf, IsFirstBad}
@@ -29,14 +29,14 @@ WhatIsReadIsOfTheGrammar = (text : List ℕ) → HasSyntaxFault (read_schema tex
 
 -- a symbol, a word, a name and digits are read where they come next, and nowhere else
 pub record TokensAreRead : Type 0 where
-  pub symbols : (symbol : ℕ) (x : Unit {0}) (bytes rest : List ℕ) → (symbol_at symbol bytes ≡ Ok (x, rest)) ↔ Symbol symbol x bytes rest
-  pub words : (word : List ℕ) (x : Unit {0}) (bytes rest : List ℕ) → (word_at word bytes ≡ Ok (x, rest)) ↔ Word word x bytes rest
+  pub symbols : (symbol : ℕ) (x : Unit {0}) (bytes rest : List ℕ) → (symbol_at symbol bytes ≡ Ok rest) ↔ Symbol symbol x bytes rest
+  pub words : (word : List ℕ) (x : Unit {0}) (bytes rest : List ℕ) → (word_at word bytes ≡ Ok rest) ↔ Word word x bytes rest
   pub names : (name bytes rest : List ℕ) → (name_at bytes ≡ Ok (name, rest)) ↔ Name name bytes rest
   pub digits : (n : ℕ) (bytes rest : List ℕ) → (digits_at bytes ≡ Ok (n, rest)) ↔ Digits n bytes rest
 
 -- every text of the grammar that is short enough is read, as what it says
 abbrev pub TheGrammarIsRead : Type 0
-TheGrammarIsRead = (text : List ℕ) (declarations : List Declaration) → length text ≤ 65536 → SchemaText declarations text → read_schema text ≡ tables_from [] declarations
+TheGrammarIsRead = (text : List ℕ) (declarations : List Declaration) → length text ≤ longest_text → SchemaText declarations text → read_schema text ≡ tables_from [] declarations
 
 -- no text says two things
 abbrev pub TextsSayOneThing : Type 0
@@ -44,7 +44,7 @@ TextsSayOneThing = (text : List ℕ) (these those : List Declaration) → Schema
 
 -- a fault of syntax is found where the text is too long or says nothing, and nowhere else
 abbrev pub OnlyTheGrammarIsRead : Type 0
-OnlyTheGrammarIsRead = (text : List ℕ) → HasSyntaxFault (read_schema text) ↔ ((65536 < length text) ⊎ ((declarations : List Declaration) → SchemaText declarations text → ⊥))
+OnlyTheGrammarIsRead = (text : List ℕ) → HasSyntaxFault (read_schema text) ↔ ((longest_text < length text) ⊎ ((declarations : List Declaration) → SchemaText declarations text → ⊥))
 
 -- at the byte a token begins, or the text ends
 pub record TokenAt (text : List ℕ) (n : ℕ) : Type 0 where
@@ -56,7 +56,7 @@ pub record TokenAt (text : List ℕ) (n : ℕ) : Type 0 where
 
 -- a fault of syntax in a text that is short enough is told at a token or at the end
 abbrev pub FaultsAreAtTokens : Type 0
-FaultsAreAtTokens = (text : List ℕ) (n : ℕ) → length text ≤ 65536 → read_schema text ≡ Err (Syntax n) → TokenAt text n
+FaultsAreAtTokens = (text : List ℕ) (n : ℕ) → length text ≤ longest_text → read_schema text ≡ Err (Syntax n) → TokenAt text n
 
 -- declarations make a schema where they are good tables, and it has those; else the first bad one is told
 pub record GoodTablesAreMade : Type 0 where
@@ -67,7 +67,7 @@ pub record GoodTablesAreMade : Type 0 where
 -- a text of at most 65,536 bytes that says good tables, and a schema that has them
 pub record SaysSchema (text : List ℕ) (schema : Schema) : Type 0 where
   pub declarations : List Declaration
-  pub short : length text ≤ 65536
+  pub short : length text ≤ longest_text
   pub spelled : SchemaText declarations text
   pub good : TablesAreGood declarations
   pub tables : AreTablesOf 1 declarations schema.tables
@@ -78,4 +78,4 @@ OnlySchemasAreRead = (text : List ℕ) (schema : Schema) → (read_schema text �
 
 -- every text that says good tables says a schema
 abbrev pub GoodTextsAreRead : Type 0
-GoodTextsAreRead = (text : List ℕ) (declarations : List Declaration) → length text ≤ 65536 → SchemaText declarations text → TablesAreGood declarations → (schema : Schema) × (read_schema text ≡ Ok schema)
+GoodTextsAreRead = (text : List ℕ) (declarations : List Declaration) → length text ≤ longest_text → SchemaText declarations text → TablesAreGood declarations → (schema : Schema) × (read_schema text ≡ Ok schema)

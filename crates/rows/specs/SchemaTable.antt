@@ -130,10 +130,14 @@ abbrev pub tables_from : List Table → List Declaration → Result Schema Schem
 tables_from tables [] = Ok (record { tables = tables })
 tables_from tables (d ∷ ds) = elim (next_table tables d) [ None ↦ Err (BadTable (length tables + 1)) | Some t ↦ tables_from (tables ++ t ∷ []) ds ]
 
+-- the bytes that a schema's text may have
+abbrev pub longest_text : ℕ
+longest_text = 65536
+
 -- the schema of a text, or where its first fault is: syntax is looked for in the whole text before any table is
 unfoldable pub read_schema : List ℕ → Result Schema SchemaFault
 read_schema text =
-    if nat_lt 65536 (length text) then Err (Syntax 65536)
+    if nat_lt longest_text (length text) then Err (Syntax longest_text)
     else elim (creates_at text) [
       | Err at ↦ Err (Syntax (length text - length at))
       | Ok declarations ↦ tables_from [] declarations.0

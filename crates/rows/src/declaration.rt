@@ -1,13 +1,12 @@
 //! Reads the statements of a schema.
 
 ghost use Rattle.std.specs.Prelude.{◌≡◌};
-ghost use Rattle.rows.specs.SchemaToken.{Gives};
+ghost use Rattle.tokens.specs.Token.{Leaves, Gives, Makes};
 ghost use Rattle.rows.specs.Declaration.{names_at, size_at, is_whole_number_at, varchar_at, type_at, not_null_at, primary_key_at, mark_at, is_mark_at, marks_at, user_at, precision_at, maybe_not_null_at, side_at, row_side_at, generated_at, two_names_at, period_at, key_at, column_at, entry_at, entries_at, body_at, versioning_at, create_at, is_end_at, more_at, creates_at};
 
-use crate::schema_token::{
-    Read, Stop, after_symbol, after_word, digits_at, is_word_at, name_at, next, symbol_at, word_at,
-};
+use crate::schema_token::{Gaps, chars_at, digits_at};
 use std::alloc::Global;
+use tokens::{After, Made, Read, Separators, Stop, after_word, is_word_at, symbol_at, word_at};
 use values::{Chars, ColumnType, Sequence};
 
 /// What may stand after a column's type.
@@ -66,20 +65,20 @@ pub struct Declaration {
 }
 
 #[tactic(auto, unfolding(crate::specs::Declaration::names_at))]
-fn names_at(alloc: Global, bytes: &[u8]) -> Read<'_, Sequence<Chars>>
-    ensures { Gives (λ names. names) result (names_at bytes.now) }
+fn names_at(alloc: Global, bytes: &[u8]) -> Made<'_, Sequence<Chars>>
+    ensures { Makes result (names_at bytes.now) }
 {
     let mut names = Vec::new(alloc);
     let mut rest = bytes;
     for _ in 0..bytes.len() {
-        let (name, after) = match name_at(alloc, rest) {
+        let (name, after) = match chars_at(alloc, rest) {
             Ok(read) => read,
             Err(stop) => return Err(stop),
         };
         names.push(name)?;
-        match after_symbol(b',', after) {
-            Some(more) => rest = more,
-            None => return Ok((Sequence::new(names), after)),
+        match symbol_at::<Gaps>(b',', after) {
+            Ok(more) => rest = more,
+            Err(_) => return Ok((Sequence::new(names), after)),
         }
     }
     Err(Stop::At(rest))
@@ -88,11 +87,11 @@ fn names_at(alloc: Global, bytes: &[u8]) -> Read<'_, Sequence<Chars>>
 /// `"(" digits ")"`
 #[tactic(auto, unfolding(crate::specs::Declaration::size_at))]
 fn size_at(bytes: &[u8]) -> Read<'_, u16>
-    ensures { Gives (λ n. n) result (size_at bytes.now) }
+    ensures { Gives result (size_at bytes.now) }
 {
-    let ((), rest) = symbol_at(b'(', bytes)?;
+    let rest = symbol_at::<Gaps>(b'(', bytes)?;
     let (n, rest) = digits_at(rest)?;
-    let ((), rest) = symbol_at(b')', rest)?;
+    let rest = symbol_at::<Gaps>(b')', rest)?;
     Ok((n, rest))
 }
 
@@ -100,29 +99,31 @@ fn size_at(bytes: &[u8]) -> Read<'_, u16>
 fn is_whole_number_at(bytes: &[u8]) -> bool
     ensures { result ≡ is_whole_number_at bytes.now }
 {
-    is_word_at(b"INT", bytes) || is_word_at(b"INTEGER", bytes) || is_word_at(b"BIGINT", bytes)
+    is_word_at::<Gaps>(b"INT", bytes)
+        || is_word_at::<Gaps>(b"INTEGER", bytes)
+        || is_word_at::<Gaps>(b"BIGINT", bytes)
 }
 
 /// `VARCHAR "(" digits ")"`
 #[tactic(auto, unfolding(crate::specs::Declaration::varchar_at))]
 fn varchar_at(bytes: &[u8]) -> Read<'_, ColumnType>
-    ensures { Gives (λ of. of) result (varchar_at bytes.now) }
+    ensures { Gives result (varchar_at bytes.now) }
 {
-    let ((), rest) = word_at(b"VARCHAR", bytes)?;
+    let rest = word_at::<Gaps>(b"VARCHAR", bytes)?;
     let (n, rest) = size_at(rest)?;
     Ok((ColumnType::Varchar(n), rest))
 }
 
 #[tactic(auto, unfolding(crate::specs::Declaration::type_at))]
 fn type_at(bytes: &[u8]) -> Read<'_, ColumnType>
-    ensures { Gives (λ of. of) result (type_at bytes.now) }
+    ensures { Gives result (type_at bytes.now) }
 {
     if is_whole_number_at(bytes) {
-        Ok((ColumnType::Int, after_word(bytes)))
-    } else if is_word_at(b"TEXT", bytes) {
-        Ok((ColumnType::Text, after_word(bytes)))
-    } else if is_word_at(b"BOOLEAN", bytes) {
-        Ok((ColumnType::Boolean, after_word(bytes)))
+        Ok((ColumnType::Int, after_word::<Gaps>(bytes)))
+    } else if is_word_at::<Gaps>(b"TEXT", bytes) {
+        Ok((ColumnType::Text, after_word::<Gaps>(bytes)))
+    } else if is_word_at::<Gaps>(b"BOOLEAN", bytes) {
+        Ok((ColumnType::Boolean, after_word::<Gaps>(bytes)))
     } else {
         varchar_at(bytes)
     }
@@ -130,31 +131,31 @@ fn type_at(bytes: &[u8]) -> Read<'_, ColumnType>
 
 /// `NOT NULL`
 #[tactic(auto, unfolding(crate::specs::Declaration::not_null_at))]
-fn not_null_at(bytes: &[u8]) -> Read<'_, ()>
-    ensures { Gives (λ x. tt) result (not_null_at bytes.now) }
+fn not_null_at(bytes: &[u8]) -> After<'_>
+    ensures { Leaves result (not_null_at bytes.now) }
 {
-    let ((), rest) = word_at(b"NOT", bytes)?;
-    word_at(b"NULL", rest)
+    let rest = word_at::<Gaps>(b"NOT", bytes)?;
+    word_at::<Gaps>(b"NULL", rest)
 }
 
 /// `PRIMARY KEY`
 #[tactic(auto, unfolding(crate::specs::Declaration::primary_key_at))]
-fn primary_key_at(bytes: &[u8]) -> Read<'_, ()>
-    ensures { Gives (λ x. tt) result (primary_key_at bytes.now) }
+fn primary_key_at(bytes: &[u8]) -> After<'_>
+    ensures { Leaves result (primary_key_at bytes.now) }
 {
-    let ((), rest) = word_at(b"PRIMARY", bytes)?;
-    word_at(b"KEY", rest)
+    let rest = word_at::<Gaps>(b"PRIMARY", bytes)?;
+    word_at::<Gaps>(b"KEY", rest)
 }
 
 #[tactic(auto, unfolding(crate::specs::Declaration::mark_at))]
 fn mark_at(bytes: &[u8]) -> Read<'_, Mark>
-    ensures { Gives (λ mark. mark) result (mark_at bytes.now) }
+    ensures { Gives result (mark_at bytes.now) }
 {
-    if is_word_at(b"NOT", bytes) {
-        let ((), rest) = not_null_at(bytes)?;
+    if is_word_at::<Gaps>(b"NOT", bytes) {
+        let rest = not_null_at(bytes)?;
         Ok((Mark::NotNull, rest))
     } else {
-        let ((), rest) = primary_key_at(bytes)?;
+        let rest = primary_key_at(bytes)?;
         Ok((Mark::PrimaryKey, rest))
     }
 }
@@ -163,13 +164,13 @@ fn mark_at(bytes: &[u8]) -> Read<'_, Mark>
 fn is_mark_at(bytes: &[u8]) -> bool
     ensures { result ≡ is_mark_at bytes.now }
 {
-    is_word_at(b"NOT", bytes) || is_word_at(b"PRIMARY", bytes)
+    is_word_at::<Gaps>(b"NOT", bytes) || is_word_at::<Gaps>(b"PRIMARY", bytes)
 }
 
 /// `{NOT NULL | PRIMARY KEY}`
 #[tactic(auto, unfolding(crate::specs::Declaration::marks_at))]
-fn marks_at(alloc: Global, bytes: &[u8]) -> Read<'_, Sequence<Mark>>
-    ensures { Gives (λ marks. marks) result (marks_at bytes.now) }
+fn marks_at(alloc: Global, bytes: &[u8]) -> Made<'_, Sequence<Mark>>
+    ensures { Makes result (marks_at bytes.now) }
 {
     let mut marks = Vec::new(alloc);
     let mut rest = bytes;
@@ -179,7 +180,7 @@ fn marks_at(alloc: Global, bytes: &[u8]) -> Read<'_, Sequence<Mark>>
         }
         let (mark, after) = match mark_at(rest) {
             Ok(read) => read,
-            Err(stop) => return Err(stop),
+            Err(at) => return Err(Stop::At(at)),
         };
         marks.push(mark)?;
         rest = after;
@@ -189,8 +190,8 @@ fn marks_at(alloc: Global, bytes: &[u8]) -> Read<'_, Sequence<Mark>>
 
 /// `type {NOT NULL | PRIMARY KEY}`
 #[tactic(auto, unfolding(crate::specs::Declaration::user_at))]
-fn user_at(alloc: Global, name: Chars, bytes: &[u8]) -> Read<'_, Entry>
-    ensures { Gives (λ entry. entry) result (user_at name bytes.now) }
+fn user_at(alloc: Global, name: Chars, bytes: &[u8]) -> Made<'_, Entry>
+    ensures { Makes result (user_at name bytes.now) }
 {
     let (of, rest) = type_at(bytes)?;
     let (marks, rest) = marks_at(alloc, rest)?;
@@ -200,9 +201,9 @@ fn user_at(alloc: Global, name: Chars, bytes: &[u8]) -> Read<'_, Entry>
 /// `["(" digits ")"]`
 #[tactic(auto, unfolding(crate::specs::Declaration::precision_at))]
 fn precision_at(bytes: &[u8]) -> Read<'_, Option<u16>>
-    ensures { Gives (λ digits. digits) result (precision_at bytes.now) }
+    ensures { Gives result (precision_at bytes.now) }
 {
-    if after_symbol(b'(', bytes).is_none() {
+    if symbol_at::<Gaps>(b'(', bytes).is_err() {
         return Ok((None, bytes));
     }
     let (digits, rest) = size_at(bytes)?;
@@ -212,45 +213,45 @@ fn precision_at(bytes: &[u8]) -> Read<'_, Option<u16>>
 /// `[NOT NULL]`
 #[tactic(auto, unfolding(crate::specs::Declaration::maybe_not_null_at))]
 fn maybe_not_null_at(bytes: &[u8]) -> Read<'_, bool>
-    ensures { Gives (λ stands. stands) result (maybe_not_null_at bytes.now) }
+    ensures { Gives result (maybe_not_null_at bytes.now) }
 {
-    if !is_word_at(b"NOT", bytes) {
+    if !is_word_at::<Gaps>(b"NOT", bytes) {
         return Ok((false, bytes));
     }
-    let ((), rest) = not_null_at(bytes)?;
+    let rest = not_null_at(bytes)?;
     Ok((true, rest))
 }
 
 /// `START | END`
 #[tactic(auto, unfolding(crate::specs::Declaration::side_at))]
 fn side_at(bytes: &[u8]) -> Read<'_, Side>
-    ensures { Gives (λ side. side) result (side_at bytes.now) }
+    ensures { Gives result (side_at bytes.now) }
 {
-    if is_word_at(b"START", bytes) {
-        return Ok((Side::Start, after_word(bytes)));
+    if is_word_at::<Gaps>(b"START", bytes) {
+        return Ok((Side::Start, after_word::<Gaps>(bytes)));
     }
-    let ((), rest) = word_at(b"END", bytes)?;
+    let rest = word_at::<Gaps>(b"END", bytes)?;
     Ok((Side::End, rest))
 }
 
 /// `GENERATED ALWAYS AS ROW (START | END)`
 #[tactic(auto, unfolding(crate::specs::Declaration::row_side_at))]
 fn row_side_at(bytes: &[u8]) -> Read<'_, Side>
-    ensures { Gives (λ side. side) result (row_side_at bytes.now) }
+    ensures { Gives result (row_side_at bytes.now) }
 {
-    let ((), rest) = word_at(b"GENERATED", bytes)?;
-    let ((), rest) = word_at(b"ALWAYS", rest)?;
-    let ((), rest) = word_at(b"AS", rest)?;
-    let ((), rest) = word_at(b"ROW", rest)?;
+    let rest = word_at::<Gaps>(b"GENERATED", bytes)?;
+    let rest = word_at::<Gaps>(b"ALWAYS", rest)?;
+    let rest = word_at::<Gaps>(b"AS", rest)?;
+    let rest = word_at::<Gaps>(b"ROW", rest)?;
     side_at(rest)
 }
 
 /// `TIMESTAMP ["(" digits ")"] [NOT NULL] GENERATED ALWAYS AS ROW (START | END) [NOT NULL]`
 #[tactic(auto, unfolding(crate::specs::Declaration::generated_at))]
 fn generated_at(name: Chars, bytes: &[u8]) -> Read<'_, Entry>
-    ensures { Gives (λ entry. entry) result (generated_at name bytes.now) }
+    ensures { Gives result (generated_at name bytes.now) }
 {
-    let ((), rest) = word_at(b"TIMESTAMP", bytes)?;
+    let rest = word_at::<Gaps>(b"TIMESTAMP", bytes)?;
     let (digits, rest) = precision_at(rest)?;
     let (not_null_before, rest) = maybe_not_null_at(rest)?;
     let (side, rest) = row_side_at(rest)?;
@@ -267,62 +268,62 @@ fn generated_at(name: Chars, bytes: &[u8]) -> Read<'_, Entry>
 
 /// `"(" name "," name ")"`
 #[tactic(auto, unfolding(crate::specs::Declaration::two_names_at))]
-fn two_names_at(alloc: Global, bytes: &[u8]) -> Read<'_, Entry>
-    ensures { Gives (λ entry. entry) result (two_names_at bytes.now) }
+fn two_names_at(alloc: Global, bytes: &[u8]) -> Made<'_, Entry>
+    ensures { Makes result (two_names_at bytes.now) }
 {
-    let ((), rest) = symbol_at(b'(', bytes)?;
-    let (start, rest) = name_at(alloc, rest)?;
-    let ((), rest) = symbol_at(b',', rest)?;
-    let (end, rest) = name_at(alloc, rest)?;
-    let ((), rest) = symbol_at(b')', rest)?;
+    let rest = symbol_at::<Gaps>(b'(', bytes)?;
+    let (start, rest) = chars_at(alloc, rest)?;
+    let rest = symbol_at::<Gaps>(b',', rest)?;
+    let (end, rest) = chars_at(alloc, rest)?;
+    let rest = symbol_at::<Gaps>(b')', rest)?;
     Ok((Entry::Period(PeriodNames { start, end }), rest))
 }
 
 /// `PERIOD FOR SYSTEM_TIME "(" name "," name ")"`
 #[tactic(auto, unfolding(crate::specs::Declaration::period_at))]
-fn period_at(alloc: Global, bytes: &[u8]) -> Read<'_, Entry>
-    ensures { Gives (λ entry. entry) result (period_at bytes.now) }
+fn period_at(alloc: Global, bytes: &[u8]) -> Made<'_, Entry>
+    ensures { Makes result (period_at bytes.now) }
 {
-    let ((), rest) = word_at(b"PERIOD", bytes)?;
-    let ((), rest) = word_at(b"FOR", rest)?;
-    match word_at(b"SYSTEM_TIME", rest) {
-        Ok(((), rest)) => two_names_at(alloc, rest),
-        Err(stop) => Err(stop),
+    let rest = word_at::<Gaps>(b"PERIOD", bytes)?;
+    let rest = word_at::<Gaps>(b"FOR", rest)?;
+    match word_at::<Gaps>(b"SYSTEM_TIME", rest) {
+        Ok(rest) => two_names_at(alloc, rest),
+        Err(at) => Err(Stop::At(at)),
     }
 }
 
 /// `PRIMARY KEY "(" name {"," name} ")"`
 #[tactic(auto, unfolding(crate::specs::Declaration::key_at))]
-fn key_at(alloc: Global, bytes: &[u8]) -> Read<'_, Entry>
-    ensures { Gives (λ entry. entry) result (key_at bytes.now) }
+fn key_at(alloc: Global, bytes: &[u8]) -> Made<'_, Entry>
+    ensures { Makes result (key_at bytes.now) }
 {
-    let ((), rest) = primary_key_at(bytes)?;
-    let ((), rest) = symbol_at(b'(', rest)?;
+    let rest = primary_key_at(bytes)?;
+    let rest = symbol_at::<Gaps>(b'(', rest)?;
     let (names, rest) = names_at(alloc, rest)?;
-    let ((), rest) = symbol_at(b')', rest)?;
+    let rest = symbol_at::<Gaps>(b')', rest)?;
     Ok((Entry::Key(names), rest))
 }
 
 /// An entry that begins with a column's name.
 #[tactic(auto, unfolding(crate::specs::Declaration::column_at))]
-fn column_at(alloc: Global, bytes: &[u8]) -> Read<'_, Entry>
-    ensures { Gives (λ entry. entry) result (column_at bytes.now) }
+fn column_at(alloc: Global, bytes: &[u8]) -> Made<'_, Entry>
+    ensures { Makes result (column_at bytes.now) }
 {
-    let (name, rest) = name_at(alloc, bytes)?;
-    if is_word_at(b"TIMESTAMP", rest) {
-        generated_at(name, rest)
+    let (name, rest) = chars_at(alloc, bytes)?;
+    if is_word_at::<Gaps>(b"TIMESTAMP", rest) {
+        Ok(generated_at(name, rest)?)
     } else {
         user_at(alloc, name, rest)
     }
 }
 
 #[tactic(auto, unfolding(crate::specs::Declaration::entry_at))]
-fn entry_at(alloc: Global, bytes: &[u8]) -> Read<'_, Entry>
-    ensures { Gives (λ entry. entry) result (entry_at bytes.now) }
+fn entry_at(alloc: Global, bytes: &[u8]) -> Made<'_, Entry>
+    ensures { Makes result (entry_at bytes.now) }
 {
-    if is_word_at(b"PERIOD", bytes) {
+    if is_word_at::<Gaps>(b"PERIOD", bytes) {
         period_at(alloc, bytes)
-    } else if is_word_at(b"PRIMARY", bytes) {
+    } else if is_word_at::<Gaps>(b"PRIMARY", bytes) {
         key_at(alloc, bytes)
     } else {
         column_at(alloc, bytes)
@@ -330,8 +331,8 @@ fn entry_at(alloc: Global, bytes: &[u8]) -> Read<'_, Entry>
 }
 
 #[tactic(auto, unfolding(crate::specs::Declaration::entries_at))]
-fn entries_at(alloc: Global, bytes: &[u8]) -> Read<'_, Sequence<Entry>>
-    ensures { Gives (λ entries. entries) result (entries_at bytes.now) }
+fn entries_at(alloc: Global, bytes: &[u8]) -> Made<'_, Sequence<Entry>>
+    ensures { Makes result (entries_at bytes.now) }
 {
     let mut entries = Vec::new(alloc);
     let mut rest = bytes;
@@ -341,9 +342,9 @@ fn entries_at(alloc: Global, bytes: &[u8]) -> Read<'_, Sequence<Entry>>
             Err(stop) => return Err(stop),
         };
         entries.push(entry)?;
-        match after_symbol(b',', after) {
-            Some(more) => rest = more,
-            None => return Ok((Sequence::new(entries), after)),
+        match symbol_at::<Gaps>(b',', after) {
+            Ok(more) => rest = more,
+            Err(_) => return Ok((Sequence::new(entries), after)),
         }
     }
     Err(Stop::At(rest))
@@ -351,35 +352,35 @@ fn entries_at(alloc: Global, bytes: &[u8]) -> Read<'_, Sequence<Entry>>
 
 /// `"(" entry {"," entry} ")"`
 #[tactic(auto, unfolding(crate::specs::Declaration::body_at))]
-fn body_at(alloc: Global, bytes: &[u8]) -> Read<'_, Sequence<Entry>>
-    ensures { Gives (λ entries. entries) result (body_at bytes.now) }
+fn body_at(alloc: Global, bytes: &[u8]) -> Made<'_, Sequence<Entry>>
+    ensures { Makes result (body_at bytes.now) }
 {
-    let ((), rest) = symbol_at(b'(', bytes)?;
+    let rest = symbol_at::<Gaps>(b'(', bytes)?;
     let (entries, rest) = entries_at(alloc, rest)?;
-    let ((), rest) = symbol_at(b')', rest)?;
+    let rest = symbol_at::<Gaps>(b')', rest)?;
     Ok((entries, rest))
 }
 
 /// `WITH SYSTEM VERSIONING`
 #[tactic(auto, unfolding(crate::specs::Declaration::versioning_at))]
-fn versioning_at(bytes: &[u8]) -> Read<'_, ()>
-    ensures { Gives (λ x. tt) result (versioning_at bytes.now) }
+fn versioning_at(bytes: &[u8]) -> After<'_>
+    ensures { Leaves result (versioning_at bytes.now) }
 {
-    let ((), rest) = word_at(b"WITH", bytes)?;
-    let ((), rest) = word_at(b"SYSTEM", rest)?;
-    word_at(b"VERSIONING", rest)
+    let rest = word_at::<Gaps>(b"WITH", bytes)?;
+    let rest = word_at::<Gaps>(b"SYSTEM", rest)?;
+    word_at::<Gaps>(b"VERSIONING", rest)
 }
 
 /// `CREATE TABLE name "(" entry {"," entry} ")" WITH SYSTEM VERSIONING`
 #[tactic(auto, unfolding(crate::specs::Declaration::create_at))]
-fn create_at(alloc: Global, bytes: &[u8]) -> Read<'_, Declaration>
-    ensures { Gives (λ declaration. declaration) result (create_at bytes.now) }
+fn create_at(alloc: Global, bytes: &[u8]) -> Made<'_, Declaration>
+    ensures { Makes result (create_at bytes.now) }
 {
-    let ((), rest) = word_at(b"CREATE", bytes)?;
-    let ((), rest) = word_at(b"TABLE", rest)?;
-    let (name, rest) = name_at(alloc, rest)?;
+    let rest = word_at::<Gaps>(b"CREATE", bytes)?;
+    let rest = word_at::<Gaps>(b"TABLE", rest)?;
+    let (name, rest) = chars_at(alloc, rest)?;
     let (entries, rest) = body_at(alloc, rest)?;
-    let ((), rest) = versioning_at(rest)?;
+    let rest = versioning_at(rest)?;
     Ok((Declaration { name, entries }, rest))
 }
 
@@ -387,25 +388,25 @@ fn create_at(alloc: Global, bytes: &[u8]) -> Read<'_, Declaration>
 fn is_end_at(bytes: &[u8]) -> bool
     ensures { result ≡ is_end_at bytes.now }
 {
-    next(bytes).is_empty()
+    Gaps::next(bytes).is_empty()
 }
 
 /// Whether a statement comes after the one before: a semicolon may stand at the end.
 #[tactic(auto, unfolding(crate::specs::Declaration::more_at))]
 fn more_at(bytes: &[u8]) -> Read<'_, bool>
-    ensures { Gives (λ more. more) result (more_at bytes.now) }
+    ensures { Gives result (more_at bytes.now) }
 {
     if is_end_at(bytes) {
         return Ok((false, bytes));
     }
-    let ((), rest) = symbol_at(b';', bytes)?;
+    let rest = symbol_at::<Gaps>(b';', bytes)?;
     Ok((!is_end_at(rest), rest))
 }
 
 /// The statements of a whole text.
 #[tactic(auto, unfolding(crate::specs::Declaration::creates_at))]
-pub fn creates_at(alloc: Global, bytes: &[u8]) -> Read<'_, Sequence<Declaration>>
-    ensures { Gives (λ declarations. declarations) result (creates_at bytes.now) }
+pub fn creates_at(alloc: Global, bytes: &[u8]) -> Made<'_, Sequence<Declaration>>
+    ensures { Makes result (creates_at bytes.now) }
 {
     let mut declarations = Vec::new(alloc);
     let mut rest = bytes;
@@ -417,7 +418,7 @@ pub fn creates_at(alloc: Global, bytes: &[u8]) -> Read<'_, Sequence<Declaration>
         declarations.push(declaration)?;
         let (more, after) = match more_at(after) {
             Ok(read) => read,
-            Err(stop) => return Err(stop),
+            Err(at) => return Err(Stop::At(at)),
         };
         if !more {
             return Ok((Sequence::new(declarations), after));

@@ -16,7 +16,6 @@ pub use schema_laws::{
     good_tables_are_made, sample_is_a_schema, schemas_are_of_the_grammar, the_grammar_is_read,
 };
 pub use schema_reading::{SAMPLE, SchemaFault};
-pub use schema_token::is_reserved;
 pub use values::{
     Chars, Column, ColumnNumber, ColumnType, Comparison, Event, Form, Instant, Key, KeyBytes, Keys,
     LAST, Mem, Net, Operator, Point, Refusal, Row, Rows, Sequence, Set, Sets, SharedEvent, Shown,

@@ -4,10 +4,10 @@ ghost use Rattle.std.specs.Prelude.{[]};
 ghost use Rattle.rows.specs.SchemaTable.{tables_from, read_schema, IsOrMemory};
 
 use crate::declaration::{Declaration, creates_at};
-use crate::schema_table::next_table;
-use crate::schema_token::Stop;
 use crate::schema::Schema;
+use crate::schema_table::next_table;
 use std::alloc::{AllocError, AllocFailed, Global};
+use tokens::Stop;
 
 /// The bytes that a schema's text may have.
 const SCHEMA: usize = 65_536;

@@ -9,6 +9,9 @@ use crate::declaration::{Declaration, Entry, Mark, PeriodNames, Side};
 use std::alloc::{AllocError, Global};
 use values::{Chars, Column, ColumnNumber, ColumnType, Sequence, Table, same_name};
 
+/// The characters that a VARCHAR may have.
+const CHARACTERS: u16 = 1000;
+
 fn is_not_null(mark: &Mark) -> bool
     ensures { result ≡ is_not_null mark.now }
 {
@@ -112,7 +115,7 @@ fn period_names(entry: &Entry) -> Option<&PeriodNames>
     }
 }
 
-fn copied(alloc: Global, names: &[Chars]) -> Result<Sequence<Chars>, AllocError>
+fn copy_of(alloc: Global, names: &[Chars]) -> Result<Sequence<Chars>, AllocError>
     ensures { IfOk result (λ copy. copy ≡ names.now) }
 {
     let mut copy = Vec::new(alloc);
@@ -153,7 +156,7 @@ fn push_keys(
     ensures { OnOk result (keys.new.items ≡ keys.old.items ++ keys_in entry.now) }
 {
     match entry {
-        Entry::Key(names) => keys.push(copied(alloc, names.items())?)?,
+        Entry::Key(names) => keys.push(copy_of(alloc, names.items())?)?,
         Entry::User(column) => push_marked(alloc, keys, &column.name, column.marks.items())?,
         _ => {}
     }
@@ -175,7 +178,7 @@ fn is_good_type(of: ColumnType) -> bool
     ensures { result ≡ is_good_type of }
 {
     match of {
-        ColumnType::Varchar(characters) => 1 <= characters && characters <= 1000,
+        ColumnType::Varchar(characters) => 1 <= characters && characters <= CHARACTERS,
         _ => true,
     }
 }

@@ -1,5 +1,6 @@
-use crate::schema_reading::{SAMPLE, SchemaFault};
 use crate::schema::Schema;
+use crate::schema_reading::{SAMPLE, SchemaFault};
+use std::alloc::{AllocError, Global};
 use std::test::Fail;
 
 fn is_syntax_at(read: &Result<Schema, SchemaFault>, offset: usize) -> bool {
@@ -67,6 +68,36 @@ fn a_bad_table_is_told_by_its_number(rt: HostRuntime) -> Result<(), Fail> {
         let text = format!(in rt.alloc(); "{table}; {table};")?;
         let read = Schema::read(rt.alloc(), text.as_bytes());
         assert!(rt; is_bad_table(&read, number), "{column}");
+    }
+    Ok(())
+}
+
+/// So many tables of so many columns each.
+fn wide_text(alloc: Global, tables: u8, columns: u8) -> Result<String, AllocError> {
+    let mut text = String::new(alloc);
+    for table in 0..tables {
+        let name = format!(in alloc; "CREATE TABLE t{table} (")?;
+        text.push_str(&name)?;
+        for column in 0..columns {
+            let column = format!(in alloc; "c{column} INT, ")?;
+            text.push_str(&column)?;
+        }
+        text.push_str("s TIMESTAMP GENERATED ALWAYS AS ROW START, ")?;
+        text.push_str("e TIMESTAMP GENERATED ALWAYS AS ROW END, ")?;
+        text.push_str("PERIOD FOR SYSTEM_TIME (s, e), PRIMARY KEY (c0)) WITH SYSTEM VERSIONING; ")?;
+    }
+    Ok(text)
+}
+
+#[test]
+fn a_schema_has_16_tables_of_16_columns_at_most(rt: HostRuntime) -> Result<(), Fail> {
+    let widest = wide_text(rt.alloc(), 16, 16)?;
+    let schema = Schema::read(rt.alloc(), widest.as_bytes()).expect(&rt, "it is a schema");
+    assert_eq!(rt; schema.tables().len(), 16);
+    assert!(rt; schema.table(b"T15") == Some(16));
+    for (tables, columns, bad) in [(17, 1, 17), (1, 17, 1)] {
+        let text = wide_text(rt.alloc(), tables, columns)?;
+        assert!(rt; is_bad_table(&Schema::read(rt.alloc(), text.as_bytes()), bad));
     }
     Ok(())
 }

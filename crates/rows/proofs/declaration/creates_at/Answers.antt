@@ -1,21 +1,22 @@
 use Rattle.std.proofs.Common.{◌≡◌, ◌<◌, ◌-◌, ◌+◌, ◌++◌, ◌∷◌, [], Ok, true, false, sym, ap, ◌∙◌, length, arith, rules}
-use Rattle.rows.specs.Declaration.{creates_at, create_at, more_at, creates_upto, joined}
-use Rattle.rows.proofs.Listed.{stopped, creates_err, creates_more_err, creates_last, creates_more}
+use Rattle.rows.specs.Declaration.{creates_at, create_at, creates_upto, joined}
+use Rattle.tokens.proofs.Alike.{stops_alike}
+use Rattle.rows.proofs.Listed.{creates_err, creates_more_err, creates_last, creates_more}
 use Rattle.rows.proofs.declaration.creates_at.Goals as goal
 
 pub returns-in-Err : goal.returns-in-Err
 unfolding creates_at
 returns-in-Err c =
     let below : c.loop.counter < length c.args.bytes.now = omega arith in
-    stopped (λ x. x) (λ xs. xs) c.in-Err.stop (create_at c.loop.rest.now) (creates_at c.args.bytes.now)
+    stops_alike c.in-Err.stop (create_at c.loop.rest.now) (creates_at c.args.bytes.now)
     (λ e h. sym c.loop.invariant ∙ creates_err (length c.args.bytes.now) c.loop.counter c.loop.declarations.items c.loop.rest.now e below h) c.in-Err.ensures
 
 pub returns-in-Err-more_at : goal.returns-in-Err-more_at
 unfolding creates_at
 returns-in-Err-more_at c =
     let below : c.loop.counter < length c.args.bytes.now = omega arith in
-    stopped (λ x. x) (λ xs. xs) c.in-Err-more_at.stop (more_at c.in-Ok.read.1.now) (creates_at c.args.bytes.now)
-    (λ e h. sym c.loop.invariant ∙ creates_more_err (length c.args.bytes.now) c.loop.counter c.loop.declarations.items c.in-Ok.read.0 c.loop.rest.now c.in-Ok.read.1.now e below c.in-Ok.ensures h) c.in-Err-more_at.ensures
+    sym c.loop.invariant
+    ∙ creates_more_err (length c.args.bytes.now) c.loop.counter c.loop.declarations.items c.in-Ok.read.0 c.loop.rest.now c.in-Ok.read.1.now c.in-Err-more_at.at.now below c.in-Ok.ensures c.in-Err-more_at.ensures
 
 pub returns-then-not-more : goal.returns-then-not-more
 unfolding creates_at

@@ -1,6 +1,6 @@
 use Rattle.std.proofs.Common.{◌≡◌, ◌<◌, ◌-◌, ◌+◌, ◌++◌, ◌∷◌, [], Ok, true, false, sym, ap, ◌∙◌, length, arith, rules}
-use Rattle.rows.specs.Declaration.{marks_at, is_mark_at, mark_at, marks_upto, joined}
-use Rattle.rows.proofs.Listed.{stopped, marks_end, marks_err, marks_more}
+use Rattle.rows.specs.Declaration.{marks_at, is_mark_at, marks_upto, joined}
+use Rattle.rows.proofs.Listed.{marks_end, marks_err, marks_more}
 use Rattle.rows.proofs.declaration.marks_at.Goals as goal
 
 pub returns-then-not-is_mark_at : goal.returns-then-not-is_mark_at
@@ -16,8 +16,7 @@ unfolding marks_at
 returns-in-Err c =
     let below : c.loop.counter < length c.args.bytes.now = omega arith in
     let one : is_mark_at c.loop.rest.now ≡ true = search rules in
-    stopped (λ x. x) (λ xs. xs) c.in-Err.stop (mark_at c.loop.rest.now) (marks_at c.args.bytes.now)
-    (λ e h. sym c.loop.invariant ∙ marks_err (length c.args.bytes.now) c.loop.counter c.loop.marks.items c.loop.rest.now e below one h) c.in-Err.ensures
+    sym c.loop.invariant ∙ marks_err (length c.args.bytes.now) c.loop.counter c.loop.marks.items c.loop.rest.now c.in-Err.at.now below one c.in-Err.ensures
 
 pub loop-preserved : goal.loop-preserved
 loop-preserved c =

@@ -1,29 +1,30 @@
 use Rattle.std.proofs.Common.{◌≡◌, ◌<◌, ◌++◌, ◌∷◌, [], Ok, sym, ap, ◌∙◌, length, arith, rules, ◌-◌, ◌+◌}
 use Rattle.rows.specs.SchemaToken.{name_at}
 use Rattle.rows.specs.Declaration.{names_at, joined, listed}
-use Rattle.rows.proofs.Listed.{stopped, listed_err, listed_last, listed_more}
+use Rattle.tokens.proofs.Alike.{stops_alike}
+use Rattle.rows.proofs.Listed.{listed_err, listed_last, listed_more}
 use Rattle.rows.proofs.declaration.names_at.Goals as goal
 
 pub returns-in-Err : goal.returns-in-Err
 unfolding names_at
 returns-in-Err c =
     let below : c.loop.counter < length c.args.bytes.now = omega arith in
-    stopped (λ x. x) (λ xs. xs) c.in-Err.stop (name_at c.loop.rest.now) (names_at c.args.bytes.now)
+    stops_alike c.in-Err.stop (name_at c.loop.rest.now) (names_at c.args.bytes.now)
     (λ e h. sym c.loop.invariant ∙ listed_err name_at (length c.args.bytes.now) c.loop.counter c.loop.names.items c.loop.rest.now e below h) c.in-Err.ensures
 
-pub returns-in-None : goal.returns-in-None
+pub returns-in-Err-symbol_at : goal.returns-in-Err-symbol_at
 unfolding names_at
-returns-in-None c =
+returns-in-Err-symbol_at c =
     let below : c.loop.counter < length c.args.bytes.now = omega arith in
     let pushed : c.new.result ≡ c.loop.names.items ++ c.in-Ok.read.0 ∷ [] = search rules in
     sym c.loop.invariant
-    ∙ listed_last name_at (length c.args.bytes.now) c.loop.counter c.loop.names.items c.in-Ok.read.0 c.loop.rest.now c.in-Ok.read.1.now below c.in-Ok.ensures (sym c.in-None.ensures)
+    ∙ listed_last name_at (length c.args.bytes.now) c.loop.counter c.loop.names.items c.in-Ok.read.0 c.loop.rest.now c.in-Ok.read.1.now _ below c.in-Ok.ensures c.in-Err-symbol_at.ensures
     ∙ ap (λ xs. Ok (xs, c.in-Ok.read.1.now)) (sym pushed)
 
 pub loop-preserved : goal.loop-preserved
 loop-preserved c =
     let below : c.loop.counter < length c.args.bytes.now = omega arith in
     let pushed : c.push.new.self.items ≡ c.loop.names.items ++ c.in-Ok.read.0 ∷ [] = search rules in
-    ap (λ xs. joined xs (listed name_at (length c.args.bytes.now - (c.loop.counter + 1)) c.in-Some.more.now)) pushed
-    ∙ sym (listed_more name_at (length c.args.bytes.now) c.loop.counter c.loop.names.items c.in-Ok.read.0 c.loop.rest.now c.in-Ok.read.1.now c.in-Some.more.now below c.in-Ok.ensures (sym c.in-Some.ensures))
+    ap (λ xs. joined xs (listed name_at (length c.args.bytes.now - (c.loop.counter + 1)) c.in-Ok-symbol_at.more.now)) pushed
+    ∙ sym (listed_more name_at (length c.args.bytes.now) c.loop.counter c.loop.names.items c.in-Ok.read.0 c.loop.rest.now c.in-Ok.read.1.now c.in-Ok-symbol_at.more.now below c.in-Ok.ensures c.in-Ok-symbol_at.ensures)
     ∙ c.loop.invariant

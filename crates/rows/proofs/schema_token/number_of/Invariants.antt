@@ -1,9 +1,6 @@
-use Rattle.std.proofs.Common.{◌≡◌, length}
+use Rattle.std.proofs.Common.{◌≡◌, drop}
 use Rattle.rows.specs.SchemaToken.{number_from}
 use Rattle.rows.proofs.schema_token.number_of.Given as goal
 
-abbrev pub invariant-loop-rest : goal.invariant-loop-rest
-invariant-loop-rest l = number_from l.n l.rest ≡ number_from 0 l.bytes
-
-abbrev pub decreases-loop-rest : goal.decreases-loop-rest
-decreases-loop-rest l = length l.rest
+abbrev pub invariant-loop-digit : goal.invariant-loop-digit
+invariant-loop-digit l = number_from l.n (drop l.digit-index l.digits) ≡ number_from 0 l.digits
