@@ -1,5 +1,5 @@
 -- Reading from the left reads the lines of the grammar and no others.
-use Rattle.std.proofs.Common.{◌≡◌, ◌⊎◌, ℕ, Bool, true, false, List, [], ◌∷◌, length, Ok, Err, inl, inr, refl, ap, sym, ◌∙◌, subst}
+use Rattle.std.proofs.Common.{arith, ◌++◌, ◌≡◌, ◌⊎◌, ℕ, Bool, true, false, List, [], ◌∷◌, length, Ok, Err, inl, inr, refl, ap, sym, ◌∙◌, subst}
 use Rattle.std.specs.Prelude.{Result, ◌==◌, ◌-◌, if◌then◌else◌}
 use Rattle.std.proofs.lemmas.Bool.{and_parts, false≢true}
 use Rattle.values.specs.Tables.{Schema}
@@ -8,13 +8,19 @@ use Rattle.values.specs.declared.refusal.Refusal.TheVariants.{Syntax}
 use Rattle.statement.specs.declared.line.Line.{Line}
 use Rattle.statement.specs.declared.line.Line.TheVariants.{Nothing}
 use Rattle.statement.specs.declared.line.Written.{Written}
-use Rattle.statement.specs.Token.{Read, is_blank, next}
+use Rattle.tokens.specs.Token.{Read}
+use Rattle.statement.specs.Token.{is_blank, next}
 use Rattle.statement.specs.Line.{is_nothing, written_at, meaning_of, body_says}
-use Rattle.statement.specs.Grammar.{Ends, Blanks, IsNothing, IsLine}
-use Rattle.statement.specs.GrammarLaws.{LinesAreRead, LinesSayOneThing, NothingIsRead, IsRefused, OnlyLinesAreRead}
-use Rattle.statement.proofs.Runs.{blanks_before, next_is}
+use Rattle.tokens.specs.Run.{Ends}
+use Rattle.statement.specs.Grammar.{Blanks, IsNothing, IsLine}
+use Rattle.statement.specs.GrammarLaws.{LinesAreRead, LinesSayOneThing, NothingIsRead, IsRefused, OnlyLinesAreRead, TokenAt, FaultsAreAtTokens}
+use Rattle.statement.proofs.Gaps.{blanks_before, next_is}
 use Rattle.statement.proofs.Sound.{same_byte}
+use Rattle.std.proofs.lemmas.List.{length-append}
 use Rattle.statement.proofs.Holds.{holds_at}
+use Rattle.statement.proofs.Stopping.{stopped_at}
+use Rattle.statement.proofs.StopsLine.{written_stops}
+use Rattle.statement.proofs.Meanings.{never_syntax}
 use Rattle.statement.proofs.SoundLines.{written_sound}
 use Rattle.statement.proofs.WholeLines.{line_is_something, line_whole}
 
@@ -77,3 +83,25 @@ module _ (schema : Schema) where
       by_test : (t : Bool) → is_nothing (next bytes) ≡ t → IsNothing bytes ⊎ (((written : Written) × IsLine schema written bytes) ⊎ IsRefused schema reading bytes)
       by_test true is = inl (nothing_found bytes (next bytes) (blanks_before bytes) is)
       by_test false is = inr (by_reading reading bytes (written_at schema bytes) refl is)
+
+  -- the byte of a fault of syntax
+  pub at_tokens : FaultsAreAtTokens schema
+  unfolding body_says
+  at_tokens reading bytes byte is = by_test (is_nothing (next bytes)) is
+    where
+      number : Result Line Refusal → ℕ
+      number (Err (Syntax k)) = k
+      number _ = byte
+
+      told : (at front : List ℕ) → length bytes ≡ length (front ++ at) → length bytes - length at ≡ byte → byte ≡ length front
+      told at front whole e = omega (arith, whole, e, length-append front at)
+
+      by_read : (r : Read Written) → written_at schema bytes ≡ r → answered reading bytes r ≡ Err (Syntax byte) → TokenAt bytes byte
+      by_read (Ok x) at e = absurd (never_syntax schema reading x.0 byte e)
+      by_read (Err at) at_is e =
+          let r = stopped_at (written_stops schema bytes) at_is in
+          record { before = r.ended.front; from = at; place = r.ended.place; counted = told at r.ended.front (ap length r.ended.place) (ap number e); begins = r.begins }
+
+      by_test : (t : Bool) → (if t then Ok Nothing else answered reading bytes (written_at schema bytes)) ≡ Err (Syntax byte) → TokenAt bytes byte
+      by_test true e = let no : ◌≡◌ {A = Result Line Refusal} (Ok Nothing) (Err (Syntax byte)) = e in cc
+      by_test false e = by_read (written_at schema bytes) refl e

@@ -1,7 +1,7 @@
 -- What holds of a value that was read and of the bytes after it.
 use Rattle.std.proofs.Common.{◌≡◌, List, ℕ, Ok, Err, subst}
 use Rattle.std.specs.Prelude.{Option, Some, None}
-use Rattle.statement.specs.Token.{After, Read, ◌>>=◌}
+use Rattle.tokens.specs.Token.{After, Read, ◌>>=◌}
 
 abbrev HoldsOf : {A : Type 0} → Read A → (A → List ℕ → Type 0) → Type 0
 HoldsOf (Ok x) P = P x.0 x.1

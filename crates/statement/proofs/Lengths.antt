@@ -10,9 +10,10 @@ use Rattle.values.specs.declared.query.Set.{Set}
 use Rattle.values.specs.declared.value.Value.{Value}
 use Rattle.values.specs.declared.value.Value.TheVariants.{Int, Text, Bool as Truth, Null}
 use Rattle.values.specs.Log.{Row}
-use Rattle.statement.specs.Word.{is_name_byte}
-use Rattle.statement.specs.Grammar.{Piece, ◌⋯◌, Blanks, Run, Exactly, Symbol, Word, Name, Digits, Number, Quoted, doubled, Literal, Listed, Enclosed, IsRow, IsOperator, IsColumn, IsSet, IsComparison}
-use Rattle.statement.proofs.Whole.{some_written}
+use Rattle.tokens.specs.Word.{is_name_byte}
+use Rattle.statement.specs.Grammar.{Piece, ◌⋯◌, Blanks, Exactly, Symbol, Word, Name, Digits, Number, Quoted, doubled, Literal, Listed, Enclosed, IsRow, IsOperator, IsColumn, IsSet, IsComparison}
+use Rattle.tokens.specs.Run.{Run}
+use Rattle.tokens.proofs.Words.{some_written}
 
 pub record KeepsWithin (P : Piece) : Type 0 where
   pub within : (bytes rest : List ℕ) → P bytes rest → length rest ≤ length bytes

@@ -7,7 +7,7 @@ use Rattle.std.proofs.lemmas.List.{append_assoc, length_push, get_or_at, take_at
 use Rattle.statement.specs.Line.{without_last, before_feed, body_of}
 use Rattle.statement.specs.GrammarLaws.{EndsOtherwise, LineEndsAreNoTokens}
 use Rattle.statement.proofs.Sound.{same_byte}
-use Rattle.statement.proofs.Whole.{same_number}
+use Rattle.tokens.proofs.Words.{same_number}
 
 longer : (m n : ℕ) → n ≡ m + 1 → (m == n) ≡ false
 longer m n is = grind (arith, nat_tests)

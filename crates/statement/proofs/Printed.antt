@@ -8,9 +8,10 @@ use Rattle.std.proofs.lemmas.List.{append_assoc}
 use Rattle.std.proofs.lemmas.Bool.Decides.{nat_tests}
 use Rattle.values.specs.declared.value.Value.{Value}
 use Rattle.values.specs.declared.value.Value.TheVariants.{Int, Text, Bool as Truth, Null}
-use Rattle.statement.specs.Word.{is_name_byte}
+use Rattle.tokens.specs.Word.{is_name_byte}
 use Rattle.statement.specs.Print.{quoted, value_text, next_text, values_text}
-use Rattle.statement.specs.Grammar.{AllBytes, Blanks, Symbol, Digits, is_quote, Literal, Listed, IsRow}
+use Rattle.tokens.specs.Run.{AllBytes}
+use Rattle.statement.specs.Grammar.{Blanks, Symbol, Digits, is_quote, Literal, Listed, IsRow}
 use Rattle.statement.specs.GrammarLaws.{IsPlain, ArePlain, PrintedRowsAreRead}
 use Rattle.statement.proofs.SoundLiterals.{literal_behind}
 use Rattle.statement.proofs.WholeLiterals.{no_blanks}

@@ -6,13 +6,14 @@ use Rattle.values.specs.declared.query.Comparison.{Comparison}
 use Rattle.values.specs.declared.query.Keys.{Keys}
 use Rattle.statement.specs.declared.line.Written.TheVariants.{Clock, Session}
 use Rattle.statement.specs.declared.statement.Statement.TheVariants.{Begin, Insert, Update, Delete, Select, Commit, Rollback}
-use Rattle.statement.specs.Token.{After, next, symbol_at, end_at, after_semicolon}
-use Rattle.statement.specs.Word.{word_at, after_word}
+use Rattle.tokens.specs.Token.{After}
+use Rattle.statement.specs.Token.{next, symbol_at, end_at, after_semicolon}
+use Rattle.statement.specs.Token.{word_at, after_optional_word}
 use Rattle.statement.specs.Condition.{keys_at}
 use Rattle.statement.specs.Statement.{start_at, listed_at, insert_at, update_at, delete_at, select_at, data_at, statement_at}
 use Rattle.statement.specs.Line.{begins_digit, clock_at, session_at, written_at}
 use Rattle.statement.specs.Grammar.{◌∣◌, Empty, Blanks, Symbol, Word, Listed, IsTable, IsSet, IsComparison, IsColumnList, IsWhere, IsStatement, IsLine}
-use Rattle.statement.proofs.Runs.{blanks_before}
+use Rattle.statement.proofs.Gaps.{blanks_before}
 use Rattle.statement.proofs.Sound.{symbol_sound, word_sound}
 use Rattle.statement.proofs.SoundLiterals.{digits_sound}
 use Rattle.statement.proofs.SoundLists.{rows_sound, instant_sound, form_sound, table_sound, sets_sound, comparisons_sound, columns_sound}
@@ -22,7 +23,7 @@ optional_sound : {P : List ℕ → Type 0} (bytes : List ℕ) (r : After) → Le
 optional_sound bytes (Ok rest) h = inr h.it
 optional_sound bytes (Err at) h = inl refl
 
-work_sound : (bytes : List ℕ) → (Empty ∣ Word (codes "WORK")) bytes (after_word (codes "WORK") bytes)
+work_sound : (bytes : List ℕ) → (Empty ∣ Word (codes "WORK")) bytes (after_optional_word (codes "WORK") bytes)
 work_sound bytes = optional_sound bytes (word_at (codes "WORK") bytes) (word_sound (codes "WORK") bytes)
 
 semicolon_sound : (bytes : List ℕ) → (Empty ∣ Symbol 59) bytes (after_semicolon bytes)

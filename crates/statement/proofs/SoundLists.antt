@@ -2,17 +2,21 @@
 use Rattle.std.proofs.Common.{◌≡◌, ℕ, Bool, true, false, List, [], ◌∷◌, ◌++◌, Ok, Err, refl, ap, sym, ◌∙◌, subst}
 use Rattle.std.specs.Prelude.{◌==◌, if◌then◌else◌, codes}
 use Rattle.std.proofs.lemmas.List.{append-nil, append_assoc}
+use Rattle.values.specs.Commits.{max_instant}
 use Rattle.values.specs.Tables.{Schema}
 use Rattle.values.specs.declared.query.Form.TheVariants.{Plain, AsOf}
 use Rattle.values.specs.declared.query.Operator.{Operator}
 use Rattle.values.specs.declared.query.Operator.TheVariants.{Equal, Below, AtMost, Above, AtLeast}
-use Rattle.statement.specs.Token.{After, Read, next, symbol_at, more_at, list_at, enclosed_at}
-use Rattle.statement.specs.Word.{word_at}
+use Rattle.tokens.specs.Token.{After, Read}
+use Rattle.statement.specs.Token.{next, symbol_at}
+use Rattle.statement.specs.List.{more_at, list_at, enclosed_at}
+use Rattle.statement.specs.Token.{word_at}
 use Rattle.statement.specs.Literal.{literal_at, row_at, rows_at}
 use Rattle.statement.specs.Condition.{table_of, column_of, table_name_at, column_name_at, or_equal, operator_of, operator_at, set_at, comparison_at, sets_at, comparisons_at, columns_at}
 use Rattle.statement.specs.Statement.{instant_at, as_of_at, form_at}
-use Rattle.statement.specs.Grammar.{Piece, ◌⋯◌, Empty, Ends, Blanks, Symbol, Word, Literal, Listed, Enclosed, IsRow, IsOperator, IsInstant, IsForm, IsTable, IsColumn, IsSet, IsComparison}
-use Rattle.statement.proofs.Runs.{blanks_before}
+use Rattle.statement.specs.Grammar.{Piece, ◌⋯◌, Empty, Blanks, Symbol, Word, Literal, Listed, Enclosed, IsRow, IsOperator, IsInstant, IsForm, IsTable, IsColumn, IsSet, IsComparison}
+use Rattle.tokens.specs.Run.{Ends}
+use Rattle.statement.proofs.Gaps.{blanks_before}
 use Rattle.statement.proofs.Sound.{symbol_sound, word_sound, name_sound, same_byte}
 use Rattle.statement.proofs.SoundLiterals.{digits_sound, literal_sound}
 use Rattle.statement.proofs.Holds.{Holds, Leaves, holds, holds_then, holds_read, leaves_then, leaves_either, holds_weaker}
@@ -101,7 +105,7 @@ operator_sound bytes = operator_found bytes (next bytes) (blanks_before bytes)
 
 pub instant_sound : (bytes : List ℕ) → Holds (instant_at bytes) (λ n rest. IsInstant n bytes rest)
 unfolding instant_at
-instant_sound bytes = digits_sound 999999999999999999 bytes
+instant_sound bytes = digits_sound max_instant bytes
 
 as_of_sound : (bytes start : List ℕ) → Word (codes "FOR") start bytes → Holds (as_of_at bytes) (λ form rest. IsForm form start rest)
 unfolding as_of_at

@@ -11,10 +11,13 @@ use Rattle.std.proofs.lemmas.List.Folds.{length-prefix_len}
 use Rattle.std.proofs.lemmas.Bool.Decides.{nat_tests}
 use Rattle.values.specs.declared.value.Value.{Value}
 use Rattle.values.specs.declared.value.Value.TheVariants.{Int, Text, Bool as Truth, Null}
-use Rattle.statement.specs.Token.{Read, ◌>>=◌, next}
+use Rattle.tokens.specs.Token.{Read, ◌>>=◌}
+use Rattle.statement.specs.Token.{next}
 use Rattle.statement.specs.Literal.{digit_count, digits_here, digits_at, begins_with, above_nought, below_nought, number_at, quoted_from, quoted, text_of, text_at, constant_at, begins_number, literal_at}
-use Rattle.statement.specs.Grammar.{◌⋯◌, Ends, Blanks, Symbol, Digits, Number, doubled, is_quote, Literal}
-use Rattle.statement.proofs.Runs.{run_of, blanks_before, blanks_join}
+use Rattle.statement.specs.Grammar.{◌⋯◌, Blanks, Symbol, Digits, Number, doubled, is_quote, Literal}
+use Rattle.tokens.specs.Run.{Ends}
+use Rattle.tokens.proofs.Runs.{run_of}
+use Rattle.statement.proofs.Gaps.{blanks_before, blanks_join}
 use Rattle.statement.proofs.Sound.{symbol_sound, word_sound, same_byte}
 use Rattle.statement.proofs.Holds.{Holds, Found, found_weaker, holds, holds_then, leaves_then, leaves_either, holds_found, holds_weaker}
 

@@ -1,14 +1,8 @@
 -- The turns of a loop that reads a list.
 use Rattle.std.proofs.Common.{◌≡◌, ℕ, ◌+◌, ◌<◌, ◌≤◌, List, [], ◌∷◌, ◌++◌, length, drop, Ok, Err, ap, ◌∙◌}
 use Rattle.std.proofs.lemmas.List.{at_drop_more, at_drop_all}
-use Rattle.statement.specs.declared.token.Stop.{Stop}
-use Rattle.statement.specs.declared.token.Stop.TheVariants.{Here, Memory}
-use Rattle.statement.specs.Token.{After, Read, Stops, more_at}
-
--- where reading ends at a token, so does the rest
-pub stops_alike : {A B : Type 0} (stop : Stop) (read : Read A) (other : Read B) → ((at : List ℕ) → read ≡ Err at → other ≡ Err at) → Stops stop read → Stops stop other
-stops_alike (Here at) read other alike is = alike at.now is
-stops_alike Memory read other alike is = tt
+use Rattle.tokens.specs.Token.{After, Read}
+use Rattle.statement.specs.List.{more_at}
 
 module _ {A : Type 0} (separator : List ℕ → After) (item : List ℕ → Read A) (turns : List ℕ) (i : ℕ) (front : List A) (bytes : List ℕ) where
   abbrev on_item : List ℕ → Read A → Read (List A)

@@ -1,23 +1,22 @@
 -- What is of the grammar is read: tokens.
 use Rattle.std.proofs.Common.{◌≡◌, ◌<◌, ◌+◌, ℕ, Bool, true, false, List, [], ◌∷◌, ◌++◌, length, take, drop, Ok, Err, cond, refl, ap, sym, ◌∙◌, subst, arith}
-use Rattle.std.specs.Prelude.{Result, ◌==◌, if◌then◌else◌}
+use Rattle.std.specs.Prelude.{◌==◌, if◌then◌else◌}
 use Rattle.std.specs.List.{prefix_len}
-use Rattle.std.specs.Char.{to_ascii_lowercase, eq_ignore_ascii_case}
-use Rattle.std.proofs.lemmas.Bool.{and_parts, and_from, and_left}
 use Rattle.std.proofs.lemmas.Bool.Decides.{nat_tests}
-use Rattle.values.specs.Names.{same_name, same_letters}
-use Rattle.statement.specs.Token.{After, is_blank, next, symbol_at}
-use Rattle.statement.specs.Word.{is_name_byte, word_length, word_at, is_name, name_at}
-use Rattle.statement.specs.Grammar.{AllBytes, Ends, Blanks, Run, Symbol, Word, Name}
-use Rattle.statement.proofs.Runs.{next_is, run_taken, run_left}
-
--- nothing is read
-pub record Refused {A : Type 0} (r : Result A (List ℕ)) : Type 0 where
-  pub at : List ℕ
-  pub is : r ≡ Err at
-
-pub same_number : (n : ℕ) → (n == n) ≡ true
-same_number n = grind (arith, nat_tests)
+use Rattle.values.specs.Names.{same_name}
+use Rattle.tokens.specs.Token.{symbol_at as symbol_after}
+use Rattle.tokens.specs.Word.{is_word_at as is_word_after, after_word as rest_of_word, word_at as word_after}
+use Rattle.tokens.specs.Name.{name_at as name_after}
+use Rattle.tokens.proofs.Words.{Refused, same_number, some_written, none_same, same_length, not_same}
+use Rattle.tokens.specs.Token.{After}
+use Rattle.statement.specs.Token.{is_blank, next, symbol_at}
+use Rattle.tokens.specs.Word.{is_name_byte, word_length}
+use Rattle.statement.specs.Token.{word_at, name_at}
+use Rattle.tokens.specs.Name.{is_name}
+use Rattle.tokens.specs.Run.{AllBytes, Ends, Run}
+use Rattle.statement.specs.Grammar.{Blanks, Symbol, Word, Name}
+use Rattle.statement.proofs.Gaps.{next_is}
+use Rattle.tokens.proofs.Runs.{run_taken, run_left}
 
 name_byte_is_no_blank : (b : ℕ) → is_name_byte b ≡ true → is_blank b ≡ false
 name_byte_is_no_blank b is = grind (arith, nat_tests)
@@ -26,15 +25,12 @@ not_blank : (written rest : List ℕ) → 0 < length written → AllBytes is_nam
 not_blank [] rest some all = absurd (omega arith)
 not_blank (b ∷ bs) rest some all = name_byte_is_no_blank b all.0
 
-pub some_written : (word written : List ℕ) → 0 < length word → same_name word written ≡ true → 0 < length written
-some_written word written some same = let e = and_parts (length word == length written) (same_letters word written) same in let l = e.0 in grind (arith, nat_tests)
-
 -- the token at the front, by its bytes and what follows it
 pub next_run : {written rest : List ℕ} (bytes at : List ℕ) → Blanks bytes at → Run is_name_byte written at rest → 0 < length written → next bytes ≡ at
 next_run {written} {rest} bytes at blanks run some = next_is blanks (subst (Ends is_blank) (sym run.spelled) (not_blank written rest some run.all))
 
 pub word_whole : (word : List ℕ) → 0 < length word → (bytes rest : List ℕ) → Word word bytes rest → word_at word bytes ≡ Ok rest
-unfolding word_at
+unfolding is_word_after rest_of_word word_after
 word_whole word some bytes rest is =
     let at = is.0 in
     let written = is.1.1.0 in
@@ -52,7 +48,7 @@ name_has_bytes [] is = cc
 name_has_bytes (b ∷ bs) is = omega arith
 
 pub name_whole : (name bytes rest : List ℕ) → Name name bytes rest → name_at bytes ≡ Ok (name, rest)
-unfolding name_at
+unfolding name_after
 name_whole name bytes rest is =
     let at = is.0 in
     let run = is.1.1.0 in
@@ -71,32 +67,28 @@ next_symbol symbol no_blank bytes rest is =
     next_is is.1.0 (subst (Ends is_blank) (sym is.1.1) no_blank) ∙ is.1.1
 
 pub symbol_whole : (symbol : ℕ) → is_blank symbol ≡ false → (bytes rest : List ℕ) → Symbol symbol bytes rest → symbol_at symbol bytes ≡ Ok rest
-unfolding symbol_at
+unfolding symbol_after
 symbol_whole symbol no_blank bytes rest is =
     ap (symbol_of symbol) (next_symbol symbol no_blank bytes rest is) ∙ ap (λ t. if t then Ok rest else Err (symbol ∷ rest)) (same_number symbol)
 
 -- refusals, by what comes next
 pub symbol_refused_at_end : (symbol : ℕ) (bytes : List ℕ) → next bytes ≡ [] → Refused (symbol_at symbol bytes)
-unfolding symbol_at
+unfolding symbol_after
 symbol_refused_at_end symbol bytes here = record { at = []; is = ap (symbol_of symbol) here }
 
 pub symbol_refused : (symbol b : ℕ) (bs bytes : List ℕ) → next bytes ≡ b ∷ bs → (b == symbol) ≡ false → Refused (symbol_at symbol bytes)
-unfolding symbol_at
+unfolding symbol_after
 symbol_refused symbol b bs bytes here other = record { at = b ∷ bs; is = ap (symbol_of symbol) here ∙ ap (λ t. if t then Ok bs else Err (b ∷ bs)) other }
 
 word_of : List ℕ → List ℕ → After
 word_of word a = if same_name word (take (word_length a) a) then Ok (drop (word_length a) a) else Err a
 
-none_same : (word : List ℕ) → 0 < length word → same_name word [] ≡ false
-none_same [] some = absurd (omega arith)
-none_same (w ∷ word) some = let e : (length (w ∷ word) == 0) ≡ false = grind (arith, nat_tests) in and_left _ (same_letters (w ∷ word) []) e
-
 pub word_refused_at_end : (word : List ℕ) → 0 < length word → (bytes : List ℕ) → next bytes ≡ [] → Refused (word_at word bytes)
-unfolding word_at word_of
+unfolding is_word_after rest_of_word word_after word_of
 word_refused_at_end word some bytes here = record { at = []; is = ap (word_of word) here ∙ ap (λ t. if t then Ok [] else Err []) (none_same word some) }
 
 pub word_refused : (word : List ℕ) → 0 < length word → (b : ℕ) (bs bytes : List ℕ) → next bytes ≡ b ∷ bs → is_name_byte b ≡ false → Refused (word_at word bytes)
-unfolding word_at word_of
+unfolding is_word_after rest_of_word word_after word_of
 word_refused word some b bs bytes here other = record {
   at = b ∷ bs;
   is = ap (word_of word) here
@@ -104,39 +96,9 @@ word_refused word some b bs bytes here other = record {
       ∙ ap (λ t. if t then Ok (b ∷ bs) else Err (b ∷ bs)) (none_same word some);
 }
 
--- two words that one is written as are the same word
-letters_agree : (v w written : List ℕ) → length v ≡ length written → length w ≡ length written → same_letters v written ≡ true → same_letters w written ≡ true → same_letters v w ≡ true
-letters_agree [] w written a b one two = refl
-letters_agree (x ∷ v) [] written a b one two = refl
-letters_agree (x ∷ v) (y ∷ w) [] a b one two = absurd (omega arith)
-letters_agree (x ∷ v) (y ∷ w) (z ∷ written) a b one two =
-    let p = and_parts (eq_ignore_ascii_case x z) (same_letters v written) one in
-    let q = and_parts (eq_ignore_ascii_case y z) (same_letters w written) two in
-    and_from (eq_ignore_ascii_case x y) (same_letters v w) (through (to_ascii_lowercase x) (to_ascii_lowercase y) (to_ascii_lowercase z) p.0 q.0)
-    (letters_agree v w written (omega arith) (omega arith) p.1 q.1)
-  where
-    through : (k l m : ℕ) → (k == m) ≡ true → (l == m) ≡ true → (k == l) ≡ true
-    through k l m one two = grind (arith, nat_tests)
-
-same_length : (m n : ℕ) → (m == n) ≡ true → m ≡ n
-same_length m n is = grind (arith, nat_tests)
-
-words_agree : (v w written : List ℕ) → same_name v written ≡ true → same_name w written ≡ true → same_name v w ≡ true
-words_agree v w written one two =
-    let p = and_parts (length v == length written) (same_letters v written) one in
-    let q = and_parts (length w == length written) (same_letters w written) two in
-    let a = same_length (length v) (length written) p.0 in
-    let b = same_length (length w) (length written) q.0 in
-    let c : (length v == length w) ≡ true = ap (λ (n : ℕ). n == length w) (a ∙ sym b) ∙ same_number (length w) in
-    and_from (length v == length w) (same_letters v w) c (letters_agree v w written a b p.1 q.1)
-
-not_same : (v w written : List ℕ) (t : Bool) → same_name v written ≡ t → same_name v w ≡ false → same_name w written ≡ true → t ≡ false
-not_same v w written true is apart same = let e = words_agree v w written is same in cc
-not_same v w written false is apart same = refl
-
 -- where one word stands, no other does
 pub other_word_refused : (v w : List ℕ) → same_name v w ≡ false → 0 < length w → (bytes rest : List ℕ) → Word w bytes rest → Refused (word_at v bytes)
-unfolding word_at word_of
+unfolding is_word_after rest_of_word word_after word_of
 other_word_refused v w apart some bytes rest is =
     let at = is.0 in
     let written = is.1.1.0 in

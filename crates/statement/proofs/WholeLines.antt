@@ -7,13 +7,15 @@ use Rattle.statement.specs.declared.line.Written.{Written}
 use Rattle.statement.specs.declared.line.Written.TheVariants.{Clock, Session}
 use Rattle.statement.specs.declared.statement.Statement.{Statement}
 use Rattle.statement.specs.declared.statement.Statement.TheVariants.{Begin, Insert, Update, Delete, Select, Commit, Rollback}
-use Rattle.statement.specs.Token.{After, Read, next, end_at, after_semicolon}
-use Rattle.statement.specs.Word.{word_at, after_word}
+use Rattle.tokens.specs.Token.{After, Read}
+use Rattle.statement.specs.Token.{next, end_at, after_semicolon}
+use Rattle.statement.specs.Token.{word_at, after_optional_word}
 use Rattle.statement.specs.Statement.{start_at, insert_at, update_at, delete_at, select_at, data_at, statement_at}
 use Rattle.statement.specs.Line.{is_nothing, begins_digit, clock_at, session_at, written_at}
 use Rattle.statement.specs.Grammar.{◌⋯◌, ◌∣◌, Empty, Blanks, Symbol, Word, Digits, IsStatement, IsLine}
-use Rattle.statement.proofs.Runs.{next_is}
-use Rattle.statement.proofs.Whole.{word_whole, symbol_whole, next_symbol, next_run, some_written, other_word_refused, symbol_refused, symbol_refused_at_end, word_refused, word_refused_at_end}
+use Rattle.statement.proofs.Gaps.{next_is}
+use Rattle.statement.proofs.Whole.{word_whole, symbol_whole, next_symbol, next_run, other_word_refused, symbol_refused, symbol_refused_at_end, word_refused, word_refused_at_end}
+use Rattle.tokens.proofs.Words.{some_written}
 use Rattle.statement.proofs.WholeLiterals.{Lettered, letter_of, letter_is_no_digit, letter_is_no_minus, FirstDigit, first_digit, digits_not_blank, digit_is_no_other, digits_whole}
 use Rattle.statement.proofs.WholeLists.{ok_then}
 use Rattle.statement.proofs.WholeStatements.{Closing, instant_whole, work_whole, insert_whole, update_whole, delete_whole, select_whole}
@@ -51,10 +53,10 @@ module _ (schema : Schema) where
   on_insert bytes r = elim r [ Ok rest ↦ insert_at schema rest | Err _ ↦ on_update bytes (word_at (codes "UPDATE") bytes) ]
 
   abbrev on_rollback : List ℕ → After → Read Statement
-  on_rollback bytes r = elim r [ Ok rest ↦ Ok (Rollback, after_word (codes "WORK") rest) | Err _ ↦ data_at schema bytes ]
+  on_rollback bytes r = elim r [ Ok rest ↦ Ok (Rollback, after_optional_word (codes "WORK") rest) | Err _ ↦ data_at schema bytes ]
 
   abbrev on_commit : List ℕ → After → Read Statement
-  on_commit bytes r = elim r [ Ok rest ↦ Ok (Commit, after_word (codes "WORK") rest) | Err _ ↦ on_rollback bytes (word_at (codes "ROLLBACK") bytes) ]
+  on_commit bytes r = elim r [ Ok rest ↦ Ok (Commit, after_optional_word (codes "WORK") rest) | Err _ ↦ on_rollback bytes (word_at (codes "ROLLBACK") bytes) ]
 
   abbrev on_start : List ℕ → After → Read Statement
   on_start bytes r = elim r [ Ok rest ↦ start_at rest | Err _ ↦ on_commit bytes (word_at (codes "COMMIT") bytes) ]

@@ -2,9 +2,12 @@
 use Rattle.std.proofs.Common.{◌≡◌, ◌≤◌, ℕ, List, [], ◌∷◌, ◌++◌, length, Ok, Err, refl, ap, sym, ◌∙◌, arith}
 use Rattle.std.specs.Prelude.{Result}
 use Rattle.std.proofs.lemmas.List.{append-nil, append_assoc}
-use Rattle.statement.specs.Token.{After, Read, ◌>>=◌, symbol_at, more_at, list_at, enclosed_at}
+use Rattle.tokens.specs.Token.{After, Read, ◌>>=◌}
+use Rattle.statement.specs.Token.{symbol_at}
+use Rattle.statement.specs.List.{more_at, list_at, enclosed_at}
 use Rattle.statement.specs.Grammar.{Piece, Symbol, Listed, Enclosed}
-use Rattle.statement.proofs.Whole.{Refused, next_symbol, symbol_whole, symbol_refused}
+use Rattle.tokens.proofs.Words.{Refused}
+use Rattle.statement.proofs.Whole.{next_symbol, symbol_whole, symbol_refused}
 use Rattle.statement.proofs.SoundLists.{More}
 use Rattle.statement.proofs.Lengths.{KeepsWithin, TakesSome, symbol_takes}
 

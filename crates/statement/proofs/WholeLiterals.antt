@@ -11,12 +11,16 @@ use Rattle.std.proofs.lemmas.Bool.Decides.{nat_tests}
 use Rattle.values.specs.Names.{same_name, same_letters}
 use Rattle.values.specs.declared.value.Value.{Value}
 use Rattle.values.specs.declared.value.Value.TheVariants.{Int, Text, Bool as Truth, Null}
-use Rattle.statement.specs.Token.{After, Read, ◌>>=◌, is_blank, next, symbol_at}
-use Rattle.statement.specs.Word.{word_at}
+use Rattle.tokens.specs.Token.{After, Read, ◌>>=◌}
+use Rattle.statement.specs.Token.{is_blank, next, symbol_at}
+use Rattle.statement.specs.Token.{word_at}
 use Rattle.statement.specs.Literal.{digit_count, value_within, digits_here, digits_at, begins_with, above_nought, below_nought, number_at, quoted_from, quoted, text_of, text_at, constant_at, begins_number, literal_at}
-use Rattle.statement.specs.Grammar.{◌⋯◌, AllBytes, Ends, Blanks, Word, Digits, Number, doubled, is_quote, Quoted, Literal}
-use Rattle.statement.proofs.Runs.{next_is, length_of, run_taken, run_left}
-use Rattle.statement.proofs.Whole.{word_whole, symbol_whole, other_word_refused, next_run, some_written}
+use Rattle.statement.specs.Grammar.{◌⋯◌, Blanks, Word, Digits, Number, doubled, is_quote, Quoted, Literal}
+use Rattle.tokens.specs.Run.{AllBytes, Ends}
+use Rattle.statement.proofs.Gaps.{next_is}
+use Rattle.tokens.proofs.Runs.{length_of, run_taken, run_left}
+use Rattle.statement.proofs.Whole.{word_whole, symbol_whole, other_word_refused, next_run}
+use Rattle.tokens.proofs.Words.{some_written}
 
 pub no_blanks : (bytes : List ℕ) → Blanks bytes bytes
 no_blanks bytes = record { blanks = []; are_blank = tt; spelled = refl }

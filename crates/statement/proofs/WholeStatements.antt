@@ -1,6 +1,7 @@
 -- What is of the grammar is read: statements.
 use Rattle.std.proofs.Common.{◌≡◌, ◌<◌, ℕ, List, [], ◌∷◌, length, Ok, Err, Some, None, inl, inr, refl, ap, ◌∙◌, lit<}
 use Rattle.std.specs.Prelude.{Option, ◌==◌, if◌then◌else◌, codes}
+use Rattle.values.specs.Commits.{max_instant}
 use Rattle.values.specs.Tables.{Schema}
 use Rattle.values.specs.declared.query.Comparison.{Comparison}
 use Rattle.values.specs.declared.query.Form.{Form}
@@ -11,13 +12,16 @@ use Rattle.values.specs.declared.query.Operator.TheVariants.{Equal, Below, AtMos
 use Rattle.values.specs.declared.query.Set.{Set}
 use Rattle.values.specs.Log.{Row}
 use Rattle.statement.specs.declared.statement.Statement.TheVariants.{Insert, Update, Delete, Select}
-use Rattle.statement.specs.Token.{After, Read, ◌>>=◌, symbol_at}
-use Rattle.statement.specs.Word.{word_at, after_word}
+use Rattle.tokens.specs.Token.{After, Read, ◌>>=◌}
+use Rattle.statement.specs.Token.{symbol_at}
+use Rattle.statement.specs.Token.{word_at, after_optional_word}
 use Rattle.statement.specs.Literal.{literal_at, row_at, rows_at}
 use Rattle.statement.specs.Condition.{table_name_at, column_name_at, or_equal, operator_of, operator_at, set_at, comparison_at, sets_at, comparisons_at, columns_at, keys_at}
 use Rattle.statement.specs.Statement.{instant_at, as_of_at, form_at, listed_at, insert_at, update_at, delete_at, select_at}
-use Rattle.statement.specs.Grammar.{◌⋯◌, ◌∣◌, Empty, Ends, Symbol, Word, Literal, Listed, Enclosed, IsRow, IsOperator, IsInstant, IsForm, IsTable, IsColumn, IsSet, IsComparison, IsColumnList, IsWhere}
-use Rattle.statement.proofs.Whole.{Refused, word_whole, name_whole, symbol_whole, next_symbol, begun, symbol_refused_at_word, other_word_refused}
+use Rattle.statement.specs.Grammar.{◌⋯◌, ◌∣◌, Empty, Symbol, Word, Literal, Listed, Enclosed, IsRow, IsOperator, IsInstant, IsForm, IsTable, IsColumn, IsSet, IsComparison, IsColumnList, IsWhere}
+use Rattle.tokens.specs.Run.{Ends}
+use Rattle.tokens.proofs.Words.{Refused}
+use Rattle.statement.proofs.Whole.{word_whole, name_whole, symbol_whole, next_symbol, begun, symbol_refused_at_word, other_word_refused}
 use Rattle.statement.proofs.WholeLiterals.{digits_whole, literal_whole}
 use Rattle.statement.proofs.Lengths.{literal_within, row_within, column_within, set_within, comparison_within, symbol_takes, word_takes}
 use Rattle.statement.proofs.WholeLists.{ok_then, list_whole, enclosed_whole}
@@ -51,7 +55,7 @@ operator_whole AtLeast bytes rest is = ap operator_of (next_symbol 62 refl bytes
 
 pub instant_whole : (n : ℕ) (bytes rest : List ℕ) → IsInstant n bytes rest → instant_at bytes ≡ Ok (n, rest)
 unfolding instant_at
-instant_whole n bytes rest is = digits_whole 999999999999999999 n bytes rest is
+instant_whole n bytes rest is = digits_whole max_instant n bytes rest is
 
 as_of_whole : (instant : ℕ) (bytes rest : List ℕ) → (Word (codes "SYSTEM_TIME") ⋯ Word (codes "AS") ⋯ Word (codes "OF") ⋯ IsInstant instant) bytes rest → as_of_at bytes ≡ Ok (AsOf instant, rest)
 unfolding as_of_at
@@ -71,7 +75,7 @@ form_whole (AsOf instant) bytes rest is none = ap (on_for bytes) (word_whole (co
 form_whole (FromTo from to) bytes rest is none = absurd is
 form_whole (Between from to) bytes rest is none = absurd is
 
-pub work_whole : (bytes rest : List ℕ) → (Empty ∣ Word (codes "WORK")) bytes rest → Closing rest → after_word (codes "WORK") bytes ≡ rest
+pub work_whole : (bytes rest : List ℕ) → (Empty ∣ Word (codes "WORK")) bytes rest → Closing rest → after_optional_word (codes "WORK") bytes ≡ rest
 work_whole bytes rest (inl is) closing =
     ap (λ (r : After). elim r as (λ _. List ℕ) [ Ok rest ↦ rest | Err at ↦ bytes ]) (ap (word_at (codes "WORK")) is ∙ (closing.word (codes "WORK") (lit< tt)).is) ∙ is
 work_whole bytes rest (inr is) closing = ap (λ (r : After). elim r as (λ _. List ℕ) [ Ok rest ↦ rest | Err at ↦ bytes ]) (word_whole (codes "WORK") (lit< tt) bytes rest is)

@@ -9,8 +9,9 @@ use Rattle.values.specs.declared.query.Operator.TheVariants.{Equal, Below, AtMos
 use Rattle.values.specs.declared.query.Set.{Set}
 use Rattle.values.specs.Names.{table_number, column_number}
 use Rattle.values.specs.Tables.{table_at}
-use Rattle.statement.specs.Token.{Read, ◌>>=◌, next, symbol_at, list_at, enclosed_at}
-use Rattle.statement.specs.Word.{word_at, name_at}
+use Rattle.tokens.specs.Token.{Read, ◌>>=◌}
+use Rattle.statement.specs.Token.{next, symbol_at, word_at, name_at}
+use Rattle.statement.specs.List.{list_at, enclosed_at}
 use Rattle.statement.specs.Literal.{literal_at}
 
 -- a table's number, or 0

@@ -13,12 +13,15 @@ use Rattle.values.specs.declared.query.Operator.TheVariants.{Equal, Below, AtMos
 use Rattle.values.specs.declared.query.Set.{Set}
 use Rattle.values.specs.Log.{Row}
 use Rattle.values.specs.Names.{same_name}
+use Rattle.values.specs.Commits.{max_instant}
 use Rattle.statement.specs.declared.line.Written.{Written}
 use Rattle.statement.specs.declared.line.Written.TheVariants.{Clock, Session}
 use Rattle.statement.specs.declared.statement.Statement.{Statement}
 use Rattle.statement.specs.declared.statement.Statement.TheVariants.{Begin, Insert, Update, Delete, Select, Commit, Rollback}
+use Rattle.tokens.specs.Run.{AllBytes, Ends, Run}
+use Rattle.tokens.specs.Word.{is_name_byte}
+use Rattle.tokens.specs.Name.{is_name}
 use Rattle.statement.specs.Token.{is_blank}
-use Rattle.statement.specs.Word.{is_name_byte, is_name}
 use Rattle.statement.specs.Condition.{table_of, column_of}
 
 abbrev pub Piece : Type 1
@@ -37,16 +40,6 @@ abbrev pub ◌∣◌ : Piece → Piece → Piece
 abbrev pub Empty : Piece
 Empty bytes rest = bytes ≡ rest
 
--- each byte passes the test
-abbrev pub AllBytes : (ℕ → Bool) → List ℕ → Type 0
-AllBytes p [] = Unit {0}
-AllBytes p (b ∷ bytes) = (p b ≡ true) × AllBytes p bytes
-
--- no byte that passes the test comes next
-abbrev pub Ends : (ℕ → Bool) → List ℕ → Type 0
-Ends p [] = Unit {0}
-Ends p (b ∷ bytes) = p b ≡ false
-
 -- spaces and tabs, or none
 pub record Blanks (bytes rest : List ℕ) : Type 0 where
   pub blanks : List ℕ
@@ -56,12 +49,6 @@ pub record Blanks (bytes rest : List ℕ) : Type 0 where
 -- these bytes
 abbrev pub Exactly : List ℕ → Piece
 Exactly text bytes rest = bytes ≡ text ++ rest
-
--- a run of bytes that pass the test, as many as there are
-pub record Run (p : ℕ → Bool) (run bytes rest : List ℕ) : Type 0 where
-  pub all : AllBytes p run
-  pub ends : Ends p rest
-  pub spelled : bytes ≡ run ++ rest
 
 abbrev pub Symbol : ℕ → Piece
 Symbol symbol = Blanks ⋯ Exactly (symbol ∷ [])
@@ -124,7 +111,7 @@ IsOperator Above = Blanks ⋯ (λ bytes rest. Exactly (62 ∷ []) bytes rest × 
 IsOperator AtLeast = Blanks ⋯ Exactly (62 ∷ 61 ∷ [])
 
 abbrev pub IsInstant : ℕ → Piece
-IsInstant n = Blanks ⋯ Digits 999999999999999999 n
+IsInstant n = Blanks ⋯ Digits max_instant n
 
 -- which versions a SELECT asks for
 abbrev pub IsForm : Form → Piece

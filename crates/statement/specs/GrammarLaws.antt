@@ -7,6 +7,8 @@ use Rattle.values.specs.Tables.{Schema}
 use Rattle.values.specs.declared.refusal.Refusal.TheVariants.{Syntax}
 use Rattle.statement.specs.declared.line.Line.TheVariants.{Nothing}
 use Rattle.statement.specs.declared.line.Written.{Written}
+use Rattle.tokens.specs.Run.{Ends}
+use Rattle.statement.specs.Token.{is_blank}
 use Rattle.statement.specs.Line.{before_feed, body_of, meaning_of, body_says}
 use Rattle.statement.specs.Literal.{row_at}
 use Rattle.statement.specs.Print.{values_text}
@@ -32,6 +34,18 @@ module _ (schema : Schema) where
   -- whatever is read is nothing or a line of the grammar, and all else is refused with a byte
   abbrev pub OnlyLinesAreRead : Type 0
   OnlyLinesAreRead = (reading : ℕ) (bytes : List ℕ) → IsNothing bytes ⊎ (((written : Written) × IsLine schema written bytes) ⊎ IsRefused reading bytes)
+
+-- at the byte a token begins, or the bytes end
+pub record TokenAt (bytes : List ℕ) (byte : ℕ) : Type 0 where
+  pub before : List ℕ
+  pub from : List ℕ
+  pub place : bytes ≡ before ++ from
+  pub counted : byte ≡ length before
+  pub begins : Ends is_blank from
+
+-- a fault of syntax is reported where a token begins, or at the line's end
+abbrev pub FaultsAreAtTokens : Schema → Type 0
+FaultsAreAtTokens schema = (reading : ℕ) (bytes : List ℕ) (byte : ℕ) → body_says schema reading bytes ≡ Err (Syntax byte) → TokenAt bytes byte
 
 -- the bytes do not end with this one
 abbrev pub EndsOtherwise : ℕ → List ℕ → Type 0

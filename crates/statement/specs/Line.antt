@@ -8,8 +8,8 @@ use Rattle.statement.specs.declared.line.Line.{Line}
 use Rattle.statement.specs.declared.line.Line.TheVariants.{Nothing, Clock, Step as IsStep}
 use Rattle.statement.specs.declared.line.Written.{Written}
 use Rattle.statement.specs.declared.line.Written.TheVariants.{Clock as SetsClock, Session}
-use Rattle.statement.specs.Token.{Read, ◌>>=◌, next, symbol_at, end_at, after_semicolon}
-use Rattle.statement.specs.Word.{word_at}
+use Rattle.tokens.specs.Token.{Read, ◌>>=◌}
+use Rattle.statement.specs.Token.{next, symbol_at, word_at, end_at, after_semicolon}
 use Rattle.statement.specs.Literal.{digits_at}
 use Rattle.statement.specs.Statement.{instant_at, statement_at}
 use Rattle.statement.specs.Meaning.{step_of}
@@ -45,6 +45,10 @@ clock_at bytes = do
   rest ← end_at instant.1
   Ok (SetsClock instant.0, rest)
 
+-- the bytes that a line may have before its line feed
+abbrev pub longest_line : ℕ
+longest_line = 8192
+
 module _ (schema : Schema) where
   unfoldable pub session_at : List ℕ → Read Written
   session_at bytes = do
@@ -69,4 +73,4 @@ module _ (schema : Schema) where
 
   -- what a line of a text says, which ends with its line feed or, as a last line may, without one
   unfoldable pub line_says : ℕ → List ℕ → Result Line Refusal
-  line_says reading line = if nat_lt 8192 (length (before_feed line)) then Err LineTooLong else body_says reading (body_of line)
+  line_says reading line = if nat_lt longest_line (length (before_feed line)) then Err LineTooLong else body_says reading (body_of line)

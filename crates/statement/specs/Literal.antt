@@ -8,8 +8,9 @@ use Rattle.std.specs.Str.Parse.{digits_value}
 use Rattle.values.specs.declared.value.Value.{Value}
 use Rattle.values.specs.declared.value.Value.TheVariants.{Int, Text, Bool as Truth, Null}
 use Rattle.values.specs.Log.{Row}
-use Rattle.statement.specs.Token.{Read, ◌>>=◌, next, symbol_at, list_at, enclosed_at}
-use Rattle.statement.specs.Word.{word_at}
+use Rattle.tokens.specs.Token.{Read, ◌>>=◌}
+use Rattle.statement.specs.Token.{next, symbol_at, word_at}
+use Rattle.statement.specs.List.{list_at, enclosed_at}
 
 abbrev pub digit_count : List ℕ → ℕ
 digit_count bytes = prefix_len is_ascii_digit bytes

@@ -1,4 +1,4 @@
--- Want of memory.
+-- Where memory runs out.
 use Rattle.std.specs.Prelude.{◌≡◌, Result, Err}
 use Rattle.values.specs.declared.refusal.Refusal.{Refusal}
 use Rattle.values.specs.declared.refusal.Refusal.TheVariants.{Memory}

@@ -1,18 +1,19 @@
 -- Statements as they are written: names by their numbers, and rows in the order in which their values stand.
 use Rattle.std.specs.Prelude.{ℕ, List, Option, Some, None, Ok, Err, codes}
 use Rattle.values.specs.Tables.{Schema}
+use Rattle.values.specs.Commits.{max_instant}
 use Rattle.values.specs.declared.query.Form.{Form}
 use Rattle.values.specs.declared.query.Form.TheVariants.{Plain, AsOf}
 use Rattle.statement.specs.declared.statement.Statement.{Statement}
 use Rattle.statement.specs.declared.statement.Statement.TheVariants.{Begin, Insert, Update, Delete, Select, Commit, Rollback}
-use Rattle.statement.specs.Token.{Read, ◌>>=◌, symbol_at}
-use Rattle.statement.specs.Word.{word_at, after_word}
+use Rattle.tokens.specs.Token.{Read, ◌>>=◌}
+use Rattle.statement.specs.Token.{symbol_at, word_at, after_optional_word}
 use Rattle.statement.specs.Literal.{digits_at, rows_at}
 use Rattle.statement.specs.Condition.{table_name_at, columns_at, sets_at, keys_at}
 
 -- an instant, of which this is the last
 unfoldable pub instant_at : List ℕ → Read ℕ
-instant_at bytes = digits_at 999999999999999999 bytes
+instant_at bytes = digits_at max_instant bytes
 
 unfoldable pub as_of_at : List ℕ → Read Form
 as_of_at bytes = do
@@ -92,9 +93,9 @@ module _ (schema : Schema) where
     | Err _ ↦ elim (word_at (codes "START") bytes) [
       | Ok rest ↦ start_at rest
       | Err _ ↦ elim (word_at (codes "COMMIT") bytes) [
-        | Ok rest ↦ Ok (Commit, after_word (codes "WORK") rest)
+        | Ok rest ↦ Ok (Commit, after_optional_word (codes "WORK") rest)
         | Err _ ↦ elim (word_at (codes "ROLLBACK") bytes) [
-          | Ok rest ↦ Ok (Rollback, after_word (codes "WORK") rest)
+          | Ok rest ↦ Ok (Rollback, after_optional_word (codes "WORK") rest)
           | Err _ ↦ data_at bytes
         ]
       ]

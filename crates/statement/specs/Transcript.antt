@@ -7,6 +7,7 @@ use Rattle.values.specs.declared.refusal.Refusal.TheVariants.{Memory, LineTooLon
 use Rattle.statement.specs.declared.line.Line.{Line}
 use Rattle.statement.specs.declared.line.Line.TheVariants.{Nothing, Clock, Step as Asks}
 use Rattle.histories.specs.History.{History, reply}
+use Rattle.statement.specs.Line.{longest_line}
 use Rattle.statement.specs.Writer.{AppendsFront}
 use Rattle.statement.specs.Print.{line, refusal_text, reply_text}
 
@@ -16,7 +17,7 @@ Partial = Option (List ℕ)
 
 abbrev pub add : Partial → ℕ → Partial
 add None byte = None
-add (Some bytes) byte = if nat_lt (length bytes) 8192 then Some (bytes ++ byte ∷ []) else None
+add (Some bytes) byte = if nat_lt (length bytes) longest_line then Some (bytes ++ byte ∷ []) else None
 
 -- what lines leave: the steps that were answered, the newest first, and the reading of the last CLOCK line
 pub record Progress : Type 0 where
@@ -97,7 +98,7 @@ module _ (schema : Schema) (read : Reading) where
       if b == 10 then leaves (marks_after ms) (line_leaves schema read (mark ms) p (ended bytes)) (Some []) bs
       else leaves ms p (add bytes b) bs
 
-  -- the transcript of a text was written, with want of memory at some lines
+  -- the transcript of a text was written, where memory ran out at some lines
   pub record IsTranscript (old new : Option (List ℕ)) (text : List ℕ) : Type 0 where
     pub marks : List Bool
     pub wrote : Appends old new (transcript marks beginning (Some []) text)

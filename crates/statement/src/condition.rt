@@ -1,20 +1,21 @@
 ghost use Rattle.std.specs.Prelude.{◌≡◌};
-ghost use Rattle.statement.specs.Token.{Gives, Makes};
+ghost use Rattle.tokens.specs.Token.{Gives, Makes};
 ghost use Rattle.statement.specs.Condition.{table_of, column_of, table_name_at, column_name_at, or_equal, operator_at, set_at, comparison_at, sets_at, comparisons_at, columns_at, keys_at};
 
 use crate::list::{Item, enclosed_at, list_at};
 use crate::literal::literal_at;
-use crate::token::{After, Made, Read, next, symbol_at};
-use crate::word::{name_at, word_at};
-use rows::{ColumnNumber, Comparison, Keys, Operator, Schema, Sequence, Set, Sets};
+use crate::token::Blanks;
+use rows::Schema;
 use std::alloc::Global;
+use tokens::{After, Made, Read, Separators, name_at, symbol_at, word_at};
+use values::{ColumnNumber, Comparison, Keys, Operator, Sequence, Set, Sets};
 
 /// The number of the table with a name, or 0.
 #[tactic(auto, unfolding(crate::specs::Condition::table_name_at))]
 pub fn table_name_at<'a>(schema: &Schema, bytes: &'a [u8]) -> Read<'a, u8>
     ensures { Gives result (table_name_at schema.now bytes.now) }
 {
-    let (name, rest) = name_at(bytes)?;
+    let (name, rest) = name_at::<Blanks>(bytes)?;
     Ok((schema.table(name).unwrap_or(0), rest))
 }
 
@@ -33,7 +34,7 @@ fn column_of(schema: &Schema, table: u8, name: &[u8]) -> ColumnNumber
 fn column_name_at<'a>(schema: &Schema, table: u8, bytes: &'a [u8]) -> Read<'a, ColumnNumber>
     ensures { Gives result (column_name_at schema.now table bytes.now) }
 {
-    let (name, rest) = name_at(bytes)?;
+    let (name, rest) = name_at::<Blanks>(bytes)?;
     Ok((column_of(schema, table, name), rest))
 }
 
@@ -50,7 +51,7 @@ fn or_equal(strict: Operator, loose: Operator, bytes: &[u8]) -> (Operator, &[u8]
 fn operator_at(bytes: &[u8]) -> Read<'_, Operator>
     ensures { Gives result (operator_at bytes.now) }
 {
-    let at = next(bytes);
+    let at = Blanks::next(bytes);
     match at {
         [b'=', rest @ ..] => Ok((Operator::Equal, rest)),
         [b'<', rest @ ..] => Ok(or_equal(Operator::Below, Operator::AtMost, rest)),
@@ -64,7 +65,7 @@ fn set_at<'a>(alloc: Global, schema: &Schema, table: u8, bytes: &'a [u8]) -> Mad
     ensures { Makes result (set_at schema.now table bytes.now) }
 {
     let (column, rest) = column_name_at(schema, table, bytes)?;
-    let rest = symbol_at(b'=', rest)?;
+    let rest = symbol_at::<Blanks>(b'=', rest)?;
     let (value, rest) = literal_at(alloc, rest)?;
     Ok((Set { column, value }, rest))
 }
@@ -106,7 +107,7 @@ impl Item for Columns<'_> {
     ghost item = { λ c. column_name_at c.0.now c.1 };
 
     fn after_separator<'a>(&self, bytes: &'a [u8]) -> After<'a> {
-        symbol_at(b',', bytes)
+        symbol_at::<Blanks>(b',', bytes)
     }
 
     fn item_at<'a>(&self, _alloc: Global, bytes: &'a [u8]) -> Made<'a, ColumnNumber> {
@@ -129,7 +130,7 @@ impl Item for Assignments<'_> {
     ghost item = { λ a. set_at a.0.now a.1 };
 
     fn after_separator<'a>(&self, bytes: &'a [u8]) -> After<'a> {
-        symbol_at(b',', bytes)
+        symbol_at::<Blanks>(b',', bytes)
     }
 
     fn item_at<'a>(&self, alloc: Global, bytes: &'a [u8]) -> Made<'a, Set> {
@@ -143,7 +144,7 @@ struct Conditions<'s>(&'s Schema, u8);
 
 impl Item for Conditions<'_> {
     ghost use Rattle.std.specs.Prelude.{codes};
-    ghost use Rattle.statement.specs.Word.{word_at};
+    ghost use Rattle.statement.specs.Token.{word_at};
     ghost use Rattle.statement.specs.Condition.{comparison_at};
 
     type Value = Comparison;
@@ -153,7 +154,7 @@ impl Item for Conditions<'_> {
     ghost item = { λ c. comparison_at c.0.now c.1 };
 
     fn after_separator<'a>(&self, bytes: &'a [u8]) -> After<'a> {
-        word_at(b"AND", bytes)
+        word_at::<Blanks>(b"AND", bytes)
     }
 
     fn item_at<'a>(&self, alloc: Global, bytes: &'a [u8]) -> Made<'a, Comparison> {
@@ -201,7 +202,7 @@ fn comparisons_at<'a>(
 pub fn keys_at<'a>(alloc: Global, schema: &Schema, table: u8, bytes: &'a [u8]) -> Made<'a, Keys>
     ensures { Makes result (keys_at schema.now table bytes.now) }
 {
-    let (comparisons, rest) = match word_at(b"WHERE", bytes) {
+    let (comparisons, rest) = match word_at::<Blanks>(b"WHERE", bytes) {
         Ok(rest) => comparisons_at(alloc, schema, table, rest)?,
         Err(_) => (Sequence::new(Vec::new(alloc)), bytes),
     };

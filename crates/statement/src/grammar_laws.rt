@@ -1,12 +1,13 @@
 ghost use Rattle.values.specs.Tables.{Schema};
-ghost use Rattle.statement.specs.GrammarLaws.{LinesAreRead, LinesSayOneThing, NothingIsRead, OnlyLinesAreRead, LineEndsAreNoTokens, PrintedRowsAreRead};
+ghost use Rattle.statement.specs.GrammarLaws.{LinesAreRead, LinesSayOneThing, NothingIsRead, OnlyLinesAreRead, FaultsAreAtTokens, LineEndsAreNoTokens, PrintedRowsAreRead};
 
-/// Reading from the left reads the lines of the grammar and no others.
+/// Reading from the left reads the lines of the grammar and no others. A fault of syntax is reported where a token begins, or at the line's end.
 pub fn lines_are_read_by_the_grammar()
     ensures read { (schema : Schema) → LinesAreRead schema }
     ensures one_thing { (schema : Schema) → LinesSayOneThing schema }
     ensures nothing { (schema : Schema) → NothingIsRead schema }
     ensures only { (schema : Schema) → OnlyLinesAreRead schema }
+    ensures at_tokens { (schema : Schema) → FaultsAreAtTokens schema }
     ensures ends { LineEndsAreNoTokens }
 {}
 

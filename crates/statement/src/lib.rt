@@ -12,11 +12,10 @@ mod meaning;
 mod print;
 mod statement;
 mod token;
-mod word;
 mod writer;
 
 pub use grammar_laws::{lines_are_read_by_the_grammar, printed_rows_are_read};
 pub use histories::{Listing, Reply, Step};
 pub use line::{Line, read_line};
 pub use print::{print_refusal, print_reply};
-pub use writer::{WriteFault, put_all};
+pub use writer::{WriteFault, write_all};

@@ -1,16 +1,17 @@
 ghost use Rattle.std.specs.Prelude.{◌≡◌};
-ghost use Rattle.statement.specs.Token.{Makes, Gives};
+ghost use Rattle.tokens.specs.Token.{Makes, Gives};
 ghost use Rattle.statement.specs.Memory.{UnlessMemory};
 ghost use Rattle.statement.specs.Line.{without_last, before_feed, body_of, is_nothing, begins_digit, clock_at, session_at, written_at, meaning_of, body_says, line_says};
 
 use crate::literal::digits_at;
 use crate::meaning::step_of;
 use crate::statement::{Statement, instant_at, statement_at};
-use crate::steps::Line;
-use crate::token::{Made, Read, Stop, after_semicolon, end_at, next, symbol_at};
-use crate::word::word_at;
-use rows::{Instant, Refusal, Schema};
+use crate::token::{Blanks, after_semicolon, end_at};
+use histories::Step;
+use rows::Schema;
 use std::alloc::Global;
+use tokens::{Made, Read, Separators, Stop, symbol_at, word_at};
+use values::{Instant, Refusal};
 
 /// The bytes that a line may have before its line feed.
 const LINE: usize = 8192;
@@ -88,8 +89,8 @@ fn begins_digit(at: &[u8]) -> bool
 fn clock_at(bytes: &[u8]) -> Read<'_, Written>
     ensures { Gives result (clock_at bytes.now) }
 {
-    let rest = word_at(b"CLOCK", bytes)?;
-    let rest = symbol_at(b':', rest)?;
+    let rest = word_at::<Blanks>(b"CLOCK", bytes)?;
+    let rest = symbol_at::<Blanks>(b':', rest)?;
     let (instant, rest) = instant_at(rest)?;
     let rest = end_at(rest)?;
     Ok((Written::Clock(instant), rest))
@@ -100,7 +101,7 @@ fn session_at<'a>(alloc: Global, schema: &Schema, bytes: &'a [u8]) -> Made<'a, W
     ensures { Makes result (session_at schema.now bytes.now) }
 {
     let (session, rest) = digits_at(SESSION, bytes)?;
-    let rest = symbol_at(b':', rest)?;
+    let rest = symbol_at::<Blanks>(b':', rest)?;
     let (statement, rest) = statement_at(alloc, schema, rest)?;
     let rest = end_at(after_semicolon(rest))?;
     Ok((Written::Session(session, statement), rest))
@@ -110,7 +111,7 @@ fn session_at<'a>(alloc: Global, schema: &Schema, bytes: &'a [u8]) -> Made<'a, W
 fn written_at<'a>(alloc: Global, schema: &Schema, bytes: &'a [u8]) -> Made<'a, Written>
     ensures { Makes result (written_at schema.now bytes.now) }
 {
-    if begins_digit(next(bytes)) {
+    if begins_digit(Blanks::next(bytes)) {
         session_at(alloc, schema, bytes)
     } else {
         Ok(clock_at(bytes)?)
@@ -146,19 +147,19 @@ fn body_says(
 ) -> Result<Line, Refusal>
     ensures { UnlessMemory result (body_says schema.now reading bytes.now) }
 {
-    if is_nothing(next(bytes)) {
+    if is_nothing(Blanks::next(bytes)) {
         return Ok(Line::Nothing);
     }
     match written_at(alloc, schema, bytes) {
         Ok((written, _end)) => meaning_of(alloc, schema, reading, written),
-        Err(Stop::Here(at)) => Err(Refusal::Syntax(bytes.len().saturating_sub(at.len()))),
+        Err(Stop::At(at)) => Err(Refusal::Syntax(bytes.len().saturating_sub(at.len()))),
         Err(Stop::Memory) => Err(Refusal::Memory),
     }
 }
 
 /// Reads a line of a script, which ends with its line feed or, as a last line may, without one. A COMMIT takes the reading of the clock.
 ///
-/// Want of memory is answered where it is met, before any refusal that is not yet reached.
+/// Where memory runs out that is the answer, before any refusal that is not yet reached.
 #[tactic(auto, unfolding(crate::specs::Line::line_says))]
 pub fn read_line(
     alloc: Global,

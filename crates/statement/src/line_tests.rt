@@ -1,8 +1,10 @@
-use crate::{Line, Step, read_line};
-use rows::{Chars, Form, Operator, Refusal, Schema, Value};
+use crate::line::{Line, read_line};
+use histories::Step;
+use rows::Schema;
 use std::alloc::{AllocError, Global};
 use std::process::Abort;
 use std::test::Fail;
+use values::{Chars, Form, Operator, Refusal, Value};
 
 /// Lines, and the byte of the first token that cannot stand.
 static WRONG_TOKENS: [(&str, usize); 183] = [
@@ -502,4 +504,60 @@ fn comparisons_keep_their_operators(rt: HostRuntime) -> Result<(), Fail> {
         assert_eq!(rt; comparison.value, value);
     }
     Ok(())
+}
+
+/// Sixteen tables of sixteen columns each.
+fn widest_schema(alloc: Global) -> Result<String, AllocError> {
+    let mut text = String::new(alloc);
+    for table in 1..17u8 {
+        let name = format!(in alloc; "CREATE TABLE t{table} (")?;
+        text.push_str(&name)?;
+        for column in 1..17u8 {
+            let column = format!(in alloc; "c{column} INT, ")?;
+            text.push_str(&column)?;
+        }
+        text.push_str("s TIMESTAMP GENERATED ALWAYS AS ROW START, ")?;
+        text.push_str("e TIMESTAMP GENERATED ALWAYS AS ROW END, ")?;
+        text.push_str("PERIOD FOR SYSTEM_TIME (s, e), PRIMARY KEY (c1)) WITH SYSTEM VERSIONING; ")?;
+    }
+    Ok(text)
+}
+
+/// So many rows of the last table.
+fn longest_insert(alloc: Global, rows: u8) -> Result<String, AllocError> {
+    let mut line = format!(in alloc;
+        "64: INSERT INTO t16 VALUES (0,1,1,1,1,1,1,1,1,1,1,1,1,1,1,1)"
+    )?;
+    for row in 1..rows {
+        let row = format!(in alloc; ",({row},1,1,1,1,1,1,1,1,1,1,1,1,1,1,1)")?;
+        line.push_str(&row)?;
+    }
+    Ok(line)
+}
+
+#[test]
+fn a_long_insert_into_a_wide_schema_is_never_out_of_memory(rt: HostRuntime) -> Result<(), Fail> {
+    let alloc = rt.alloc();
+    let text = widest_schema(alloc)?;
+    let schema = Schema::read(alloc, text.as_bytes()).expect(&rt, "it is a schema");
+    assert_eq!(rt; schema.tables().len(), 16);
+    let line = longest_insert(alloc, 101)?;
+    let Ok(Line::Step(Step::Insert(64, 16, rows))) = read_line(alloc, line.as_bytes(), &schema, 0)
+    else {
+        return Err("no INSERT")?;
+    };
+    assert_eq!(rt; rows.items().len(), 101);
+    Ok(())
+}
+
+#[test]
+fn a_line_without_a_step_is_never_out_of_memory(rt: HostRuntime) {
+    let alloc = rt.alloc();
+    let schema = schema(&rt, alloc);
+    for line in ["clock: 0", "CLOCK:0\n", "", "-- a comment\n"] {
+        assert!(rt;
+            read_line(alloc, line.as_bytes(), &schema, 0).is_ok(),
+            "{line}"
+        );
+    }
 }

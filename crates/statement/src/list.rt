@@ -1,13 +1,14 @@
 ghost use Rattle.std.specs.Prelude.{◌≡◌};
-ghost use Rattle.statement.specs.Token.{MakesList, list_at, enclosed_at};
+ghost use Rattle.statement.specs.List.{MakesList, list_at, enclosed_at};
 
-use crate::token::{After, Made, symbol_at};
+use crate::token::Blanks;
 use std::alloc::Global;
+use tokens::{After, Made, symbol_at};
 
 /// What stands in a list.
 pub trait Item {
     ghost use Rattle.std.specs.Prelude.{ℕ, List};
-    ghost use Rattle.statement.specs.Token.{After, Read, Leaves, Makes};
+    ghost use Rattle.tokens.specs.Token.{After, Read, Leaves, Makes};
 
     type Value: Drop;
 
@@ -52,8 +53,8 @@ pub fn enclosed_at<'a, I: Item>(
 ) -> Made<'a, Vec<I::Value>>
     ensures { MakesList result (enclosed_at (I.separator items.now) (I.item items.now) bytes.now) }
 {
-    let inside = symbol_at(b'(', bytes)?;
+    let inside = symbol_at::<Blanks>(b'(', bytes)?;
     let (list, rest) = list_at(items, alloc, inside)?;
-    let rest = symbol_at(b')', rest)?;
+    let rest = symbol_at::<Blanks>(b')', rest)?;
     Ok((list, rest))
 }

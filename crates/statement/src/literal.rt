@@ -1,30 +1,20 @@
 ghost use Rattle.std.specs.Prelude.{◌≡◌, ◌≤◌, ◌<◌, ◌^◌, length, [], IfOk, IfSome};
 ghost use Rattle.std.specs.Str.Parse.{AllDigits};
 ghost use Rattle.std.specs.Option.{option_map};
-ghost use Rattle.statement.specs.Token.{Finds, Gives, Makes};
-ghost use Rattle.statement.specs.Literal.{digit_count, digits_here, digits_at, value_within, above_nought, below_nought, number_at, quoted, text_of, text_at, constant_at, literal_at, row_at, rows_at};
+ghost use Rattle.tokens.specs.Token.{Finds, Gives, Makes};
+ghost use Rattle.statement.specs.Literal.{digits_here, digits_at, value_within, above_nought, below_nought, number_at, quoted, text_of, text_at, constant_at, literal_at, row_at, rows_at};
 
 use crate::list::{Item, enclosed_at, list_at};
-use crate::token::{After, Made, Read, Stop, next, symbol_at};
-use crate::word::word_at;
-use rows::{Chars, Row, Rows, Value};
+use crate::token::Blanks;
 use std::alloc::{AllocError, Global};
+use tokens::{After, Made, Read, Separators, Stop, split_digits, symbol_at, word_at};
+use values::{Chars, Sequence, Value, Values};
 
 /// The greatest number of 64 bits.
 const GREATEST: u64 = (1 << 63) - 1;
 
-/// The number of digits at the front.
-fn digit_count(bytes: &[u8]) -> usize
-    ensures count { result ≡ digit_count bytes.now }
-    ensures within { result ≤ length bytes.now }
-{
-    for (i, byte) in bytes.iter().enumerate() {
-        if !byte.is_ascii_digit() {
-            return i;
-        }
-    }
-    bytes.len()
-}
+/// The values of rows as they are written: any number of them, and any text.
+pub type WrittenRows = Sequence<Values>;
 
 /// The number that digits write, if it is at most so great.
 fn value_within(most: u64, digits: &[u8]) -> Option<u64>
@@ -49,7 +39,7 @@ fn digits_here(most: u64, bytes: &[u8]) -> Option<(u64, &[u8])>
     ensures found { Finds result (digits_here most bytes.now) }
     ensures within { IfSome result (λ x. x.0 ≤ most) }
 {
-    let (digits, rest) = bytes.split_at(digit_count(bytes));
+    let (digits, rest) = split_digits(bytes);
     if digits.is_empty() {
         return None;
     }
@@ -62,7 +52,7 @@ fn digits_here(most: u64, bytes: &[u8]) -> Option<(u64, &[u8])>
 pub fn digits_at(most: u64, bytes: &[u8]) -> Read<'_, u64>
     ensures { Gives result (digits_at most bytes.now) }
 {
-    let at = next(bytes);
+    let at = Blanks::next(bytes);
     digits_here(most, at).ok_or(at)
 }
 
@@ -71,7 +61,7 @@ pub fn digits_at(most: u64, bytes: &[u8]) -> Read<'_, u64>
 pub fn number_at(bytes: &[u8]) -> Read<'_, i64>
     ensures { Gives result (number_at bytes.now) }
 {
-    let at = next(bytes);
+    let at = Blanks::next(bytes);
     let found = match at {
         [b'-', digits @ ..] => below_nought(digits),
         _ => above_nought(at),
@@ -134,14 +124,14 @@ fn text_of(bytes: Vec<u8>) -> Option<Value>
 fn text_at(alloc: Global, bytes: &[u8]) -> Made<'_, Value>
     ensures { Makes result (text_at bytes.now) }
 {
-    let at = next(bytes);
-    let inside = symbol_at(b'\'', at)?;
+    let at = Blanks::next(bytes);
+    let inside = symbol_at::<Blanks>(b'\'', at)?;
     let Some((text, rest)) = quoted(alloc, inside)? else {
-        return Err(Stop::Here(at));
+        return Err(Stop::At(at));
     };
     match text_of(text) {
         Some(value) => Ok((value, rest)),
-        None => Err(Stop::Here(at)),
+        None => Err(Stop::At(at)),
     }
 }
 
@@ -149,13 +139,13 @@ fn text_at(alloc: Global, bytes: &[u8]) -> Made<'_, Value>
 fn constant_at(bytes: &[u8]) -> Read<'_, Value>
     ensures { Gives result (constant_at bytes.now) }
 {
-    if let Ok(rest) = word_at(b"TRUE", bytes) {
+    if let Ok(rest) = word_at::<Blanks>(b"TRUE", bytes) {
         return Ok((Value::Bool(true), rest));
     }
-    if let Ok(rest) = word_at(b"FALSE", bytes) {
+    if let Ok(rest) = word_at::<Blanks>(b"FALSE", bytes) {
         return Ok((Value::Bool(false), rest));
     }
-    let rest = word_at(b"NULL", bytes)?;
+    let rest = word_at::<Blanks>(b"NULL", bytes)?;
     Ok((Value::Null, rest))
 }
 
@@ -163,7 +153,7 @@ fn constant_at(bytes: &[u8]) -> Read<'_, Value>
 pub fn literal_at(alloc: Global, bytes: &[u8]) -> Made<'_, Value>
     ensures { Makes result (literal_at bytes.now) }
 {
-    let at = next(bytes);
+    let at = Blanks::next(bytes);
     match at {
         [b'\'', ..] => text_at(alloc, at),
         [b'-' | b'0'..=b'9', ..] => {
@@ -178,7 +168,7 @@ pub fn literal_at(alloc: Global, bytes: &[u8]) -> Made<'_, Value>
 struct Literals;
 
 impl Item for Literals {
-    ghost use Rattle.statement.specs.Token.{symbol_at, Leaves, Makes};
+    ghost use Rattle.statement.specs.Token.{symbol_at};
     ghost use Rattle.statement.specs.Literal.{literal_at};
 
     type Value = Value;
@@ -188,7 +178,7 @@ impl Item for Literals {
     ghost item = { λ _. literal_at };
 
     fn after_separator<'a>(&self, bytes: &'a [u8]) -> After<'a> {
-        symbol_at(b',', bytes)
+        symbol_at::<Blanks>(b',', bytes)
     }
 
     fn item_at<'a>(&self, alloc: Global, bytes: &'a [u8]) -> Made<'a, Value> {
@@ -198,39 +188,39 @@ impl Item for Literals {
 
 /// A row's values, in the order in which they stand.
 #[tactic(auto, unfolding(crate::specs::Literal::row_at))]
-fn row_at(alloc: Global, bytes: &[u8]) -> Made<'_, Row>
+fn row_at(alloc: Global, bytes: &[u8]) -> Made<'_, Values>
     ensures { Makes result (row_at bytes.now) }
 {
     let (values, rest) = enclosed_at(&Literals, alloc, bytes)?;
-    Ok((Row::new(values), rest))
+    Ok((Values::new(values), rest))
 }
 
 /// The rows of an INSERT.
 struct ListedRows;
 
 impl Item for ListedRows {
-    ghost use Rattle.statement.specs.Token.{symbol_at, Leaves, Makes};
+    ghost use Rattle.statement.specs.Token.{symbol_at};
     ghost use Rattle.statement.specs.Literal.{row_at};
 
-    type Value = Row;
+    type Value = Values;
 
     ghost separator = { λ _. symbol_at 44 };
 
     ghost item = { λ _. row_at };
 
     fn after_separator<'a>(&self, bytes: &'a [u8]) -> After<'a> {
-        symbol_at(b',', bytes)
+        symbol_at::<Blanks>(b',', bytes)
     }
 
-    fn item_at<'a>(&self, alloc: Global, bytes: &'a [u8]) -> Made<'a, Row> {
+    fn item_at<'a>(&self, alloc: Global, bytes: &'a [u8]) -> Made<'a, Values> {
         row_at(alloc, bytes)
     }
 }
 
 #[tactic(auto, unfolding(crate::specs::Literal::rows_at))]
-pub fn rows_at(alloc: Global, bytes: &[u8]) -> Made<'_, Rows>
+pub fn rows_at(alloc: Global, bytes: &[u8]) -> Made<'_, WrittenRows>
     ensures { Makes result (rows_at bytes.now) }
 {
     let (rows, rest) = list_at(&ListedRows, alloc, bytes)?;
-    Ok((Rows::new(rows), rest))
+    Ok((WrittenRows::new(rows), rest))
 }

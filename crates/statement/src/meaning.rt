@@ -1,12 +1,16 @@
-ghost use Rattle.std.specs.Prelude.{◌≡◌, ◌==◌, IfOk, []};
+ghost use Rattle.std.specs.Prelude.{◌≡◌, ◌==◌, ◌≤◌, length, IfOk, []};
 ghost use Rattle.std.specs.List.{list_any};
-ghost use Rattle.statement.specs.Meaning.{is_column_list, place_of, given, arranged, fitted, all_fitted, listed_insert, fitting, insert_step, session_step, step_of};
+ghost use Rattle.statement.specs.Meaning.{is_column_list, is_good_list, place_of, value_of, row_values, row_in, fitting_row, fitting_rows, fitting_step, insert_step, session_step, step_of};
 ghost use Rattle.statement.specs.Memory.{UnlessMemory};
 
+use crate::literal::WrittenRows;
 use crate::statement::{Columns, Statement};
-use crate::steps::Step;
-use rows::{ColumnNumber, Instant, Mem, Refusal, Row, Rows, Schema, Table, Value};
+use histories::Step;
+use rows::Schema;
 use std::alloc::{AllocError, Global};
+use values::{
+    ColumnNumber, Instant, Mem, Refusal, Row, Rows, Table, Value, Values, fitting_rows_have_bytes,
+};
 
 /// The highest session number.
 const SESSIONS: u64 = 64;
@@ -29,13 +33,23 @@ fn has_column(columns: &[ColumnNumber], column: ColumnNumber) -> bool
     columns.iter().any(|other| *other == column)
 }
 
+/// Whether there is no column list, or a good one.
+fn is_good_list(columns: &Option<Columns>) -> bool
+    ensures { result ≡ is_good_list columns.now }
+{
+    match columns {
+        None => true,
+        Some(columns) => is_column_list(columns.items()),
+    }
+}
+
 /// The value that a row gives a column; NULL where it gives none.
-fn given(
+fn value_of(
     columns: &[ColumnNumber],
     values: &[Value],
     number: ColumnNumber,
 ) -> Result<Value, AllocError>
-    ensures { IfOk result (λ value. value ≡ given columns.now values.now number) }
+    ensures { IfOk result (λ value. value ≡ value_of columns.now values.now number) }
 {
     match place_of(columns, number) {
         Some(i) => match values.get(i) {
@@ -54,44 +68,83 @@ fn place_of(columns: &[ColumnNumber], number: ColumnNumber) -> Option<usize>
     columns.iter().position(|column| *column == number)
 }
 
-/// A row in the table's order.
-fn arranged(
+/// A row's values in the table's order.
+fn row_values(
     alloc: Global,
     table: &Table,
     columns: &[ColumnNumber],
     values: &[Value],
-) -> Result<Row, AllocError>
-    ensures { IfOk result (λ row. row ≡ arranged table.now columns.now values.now) }
+) -> Result<Vec<Value>, AllocError>
+    ensures { IfOk result (λ row. row.items ≡ row_values table.now columns.now values.now) }
 {
     let mut row = Vec::new(alloc);
     for (i, _column) in table.columns.items().iter().enumerate() {
-        row.push(given(columns, values, i + 1)?)?;
+        row.push(value_of(columns, values, i + 1)?)?;
     }
-    Ok(Row::new(row))
+    Ok(row)
+}
+
+fn copy_of(alloc: Global, values: &[Value]) -> Result<Vec<Value>, AllocError>
+    ensures { IfOk result (λ copy. copy.items ≡ values.now) }
+{
+    let mut copy = Vec::new(alloc);
+    for value in values {
+        copy.push(value.clone()?)?;
+    }
+    Ok(copy)
+}
+
+/// A row of the table, if the values fit it.
+fn row_in(table: &Table, values: Vec<Value>) -> Result<Row, Refusal>
+    requires some { 1 ≤ length table.now.columns }
+    requires few { length table.now.columns ≤ 16 }
+    ensures { result ≡ row_in table.now values.items }
+{
+    if let Err(refusal) = table.check_row(values.as_slice()) {
+        return Err(refusal);
+    }
+    fitting_rows_have_bytes();
+    match Row::new(values) {
+        Some(row) => Ok(row),
+        None => unreachable!(),
+    }
 }
 
 /// A row in the table's order, if it fits.
-#[tactic(auto, unfolding(crate::specs::Meaning::fitted))]
-fn fitted(alloc: Global, table: &Table, columns: &[ColumnNumber], row: &Row) -> Mem<Row>
-    ensures { UnlessMemory result (fitted table.now columns.now row.now) }
+#[tactic(auto, unfolding(crate::specs::Meaning::fitting_row))]
+fn fitting_row(
+    alloc: Global,
+    table: &Table,
+    columns: &Option<Columns>,
+    values: &[Value],
+) -> Mem<Row>
+    requires some { 1 ≤ length table.now.columns }
+    requires few { length table.now.columns ≤ 16 }
+    ensures { UnlessMemory result (fitting_row table.now columns.now values.now) }
 {
-    if columns.len() != row.values().len() {
-        return Err(Refusal::BadRow(0));
-    }
-    let row = arranged(alloc, table, columns, row.values())?;
-    match table.check_row(&row) {
-        Ok(()) => Ok(row),
-        Err(refusal) => Err(refusal),
+    match columns {
+        None => row_in(table, copy_of(alloc, values)?),
+        Some(columns) if columns.items().len() == values.len() => {
+            row_in(table, row_values(alloc, table, columns.items(), values)?)
+        }
+        Some(_) => Err(Refusal::BadRow(0)),
     }
 }
 
 /// Rows in the table's order, or the refusal of the first that does not fit.
-fn all_fitted(alloc: Global, table: &Table, columns: &[ColumnNumber], rows: &[Row]) -> Mem<Rows>
-    ensures { UnlessMemory result (all_fitted table.now columns.now [] rows.now) }
+fn fitting_rows(
+    alloc: Global,
+    table: &Table,
+    columns: &Option<Columns>,
+    rows: &[Values],
+) -> Mem<Rows>
+    requires some { 1 ≤ length table.now.columns }
+    requires few { length table.now.columns ≤ 16 }
+    ensures { UnlessMemory result (fitting_rows table.now columns.now [] rows.now) }
 {
     let mut fit = Vec::new(alloc);
     for row in rows {
-        match fitted(alloc, table, columns, row) {
+        match fitting_row(alloc, table, columns, row.items()) {
             Ok(row) => fit.push(row)?,
             Err(refusal) => return Err(refusal),
         }
@@ -99,33 +152,9 @@ fn all_fitted(alloc: Global, table: &Table, columns: &[ColumnNumber], rows: &[Ro
     Ok(Rows::new(fit))
 }
 
-/// An INSERT with a column list, which is looked at before the rows.
-#[tactic(auto, unfolding(crate::specs::Meaning::listed_insert))]
-fn listed_insert(
-    alloc: Global,
-    schema: &Schema,
-    session: u8,
-    number: u8,
-    columns: &[ColumnNumber],
-    rows: &[Row],
-) -> Mem<Step>
-    ensures { UnlessMemory result (listed_insert schema.now session number columns.now rows.now) }
-{
-    let Some(table) = schema.table_at(number) else {
-        return Err(Refusal::NoTable);
-    };
-    if !is_column_list(columns) {
-        return Err(Refusal::BadRow(0));
-    }
-    match all_fitted(alloc, table, columns, rows) {
-        Ok(rows) => Ok(Step::Insert(session, number, rows)),
-        Err(refusal) => Err(refusal),
-    }
-}
-
 /// A step, if it fits the schema.
-fn fitting(schema: &Schema, step: Step) -> Result<Step, Refusal>
-    ensures { result ≡ fitting schema.now step }
+fn fitting_step(schema: &Schema, step: Step) -> Result<Step, Refusal>
+    ensures { result ≡ fitting_step schema.now step }
 {
     match step.misfit(schema) {
         Some(refusal) => Err(refusal),
@@ -133,22 +162,27 @@ fn fitting(schema: &Schema, step: Step) -> Result<Step, Refusal>
     }
 }
 
+/// An INSERT: its table, then its column list, then its rows.
 #[tactic(auto, unfolding(crate::specs::Meaning::insert_step))]
 fn insert_step(
     alloc: Global,
     schema: &Schema,
     session: u8,
-    table: u8,
-    columns: Option<Columns>,
-    rows: Rows,
+    number: u8,
+    columns: &Option<Columns>,
+    rows: &WrittenRows,
 ) -> Mem<Step>
-    ensures { UnlessMemory result (insert_step schema.now session table columns rows) }
+    ensures { UnlessMemory result (insert_step schema.now session number columns.now rows.now) }
 {
-    match columns {
-        Some(columns) => {
-            listed_insert(alloc, schema, session, table, columns.items(), rows.items())
-        }
-        None => fitting(schema, Step::Insert(session, table, rows)),
+    let Some(table) = schema.table_at(number) else {
+        return Err(Refusal::NoTable);
+    };
+    if !is_good_list(columns) {
+        return Err(Refusal::BadRow(0));
+    }
+    match fitting_rows(alloc, table, columns, rows.items()) {
+        Ok(rows) => Ok(Step::Insert(session, number, rows)),
+        Err(refusal) => Err(refusal),
     }
 }
 
@@ -165,14 +199,14 @@ fn session_step(
 {
     match statement {
         Statement::Insert(table, columns, rows) => {
-            insert_step(alloc, schema, session, table, columns, rows)
+            insert_step(alloc, schema, session, table, &columns, &rows)
         }
-        Statement::Update(keys, sets) => fitting(schema, Step::Update(session, keys, sets)),
-        Statement::Delete(keys) => fitting(schema, Step::Delete(session, keys)),
-        Statement::Select(form, keys) => fitting(schema, Step::Select(session, form, keys)),
-        Statement::Begin => fitting(schema, Step::Begin(session)),
-        Statement::Commit => fitting(schema, Step::Commit(session, reading)),
-        Statement::Rollback => fitting(schema, Step::Rollback(session)),
+        Statement::Update(keys, sets) => fitting_step(schema, Step::Update(session, keys, sets)),
+        Statement::Delete(keys) => fitting_step(schema, Step::Delete(session, keys)),
+        Statement::Select(form, keys) => fitting_step(schema, Step::Select(session, form, keys)),
+        Statement::Begin => fitting_step(schema, Step::Begin(session)),
+        Statement::Commit => fitting_step(schema, Step::Commit(session, reading)),
+        Statement::Rollback => fitting_step(schema, Step::Rollback(session)),
     }
 }
 

@@ -5,10 +5,10 @@ ghost use Rattle.std.specs.Prelude.{◌≡◌, ◌==◌, ◌++◌, ◌∷◌, []
 ghost use Rattle.statement.specs.Writer.{Puts};
 ghost use Rattle.statement.specs.Print.{line, numbered, quoted_byte, quoted, value_text, next_text, values_text, end_text, row_line, shown_line, listing_text, refusal_text, reply_text};
 
-use crate::writer::{WriteFault, put_all, put_number};
-use crate::steps::{Listing, Reply};
-use rows::{Instant, Key, Refusal, Row, Shown, Value};
+use crate::writer::{WriteFault, put_number, write_all};
+use histories::{Listing, Reply};
 use std::io::Write;
+use values::{Instant, Key, Refusal, Row, Shown, Value};
 
 /// What stands on both sides of a text, and twice inside it.
 const QUOTE: u8 = b'\'';
@@ -25,10 +25,10 @@ pub fn print_reply<W: Write>(writer: &mut W, reply: &Reply) -> Put
         Reply::Updated(count) => put_numbered(writer, b"updated ", *count as u64),
         Reply::Deleted(count) => put_numbered(writer, b"deleted ", *count as u64),
         Reply::Shown(listing) => put_listing(writer, listing),
-        Reply::Committed(None) => put_all(writer, b"committed nothing\n"),
+        Reply::Committed(None) => write_all(writer, b"committed nothing\n"),
         Reply::Committed(Some(instant)) => put_numbered(writer, b"committed ", *instant),
-        Reply::RolledBack => put_all(writer, b"rolled back\n"),
-        Reply::Done => put_all(writer, b"ok\n"),
+        Reply::RolledBack => write_all(writer, b"rolled back\n"),
+        Reply::Done => write_all(writer, b"ok\n"),
         Reply::Refused(refusal) => print_refusal(writer, refusal),
     }
 }
@@ -39,21 +39,21 @@ pub fn print_refusal<W: Write>(writer: &mut W, refusal: &Refusal) -> Put
 {
     match refusal {
         Refusal::Syntax(byte) => put_numbered(writer, b"E1 syntax at ", *byte as u64),
-        Refusal::NoTable => put_all(writer, b"E2 no table\n"),
+        Refusal::NoTable => write_all(writer, b"E2 no table\n"),
         Refusal::BadRow(column) => put_numbered(writer, b"E3 bad row at column ", *column as u64),
-        Refusal::NoTransaction => put_all(writer, b"E4 no transaction\n"),
-        Refusal::InTransaction => put_all(writer, b"E5 in transaction\n"),
+        Refusal::NoTransaction => write_all(writer, b"E4 no transaction\n"),
+        Refusal::InTransaction => write_all(writer, b"E5 in transaction\n"),
         Refusal::DuplicateKey(key) => put_key(writer, b"E6 duplicate key ", key),
         Refusal::Conflict(key, instant) => put_conflict(writer, key, *instant),
-        Refusal::ClockEnd => put_all(writer, b"E8 clock end\n"),
-        Refusal::TooManyWrites => put_all(writer, b"E9 too many writes\n"),
-        Refusal::Memory => put_all(writer, b"E10 memory\n"),
-        Refusal::NoSession => put_all(writer, b"E11 no session\n"),
-        Refusal::LineTooLong => put_all(writer, b"E12 line too long\n"),
-        Refusal::JournalFull => put_all(writer, b"E13 journal full\n"),
+        Refusal::ClockEnd => write_all(writer, b"E8 clock end\n"),
+        Refusal::TooManyWrites => write_all(writer, b"E9 too many writes\n"),
+        Refusal::Memory => write_all(writer, b"E10 memory\n"),
+        Refusal::NoSession => write_all(writer, b"E11 no session\n"),
+        Refusal::LineTooLong => write_all(writer, b"E12 line too long\n"),
+        Refusal::JournalFull => write_all(writer, b"E13 journal full\n"),
         Refusal::Overlap(key) => put_key(writer, b"E14 overlap ", key),
-        Refusal::BadPeriod => put_all(writer, b"E15 bad period\n"),
-        Refusal::TransactionsOpen => put_all(writer, b"E16 transactions open\n"),
+        Refusal::BadPeriod => write_all(writer, b"E15 bad period\n"),
+        Refusal::TransactionsOpen => write_all(writer, b"E16 transactions open\n"),
     }
 }
 
@@ -61,7 +61,7 @@ pub fn print_refusal<W: Write>(writer: &mut W, refusal: &Refusal) -> Put
 fn put_numbered<W: Write>(writer: &mut W, label: &[u8], number: u64) -> Put
     ensures { Puts (W.contents writer.old) (W.contents writer.new) result (numbered label.now number) }
 {
-    put_all(writer, label)?;
+    write_all(writer, label)?;
     put_number_line(writer, number)
 }
 
@@ -69,20 +69,20 @@ fn put_number_line<W: Write>(writer: &mut W, number: u64) -> Put
     ensures { Puts (W.contents writer.old) (W.contents writer.new) result (line (decimal number)) }
 {
     put_number(writer, number)?;
-    put_all(writer, b"\n")
+    write_all(writer, b"\n")
 }
 
 fn put_key<W: Write>(writer: &mut W, label: &[u8], key: &Key) -> Put
     ensures { Puts (W.contents writer.old) (W.contents writer.new) result (label.now ++ line (values_text key.now.parts)) }
 {
-    put_all(writer, label)?;
+    write_all(writer, label)?;
     put_values_line(writer, key.parts.items())
 }
 
 fn put_conflict<W: Write>(writer: &mut W, key: &Key, instant: Instant) -> Put
     ensures { Puts (W.contents writer.old) (W.contents writer.new) result (refusal_text (Refusal.Conflict key.now instant)) }
 {
-    put_all(writer, b"E7 conflict ")?;
+    write_all(writer, b"E7 conflict ")?;
     put_winner(writer, key, instant)
 }
 
@@ -150,7 +150,7 @@ fn put_shown<W: Write>(writer: &mut W, shown: &Shown) -> Put
 fn put_period<W: Write>(writer: &mut W, from: Instant, to: Option<Instant>) -> Put
     ensures { Puts (W.contents writer.old) (W.contents writer.new) result (codes " from " ++ (decimal from ++ (codes " to " ++ line (end_text to)))) }
 {
-    put_all(writer, b" from ")?;
+    write_all(writer, b" from ")?;
     put_ends(writer, from, to)
 }
 
@@ -165,7 +165,7 @@ fn put_end<W: Write>(writer: &mut W, to: Option<Instant>) -> Put
     ensures { Puts (W.contents writer.old) (W.contents writer.new) result (codes " to " ++ line (end_text to)) }
 {
     match to {
-        None => put_all(writer, b" to forever\n"),
+        None => write_all(writer, b" to forever\n"),
         Some(instant) => put_numbered(writer, b" to ", instant),
     }
 }
@@ -174,7 +174,7 @@ fn put_values_line<W: Write>(writer: &mut W, values: &[Value]) -> Put
     ensures { Puts (W.contents writer.old) (W.contents writer.new) result (line (values_text values.now)) }
 {
     put_values(writer, values)?;
-    put_all(writer, b"\n")
+    write_all(writer, b"\n")
 }
 
 /// Writes values in parentheses.
@@ -182,7 +182,7 @@ fn put_values<W: Write>(writer: &mut W, values: &[Value]) -> Put
     ensures { Puts (W.contents writer.old) (W.contents writer.new) result (values_text values.now) }
 {
     match values {
-        [] => put_all(writer, b"()"),
+        [] => write_all(writer, b"()"),
         [first, others @ ..] => put_first(writer, first, others),
     }
 }
@@ -190,7 +190,7 @@ fn put_values<W: Write>(writer: &mut W, values: &[Value]) -> Put
 fn put_first<W: Write>(writer: &mut W, first: &Value, others: &[Value]) -> Put
     ensures { Puts (W.contents writer.old) (W.contents writer.new) result (values_text (first.now ∷ others.now)) }
 {
-    put_all(writer, b"(")?;
+    write_all(writer, b"(")?;
     put_inside(writer, first, others)
 }
 
@@ -205,7 +205,7 @@ fn put_others<W: Write>(writer: &mut W, others: &[Value]) -> Put
     ensures { Puts (W.contents writer.old) (W.contents writer.new) result (flat_map next_text others.now ++ codes ")") }
 {
     put_next_values(writer, others)?;
-    put_all(writer, b")")
+    write_all(writer, b")")
 }
 
 fn put_next_values<W: Write>(writer: &mut W, values: &[Value]) -> Put
@@ -220,7 +220,7 @@ fn put_next_values<W: Write>(writer: &mut W, values: &[Value]) -> Put
 fn put_next<W: Write>(writer: &mut W, value: &Value) -> Put
     ensures { Puts (W.contents writer.old) (W.contents writer.new) result (next_text value.now) }
 {
-    put_all(writer, b", ")?;
+    write_all(writer, b", ")?;
     put_value(writer, value)
 }
 
@@ -230,16 +230,16 @@ fn put_value<W: Write>(writer: &mut W, value: &Value) -> Put
     match value {
         Value::Int(number) => put_number(writer, *number),
         Value::Text(text) => put_quoted(writer, text.text().as_bytes()),
-        Value::Bool(true) => put_all(writer, b"true"),
-        Value::Bool(false) => put_all(writer, b"false"),
-        Value::Null => put_all(writer, b"null"),
+        Value::Bool(true) => write_all(writer, b"true"),
+        Value::Bool(false) => write_all(writer, b"false"),
+        Value::Null => write_all(writer, b"null"),
     }
 }
 
 fn put_quoted<W: Write>(writer: &mut W, text: &[u8]) -> Put
     ensures { Puts (W.contents writer.old) (W.contents writer.new) result (codes "'" ++ (quoted text.now ++ codes "'")) }
 {
-    put_all(writer, b"'")?;
+    write_all(writer, b"'")?;
     put_text(writer, text)
 }
 
@@ -247,7 +247,7 @@ fn put_text<W: Write>(writer: &mut W, text: &[u8]) -> Put
     ensures { Puts (W.contents writer.old) (W.contents writer.new) result (quoted text.now ++ codes "'") }
 {
     put_doubled(writer, text)?;
-    put_all(writer, b"'")
+    write_all(writer, b"'")
 }
 
 /// Writes a text with each quote doubled.
@@ -257,7 +257,7 @@ fn put_doubled<W: Write>(writer: &mut W, text: &[u8]) -> Put
     if has_quote(text) {
         put_bytes(writer, text)
     } else {
-        put_all(writer, text)
+        write_all(writer, text)
     }
 }
 
@@ -280,8 +280,8 @@ fn put_byte<W: Write>(writer: &mut W, byte: u8) -> Put
     ensures { Puts (W.contents writer.old) (W.contents writer.new) result (quoted_byte byte) }
 {
     if byte == QUOTE {
-        put_all(writer, b"''")
+        write_all(writer, b"''")
     } else {
-        put_all(writer, &[byte])
+        write_all(writer, &[byte])
     }
 }

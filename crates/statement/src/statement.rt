@@ -1,13 +1,14 @@
 ghost use Rattle.std.specs.Prelude.{◌≡◌};
-ghost use Rattle.statement.specs.Token.{Gives, Makes};
+ghost use Rattle.tokens.specs.Token.{Gives, Makes};
 ghost use Rattle.statement.specs.Statement.{instant_at, as_of_at, form_at, start_at, listed_at, insert_at, update_at, delete_at, select_at, data_at, statement_at};
 
-use crate::literal::{digits_at, rows_at};
-use crate::token::{Made, Read, symbol_at};
 use crate::condition::{columns_at, keys_at, sets_at, table_name_at};
-use crate::word::{after_word, word_at};
-use rows::{ColumnNumber, Form, Instant, Keys, LAST, Rows, Schema, Sequence, Sets};
+use crate::literal::{WrittenRows, digits_at, rows_at};
+use crate::token::{Blanks, after_optional_word};
+use rows::Schema;
 use std::alloc::Global;
+use tokens::{Made, Read, symbol_at, word_at};
+use values::{ColumnNumber, Form, Instant, Keys, LAST, Sequence, Sets};
 
 /// A column list, in its order.
 pub type Columns = Sequence<ColumnNumber>;
@@ -17,7 +18,7 @@ pub type Columns = Sequence<ColumnNumber>;
 pub enum Statement {
     Begin,
     /// A table, the columns that its list names where one stands, and rows whose values stand in the list's order or else in the table's.
-    Insert(u8, Option<Columns>, Rows),
+    Insert(u8, Option<Columns>, WrittenRows),
     Update(Keys, Sets),
     Delete(Keys),
     Select(Form, Keys),
@@ -37,7 +38,7 @@ pub fn instant_at(bytes: &[u8]) -> Read<'_, Instant>
 fn form_at(bytes: &[u8]) -> Read<'_, Form>
     ensures { Gives result (form_at bytes.now) }
 {
-    match word_at(b"FOR", bytes) {
+    match word_at::<Blanks>(b"FOR", bytes) {
         Ok(rest) => as_of_at(rest),
         Err(_) => Ok((Form::Plain, bytes)),
     }
@@ -47,9 +48,9 @@ fn form_at(bytes: &[u8]) -> Read<'_, Form>
 fn as_of_at(bytes: &[u8]) -> Read<'_, Form>
     ensures { Gives result (as_of_at bytes.now) }
 {
-    let rest = word_at(b"SYSTEM_TIME", bytes)?;
-    let rest = word_at(b"AS", rest)?;
-    let rest = word_at(b"OF", rest)?;
+    let rest = word_at::<Blanks>(b"SYSTEM_TIME", bytes)?;
+    let rest = word_at::<Blanks>(b"AS", rest)?;
+    let rest = word_at::<Blanks>(b"OF", rest)?;
     let (instant, rest) = instant_at(rest)?;
     Ok((Form::AsOf(instant), rest))
 }
@@ -64,7 +65,7 @@ fn listed_at<'a>(
 ) -> Made<'a, Option<Columns>>
     ensures { Makes result (listed_at schema.now table bytes.now) }
 {
-    if symbol_at(b'(', bytes).is_err() {
+    if symbol_at::<Blanks>(b'(', bytes).is_err() {
         return Ok((None, bytes));
     }
     let (columns, rest) = columns_at(alloc, schema, table, bytes)?;
@@ -75,10 +76,10 @@ fn listed_at<'a>(
 fn insert_at<'a>(alloc: Global, schema: &Schema, bytes: &'a [u8]) -> Made<'a, Statement>
     ensures { Makes result (insert_at schema.now bytes.now) }
 {
-    let rest = word_at(b"INTO", bytes)?;
+    let rest = word_at::<Blanks>(b"INTO", bytes)?;
     let (table, rest) = table_name_at(schema, rest)?;
     let (columns, rest) = listed_at(alloc, schema, table, rest)?;
-    let rest = word_at(b"VALUES", rest)?;
+    let rest = word_at::<Blanks>(b"VALUES", rest)?;
     let (rows, rest) = rows_at(alloc, rest)?;
     Ok((Statement::Insert(table, columns, rows), rest))
 }
@@ -88,7 +89,7 @@ fn update_at<'a>(alloc: Global, schema: &Schema, bytes: &'a [u8]) -> Made<'a, St
     ensures { Makes result (update_at schema.now bytes.now) }
 {
     let (table, rest) = table_name_at(schema, bytes)?;
-    let rest = word_at(b"SET", rest)?;
+    let rest = word_at::<Blanks>(b"SET", rest)?;
     let (sets, rest) = sets_at(alloc, schema, table, rest)?;
     let (keys, rest) = keys_at(alloc, schema, table, rest)?;
     Ok((Statement::Update(keys, sets), rest))
@@ -98,7 +99,7 @@ fn update_at<'a>(alloc: Global, schema: &Schema, bytes: &'a [u8]) -> Made<'a, St
 fn delete_at<'a>(alloc: Global, schema: &Schema, bytes: &'a [u8]) -> Made<'a, Statement>
     ensures { Makes result (delete_at schema.now bytes.now) }
 {
-    let rest = word_at(b"FROM", bytes)?;
+    let rest = word_at::<Blanks>(b"FROM", bytes)?;
     let (table, rest) = table_name_at(schema, rest)?;
     let (keys, rest) = keys_at(alloc, schema, table, rest)?;
     Ok((Statement::Delete(keys), rest))
@@ -108,8 +109,8 @@ fn delete_at<'a>(alloc: Global, schema: &Schema, bytes: &'a [u8]) -> Made<'a, St
 fn select_at<'a>(alloc: Global, schema: &Schema, bytes: &'a [u8]) -> Made<'a, Statement>
     ensures { Makes result (select_at schema.now bytes.now) }
 {
-    let rest = symbol_at(b'*', bytes)?;
-    let rest = word_at(b"FROM", rest)?;
+    let rest = symbol_at::<Blanks>(b'*', bytes)?;
+    let rest = word_at::<Blanks>(b"FROM", rest)?;
     let (table, rest) = table_name_at(schema, rest)?;
     let (form, rest) = form_at(rest)?;
     let (keys, rest) = keys_at(alloc, schema, table, rest)?;
@@ -120,7 +121,7 @@ fn select_at<'a>(alloc: Global, schema: &Schema, bytes: &'a [u8]) -> Made<'a, St
 fn start_at(bytes: &[u8]) -> Read<'_, Statement>
     ensures { Gives result (start_at bytes.now) }
 {
-    let rest = word_at(b"TRANSACTION", bytes)?;
+    let rest = word_at::<Blanks>(b"TRANSACTION", bytes)?;
     Ok((Statement::Begin, rest))
 }
 
@@ -129,16 +130,16 @@ fn start_at(bytes: &[u8]) -> Read<'_, Statement>
 fn data_at<'a>(alloc: Global, schema: &Schema, bytes: &'a [u8]) -> Made<'a, Statement>
     ensures { Makes result (data_at schema.now bytes.now) }
 {
-    if let Ok(rest) = word_at(b"INSERT", bytes) {
+    if let Ok(rest) = word_at::<Blanks>(b"INSERT", bytes) {
         return insert_at(alloc, schema, rest);
     }
-    if let Ok(rest) = word_at(b"UPDATE", bytes) {
+    if let Ok(rest) = word_at::<Blanks>(b"UPDATE", bytes) {
         return update_at(alloc, schema, rest);
     }
-    if let Ok(rest) = word_at(b"DELETE", bytes) {
+    if let Ok(rest) = word_at::<Blanks>(b"DELETE", bytes) {
         return delete_at(alloc, schema, rest);
     }
-    let rest = word_at(b"SELECT", bytes)?;
+    let rest = word_at::<Blanks>(b"SELECT", bytes)?;
     select_at(alloc, schema, rest)
 }
 
@@ -147,17 +148,17 @@ fn data_at<'a>(alloc: Global, schema: &Schema, bytes: &'a [u8]) -> Made<'a, Stat
 pub fn statement_at<'a>(alloc: Global, schema: &Schema, bytes: &'a [u8]) -> Made<'a, Statement>
     ensures { Makes result (statement_at schema.now bytes.now) }
 {
-    if let Ok(rest) = word_at(b"BEGIN", bytes) {
+    if let Ok(rest) = word_at::<Blanks>(b"BEGIN", bytes) {
         return Ok((Statement::Begin, rest));
     }
-    if let Ok(rest) = word_at(b"START", bytes) {
+    if let Ok(rest) = word_at::<Blanks>(b"START", bytes) {
         return Ok(start_at(rest)?);
     }
-    if let Ok(rest) = word_at(b"COMMIT", bytes) {
-        return Ok((Statement::Commit, after_word(b"WORK", rest)));
+    if let Ok(rest) = word_at::<Blanks>(b"COMMIT", bytes) {
+        return Ok((Statement::Commit, after_optional_word(b"WORK", rest)));
     }
-    if let Ok(rest) = word_at(b"ROLLBACK", bytes) {
-        return Ok((Statement::Rollback, after_word(b"WORK", rest)));
+    if let Ok(rest) = word_at::<Blanks>(b"ROLLBACK", bytes) {
+        return Ok((Statement::Rollback, after_optional_word(b"WORK", rest)));
     }
     data_at(alloc, schema, bytes)
 }

@@ -9,7 +9,7 @@ use std::io::Write;
 pub struct WriteFault;
 
 /// Writes all of a text, or stops in its midst.
-pub fn put_all<W: Write>(writer: &mut W, text: &[u8]) -> Result<(), WriteFault>
+pub fn write_all<W: Write>(writer: &mut W, text: &[u8]) -> Result<(), WriteFault>
     ensures { Puts (W.contents writer.old) (W.contents writer.new) result text.now }
 {
     let mut rest = text;
@@ -28,5 +28,5 @@ pub fn put_number<W: Write, N: Integer>(writer: &mut W, number: N) -> Result<(),
     ensures { Puts (W.contents writer.old) (W.contents writer.new) result (N.text number) }
 {
     let mut buffer = Buffer::new();
-    put_all(writer, buffer.format(number).as_bytes())
+    write_all(writer, buffer.format(number).as_bytes())
 }

@@ -1,5 +1,5 @@
 use Rattle.std.proofs.Common.{◌≡◌, drop}
-use Rattle.statement.specs.Token.{more_at, list_at}
+use Rattle.statement.specs.List.{more_at, list_at}
 use Rattle.statement.proofs.list.list_at.Given as goal
 
 abbrev pub invariant-loop-turn : goal.invariant-loop-turn

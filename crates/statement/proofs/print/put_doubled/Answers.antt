@@ -4,4 +4,4 @@ use Rattle.statement.proofs.Quotes.{quoted-plain}
 use Rattle.statement.proofs.print.put_doubled.Goals as goal
 
 pub returns-else-has_quote : goal.returns-else-has_quote
-returns-else-has_quote g c = subst (Puts _ _ c.put_all.result) (sym (quoted-plain c.args.text.now (sym c.has_quote.ensures ∙ c.if-has_quote.false))) c.put_all.ensures
+returns-else-has_quote g c = subst (Puts _ _ c.write_all.result) (sym (quoted-plain c.args.text.now (sym c.has_quote.ensures ∙ c.if-has_quote.false))) c.write_all.ensures

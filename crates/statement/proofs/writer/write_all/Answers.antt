@@ -1,5 +1,5 @@
 use Rattle.statement.proofs.Fronts.{left_more}
-use Rattle.statement.proofs.writer.put_all.Goals as goal
+use Rattle.statement.proofs.writer.write_all.Goals as goal
 
 pub loop-rest-preserved : goal.loop-rest-preserved
 loop-rest-preserved g c = rw c.split_at.ensures.back (left_more _ _ _ _ _ _ c.loop-rest.invariant c.in-Ok.ensures.bytes)

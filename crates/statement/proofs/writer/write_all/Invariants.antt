@@ -1,6 +1,6 @@
 use Rattle.std.proofs.Common.{length}
 use Rattle.statement.proofs.Fronts.{Left}
-use Rattle.statement.proofs.writer.put_all.Given as goal
+use Rattle.statement.proofs.writer.write_all.Given as goal
 
 abbrev pub invariant-loop-rest : goal.invariant-loop-rest
 invariant-loop-rest g l = Left (g.W.Write.contents l.fn.writer) (g.W.Write.contents l.writer) l.text l.rest

@@ -1,0 +1,135 @@
+-- What a line of the grammar says is no fault of syntax.
+use Rattle.std.proofs.Common.{◌≡◌, ℕ, Bool, true, false, List, [], ◌∷◌, ◌++◌, Ok, Err, Some, None, subst}
+use Rattle.std.specs.Prelude.{length, Option, Result, if◌then◌else◌, ◌||◌, ◌==◌, nat_lt}
+use Rattle.values.specs.declared.table.Table.{Table}
+use Rattle.values.specs.Tables.{Schema, table_at}
+use Rattle.values.specs.Fit.{row_fault}
+use Rattle.values.specs.Log.{Row}
+use Rattle.values.specs.declared.refusal.Refusal.{Refusal}
+use Rattle.values.specs.declared.refusal.Refusal.TheVariants.{Syntax, NoTable, BadRow, NoSession}
+use Rattle.histories.specs.declared.step.Step.{Step}
+use Rattle.histories.specs.declared.step.Step.TheVariants.{Begin as Begins, Insert as Inserts, Update as Updates, Delete as Deletes, Select as Selects, Commit as Commits, Rollback as RollsBack}
+use Rattle.histories.specs.Misfit.{max_session, misfit, misfit_of, no_session, bad_row}
+use Rattle.tokens.specs.Token.{◌>>=◌}
+use Rattle.statement.specs.declared.line.Line.{Line}
+use Rattle.statement.specs.declared.line.Written.{Written}
+use Rattle.statement.specs.declared.line.Written.TheVariants.{Clock, Session}
+use Rattle.statement.specs.declared.statement.Statement.{Statement}
+use Rattle.statement.specs.declared.statement.Statement.TheVariants.{Begin, Insert, Update, Delete, Select, Commit, Rollback}
+use Rattle.statement.specs.Meaning.{is_good_list, row_values, row_in, fitting_row, fitting_rows, fitting_step, insert_step, session_step, step_of}
+use Rattle.statement.specs.Line.{meaning_of}
+
+-- no fault of syntax
+abbrev no_syntax : Refusal → Type 0
+no_syntax (Syntax n) = ⊥
+no_syntax _ = Unit {0}
+
+abbrev Fits : {A : Type 0} → Result A Refusal → Type 0
+Fits (Ok x) = Unit {0}
+Fits (Err r) = no_syntax r
+
+record Says {A : Type 0} (r : Result A Refusal) : Type 0 where
+  it : Fits r
+
+then_says : {A B : Type 0} (r : Result A Refusal) (f : A → Result B Refusal) → Says r → ((x : A) → Says (f x)) → Says (r >>= f)
+then_says (Ok x) f s go = go x
+then_says (Err r) f s go = record { it = s.it }
+
+abbrev Misses : Option Refusal → Type 0
+Misses None = Unit {0}
+Misses (Some r) = no_syntax r
+
+column_misses : (fault : Option ℕ) → Misses (bad_row fault)
+column_misses None = tt
+column_misses (Some n) = tt
+
+session_misses : (i : ℕ) → Misses (no_session i)
+session_misses i = by_test (nat_lt max_session i)
+  where
+    by_test : (t : Bool) → Misses (if t then Some NoSession else None)
+    by_test true = tt
+    by_test false = tt
+
+module _ (schema : Schema) where
+  table_misses : (i number : ℕ) (fault : Table → Option ℕ) → Misses (misfit_of schema i number fault)
+  table_misses i number fault = by_test (nat_lt max_session i) (table_at schema number)
+    where
+      by_test : (t : Bool) (o : Option Table) → Misses (if t then Some NoSession else elim o [ None ↦ Some NoTable | Some table ↦ bad_row (fault table) ])
+      by_test true o = tt
+      by_test false None = tt
+      by_test false (Some table) = column_misses (fault table)
+
+  step_says : (step : Step) → Misses (misfit schema step) → Says (fitting_step schema step)
+  step_says step m = by_misfit (misfit schema step) m
+    where
+      by_misfit : (o : Option Refusal) → Misses o → Says {A = Step} (elim o [ Some refusal ↦ Err refusal | None ↦ Ok step ])
+      by_misfit None m = record { it = tt }
+      by_misfit (Some r) m = record { it = m }
+
+  row_says : (table : Table) (row : Row) → Says (row_in table row)
+  row_says table row = by_fault (row_fault table row)
+    where
+      by_fault : (o : Option ℕ) → Says {A = Row} (elim o [ Some column ↦ Err (BadRow column) | None ↦ Ok row ])
+      by_fault None = record { it = tt }
+      by_fault (Some n) = record { it = tt }
+
+  fitting_says : (table : Table) (columns : Option (List ℕ)) (row : Row) → Says (fitting_row table columns row)
+  unfolding fitting_row
+  fitting_says table None row = row_says table row
+  fitting_says table (Some columns) row = by_test (length columns == length row)
+    where
+      by_test : (t : Bool) → Says {A = Row} (if t then row_in table (row_values table columns row) else Err (BadRow 0))
+      by_test true = row_says table (row_values table columns row)
+      by_test false = record { it = tt }
+
+  rows_say : (table : Table) (columns : Option (List ℕ)) (front rows : List Row) → Says (fitting_rows table columns front rows)
+  rows_say table columns front [] = record { it = tt }
+  rows_say table columns front (row ∷ rows) = by_row (fitting_row table columns row) (fitting_says table columns row) (λ fits. rows_say table columns (front ++ fits ∷ []) rows)
+    where
+      by_row : (r : Result Row Refusal) → Says r → ((fits : Row) → Says (fitting_rows table columns (front ++ fits ∷ []) rows))
+          → Says {A = List Row} (elim r [ Err refusal ↦ Err refusal | Ok fits ↦ fitting_rows table columns (front ++ fits ∷ []) rows ])
+      by_row (Ok fits) s go = go fits
+      by_row (Err r) s go = record { it = s.it }
+
+  insert_says : (session number : ℕ) (columns : Option (List ℕ)) (rows : List Row) → Says (insert_step schema session number columns rows)
+  unfolding insert_step
+  insert_says session number columns rows = by_table (table_at schema number)
+    where
+      by_list : (table : Table) (t : Bool) → Says {A = Step} (if t then (fitting_rows table columns [] rows >>= λ fit. Ok (Inserts session number fit)) else Err (BadRow 0))
+      by_list table true = then_says _ _ (rows_say table columns [] rows) (λ fit. record { it = tt })
+      by_list table false = record { it = tt }
+
+      by_table : (o : Option Table)
+          → Says {A = Step} (elim o [
+            | None ↦ Err NoTable
+            | Some table ↦ if is_good_list columns then (fitting_rows table columns [] rows >>= λ fit. Ok (Inserts session number fit)) else Err (BadRow 0)
+          ])
+      by_table None = record { it = tt }
+      by_table (Some table) = by_list table (is_good_list columns)
+
+  session_says : (reading session : ℕ) (statement : Statement) → Says (session_step schema reading session statement)
+  unfolding session_step
+  session_says reading session Begin = step_says (Begins session) (session_misses session)
+  session_says reading session (Insert number columns rows) = insert_says session number columns rows
+  session_says reading session (Update keys sets) = step_says (Updates session keys sets) (table_misses session keys.table _)
+  session_says reading session (Delete keys) = step_says (Deletes session keys) (table_misses session keys.table _)
+  session_says reading session (Select form keys) = step_says (Selects session form keys) (table_misses session keys.table _)
+  session_says reading session Commit = step_says (Commits session reading) (session_misses session)
+  session_says reading session Rollback = step_says (RollsBack session) (session_misses session)
+
+  step_of_says : (reading session : ℕ) (statement : Statement) → Says (step_of schema reading session statement)
+  unfolding step_of
+  step_of_says reading session statement = by_test ((session == 0) || nat_lt max_session session)
+    where
+      by_test : (t : Bool) → Says {A = Step} (if t then Err NoSession else session_step schema reading session statement)
+      by_test true = record { it = tt }
+      by_test false = session_says reading session statement
+
+  written_says : (reading : ℕ) (written : Written) → Says (meaning_of schema reading written)
+  unfolding meaning_of
+  written_says reading (Clock instant) = record { it = tt }
+  written_says reading (Session session statement) = then_says _ _ (step_of_says reading session statement) (λ step. record { it = tt })
+
+  -- a line of the grammar is never refused for its syntax
+  pub never_syntax : (reading : ℕ) (written : Written) (n : ℕ) → meaning_of schema reading written ≡ Err (Syntax n) → ⊥
+  never_syntax reading written n is = let Q : Result Line Refusal → Type 0 = λ r. Fits r in subst Q is (written_says reading written).it

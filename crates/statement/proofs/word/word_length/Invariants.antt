@@ -1,6 +1,0 @@
-use Rattle.std.proofs.Common.{◌≡◌, ◌+◌, drop}
-use Rattle.statement.specs.Word.{word_length}
-use Rattle.statement.proofs.word.word_length.Given as goal
-
-abbrev pub invariant-loop-i : goal.invariant-loop-i
-invariant-loop-i l = l.i + word_length (drop l.i l.bytes) ≡ word_length l.bytes
