@@ -1,6 +1,7 @@
 pub mod ByTheGrammar
 pub mod Digits
 pub mod Feeding
+pub mod Final
 pub mod Fronts
 pub mod Gaps
 pub mod Holds
@@ -9,6 +10,8 @@ pub mod LineEnds
 pub mod Meanings
 pub mod Printed
 pub mod Quotes
+pub mod SameLine
+pub mod SameToken
 pub mod Sound
 pub mod SoundLines
 pub mod SoundLists

@@ -32,7 +32,7 @@ here : (bytes : List ℕ) → Refusal bytes (next bytes)
 here bytes = record { ended = next_left bytes; begins = next_ends bytes }
 
 -- tokens
-symbol_stops : (symbol : ℕ) (bytes : List ℕ) → Leads bytes (symbol_at symbol bytes)
+pub symbol_stops : (symbol : ℕ) (bytes : List ℕ) → Leads bytes (symbol_at symbol bytes)
 unfolding symbol_after
 symbol_stops symbol bytes = at_token (next bytes) (here bytes)
   where
@@ -47,7 +47,7 @@ symbol_stops symbol bytes = at_token (next bytes) (here bytes)
 name_left : (bytes : List ℕ) → EndsWith bytes (skip_while is_name_byte (next bytes))
 name_left bytes = through (next_left bytes) (skip_left is_name_byte (next bytes))
 
-word_stops : (word bytes : List ℕ) → Leads bytes (word_at word bytes)
+pub word_stops : (word bytes : List ℕ) → Leads bytes (word_at word bytes)
 unfolding is_word_after rest_of_word word_after
 word_stops word bytes = by_test (same_name word (front_while is_name_byte (next bytes)))
   where
@@ -55,7 +55,7 @@ word_stops word bytes = by_test (same_name word (front_while is_name_byte (next 
     by_test true = record { it = name_left bytes }
     by_test false = record { it = here bytes }
 
-name_stops : (bytes : List ℕ) → Stops bytes (name_at bytes)
+pub name_stops : (bytes : List ℕ) → Stops bytes (name_at bytes)
 unfolding name_after
 name_stops bytes = by_test (is_name (front_while is_name_byte (next bytes)))
   where
@@ -63,7 +63,7 @@ name_stops bytes = by_test (is_name (front_while is_name_byte (next bytes)))
     by_test true = reads_on _ (name_left bytes)
     by_test false = stops_next bytes
 
-end_stops : (bytes : List ℕ) → Leads bytes (end_at bytes)
+pub end_stops : (bytes : List ℕ) → Leads bytes (end_at bytes)
 unfolding end_at
 end_stops bytes = at_token (next bytes) (here bytes)
   where
@@ -88,7 +88,7 @@ digits_found most bytes = by_tests (digit_count bytes == 0) (nat_lt most (digits
     by_tests false true = record { it = tt }
     by_tests false false = record { it = skip_left is_ascii_digit bytes }
 
-digits_stop : (most : ℕ) (bytes : List ℕ) → Stops bytes (digits_at most bytes)
+pub digits_stop : (most : ℕ) (bytes : List ℕ) → Stops bytes (digits_at most bytes)
 unfolding digits_at
 digits_stop most bytes = found_stops (digits_here most (next bytes)) (λ x. Ok x) (digits_found most (next bytes)) (here bytes) (λ n rest. reads_on n (whole rest))
 
@@ -104,11 +104,11 @@ number_found (b ∷ bs) = by_test (b == 45)
     by_test true = deeper b _ (finds_mapped _ (λ (n : ℕ). neg_ℤ (pos n)) (digits_found (2 ^ 63) bs))
     by_test false = finds_mapped _ pos (digits_found (2 ^ 63 - 1) (b ∷ bs))
 
-number_stops : (bytes : List ℕ) → Stops bytes (number_at bytes)
+pub number_stops : (bytes : List ℕ) → Stops bytes (number_at bytes)
 unfolding number_at
 number_stops bytes = found_stops _ (λ x. Ok x) (number_found (next bytes)) (here bytes) (λ n rest. reads_on n (whole rest))
 
-quoted_left : (closed : Bool) (front bytes : List ℕ) → Finds bytes (quoted_from closed front bytes)
+pub quoted_left : (closed : Bool) (front bytes : List ℕ) → Finds bytes (quoted_from closed front bytes)
 quoted_left true front [] = record { it = whole [] }
 quoted_left false front [] = record { it = tt }
 quoted_left false front (b ∷ bytes) = by_test (b == 39) (quoted_left true front bytes) (quoted_left false (front ++ b ∷ []) bytes)
@@ -123,7 +123,7 @@ quoted_left true front (b ∷ bytes) = by_test (b == 39) (quoted_left false (fro
     by_test true one = deeper b _ one
     by_test false one = record { it = whole (b ∷ bytes) }
 
-text_stops : (bytes : List ℕ) → Stops bytes (text_at bytes)
+pub text_stops : (bytes : List ℕ) → Stops bytes (text_at bytes)
 unfolding text_at text_of symbol_after
 text_stops bytes = opened (symbol_at 39 (next bytes)) (symbol_stops 39 (next bytes))
   where
@@ -142,14 +142,14 @@ text_stops bytes = opened (symbol_at 39 (next bytes)) (symbol_stops 39 (next byt
     opened (Ok inside) s = closed inside (quoted inside) (through (next_left bytes) s.it) (quoted_left false [] inside)
     opened (Err at) s = refused (record { ended = through (next_left bytes) (s.it).ended; begins = (s.it).begins })
 
-constant_stops : (bytes : List ℕ) → Stops bytes (constant_at bytes)
+pub constant_stops : (bytes : List ℕ) → Stops bytes (constant_at bytes)
 unfolding constant_at
 constant_stops bytes =
     either_stops _ _ _ (word_stops (codes "TRUE") bytes) (λ rest. reads_on (Truth true) (whole rest)) (λ _ _.
     either_stops _ _ _ (word_stops (codes "FALSE") bytes) (λ rest. reads_on (Truth false) (whole rest)) (λ _ _.
     either_stops _ _ _ (word_stops (codes "NULL") bytes) (λ rest. reads_on Null (whole rest)) (λ at r. refused r)))
 
-literal_stops : (bytes : List ℕ) → Stops bytes (literal_at bytes)
+pub literal_stops : (bytes : List ℕ) → Stops bytes (literal_at bytes)
 unfolding literal_at
 literal_stops bytes = by_tests (begins_with 39 (next bytes)) (begins_number (next bytes))
   where
@@ -163,32 +163,32 @@ literal_stops bytes = by_tests (begins_with 39 (next bytes)) (begins_number (nex
 
 -- lists
 module _ {A : Type 0} (separator : List ℕ → After) (item : List ℕ → Read A) (separator_stops : (bytes : List ℕ) → Leads bytes (separator bytes)) (item_stops : (bytes : List ℕ) → Stops bytes (item bytes)) where
-  more_stops : (turns : List ℕ) (front : List A) (bytes : List ℕ) → Stops bytes (more_at separator item turns front bytes)
+  pub more_stops : (turns : List ℕ) (front : List A) (bytes : List ℕ) → Stops bytes (more_at separator item turns front bytes)
   more_stops [] front bytes = reads_on front (whole bytes)
   more_stops (_ ∷ turns) front bytes =
       either_stops _ _ _ (separator_stops bytes)
       (λ rest. read_stops _ (λ x. more_at separator item turns (front ++ x.0 ∷ []) x.1) (item_stops rest) (λ x after. more_stops turns (front ++ x ∷ []) after))
       (λ _ _. reads_on front (whole bytes))
 
-  list_stops : (bytes : List ℕ) → Stops bytes (list_at separator item bytes)
+  pub list_stops : (bytes : List ℕ) → Stops bytes (list_at separator item bytes)
   list_stops bytes = then_stops _ _ (item_stops bytes) (λ x after. more_stops after (x ∷ []) after)
 
-enclosed_stops : {A : Type 0} (item : List ℕ → Read A) → ((bytes : List ℕ) → Stops bytes (item bytes)) → (bytes : List ℕ) → Stops bytes (enclosed_at (symbol_at 44) item bytes)
+pub enclosed_stops : {A : Type 0} (item : List ℕ → Read A) → ((bytes : List ℕ) → Stops bytes (item bytes)) → (bytes : List ℕ) → Stops bytes (enclosed_at (symbol_at 44) item bytes)
 enclosed_stops item item_stops bytes =
     after_stops _ _ (symbol_stops 40 bytes) (λ inside.
     then_stops _ _ (list_stops (symbol_at 44) item (symbol_stops 44) item_stops inside) (λ xs after.
     after_stops _ _ (symbol_stops 41 after) (λ rest. reads_on xs (whole rest))))
 
-row_stops : (bytes : List ℕ) → Stops bytes (row_at bytes)
+pub row_stops : (bytes : List ℕ) → Stops bytes (row_at bytes)
 unfolding row_at
 row_stops bytes = enclosed_stops literal_at literal_stops bytes
 
-rows_stop : (bytes : List ℕ) → Stops bytes (rows_at bytes)
+pub rows_stop : (bytes : List ℕ) → Stops bytes (rows_at bytes)
 unfolding rows_at
 rows_stop bytes = list_stops (symbol_at 44) row_at (symbol_stops 44) row_stops bytes
 
 -- conditions
-or_equal_left : (strict loose : Operator) (bytes : List ℕ) → Stops bytes (Ok (or_equal strict loose bytes))
+pub or_equal_left : (strict loose : Operator) (bytes : List ℕ) → Stops bytes (Ok (or_equal strict loose bytes))
 or_equal_left strict loose [] = record { it = whole [] }
 or_equal_left strict loose (b ∷ bytes) = by_test (b == 61)
   where
@@ -196,7 +196,7 @@ or_equal_left strict loose (b ∷ bytes) = by_test (b == 61)
     by_test true = record { it = behind b (whole bytes) }
     by_test false = record { it = whole (b ∷ bytes) }
 
-operator_stops : (bytes : List ℕ) → Stops bytes (operator_at bytes)
+pub operator_stops : (bytes : List ℕ) → Stops bytes (operator_at bytes)
 unfolding operator_at
 operator_stops bytes = at_token (next bytes) (here bytes)
   where
@@ -211,11 +211,11 @@ operator_stops bytes = at_token (next bytes) (here bytes)
     at_token [] r = refused r
     at_token (b ∷ rest) r = by_tests b rest (b == 61) (b == 60) (b == 62) r
 
-instant_stops : (bytes : List ℕ) → Stops bytes (instant_at bytes)
+pub instant_stops : (bytes : List ℕ) → Stops bytes (instant_at bytes)
 unfolding instant_at
 instant_stops bytes = digits_stop max_instant bytes
 
-as_of_stops : (bytes : List ℕ) → Stops bytes (as_of_at bytes)
+pub as_of_stops : (bytes : List ℕ) → Stops bytes (as_of_at bytes)
 unfolding as_of_at
 as_of_stops bytes =
     after_stops _ _ (word_stops (codes "SYSTEM_TIME") bytes) (λ a.
@@ -223,51 +223,51 @@ as_of_stops bytes =
     after_stops _ _ (word_stops (codes "OF") b) (λ c.
     then_stops _ _ (instant_stops c) (λ n rest. reads_on (AsOf n) (whole rest)))))
 
-form_stops : (bytes : List ℕ) → Stops bytes (form_at bytes)
+pub form_stops : (bytes : List ℕ) → Stops bytes (form_at bytes)
 unfolding form_at
 form_stops bytes = either_stops _ _ _ (word_stops (codes "FOR") bytes) (λ rest. as_of_stops rest) (λ _ _. reads_on Plain (whole bytes))
 
 module _ (schema : Schema) where
-  table_stops : (bytes : List ℕ) → Stops bytes (table_name_at schema bytes)
+  pub table_stops : (bytes : List ℕ) → Stops bytes (table_name_at schema bytes)
   unfolding table_name_at
   table_stops bytes = then_stops _ _ (name_stops bytes) (λ name rest. reads_on (table_of schema name) (whole rest))
 
   module _ (table : ℕ) where
-    column_stops : (bytes : List ℕ) → Stops bytes (column_name_at schema table bytes)
+    pub column_stops : (bytes : List ℕ) → Stops bytes (column_name_at schema table bytes)
     unfolding column_name_at
     column_stops bytes = then_stops _ _ (name_stops bytes) (λ name rest. reads_on (column_of schema table name) (whole rest))
 
-    set_stops : (bytes : List ℕ) → Stops bytes (set_at schema table bytes)
+    pub set_stops : (bytes : List ℕ) → Stops bytes (set_at schema table bytes)
     unfolding set_at
     set_stops bytes = then_stops _ _ (column_stops bytes) (λ column a.
         after_stops _ _ (symbol_stops 61 a) (λ b.
         then_stops _ _ (literal_stops b) (λ value rest. reads_on _ (whole rest))))
 
-    comparison_stops : (bytes : List ℕ) → Stops bytes (comparison_at schema table bytes)
+    pub comparison_stops : (bytes : List ℕ) → Stops bytes (comparison_at schema table bytes)
     unfolding comparison_at
     comparison_stops bytes = then_stops _ _ (column_stops bytes) (λ column a.
         then_stops _ _ (operator_stops a) (λ operator b.
         then_stops _ _ (literal_stops b) (λ value rest. reads_on _ (whole rest))))
 
-    sets_stop : (bytes : List ℕ) → Stops bytes (sets_at schema table bytes)
+    pub sets_stop : (bytes : List ℕ) → Stops bytes (sets_at schema table bytes)
     unfolding sets_at
     sets_stop bytes = list_stops (symbol_at 44) (set_at schema table) (symbol_stops 44) set_stops bytes
 
-    comparisons_stop : (bytes : List ℕ) → Stops bytes (comparisons_at schema table bytes)
+    pub comparisons_stop : (bytes : List ℕ) → Stops bytes (comparisons_at schema table bytes)
     unfolding comparisons_at
     comparisons_stop bytes = list_stops (word_at (codes "AND")) (comparison_at schema table) (word_stops (codes "AND")) comparison_stops bytes
 
-    columns_stop : (bytes : List ℕ) → Stops bytes (columns_at schema table bytes)
+    pub columns_stop : (bytes : List ℕ) → Stops bytes (columns_at schema table bytes)
     unfolding columns_at
     columns_stop bytes = enclosed_stops (column_name_at schema table) column_stops bytes
 
-    keys_stop : (bytes : List ℕ) → Stops bytes (keys_at schema table bytes)
+    pub keys_stop : (bytes : List ℕ) → Stops bytes (keys_at schema table bytes)
     unfolding keys_at
     keys_stop bytes = either_stops _ _ _ (word_stops (codes "WHERE") bytes)
         (λ rest. then_stops _ _ (comparisons_stop rest) (λ cs after. reads_on _ (whole after)))
         (λ _ _. reads_on _ (whole bytes))
 
-    listed_stops : (bytes : List ℕ) → Stops bytes (listed_at schema table bytes)
+    pub listed_stops : (bytes : List ℕ) → Stops bytes (listed_at schema table bytes)
     unfolding listed_at
     listed_stops bytes = by_symbol (symbol_at 40 bytes)
       where
@@ -276,7 +276,7 @@ module _ (schema : Schema) where
         by_symbol (Ok rest) = then_stops _ _ (columns_stop bytes) (λ columns after. reads_on (Some columns) (whole after))
 
   -- statements
-  insert_stops : (bytes : List ℕ) → Stops bytes (insert_at schema bytes)
+  pub insert_stops : (bytes : List ℕ) → Stops bytes (insert_at schema bytes)
   unfolding insert_at
   insert_stops bytes =
       after_stops _ _ (word_stops (codes "INTO") bytes) (λ a.
@@ -285,7 +285,7 @@ module _ (schema : Schema) where
       after_stops _ _ (word_stops (codes "VALUES") c) (λ d.
       then_stops _ _ (rows_stop d) (λ rows rest. reads_on _ (whole rest))))))
 
-  update_stops : (bytes : List ℕ) → Stops bytes (update_at schema bytes)
+  pub update_stops : (bytes : List ℕ) → Stops bytes (update_at schema bytes)
   unfolding update_at
   update_stops bytes =
       then_stops _ _ (table_stops bytes) (λ table a.
@@ -293,14 +293,14 @@ module _ (schema : Schema) where
       then_stops _ _ (sets_stop table b) (λ sets c.
       then_stops _ _ (keys_stop table c) (λ keys rest. reads_on _ (whole rest)))))
 
-  delete_stops : (bytes : List ℕ) → Stops bytes (delete_at schema bytes)
+  pub delete_stops : (bytes : List ℕ) → Stops bytes (delete_at schema bytes)
   unfolding delete_at
   delete_stops bytes =
       after_stops _ _ (word_stops (codes "FROM") bytes) (λ a.
       then_stops _ _ (table_stops a) (λ table b.
       then_stops _ _ (keys_stop table b) (λ keys rest. reads_on _ (whole rest))))
 
-  select_stops : (bytes : List ℕ) → Stops bytes (select_at schema bytes)
+  pub select_stops : (bytes : List ℕ) → Stops bytes (select_at schema bytes)
   unfolding select_at
   select_stops bytes =
       after_stops _ _ (symbol_stops 42 bytes) (λ a.
@@ -309,11 +309,11 @@ module _ (schema : Schema) where
       then_stops _ _ (form_stops c) (λ form d.
       then_stops _ _ (keys_stop table d) (λ keys rest. reads_on _ (whole rest))))))
 
-  start_stops : (bytes : List ℕ) → Stops bytes (start_at bytes)
+  pub start_stops : (bytes : List ℕ) → Stops bytes (start_at bytes)
   unfolding start_at
   start_stops bytes = after_stops _ _ (word_stops (codes "TRANSACTION") bytes) (λ rest. reads_on Begin (whole rest))
 
-  data_stops : (bytes : List ℕ) → Stops bytes (data_at schema bytes)
+  pub data_stops : (bytes : List ℕ) → Stops bytes (data_at schema bytes)
   unfolding data_at
   data_stops bytes =
       either_stops _ _ _ (word_stops (codes "INSERT") bytes) insert_stops (λ _ _.
@@ -321,7 +321,7 @@ module _ (schema : Schema) where
       either_stops _ _ _ (word_stops (codes "DELETE") bytes) delete_stops (λ _ _.
       either_stops _ _ _ (word_stops (codes "SELECT") bytes) select_stops (λ at r. refused r))))
 
-  statement_stops : (bytes : List ℕ) → Stops bytes (statement_at schema bytes)
+  pub statement_stops : (bytes : List ℕ) → Stops bytes (statement_at schema bytes)
   unfolding statement_at
   statement_stops bytes =
       either_stops _ _ _ (word_stops (codes "BEGIN") bytes) (λ rest. reads_on Begin (whole rest)) (λ _ _.
@@ -329,7 +329,7 @@ module _ (schema : Schema) where
       either_stops _ _ _ (word_stops (codes "COMMIT") bytes) (λ rest. reads_on Commit (work_left rest)) (λ _ _.
       either_stops _ _ _ (word_stops (codes "ROLLBACK") bytes) (λ rest. reads_on Rollback (work_left rest)) (λ _ _. data_stops bytes))))
 
-  session_stops : (bytes : List ℕ) → Stops bytes (session_at schema bytes)
+  pub session_stops : (bytes : List ℕ) → Stops bytes (session_at schema bytes)
   unfolding session_at
   session_stops bytes =
       then_stops _ _ (digits_stop (2 ^ 63 - 1) bytes) (λ session a.
@@ -337,7 +337,7 @@ module _ (schema : Schema) where
       then_stops _ _ (statement_stops b) (λ statement c.
       wider _ (semicolon_left c) (after_stops _ _ (end_stops (after_semicolon c)) (λ rest. reads_on _ (whole rest))))))
 
-  clock_stops : (bytes : List ℕ) → Stops bytes (clock_at bytes)
+  pub clock_stops : (bytes : List ℕ) → Stops bytes (clock_at bytes)
   unfolding clock_at
   clock_stops bytes =
       after_stops _ _ (word_stops (codes "CLOCK") bytes) (λ a.

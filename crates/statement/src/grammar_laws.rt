@@ -1,4 +1,5 @@
 ghost use Rattle.values.specs.Tables.{Schema};
+ghost use Rattle.statement.specs.GoingOn.{FaultsAreFinal};
 ghost use Rattle.statement.specs.GrammarLaws.{LinesAreRead, LinesSayOneThing, NothingIsRead, OnlyLinesAreRead, FaultsAreAtTokens, LineEndsAreNoTokens, PrintedRowsAreRead};
 
 /// Reading from the left reads the lines of the grammar and no others. A fault of syntax is reported where a token begins, or at the line's end.
@@ -9,6 +10,11 @@ pub fn lines_are_read_by_the_grammar()
     ensures only { (schema : Schema) → OnlyLinesAreRead schema }
     ensures at_tokens { (schema : Schema) → FaultsAreAtTokens schema }
     ensures ends { LineEndsAreNoTokens }
+{}
+
+/// Where a fault of syntax is reported at a word, a name, a number or a symbol other than a minus and a quote, no bytes after that token make a line.
+pub fn faults_are_final()
+    ensures { (schema : Schema) → FaultsAreFinal schema }
 {}
 
 /// A row that is printed is read again as the values of a row of an INSERT.

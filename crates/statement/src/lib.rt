@@ -14,7 +14,7 @@ mod statement;
 mod token;
 mod writer;
 
-pub use grammar_laws::{lines_are_read_by_the_grammar, printed_rows_are_read};
+pub use grammar_laws::{faults_are_final, lines_are_read_by_the_grammar, printed_rows_are_read};
 pub use histories::{Listing, Reply, Step};
 pub use line::{Line, read_line};
 pub use print::{print_refusal, print_reply};
