@@ -22,7 +22,7 @@ pub fn is_carried(events: &[SharedEvent], place: usize, instant: Instant) -> boo
 fn stays_to(event: &Event, instant: Instant, next: Option<&SharedEvent>) -> bool
     ensures { result ≡ stays_to event.now instant (option_copied next.entry) }
 {
-    event.at < instant && event.row.is_some() && !is_overtaken(event, instant, next)
+    event.at() < instant && event.row().is_some() && !is_overtaken(event, instant, next)
 }
 
 fn is_in_cut(events: &[SharedEvent], place: usize, rect: &Rect) -> bool
@@ -32,8 +32,8 @@ fn is_in_cut(events: &[SharedEvent], place: usize, rect: &Rect) -> bool
 {
     let event = events[place].event();
     let time = rect.time();
-    rect.keys().contains(&event.key)
-        && (time.contains(event.at) || is_carried(events, place, time.from))
+    rect.keys().contains(event.key())
+        && (time.contains(event.at()) || is_carried(events, place, time.from))
 }
 
 /// The events that the rectangle holds, of which none is copied.

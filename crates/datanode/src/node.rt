@@ -69,7 +69,7 @@ impl DataNode {
     {
         match event_until(&self.events, key, instant) {
             None => None,
-            Some(event) => event.row.as_ref(),
+            Some(event) => event.row(),
         }
     }
 
@@ -93,8 +93,8 @@ impl DataNode {
         ensures taken { result ≡ accepts self.now event.now }
     {
         self.rect.time().to.is_none()
-            && self.rect.contains(&event.key, event.at)
-            && is_after(event, self.latest(&event.key))
+            && self.rect.contains(event.key(), event.at())
+            && is_after(event, self.latest(event.key()))
     }
 
     /// Takes an event. At the first instant it takes the place of the carried event of its key. Where memory runs out nothing has changed.
@@ -147,7 +147,7 @@ impl DataNode {
 fn is_after(event: &Event, last: Option<&Event>) -> bool
     ensures { result ≡ is_after event.now (option_copied last.entry) }
 {
-    last.is_none_or(|last| last.at < event.at)
+    last.is_none_or(|last| last.at() < event.at())
 }
 
 fn node_of(alloc: Global, rect: Rect, events: Vec<SharedEvent>) -> DataNode
@@ -172,7 +172,7 @@ fn last_of<'a>(events: &'a [SharedEvent], key: &KeyBytes) -> Option<&'a Event>
         return None;
     }
     let event = events[place - 1].event();
-    if event.key.cmp(key).is_eq() {
+    if event.key().cmp(key).is_eq() {
         Some(event)
     } else {
         None

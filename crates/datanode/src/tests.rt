@@ -19,15 +19,12 @@ fn event(
     there: bool,
 ) -> Result<Event, AllocError> {
     let row = if there {
-        Some(Row::new(vec![in alloc; Value::Int(1)]?))
+        Row::new(vec![in alloc; Value::Int(1)]?)
     } else {
         None
     };
-    Ok(Event {
-        key: key(rt, alloc, number)?,
-        at,
-        row,
-    })
+    let event = Event::new(key(rt, alloc, number)?, at, row);
+    Ok(event.expect(rt, "the key has a byte"))
 }
 
 /// All keys from 1 on.
@@ -83,7 +80,7 @@ fn has_row(
 
 /// The instant of key 1's last event.
 fn last(rt: &impl Abort, alloc: Global, node: &DataNode) -> Result<Option<Instant>, AllocError> {
-    Ok(node.latest(&key(rt, alloc, 1)?).map(|event| event.at))
+    Ok(node.latest(&key(rt, alloc, 1)?).map(|event| event.at()))
 }
 
 #[test]

@@ -11,5 +11,5 @@ returns-in-None-clause-of_map c m is point =
 
 pub returns-in-Some-clause-of_map : goal.returns-in-Some-clause-of_map
 returns-in-Some-clause-of_map c m is point =
-    let row : option_copied c.as_ref.result ≡ row_until c.args.self.now.events c.args.key.now c.args.instant = search rules in
+    let row : option_copied c.row.result ≡ row_until c.args.self.now.events c.args.key.now c.args.instant = search rules in
     row ∙ ap (λ es. row_until es c.args.key.now c.args.instant) is.events_are ∙ shown_by_cut c.args.self.now.rect m c.args.key.now c.args.instant is.ordered point
