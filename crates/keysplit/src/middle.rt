@@ -26,8 +26,8 @@ fn middle_of(events: &[SharedEvent]) -> Option<&KeyBytes>
     requires enough { 33 ≤ length events.now }
     ensures { option_copied result ≡ middle_key events.now }
 {
-    let first = &events[0].event().key;
-    let middle = &events[32].event().key;
+    let first = events[0].event().key();
+    let middle = events[32].event().key();
     if first.cmp(middle).is_eq() {
         next_key(events, first)
     } else {
@@ -48,6 +48,6 @@ fn key_at<'a>(events: &'a [SharedEvent], place: usize) -> Option<&'a KeyBytes>
 {
     match events.get(place) {
         None => None,
-        Some(event) => Some(&event.event().key),
+        Some(event) => Some(event.event().key()),
     }
 }

@@ -25,11 +25,8 @@ fn node(rt: &impl Abort, alloc: Global, counts: &[(u8, Instant)]) -> Mem<DataNod
     let mut node = DataNode::new(alloc, all(rt, alloc))?;
     for (number, count) in counts {
         for at in 1..=*count {
-            let event = Event {
-                key: key(rt, alloc, *number)?,
-                at,
-                row: None,
-            };
+            let event = Event::new(key(rt, alloc, *number)?, at, None);
+            let event = event.expect(rt, "the key has a byte");
             assert!(rt; node.accepts(&event), "key {number} at {at}");
             node.put(event)?;
         }

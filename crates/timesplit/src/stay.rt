@@ -12,7 +12,7 @@ fn stays(events: &[SharedEvent], place: usize, instant: Instant) -> bool
     requires inside { place < length events.now }
     ensures { HoldsAt (λ e. result ≡ (nat_le instant e.at || carried events.now instant e)) events.now place }
 {
-    instant <= events[place].event().at || is_carried(events, place, instant)
+    instant <= events[place].event().at() || is_carried(events, place, instant)
 }
 
 /// How many events the current half would hold, of a node that is split at an instant.

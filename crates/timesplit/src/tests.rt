@@ -22,7 +22,7 @@ fn empty(rt: &impl Abort, alloc: Global) -> Mem<DataNode> {
 fn sample(rt: &impl Abort, alloc: Global) -> Mem<DataNode> {
     let mut node = empty(rt, alloc)?;
     let row = Row::new(vec![in alloc; Value::Int(1)]?);
-    put(rt, alloc, &mut node, 100, Some(row))?;
+    put(rt, alloc, &mut node, 100, row)?;
     put(rt, alloc, &mut node, 200, None)?;
     Ok(node)
 }
@@ -35,7 +35,7 @@ fn put(
     row: Option<Row>,
 ) -> Mem<()> {
     let key = KeyBytes::new(vec![in alloc; 1]?).expect(rt, "one byte is short");
-    let event = Event { key, at, row };
+    let event = Event::new(key, at, row).expect(rt, "the key has a byte");
     assert!(rt; node.accepts(&event), "at {at}");
     node.put(event)
 }
@@ -86,15 +86,12 @@ struct Change(u8, Instant, bool, Option<Instant>);
 fn event(rt: &impl Abort, alloc: Global, change: &Change) -> Mem<Event> {
     let key = KeyBytes::new(vec![in alloc; change.0]?).expect(rt, "one byte is short");
     let row = if change.2 {
-        Some(Row::new(vec![in alloc; Value::Int(1)]?))
+        Row::new(vec![in alloc; Value::Int(1)]?)
     } else {
         None
     };
-    Ok(Event {
-        key,
-        at: change.1,
-        row,
-    })
+    let event = Event::new(key, change.1, row);
+    Ok(event.expect(rt, "the key has a byte"))
 }
 
 /// How many events the nodes hold, the historical ones first and then the current one, of changes that come one after another.
