@@ -1,3 +1,4 @@
-pub mod Orders
-pub mod Meetings
-pub mod Halves
+pub mod RangeOrder
+pub mod RectMeeting
+pub mod RectInside
+pub mod CutHalves

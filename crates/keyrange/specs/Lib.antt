@@ -1,2 +1,4 @@
-pub mod Points
-pub mod Cuts
+pub mod Range
+pub mod Rect
+pub mod Cut
+pub mod Laws

@@ -1,13 +1,13 @@
 ghost use Rattle.std.specs.Prelude.{◌≡◌, Some, IfOk, IfSome};
 ghost use Rattle.values.specs.Memory.{OnlyMemory};
-ghost use Rattle.keyrange.specs.Cuts.{pair_of, made, is_key_inside, is_time_inside};
+ghost use Rattle.keyrange.specs.Cut.{pair_of, rect_of, is_key_inside, is_time_inside};
 
 use crate::range::{KeyRange, TimeRange, is_before_end, is_below, is_early};
 use crate::rect::Rect;
 use values::{Instant, KeyBytes, LAST, Mem};
 
 impl Rect {
-    ghost use Rattle.keyrange.specs.Cuts.{halves_by_key, halves_by_time, PartsKeys, PartsTime};
+    ghost use Rattle.keyrange.specs.Cut.{halves_by_key, halves_by_time, PartsKeys, PartsTime};
 
     /// The half below a key and the half from it on; None where the key is not strictly inside.
     pub fn cut_key(&self, key: &KeyBytes) -> Mem<Option<(Rect, Rect)>>
@@ -22,7 +22,8 @@ impl Rect {
         Ok(key_halves(whole, key.copy()?, key.copy()?, self.time()))
     }
 
-    /// The half before an instant and the half from it on; None where the instant is not strictly inside, or above the last.
+    /// The half before an instant and the half from it on; None where the instant is not strictly inside, or above the
+    /// last.
     pub fn cut_time(&self, instant: Instant) -> Mem<Option<(Rect, Rect)>>
         ensures halves { IfOk result (λ h. h ≡ halves_by_time self.now instant) }
         ensures parts { IfOk result (λ h. IfSome h (λ p. PartsTime self.now p.0 p.1 instant)) }
@@ -43,7 +44,12 @@ fn key_halves(
     start: KeyBytes,
     time: TimeRange,
 ) -> Option<(Rect, Rect)>
-    ensures { result ≡ pair_of (made (record { lo = whole.lo; hi = Some end }) time) (made (record { lo = start; hi = whole.hi }) time) }
+    ensures {
+        result
+            ≡ pair_of
+            (rect_of (record { lo = whole.lo; hi = Some end }) time)
+            (rect_of (record { lo = start; hi = whole.hi }) time)
+    }
 {
     let below = KeyRange {
         lo: whole.lo,
@@ -63,7 +69,12 @@ fn time_halves(
     time: TimeRange,
     cut: Instant,
 ) -> Option<(Rect, Rect)>
-    ensures { result ≡ pair_of (made past_keys (record { from = time.from; to = Some cut })) (made keys (record { from = cut; to = time.to })) }
+    ensures {
+        result
+            ≡ pair_of
+            (rect_of past_keys (record { from = time.from; to = Some cut }))
+            (rect_of keys (record { from = cut; to = time.to }))
+    }
 {
     let past = TimeRange {
         from: time.from,

@@ -1,6 +1,6 @@
 ghost use Rattle.std.specs.Prelude.{◌≡◌, IfOk, option_copied};
 ghost use Rattle.values.specs.Memory.{OnlyMemory};
-ghost use Rattle.keyrange.specs.Points.{is_below, is_before_end, is_key_in, is_time_in, key_ranges_meet, time_ranges_meet, is_early};
+ghost use Rattle.keyrange.specs.Range.{is_below, is_before_end, is_key_in, is_time_in, key_ranges_meet, time_ranges_meet, is_early};
 
 use values::{Instant, KeyBytes, Mem};
 use std::alloc::AllocError;
@@ -20,14 +20,14 @@ pub struct TimeRange {
 }
 
 /// Whether the first key is below the second.
-pub(crate) fn is_below(key: &KeyBytes, other: &KeyBytes) -> bool
+pub fn is_below(key: &KeyBytes, other: &KeyBytes) -> bool
     ensures { result ≡ is_below key.now other.now }
 {
     key.cmp(other).is_lt()
 }
 
 /// Whether a key lies below an end, which may be none.
-pub(crate) fn is_before_end(key: &KeyBytes, end: &Option<KeyBytes>) -> bool
+pub fn is_before_end(key: &KeyBytes, end: &Option<KeyBytes>) -> bool
     ensures { result ≡ is_before_end key.now end.now }
 {
     match end {
@@ -89,7 +89,7 @@ impl TimeRange {
 }
 
 /// Whether an instant is before an end, which may be none.
-pub(crate) fn is_early(instant: Instant, end: Option<Instant>) -> bool
+pub fn is_early(instant: Instant, end: Option<Instant>) -> bool
     ensures { result ≡ is_early instant end }
 {
     match end {

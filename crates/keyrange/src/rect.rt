@@ -1,6 +1,7 @@
-ghost use Rattle.std.specs.Prelude.{◌≡◌, ◌↔◌, IsTrue, IfOk, Some, None, if◌then◌else◌};
+ghost use Rattle.std.specs.Prelude.{◌≡◌, IsTrue, IfOk};
 ghost use Rattle.values.specs.Memory.{OnlyMemory};
-ghost use Rattle.keyrange.specs.Points.{is_area, has_point, Common};
+ghost use Rattle.keyrange.specs.Rect.{IsArea, is_area, has_point, Common};
+ghost use Rattle.keyrange.specs.Cut.{rect_of};
 
 use crate::range::{KeyRange, TimeRange, is_before_end, is_early};
 use values::{Instant, KeyBytes, LAST, Mem};
@@ -15,7 +16,7 @@ pub struct Rect {
 
 impl Model for Rect {
     ghost use Rattle.std.specs.Prelude.{IsTrue};
-    ghost use Rattle.keyrange.specs.Points.{Area, is_area};
+    ghost use Rattle.keyrange.specs.Rect.{Area, is_area};
 
     ghost Value = { Area };
 
@@ -27,7 +28,7 @@ impl Model for Rect {
 impl Rect {
     /// None where a range is empty, or an instant is none from 1 to the last.
     pub fn new(keys: KeyRange, time: TimeRange) -> Option<Rect>
-        ensures { result ≡ (if is_area keys time then Some (record { keys = keys; time = time }) else None) }
+        ensures { result ≡ rect_of keys time }
     {
         if is_area(&keys, time) {
             Some(Rect { keys, time })
@@ -38,22 +39,23 @@ impl Rect {
 
     pub fn keys(&self) -> &KeyRange
         ensures keys { result.now ≡ self.now.keys }
-        ensures area { IsTrue (is_area self.now.keys self.now.time) }
+        ensures area { IsArea self.now }
     {
         &self.keys
     }
 
     pub fn time(&self) -> TimeRange
-        ensures { result ≡ self.now.time }
+        ensures time { result ≡ self.now.time }
+        ensures area { IsArea self.now }
     {
         self.time
     }
 
-    /// Whether the point of a key and an instant lies in the rectangle.
+    /// Whether the point of a key and an instant lies in the rectangle. The instant is asked first: it costs less.
     pub fn contains(&self, key: &KeyBytes, instant: Instant) -> bool
         ensures { result ≡ has_point self.now key.now instant }
     {
-        self.keys.contains(key) && self.time.contains(instant)
+        self.time.contains(instant) && self.keys.contains(key)
     }
 
     /// Whether the two have a point in common.
@@ -61,7 +63,7 @@ impl Rect {
         ensures common { IsTrue result → Common self.now other.now }
         ensures apart { Common self.now other.now → IsTrue result }
     {
-        self.keys.meets(&other.keys) && self.time.meets(&other.time)
+        self.time.meets(&other.time) && self.keys.meets(&other.keys)
     }
 
     /// An equal rectangle.

@@ -1,13 +1,13 @@
 use Rattle.std.proofs.Common.{◌≡◌, Some, true, sym, ◌∙◌}
-use Rattle.keyrange.specs.Cuts.{halves_by_key, is_key_inside, pair_of, made}
-use Rattle.keyrange.proofs.Halves.{halves_made, parted_keys}
+use Rattle.keyrange.specs.Cut.{halves_by_key, is_key_inside, pair_of, rect_of}
+use Rattle.keyrange.proofs.CutHalves.{halves_made, parted_keys}
 use Rattle.keyrange.proofs.rect.Rect.cut_key.Goals as goal
 
 halves_is : goal.returns-clause-halves
 halves_is c =
     let whole : c.in_ok-whole.whole ≡ c.args.self.now.keys = c.in_ok-whole.ensures.ok ∙ c.keys.ensures.keys in
     c.key_halves.ensures
-    ∙ (λ i. pair_of (made (record { lo = (whole i).lo; hi = Some (c.in_ok-copy.ensures.ok i) }) (c.time.ensures i)) (made (record { lo = c.in_ok-copy-2.ensures.ok i; hi = (whole i).hi }) (c.time.ensures i)))
+    ∙ (λ i. pair_of (rect_of (record { lo = (whole i).lo; hi = Some (c.in_ok-copy.ensures.ok i) }) (c.time.ensures.time i)) (rect_of (record { lo = c.in_ok-copy-2.ensures.ok i; hi = (whole i).hi }) (c.time.ensures.time i)))
     ∙ halves_made c.args.self.now c.args.key.now c.keys.ensures.area (sym c.is_key_inside.ensures ∙ c.if-not-is_key_inside.false)
 
 pub returns-clause-halves : goal.returns-clause-halves

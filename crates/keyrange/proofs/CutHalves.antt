@@ -5,12 +5,13 @@ use Rattle.std.proofs.lemmas.Bool.Decides.{nat_tests}
 use Rattle.values.specs.Commits.{max_instant}
 use Rattle.keyrange.specs.declared.range.KeyRange.{KeyRange}
 use Rattle.keyrange.specs.declared.range.TimeRange.{TimeRange}
-use Rattle.keyrange.specs.Points.{is_below, is_before_end, is_early, is_instant_end, is_area, is_key_in, is_time_in, Area, has_point}
-use Rattle.keyrange.specs.Cuts.{pair_of, made, is_key_inside, is_time_inside, halves_by_key, halves_by_time, PartsKeys, PartsTime}
-use Rattle.keyrange.proofs.Orders.{not_back, above, under}
-use Rattle.keyrange.proofs.Meetings.{both, first, second}
+use Rattle.keyrange.specs.Range.{is_below, is_before_end, is_early, is_key_in, is_time_in}
+use Rattle.keyrange.specs.Rect.{is_instant_end, is_area, Area, has_point}
+use Rattle.keyrange.specs.Cut.{pair_of, rect_of, is_key_inside, is_time_inside, halves_by_key, halves_by_time, PartsKeys, PartsTime}
+use Rattle.keyrange.proofs.RangeOrder.{not_back, above, under}
+use Rattle.keyrange.proofs.RectMeeting.{both, first, second}
 
-made_is : (keys : KeyRange) (time : TimeRange) → is_area keys time ≡ true → made keys time ≡ Some (record { keys = keys; time = time })
+made_is : (keys : KeyRange) (time : TimeRange) → is_area keys time ≡ true → rect_of keys time ≡ Some (record { keys = keys; time = time })
 made_is keys time e = ap (λ t. if t then Some (record { keys = keys; time = time }) else None) e
 
 abbrev below_part : Area → List ℕ → KeyRange
@@ -25,7 +26,7 @@ past_part r instant = record { from = r.time.from; to = Some instant }
 abbrev now_part : Area → ℕ → TimeRange
 now_part r instant = record { from = instant; to = r.time.to }
 
-pub halves_made : (r : Area) (key : List ℕ) → is_area r.keys r.time ≡ true → is_key_inside r key ≡ true → pair_of (made (below_part r key) r.time) (made (above_part r key) r.time) ≡ halves_by_key r key
+pub halves_made : (r : Area) (key : List ℕ) → is_area r.keys r.time ≡ true → is_key_inside r key ≡ true → pair_of (rect_of (below_part r key) r.time) (rect_of (above_part r key) r.time) ≡ halves_by_key r key
 halves_made r key is inside =
     let rest = second (is_before_end r.keys.lo r.keys.hi) _ is in
     (λ i. pair_of (made_is (below_part r key) r.time (both _ _ (first _ _ inside) rest) i) (made_is (above_part r key) r.time (both _ _ (second (is_below r.keys.lo key) _ inside) rest) i))
@@ -67,7 +68,7 @@ inside_of r instant inside =
     let bounded : (is_early instant r.time.to && nat_le instant max_instant) ≡ true = second (nat_lt r.time.from instant) _ inside in
     record { later = first _ _ inside; before_end = first _ _ bounded; in_range = second (is_early instant r.time.to) _ bounded }
 
-pub times_made : (r : Area) (instant : ℕ) → is_area r.keys r.time ≡ true → is_time_inside r instant ≡ true → pair_of (made r.keys (past_part r instant)) (made r.keys (now_part r instant)) ≡ halves_by_time r instant
+pub times_made : (r : Area) (instant : ℕ) → is_area r.keys r.time ≡ true → is_time_inside r instant ≡ true → pair_of (rect_of r.keys (past_part r instant)) (rect_of r.keys (now_part r instant)) ≡ halves_by_time r instant
 times_made r instant is inside =
     let f : AreaFacts r.keys r.time = facts_of r.keys r.time is in
     let g : InsideFacts r instant = inside_of r instant inside in
