@@ -1,5 +1,6 @@
 pub mod Commits
 pub mod Event
+pub mod EventOrder
 pub mod Events
 pub mod Faults
 pub mod Fit

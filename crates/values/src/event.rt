@@ -7,6 +7,7 @@ use crate::key_encoding::KeyBytes;
 use crate::refusal::Mem;
 use crate::row::Row;
 use std::alloc::Global;
+use std::cmp::Ordering;
 use std::marker::Model;
 use std::sync::Arc;
 
@@ -30,6 +31,8 @@ impl Model for Event {
 }
 
 impl Event {
+    ghost use Rattle.values.specs.Events.{event_cmp};
+
     /// None where the key is empty.
     pub fn new(key: KeyBytes, at: Instant, row: Option<Row>) -> Option<Event>
         ensures { result ≡ (if nat_lt 0 (length key) then Some (record { key = key; at = at; row = row }) else None) }
@@ -60,6 +63,13 @@ impl Event {
         self.row.as_ref()
     }
 
+    /// By key, and then by instant.
+    pub fn order(&self, other: &Event) -> Ordering
+        ensures { result ≡ event_cmp self.now other.now }
+    {
+        self.key.cmp(&other.key).then(self.at.cmp(&other.at))
+    }
+
     /// An equal event, whose key and row are copies.
     pub fn copy(&self) -> Mem<Event>
         ensures ok { IfOk result (λ e. e ≡ self.now) }
@@ -74,6 +84,7 @@ impl Event {
 }
 
 /// An event that several lists hold, with its key and its row in memory once. It never changes.
+/// Two compare as equal where they have one key and one instant.
 #[derive(Drop)]
 pub struct SharedEvent {
     event: Arc<Event>,
@@ -109,5 +120,60 @@ impl SharedEvent {
         ensures { result.now ≡ self.now }
     {
         &self.event
+    }
+}
+
+impl PartialEq for SharedEvent {
+    ghost use Rattle.std.specs.Ordering.{eq_by_cmp};
+    ghost use Rattle.std.specs.Cmp.{partial_equiv_from_equiv, eq_by_cmp_equiv};
+    ghost use Rattle.values.specs.Events.{event_cmp};
+    ghost use Rattle.values.specs.EventOrder.{event_total};
+
+    ghost eq = { eq_by_cmp event_cmp };
+
+    ghost laws = { partial_equiv_from_equiv (eq_by_cmp_equiv event_total) };
+
+    fn eq(&self, other: &SharedEvent) -> bool {
+        self.event().order(other.event()).is_eq()
+    }
+}
+
+impl Eq for SharedEvent {
+    ghost use Rattle.std.specs.Cmp.{eq_by_cmp_equiv};
+    ghost use Rattle.values.specs.EventOrder.{event_total};
+
+    ghost laws = { eq_by_cmp_equiv event_total };
+}
+
+impl PartialOrd for SharedEvent {
+    ghost use Rattle.std.specs.Prelude.{Some};
+    ghost use Rattle.std.specs.Cmp.{partial_order_from_total};
+    ghost use Rattle.values.specs.Events.{event_cmp};
+    ghost use Rattle.values.specs.EventOrder.{event_total};
+
+    ghost partial_cmp = { λ x y. Some (event_cmp x y) };
+
+    ghost laws = { partial_order_from_total event_total };
+
+    fn partial_cmp(&self, other: &SharedEvent) -> Option<Ordering> {
+        Some(self.event().order(other.event()))
+    }
+}
+
+impl Ord for SharedEvent {
+    ghost use Rattle.std.specs.Prelude.{refl};
+    ghost use Rattle.values.specs.Events.{event_cmp};
+    ghost use Rattle.values.specs.EventOrder.{event_total};
+
+    ghost cmp = { event_cmp };
+
+    ghost total = { event_total };
+
+    ghost matches_partial_cmp = { λ _ _. refl };
+
+    ghost matches_eq = { λ _ _. refl };
+
+    fn cmp(&self, other: &SharedEvent) -> Ordering {
+        self.event().order(other.event())
     }
 }

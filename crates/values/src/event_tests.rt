@@ -1,6 +1,7 @@
 //! Events, whose keys and rows are copied or shared.
 
 use crate::event::{Event, SharedEvent};
+use crate::key::Instant;
 use crate::key_encoding::KeyBytes;
 use crate::row::Row;
 use crate::value::Value;
@@ -8,12 +9,20 @@ use std::alloc::{AllocError, Global};
 use std::process::Abort;
 use std::test::Fail;
 
-/// One value, from 100 on.
-fn event(rt: &impl Abort, alloc: Global) -> Result<Event, AllocError> {
-    let bytes = Vec::from_slice(alloc, b"\x01\x02")?;
-    let key = KeyBytes::new(bytes).expect(rt, "two bytes are few");
+/// One value, from an instant on.
+fn event_at(
+    rt: &impl Abort,
+    alloc: Global,
+    key: &[u8],
+    at: Instant,
+) -> Result<Event, AllocError> {
+    let key = KeyBytes::new(key.to_vec(alloc)?).expect(rt, "a few bytes");
     let row = Row::new(vec![in alloc; Value::Int(7)]?).expect(rt, "a row of one value");
-    Ok(Event::new(key, 100, Some(row)).expect(rt, "the key is not empty"))
+    Ok(Event::new(key, at, Some(row)).expect(rt, "the key is not empty"))
+}
+
+fn event(rt: &impl Abort, alloc: Global) -> Result<Event, AllocError> {
+    event_at(rt, alloc, b"\x01\x02", 100)
 }
 
 fn is_that(event: &Event) -> bool {
@@ -36,6 +45,23 @@ fn a_shared_event_is_the_same(rt: HostRuntime) -> Result<(), Fail> {
     let second = first.share()?;
     assert!(rt; is_that(first.event()));
     assert!(rt; is_that(second.event()));
+    Ok(())
+}
+
+#[test]
+fn shared_events_are_in_order_by_key_and_then_by_instant(rt: HostRuntime) -> Result<(), Fail> {
+    let alloc = rt.alloc();
+    let mut events = Vec::new(alloc);
+    let points: [(&[u8], Instant); 4] = [(b"b", 1), (b"a", 9), (b"a", 2), (b"b", 1)];
+    for (key, at) in points {
+        events.push(SharedEvent::new(alloc, event_at(&rt, alloc, key, at)?)?)?;
+    }
+    events.sort()?;
+    for (event, at) in events.iter().zip([2, 9, 1, 1]) {
+        assert_eq!(rt; event.event().at(), at);
+    }
+    assert!(rt; events[2] == events[3]);
+    assert!(rt; events[0] != events[1]);
     Ok(())
 }
 

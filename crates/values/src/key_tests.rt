@@ -4,8 +4,9 @@ ghost use Rattle.values.specs.KeyEncoding.{IsShortKey};
 use crate::key_encoding::{KeyBytes, key_bytes};
 use crate::key_reading::read_key;
 use crate::key::Key;
-use crate::table::Schema;
 use crate::chars::Chars;
+use crate::sequence::Sequence;
+use crate::table::{Column, ColumnType, Table};
 use crate::value::{Value, Values};
 use std::alloc::{AllocError, Global};
 use std::test::Fail;
@@ -80,17 +81,35 @@ fn key_bytes_are_at_most_1609(rt: HostRuntime) -> Result<(), Fail> {
     Ok(())
 }
 
-const TEXTS: &str = "CREATE TABLE t (
-  a VARCHAR(2), b BOOLEAN, PRIMARY KEY (a, b),
-  s TIMESTAMP GENERATED ALWAYS AS ROW START, e TIMESTAMP GENERATED ALWAYS AS ROW END,
-  PERIOD FOR SYSTEM_TIME (s, e)
-) WITH SYSTEM VERSIONING";
+fn chars(alloc: Global, text: &str) -> Result<Chars, AllocError> {
+    Ok(Chars::new(String::from_str(alloc, text)?))
+}
+
+fn column(alloc: Global, name: &str, of: ColumnType) -> Result<Column, AllocError> {
+    Ok(Column {
+        name: chars(alloc, name)?,
+        of,
+        not_null: true,
+    })
+}
+
+/// Table 1 of a text of two characters and a truth, both of them its key.
+fn table(alloc: Global) -> Result<Table, AllocError> {
+    let text = column(alloc, "a", ColumnType::Varchar(2))?;
+    let truth = column(alloc, "b", ColumnType::Boolean)?;
+    Ok(Table {
+        number: 1,
+        name: chars(alloc, "t")?,
+        columns: Sequence::new(vec![in alloc; text, truth]?),
+        key: Sequence::new(vec![in alloc; 1, 2]?),
+        row_start: chars(alloc, "s")?,
+        row_end: chars(alloc, "e")?,
+    })
+}
 
 #[test]
 fn a_key_is_read_from_its_own_bytes_alone(rt: HostRuntime) -> Result<(), Fail> {
-    let read = Schema::read(rt.alloc(), TEXTS.as_bytes());
-    let schema = read.expect(&rt, "it is a schema");
-    let table = schema.table_at(1).expect(&rt, "it has a table");
+    let table = table(rt.alloc())?;
     let cases = [
         (b"\x01\x61\x00\xff\x00\x00\x01".as_slice(), true),
         (b"\x01\x00\x00\x00", true),
@@ -106,7 +125,7 @@ fn a_key_is_read_from_its_own_bytes_alone(rt: HostRuntime) -> Result<(), Fail> {
     for (i, (bytes, stands)) in cases.into_iter().enumerate() {
         let copy = Vec::from_slice(rt.alloc(), bytes)?;
         let bytes = KeyBytes::new(copy).expect(&rt, "they are few");
-        let key = read_key(rt.alloc(), table, &bytes)?;
+        let key = read_key(rt.alloc(), &table, &bytes)?;
         assert_eq!(rt; key.is_some(), stands, "at {i}");
     }
     Ok(())
