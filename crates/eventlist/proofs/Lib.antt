@@ -1,8 +1,8 @@
-pub mod Found
-pub mod Jumps
-pub mod Ordered
-pub mod Overtaken
-pub mod Parts
-pub mod Placed
+pub mod PlaceOrder
+pub mod PlaceFound
+pub mod PutPlaced
+pub mod OvertakingNext
+pub mod ListingRanges
+pub mod PlaceParts
 pub mod RangeEvents
-pub mod Ranges
+pub mod KeyGroupJumps

@@ -3,10 +3,10 @@ use Rattle.std.proofs.Common.{◌≡◌, ℕ, ◌≤◌, ◌∙◌, true, false,
 use Rattle.std.proofs.lemmas.List.Elements.{All-weaker}
 use Rattle.values.specs.Event.{Event}
 use Rattle.keyrange.specs.declared.range.KeyRange.{KeyRange}
-use Rattle.keyrange.specs.Points.{is_before_end, is_key_in}
+use Rattle.keyrange.specs.Range.{is_before_end, is_key_in}
 use Rattle.eventlist.specs.Place.{AreFirst}
-use Rattle.eventlist.proofs.Parts.{passing_taken, first_same, dropped_fail}
-use Rattle.eventlist.proofs.Ranges.{below_key, front_dropped}
+use Rattle.eventlist.proofs.PlaceParts.{passing_taken, first_same, dropped_fail}
+use Rattle.eventlist.proofs.ListingRanges.{below_key, front_dropped}
 
 pub of_range_is : (es : List Event) (range : KeyRange) (a n : ℕ) → a ≤ length es → AreFirst (below_key range.lo) es a
     → n ≤ length (drop a es) → AreFirst (λ e. is_before_end e.key range.hi) (drop a es) n

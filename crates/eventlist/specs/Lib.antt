@@ -1,3 +1,6 @@
-pub mod Listing
-pub mod Place
 pub mod KeyGroup
+pub mod Listing
+pub mod Overtaking
+pub mod Place
+pub mod Put
+pub mod Sort

@@ -4,8 +4,7 @@ use Rattle.std.specs.Ordering.{match_ordering, is_lt, is_eq}
 use Rattle.std.specs.List.Sorted.{IsPartitionPoint}
 use Rattle.values.specs.Event.{Event}
 use Rattle.values.specs.Events.{bytes_cmp, is_bytes, event_cmp, later}
-use Rattle.keyrange.specs.Points.{is_below}
-use Rattle.eventlist.specs.Listing.{overtakes}
+use Rattle.keyrange.specs.Range.{is_below}
 
 -- the first n events are those that pass the test
 abbrev pub AreFirst : (Event → Bool) → List Event → ℕ → Type 0
@@ -28,22 +27,7 @@ last_event (e ∷ es) key = later (last_event es key) (if is_bytes key e.key the
 abbrev pub is_before : Event → Event → Bool
 is_before e d = is_lt (event_cmp d e)
 
--- an event of e's key and instant
-abbrev pub is_same : Event → Option Event → Bool
-is_same e None = false
-is_same e (Some d) = is_eq (event_cmp e d)
-
 -- the event's instant, where it is above another
 abbrev pub since : ℕ → Option Event → Option ℕ
 since start None = None
 since start (Some e) = if nat_lt start e.at then Some e.at else None
-
--- the next event is a later one of e's key, at the instant or before it
-abbrev pub is_overtaken : Event → ℕ → Option Event → Bool
-is_overtaken e t None = false
-is_overtaken e t (Some d) = overtakes e t d
-
--- the event is of the key or of a lesser one
-abbrev pub is_up_to : List ℕ → Option Event → Bool
-is_up_to key None = false
-is_up_to key (Some e) = not (is_below key e.key)

@@ -4,10 +4,10 @@ ghost use Rattle.std.specs.List.{slice_get, AllWithin};
 ghost use Rattle.std.specs.Option.{option_to_list};
 ghost use Rattle.std.specs.List.Sorted.{IsStrictlySortedBy};
 ghost use Rattle.values.specs.Events.{event_cmp};
-ghost use Rattle.keyrange.specs.Points.{is_below};
+ghost use Rattle.keyrange.specs.Range.{is_below};
 ghost use Rattle.eventlist.specs.Listing.{stands_at};
-ghost use Rattle.eventlist.specs.Place.{AreFirst, is_up_to};
-ghost use Rattle.eventlist.specs.KeyGroup.{first_key, AreOfKey, AreAbove};
+ghost use Rattle.eventlist.specs.Place.{AreFirst};
+ghost use Rattle.eventlist.specs.KeyGroup.{is_up_to, first_key, AreOfKey, AreAbove};
 
 use crate::place::{place_after, place_behind_key};
 use values::{Instant, KeyBytes, SharedEvent};

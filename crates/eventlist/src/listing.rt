@@ -3,15 +3,14 @@ ghost use Rattle.std.specs.Prelude.{◌≡◌, ◌≤◌, ◌&&◌, IfOk, length
 ghost use Rattle.std.specs.List.Sorted.{IsStrictlySortedBy};
 ghost use Rattle.values.specs.Events.{event_cmp};
 ghost use Rattle.values.specs.Memory.{OnlyMemory};
-ghost use Rattle.keyrange.specs.Points.{is_key_in};
+ghost use Rattle.keyrange.specs.Range.{is_key_in};
 ghost use Rattle.eventlist.specs.Listing.{events_in, standing, stands_at};
 
-use crate::place::place_of_key;
 use crate::key_group::{split_first_key, standing_of};
 use crate::range::{of_range, place_of_end};
 use keyrange::KeyRange;
-use values::{Event, Instant, KeyBytes, Mem, SharedEvent};
 use std::alloc::Global;
+use values::{Event, Instant, KeyBytes, Mem, SharedEvent};
 
 /// The events of a range of keys, from an instant to another and with it, in order.
 pub fn events_in(
@@ -27,10 +26,11 @@ pub fn events_in(
 {
     let first = place_of_key(events, &range.lo);
     let end = place_of_end(events, &range.hi).max(first);
-    Ok(passed(alloc, &events[first..end], range, from, to)?)
+    Ok(events_of_slice(alloc, &events[first..end], range, from, to)?)
 }
 
-fn passed(
+/// Of some events, those of a range of keys from an instant to another and with it.
+fn events_of_slice(
     alloc: Global,
     events: &[SharedEvent],
     range: &KeyRange,
@@ -50,7 +50,9 @@ fn passed(
 }
 
 fn is_in(event: &Event, range: &KeyRange, from: Instant, to: Instant) -> bool
-    ensures { result ≡ (is_key_in range.now event.now.key && (nat_le from event.now.at && nat_le event.now.at to)) }
+    ensures { result
+        ≡ (is_key_in range.now event.now.key
+        && (nat_le from event.now.at && nat_le event.now.at to)) }
 {
     range.contains(event.key()) && from <= event.at() && event.at() <= to
 }

@@ -1,12 +1,11 @@
 //! Whether an event's row stands, as the event after it shows.
 ghost use Rattle.std.specs.Prelude.{◌≡◌, option_copied};
-ghost use Rattle.eventlist.specs.Listing.{overtakes};
-ghost use Rattle.eventlist.specs.Place.{is_overtaken};
+ghost use Rattle.eventlist.specs.Overtaking.{overtakes, is_overtaken};
 
 use values::{Event, Instant, SharedEvent};
 
 /// Whether an event is a later one of another's key, at the instant or before it.
-#[tactic(auto, unfolding(crate::specs::Listing::overtakes))]
+#[tactic(auto, unfolding(crate::specs::Overtaking::overtakes))]
 fn overtakes(event: &Event, instant: Instant, other: &Event) -> bool
     ensures { result ≡ overtakes event.now instant other.now }
 {

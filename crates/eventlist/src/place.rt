@@ -2,11 +2,11 @@
 ghost use Rattle.std.specs.Prelude.{◌≡◌, ◌≤◌, Some, length, not, option_copied};
 ghost use Rattle.std.specs.List.Sorted.{IsStrictlySortedBy};
 ghost use Rattle.values.specs.Events.{event_cmp, event_until, event_since};
-ghost use Rattle.keyrange.specs.Points.{is_below};
+ghost use Rattle.keyrange.specs.Range.{is_below};
 ghost use Rattle.eventlist.specs.Place.{AreFirst, is_until, of_key, last_event, since, is_before};
 
-use values::{Event, Instant, KeyBytes, SharedEvent};
 use std::cmp::Ordering;
+use values::{Event, Instant, KeyBytes, SharedEvent};
 
 fn is_until(key: &KeyBytes, instant: Instant, event: &Event) -> bool
     ensures { result ≡ is_until key.now instant event.now }
@@ -61,7 +61,8 @@ pub fn event_since(events: &[SharedEvent], key: &KeyBytes, start: Instant) -> Op
     since(start, last_event(events, key))
 }
 
-fn last_event<'a>(events: &'a [SharedEvent], key: &KeyBytes) -> Option<&'a Event>
+/// A key's last event.
+pub fn last_event<'a>(events: &'a [SharedEvent], key: &KeyBytes) -> Option<&'a Event>
     requires { IsStrictlySortedBy event_cmp events.now }
     ensures { option_copied result ≡ last_event events.now key.now }
 {
@@ -82,19 +83,13 @@ fn since(start: Instant, event: Option<&Event>) -> Option<Instant>
     }
 }
 
-pub(crate) fn compare(event: &Event, other: &Event) -> Ordering
-    ensures { result ≡ event_cmp event.now other.now }
-{
-    event.key().cmp(other.key()).then(event.at().cmp(&other.at()))
-}
-
 /// How many events are before another.
 pub fn place_of(events: &[SharedEvent], event: &Event) -> usize
     requires { IsStrictlySortedBy event_cmp events.now }
     ensures bound { result ≤ length events.now }
     ensures first { AreFirst (is_before event.now) events.now result }
 {
-    events.partition_point(|other| compare(other.event(), event).is_lt())
+    events.partition_point(|other| other.event().order(event).is_lt())
 }
 
 /// How many events are of lesser keys.

@@ -4,9 +4,9 @@ ghost use Rattle.std.specs.List.{slice_get};
 ghost use Rattle.std.specs.List.Sorted.{IsStrictlySortedBy};
 ghost use Rattle.values.specs.Events.{event_cmp, put_event};
 ghost use Rattle.values.specs.Memory.{OnlyMemory};
-ghost use Rattle.eventlist.specs.Place.{is_same};
+ghost use Rattle.eventlist.specs.Put.{is_same};
 
-use crate::place::{compare, place_of};
+use crate::place::place_of;
 use values::{Mem, SharedEvent};
 
 fn is_there(events: &[SharedEvent], place: usize, event: &SharedEvent) -> bool
@@ -14,11 +14,12 @@ fn is_there(events: &[SharedEvent], place: usize, event: &SharedEvent) -> bool
 {
     match events.get(place) {
         None => false,
-        Some(other) => compare(event.event(), other.event()).is_eq(),
+        Some(other) => event == other,
     }
 }
 
-/// Puts an event in its place; it takes the place of one of its key and instant. Where memory runs out nothing has changed.
+/// Puts an event in its place; it takes the place of one of its key and instant. Where memory runs out nothing has
+/// changed.
 pub fn put_event(events: &mut Vec<SharedEvent>, event: SharedEvent) -> Mem<()>
     requires { IsStrictlySortedBy event_cmp events.old.items }
     ensures ok { OnOk result (events.new.items ≡ put_event event events.old.items) }

@@ -2,7 +2,7 @@
 ghost use Rattle.std.specs.Prelude.{◌≡◌, ◌≤◌, length, filter};
 ghost use Rattle.std.specs.List.Sorted.{IsStrictlySortedBy};
 ghost use Rattle.values.specs.Events.{event_cmp};
-ghost use Rattle.keyrange.specs.Points.{is_before_end, is_key_in};
+ghost use Rattle.keyrange.specs.Range.{is_before_end, is_key_in};
 ghost use Rattle.eventlist.specs.Place.{AreFirst};
 
 use crate::place::place_of_key;

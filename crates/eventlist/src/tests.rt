@@ -5,14 +5,15 @@ ghost use Rattle.values.specs.KeyEncoding.{IsShortKey};
 ghost use Rattle.values.specs.Events.{event_cmp};
 
 use crate::{
-    event_since, event_until, events_in, is_overtaken, of_range, place_after,
-    place_behind_key, place_of, place_of_key, place_until, put_event, split_first_key, standing,
+    event_since, event_until, events_in, is_overtaken, last_event, of_range, place_after,
+    place_behind_key, place_of, place_of_key, place_until, put_event, sort_events, split_first_key,
+    standing,
 };
 use keyrange::KeyRange;
-use values::{Event, Instant, Key, KeyBytes, Mem, Row, SharedEvent, Value, Values, key_bytes};
 use std::alloc::{AllocError, Global};
 use std::process::Abort;
 use std::test::Fail;
+use values::{Event, Instant, Key, KeyBytes, Mem, Row, SharedEvent, Value, Values, key_bytes};
 
 fn key(alloc: Global, table: u8, number: i64) -> Result<Key, AllocError>
     ensures { IfOk result IsShortKey }
@@ -64,7 +65,7 @@ fn put(
 }
 
 /// Of table 1 the keys 1 (a row at 100, deleted at 200) and 2 (a row at 150), of table 2 the key 1 (a row at 50).
-#[tactic(auto, using(crate::proofs::Ordered::sorted_none))]
+#[tactic(auto, using(crate::proofs::PlaceOrder::sorted_none))]
 fn some(alloc: Global) -> Mem<Vec<SharedEvent>>
     ensures { IfOk result (λ v. IsStrictlySortedBy event_cmp v.items) }
 {
@@ -111,6 +112,10 @@ fn a_keys_last_event_is_found_by_its_instant(rt: HostRuntime) -> Result<(), Fail
         let event = event_until(&events, &key, at);
         assert_eq!(rt; event.map(|event| event.at()), found, "at {at}");
     }
+    assert_eq!(rt;
+        last_event(&events, &key).map(|event| event.at()),
+        Some(200)
+    );
     Ok(())
 }
 
@@ -172,5 +177,22 @@ fn a_list_is_split_behind_its_first_key(rt: HostRuntime) -> Result<(), Fail> {
     assert_eq!(rt; first.len(), 2);
     assert_eq!(rt; place_until(first, 199), 1);
     assert_eq!(rt; others.len(), 2);
+    Ok(())
+}
+
+#[test]
+fn events_of_several_lists_are_put_in_order_once_each(rt: HostRuntime) -> Result<(), Fail> {
+    let alloc = rt.alloc();
+    let events = some(alloc)?;
+    let mut twice = Vec::new(alloc);
+    for place in [3, 1, 0, 2, 1, 3] {
+        let event = events.get(place).expect(&rt, "there are four events");
+        twice.push(event.share()?)?;
+    }
+    sort_events(&mut twice)?;
+    assert_eq!(rt; twice.len(), 4);
+    for (event, other) in twice.iter().zip(events.iter()) {
+        assert!(rt; event == other);
+    }
     Ok(())
 }

@@ -23,7 +23,7 @@ use Rattle.values.proofs.Maps.{insert_entry-put, sorted_insert}
 use Rattle.values.proofs.Latest.{Upto, latest, point}
 use Rattle.values.proofs.Sorted.{sorted_from}
 use Rattle.values.proofs.Upto.{late_put}
-use Rattle.eventlist.proofs.Placed.{all_put}
+use Rattle.eventlist.proofs.PutPlaced.{all_put}
 use Rattle.staging.specs.View.{Committed, events, last, Holds, Adds}
 use Rattle.staging.specs.Own.{seen, net_over}
 use Rattle.transaction.specs.TransactionState.{TransactionState}

@@ -32,7 +32,7 @@ use Rattle.values.proofs.KeyOrder.{byte_order_is_key_order}
 use Rattle.staging.specs.View.{events, Committed, Holds}
 use Rattle.staging.specs.Own.{seen, net_over}
 use Rattle.staging.specs.Staged.{sees, net_in}
-use Rattle.eventlist.proofs.Ordered.{sorted_tail}
+use Rattle.eventlist.proofs.PlaceOrder.{sorted_tail}
 use Rattle.staging.proofs.Entries.{upon, row_at-apply}
 
 -- ---- keys and their bytes

@@ -21,8 +21,9 @@ use Rattle.values.specs.Tables.{Schema}
 use Rattle.values.specs.Writes.{Written, writing, most_written, insert_all, add_keys}
 use Rattle.values.specs.Versions.{matches}
 use Rattle.values.specs.Events.{event_cmp, AreKeysIn}
-use Rattle.keyrange.specs.Points.{is_key_in}
-use Rattle.eventlist.specs.Listing.{is_of_table, standing}
+use Rattle.keyrange.specs.Range.{is_key_in}
+use Rattle.eventlist.specs.Listing.{standing}
+use Rattle.staging.proofs.KeyTable.{is_of_table}
 use Rattle.staging.specs.View.{events, range_of_table, Committed, Holds}
 use Rattle.staging.specs.Own.{Reads, seen, own, net_over}
 use Rattle.staging.specs.Staged.{put_all, put_answer, rows_in, net_in}

@@ -2,6 +2,7 @@ pub mod Answered
 pub mod Bridge
 pub mod Calls
 pub mod Entries
+pub mod KeyTable
 pub mod Placed
 pub mod Seen
 pub mod Sorted

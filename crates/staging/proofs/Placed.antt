@@ -7,8 +7,8 @@ use Rattle.values.specs.Commits.{max_instant}
 use Rattle.values.specs.Event.{Event}
 use Rattle.values.specs.Log.{Net}
 use Rattle.values.specs.Events.{event_cmp, put_event, put_net}
-use Rattle.eventlist.proofs.Ordered.{sorted_none}
-use Rattle.eventlist.proofs.Placed.{all_put, sorted_put}
+use Rattle.eventlist.proofs.PlaceOrder.{sorted_none}
+use Rattle.eventlist.proofs.PutPlaced.{all_put, sorted_put}
 use Rattle.staging.specs.View.{IsCommitted}
 
 pub sorted_net : (instant : ℕ) (net : Net) (es : List Event) → IsStrictlySortedBy event_cmp es → IsStrictlySortedBy event_cmp (put_net instant net es)

@@ -23,11 +23,13 @@ use Rattle.values.specs.Events.{is_bytes, event_cmp, event_of, events_of, IsKeyI
 use Rattle.values.proofs.Orders.{key_cmp_total, key_cmp-IsAntisymmetric}
 use Rattle.values.proofs.Maps.{same_map, sorted_insert, lookup-insert_entry}
 use Rattle.values.proofs.KeyReads.{key_back}
-use Rattle.eventlist.specs.Listing.{overtakes, stands_at, standing, is_of_table}
+use Rattle.eventlist.specs.Overtaking.{overtakes}
+use Rattle.eventlist.specs.Listing.{stands_at, standing}
+use Rattle.staging.proofs.KeyTable.{is_of_table}
 use Rattle.staging.specs.Own.{seen}
 use Rattle.staging.specs.Staged.{row_taken, rows_in}
-use Rattle.eventlist.proofs.Ordered.{sorted_head, sorted_tail, is_lower}
-use Rattle.eventlist.proofs.Overtaken.{not_earlier, not_itself, overtakes_is, is_overtakes, never}
+use Rattle.eventlist.proofs.PlaceOrder.{sorted_head, sorted_tail, is_lower}
+use Rattle.eventlist.proofs.OvertakingNext.{not_earlier, not_itself, overtakes_is, is_overtakes, never}
 use Rattle.staging.proofs.Entries.{upon, apply-filter, lookup-filter, same_key}
 use Rattle.staging.proofs.Bridge.{AreSeen, rest_seen, last_change, after_is, sorted_base, is_bytes_is_key, own_key, in_time}
 
@@ -67,7 +69,7 @@ overtaken_is schema t c cs (d ∷ ds) hc hk ht hs = λ i. one i || overtaken_is 
         never (overtakes (event_of c) t (event_of d))
         (λ over. (
         let same = (overtakes_is (event_of c) t (event_of d) over).of_key in
-        let bytes : is_bytes (bytes_of_key c.0.key) (bytes_of_key d.0.key) ≡ true = subst (λ k. is_bytes (bytes_of_key c.0.key) k ≡ true) same (Rattle.eventlist.proofs.Ordered.is_own (bytes_of_key c.0.key)) in
+        let bytes : is_bytes (bytes_of_key c.0.key) (bytes_of_key d.0.key) ≡ true = subst (λ k. is_bytes (bytes_of_key c.0.key) k ≡ true) same (Rattle.eventlist.proofs.PlaceOrder.is_own (bytes_of_key c.0.key)) in
         let clash : ◌≡◌ {A = Bool} true false = sym bytes ∙ is_bytes_is_key schema c.0.key d.0.key hc hk.0 ∙ is in cc
         ))
 

@@ -14,8 +14,9 @@ use Rattle.values.specs.declared.query.Keys.{Keys}
 use Rattle.values.specs.Log.{Row}
 use Rattle.values.specs.Versions.{matches}
 use Rattle.values.specs.KeyReading.{key_from, whole_key, parts_from}
-use Rattle.keyrange.specs.Points.{is_below, is_before_end, is_key_in}
-use Rattle.eventlist.specs.Listing.{is_of_table, standing, stands_at}
+use Rattle.keyrange.specs.Range.{is_below, is_before_end, is_key_in}
+use Rattle.eventlist.specs.Listing.{standing, stands_at}
+use Rattle.staging.proofs.KeyTable.{is_of_table}
 use Rattle.staging.specs.View.{range_of_table}
 use Rattle.staging.specs.Staged.{row_taken}
 

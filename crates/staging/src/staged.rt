@@ -12,7 +12,7 @@ ghost use Rattle.values.specs.Versions.{matches};
 ghost use Rattle.values.specs.Writes.{insert_all};
 ghost use Rattle.values.specs.KeyEncoding.{IsShortKey, bytes_of_key};
 ghost use Rattle.values.specs.Events.{AreKeysIn, row_until};
-ghost use Rattle.keyrange.specs.Points.{is_key_in};
+ghost use Rattle.keyrange.specs.Range.{is_key_in};
 ghost use Rattle.eventlist.specs.Listing.{standing};
 ghost use Rattle.staging.specs.View.{events, range_of_table, Holds};
 ghost use Rattle.staging.specs.Own.{WhenRead, seen, net_over};

@@ -4,7 +4,7 @@ ghost use Rattle.std.specs.List.Sorted.{IsStrictlySortedBy};
 ghost use Rattle.values.specs.Memory.{OnlyMemory};
 ghost use Rattle.values.specs.Commits.{max_instant};
 ghost use Rattle.values.specs.Events.{event_cmp, row_until, event_since};
-ghost use Rattle.keyrange.specs.Points.{is_key_in};
+ghost use Rattle.keyrange.specs.Range.{is_key_in};
 ghost use Rattle.eventlist.specs.Listing.{events_in, standing};
 ghost use Rattle.staging.specs.View.{events, last, IsCommitted, IsEmpty};
 

@@ -19,11 +19,11 @@ use Rattle.values.specs.Log.{Row}
 use Rattle.values.specs.Versions.{selects, ends_after, matches}
 use Rattle.values.specs.KeyReading.{whole_key, parts_from}
 use Rattle.values.specs.Events.{bytes_cmp, is_bytes, event_cmp}
-use Rattle.keyrange.specs.Points.{is_below}
-use Rattle.eventlist.specs.Listing.{is_of_table}
+use Rattle.keyrange.specs.Range.{is_below}
+use Rattle.staging.proofs.KeyTable.{is_of_table}
 use Rattle.eventlist.specs.Place.{AreFirst}
 use Rattle.eventlist.specs.KeyGroup.{first_key, AreOfKey, AreAbove}
-use Rattle.eventlist.proofs.Ordered.{bytes_total, is_own, same_bytes, is_lower, sorted_head, sorted_tail, within_tail, within_rest, within_head}
+use Rattle.eventlist.proofs.PlaceOrder.{bytes_total, is_own, same_bytes, is_lower, sorted_head, sorted_tail, within_tail, within_rest, within_head}
 use Rattle.systime_query.specs.Selection.{next_of, is_taken, shown_of, selected_by, instant_of}
 
 clash : ◌≡◌ {A = Bool} true false → ⊥

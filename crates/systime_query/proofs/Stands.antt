@@ -16,11 +16,12 @@ use Rattle.values.specs.Log.{Row}
 use Rattle.values.specs.Versions.{ends_after}
 use Rattle.values.specs.Events.{is_bytes, event_cmp}
 use Rattle.keyrange.specs.declared.range.KeyRange.{KeyRange}
-use Rattle.keyrange.specs.Points.{is_key_in}
-use Rattle.eventlist.specs.Listing.{overtakes, stands_at, standing}
-use Rattle.eventlist.specs.Place.{is_overtaken}
-use Rattle.eventlist.proofs.Ordered.{sorted_head, sorted_tail, same_bytes, is_lower}
-use Rattle.eventlist.proofs.Overtaken.{not_earlier, stands_before, stands_is}
+use Rattle.keyrange.specs.Range.{is_key_in}
+use Rattle.eventlist.specs.Overtaking.{overtakes}
+use Rattle.eventlist.specs.Listing.{stands_at, standing}
+use Rattle.eventlist.specs.Overtaking.{is_overtaken}
+use Rattle.eventlist.proofs.PlaceOrder.{sorted_head, sorted_tail, same_bytes, is_lower}
+use Rattle.eventlist.proofs.OvertakingNext.{not_earlier, stands_before, stands_is}
 use Rattle.staging.specs.View.{Committed, events, range_of_table}
 use Rattle.systime_query.specs.Selection.{WhenShown, next_of, is_taken, shown_of, selected_by}
 use Rattle.systime_query.specs.Standing.{row_shown}

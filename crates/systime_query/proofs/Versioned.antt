@@ -31,8 +31,9 @@ use Rattle.values.proofs.KeyReads.{key_back}
 use Rattle.values.proofs.EventKeys.{same_key}
 use Rattle.values.specs.declared.refusal.Refusal.{Refusal}
 use Rattle.keyrange.specs.declared.range.KeyRange.{KeyRange}
-use Rattle.keyrange.specs.Points.{is_key_in}
-use Rattle.eventlist.specs.Listing.{is_of_table, events_in}
+use Rattle.keyrange.specs.Range.{is_key_in}
+use Rattle.eventlist.specs.Listing.{events_in}
+use Rattle.staging.proofs.KeyTable.{is_of_table}
 use Rattle.staging.specs.View.{Committed, events, range_of_table, Holds}
 use Rattle.staging.proofs.TableRange.{in_range}
 use Rattle.systime_query.proofs.Instants.{range_alone, other_table, now_shown}

@@ -3,9 +3,9 @@ use Rattle.std.specs.List.Sorted.{IsStrictlySortedBy}
 use Rattle.values.specs.Event.{Event}
 use Rattle.values.specs.Events.{event_cmp}
 use Rattle.eventlist.specs.Place.{AreFirst}
-use Rattle.eventlist.proofs.Ranges.{not_above}
-use Rattle.eventlist.proofs.Parts.{sorted_take}
-use Rattle.eventlist.proofs.Jumps.{first_within}
+use Rattle.eventlist.proofs.ListingRanges.{not_above}
+use Rattle.eventlist.proofs.PlaceParts.{sorted_take}
+use Rattle.eventlist.proofs.KeyGroupJumps.{first_within}
 use Rattle.eventlist.proofs.key_group.end_of_key.Goals as goal
 
 pub place_behind_key-requires : goal.place_behind_key-requires

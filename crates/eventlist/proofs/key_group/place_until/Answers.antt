@@ -2,7 +2,7 @@ use Rattle.std.proofs.Common.{◌∙◌, List, ℕ, ap, subst, arith}
 use Rattle.values.specs.Event.{Event}
 use Rattle.eventlist.specs.Place.{AreFirst, is_until}
 use Rattle.eventlist.specs.KeyGroup.{first_key}
-use Rattle.eventlist.proofs.Jumps.{first_is, by_instant}
+use Rattle.eventlist.proofs.KeyGroupJumps.{first_is, by_instant}
 use Rattle.eventlist.proofs.key_group.place_until.Goals as goal
 
 pub returns-in-len1-up-clause-first : goal.returns-in-len1-up-clause-first

@@ -1,5 +1,5 @@
 use Rattle.std.proofs.Common.{sym, ◌∙◌}
-use Rattle.eventlist.proofs.Jumps.{past_none}
+use Rattle.eventlist.proofs.KeyGroupJumps.{past_none}
 use Rattle.eventlist.proofs.key_group.reach_of.Goals as goal
 
 pub returns-clause-none : goal.returns-clause-none

@@ -4,9 +4,9 @@ use Rattle.values.specs.Event.{Event}
 use Rattle.values.specs.Events.{event_cmp}
 use Rattle.eventlist.specs.Place.{AreFirst}
 use Rattle.eventlist.specs.KeyGroup.{first_key, AreOfKey}
-use Rattle.eventlist.proofs.Ranges.{not_above}
-use Rattle.eventlist.proofs.Parts.{sorted_take, sorted_drop}
-use Rattle.eventlist.proofs.Jumps.{first_is, one_key_is, some_first}
+use Rattle.eventlist.proofs.ListingRanges.{not_above}
+use Rattle.eventlist.proofs.PlaceParts.{sorted_take, sorted_drop}
+use Rattle.eventlist.proofs.KeyGroupJumps.{first_is, one_key_is, some_first}
 use Rattle.eventlist.proofs.key_group.split_first_key.Goals as goal
 
 parted : (c : goal.After-split_at) → AreFirst (not_above (first_key c.args.events.now)) c.args.events.now c.end_of_key.result

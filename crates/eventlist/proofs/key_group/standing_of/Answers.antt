@@ -1,7 +1,7 @@
 use Rattle.std.proofs.Common.{◌≡◌, ◌∙◌, [], ◌∷◌, Bool, true, false, Some, None, refl, sym, ap, cond, is_some}
 use Rattle.std.specs.Option.{option_to_list}
 use Rattle.values.specs.Event.{Event}
-use Rattle.eventlist.proofs.Jumps.{none_lasting, one_stands}
+use Rattle.eventlist.proofs.KeyGroupJumps.{none_lasting, one_stands}
 use Rattle.eventlist.proofs.key_group.standing_of.Goals as goal
 
 pub returns-then-place-eq0 : goal.returns-then-place-eq0

@@ -2,7 +2,7 @@ use Rattle.std.proofs.Common.{◌∙◌, ◌++◌, [], ◌∷◌, sym, ap, filte
 use Rattle.std.proofs.lemmas.List.{append-nil}
 use Rattle.eventlist.specs.Listing.{stands_at}
 use Rattle.eventlist.specs.KeyGroup.{first_key}
-use Rattle.eventlist.proofs.Jumps.{stand_step}
+use Rattle.eventlist.proofs.KeyGroupJumps.{stand_step}
 use Rattle.eventlist.proofs.listing.all_standing.Goals as goal
 
 pub loop-rest-preserved-in_ok-push : goal.loop-rest-preserved-in_ok-push

@@ -1,8 +1,8 @@
 use Rattle.std.proofs.Common.{◌∙◌, List, ap, sym, filter}
 use Rattle.values.specs.Event.{Event}
-use Rattle.keyrange.specs.Points.{is_key_in}
+use Rattle.keyrange.specs.Range.{is_key_in}
 use Rattle.eventlist.specs.Listing.{stands_at}
-use Rattle.eventlist.proofs.Jumps.{standing_is}
+use Rattle.eventlist.proofs.KeyGroupJumps.{standing_is}
 use Rattle.eventlist.proofs.listing.standing.Goals as goal
 
 pub returns-clause-ok : goal.returns-clause-ok

@@ -1,6 +1,6 @@
 use Rattle.std.proofs.Common.{ap, ◌∙◌}
 use Rattle.eventlist.specs.Place.{since}
-use Rattle.eventlist.proofs.Found.{since_last}
+use Rattle.eventlist.proofs.PlaceFound.{since_last}
 use Rattle.eventlist.proofs.place.event_since.Goals as goal
 
 pub returns : goal.returns

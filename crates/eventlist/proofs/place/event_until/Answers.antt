@@ -1,6 +1,6 @@
 use Rattle.std.proofs.Common.{Some, sym, ap, ◌∙◌}
 use Rattle.eventlist.specs.Place.{of_key}
-use Rattle.eventlist.proofs.Found.{none_at, found_at}
+use Rattle.eventlist.proofs.PlaceFound.{none_at, found_at}
 use Rattle.eventlist.proofs.place.event_until.Goals as goal
 
 pub returns-then-place-eq0 : goal.returns-then-place-eq0

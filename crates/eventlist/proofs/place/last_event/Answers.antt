@@ -1,6 +1,6 @@
 use Rattle.std.proofs.Common.{Some, sym, ap, ◌∙◌}
 use Rattle.eventlist.specs.Place.{of_key}
-use Rattle.eventlist.proofs.Found.{no_last, last_found}
+use Rattle.eventlist.proofs.PlaceFound.{no_last, last_found}
 use Rattle.eventlist.proofs.place.last_event.Goals as goal
 
 pub returns-then-end-eq0 : goal.returns-then-end-eq0

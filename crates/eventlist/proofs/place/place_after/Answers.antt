@@ -1,7 +1,7 @@
 use Rattle.std.proofs.Common.{rules}
 use Rattle.std.proofs.lemmas.List.Sorted.{IsPartitionPoint-from_clause}
 use Rattle.eventlist.specs.Place.{is_until}
-use Rattle.eventlist.proofs.Found.{until_parts}
+use Rattle.eventlist.proofs.PlaceFound.{until_parts}
 use Rattle.eventlist.proofs.place.place_after.Goals as goal
 
 pub returns-clause-first : goal.returns-clause-first

@@ -1,6 +1,6 @@
 use Rattle.std.proofs.Common.{rules}
 use Rattle.std.proofs.lemmas.List.Sorted.{IsPartitionPoint-from_clause}
-use Rattle.eventlist.proofs.Ranges.{not_above, not_above_parts}
+use Rattle.eventlist.proofs.ListingRanges.{not_above, not_above_parts}
 use Rattle.eventlist.proofs.place.place_behind_key.Goals as goal
 
 pub returns-clause-first : goal.returns-clause-first

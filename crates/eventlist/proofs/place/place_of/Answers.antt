@@ -1,7 +1,7 @@
 use Rattle.std.proofs.Common.{rules}
 use Rattle.std.proofs.lemmas.List.Sorted.{IsPartitionPoint-from_clause}
 use Rattle.eventlist.specs.Place.{is_before}
-use Rattle.eventlist.proofs.Placed.{before_parts}
+use Rattle.eventlist.proofs.PutPlaced.{before_parts}
 use Rattle.eventlist.proofs.place.place_of.Goals as goal
 
 pub returns-clause-first : goal.returns-clause-first

@@ -1,6 +1,6 @@
 use Rattle.std.proofs.Common.{rules}
 use Rattle.std.proofs.lemmas.List.Sorted.{IsPartitionPoint-from_clause}
-use Rattle.eventlist.proofs.Ranges.{below_key, below_parts}
+use Rattle.eventlist.proofs.ListingRanges.{below_key, below_parts}
 use Rattle.eventlist.proofs.place.place_of_key.Goals as goal
 
 pub returns-clause-first : goal.returns-clause-first

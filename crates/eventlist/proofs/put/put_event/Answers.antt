@@ -3,7 +3,7 @@ use Rattle.std.specs.List.Sorted.{IsStrictlySortedBy}
 use Rattle.values.specs.Event.{Event}
 use Rattle.values.specs.Events.{event_cmp}
 use Rattle.eventlist.specs.Place.{AreFirst, is_before}
-use Rattle.eventlist.proofs.Placed.{put_by, sorted_put}
+use Rattle.eventlist.proofs.PutPlaced.{put_by, sorted_put}
 use Rattle.eventlist.proofs.put.put_event.Goals as goal
 use Rattle.eventlist.proofs.put.put_event.Goals.{then-is_there, else-is_there+in_ok-insert}
 

@@ -2,9 +2,9 @@ use Rattle.std.proofs.Common.{◌≤◌, ◌∙◌, List, take, length, ap, sym,
 use Rattle.std.specs.List.Sorted.{IsStrictlySortedBy}
 use Rattle.values.specs.Event.{Event}
 use Rattle.values.specs.Events.{event_cmp}
-use Rattle.keyrange.specs.Points.{is_before_end}
+use Rattle.keyrange.specs.Range.{is_before_end}
 use Rattle.eventlist.specs.Place.{AreFirst}
-use Rattle.eventlist.proofs.Parts.{sorted_drop, sorted_take}
+use Rattle.eventlist.proofs.PlaceParts.{sorted_drop, sorted_take}
 use Rattle.eventlist.proofs.RangeEvents.{of_range_is}
 use Rattle.eventlist.proofs.range.of_range.Goals as goal
 

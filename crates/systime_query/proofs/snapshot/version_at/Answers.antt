@@ -2,7 +2,7 @@ use Rattle.std.proofs.Common.{◌≡◌, ◌∙◌, sym, ap, option_copied}
 use Rattle.std.specs.List.{slice_get}
 use Rattle.std.specs.Option.{option_to_list}
 use Rattle.values.specs.declared.query.Form.TheVariants.{AsOf}
-use Rattle.eventlist.proofs.Ordered.{looked}
+use Rattle.eventlist.proofs.PlaceOrder.{looked}
 use Rattle.systime_query.specs.Selection.{instant_of, shown_of, selected_by}
 use Rattle.systime_query.proofs.Instants.{none_shown, one_shown, shown_result}
 use Rattle.systime_query.proofs.snapshot.version_at.Goals as goal

@@ -1,7 +1,7 @@
 use Rattle.std.proofs.Common.{◌≡◌, ◌&&◌, Result, Ok, Err, IfOk, nat_le, sym, subst}
 use Rattle.std.specs.List.Sorted.{IsStrictlySortedBy}
 use Rattle.values.specs.Events.{event_cmp}
-use Rattle.keyrange.specs.Points.{is_key_in}
+use Rattle.keyrange.specs.Range.{is_key_in}
 use Rattle.staging.proofs.Sorted.{picked_sorted}
 use Rattle.staging.proofs.view.View.events.Goals as goal
 

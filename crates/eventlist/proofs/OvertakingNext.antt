@@ -6,9 +6,9 @@ use Rattle.std.specs.List.Sorted.{IsStrictlySortedBy}
 use Rattle.std.proofs.lemmas.Bool.Decides.{nat_tests}
 use Rattle.values.specs.Event.{Event}
 use Rattle.values.specs.Events.{bytes_cmp, is_bytes, event_cmp}
-use Rattle.eventlist.specs.Listing.{overtakes, stands_at}
-use Rattle.eventlist.specs.Place.{is_overtaken}
-use Rattle.eventlist.proofs.Ordered.{same_bytes, is_own, is_lower, bytes_total, bytes_tie, sorted_head, sorted_tail}
+use Rattle.eventlist.specs.Overtaking.{overtakes, is_overtaken}
+use Rattle.eventlist.specs.Listing.{stands_at}
+use Rattle.eventlist.proofs.PlaceOrder.{same_bytes, is_own, is_lower, bytes_total, bytes_tie, sorted_head, sorted_tail}
 
 first : (a b : Bool) → (a && b) ≡ true → a ≡ true
 first true b e = refl

@@ -1,6 +1,6 @@
 -- Events are in a total order, in which only those of one key and one instant tie.
 use Rattle.std.proofs.Common.{◌≡◌, ℕ, ◌<◌, ◌≤◌, Bool, true, false, T, List, [], ◌∷◌, refl, sym, ap, subst, ◌∙◌, arith, zero, suc, length, get_or, nat_lt, Option, Some, None, IfSome, option_copied}
-use Rattle.std.specs.Cmp.{IsTotalOrder, on_total, then_total, nat_cmp_total}
+use Rattle.std.specs.Cmp.{IsTotalOrder}
 use Rattle.std.specs.Cmp.Lexicographic.{nat_list_cmp_total}
 use Rattle.std.specs.Ordering.{nat_cmp, ordering_then, ordering_reverse, is_lt, is_eq}
 use Rattle.std.specs.declared.cmp.Ordering.{Ordering}
@@ -22,9 +22,6 @@ bytes_total = nat_list_cmp_total
 
 pub bytes_exact : (x y : List ℕ) → bytes_cmp x y ≡ Equal → x ≡ y
 bytes_exact = slice_cmp-IsAntisymmetric nat_cmp-IsAntisymmetric
-
-pub event_total : IsTotalOrder event_cmp
-event_total = then_total (on_total (λ (e : Event). e.key) nat_list_cmp_total) (on_total (λ (e : Event). e.at) nat_cmp_total)
 
 reversed : (o : Ordering) → is_eq (ordering_reverse o) ≡ is_eq o
 reversed Less = refl

@@ -7,8 +7,8 @@ use Rattle.std.specs.List.Sorted.{IsStrictlySortedBy}
 use Rattle.std.proofs.lemmas.List.Elements.{All-nil, All-cons}
 use Rattle.values.specs.Event.{Event}
 use Rattle.eventlist.specs.Place.{AreFirst}
-use Rattle.eventlist.proofs.Ordered.{sorted_head, sorted_tail, sorted_cons, sorted_none, within_tail, within_rest, within_head}
-use Rattle.eventlist.proofs.Ranges.{none_pass}
+use Rattle.eventlist.proofs.PlaceOrder.{sorted_head, sorted_tail, sorted_cons, sorted_none, within_tail, within_rest, within_head}
+use Rattle.eventlist.proofs.ListingRanges.{none_pass}
 
 -- ---- the first that pass a test
 

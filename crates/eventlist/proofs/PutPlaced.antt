@@ -8,8 +8,10 @@ use Rattle.std.specs.List.{AllByRecursion, slice_get, insert}
 use Rattle.std.specs.List.Sorted.{IsStrictlySortedBy, IsPartitionedBy}
 use Rattle.values.specs.Event.{Event}
 use Rattle.values.specs.Events.{event_cmp, put_event}
-use Rattle.eventlist.specs.Place.{AreFirst, is_before, is_same}
-use Rattle.eventlist.proofs.Ordered.{event_total, sorted_head, sorted_tail, sorted_cons, sorted_none, partitioned, within_tail, within_rest, within_head}
+use Rattle.eventlist.specs.Place.{AreFirst, is_before}
+use Rattle.eventlist.specs.Put.{is_same}
+use Rattle.values.specs.EventOrder.{event_total}
+use Rattle.eventlist.proofs.PlaceOrder.{sorted_head, sorted_tail, sorted_cons, sorted_none, partitioned, within_tail, within_rest, within_head}
 
 is_less : (o : Ordering) → is_lt o ≡ true → o ≡ Less
 is_less Less e = refl

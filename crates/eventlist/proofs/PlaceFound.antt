@@ -11,9 +11,9 @@ use Rattle.std.proofs.lemmas.Option.{slice_get-get_or, slice_get_read}
 use Rattle.values.specs.Event.{Event}
 use Rattle.values.specs.Events.{bytes_cmp, is_bytes, event_cmp, later, event_until, event_since}
 use Rattle.eventlist.specs.Place.{AreFirst, is_until, of_key, last_event, since}
-use Rattle.eventlist.proofs.Ranges.{not_above}
-use Rattle.eventlist.proofs.Parts.{first_same}
-use Rattle.eventlist.proofs.Ordered.{bytes_total, bytes_exact, is_bytes_back, same_bytes, bytes_tie, is_lower, sorted_head, sorted_tail, partitioned, within_tail, within_rest, within_head}
+use Rattle.eventlist.proofs.ListingRanges.{not_above}
+use Rattle.eventlist.proofs.PlaceParts.{first_same}
+use Rattle.eventlist.proofs.PlaceOrder.{bytes_total, bytes_exact, is_bytes_back, same_bytes, bytes_tie, is_lower, sorted_head, sorted_tail, partitioned, within_tail, within_rest, within_head}
 
 at_most : (i j : ℕ) → nat_le i j ≡ true → i ≤ j
 at_most i j e = grind (arith, nat_tests)

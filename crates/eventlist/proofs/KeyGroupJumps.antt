@@ -11,14 +11,15 @@ use Rattle.std.proofs.lemmas.List.Elements.{All-nil, All-cons, All-weaker, filte
 use Rattle.std.proofs.lemmas.List.Folds.{list_any-append}
 use Rattle.values.specs.Event.{Event}
 use Rattle.values.specs.Events.{bytes_cmp, event_cmp}
-use Rattle.keyrange.specs.Points.{is_below}
-use Rattle.eventlist.specs.Listing.{overtakes, stands_at, standing}
-use Rattle.eventlist.specs.Place.{AreFirst, is_until, is_overtaken, is_up_to}
-use Rattle.eventlist.specs.KeyGroup.{first_key, AreOfKey, AreAbove}
-use Rattle.eventlist.proofs.Ordered.{bytes_tie, bytes_exact, is_lower, sorted_head, sorted_tail, within_tail, within_rest, within_head}
-use Rattle.eventlist.proofs.Overtaken.{overtakes_is, is_overtakes, never, not_earlier, stands_before, stands_is}
-use Rattle.eventlist.proofs.Ranges.{not_above, not_above_parts, none_pass}
-use Rattle.eventlist.proofs.Parts.{first_same, same_filter, dropped_fail}
+use Rattle.keyrange.specs.Range.{is_below}
+use Rattle.eventlist.specs.Overtaking.{overtakes, is_overtaken}
+use Rattle.eventlist.specs.Listing.{stands_at, standing}
+use Rattle.eventlist.specs.Place.{AreFirst, is_until}
+use Rattle.eventlist.specs.KeyGroup.{is_up_to, first_key, AreOfKey, AreAbove}
+use Rattle.eventlist.proofs.PlaceOrder.{bytes_tie, bytes_exact, is_lower, sorted_head, sorted_tail, within_tail, within_rest, within_head}
+use Rattle.eventlist.proofs.OvertakingNext.{overtakes_is, is_overtakes, never, not_earlier, stands_before, stands_is}
+use Rattle.eventlist.proofs.ListingRanges.{not_above, not_above_parts, none_pass}
+use Rattle.eventlist.proofs.PlaceParts.{first_same, same_filter, dropped_fail}
 
 -- ---- the first key's events
 

@@ -8,10 +8,10 @@ use Rattle.std.specs.List.Sorted.{IsStrictlySortedBy, IsPartitionedBy}
 use Rattle.values.specs.Event.{Event}
 use Rattle.values.specs.Events.{bytes_cmp, event_cmp}
 use Rattle.keyrange.specs.declared.range.KeyRange.{KeyRange}
-use Rattle.keyrange.specs.Points.{is_below, is_before_end, is_key_in}
+use Rattle.keyrange.specs.Range.{is_below, is_before_end, is_key_in}
 use Rattle.eventlist.specs.Listing.{events_in}
 use Rattle.eventlist.specs.Place.{AreFirst}
-use Rattle.eventlist.proofs.Ordered.{bytes_total, bytes_exact, partitioned, within_tail, within_rest, within_head}
+use Rattle.eventlist.proofs.PlaceOrder.{bytes_total, bytes_exact, partitioned, within_tail, within_rest, within_head}
 
 -- ---- a range
 
