@@ -6,13 +6,14 @@ use Rattle.std.specs.Bool.{Decides}
 use Rattle.std.proofs.lemmas.Bool.{ltb-true, leb-true, lt-ltb, le-leb, cases_lt, and_parts, and_from}
 use Rattle.std.proofs.lemmas.Bool.Decides.{Decides-and, Decides-or, Decides-not, Decides-like, Decides-ltb, same_from_decides}
 use Rattle.values.specs.Event.{Event}
-use Rattle.keyrange.specs.Points.{Area, is_early, is_key_in, is_time_in}
-use Rattle.eventlist.specs.Listing.{overtakes}
-use Rattle.eventlist.proofs.Overtaken.{Overtakes, overtakes_is, is_overtakes}
-use Rattle.datanode.specs.Cut.{IsArea, IsInside, lies_in, carried, in_cut, cut}
+use Rattle.keyrange.specs.Rect.{Area, IsArea, IsInside}
+use Rattle.keyrange.specs.Range.{is_early, is_key_in, is_time_in}
+use Rattle.eventlist.specs.Overtaking.{overtakes}
+use Rattle.eventlist.proofs.OvertakingNext.{Overtakes, overtakes_is, is_overtakes}
+use Rattle.datanode.specs.Cut.{lies_in, is_carried, in_cut, cut}
 use Rattle.datanode.specs.Laws.{own}
-use Rattle.datanode.proofs.Members.{In, filter_alike, filter_twice, In-filter, In-from_filter, any_In}
-use Rattle.datanode.proofs.Areas.{first_key_in, first_instant_in}
+use Rattle.datanode.proofs.CutMembers.{In, filter_alike, filter_twice, In-filter, In-from_filter, any_In}
+use Rattle.keyrange.proofs.RectInside.{first_key_in, first_instant_in}
 
 abbrev pub IsOvertaken : List Event → Event → ℕ → Type 0
 IsOvertaken m e t = (d : Event) × In d m × Overtakes e t d
@@ -35,8 +36,8 @@ itself b = (λ h. h, λ h. h)
 pub overtaken_decides : (m : List Event) (e : Event) (t : ℕ) → Decides (list_any (overtakes e t) m) (IsOvertaken m e t)
 overtaken_decides m e t = Decides-like _ (λ x. (x.0, x.1, overtakes_is e t x.0 x.2)) (λ x. (x.0, x.1, is_overtakes e t x.0 x.2)) (any_In (overtakes e t) m)
 
-pub carried_decides : (m : List Event) (t : ℕ) (e : Event) → Decides (carried m t e) (IsCarried m t e)
-unfolding carried
+pub carried_decides : (m : List Event) (t : ℕ) (e : Event) → Decides (is_carried m t e) (IsCarried m t e)
+unfolding is_carried
 carried_decides m t e = Decides-and _ _ (Decides-ltb e.at t) (Decides-and _ _ (itself _) (Decides-not _ (overtaken_decides m e t)))
 
 pub time_decides : (r : Area) (t : ℕ) → Decides (is_time_in r.time t) (IsTimeIn r t)
@@ -125,7 +126,7 @@ module _ (r s : Area) (inside : Inside s r) (m : List Event) where
       (Decides-like _ (λ x. (h e x.0).0 x.1) (λ x. (in_outer e x, (h e (in_outer e x)).1 x)) (Decides-and _ _ (in_cut_decides r m e) (itself (p e))))
       (in_cut_decides s m e))
 
--- what a cut holds that is not carried is the map's part of its rectangle
+-- what a cut holds that is not is_carried is the map's part of its rectangle
 pub own_cut : (r : Area) (m : List Event) → own r (cut r m) ≡ own r m
 own_cut r m = filter_twice (in_cut r m) (lies_in r) m ∙ filter_alike _ (lies_in r) m (λ e i. same_from_decides _ _
     (Decides-like _ (λ h. h.1) (λ h. ((h.0, inl h.1), h)) (Decides-and _ _ (in_cut_decides r m e) (Decides-and _ _ (itself _) (time_decides r e.at))))

@@ -1,24 +1,24 @@
--- The next event shows whether an event is carried.
+-- The next event shows whether an event is is_carried.
 use Rattle.std.proofs.Common.{◌≡◌, ℕ, ◌+◌, ◌<◌, Bool, true, false, ◌&&◌, ◌||◌, List, Option, Some, refl, sym, ap, ◌∙◌, arith, length, get_or, nat_le, nat_lt, not, is_some, slice_index_or}
 use Rattle.std.specs.List.{slice_get, list_any}
 use Rattle.std.proofs.lemmas.Bool.Decides.{nat_tests}
 use Rattle.std.proofs.lemmas.Option.{slice_get_read}
 use Rattle.std.proofs.lemmas.List.{get_or_read}
 use Rattle.values.specs.Event.{Event}
-use Rattle.eventlist.specs.Listing.{overtakes, stands_at}
-use Rattle.eventlist.specs.Place.{is_overtaken}
-use Rattle.eventlist.proofs.Overtaken.{stands_is}
+use Rattle.eventlist.specs.Overtaking.{overtakes, is_overtaken}
+use Rattle.eventlist.specs.Listing.{stands_at}
+use Rattle.eventlist.proofs.OvertakingNext.{stands_is}
 use Rattle.keyrange.specs.declared.range.KeyRange.{KeyRange}
 use Rattle.keyrange.specs.declared.range.TimeRange.{TimeRange}
-use Rattle.keyrange.specs.Points.{Area, is_key_in, is_time_in}
-use Rattle.datanode.specs.Cut.{IsMap, carried, in_cut}
-use Rattle.datanode.specs.Place.{stays_to}
+use Rattle.keyrange.specs.Rect.{Area}
+use Rattle.keyrange.specs.Range.{is_key_in, is_time_in}
+use Rattle.datanode.specs.Cut.{IsMap, is_carried, in_cut, stays_to}
 
 early : (t u : ℕ) → nat_lt t u ≡ true → nat_le t u ≡ true
 early t u h = grind (arith, nat_tests)
 
-carried_next : (es : List Event) (i : ℕ) (e : Event) (t : ℕ) → IsMap es → slice_get es i ≡ Some e → carried es t e ≡ stays_to e t (slice_get es (i + 1))
-unfolding carried stands_at
+carried_next : (es : List Event) (i : ℕ) (e : Event) (t : ℕ) → IsMap es → slice_get es i ≡ Some e → is_carried es t e ≡ stays_to e t (slice_get es (i + 1))
+unfolding is_carried stands_at
 carried_next es i e t map at = by (nat_lt e.at t) refl (stands_is es i e t map at)
   where
     by : (b : Bool) → nat_lt e.at t ≡ b → (nat_le e.at t && (is_some e.row && not (list_any (overtakes e t) es))) ≡ (nat_le e.at t && (is_some e.row && not (is_overtaken e t (slice_get es (i + 1)))))
@@ -28,10 +28,10 @@ carried_next es i e t map at = by (nat_lt e.at t) refl (stands_is es i e t map a
 
 -- over the code's terms: e is the event at a place, and next the one after it
 pub is_carried_by : (es : List Event) (i : ℕ) (e : Event) (t : ℕ) (next : Option Event) (b : Bool) → IsMap es → i < length es → e ≡ get_or es i e → next ≡ slice_get es (i + 1) → b ≡ stays_to e t next
-    → (d : Event) → b ≡ carried es t (slice_index_or es i d)
+    → (d : Event) → b ≡ is_carried es t (slice_index_or es i d)
 is_carried_by es i e t next b map lt at is_next is d =
     is ∙ ap (stays_to e t) is_next ∙ sym (carried_next es i e t map (slice_get_read es (length es) i e refl lt at))
-    ∙ ap (carried es t) (get_or_read es i e lt at d)
+    ∙ ap (is_carried es t) (get_or_read es i e lt at d)
 
 -- ---- whether an event is in the cut, over the code's terms
 
@@ -44,12 +44,12 @@ module _ (r : Area) (es : List Event) (e x : Event) (keys : KeyRange) (time : Ti
 
   pub of_other_key : (b : Bool) → b ≡ is_key_in keys x.key → b ≡ false → b ≡ in_cut r es e
   unfolding in_cut
-  of_other_key b is no_key = no_key ∙ sym (ap (λ k. k && (is_time_in r.time e.at || carried es r.time.from e)) (sym key_is ∙ sym is ∙ no_key))
+  of_other_key b is no_key = no_key ∙ sym (ap (λ k. k && (is_time_in r.time e.at || is_carried es r.time.from e)) (sym key_is ∙ sym is ∙ no_key))
 
   pub of_time : is_key_in keys x.key ≡ true → (b : Bool) → b ≡ is_time_in time x.at → b ≡ true → b ≡ in_cut r es e
   unfolding in_cut
-  of_time key b is in_time = in_time ∙ sym ((λ i. (sym key_is ∙ key) i && ((sym time_is ∙ sym is ∙ in_time) i || carried es r.time.from e)))
+  of_time key b is in_time = in_time ∙ sym ((λ i. (sym key_is ∙ key) i && ((sym time_is ∙ sym is ∙ in_time) i || is_carried es r.time.from e)))
 
-  pub of_carried : is_key_in keys x.key ≡ true → is_time_in time x.at ≡ false → (b : Bool) → b ≡ carried es time.from e → b ≡ in_cut r es e
+  pub of_carried : is_key_in keys x.key ≡ true → is_time_in time x.at ≡ false → (b : Bool) → b ≡ is_carried es time.from e → b ≡ in_cut r es e
   unfolding in_cut
-  of_carried key late b is = is ∙ ap (λ (t : TimeRange). carried es t.from e) is_time ∙ sym ((λ i. (sym key_is ∙ key) i && ((sym time_is ∙ late) i || carried es r.time.from e)))
+  of_carried key late b is = is ∙ ap (λ (t : TimeRange). is_carried es t.from e) is_time ∙ sym ((λ i. (sym key_is ∙ key) i && ((sym time_is ∙ late) i || is_carried es r.time.from e)))

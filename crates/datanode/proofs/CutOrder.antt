@@ -5,11 +5,11 @@ use Rattle.std.specs.declared.cmp.Ordering.TheVariants.{Less}
 use Rattle.std.proofs.lemmas.Bool.{false≢true}
 use Rattle.values.specs.Event.{Event}
 use Rattle.values.specs.Events.{event_cmp}
-use Rattle.keyrange.specs.Points.{is_below}
-use Rattle.eventlist.proofs.Ordered.{sorted_head, sorted_tail, is_lower}
-use Rattle.eventlist.proofs.Ranges.{below_parts}
+use Rattle.keyrange.specs.Range.{is_below}
+use Rattle.eventlist.proofs.PlaceOrder.{sorted_head, sorted_tail, is_lower}
+use Rattle.eventlist.proofs.ListingRanges.{below_parts}
 use Rattle.datanode.specs.Cut.{IsMap}
-use Rattle.datanode.proofs.Members.{In, none_kept, all_kept}
+use Rattle.datanode.proofs.CutMembers.{In, none_kept, all_kept}
 
 pub In_place : {X : Type 0} (x d : X) (xs : List X) → In x xs → (j : ℕ) × (j < length xs) × (get_or xs j d ≡ x)
 In_place x d [] i = absurd i

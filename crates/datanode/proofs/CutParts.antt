@@ -1,14 +1,14 @@
 -- The cut of a node is a node, and that of its maps.
-use Rattle.keyrange.specs.Cuts.{PartsKeys, PartsTime}
+use Rattle.keyrange.specs.Cut.{PartsKeys, PartsTime}
 use Rattle.std.proofs.Common.{ℕ, true, ◌≡◌, Option, Some, IfSome, List, sym, ap, subst, ◌∙◌}
 use Rattle.std.proofs.lemmas.List.Kept.{IsStrictlySortedBy-filter}
 use Rattle.values.specs.Event.{Event}
 use Rattle.values.specs.Events.{event_cmp}
 use Rattle.std.proofs.lemmas.Bool.{and_parts}
-use Rattle.keyrange.specs.Points.{Area, has_point}
-use Rattle.datanode.specs.Cut.{IsMap, IsArea, IsInside, in_cut, cut}
+use Rattle.keyrange.specs.Rect.{Area, has_point, IsArea, IsInside}
+use Rattle.datanode.specs.Cut.{IsMap, in_cut, cut}
 use Rattle.datanode.specs.Node.{Node, IsCutOf}
-use Rattle.datanode.proofs.Halves.{cut_of_cut}
+use Rattle.datanode.proofs.LawsHalves.{cut_of_cut}
 
 pub cut_is_map : (r : Area) (es : List Event) → IsMap es → IsMap (cut r es)
 cut_is_map r es map = IsStrictlySortedBy-filter event_cmp (in_cut r es) es map

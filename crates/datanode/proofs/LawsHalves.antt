@@ -8,15 +8,16 @@ use Rattle.std.proofs.lemmas.Bool.Decides.{Decides-or}
 use Rattle.std.proofs.lemmas.List.Kept.{IsStrictlySortedBy-filter}
 use Rattle.values.specs.Event.{Event}
 use Rattle.values.specs.Events.{event_cmp}
-use Rattle.keyrange.specs.Points.{Area, is_below, is_early, is_key_in}
-use Rattle.keyrange.specs.Cuts.{is_key_inside, is_time_inside, PartsKeys}
-use Rattle.keyrange.proofs.Halves.{parts_keys, parts_time}
-use Rattle.datanode.specs.Cut.{IsArea, lies_in, carried, in_cut, cut}
+use Rattle.keyrange.specs.Rect.{Area, IsArea}
+use Rattle.keyrange.specs.Range.{is_below, is_early, is_key_in}
+use Rattle.keyrange.specs.Cut.{is_key_inside, is_time_inside, PartsKeys}
+use Rattle.keyrange.proofs.CutHalves.{parts_keys, parts_time}
+use Rattle.datanode.specs.Cut.{lies_in, is_carried, in_cut, cut}
 use Rattle.datanode.specs.Laws.{HoldOnce, KeyHalves, TimeHalves, CutOfCut, OwnOfCut, HalvesByKey, HalvesByTime}
-use Rattle.datanode.proofs.Members.{filter_alike, filter_twice, some_is}
-use Rattle.datanode.proofs.Areas.{facts_of, first_instant_in}
+use Rattle.datanode.proofs.CutMembers.{filter_alike, filter_twice, some_is}
+use Rattle.keyrange.proofs.RectInside.{facts_of, first_instant_in}
 use Rattle.datanode.proofs.CutLaws.{IsInCut, IsCarried, Inside, inside_of, Decides-leb, carried_decides, ends_earlier, cut-cut, filter_is_cut, own_cut}
-use Rattle.datanode.proofs.Order.{parted}
+use Rattle.datanode.proofs.CutOrder.{parted}
 
 pub cut_of_cut : CutOfCut
 cut_of_cut r s m area h = cut-cut r s (inside_of s r area h) m
@@ -144,7 +145,7 @@ module _ (r : Area) (t : ℕ) (area : IsArea r) (inside : is_time_inside r t ≡
     now_to e h (inl late) = (h.0, elim h.1 [ inl w ↦ inl (late, w.1) | inr c ↦ absurd (let a : e.at < r.time.from = c.0 in let b : r.time.from < t = starts in omega arith) ])
     now_to e h (inr c) = (h.0, inr c)
 
-    now_decides : (e : Event) → IsInCut r m e → Decides (nat_le t e.at || carried m t e) (IsInCut (now_of r t) m e)
+    now_decides : (e : Event) → IsInCut r m e → Decides (nat_le t e.at || is_carried m t e) (IsInCut (now_of r t) m e)
     now_decides e h =
         let d = Decides-or _ _ (Decides-leb t e.at) (carried_decides m t e) in
         (λ is. now_to e h (d.0 is), λ g. d.1 (elim g.1 [ inl w ↦ inl w.0 | inr c ↦ inr c ]))
@@ -153,7 +154,7 @@ module _ (r : Area) (t : ℕ) (area : IsArea r) (inside : is_time_inside r t ≡
     time_halves = record {
       once = held_once r (past_of r t) (now_of r t) m (λ e. nat_lt e.at t) (λ e. (parts_time r t inside).before e.key e.at) (λ e. (parts_time r t inside).after e.key e.at);
       is_past = sym (filter_is_cut r (past_of r t) past_inside m (λ e. nat_lt e.at t) past_decides);
-      is_now = sym (filter_is_cut r (now_of r t) now_inside m (λ e. nat_le t e.at || carried m t e) now_decides);
+      is_now = sym (filter_is_cut r (now_of r t) now_inside m (λ e. nat_le t e.at || is_carried m t e) now_decides);
     }
 
 pub halves_at_instant : HalvesByTime

@@ -11,14 +11,16 @@ use Rattle.std.proofs.lemmas.List.Kept.{IsStrictlySortedBy-filter}
 use Rattle.values.specs.Event.{Event}
 use Rattle.values.specs.Log.{Row}
 use Rattle.values.specs.Events.{bytes_cmp, is_bytes, event_cmp, later, event_until}
-use Rattle.keyrange.specs.Points.{Area, is_early, is_key_in}
-use Rattle.eventlist.proofs.Ordered.{event_total, sorted_tail, same_bytes, is_own, bytes_tie}
-use Rattle.datanode.specs.Cut.{IsMap, IsArea, in_cut, cut}
+use Rattle.keyrange.specs.Rect.{Area, IsArea}
+use Rattle.keyrange.specs.Range.{is_early, is_key_in}
+use Rattle.values.specs.EventOrder.{event_total}
+use Rattle.eventlist.proofs.PlaceOrder.{sorted_tail, same_bytes, is_own, bytes_tie}
+use Rattle.datanode.specs.Cut.{IsMap, in_cut, cut}
 use Rattle.datanode.specs.Node.{last_before, kept_from}
 use Rattle.datanode.specs.Laws.{ShownByCut}
-use Rattle.datanode.proofs.Members.{In, In-filter, In-from_filter}
-use Rattle.datanode.proofs.Order.{head_below, one_event}
-use Rattle.datanode.proofs.Areas.{facts_of}
+use Rattle.datanode.proofs.CutMembers.{In, In-filter, In-from_filter}
+use Rattle.datanode.proofs.CutOrder.{head_below, one_event}
+use Rattle.keyrange.proofs.RectInside.{facts_of}
 use Rattle.datanode.proofs.CutLaws.{IsInCut, in_cut_decides, ends_earlier}
 
 -- the last that passes a test

@@ -6,10 +6,11 @@ use Rattle.std.specs.declared.cmp.Ordering.{Ordering}
 use Rattle.std.specs.declared.cmp.Ordering.TheVariants.{Less, Equal, Greater}
 use Rattle.values.specs.Event.{Event}
 use Rattle.values.specs.Events.{event_cmp, put_event}
-use Rattle.eventlist.proofs.Ordered.{event_total, sorted_tail}
+use Rattle.values.specs.EventOrder.{event_total}
+use Rattle.eventlist.proofs.PlaceOrder.{sorted_tail}
 use Rattle.datanode.specs.Cut.{IsMap}
-use Rattle.datanode.proofs.Members.{In, filter_alike, filter_twice, In-from_filter, all_kept}
-use Rattle.datanode.proofs.Order.{In_place, head_below}
+use Rattle.datanode.proofs.CutMembers.{In, filter_alike, filter_twice, In-from_filter, all_kept}
+use Rattle.datanode.proofs.CutOrder.{In_place, head_below}
 
 pub greater : (d e : Event) → event_cmp d e ≡ Less → event_cmp e d ≡ Greater
 greater d e h = event_total.antisymm e d ∙ ap ordering_reverse h

@@ -11,26 +11,27 @@ use Rattle.std.proofs.lemmas.Bool.Decides.{Decides-and, Decides-like, same_from_
 use Rattle.std.proofs.lemmas.Map.Keys.{Less-from_sorted}
 use Rattle.values.specs.Event.{Event}
 use Rattle.values.specs.Events.{bytes_cmp, is_bytes, event_cmp, put_event}
-use Rattle.keyrange.specs.Points.{Area, has_point, is_early, is_key_in}
-use Rattle.eventlist.specs.Listing.{overtakes}
+use Rattle.keyrange.specs.Rect.{Area, has_point}
+use Rattle.keyrange.specs.Range.{is_early, is_key_in}
+use Rattle.eventlist.specs.Overtaking.{overtakes}
 use Rattle.eventlist.specs.Place.{AreFirst, is_before}
-use Rattle.eventlist.proofs.Ordered.{bytes_total, bytes_exact, bytes_tie, same_bytes, is_own, is_lower}
-use Rattle.eventlist.proofs.Overtaken.{Overtakes, overtakes_is, is_overtakes}
-use Rattle.eventlist.proofs.Placed.{sorted_put}
+use Rattle.eventlist.proofs.PlaceOrder.{bytes_total, bytes_exact, bytes_tie, same_bytes, is_own, is_lower}
+use Rattle.eventlist.proofs.OvertakingNext.{Overtakes, overtakes_is, is_overtakes}
+use Rattle.eventlist.proofs.PutPlaced.{sorted_put}
 use Rattle.datanode.specs.Cut.{IsMap, in_cut, cut}
 use Rattle.datanode.specs.Node.{Node, IsNode, IsCutOf, IsLast}
-use Rattle.datanode.proofs.Members.{In, In-filter, In-from_filter, all_kept}
-use Rattle.datanode.proofs.Order.{In_place, at_In}
+use Rattle.datanode.proofs.CutMembers.{In, In-filter, In-from_filter, all_kept}
+use Rattle.datanode.proofs.CutOrder.{In_place, at_In}
 use Rattle.datanode.proofs.CutLaws.{IsInCut, in_cut_decides}
-use Rattle.datanode.proofs.Parts.{cut_is_map, cut_of_itself}
-use Rattle.datanode.proofs.Inserts.{insert_is, replace_is, filter-put, NoTie, In-from_put, In-put_new, In-put_old, flipped}
+use Rattle.datanode.proofs.CutParts.{cut_is_map, cut_of_itself}
+use Rattle.datanode.proofs.NodeInsert.{insert_is, replace_is, filter-put, NoTie, In-from_put, In-put_new, In-put_old, flipped}
 
 equal_by : (d e : Event) (o : Ordering) → bytes_cmp d.key e.key ≡ o → ordering_then o (nat_cmp d.at e.at) ≡ Equal → (d.key ≡ e.key) × (d.at ≡ e.at)
 equal_by d e Less p h = cc
 equal_by d e Equal p h = (bytes_exact d.key e.key p, ranked d.at e.at Equal (sym h))
 equal_by d e Greater p h = cc
 
-event_equal : (d e : Event) → event_cmp d e ≡ Equal → (d.key ≡ e.key) × (d.at ≡ e.at)
+pub event_equal : (d e : Event) → event_cmp d e ≡ Equal → (d.key ≡ e.key) × (d.at ≡ e.at)
 event_equal d e h = equal_by d e (bytes_cmp d.key e.key) refl h
 
 less_same : (d e : Event) → event_cmp d e ≡ Less → d.key ≡ e.key → d.at < e.at

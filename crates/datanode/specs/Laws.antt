@@ -1,11 +1,12 @@
 -- What cuts amount to.
-use Rattle.std.specs.Prelude.{◌≡◌, ℕ, List, ◌++◌, Some, ◌||◌, not, nat_le, nat_lt, filter, IsTrue}
+use Rattle.std.specs.Prelude.{◌≡◌, ◌⊎◌, ℕ, List, ◌++◌, Bool, false, Some, ◌||◌, not, nat_le, nat_lt, filter, IsTrue}
 use Rattle.values.specs.Event.{Event}
-use Rattle.values.specs.Events.{row_until}
-use Rattle.keyrange.specs.Points.{Area, has_point, is_below, is_key_in}
-use Rattle.keyrange.specs.Cuts.{halves_by_key, halves_by_time}
+use Rattle.values.specs.Events.{put_event, row_until}
+use Rattle.keyrange.specs.Rect.{Area, has_point, IsArea, IsInside}
+use Rattle.keyrange.specs.Range.{is_below, is_early, is_key_in}
+use Rattle.keyrange.specs.Cut.{halves_by_key, halves_by_time}
 use Rattle.datanode.specs.Node.{last_before, kept_from}
-use Rattle.datanode.specs.Cut.{IsMap, IsArea, IsInside, lies_in, carried, cut}
+use Rattle.datanode.specs.Cut.{IsMap, lies_in, is_carried, cut}
 
 -- the cut of a cut is the cut of the inner rectangle
 abbrev pub CutOfCut : Type 0
@@ -35,18 +36,35 @@ pub record KeyHalves (r below above : Area) (key : List ℕ) (m : List Event) : 
 pub record TimeHalves (r past now : Area) (instant : ℕ) (m : List Event) : Type 0 where
   pub once : HoldOnce r past now m
   pub is_past : cut past m ≡ filter (λ e. nat_lt e.at instant) (cut r m)
-  pub is_now : cut now m ≡ filter (λ e. nat_le instant e.at || carried m instant e) (cut r m)
+  pub is_now : cut now m ≡ filter (λ e. nat_le instant e.at || is_carried m instant e) (cut r m)
 
 abbrev pub HalvesByKey : Type 0
-HalvesByKey = (r below above : Area) (key : List ℕ) (m : List Event) → IsArea r → halves_by_key r key ≡ Some (below, above) → KeyHalves r below above key m
+HalvesByKey =
+    (r below above : Area) (key : List ℕ) (m : List Event)
+    → IsArea r → halves_by_key r key ≡ Some (below, above) → KeyHalves r below above key m
 
 abbrev pub HalvesByTime : Type 0
-HalvesByTime = (r past now : Area) (instant : ℕ) (m : List Event) → IsArea r → halves_by_time r instant ≡ Some (past, now) → TimeHalves r past now instant m
+HalvesByTime =
+    (r past now : Area) (instant : ℕ) (m : List Event)
+    → IsArea r → halves_by_time r instant ≡ Some (past, now) → TimeHalves r past now instant m
 
 -- a point of the rectangle shows in the cut what it shows in the map
 abbrev pub ShownByCut : Type 0
-ShownByCut = (r : Area) (m : List Event) (key : List ℕ) (instant : ℕ) → IsMap m → IsTrue (has_point r key instant) → row_until (cut r m) key instant ≡ row_until m key instant
+ShownByCut =
+    (r : Area) (m : List Event) (key : List ℕ) (instant : ℕ)
+    → IsMap m → IsTrue (has_point r key instant) → row_until (cut r m) key instant ≡ row_until m key instant
 
 -- a key's last event before the rectangle's end is in the cut the map's, unless that is a deletion from before its start
 abbrev pub LastOfCut : Type 0
-LastOfCut = (r : Area) (m : List Event) (key : List ℕ) → IsMap m → IsArea r → IsTrue (is_key_in r.keys key) → last_before r.time.to (cut r m) key ≡ kept_from r.time.from (last_before r.time.to m key)
+LastOfCut =
+    (r : Area) (m : List Event) (key : List ℕ)
+    → IsMap m → IsArea r → IsTrue (is_key_in r.keys key)
+    → last_before r.time.to (cut r m) key ≡ kept_from r.time.from (last_before r.time.to m key)
+
+-- the event's key is none of the rectangle's, or its instant is past the end
+abbrev pub IsElsewhere : Area → Event → Type 0
+IsElsewhere r e = (is_key_in r.keys e.key ≡ false) ⊎ (is_early e.at r.time.to ≡ false)
+
+-- an event elsewhere changes no cut
+abbrev pub CutStays : Type 0
+CutStays = (r : Area) (m : List Event) (e : Event) → IsArea r → IsElsewhere r e → cut r (put_event e m) ≡ cut r m

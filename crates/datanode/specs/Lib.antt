@@ -1,4 +1,3 @@
 pub mod Cut
 pub mod Node
 pub mod Laws
-pub mod Place

@@ -2,8 +2,10 @@
 use Rattle.std.specs.Prelude.{◌≡◌, ℕ, ◌<◌, List, [], ◌∷◌, Option, Some, None, ◌&&◌, ◌||◌, nat_le, is_some, is_none, Bool, true, nat_lt, All, IsTrue, if◌then◌else◌}
 use Rattle.values.specs.Event.{Event}
 use Rattle.values.specs.Events.{is_bytes, later}
-use Rattle.keyrange.specs.Points.{Area, has_point, is_early}
-use Rattle.datanode.specs.Cut.{IsMap, IsArea, cut}
+use Rattle.keyrange.specs.Rect.{Area, has_point, IsArea}
+use Rattle.keyrange.specs.Range.{is_early}
+use Rattle.eventlist.specs.Place.{last_event}
+use Rattle.datanode.specs.Cut.{IsMap, cut}
 
 -- a rectangle, and the events that it holds
 pub record Node : Type 0 where
@@ -25,7 +27,8 @@ pub record IsCutOf (n : Node) (m : List Event) : Type 0 where
 abbrev pub IsLast : Event → List Event → Type 0
 IsLast e = All (λ d. d.key ≡ e.key → d.at < e.at)
 
--- what a node takes: it has no end, its rectangle holds the event's point, and the event is later than each of its key
+-- which events a node accepts: it has no end, its rectangle holds the event's point, and the event is later than each of
+-- its key
 pub record Accepts (n : Node) (e : Event) : Type 0 where
   pub current : n.rect.time.to ≡ None
   pub inside : IsTrue (has_point n.rect e.key e.at)
@@ -34,7 +37,8 @@ pub record Accepts (n : Node) (e : Event) : Type 0 where
 -- the key's last event before an end, which may be none
 abbrev pub last_before : Option ℕ → List Event → List ℕ → Option Event
 last_before end [] key = None
-last_before end (e ∷ es) key = later (last_before end es key) (if is_bytes key e.key && is_early e.at end then Some e else None)
+last_before end (e ∷ es) key =
+    later (last_before end es key) (if is_bytes key e.key && is_early e.at end then Some e else None)
 
 -- an event, unless it is a deletion before the instant
 abbrev pub kept_from : ℕ → Option Event → Option Event
@@ -46,6 +50,6 @@ abbrev pub is_after : Event → Option Event → Bool
 is_after e None = true
 is_after e (Some d) = nat_lt d.at e.at
 
--- the test of what a node takes
+-- the test of it
 abbrev pub accepts : Node → Event → Bool
-accepts n e = is_none n.rect.time.to && (has_point n.rect e.key e.at && is_after e (last_before None n.events e.key))
+accepts n e = is_none n.rect.time.to && (has_point n.rect e.key e.at && is_after e (last_event n.events e.key))

@@ -1,19 +1,18 @@
 //! Which events a rectangle holds.
 ghost use Rattle.std.specs.Prelude.{◌≡◌, ◌<◌, IfOk, HoldsAt, length, option_copied};
 ghost use Rattle.values.specs.Memory.{OnlyMemory};
-ghost use Rattle.datanode.specs.Cut.{IsMap, carried, in_cut, cut};
-ghost use Rattle.datanode.specs.Place.{stays_to};
+ghost use Rattle.datanode.specs.Cut.{IsMap, is_carried, in_cut, cut, stays_to};
 
 use eventlist::is_overtaken;
 use keyrange::Rect;
-use values::{Event, Instant, Mem, SharedEvent};
 use std::alloc::Global;
+use values::{Event, Instant, Mem, SharedEvent};
 
 /// Whether the event at a place is carried to an instant, as the event after it shows.
 pub fn is_carried(events: &[SharedEvent], place: usize, instant: Instant) -> bool
     requires map { IsMap events.now }
     requires inside { place < length events.now }
-    ensures { HoldsAt (λ e. result ≡ carried events.now instant e) events.now place }
+    ensures { HoldsAt (λ e. result ≡ is_carried events.now instant e) events.now place }
 {
     stays_to(events[place].event(), instant, events.get(place + 1))
 }
@@ -42,11 +41,11 @@ pub(crate) fn cut(alloc: Global, events: &[SharedEvent], rect: &Rect) -> Mem<Vec
     ensures ok { IfOk result (λ v. v.items ≡ cut rect.now events.now) }
     ensures err { OnlyMemory result }
 {
-    let mut held = Vec::new(alloc);
+    let mut found = Vec::new(alloc);
     for place in 0..events.len() {
         if is_in_cut(events, place, rect) {
-            held.push(events[place].share()?)?;
+            found.push(events[place].share()?)?;
         }
     }
-    Ok(held)
+    Ok(found)
 }

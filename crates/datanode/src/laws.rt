@@ -1,4 +1,4 @@
-ghost use Rattle.datanode.specs.Laws.{CutOfCut, OwnOfCut, HalvesByKey, HalvesByTime, ShownByCut, LastOfCut};
+ghost use Rattle.datanode.specs.Laws.{CutOfCut, CutStays, OwnOfCut, HalvesByKey, HalvesByTime, ShownByCut, LastOfCut};
 
 /// A rectangle inside another holds of the map what it holds of the other's events.
 pub fn cuts_are_nested()
@@ -12,8 +12,14 @@ pub fn halves_hold_each_event_once()
     ensures by_time { HalvesByTime }
 {}
 
-/// What a point shows is the same in the events that a rectangle holds and in the map, and so is a key's last event that is no deletion from before the rectangle's start.
+/// What a point shows is the same in the events that a rectangle holds and in the map, and so is a key's last event that
+/// is no deletion from before the rectangle's start.
 pub fn cuts_show_the_map()
     ensures shown { ShownByCut }
     ensures last { LastOfCut }
+{}
+
+/// An event that is put elsewhere leaves what a rectangle holds.
+pub fn cuts_stay()
+    ensures { CutStays }
 {}

@@ -8,6 +8,6 @@ mod node;
 mod tests;
 
 pub use cut::is_carried;
-pub use laws::{cuts_are_nested, cuts_show_the_map, halves_hold_each_event_once};
+pub use laws::{cuts_are_nested, cuts_show_the_map, cuts_stay, halves_hold_each_event_once};
 pub use node::DataNode;
 pub use values::Event;

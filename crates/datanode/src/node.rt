@@ -3,19 +3,23 @@ ghost use Rattle.std.specs.Prelude.{◌≡◌, ◌↔◌, ◌<◌, ◌≤◌, �
 ghost use Rattle.values.specs.Event.{Event as Change};
 ghost use Rattle.values.specs.Memory.{OnlyMemory};
 ghost use Rattle.values.specs.Events.{row_until, put_event};
-ghost use Rattle.keyrange.specs.Points.{has_point, is_key_in};
-ghost use Rattle.eventlist.specs.Listing.{events_in, overtakes};
-ghost use Rattle.datanode.specs.Cut.{IsMap, IsInside, cut};
+ghost use Rattle.keyrange.specs.Rect.{IsArea, IsInside, has_point};
+ghost use Rattle.keyrange.specs.Range.{is_key_in};
+ghost use Rattle.eventlist.specs.Place.{last_event};
+ghost use Rattle.eventlist.specs.Listing.{events_in};
+ghost use Rattle.eventlist.specs.Overtaking.{overtakes};
+ghost use Rattle.datanode.specs.Cut.{IsMap, cut};
 ghost use Rattle.datanode.specs.Node.{IsNode, IsCutOf, IsLast, Accepts, last_before, kept_from, is_after, accepts};
 
 use crate::cut::cut;
-use eventlist::{event_until, events_in, is_overtaken, place_behind_key, place_of};
+use eventlist::{event_until, events_in, is_overtaken, last_event, place_of};
 use keyrange::{KeyRange, Rect};
-use values::{Event, Instant, KeyBytes, Mem, Row, SharedEvent};
 use std::alloc::{AllocError, Global};
 use std::marker::Model;
+use values::{Event, Instant, KeyBytes, Mem, Row, SharedEvent};
 
-/// The events that a rectangle holds of all changes. They are shared: of a node that is copied or split no event is copied.
+/// The events that a rectangle holds of all changes. They are shared: of a node that is copied or split no event is
+/// copied.
 #[derive(Drop)]
 pub struct DataNode {
     alloc: Global,
@@ -43,7 +47,8 @@ impl DataNode {
     }
 
     pub fn rect(&self) -> &Rect
-        ensures { result.now ≡ self.now.rect }
+        ensures rect { result.now ≡ self.now.rect }
+        ensures area { IsArea result.now }
     {
         &self.rect
     }
@@ -65,7 +70,8 @@ impl DataNode {
     /// A key's row at an instant.
     pub fn at(&self, key: &KeyBytes, instant: Instant) -> Option<&Row>
         ensures row { option_copied result ≡ row_until self.now.events key.now instant }
-        ensures of_map { (m : List Change) → IsCutOf self.now m → IsTrue (has_point self.now.rect key.now instant) → option_copied result ≡ row_until m key.now instant }
+        ensures of_map { (m : List Change) → IsCutOf self.now m → IsTrue (has_point self.now.rect key.now instant)
+            → option_copied result ≡ row_until m key.now instant }
     {
         match event_until(&self.events, key, instant) {
             None => None,
@@ -75,32 +81,39 @@ impl DataNode {
 
     /// A key's last event.
     pub fn latest(&self, key: &KeyBytes) -> Option<&Event>
-        ensures last { option_copied result ≡ last_before None self.now.events key.now }
-        ensures of_map { (m : List Change) → IsCutOf self.now m → IsTrue (is_key_in self.now.rect.keys key.now) → option_copied result ≡ kept_from self.now.rect.time.from (last_before self.now.rect.time.to m key.now) }
+        ensures last { option_copied result ≡ last_event self.now.events key.now }
+        ensures of_map { (m : List Change) → IsCutOf self.now m → IsTrue (is_key_in self.now.rect.keys key.now)
+            → option_copied result
+            ≡ kept_from self.now.rect.time.from (last_before self.now.rect.time.to m key.now) }
     {
-        last_of(&self.events, key)
+        last_event(&self.events, key)
     }
 
-    /// Whether the node takes an event: it has no end, its rectangle holds the event's point, and the event is later than each of its key.
+    /// Whether an event can be put: the node has no end, its rectangle holds the event's point, and the event is later than
+    /// each of its key.
     pub fn accepts(&self, event: &Event) -> bool
         ensures { IsTrue result ↔ Accepts self.now event.now }
     {
-        self.is_taken(event)
+        self.is_accepted(event)
     }
 
-    fn is_taken(&self, event: &Event) -> bool
+    fn is_accepted(&self, event: &Event) -> bool
         ensures map { IsMap self.now.events }
-        ensures taken { result ≡ accepts self.now event.now }
+        ensures accepted { result ≡ accepts self.now event.now }
     {
         self.rect.time().to.is_none()
             && self.rect.contains(event.key(), event.at())
             && is_after(event, self.latest(event.key()))
     }
 
-    /// Takes an event. At the first instant it takes the place of the carried event of its key. Where memory runs out nothing has changed.
+    /// Puts an event that the node accepts. At the first instant it takes the place of the carried event of its key. Where
+    /// memory runs out nothing has changed.
     pub fn put(&mut self, event: Event) -> Mem<()>
         requires { Accepts self.old event }
-        ensures ok { OnOk result (self.new ≡ record { rect = self.old.rect; events = cut self.old.rect (put_event event self.old.events) }) }
+        ensures ok { OnOk result (self.new ≡ record {
+          rect = self.old.rect;
+          events = cut self.old.rect (put_event event self.old.events);
+        }) }
         ensures of_map { OnOk result ((m : List Change) → IsCutOf self.old m → IsCutOf self.new (put_event event m)) }
         ensures err { OnErr result (self.new ≡ self.old) }
         ensures memory { OnlyMemory result }
@@ -162,23 +175,6 @@ fn node_of(alloc: Global, rect: Rect, events: Vec<SharedEvent>) -> DataNode
     }
 }
 
-/// A key's last event.
-fn last_of<'a>(events: &'a [SharedEvent], key: &KeyBytes) -> Option<&'a Event>
-    requires { IsMap events.now }
-    ensures { option_copied result ≡ last_before None events.now key.now }
-{
-    let place = place_behind_key(events, key);
-    if place == 0 {
-        return None;
-    }
-    let event = events[place - 1].event();
-    if event.key().cmp(key).is_eq() {
-        Some(event)
-    } else {
-        None
-    }
-}
-
 /// Puts an event in its place, or in that of the carried event of its key.
 fn put(events: &mut Vec<SharedEvent>, rect: &Rect, event: SharedEvent) -> Result<(), AllocError>
     requires node { IsNode rect.now events.old.items }
@@ -200,8 +196,10 @@ fn put(events: &mut Vec<SharedEvent>, rect: &Rect, event: SharedEvent) -> Result
 fn is_replaced(events: &[SharedEvent], place: usize, instant: Instant, event: &SharedEvent) -> bool
     requires { place ≤ length events.now }
     ensures positive { result ≡ true → 0 < place }
-    ensures replaced { result ≡ true → HoldsAt (λ d. overtakes d instant event.now ≡ true) events.now (place - 1) }
-    ensures kept { result ≡ false → 0 < place → HoldsAt (λ d. overtakes d instant event.now ≡ false) events.now (place - 1) }
+    ensures replaced { result ≡ true
+        → HoldsAt (λ d. overtakes d instant event.now ≡ true) events.now (place - 1) }
+    ensures kept { result ≡ false → 0 < place
+        → HoldsAt (λ d. overtakes d instant event.now ≡ false) events.now (place - 1) }
 {
     place > 0 && is_overtaken(events[place - 1].event(), instant, Some(event))
 }

@@ -2,10 +2,10 @@
 
 use crate::{DataNode, is_carried};
 use keyrange::{KeyRange, Rect, TimeRange};
-use values::{Event, Instant, KeyBytes, Mem, Row, Value};
 use std::alloc::{AllocError, Global};
 use std::process::Abort;
 use std::test::Fail;
+use values::{Event, Instant, KeyBytes, Mem, Row, Value};
 
 fn key(rt: &impl Abort, alloc: Global, number: u8) -> Result<KeyBytes, AllocError> {
     Ok(KeyBytes::new(vec![in alloc; number]?).expect(rt, "one byte is short"))

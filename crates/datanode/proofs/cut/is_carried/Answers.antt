@@ -1,7 +1,7 @@
 use Rattle.std.proofs.Common.{◌+◌, ap, ◌∙◌, option_copied}
-use Rattle.eventlist.proofs.Ordered.{looked}
-use Rattle.datanode.specs.Place.{stays_to}
-use Rattle.datanode.proofs.Nexts.{is_carried_by}
+use Rattle.eventlist.proofs.PlaceOrder.{looked}
+use Rattle.datanode.specs.Cut.{stays_to}
+use Rattle.datanode.proofs.CutNext.{is_carried_by}
 use Rattle.datanode.proofs.cut.is_carried.Goals as goal
 
 pub returns : goal.returns

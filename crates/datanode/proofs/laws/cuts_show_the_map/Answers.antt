@@ -1,4 +1,4 @@
-use Rattle.datanode.proofs.LastLaws.{shown_by_cut, latest_in_cut}
+use Rattle.datanode.proofs.LawsLast.{shown_by_cut, latest_in_cut}
 use Rattle.datanode.proofs.laws.cuts_show_the_map.Goals as goal
 
 pub returns-clause-shown : goal.returns-clause-shown

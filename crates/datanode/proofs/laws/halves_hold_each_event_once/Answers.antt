@@ -1,4 +1,4 @@
-use Rattle.datanode.proofs.Halves.{own_of_cut, halves_at_key, halves_at_instant}
+use Rattle.datanode.proofs.LawsHalves.{own_of_cut, halves_at_key, halves_at_instant}
 use Rattle.datanode.proofs.laws.halves_hold_each_event_once.Goals as goal
 
 pub returns-clause-own : goal.returns-clause-own

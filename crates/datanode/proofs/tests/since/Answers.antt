@@ -1,4 +1,4 @@
-use Rattle.datanode.proofs.Parts.{now_inside}
+use Rattle.datanode.proofs.CutParts.{now_inside}
 use Rattle.datanode.proofs.tests.since.Goals as goal
 
 pub part-requires : goal.part-requires

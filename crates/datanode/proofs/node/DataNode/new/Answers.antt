@@ -1,6 +1,6 @@
 use Rattle.std.proofs.Common.{subst, sym}
 use Rattle.values.specs.Events.{event_cmp}
-use Rattle.eventlist.proofs.Ordered.{sorted_none}
+use Rattle.eventlist.proofs.PlaceOrder.{sorted_none}
 use Rattle.datanode.specs.Cut.{IsMap}
 use Rattle.datanode.proofs.node.DataNode.new.Goals as goal
 

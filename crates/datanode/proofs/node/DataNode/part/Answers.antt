@@ -1,7 +1,8 @@
 use Rattle.std.proofs.Common.{ap, ◌∙◌, subst}
-use Rattle.datanode.specs.Cut.{IsArea, cut}
+use Rattle.keyrange.specs.Rect.{IsArea}
+use Rattle.datanode.specs.Cut.{cut}
 use Rattle.datanode.specs.Node.{Node}
-use Rattle.datanode.proofs.Parts.{map_of_cut, whole_of_cut, part_of_map}
+use Rattle.datanode.proofs.CutParts.{map_of_cut, whole_of_cut, part_of_map}
 use Rattle.datanode.proofs.node.DataNode.part.Goals as goal
 
 pub node_of-requires-clause-map : goal.node_of-requires-clause-map

@@ -2,7 +2,7 @@ use Rattle.std.proofs.Common.{ap, ◌∙◌, subst}
 use Rattle.values.specs.Events.{put_event}
 use Rattle.datanode.specs.Cut.{cut}
 use Rattle.datanode.specs.Node.{Node, IsNode}
-use Rattle.datanode.proofs.Puts.{node_with, cut_with}
+use Rattle.datanode.proofs.NodePut.{node_with, cut_with}
 use Rattle.datanode.proofs.node.DataNode.put.Goals as goal
 
 pub invariant_of-self-2 : goal.invariant_of-self-2
