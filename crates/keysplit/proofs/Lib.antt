@@ -1,1 +1,1 @@
-mod Middles
+mod MiddleKeys

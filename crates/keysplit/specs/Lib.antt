@@ -1,1 +1,1 @@
-pub mod MiddleKey
+pub mod Middle

@@ -2,9 +2,9 @@
 ghost use Rattle.std.specs.Prelude.{◌≡◌, ◌<◌, ◌≤◌, ◌↔◌, None, IsTrue, IfSome, length, option_copied};
 ghost use Rattle.values.specs.Events.{event_cmp};
 ghost use Rattle.std.specs.List.Sorted.{IsStrictlySortedBy};
-ghost use Rattle.keyrange.specs.Cuts.{is_key_inside, halves_by_key};
+ghost use Rattle.keyrange.specs.Cut.{is_key_inside, halves_by_key};
 ghost use Rattle.datanode.specs.Cut.{cut};
-ghost use Rattle.keysplit.specs.MiddleKey.{IsOfOneKey, key_at, next_key, middle_key};
+ghost use Rattle.keysplit.specs.Middle.{IsOfOneKey, key_at, next_key, middle_key};
 
 use datanode::DataNode;
 use eventlist::place_behind_key;
@@ -16,7 +16,9 @@ pub fn middle_key(node: &DataNode) -> Option<&KeyBytes>
     ensures key { option_copied result ≡ middle_key node.now.events }
     ensures none { option_copied result ≡ None ↔ IsOfOneKey node.now.events }
     ensures inside { IfSome (option_copied result) (λ k. IsTrue (is_key_inside node.now.rect k)) }
-    ensures both { IfSome (option_copied result) (λ k. IfSome (halves_by_key node.now.rect k) (λ h. (0 < length (cut h.0 node.now.events)) × (0 < length (cut h.1 node.now.events)))) }
+    ensures both { IfSome (option_copied result) (λ k.
+        IfSome (halves_by_key node.now.rect k) (λ h.
+        (0 < length (cut h.0 node.now.events)) × (0 < length (cut h.1 node.now.events)))) }
 {
     middle_of(node.events())
 }

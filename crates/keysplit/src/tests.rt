@@ -3,10 +3,10 @@
 use crate::{middle_key, split_key};
 use datanode::DataNode;
 use keyrange::{KeyRange, Rect, TimeRange};
-use values::{Event, Instant, KeyBytes, Mem};
 use std::alloc::Global;
 use std::process::Abort;
 use std::test::Fail;
+use values::{Event, Instant, KeyBytes, Mem};
 
 fn key(rt: &impl Abort, alloc: Global, number: u8) -> Mem<KeyBytes> {
     Ok(KeyBytes::new(vec![in alloc; number]?).expect(rt, "one byte is short"))

@@ -1,10 +1,10 @@
 //! Data nodes split at an instant.
 #![tactic(auto)]
 
-mod stay;
 mod split;
+mod stay;
 #[cfg(test)]
 mod tests;
 
-pub use stay::stay_count;
 pub use split::split_time;
+pub use stay::stay_count;

@@ -2,7 +2,7 @@
 ghost use Rattle.std.specs.Prelude.{◌≡◌, List, Some, IsTrue, IfOk};
 ghost use Rattle.values.specs.Event.{Event};
 ghost use Rattle.values.specs.Memory.{OnlyMemory};
-ghost use Rattle.keyrange.specs.Cuts.{is_time_inside, halves_by_time, PartsTime};
+ghost use Rattle.keyrange.specs.Cut.{is_time_inside, halves_by_time, PartsTime};
 ghost use Rattle.datanode.specs.Cut.{cut};
 ghost use Rattle.datanode.specs.Node.{IsCutOf};
 

@@ -1,14 +1,14 @@
 //! Splits worked out by hand.
 ghost use Rattle.std.specs.Prelude.{IsTrue};
-ghost use Rattle.keyrange.specs.Cuts.{is_time_inside};
+ghost use Rattle.keyrange.specs.Cut.{is_time_inside};
 
 use crate::{split_time, stay_count};
 use datanode::DataNode;
 use keyrange::{KeyRange, Rect, TimeRange};
-use values::{Event, Instant, KeyBytes, LAST, Mem, Row, Value};
 use std::alloc::Global;
 use std::process::Abort;
 use std::test::Fail;
+use values::{Event, Instant, KeyBytes, LAST, Mem, Row, Value};
 
 /// A node of all keys from 1 on.
 fn empty(rt: &impl Abort, alloc: Global) -> Mem<DataNode> {

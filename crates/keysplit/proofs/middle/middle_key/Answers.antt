@@ -1,5 +1,5 @@
 use Rattle.std.proofs.Common.{option_copied}
-use Rattle.keysplit.proofs.Middles.{is_none_of, is_inside_of, is_both_of}
+use Rattle.keysplit.proofs.MiddleKeys.{is_none_of, is_inside_of, is_both_of}
 use Rattle.keysplit.proofs.middle.middle_key.Goals as goal
 
 pub returns-clause-none : goal.returns-clause-none

@@ -1,5 +1,5 @@
 use Rattle.std.proofs.Common.{sym, ◌∙◌}
-use Rattle.keysplit.proofs.Middles.{next_at}
+use Rattle.keysplit.proofs.MiddleKeys.{next_at}
 use Rattle.keysplit.proofs.middle.next_key.Goals as goal
 
 pub returns : goal.returns

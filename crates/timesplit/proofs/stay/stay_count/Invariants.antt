@@ -1,5 +1,5 @@
 use Rattle.std.proofs.Common.{◌≡◌, ◌≤◌, length, take, filter}
-use Rattle.timesplit.proofs.Counted.{stays}
+use Rattle.timesplit.proofs.StayCount.{stays}
 use Rattle.timesplit.proofs.stay.stay_count.Given as goal
 
 abbrev pub invariant-loop-place : goal.invariant-loop-place

@@ -7,18 +7,19 @@ use Rattle.std.proofs.lemmas.List.{get_or_default}
 use Rattle.std.proofs.lemmas.Map.Keys.{Less-from_sorted}
 use Rattle.values.specs.Event.{Event}
 use Rattle.values.specs.Events.{is_bytes, event_cmp}
-use Rattle.keyrange.specs.Points.{Area, is_below, is_key_in}
-use Rattle.keyrange.specs.Cuts.{is_key_inside, halves_by_key}
-use Rattle.keyrange.proofs.Orders.{above, not_itself}
+use Rattle.keyrange.specs.Rect.{Area}
+use Rattle.keyrange.specs.Range.{is_below, is_key_in}
+use Rattle.keyrange.specs.Cut.{is_key_inside, halves_by_key}
+use Rattle.keyrange.proofs.RangeOrder.{above, not_itself}
 use Rattle.eventlist.specs.Place.{AreFirst}
-use Rattle.eventlist.proofs.Ordered.{same_bytes, is_own, is_lower, within_tail, within_rest, within_head}
+use Rattle.eventlist.proofs.PlaceOrder.{same_bytes, is_own, is_lower, within_tail, within_rest, within_head}
 use Rattle.datanode.specs.Cut.{in_cut, cut}
 use Rattle.datanode.specs.Node.{IsNode}
-use Rattle.datanode.proofs.Members.{In, In-filter, In-from_filter}
-use Rattle.datanode.proofs.Order.{In_place, at_In}
+use Rattle.datanode.proofs.CutMembers.{In, In-filter, In-from_filter}
+use Rattle.datanode.proofs.CutOrder.{In_place, at_In}
 use Rattle.datanode.proofs.CutLaws.{in_cut_decides}
-use Rattle.datanode.proofs.Halves.{halves_at_key}
-use Rattle.keysplit.specs.MiddleKey.{key_at, next_key, middle_or_next, middle_key, IsOfOneKey}
+use Rattle.datanode.proofs.LawsHalves.{halves_at_key}
+use Rattle.keysplit.specs.Middle.{key_at, next_key, middle_or_next, middle_key, IsOfOneKey}
 
 not_false : (b : Bool) → not b ≡ true → b ≡ false
 not_false true h = cc

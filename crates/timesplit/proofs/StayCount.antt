@@ -2,14 +2,14 @@
 use Rattle.std.proofs.Common.{◌≡◌, ℕ, ◌+◌, ◌<◌, Bool, ◌||◌, cond, List, [], ◌∷◌, Option, Some, None, IfSome, length, take, get_or, refl, sym, ap, ◌∙◌, arith, nat_le, filter}
 use Rattle.std.proofs.lemmas.List.Filters.{length-filter_more}
 use Rattle.values.specs.Event.{Event}
-use Rattle.keyrange.specs.Points.{Area}
-use Rattle.keyrange.specs.Cuts.{halves_by_time}
-use Rattle.datanode.specs.Cut.{carried, cut}
+use Rattle.keyrange.specs.Rect.{Area}
+use Rattle.keyrange.specs.Cut.{halves_by_time}
+use Rattle.datanode.specs.Cut.{is_carried, cut}
 use Rattle.datanode.specs.Node.{IsNode}
-use Rattle.datanode.proofs.Halves.{halves_at_instant}
+use Rattle.datanode.proofs.LawsHalves.{halves_at_instant}
 
 abbrev pub stays : List Event → ℕ → Event → Bool
-stays es t e = nat_le t e.at || carried es t e
+stays es t e = nat_le t e.at || is_carried es t e
 
 pub counted : {X : Type 0} (p : X → Bool) (xs : List X) (i : ℕ) (b : Bool) → i < length xs → ((d : X) → b ≡ p (get_or xs i d)) → length (filter p (take (i + 1) xs)) ≡ length (filter p (take i xs)) + cond b 1 0
 counted p [] i b h f = absurd (omega arith)

@@ -3,7 +3,7 @@ use Rattle.std.specs.Prelude.{◌≡◌, ℕ, List, [], ◌∷◌, Option, Some,
 use Rattle.std.specs.List.{slice_get}
 use Rattle.values.specs.Event.{Event}
 use Rattle.values.specs.Events.{is_bytes}
-use Rattle.keyrange.specs.Points.{is_below}
+use Rattle.keyrange.specs.Range.{is_below}
 
 abbrev pub key_at : List Event → ℕ → Option (List ℕ)
 key_at es place = option_map (λ e. e.key) (slice_get es place)
