@@ -1,0 +1,3 @@
+mod TriePlaces
+mod TrieNodes
+mod TrieOutcomes

@@ -1,0 +1,11 @@
+//! Lists whose copies share what they have in common.
+#![tactic(auto)]
+
+mod share;
+mod slots;
+#[cfg(test)]
+mod tests;
+mod trie;
+
+pub use share::Share;
+pub use slots::Slots;

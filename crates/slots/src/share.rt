@@ -1,0 +1,34 @@
+ghost use Rattle.std.specs.Prelude.{◌≡◌, IfOk};
+ghost use Rattle.values.specs.Memory.{OnlyMemory};
+
+use values::Mem;
+use std::alloc::Global;
+
+/// What can be had twice.
+pub trait Share {
+    /// An equal value.
+    fn share(&self) -> Mem<Self>
+        ensures ok { IfOk result (λ s. s ≡ self.now) }
+        ensures err { OnlyMemory result };
+}
+
+impl Share for usize {
+    fn share(&self) -> Mem<usize>
+        ensures ok { IfOk result (λ s. s ≡ self.now) }
+        ensures err { OnlyMemory result }
+    {
+        Ok(*self)
+    }
+}
+
+/// The items once more, with room for some.
+pub(crate) fn share_all<S: Share + Drop>(alloc: Global, items: &[S], room: usize) -> Mem<Vec<S>>
+    ensures ok { IfOk result (λ v. v.items ≡ items.now) }
+    ensures err { OnlyMemory result }
+{
+    let mut all = Vec::with_capacity(alloc, room)?;
+    for item in items {
+        all.push(item.share()?)?;
+    }
+    Ok(all)
+}
