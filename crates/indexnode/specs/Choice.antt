@@ -1,11 +1,12 @@
 -- Where a node that has too many references is split.
-use Rattle.std.specs.Prelude.{◌≡◌, ℕ, ◌/◌, ◌<◌, ◌≤◌, List, false, Some, IsTrue, filter, map, length, slice_get, All}
+use Rattle.std.specs.Prelude.{◌≡◌, ℕ, ◌/◌, ◌<◌, ◌≤◌, List, false, Some, None, IsTrue, filter, map, length, slice_get, All}
 use Rattle.std.specs.List.{Any}
 use Rattle.std.specs.List.Sorted.{IsPermutation, IsSorted}
 use Rattle.values.specs.Events.{bytes_cmp}
-use Rattle.keyrange.specs.Points.{Area}
+use Rattle.keyrange.specs.Rect.{Area}
 use Rattle.indexnode.specs.declared.reference.Reference.{Reference}
-use Rattle.indexnode.specs.Halves.{is_current, reaches_below, reaches_up, ends_after, IsBeforeCurrent}
+use Rattle.indexnode.specs.Node.{Tiles, AllMeet}
+use Rattle.indexnode.specs.Split.{is_current, reaches_below, reaches_up, ends_after, IsBeforeCurrent, AreCurrentIn}
 
 abbrev pub HasNoCurrent : {C : Type 0} → List (Reference C) → Type 0
 HasNoCurrent references = All (λ r. is_current r ≡ false) references
@@ -17,6 +18,19 @@ current_count references = length (filter is_current references)
 pub record IsLeastStart {C : Type 0} (references : List (Reference C)) (instant : ℕ) : Type 0 where
   pub some : Any (λ r. IsTrue (is_current r) × (r.rect.time.from ≡ instant)) references
   pub none_before : IsBeforeCurrent instant references
+
+-- of a tiled node without an end one reference is current
+pub record HasOneCurrent {C : Type 0} (area : Area) (references : List (Reference C)) : Type 0 where
+  pub tiled : Tiles area references
+  pub meet : AllMeet area references
+  pub endless : area.time.to ≡ None
+  pub one : current_count references ≡ 1
+
+-- of a tiled node so many are current at least, and lie inside
+pub record HasCurrents {C : Type 0} (n : ℕ) (area : Area) (references : List (Reference C)) : Type 0 where
+  pub tiled : Tiles area references
+  pub inside : AreCurrentIn area references
+  pub count : n ≤ current_count references
 
 -- from the instant on there is one reference alone, and of several the others lie before it
 pub record StandsAlone {C : Type 0} (area : Area) (references : List (Reference C)) (instant : ℕ) : Type 0 where

@@ -1,5 +1,4 @@
 pub mod Choice
-pub mod Halves
-pub mod Meeting
+pub mod Node
 pub mod Replacement
-pub mod Tiling
+pub mod Split

@@ -1,7 +1,7 @@
 -- References that take the place of another.
 use Rattle.std.specs.Prelude.{◌≡◌, ◌≢◌, ℕ, ◌<◌, length, take, slice_index_or, List, ◌∷◌, ◌++◌, All}
 use Rattle.std.specs.List.{Any}
-use Rattle.keyrange.specs.Points.{Area}
+use Rattle.keyrange.specs.Rect.{Area}
 use Rattle.indexnode.specs.declared.reference.Reference.{Reference}
 
 -- some reference has the rectangle

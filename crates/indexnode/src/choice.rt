@@ -1,33 +1,36 @@
 //! Where a node that has too many references is split.
-ghost use Rattle.std.specs.Prelude.{◌≡◌, ◌<◌, ◌≤◌, IfOk, IfSome, IfNone, IsTrue, MatchOption, All, Some, None, filter, length, if◌then◌else◌, nat_lt};
+ghost use Rattle.std.specs.Prelude.{◌≡◌, ◌<◌, ◌≤◌, IfOk, IfSome, IfNone, IsTrue, MatchOption, All, None, filter, length, if◌then◌else◌, nat_lt};
 ghost use Rattle.values.specs.Memory.{OnlyMemory};
 ghost use Rattle.values.specs.Commits.{max_instant};
-ghost use Rattle.keyrange.specs.Points.{is_area};
-ghost use Rattle.keyrange.specs.Cuts.{is_key_inside};
-ghost use Rattle.indexnode.specs.Tiling.{Tiles, AllMeet};
-ghost use Rattle.indexnode.specs.Halves.{is_current, starts_before, ends_after, IsUncrossed, AreCurrentIn};
-ghost use Rattle.indexnode.specs.Choice.{IsLeastStart, StandsAlone, IsMiddle, AreOrdered, AreSmaller, current_count, current_keys};
+ghost use Rattle.keyrange.specs.Rect.{IsArea};
+ghost use Rattle.keyrange.specs.Cut.{is_key_inside};
+ghost use Rattle.indexnode.specs.Split.{is_current, starts_before, ends_after, IsUncrossed};
+ghost use Rattle.indexnode.specs.Choice.{IsLeastStart, HasOneCurrent, HasCurrents, StandsAlone, IsMiddle, AreOrdered, AreSmaller, current_count, current_keys};
 
 use crate::node::IndexNode;
 use crate::reference::Reference;
 use crate::split::Half;
-use values::{Instant, KeyBytes, Mem};
 use std::alloc::Global;
+use values::{Instant, KeyBytes, Mem};
 
 impl<C> IndexNode<C> {
     /// The least instant at which a current reference starts; None where there is no current one.
     pub fn least_current_start(&self) -> Option<Instant>
-        ensures least { MatchOption result (current_count self.now.references.items ≡ 0) (IsLeastStart self.now.references.items) }
+        ensures least { MatchOption result
+            (current_count self.now.references.items ≡ 0)
+            (IsLeastStart self.now.references.items) }
         ensures in_range { IfSome result (λ t. t ≤ max_instant) }
-        ensures smaller { IfSome result (λ t. length (filter (λ r. starts_before t r.rect) self.now.references.items) < length self.now.references.items) }
-        ensures alone { Tiles self.now.rect self.now.references.items → AllMeet self.now.rect self.now.references.items → self.now.rect.time.to ≡ None → current_count self.now.references.items ≡ 1 → IfSome result (StandsAlone self.now.rect self.now.references.items) }
+        ensures smaller { IfSome result (λ t.
+            length (filter (λ r. starts_before t r.rect) self.now.references.items)
+            < length self.now.references.items) }
+        ensures alone { HasOneCurrent self.now.rect self.now.references.items
+            → IfSome result (StandsAlone self.now.rect self.now.references.items) }
     {
         let mut least = None;
         for reference in &self.references {
-            // Who reads the keys knows that the ranges are not empty.
-            let _keys = reference.rect.keys();
+            let time = reference.rect.time();
             if is_current(reference) {
-                least = Some(earlier(least, reference.rect.time().from));
+                least = Some(earlier(least, time.from));
             }
         }
         least
@@ -57,13 +60,17 @@ impl<C> IndexNode<C> {
         count
     }
 
-    /// The lower key of the current reference in the middle of them, in order by lower key; None where there is no current one.
+    /// The lower key of the current reference in the middle of them, in order by lower key; None where there is no
+    /// current one.
     pub fn middle_key(&self, alloc: Global) -> Mem<Option<KeyBytes>>
         ensures some { IfOk result (λ k. IfSome k (IsMiddle self.now.references.items)) }
         ensures none { IfOk result (λ k. IfNone k (current_count self.now.references.items ≡ 0)) }
-        ensures uncrossed { Tiles self.now.rect self.now.references.items → AreCurrentIn self.now.rect self.now.references.items → IfOk result (λ k. IfSome k (λ key. IsUncrossed key self.now.references.items)) }
-        ensures inside { Tiles self.now.rect self.now.references.items → AreCurrentIn self.now.rect self.now.references.items → 2 ≤ current_count self.now.references.items → IfOk result (λ k. IfSome k (λ key. IsTrue (is_key_inside self.now.rect key))) }
-        ensures smaller { Tiles self.now.rect self.now.references.items → AreCurrentIn self.now.rect self.now.references.items → 2 ≤ current_count self.now.references.items → IfOk result (λ k. IfSome k (λ key. AreSmaller key self.now.references.items)) }
+        ensures uncrossed { HasCurrents 0 self.now.rect self.now.references.items
+            → IfOk result (λ k. IfSome k (λ key. IsUncrossed key self.now.references.items)) }
+        ensures inside { HasCurrents 2 self.now.rect self.now.references.items
+            → IfOk result (λ k. IfSome k (λ key. IsTrue (is_key_inside self.now.rect key))) }
+        ensures smaller { HasCurrents 2 self.now.rect self.now.references.items
+            → IfOk result (λ k. IfSome k (λ key. AreSmaller key self.now.references.items)) }
         ensures err { OnlyMemory result }
     {
         let mut keys = ordered_keys(alloc, &self.references)?;
@@ -79,7 +86,7 @@ impl<C> IndexNode<C> {
 /// The lower keys of the current references, in order.
 fn ordered_keys<C>(alloc: Global, references: &[Reference<C>]) -> Mem<Vec<KeyBytes>>
     ensures ordered { IfOk result (λ v. AreOrdered references.now v.items) }
-    ensures areas { IfOk result (λ _. All (λ r. IsTrue (is_area r.rect.keys r.rect.time)) references.now) }
+    ensures areas { IfOk result (λ _. All (λ r. IsArea r.rect) references.now) }
     ensures err { OnlyMemory result }
 {
     let mut keys = current_keys(alloc, references)?;
@@ -89,7 +96,7 @@ fn ordered_keys<C>(alloc: Global, references: &[Reference<C>]) -> Mem<Vec<KeyByt
 
 fn current_keys<C>(alloc: Global, references: &[Reference<C>]) -> Mem<Vec<KeyBytes>>
     ensures are { IfOk result (λ v. v.items ≡ current_keys references.now) }
-    ensures areas { IfOk result (λ _. All (λ r. IsTrue (is_area r.rect.keys r.rect.time)) references.now) }
+    ensures areas { IfOk result (λ _. All (λ r. IsArea r.rect) references.now) }
     ensures err { OnlyMemory result }
 {
     let mut keys = Vec::new(alloc);

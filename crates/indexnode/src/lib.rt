@@ -12,4 +12,4 @@ mod tests;
 
 pub use list::{pair, single};
 pub use node::IndexNode;
-pub use reference::{Reference, Share};
+pub use reference::Reference;

@@ -1,24 +1,24 @@
 //! Lists of references that tile a rectangle.
 ghost use Rattle.std.specs.Prelude.{◌≡◌, ℕ, List, [], ◌∷◌, IfOk, All};
 ghost use Rattle.values.specs.Memory.{OnlyMemory};
-ghost use Rattle.keyrange.specs.Points.{Area};
-ghost use Rattle.keyrange.specs.Cuts.{PartsKeys, PartsTime};
-ghost use Rattle.indexnode.specs.Tiling.{Tiles, LiesIn, AllMeet};
+ghost use Rattle.keyrange.specs.Rect.{Area, IsInside};
+ghost use Rattle.keyrange.specs.Cut.{AreHalves};
+ghost use Rattle.indexnode.specs.Node.{Tiles, AllMeet};
 
 use crate::reference::Reference;
-use values::Mem;
 use std::alloc::Global;
+use values::Mem;
 
 /// A list of one reference, which tiles its own rectangle.
 pub fn single<C: Drop>(alloc: Global, reference: Reference<C>) -> Mem<Vec<Reference<C>>>
     ensures are { IfOk result (λ v. v.items ≡ reference ∷ []) }
     ensures tiles { IfOk result (λ v. Tiles reference.rect v.items) }
-    ensures inside { IfOk result (λ v. All (λ r. LiesIn r.rect reference.rect) v.items) }
-    ensures meet { (outer : Area) → LiesIn reference.rect outer → IfOk result (λ v. AllMeet outer v.items) }
+    ensures inside { IfOk result (λ v. All (λ r. IsInside r.rect reference.rect) v.items) }
+    ensures meet { (outer : Area) → IsInside reference.rect outer → IfOk result (λ v. AllMeet outer v.items) }
     ensures err { OnlyMemory result }
 {
-    // Who reads the keys knows that the ranges are not empty.
-    let _keys = reference.rect.keys();
+    // Who reads the time knows that the ranges are not empty.
+    let _time = reference.rect.time();
     let mut references = Vec::new(alloc);
     references.push(reference)?;
     Ok(references)
@@ -31,14 +31,15 @@ pub fn pair<C: Drop>(
     second: Reference<C>,
 ) -> Mem<Vec<Reference<C>>>
     ensures are { IfOk result (λ v. v.items ≡ first ∷ second ∷ []) }
-    ensures by_key { (area : Area) (cut : List ℕ) → PartsKeys area first.rect second.rect cut → IfOk result (λ v. Tiles area v.items × All (λ r. LiesIn r.rect area) v.items) }
-    ensures by_time { (area : Area) (cut : ℕ) → PartsTime area first.rect second.rect cut → IfOk result (λ v. Tiles area v.items × All (λ r. LiesIn r.rect area) v.items) }
-    ensures meet { (outer : Area) → LiesIn first.rect outer → LiesIn second.rect outer → IfOk result (λ v. AllMeet outer v.items) }
+    ensures halves { (area : Area) → AreHalves area first.rect second.rect
+        → IfOk result (λ v. Tiles area v.items × All (λ r. IsInside r.rect area) v.items) }
+    ensures meet { (outer : Area) → IsInside first.rect outer → IsInside second.rect outer
+        → IfOk result (λ v. AllMeet outer v.items) }
     ensures err { OnlyMemory result }
 {
-    // Who reads the keys knows that the ranges are not empty.
-    let _first = first.rect.keys();
-    let _second = second.rect.keys();
+    // Who reads the time knows that the ranges are not empty.
+    let _first = first.rect.time();
+    let _second = second.rect.time();
     let mut references = Vec::with_capacity(alloc, 2)?;
     references.push(first)?;
     references.push(second)?;

@@ -1,14 +1,14 @@
 //! A node, the reference at a point, and those that meet a rectangle.
 ghost use Rattle.std.specs.Prelude.{◌≡◌, ◌↔◌, ◌∷◌, [], IfOk, IsTrue, Contains, filter, map, All, length};
 ghost use Rattle.values.specs.Memory.{OnlyMemory};
-ghost use Rattle.keyrange.specs.Points.{has_point, Common};
-ghost use Rattle.indexnode.specs.Tiling.{Tiles, at_point};
-ghost use Rattle.indexnode.specs.Meeting.{meet, MeetsWhereCommon};
+ghost use Rattle.keyrange.specs.Rect.{IsArea, has_point, Common};
+ghost use Rattle.indexnode.specs.Node.{Tiles, at_point, meet, MeetsWhereCommon};
 
 use crate::reference::Reference;
 use keyrange::Rect;
-use values::{Instant, KeyBytes, Mem};
+use slots::Share;
 use std::alloc::Global;
+use values::{Instant, KeyBytes, Mem};
 
 /// A rectangle, and references that tile it.
 #[derive(Drop)]
@@ -34,8 +34,11 @@ impl<C> IndexNode<C> {
     }
 
     pub fn rect(&self) -> &Rect
-        ensures { result.now ≡ self.now.rect }
+        ensures rect { result.now ≡ self.now.rect }
+        ensures area { IsArea result.now }
     {
+        // Who reads the time knows that the ranges are not empty.
+        let _time = self.rect.time();
         &self.rect
     }
 
@@ -63,7 +66,9 @@ impl<C> IndexNode<C> {
 
     /// The references that have a point in common with a rectangle, in their order.
     pub fn meeting(&self, alloc: Global, rect: &Rect) -> Mem<Vec<&Reference<C>>>
-        ensures are { IfOk result (λ v. map (λ r. r.now) v.items ≡ filter (λ r. meet r.rect rect.now) self.now.references.items) }
+        ensures are { IfOk result (λ v.
+            map (λ r. r.now) v.items
+            ≡ filter (λ r. meet r.rect rect.now) self.now.references.items) }
         ensures common { IfOk result (λ _. All (MeetsWhereCommon rect.now) self.now.references.items) }
         ensures err { OnlyMemory result }
     {
@@ -77,13 +82,32 @@ impl<C> IndexNode<C> {
     }
 }
 
+impl<C: Share + Drop> IndexNode<C> {
+    /// An equal node, whose children are shared.
+    pub fn copy(&self) -> Mem<IndexNode<C>>
+        ensures rect { IfOk result (λ n. n.rect ≡ self.now.rect) }
+        ensures references { IfOk result (λ n. n.references.items ≡ self.now.references.items) }
+        ensures err { OnlyMemory result }
+    {
+        let mut references = Vec::new(self.alloc);
+        for reference in &self.references {
+            references.push(reference.share()?)?;
+        }
+        Ok(IndexNode {
+            alloc: self.alloc,
+            rect: self.rect.copy()?,
+            references,
+        })
+    }
+}
+
 /// Whether two rectangles have a point in common.
 fn meets(first: &Rect, second: &Rect) -> bool
     ensures test { result ≡ meet first.now second.now }
     ensures common { IsTrue result ↔ Common first.now second.now }
 {
-    // Who reads the keys knows that the ranges are not empty.
-    let _first = first.keys();
-    let _second = second.keys();
+    // Who reads the time knows that the ranges are not empty.
+    let _first = first.time();
+    let _second = second.time();
     first.meets(second)
 }

@@ -2,6 +2,7 @@ ghost use Rattle.std.specs.Prelude.{◌≡◌, IfOk};
 ghost use Rattle.values.specs.Memory.{OnlyMemory};
 
 use keyrange::Rect;
+use slots::Share;
 use values::Mem;
 
 /// A child, with the rectangle that it covers.
@@ -9,14 +10,6 @@ use values::Mem;
 pub struct Reference<C> {
     pub rect: Rect,
     pub child: C,
-}
-
-/// What can be had twice.
-pub trait Share {
-    /// An equal value.
-    fn share(&self) -> Mem<Self>
-        ensures ok { IfOk result (λ s. s ≡ self.now) }
-        ensures err { OnlyMemory result };
 }
 
 impl<C: Share> Reference<C> {

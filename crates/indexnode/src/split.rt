@@ -1,17 +1,17 @@
 //! The halves of a node.
 ghost use Rattle.std.specs.Prelude.{◌≡◌, IfOk, IsTrue, Some, filter};
 ghost use Rattle.values.specs.Memory.{OnlyMemory};
-ghost use Rattle.keyrange.specs.Points.{is_below};
-ghost use Rattle.keyrange.specs.Cuts.{is_key_inside, is_time_inside, halves_by_key, halves_by_time};
-ghost use Rattle.indexnode.specs.Tiling.{Tiles, AllMeet};
-ghost use Rattle.indexnode.specs.Halves.{keeps, reaches_below, reaches_up, starts_before, ends_after, IsUncrossed, IsBeforeCurrent, AreCurrentIn};
+ghost use Rattle.keyrange.specs.Cut.{is_key_inside, is_time_inside, halves_by_key, halves_by_time, PartsKeys, PartsTime};
+ghost use Rattle.indexnode.specs.Node.{Tiles, AllMeet};
+ghost use Rattle.indexnode.specs.Split.{keeps, reaches_below, reaches_up, starts_before, ends_after, IsUncrossed, IsBeforeCurrent, AreCurrentIn};
 
 use crate::node::IndexNode;
-use crate::reference::{Reference, Share};
-use keyrange::Rect;
+use keyrange::{Rect, is_before_end, is_below, is_early};
+use slots::Share;
 use values::{Instant, KeyBytes, Mem};
 
-/// What a half takes: the references that reach below a key, or to it and above; those that start before an instant, or end after it.
+/// What a half keeps: the references that reach below a key, or to it and above; those that start before an instant, or end
+/// after it.
 #[derive(Clone, Copy)]
 pub(crate) enum Half<'a> {
     Below(&'a KeyBytes),
@@ -21,16 +21,29 @@ pub(crate) enum Half<'a> {
 }
 
 impl<C: Share + Drop> IndexNode<C> {
-    /// The half below a key and the half from it on. A historical reference that crosses the key stands in both, each with its child.
+    /// The half below a key and the half from it on. A historical reference that crosses the key stands in both, each with
+    /// its child.
     pub fn split_key(&self, key: &KeyBytes) -> Mem<(IndexNode<C>, IndexNode<C>)>
         requires inside { IsTrue (is_key_inside self.now.rect key.now) }
         requires uncrossed { IsUncrossed key.now self.now.references.items }
         ensures rects { IfOk result (λ h. halves_by_key self.now.rect key.now ≡ Some (h.0.rect, h.1.rect)) }
-        ensures below { IfOk result (λ h. h.0.references.items ≡ filter (λ r. reaches_below key.now r.rect) self.now.references.items) }
-        ensures above { IfOk result (λ h. h.1.references.items ≡ filter (λ r. reaches_up key.now r.rect) self.now.references.items) }
-        ensures tiled { Tiles self.now.rect self.now.references.items → IfOk result (λ h. Tiles h.0.rect h.0.references.items × Tiles h.1.rect h.1.references.items) }
-        ensures meet { AllMeet self.now.rect self.now.references.items → IfOk result (λ h. AllMeet h.0.rect h.0.references.items × AllMeet h.1.rect h.1.references.items) }
-        ensures current { AreCurrentIn self.now.rect self.now.references.items → IfOk result (λ h. AreCurrentIn h.0.rect h.0.references.items × AreCurrentIn h.1.rect h.1.references.items) }
+        ensures parts { IfOk result (λ h. PartsKeys self.now.rect h.0.rect h.1.rect key.now) }
+        ensures below { IfOk result (λ h.
+            h.0.references.items
+            ≡ filter (λ r. reaches_below key.now r.rect) self.now.references.items) }
+        ensures above { IfOk result (λ h.
+            h.1.references.items
+            ≡ filter (λ r. reaches_up key.now r.rect) self.now.references.items) }
+        ensures tiled { Tiles self.now.rect self.now.references.items
+            → IfOk result (λ h.
+            Tiles h.0.rect h.0.references.items × Tiles h.1.rect h.1.references.items) }
+        ensures meet { AllMeet self.now.rect self.now.references.items
+            → IfOk result (λ h.
+            AllMeet h.0.rect h.0.references.items × AllMeet h.1.rect h.1.references.items) }
+        ensures current { AreCurrentIn self.now.rect self.now.references.items
+            → IfOk result (λ h.
+            AreCurrentIn h.0.rect h.0.references.items
+            × AreCurrentIn h.1.rect h.1.references.items) }
         ensures err { OnlyMemory result }
     {
         let Some((below, above)) = self.rect.cut_key(key)? else {
@@ -42,21 +55,32 @@ impl<C: Share + Drop> IndexNode<C> {
         ))
     }
 
-    /// The half before an instant and the half from it on. A reference that starts before the instant and ends after it stands in both, each with its child.
+    /// The half before an instant and the half from it on. A reference that starts before the instant and ends after it
+    /// stands in both, each with its child.
     pub fn split_time(&self, instant: Instant) -> Mem<(IndexNode<C>, IndexNode<C>)>
         requires inside { IsTrue (is_time_inside self.now.rect instant) }
         requires before_current { IsBeforeCurrent instant self.now.references.items }
         ensures rects { IfOk result (λ h. halves_by_time self.now.rect instant ≡ Some (h.0.rect, h.1.rect)) }
-        ensures past { IfOk result (λ h. h.0.references.items ≡ filter (λ r. starts_before instant r.rect) self.now.references.items) }
-        ensures now { IfOk result (λ h. h.1.references.items ≡ filter (λ r. ends_after instant r.rect) self.now.references.items) }
-        ensures tiled { Tiles self.now.rect self.now.references.items → IfOk result (λ h. Tiles h.0.rect h.0.references.items × Tiles h.1.rect h.1.references.items) }
-        ensures meet { AllMeet self.now.rect self.now.references.items → IfOk result (λ h. AllMeet h.0.rect h.0.references.items × AllMeet h.1.rect h.1.references.items) }
-        ensures current { AreCurrentIn self.now.rect self.now.references.items → IfOk result (λ h. AreCurrentIn h.0.rect h.0.references.items × AreCurrentIn h.1.rect h.1.references.items) }
+        ensures parts { IfOk result (λ h. PartsTime self.now.rect h.0.rect h.1.rect instant) }
+        ensures past { IfOk result (λ h.
+            h.0.references.items
+            ≡ filter (λ r. starts_before instant r.rect) self.now.references.items) }
+        ensures now { IfOk result (λ h.
+            h.1.references.items
+            ≡ filter (λ r. ends_after instant r.rect) self.now.references.items) }
+        ensures tiled { Tiles self.now.rect self.now.references.items
+            → IfOk result (λ h.
+            Tiles h.0.rect h.0.references.items × Tiles h.1.rect h.1.references.items) }
+        ensures meet { AllMeet self.now.rect self.now.references.items
+            → IfOk result (λ h.
+            AllMeet h.0.rect h.0.references.items × AllMeet h.1.rect h.1.references.items) }
+        ensures current { AreCurrentIn self.now.rect self.now.references.items
+            → IfOk result (λ h.
+            AreCurrentIn h.0.rect h.0.references.items
+            × AreCurrentIn h.1.rect h.1.references.items) }
         ensures err { OnlyMemory result }
     {
-        // Who reads the keys knows that the ranges are not empty.
-        let _keys = self.rect.keys();
-        let Some((past, now)) = self.rect.cut_time(instant)? else {
+        let Some((past, now)) = self.rect().cut_time(instant)? else {
             unreachable!()
         };
         Ok((
@@ -67,7 +91,9 @@ impl<C: Share + Drop> IndexNode<C> {
 
     fn half(&self, rect: Rect, half: Half<'_>) -> Mem<IndexNode<C>>
         ensures rect { IfOk result (λ n. n.rect ≡ rect) }
-        ensures references { IfOk result (λ n. n.references.items ≡ filter (λ r. keeps half.entry r.rect) self.now.references.items) }
+        ensures references { IfOk result (λ n.
+            n.references.items
+            ≡ filter (λ r. keeps half.entry r.rect) self.now.references.items) }
         ensures err { OnlyMemory result }
     {
         let mut references = Vec::new(self.alloc);
@@ -90,18 +116,9 @@ impl Half<'_> {
     {
         match self {
             Half::Below(key) => is_below(&rect.keys().lo, key),
-            Half::From(key) => match &rect.keys().hi {
-                None => true,
-                Some(end) => is_below(key, end),
-            },
+            Half::From(key) => is_before_end(key, &rect.keys().hi),
             Half::Past(instant) => rect.time().from < *instant,
-            Half::Current(instant) => rect.time().to.is_none_or(|to| *instant < to),
+            Half::Current(instant) => is_early(*instant, rect.time().to),
         }
     }
-}
-
-fn is_below(key: &KeyBytes, other: &KeyBytes) -> bool
-    ensures { result ≡ is_below key.now other.now }
-{
-    key.cmp(other).is_lt()
 }

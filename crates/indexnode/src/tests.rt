@@ -1,26 +1,22 @@
-//! A node of all keys from instant 1 on: a historical reference before instant 200, and two current ones from it on that meet at key 33.
+//! A node of all keys from instant 1 on: a historical reference before instant 200, and two current ones from it on that
+//! meet at key 33.
 ghost use Rattle.std.specs.Prelude.{◌≡◌, None, IfOk, IfSome, IsTrue};
-ghost use Rattle.keyrange.specs.Cuts.{is_key_inside};
-ghost use Rattle.indexnode.specs.Tiling.{Tiles};
-ghost use Rattle.indexnode.specs.Halves.{AreCurrentIn};
+ghost use Rattle.keyrange.specs.Cut.{is_key_inside};
+ghost use Rattle.indexnode.specs.Node.{Tiles};
+ghost use Rattle.indexnode.specs.Split.{AreCurrentIn};
 
-use crate::{IndexNode, Reference, Share, pair, single};
+use crate::{IndexNode, Reference, pair, single};
 use keyrange::{KeyRange, Rect, TimeRange};
-use values::{Instant, KeyBytes, Mem};
+use slots::Share;
 use std::alloc::Global;
 use std::test::Fail;
+use values::{Instant, KeyBytes, Mem};
 
 /// A child that is not a number.
 #[derive(Drop)]
 struct Leaf {
     name: u64,
     is_packed: bool,
-}
-
-impl Share for u64 {
-    fn share(&self) -> Mem<u64> {
-        Ok(*self)
-    }
 }
 
 impl Share for Leaf {
@@ -55,7 +51,8 @@ fn cut_by_time<C: Drop>(
     past: C,
     now: C,
 ) -> Mem<Option<IndexNode<C>>>
-    ensures { IfOk result (λ made. IfSome made (λ n. Tiles n.rect n.references.items × AreCurrentIn n.rect n.references.items)) }
+    ensures { IfOk result (λ made. IfSome made (λ n.
+        Tiles n.rect n.references.items × AreCurrentIn n.rect n.references.items)) }
 {
     let Some((before, after)) = area.cut_time(cut)? else {
         return Ok(None);
@@ -104,7 +101,7 @@ fn replace_by_key<C: Drop>(
 /// Whether two references that meet at an instant took the place of one.
 fn replace_by_time(
     alloc: Global,
-    node: &mut IndexNode<u64>,
+    node: &mut IndexNode<usize>,
     area: &Rect,
     cut: Instant,
 ) -> Mem<bool> {
@@ -124,14 +121,15 @@ fn replace_by_time(
 }
 
 /// The node over three children, and a spare one.
-fn worked<C: Drop>(
+fn three_children<C: Drop>(
     alloc: Global,
     historical: C,
     low: C,
     high: C,
     spare: C,
 ) -> Mem<Option<IndexNode<C>>>
-    ensures { IfOk result (λ made. IfSome made (λ n. Tiles n.rect n.references.items × AreCurrentIn n.rect n.references.items)) }
+    ensures { IfOk result (λ made. IfSome made (λ n.
+        Tiles n.rect n.references.items × AreCurrentIn n.rect n.references.items)) }
 {
     let Some(area) = all(alloc, 1, None) else {
         return Ok(None);
@@ -149,17 +147,18 @@ fn worked<C: Drop>(
     Ok(Some(node))
 }
 
-fn numbers(alloc: Global) -> Result<IndexNode<u64>, Fail>
-    ensures { IfOk result (λ n. Tiles n.rect n.references.items × AreCurrentIn n.rect n.references.items) }
+fn numbers(alloc: Global) -> Result<IndexNode<usize>, Fail>
+    ensures { IfOk result (λ n.
+        Tiles n.rect n.references.items × AreCurrentIn n.rect n.references.items) }
 {
-    match worked(alloc, 1, 2, 3, 7)? {
+    match three_children(alloc, 1, 2, 3, 7)? {
         Some(node) => Ok(node),
         None => Err("no node".into()),
     }
 }
 
 /// The numbers below a node.
-fn children(alloc: Global, node: &IndexNode<u64>) -> Mem<Vec<u64>> {
+fn children(alloc: Global, node: &IndexNode<usize>) -> Mem<Vec<usize>> {
     let mut found = Vec::new(alloc);
     for reference in node.references() {
         found.push(reference.child)?;
@@ -167,7 +166,12 @@ fn children(alloc: Global, node: &IndexNode<u64>) -> Mem<Vec<u64>> {
     Ok(found)
 }
 
-fn meeting(alloc: Global, node: &IndexNode<u64>, from: Instant, to: Option<Instant>) -> Mem<usize> {
+fn meeting(
+    alloc: Global,
+    node: &IndexNode<usize>,
+    from: Instant,
+    to: Option<Instant>,
+) -> Mem<usize> {
     match all(alloc, from, to) {
         Some(area) => Ok(node.meeting(alloc, &area)?.len()),
         None => Ok(0),
@@ -184,7 +188,7 @@ fn references_that_meet_a_rectangle_are_found(rt: HostRuntime) -> Result<(), Fai
 }
 
 /// The child at a point, or 0 where there is no such key or point.
-fn found(alloc: Global, node: &IndexNode<u64>, number: u8, instant: Instant) -> Mem<u64>
+fn child_at(alloc: Global, node: &IndexNode<usize>, number: u8, instant: Instant) -> Mem<usize>
     requires { Tiles node.now.rect node.now.references.items }
 {
     let Some(key) = key(alloc, number)? else {
@@ -210,7 +214,7 @@ fn a_point_has_one_reference(rt: HostRuntime) -> Result<(), Fail> {
     ];
     for (number, instant, child) in cases {
         assert_eq!(rt;
-            found(rt.alloc(), &node, number, instant)?,
+            child_at(rt.alloc(), &node, number, instant)?,
             child,
             "{number} at {instant}"
         );
@@ -219,7 +223,7 @@ fn a_point_has_one_reference(rt: HostRuntime) -> Result<(), Fail> {
 }
 
 /// The children of both halves of a split by the middle key; none where there is no such split.
-fn split_by_key(alloc: Global, node: &IndexNode<u64>) -> Mem<(Vec<u64>, Vec<u64>)>
+fn split_by_key(alloc: Global, node: &IndexNode<usize>) -> Mem<(Vec<usize>, Vec<usize>)>
     requires tiled { Tiles node.now.rect node.now.references.items }
     requires current { AreCurrentIn node.now.rect node.now.references.items }
 {
@@ -242,7 +246,7 @@ fn both_halves_of_a_split_by_key_have_what_crosses_it(rt: HostRuntime) -> Result
 }
 
 /// The children of both halves of a split at the least start of a current reference; none where there is no such split.
-fn split_by_time(alloc: Global, node: &IndexNode<u64>) -> Mem<(Vec<u64>, Vec<u64>)> {
+fn split_by_time(alloc: Global, node: &IndexNode<usize>) -> Mem<(Vec<usize>, Vec<usize>)> {
     if let Some(cut) = node.least_current_start()
         && node.rect().time().from < cut
         && node.rect().time().to.is_none()
@@ -268,7 +272,7 @@ fn a_split_by_time_parts_the_past_from_the_current_ones(rt: HostRuntime) -> Resu
 
 fn replace_from_1(
     alloc: Global,
-    node: &mut IndexNode<u64>,
+    node: &mut IndexNode<usize>,
     to: Instant,
     cut: Instant,
 ) -> Mem<bool> {
@@ -296,19 +300,20 @@ fn references_take_the_place_of_the_one_that_has_the_rectangle(
     Ok(())
 }
 
-fn named(name: u64, is_packed: bool) -> Leaf {
+fn named_leaf(name: u64, is_packed: bool) -> Leaf {
     Leaf { name, is_packed }
 }
 
 fn leaves(alloc: Global) -> Result<IndexNode<Leaf>, Fail>
-    ensures { IfOk result (λ n. Tiles n.rect n.references.items × AreCurrentIn n.rect n.references.items) }
+    ensures { IfOk result (λ n.
+        Tiles n.rect n.references.items × AreCurrentIn n.rect n.references.items) }
 {
-    match worked(
+    match three_children(
         alloc,
-        named(1, true),
-        named(2, false),
-        named(3, false),
-        named(7, false),
+        named_leaf(1, true),
+        named_leaf(2, false),
+        named_leaf(3, false),
+        named_leaf(7, false),
     )? {
         Some(node) => Ok(node),
         None => Err("no node".into()),
@@ -316,7 +321,7 @@ fn leaves(alloc: Global) -> Result<IndexNode<Leaf>, Fail>
 }
 
 /// The sum of the names below a node, and how many are packed.
-fn summed(node: &IndexNode<Leaf>) -> (u64, usize) {
+fn sums(node: &IndexNode<Leaf>) -> (u64, usize) {
     let mut names: u64 = 0;
     let mut packed: usize = 0;
     for reference in node.references() {
@@ -334,7 +339,7 @@ fn leaf_halves(alloc: Global, node: &IndexNode<Leaf>) -> Mem<((u64, usize), (u64
         && let Some(cut) = node.middle_key(alloc)?
     {
         let (below, above) = node.split_key(&cut)?;
-        return Ok((summed(&below), summed(&above)));
+        return Ok((sums(&below), sums(&above)));
     }
     Ok(((0, 0), (0, 0)))
 }
@@ -352,7 +357,7 @@ fn over_one(alloc: Global, area: Rect) -> Mem<usize> {
         rect: area.copy()?,
         child: 5,
     };
-    let node: IndexNode<u64> = IndexNode::new(alloc, area, single(alloc, reference)?)?;
+    let node: IndexNode<usize> = IndexNode::new(alloc, area, single(alloc, reference)?)?;
     Ok(node.references().len())
 }
 
@@ -360,5 +365,45 @@ fn over_one(alloc: Global, area: Rect) -> Mem<usize> {
 fn one_reference_tiles_its_rectangle(rt: HostRuntime) -> Result<(), Fail> {
     let area = all(rt.alloc(), 1, None).ok_or("no rectangle")?;
     assert_eq!(rt; over_one(rt.alloc(), area)?, 1);
+    Ok(())
+}
+
+/// The children of a node over one, with two halves at an instant in its place.
+fn halves_over_one(alloc: Global, area: Rect, cut: Instant) -> Mem<Vec<usize>> {
+    let whole = Reference {
+        rect: area.copy()?,
+        child: 5,
+    };
+    let Some((before, after)) = area.cut_time(cut)? else {
+        return Ok(Vec::new(alloc));
+    };
+    let node = IndexNode::new(alloc, area.copy()?, single(alloc, whole)?)?;
+    let first = Reference {
+        rect: before,
+        child: 6,
+    };
+    let second = Reference {
+        rect: after,
+        child: 7,
+    };
+    let changed = node.with_references(&area, first, second)?;
+    children(alloc, &changed)
+}
+
+#[test]
+fn halves_take_the_place_of_their_whole_in_a_copy(rt: HostRuntime) -> Result<(), Fail> {
+    let area = all(rt.alloc(), 1, None).ok_or("no rectangle")?;
+    let children = halves_over_one(rt.alloc(), area, 100)?;
+    assert_eq!(rt; children.as_slice(), [6, 7].as_slice());
+    Ok(())
+}
+
+#[test]
+fn a_copy_has_the_same_children(rt: HostRuntime) -> Result<(), Fail> {
+    let copy = numbers(rt.alloc())?.copy()?;
+    assert_eq!(rt;
+        children(rt.alloc(), &copy)?.as_slice(),
+        [1, 2, 3].as_slice()
+    );
     Ok(())
 }

@@ -1,9 +1,9 @@
 use Rattle.std.proofs.Common.{◌++◌, ◌∷◌, [], sym, ap, ◌∙◌}
 use Rattle.std.specs.Prelude.{IsTrue}
 use Rattle.keyrange.specs.declared.range.KeyRange.{KeyRange}
-use Rattle.keyrange.specs.Points.{is_area}
-use Rattle.indexnode.specs.Halves.{is_current}
-use Rattle.indexnode.proofs.Found.{took_made, left_made, more_hold}
+use Rattle.keyrange.specs.Rect.{is_area}
+use Rattle.indexnode.specs.Split.{is_current}
+use Rattle.indexnode.proofs.NodeFound.{took_made, left_made, more_hold}
 use Rattle.indexnode.proofs.choice.current_keys.Goals as goal
 use Rattle.indexnode.proofs.choice.current_keys.Goals.{then-is_current+in_ok-copy+in_ok-push, else-is_current}
 

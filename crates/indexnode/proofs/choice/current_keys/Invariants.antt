@@ -1,7 +1,7 @@
 use Rattle.std.proofs.Common.{◌≡◌, take}
 use Rattle.std.specs.Prelude.{IsTrue}
 use Rattle.std.specs.List.{All}
-use Rattle.keyrange.specs.Points.{is_area}
+use Rattle.keyrange.specs.Rect.{is_area}
 use Rattle.indexnode.specs.Choice.{current_keys}
 use Rattle.indexnode.proofs.choice.current_keys.Given as goal
 

@@ -1,5 +1,5 @@
 use Rattle.std.proofs.Common.{◌≡◌, ◌-◌, length, drop}
-use Rattle.indexnode.specs.Tiling.{at_point}
+use Rattle.indexnode.specs.Node.{at_point}
 use Rattle.indexnode.proofs.node.IndexNode.find.Given as goal
 
 abbrev pub invariant-loop-place : goal.invariant-loop-place

@@ -1,6 +1,6 @@
 use Rattle.std.proofs.Common.{◌≡◌, take}
 use Rattle.std.specs.List.{filter}
-use Rattle.indexnode.specs.Halves.{keeps}
+use Rattle.indexnode.specs.Split.{keeps}
 use Rattle.indexnode.proofs.node.IndexNode.half.Given as goal
 
 abbrev pub invariant-loop-reference : goal.invariant-loop-reference

@@ -1,7 +1,7 @@
 use Rattle.std.proofs.Common.{take}
 use Rattle.std.specs.Prelude.{MatchOption, IsTrue}
 use Rattle.std.specs.List.{All}
-use Rattle.keyrange.specs.Points.{is_area}
+use Rattle.keyrange.specs.Rect.{is_area}
 use Rattle.indexnode.specs.Choice.{HasNoCurrent, IsLeastStart}
 use Rattle.indexnode.proofs.node.IndexNode.least_current_start.Given as goal
 

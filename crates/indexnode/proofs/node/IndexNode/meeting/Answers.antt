@@ -1,9 +1,9 @@
 use Rattle.std.proofs.Common.{sym, ap, subst, ◌∙◌, refl, arith}
 use Rattle.std.specs.Prelude.{◌↔◌, IsTrue}
 use Rattle.std.specs.List.{All}
-use Rattle.keyrange.specs.Points.{Common}
-use Rattle.indexnode.specs.Meeting.{meet, MeetsWhereCommon}
-use Rattle.indexnode.proofs.Found.{took_lent, left_lent, more_hold, all_hold}
+use Rattle.keyrange.specs.Rect.{Common}
+use Rattle.indexnode.specs.Node.{meet, MeetsWhereCommon}
+use Rattle.indexnode.proofs.NodeFound.{took_lent, left_lent, more_hold, all_hold}
 use Rattle.indexnode.proofs.node.IndexNode.meeting.Goals as goal
 use Rattle.indexnode.proofs.node.IndexNode.meeting.Goals.{then-meets+in_ok-push, else-meets}
 

@@ -1,6 +1,6 @@
 use Rattle.std.proofs.Common.{◌≡◌, map, take, All}
 use Rattle.std.specs.List.{filter}
-use Rattle.indexnode.specs.Meeting.{meet, MeetsWhereCommon}
+use Rattle.indexnode.specs.Node.{meet, MeetsWhereCommon}
 use Rattle.indexnode.proofs.node.IndexNode.meeting.Given as goal
 
 abbrev pub invariant-loop-reference : goal.invariant-loop-reference

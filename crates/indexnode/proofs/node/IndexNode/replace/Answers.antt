@@ -4,8 +4,8 @@ use Rattle.std.proofs.lemmas.List.{map-id}
 use Rattle.std.proofs.lemmas.Iterator.{items_from_drains}
 use Rattle.std.proofs.lemmas.Iterator.Adapters.{YieldsList-from_vec}
 use Rattle.indexnode.specs.Replacement.{IsFirstPlace}
-use Rattle.indexnode.proofs.StillMeet.{still_meet}
-use Rattle.indexnode.proofs.InPlace.{has_rect, lacks_rect, in_its_place, tiling_kept, currents_kept}
+use Rattle.indexnode.proofs.SplitMeeting.{still_meet}
+use Rattle.indexnode.proofs.ReplacementPlace.{has_rect, lacks_rect, in_its_place, tiling_kept, currents_kept}
 use Rattle.indexnode.proofs.node.IndexNode.replace.Goals as goal
 
 pub returns-in_default-clause-answer : goal.returns-in_default-clause-answer

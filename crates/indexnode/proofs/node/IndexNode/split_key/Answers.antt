@@ -1,11 +1,11 @@
 use Rattle.std.proofs.Common.{sym, subst}
 use Rattle.std.specs.Prelude.{IfSome}
-use Rattle.keyrange.specs.Cuts.{PartsKeys}
-use Rattle.indexnode.specs.Tiling.{Tiles, AllMeet}
-use Rattle.indexnode.specs.Halves.{reaches_below, reaches_up, AreCurrentIn}
-use Rattle.indexnode.proofs.StillMeet.{taken_meet, below_meets, above_meets}
-use Rattle.indexnode.proofs.Currents.{below_in, above_in}
-use Rattle.indexnode.proofs.Tilings.{half_tiles, one_in, other_in, reaching_below, reaching_up}
+use Rattle.keyrange.specs.Cut.{PartsKeys}
+use Rattle.indexnode.specs.Node.{Tiles, AllMeet}
+use Rattle.indexnode.specs.Split.{reaches_below, reaches_up, AreCurrentIn}
+use Rattle.indexnode.proofs.SplitMeeting.{taken_meet, below_meets, above_meets}
+use Rattle.indexnode.proofs.SplitCurrent.{below_in, above_in}
+use Rattle.indexnode.proofs.SplitTiling.{half_tiles, one_in, other_in, reaching_below, reaching_up}
 use Rattle.indexnode.proofs.node.IndexNode.split_key.Goals as goal
 
 pub returns-clause-tiled : goal.returns-clause-tiled

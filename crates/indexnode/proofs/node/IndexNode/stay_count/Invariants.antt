@@ -1,6 +1,6 @@
 use Rattle.std.proofs.Common.{◌≡◌, ◌≤◌, length, take}
 use Rattle.std.specs.List.{filter}
-use Rattle.indexnode.specs.Halves.{ends_after}
+use Rattle.indexnode.specs.Split.{ends_after}
 use Rattle.indexnode.proofs.node.IndexNode.stay_count.Given as goal
 
 abbrev pub invariant-loop-reference : goal.invariant-loop-reference

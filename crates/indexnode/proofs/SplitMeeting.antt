@@ -5,24 +5,25 @@ use Rattle.std.specs.List.{filter, All}
 use Rattle.std.proofs.lemmas.Bool.Decides.{nat_tests}
 use Rattle.std.proofs.lemmas.List.Elements.{All-nil, All-cons, All-append}
 use Rattle.values.specs.Commits.{max_instant}
-use Rattle.keyrange.specs.Points.{Area, is_area, is_key_in, is_time_in, is_below, is_before_end, is_early, Common}
-use Rattle.keyrange.specs.Cuts.{is_key_inside, is_time_inside, PartsKeys, PartsTime}
-use Rattle.keyrange.proofs.Meetings.{both, first, second, common_point}
-use Rattle.keyrange.proofs.Orders.{not_itself, not_back, above}
+use Rattle.keyrange.specs.Rect.{Area, is_area, Common, IsInside}
+use Rattle.keyrange.specs.Range.{is_key_in, is_time_in, is_below, is_before_end, is_early}
+use Rattle.keyrange.specs.Cut.{is_key_inside, is_time_inside, PartsKeys, PartsTime}
+use Rattle.keyrange.proofs.RectMeeting.{both, first, second, common_point}
+use Rattle.keyrange.proofs.RangeOrder.{not_itself, not_back, above}
 use Rattle.indexnode.specs.declared.reference.Reference.{Reference}
-use Rattle.indexnode.specs.Tiling.{LiesIn, AllMeet}
-use Rattle.indexnode.specs.Halves.{reaches_below, reaches_up, starts_before, ends_after}
+use Rattle.indexnode.specs.Node.{AllMeet}
+use Rattle.indexnode.specs.Split.{reaches_below, reaches_up, starts_before, ends_after}
 use Rattle.indexnode.specs.Replacement.{Replaced}
-use Rattle.indexnode.proofs.Currents.{all_taken}
-use Rattle.indexnode.proofs.Instants.{up_to, at_most, is_less, less, early_before}
-use Rattle.indexnode.proofs.Tilings.{denied, negated, end_above}
-use Rattle.indexnode.proofs.InPlace.{fronts, backs}
+use Rattle.indexnode.proofs.SplitCurrent.{all_taken}
+use Rattle.indexnode.proofs.SplitInstants.{up_to, at_most, is_less, less, early_before}
+use Rattle.indexnode.proofs.SplitTiling.{denied, negated, end_above}
+use Rattle.indexnode.proofs.ReplacementPlace.{fronts, backs}
 
 pub starts_at_1 : (r : Area) → IsTrue (is_area r.keys r.time) → 1 ≤ r.time.from
 starts_at_1 r is_one = at_most 1 r.time.from (first _ _ (second (is_before_end r.keys.lo r.keys.hi) _ is_one))
 
 -- what lies inside has a point of it
-inside_meets : (r outer : Area) → IsTrue (is_area r.keys r.time) → LiesIn r outer → Common r outer
+inside_meets : (r outer : Area) → IsTrue (is_area r.keys r.time) → IsInside r outer → Common r outer
 inside_meets r outer is_one lies =
     let keys : is_before_end r.keys.lo r.keys.hi ≡ true = first _ _ is_one in
     let early : is_early r.time.from r.time.to ≡ true = first _ _ (second (nat_le r.time.from max_instant) _ (second (nat_le 1 r.time.from) _ (second (is_before_end r.keys.lo r.keys.hi) _ is_one))) in
@@ -164,12 +165,12 @@ module _ {C : Type 0} where
       let all : All P (replaced.front ++ replaced.reference ∷ replaced.back) = subst (All P) replaced.was olds in
       subst (All P) (sym replaced.is) (All-append P (replaced.front ++ given) replaced.back (All-append P replaced.front given (fronts P replaced.front _ all) news) (backs P replaced.front replaced.reference replaced.back all))
 
-  pub one_meets : (outer : Area) (r : Reference C) (list : List (Reference C)) → IsTrue (is_area r.rect.keys r.rect.time) → LiesIn r.rect outer → list ≡ r ∷ [] → AllMeet outer list
+  pub one_meets : (outer : Area) (r : Reference C) (list : List (Reference C)) → IsTrue (is_area r.rect.keys r.rect.time) → IsInside r.rect outer → list ≡ r ∷ [] → AllMeet outer list
   one_meets outer r list is_one lies is =
       let P : Reference C → Type 0 = λ s. Common s.rect outer in
       subst (All P) (sym is) (All-cons P r [] (inside_meets r.rect outer is_one lies) (All-nil P))
 
-  pub both_meet : (outer : Area) (r s : Reference C) (list : List (Reference C)) → IsTrue (is_area r.rect.keys r.rect.time) → IsTrue (is_area s.rect.keys s.rect.time) → LiesIn r.rect outer → LiesIn s.rect outer → list ≡ r ∷ s ∷ [] → AllMeet outer list
+  pub both_meet : (outer : Area) (r s : Reference C) (list : List (Reference C)) → IsTrue (is_area r.rect.keys r.rect.time) → IsTrue (is_area s.rect.keys s.rect.time) → IsInside r.rect outer → IsInside s.rect outer → list ≡ r ∷ s ∷ [] → AllMeet outer list
   both_meet outer r s list is_one is_other lies_one lies_other is =
       let P : Reference C → Type 0 = λ t. Common t.rect outer in
       subst (All P) (sym is) (All-cons P r (s ∷ []) (inside_meets r.rect outer is_one lies_one) (All-cons P s [] (inside_meets s.rect outer is_other lies_other) (All-nil P)))

@@ -3,13 +3,14 @@ use Rattle.std.proofs.Common.{◌≡◌, ℕ, List, [], ◌∷◌, Bool, true, f
 use Rattle.std.specs.Prelude.{IsTrue, not, nat_lt, nat_le}
 use Rattle.std.specs.List.{filter}
 use Rattle.std.proofs.lemmas.Bool.Decides.{nat_tests}
-use Rattle.keyrange.specs.Points.{Area, has_point, is_key_in, is_below, is_before_end, is_early}
-use Rattle.keyrange.specs.Cuts.{PartsKeys, PartsTime}
-use Rattle.keyrange.proofs.Meetings.{first, second}
-use Rattle.keyrange.proofs.Orders.{above}
+use Rattle.keyrange.specs.Rect.{Area, has_point, IsInside}
+use Rattle.keyrange.specs.Range.{is_key_in, is_below, is_before_end, is_early}
+use Rattle.keyrange.specs.Cut.{PartsKeys, PartsTime}
+use Rattle.keyrange.proofs.RectMeeting.{first, second}
+use Rattle.keyrange.proofs.RangeOrder.{above}
 use Rattle.indexnode.specs.declared.reference.Reference.{Reference}
-use Rattle.indexnode.specs.Tiling.{at_point, Tiles, LiesIn}
-use Rattle.indexnode.specs.Halves.{reaches_below, reaches_up, starts_before, ends_after}
+use Rattle.indexnode.specs.Node.{at_point, Tiles}
+use Rattle.indexnode.specs.Split.{reaches_below, reaches_up, starts_before, ends_after}
 
 pub denied : (a : Bool) → not a ≡ true → a ≡ false
 denied true e = cc
@@ -34,7 +35,7 @@ under_more p q less (x ∷ xs) = under_one (p x) (q x) x p (filter q xs) (filter
 -- ---- a half that takes every reference that holds one of its points
 
 pub half_tiles : {C : Type 0} (area half : Area) (keeps : Area → Bool) (references taken : List (Reference C))
-    → LiesIn half area
+    → IsInside half area
     → ((r : Area) (key : List ℕ) (instant : ℕ) → IsTrue (has_point half key instant) → IsTrue (has_point r key instant) → keeps r ≡ true)
     → taken ≡ filter (λ r. keeps r.rect) references
     → Tiles area references → Tiles half taken
@@ -50,10 +51,10 @@ end_above k cut None low high = refl
 end_above k cut (Some end) low high = above k cut end low high
 
 module _ (area one other : Area) (cut : List ℕ) (parts : PartsKeys area one other cut) where
-  pub one_in : LiesIn one area
+  pub one_in : IsInside one area
   one_in key instant h = first _ _ (sym (parts.below key instant) ∙ h)
 
-  pub other_in : LiesIn other area
+  pub other_in : IsInside other area
   other_in key instant h = first _ _ (sym (parts.above key instant) ∙ h)
 
   pub reaching_below : (r : Area) (key : List ℕ) (instant : ℕ) → IsTrue (has_point one key instant) → IsTrue (has_point r key instant) → reaches_below cut r ≡ true
@@ -65,10 +66,10 @@ module _ (area one other : Area) (cut : List ℕ) (parts : PartsKeys area one ot
       end_above key cut r.keys.hi (denied _ (second (has_point area key instant) _ (sym (parts.above key instant) ∙ h))) (second (not (is_below key r.keys.lo)) _ (first (is_key_in r.keys key) _ holds))
 
 module _ (area one other : Area) (cut : ℕ) (parts : PartsTime area one other cut) where
-  pub past_in : LiesIn one area
+  pub past_in : IsInside one area
   past_in key instant h = first _ _ (sym (parts.before key instant) ∙ h)
 
-  pub now_in : LiesIn other area
+  pub now_in : IsInside other area
   now_in key instant h = first _ _ (sym (parts.after key instant) ∙ h)
 
   at_or_before : (from instant cut : ℕ) → nat_le from instant ≡ true → nat_lt instant cut ≡ true → nat_lt from cut ≡ true

@@ -4,13 +4,13 @@ use Rattle.std.specs.Prelude.{IsTrue, IsSome, is_some, is_none}
 use Rattle.std.specs.List.{filter, All, splice}
 use Rattle.std.proofs.lemmas.List.{append_assoc, length-append, take-append-drop, drop_more}
 use Rattle.std.proofs.lemmas.List.Elements.{All-append, All-nil, All-cons, All-head, All-tail, All-weaker, filter-append}
-use Rattle.keyrange.specs.Points.{Area, has_point}
+use Rattle.keyrange.specs.Rect.{Area, has_point, IsInside}
 use Rattle.indexnode.specs.declared.reference.Reference.{Reference}
-use Rattle.indexnode.specs.Tiling.{at_point, Tiles, LiesIn}
-use Rattle.indexnode.specs.Halves.{is_current, AreCurrentIn}
+use Rattle.indexnode.specs.Node.{at_point, Tiles}
+use Rattle.indexnode.specs.Split.{is_current, AreCurrentIn}
 use Rattle.indexnode.specs.Choice.{HasNoCurrent}
 use Rattle.indexnode.specs.Replacement.{HasRect, Replaced, IsFirstPlace}
-use Rattle.indexnode.proofs.Currents.{all_taken}
+use Rattle.indexnode.proofs.SplitCurrent.{all_taken}
 
 historical_one : (b : Bool) → b ≡ false → b ≡ true → ⊥
 historical_one b e f = cc
@@ -61,10 +61,10 @@ module _ {C : Type 0} where
   mids P [] y ys all = All-head P y ys all
   mids P (x ∷ xs) y ys all = mids P xs y ys (All-tail P x (xs ++ y ∷ ys) all)
 
-  module _ (area rect : Area) (given before after : List (Reference C)) (tiles : Tiles rect given) (inside : All (λ r. LiesIn r.rect rect) given) (replaced : Replaced rect given before after) where
+  module _ (area rect : Area) (given before after : List (Reference C)) (tiles : Tiles rect given) (inside : All (λ r. IsInside r.rect rect) given) (replaced : Replaced rect given before after) where
     held : (key : List ℕ) (instant : ℕ) → has_point rect key instant ≡ false → length (at_point key instant given) ≡ 0
     held key instant out = none_of (at_point key instant given)
-        (all_taken (λ r. LiesIn r.rect rect) (λ r. LiesIn r.rect rect) (λ _. ⊥) (λ r. has_point r.rect key instant) given (at_point key instant given) refl
+        (all_taken (λ r. IsInside r.rect rect) (λ r. IsInside r.rect rect) (λ _. ⊥) (λ r. has_point r.rect key instant) given (at_point key instant given) refl
         (λ r lies _ has. let there : has_point rect key instant ≡ true = lies key instant has in cc) inside inside)
 
     counted : (key : List ℕ) (instant : ℕ) → length (at_point key instant after) ≡ length (at_point key instant before)
@@ -91,14 +91,14 @@ module _ {C : Type 0} where
       where
         by : (to : Option ℕ) → rect.time.to ≡ to → AreCurrentIn area given
         by (Some end) e =
-            All-weaker (λ r. is_current r ≡ false) (λ r. IsTrue (is_current r) → LiesIn r.rect area) (λ r no yes. absurd (historical_one (is_current r) no yes)) given (historical (ap is_some e))
+            All-weaker (λ r. is_current r ≡ false) (λ r. IsTrue (is_current r) → IsInside r.rect area) (λ r no yes. absurd (historical_one (is_current r) no yes)) given (historical (ap is_some e))
         by None e =
-            let lies : LiesIn replaced.reference.rect area = mids (λ r. IsTrue (is_current r) → LiesIn r.rect area) replaced.front replaced.reference replaced.back (subst (All (λ r. IsTrue (is_current r) → LiesIn r.rect area)) replaced.was olds) (ap (λ (a : Area). is_none a.time.to) replaced.has ∙ ap is_none e) in
-            let whole : LiesIn rect area = subst (λ a. LiesIn a area) replaced.has lies in
-            All-weaker (λ r. LiesIn r.rect rect) (λ r. IsTrue (is_current r) → LiesIn r.rect area) (λ r lies_r _ key instant h. whole key instant (lies_r key instant h)) given inside
+            let lies : IsInside replaced.reference.rect area = mids (λ r. IsTrue (is_current r) → IsInside r.rect area) replaced.front replaced.reference replaced.back (subst (All (λ r. IsTrue (is_current r) → IsInside r.rect area)) replaced.was olds) (ap (λ (a : Area). is_none a.time.to) replaced.has ∙ ap is_none e) in
+            let whole : IsInside rect area = subst (λ a. IsInside a area) replaced.has lies in
+            All-weaker (λ r. IsInside r.rect rect) (λ r. IsTrue (is_current r) → IsInside r.rect area) (λ r lies_r _ key instant h. whole key instant (lies_r key instant h)) given inside
 
     pub currents_kept : AreCurrentIn area before → (IsSome rect.time.to → HasNoCurrent given) → AreCurrentIn area after
     currents_kept olds historical =
-        let P : Reference C → Type 0 = λ r. IsTrue (is_current r) → LiesIn r.rect area in
+        let P : Reference C → Type 0 = λ r. IsTrue (is_current r) → IsInside r.rect area in
         let all : All P (replaced.front ++ replaced.reference ∷ replaced.back) = subst (All P) replaced.was olds in
         subst (All P) (sym replaced.is) (All-append P (replaced.front ++ given) replaced.back (All-append P replaced.front given (fronts P replaced.front _ all) (given_in olds historical)) (backs P replaced.front replaced.reference replaced.back all))

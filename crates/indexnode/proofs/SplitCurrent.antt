@@ -4,14 +4,14 @@ use Rattle.std.specs.Prelude.{IsTrue, ◌&&◌, not, nat_lt, nat_le}
 use Rattle.std.specs.List.{filter, All}
 use Rattle.std.proofs.lemmas.Bool.Decides.{nat_tests}
 use Rattle.std.proofs.lemmas.List.Elements.{All-filter, filter_passes}
-use Rattle.keyrange.specs.Points.{Area, has_point, is_key_in, is_below, is_before_end}
-use Rattle.keyrange.specs.Cuts.{is_key_inside, PartsKeys, PartsTime}
-use Rattle.keyrange.proofs.Meetings.{both, first, second}
-use Rattle.keyrange.proofs.Orders.{above}
+use Rattle.keyrange.specs.Rect.{Area, has_point, IsInside}
+use Rattle.keyrange.specs.Range.{is_key_in, is_below, is_before_end}
+use Rattle.keyrange.specs.Cut.{is_key_inside, PartsKeys, PartsTime}
+use Rattle.keyrange.proofs.RectMeeting.{both, first, second}
+use Rattle.keyrange.proofs.RangeOrder.{above}
 use Rattle.indexnode.specs.declared.reference.Reference.{Reference}
-use Rattle.indexnode.proofs.Tilings.{denied, negated}
-use Rattle.indexnode.specs.Tiling.{LiesIn}
-use Rattle.indexnode.specs.Halves.{reaches_below, reaches_up, starts_before, ends_after, is_current, IsUncrossed, IsBeforeCurrent, AreCurrentIn}
+use Rattle.indexnode.proofs.SplitTiling.{denied, negated}
+use Rattle.indexnode.specs.Split.{reaches_below, reaches_up, starts_before, ends_after, is_current, IsUncrossed, IsBeforeCurrent, AreCurrentIn}
 
 -- what follows for those that pass from what holds of all
 pub all_taken : {X : Type 0} (P Q R : X → Type 0) (q : X → Bool) (xs ys : List X) → ys ≡ filter q xs → ((x : X) → P x → Q x → q x ≡ true → R x) → All P xs → All Q xs → All R ys
@@ -20,7 +20,7 @@ all_taken P Q R q xs ys are each ps qs =
 
 -- the half's points are the whole's that pass a test
 module _ (area half : Area) (test : List ℕ → ℕ → Bool) (parts : (key : List ℕ) (instant : ℕ) → has_point half key instant ≡ (has_point area key instant && test key instant)) where
-  pub lies_in_half : (r : Area) → LiesIn r area → ((key : List ℕ) (instant : ℕ) → IsTrue (has_point r key instant) → test key instant ≡ true) → LiesIn r half
+  pub lies_in_half : (r : Area) → IsInside r area → ((key : List ℕ) (instant : ℕ) → IsTrue (has_point r key instant) → test key instant ≡ true) → IsInside r half
   lies_in_half r inside passes key instant holds = parts key instant ∙ both _ _ (inside key instant holds) (passes key instant holds)
 
 -- ---- by key
@@ -51,7 +51,7 @@ one_false false b e f = refl
 module _ {C : Type 0} (area one other : Area) (cut : List ℕ) (parts : PartsKeys area one other cut) (references taken : List (Reference C)) (uncrossed : IsUncrossed cut references) (inside : AreCurrentIn area references) where
   pub below_in : taken ≡ filter (λ r. reaches_below cut r.rect) references → AreCurrentIn one taken
   below_in are = all_taken
-      (λ r. IsTrue (is_current r) → is_key_inside r.rect cut ≡ false) (λ r. IsTrue (is_current r) → LiesIn r.rect area) (λ r. IsTrue (is_current r) → LiesIn r.rect one)
+      (λ r. IsTrue (is_current r) → is_key_inside r.rect cut ≡ false) (λ r. IsTrue (is_current r) → IsInside r.rect area) (λ r. IsTrue (is_current r) → IsInside r.rect one)
       (λ r. reaches_below cut r.rect) references taken are
       (λ r crossed lies reaches current. lies_in_half area one (λ key _. is_below key cut) parts.below r.rect (lies current)
       (λ key instant holds. by_end key cut r.rect.keys.hi (second (not (is_below key r.rect.keys.lo)) _ (first (is_key_in r.rect.keys key) _ holds)) (other_false _ _ (crossed current) reaches)))
@@ -59,7 +59,7 @@ module _ {C : Type 0} (area one other : Area) (cut : List ℕ) (parts : PartsKey
 
   pub above_in : taken ≡ filter (λ r. reaches_up cut r.rect) references → AreCurrentIn other taken
   above_in are = all_taken
-      (λ r. IsTrue (is_current r) → is_key_inside r.rect cut ≡ false) (λ r. IsTrue (is_current r) → LiesIn r.rect area) (λ r. IsTrue (is_current r) → LiesIn r.rect other)
+      (λ r. IsTrue (is_current r) → is_key_inside r.rect cut ≡ false) (λ r. IsTrue (is_current r) → IsInside r.rect area) (λ r. IsTrue (is_current r) → IsInside r.rect other)
       (λ r. reaches_up cut r.rect) references taken are
       (λ r crossed lies reaches current. lies_in_half area other (λ key _. not (is_below key cut)) parts.above r.rect (lies current)
       (λ key instant holds. negated _ (by_start key r.rect.keys.lo cut (denied _ (first _ _ (first (is_key_in r.rect.keys key) _ holds))) (one_false _ _ (crossed current) reaches))))
@@ -76,14 +76,14 @@ from_there cut from instant le e = grind (arith, nat_tests)
 module _ {C : Type 0} (area one other : Area) (cut : ℕ) (parts : PartsTime area one other cut) (references taken : List (Reference C)) (later : IsBeforeCurrent cut references) (inside : AreCurrentIn area references) where
   pub past_in : taken ≡ filter (λ r. starts_before cut r.rect) references → AreCurrentIn one taken
   past_in are = all_taken
-      (λ r. IsTrue (is_current r) → cut ≤ r.rect.time.from) (λ r. IsTrue (is_current r) → LiesIn r.rect area) (λ r. IsTrue (is_current r) → LiesIn r.rect one)
+      (λ r. IsTrue (is_current r) → cut ≤ r.rect.time.from) (λ r. IsTrue (is_current r) → IsInside r.rect area) (λ r. IsTrue (is_current r) → IsInside r.rect one)
       (λ r. starts_before cut r.rect) references taken are
       (λ r starts lies before current. absurd (not_before cut r.rect.time.from (starts current) before))
       later inside
 
   pub now_in : taken ≡ filter (λ r. ends_after cut r.rect) references → AreCurrentIn other taken
   now_in are = all_taken
-      (λ r. IsTrue (is_current r) → cut ≤ r.rect.time.from) (λ r. IsTrue (is_current r) → LiesIn r.rect area) (λ r. IsTrue (is_current r) → LiesIn r.rect other)
+      (λ r. IsTrue (is_current r) → cut ≤ r.rect.time.from) (λ r. IsTrue (is_current r) → IsInside r.rect area) (λ r. IsTrue (is_current r) → IsInside r.rect other)
       (λ r. ends_after cut r.rect) references taken are
       (λ r starts lies after current. lies_in_half area other (λ _ instant. not (nat_lt instant cut)) parts.after r.rect (lies current)
       (λ key instant holds. negated _ (from_there cut r.rect.time.from instant (starts current) (first _ _ (second (is_key_in r.rect.keys key) _ holds)))))

@@ -5,13 +5,14 @@ use Rattle.std.specs.List.{filter, All, Any}
 use Rattle.std.proofs.lemmas.Bool.Decides.{nat_tests}
 use Rattle.std.proofs.lemmas.List.Elements.{All-push, All-weaker, All-head, All-tail, Contains-append_left, Contains-push}
 use Rattle.values.specs.Commits.{max_instant}
-use Rattle.keyrange.specs.Points.{is_area, is_before_end}
-use Rattle.keyrange.proofs.Meetings.{first, second}
+use Rattle.keyrange.specs.Rect.{is_area}
+use Rattle.keyrange.specs.Range.{is_before_end}
+use Rattle.keyrange.proofs.RectMeeting.{first, second}
 use Rattle.indexnode.specs.declared.reference.Reference.{Reference}
-use Rattle.indexnode.specs.Halves.{is_current, starts_before}
+use Rattle.indexnode.specs.Split.{is_current, starts_before}
 use Rattle.indexnode.specs.Choice.{HasNoCurrent, IsLeastStart, current_count}
-use Rattle.indexnode.proofs.Instants.{at_most, is_less, not_less}
-use Rattle.indexnode.proofs.Middle.{all_or_fewer}
+use Rattle.indexnode.proofs.SplitInstants.{at_most, is_less, not_less}
+use Rattle.indexnode.proofs.ChoiceMiddle.{all_or_fewer}
 
 before : (x y : ℕ) → x < y → x ≤ y
 before x y lt = omega arith

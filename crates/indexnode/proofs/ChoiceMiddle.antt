@@ -11,17 +11,18 @@ use Rattle.std.proofs.lemmas.List.{length-map}
 use Rattle.std.proofs.lemmas.List.Sums.{length-filter}
 use Rattle.std.proofs.lemmas.List.Sorted.{All-permutation, IsPermutation-sym, sum_by-IsPermutation, sorted_far, ranks_by, length_permutation}
 use Rattle.values.specs.Events.{bytes_cmp}
-use Rattle.keyrange.specs.Points.{Area, has_point, is_area, is_below, is_before_end}
-use Rattle.keyrange.specs.Cuts.{is_key_inside}
-use Rattle.keyrange.proofs.Meetings.{both, first, second}
-use Rattle.keyrange.proofs.Orders.{not_itself, above}
+use Rattle.keyrange.specs.Rect.{Area, has_point, is_area}
+use Rattle.keyrange.specs.Range.{is_below, is_before_end}
+use Rattle.keyrange.specs.Cut.{is_key_inside}
+use Rattle.keyrange.proofs.RectMeeting.{both, first, second}
+use Rattle.keyrange.proofs.RangeOrder.{not_itself, above}
 use Rattle.indexnode.specs.declared.reference.Reference.{Reference}
-use Rattle.indexnode.specs.Tiling.{at_point, Tiles}
-use Rattle.indexnode.specs.Halves.{is_current, reaches_below, reaches_up, IsUncrossed, AreCurrentIn}
+use Rattle.indexnode.specs.Node.{at_point, Tiles}
+use Rattle.indexnode.specs.Split.{is_current, reaches_below, reaches_up, IsUncrossed, AreCurrentIn}
 use Rattle.indexnode.specs.Choice.{current_keys, current_count, AreOrdered, AreSmaller}
-use Rattle.indexnode.proofs.Currents.{all_taken, one_false}
-use Rattle.indexnode.proofs.Tilings.{negated, denied}
-use Rattle.indexnode.proofs.Crossing.{endless, passing}
+use Rattle.indexnode.proofs.SplitCurrent.{all_taken, one_false}
+use Rattle.indexnode.proofs.SplitTiling.{negated, denied}
+use Rattle.indexnode.proofs.ChoiceCrossing.{endless, passing}
 
 -- ---- counting what passes
 

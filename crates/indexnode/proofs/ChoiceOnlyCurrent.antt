@@ -4,15 +4,16 @@ use Rattle.std.specs.Prelude.{◌&&◌, nat_lt, nat_le, is_none, MatchOption, If
 use Rattle.std.specs.List.{filter, All}
 use Rattle.std.proofs.lemmas.Bool.Decides.{nat_tests}
 use Rattle.std.proofs.lemmas.List.Elements.{All-nil, All-cons, All-head, All-tail, All-weaker}
-use Rattle.keyrange.specs.Points.{Area, has_point, is_key_in, is_early}
-use Rattle.keyrange.proofs.Meetings.{both, first, second}
+use Rattle.keyrange.specs.Rect.{Area, has_point}
+use Rattle.keyrange.specs.Range.{is_key_in, is_early}
+use Rattle.keyrange.proofs.RectMeeting.{both, first, second}
 use Rattle.indexnode.specs.declared.reference.Reference.{Reference}
-use Rattle.indexnode.specs.Tiling.{at_point, Tiles, AllMeet}
-use Rattle.indexnode.specs.Halves.{is_current, ends_after}
+use Rattle.indexnode.specs.Node.{at_point, Tiles, AllMeet}
+use Rattle.indexnode.specs.Split.{is_current, ends_after}
 use Rattle.indexnode.specs.Choice.{HasNoCurrent, IsLeastStart, current_count, StandsAlone}
-use Rattle.indexnode.proofs.Crossing.{endless, OnlyOne, only_one}
-use Rattle.indexnode.proofs.Instants.{up_to, at_most, is_less, less, early_before}
-use Rattle.indexnode.proofs.Middle.{fewer}
+use Rattle.indexnode.proofs.ChoiceCrossing.{endless, OnlyOne, only_one}
+use Rattle.indexnode.proofs.SplitInstants.{up_to, at_most, is_less, less, early_before}
+use Rattle.indexnode.proofs.ChoiceMiddle.{fewer}
 
 none_pass : {X : Type 0} (p : X → Bool) (xs : List X) → All (λ x. p x ≡ false) xs → length (filter p xs) ≡ 0
 none_pass p [] none = refl

@@ -2,7 +2,7 @@
 use Rattle.std.proofs.Common.{◌≡◌, ℕ, ◌<◌, ◌≤◌, true, false, Option, Some, None, refl, arith}
 use Rattle.std.specs.Prelude.{nat_lt, nat_le}
 use Rattle.std.proofs.lemmas.Bool.Decides.{nat_tests}
-use Rattle.keyrange.specs.Points.{is_early}
+use Rattle.keyrange.specs.Range.{is_early}
 
 pub up_to : (x y : ℕ) → x ≤ y → nat_le x y ≡ true
 up_to x y le = grind (arith, nat_tests)

@@ -5,16 +5,17 @@ use Rattle.std.specs.List.{filter, All, AllByRecursion}
 use Rattle.std.proofs.lemmas.Bool.Decides.{nat_tests}
 use Rattle.std.proofs.lemmas.List.Elements.{All-from_recursion, recursion_from_All, All-nil, All-cons, All-map}
 use Rattle.std.proofs.lemmas.List.Sorted.{All-permutation}
-use Rattle.keyrange.specs.Points.{Area, has_point, is_area, is_below, is_early}
-use Rattle.keyrange.specs.Cuts.{is_key_inside}
-use Rattle.keyrange.proofs.Meetings.{both, first, second}
-use Rattle.keyrange.proofs.Orders.{not_itself, not_back}
+use Rattle.keyrange.specs.Rect.{Area, has_point, is_area}
+use Rattle.keyrange.specs.Range.{is_below, is_early}
+use Rattle.keyrange.specs.Cut.{is_key_inside}
+use Rattle.keyrange.proofs.RectMeeting.{both, first, second}
+use Rattle.keyrange.proofs.RangeOrder.{not_itself, not_back}
 use Rattle.indexnode.specs.declared.reference.Reference.{Reference}
-use Rattle.indexnode.specs.Tiling.{Tiles}
-use Rattle.indexnode.specs.Halves.{is_current, IsUncrossed, AreCurrentIn}
+use Rattle.indexnode.specs.Node.{Tiles}
+use Rattle.indexnode.specs.Split.{is_current, IsUncrossed, AreCurrentIn}
 use Rattle.indexnode.specs.Choice.{current_keys, AreOrdered}
-use Rattle.indexnode.proofs.Currents.{all_taken}
-use Rattle.indexnode.proofs.Tilings.{negated}
+use Rattle.indexnode.proofs.SplitCurrent.{all_taken}
+use Rattle.indexnode.proofs.SplitTiling.{negated}
 
 -- ---- what is true of those that pass
 

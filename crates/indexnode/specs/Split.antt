@@ -1,11 +1,11 @@
 -- The references of a node's halves.
 use Rattle.std.specs.Prelude.{◌≡◌, ℕ, ◌≤◌, List, Bool, false, nat_lt, is_none, IsTrue, All}
-use Rattle.keyrange.specs.Points.{Area, is_below, is_before_end, is_early}
-use Rattle.keyrange.specs.Cuts.{is_key_inside}
+use Rattle.keyrange.specs.Rect.{Area, IsInside}
+use Rattle.keyrange.specs.Range.{is_below, is_before_end, is_early}
+use Rattle.keyrange.specs.Cut.{is_key_inside}
 use Rattle.indexnode.specs.declared.reference.Reference.{Reference}
 use Rattle.indexnode.specs.declared.split.Half.{Half}
 use Rattle.indexnode.specs.declared.split.Half.TheVariants.{Below, From, Past, Current}
-use Rattle.indexnode.specs.Tiling.{LiesIn}
 
 abbrev pub reaches_below : List ℕ → Area → Bool
 reaches_below key area = is_below area.keys.lo key
@@ -42,4 +42,4 @@ IsBeforeCurrent instant references = All (λ r. IsTrue (is_current r) → instan
 
 -- the current references lie inside
 abbrev pub AreCurrentIn : {C : Type 0} → Area → List (Reference C) → Type 0
-AreCurrentIn area references = All (λ r. IsTrue (is_current r) → LiesIn r.rect area) references
+AreCurrentIn area references = All (λ r. IsTrue (is_current r) → IsInside r.rect area) references
