@@ -6,4 +6,6 @@ use Rattle.values.specs.Commits.{max_instant}
 
 -- the larger of the reading and the instant after the last one, up to the last that there is
 abbrev pub next_instant : ℕ → ℕ → Result ℕ Refusal
-next_instant last reading = let instant = max reading (last + 1) in if nat_lt max_instant instant then Err ClockEnd else Ok instant
+next_instant last reading =
+    let instant = max reading (last + 1) in
+    if nat_lt max_instant instant then Err ClockEnd else Ok instant

@@ -1,8 +1,8 @@
 ghost use Rattle.std.specs.Prelude.{◌≡◌, ◌<◌, ◌≤◌, IfOk};
 ghost use Rattle.commitclock.specs.NextInstant.{next_instant};
 
-use values::{Instant, LAST, Refusal};
 use std::marker::Model;
+use values::{Instant, LAST, Refusal};
 
 /// The last commit instant, which contracts see as a number: 0 before the first commit, and never above `LAST`.
 #[derive(Debug, Drop)]
@@ -39,7 +39,8 @@ impl Clock {
         self.last
     }
 
-    /// The instant of a commit that reads the clock so: the reading, or where that has passed the instant after the last one.
+    /// The instant of a commit at a reading of the clock: the reading, or where that has passed the instant after the
+    /// last one.
     /// `ClockEnd` where that is above `LAST`. The clock stays as it is until it is moved.
     pub fn next(&self, reading: Instant) -> Result<Instant, Refusal>
         ensures next { result ≡ next_instant self.now reading }

@@ -52,9 +52,11 @@ HalvesByTime =
 abbrev pub ShownByCut : Type 0
 ShownByCut =
     (r : Area) (m : List Event) (key : List ℕ) (instant : ℕ)
-    → IsMap m → IsTrue (has_point r key instant) → row_until (cut r m) key instant ≡ row_until m key instant
+    → IsMap m → IsTrue (has_point r key instant)
+    → row_until (cut r m) key instant ≡ row_until m key instant
 
--- a key's last event before the rectangle's end is in the cut the map's, unless that is a deletion from before its start
+-- a key's last event before the rectangle's end is in the cut the map's, unless that is a deletion from before its
+-- start
 abbrev pub LastOfCut : Type 0
 LastOfCut =
     (r : Area) (m : List Event) (key : List ℕ)
@@ -67,4 +69,6 @@ IsElsewhere r e = (is_key_in r.keys e.key ≡ false) ⊎ (is_early e.at r.time.t
 
 -- an event elsewhere changes no cut
 abbrev pub CutStays : Type 0
-CutStays = (r : Area) (m : List Event) (e : Event) → IsArea r → IsElsewhere r e → cut r (put_event e m) ≡ cut r m
+CutStays =
+    (r : Area) (m : List Event) (e : Event)
+    → IsArea r → IsElsewhere r e → cut r (put_event e m) ≡ cut r m

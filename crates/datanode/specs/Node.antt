@@ -27,8 +27,8 @@ pub record IsCutOf (n : Node) (m : List Event) : Type 0 where
 abbrev pub IsLast : Event → List Event → Type 0
 IsLast e = All (λ d. d.key ≡ e.key → d.at < e.at)
 
--- which events a node accepts: it has no end, its rectangle holds the event's point, and the event is later than each of
--- its key
+-- which events a node accepts: it has no end, its rectangle holds the event's point, and the event is later than
+-- each of its key
 pub record Accepts (n : Node) (e : Event) : Type 0 where
   pub current : n.rect.time.to ≡ None
   pub inside : IsTrue (has_point n.rect e.key e.at)
@@ -38,7 +38,9 @@ pub record Accepts (n : Node) (e : Event) : Type 0 where
 abbrev pub last_before : Option ℕ → List Event → List ℕ → Option Event
 last_before end [] key = None
 last_before end (e ∷ es) key =
-    later (last_before end es key) (if is_bytes key e.key && is_early e.at end then Some e else None)
+    later
+    (last_before end es key)
+    (if is_bytes key e.key && is_early e.at end then Some e else None)
 
 -- an event, unless it is a deletion before the instant
 abbrev pub kept_from : ℕ → Option Event → Option Event
@@ -52,4 +54,6 @@ is_after e (Some d) = nat_lt d.at e.at
 
 -- the test of it
 abbrev pub accepts : Node → Event → Bool
-accepts n e = is_none n.rect.time.to && (has_point n.rect e.key e.at && is_after e (last_event n.events e.key))
+accepts n e =
+    is_none n.rect.time.to
+    && (has_point n.rect e.key e.at && is_after e (last_event n.events e.key))

@@ -12,8 +12,8 @@ pub fn halves_hold_each_event_once()
     ensures by_time { HalvesByTime }
 {}
 
-/// What a point shows is the same in the events that a rectangle holds and in the map, and so is a key's last event that
-/// is no deletion from before the rectangle's start.
+/// What a point shows is the same in the events that a rectangle holds and in the map, and so is a key's last event
+/// that is no deletion from before the rectangle's start.
 pub fn cuts_show_the_map()
     ensures shown { ShownByCut }
     ensures last { LastOfCut }

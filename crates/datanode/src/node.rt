@@ -70,7 +70,8 @@ impl DataNode {
     /// A key's row at an instant.
     pub fn at(&self, key: &KeyBytes, instant: Instant) -> Option<&Row>
         ensures row { option_copied result ≡ row_until self.now.events key.now instant }
-        ensures of_map { (m : List Change) → IsCutOf self.now m → IsTrue (has_point self.now.rect key.now instant)
+        ensures of_map { (m : List Change) → IsCutOf self.now m
+            → IsTrue (has_point self.now.rect key.now instant)
             → option_copied result ≡ row_until m key.now instant }
     {
         match event_until(&self.events, key, instant) {
@@ -82,15 +83,16 @@ impl DataNode {
     /// A key's last event.
     pub fn latest(&self, key: &KeyBytes) -> Option<&Event>
         ensures last { option_copied result ≡ last_event self.now.events key.now }
-        ensures of_map { (m : List Change) → IsCutOf self.now m → IsTrue (is_key_in self.now.rect.keys key.now)
+        ensures of_map { (m : List Change) → IsCutOf self.now m
+            → IsTrue (is_key_in self.now.rect.keys key.now)
             → option_copied result
             ≡ kept_from self.now.rect.time.from (last_before self.now.rect.time.to m key.now) }
     {
         last_event(&self.events, key)
     }
 
-    /// Whether an event can be put: the node has no end, its rectangle holds the event's point, and the event is later than
-    /// each of its key.
+    /// Whether an event can be put: the node has no end, its rectangle holds the event's point, and the event is later
+    /// than each of its key.
     pub fn accepts(&self, event: &Event) -> bool
         ensures { IsTrue result ↔ Accepts self.now event.now }
     {
@@ -106,15 +108,16 @@ impl DataNode {
             && is_after(event, self.latest(event.key()))
     }
 
-    /// Puts an event that the node accepts. At the first instant it takes the place of the carried event of its key. Where
-    /// memory runs out nothing has changed.
+    /// Puts an event that the node accepts. At the first instant it takes the place of the carried event of its key.
+    /// Where memory runs out nothing has changed.
     pub fn put(&mut self, event: Event) -> Mem<()>
         requires { Accepts self.old event }
         ensures ok { OnOk result (self.new ≡ record {
           rect = self.old.rect;
           events = cut self.old.rect (put_event event self.old.events);
         }) }
-        ensures of_map { OnOk result ((m : List Change) → IsCutOf self.old m → IsCutOf self.new (put_event event m)) }
+        ensures of_map { OnOk result ((m : List Change) →
+            IsCutOf self.old m → IsCutOf self.new (put_event event m)) }
         ensures err { OnErr result (self.new ≡ self.old) }
         ensures memory { OnlyMemory result }
     {
@@ -148,7 +151,8 @@ impl DataNode {
     /// The node of a rectangle inside this one, of which no event is copied.
     pub fn part(&self, rect: Rect) -> Mem<DataNode>
         requires { IsInside rect self.now.rect }
-        ensures ok { IfOk result (λ p. p ≡ record { rect = rect; events = cut rect self.now.events }) }
+        ensures ok { IfOk result (λ p.
+            p ≡ record { rect = rect; events = cut rect self.now.events }) }
         ensures of_map { IfOk result (λ p. (m : List Change) → IsCutOf self.now m → IsCutOf p m) }
         ensures err { OnlyMemory result }
     {

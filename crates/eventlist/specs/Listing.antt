@@ -8,7 +8,8 @@ use Rattle.eventlist.specs.Overtaking.{overtakes}
 
 -- the events of a range of keys, from an instant to another and with it
 abbrev pub events_in : List Event → KeyRange → ℕ → ℕ → List Event
-events_in es range from to = filter (λ e. is_key_in range e.key && (nat_le from e.at && nat_le e.at to)) es
+events_in es range from to =
+    filter (λ e. is_key_in range e.key && (nat_le from e.at && nat_le e.at to)) es
 
 -- e's row stands at the instant
 unfoldable pub stands_at : List Event → ℕ → Event → Bool

@@ -12,7 +12,8 @@ ghost use Rattle.eventlist.specs.KeyGroup.{is_up_to, first_key, AreOfKey, AreAbo
 use crate::place::{place_after, place_behind_key};
 use values::{Instant, KeyBytes, SharedEvent};
 
-/// The events of the first one's key, and those behind them. It takes as long as the first are many, in steps that double.
+/// The events of the first one's key, and those behind them. It takes as long as the first are many, in steps that
+/// double.
 pub fn split_first_key(events: &[SharedEvent]) -> (&[SharedEvent], &[SharedEvent])
     requires sorted { IsStrictlySortedBy event_cmp events.now }
     requires some { 0 < length events.now }
@@ -41,7 +42,8 @@ fn end_of_key(events: &[SharedEvent], key: &KeyBytes) -> usize
 fn reach_of(events: &[SharedEvent], key: &KeyBytes) -> usize
     requires { IsStrictlySortedBy event_cmp events.now }
     ensures bound { result ≤ length events.now }
-    ensures none { AllWithin (λ e. not (is_below key.now e.key) ≡ false) events.now result (length events.now) }
+    ensures none { AllWithin (λ e. not (is_below key.now e.key) ≡ false)
+        events.now result (length events.now) }
 {
     let mut reach = 1;
     while is_up_to(events, reach, key) {
@@ -77,7 +79,8 @@ pub fn place_until(events: &[SharedEvent], instant: Instant) -> usize
 pub(crate) fn standing_of(events: &[SharedEvent], instant: Instant) -> Option<&SharedEvent>
     requires sorted { IsStrictlySortedBy event_cmp events.now }
     requires one_key { AreOfKey (first_key events.now) events.now }
-    ensures { option_to_list (option_copied result) ≡ filter (stands_at events.now instant) events.now }
+    ensures { option_to_list (option_copied result)
+        ≡ filter (stands_at events.now instant) events.now }
 {
     let place = place_until(events, instant);
     if place == 0 {

@@ -11,8 +11,10 @@ use values::{Mem, SharedEvent};
 /// Puts events in order, and keeps one for each key and instant. Where memory runs out nothing has changed.
 pub fn sort_events(events: &mut Vec<SharedEvent>) -> Mem<()>
     ensures sorted { OnOk result (IsStrictlySortedBy event_cmp events.new.items) }
-    ensures from { OnOk result ((e : Change) → Contains events.new.items e → Contains events.old.items e) }
-    ensures kept { OnOk result ((e : Change) → Contains events.old.items e → HasTie e events.new.items) }
+    ensures from { OnOk result ((e : Change) →
+        Contains events.new.items e → Contains events.old.items e) }
+    ensures kept { OnOk result ((e : Change) →
+        Contains events.old.items e → HasTie e events.new.items) }
     ensures err { OnErr result (events.new.items ≡ events.old.items) }
     ensures memory { OnlyMemory result }
 {

@@ -10,7 +10,8 @@ at_point key instant references = filter (λ r. has_point r.rect key instant) re
 
 -- each point of the rectangle lies in exactly one reference's rectangle
 pub record Tiles {C : Type 0} (area : Area) (references : List (Reference C)) : Type 0 where
-  pub once : (key : List ℕ) (instant : ℕ) → IsTrue (has_point area key instant) → length (at_point key instant references) ≡ 1
+  pub once : (key : List ℕ) (instant : ℕ)
+      → IsTrue (has_point area key instant) → length (at_point key instant references) ≡ 1
 
 -- each reference has a point of the rectangle
 abbrev pub AllMeet : {C : Type 0} → Area → List (Reference C) → Type 0

@@ -34,11 +34,13 @@ is_current r = is_none r.rect.time.to
 
 -- no current reference has the key strictly inside
 abbrev pub IsUncrossed : {C : Type 0} → List ℕ → List (Reference C) → Type 0
-IsUncrossed key references = All (λ r. IsTrue (is_current r) → is_key_inside r.rect key ≡ false) references
+IsUncrossed key references =
+    All (λ r. IsTrue (is_current r) → is_key_inside r.rect key ≡ false) references
 
 -- no current reference starts before the instant
 abbrev pub IsBeforeCurrent : {C : Type 0} → ℕ → List (Reference C) → Type 0
-IsBeforeCurrent instant references = All (λ r. IsTrue (is_current r) → instant ≤ r.rect.time.from) references
+IsBeforeCurrent instant references =
+    All (λ r. IsTrue (is_current r) → instant ≤ r.rect.time.from) references
 
 -- the current references lie inside
 abbrev pub AreCurrentIn : {C : Type 0} → Area → List (Reference C) → Type 0

@@ -49,7 +49,8 @@ impl<C> IndexNode<C> {
 
     /// How many references the current half of a split at an instant would have.
     pub fn stay_count(&self, instant: Instant) -> usize
-        ensures { result ≡ length (filter (λ r. ends_after instant r.rect) self.now.references.items) }
+        ensures { result
+            ≡ length (filter (λ r. ends_after instant r.rect) self.now.references.items) }
     {
         let mut count = 0;
         for reference in &self.references {

@@ -14,7 +14,8 @@ pub fn single<C: Drop>(alloc: Global, reference: Reference<C>) -> Mem<Vec<Refere
     ensures are { IfOk result (λ v. v.items ≡ reference ∷ []) }
     ensures tiles { IfOk result (λ v. Tiles reference.rect v.items) }
     ensures inside { IfOk result (λ v. All (λ r. IsInside r.rect reference.rect) v.items) }
-    ensures meet { (outer : Area) → IsInside reference.rect outer → IfOk result (λ v. AllMeet outer v.items) }
+    ensures meet { (outer : Area) → IsInside reference.rect outer
+        → IfOk result (λ v. AllMeet outer v.items) }
     ensures err { OnlyMemory result }
 {
     // Who reads the time knows that the ranges are not empty.

@@ -69,7 +69,8 @@ impl<C> IndexNode<C> {
         ensures are { IfOk result (λ v.
             map (λ r. r.now) v.items
             ≡ filter (λ r. meet r.rect rect.now) self.now.references.items) }
-        ensures common { IfOk result (λ _. All (MeetsWhereCommon rect.now) self.now.references.items) }
+        ensures common { IfOk result (λ _.
+            All (MeetsWhereCommon rect.now) self.now.references.items) }
         ensures err { OnlyMemory result }
     {
         let mut found = Vec::new(alloc);

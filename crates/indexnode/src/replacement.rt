@@ -21,7 +21,8 @@ impl<C: Drop> IndexNode<C> {
     pub fn replace(&mut self, rect: &Rect, given: Vec<Reference<C>>) -> Mem<bool>
         requires tiles { Tiles rect.now given.items }
         requires inside { All (λ r. IsInside r.rect rect.now) given.items }
-        ensures answer { IfOk result (λ done. IsTrue done ↔ HasRect rect.now self.old.references.items) }
+        ensures answer { IfOk result (λ done.
+            IsTrue done ↔ HasRect rect.now self.old.references.items) }
         ensures replaced { IfOk result (λ done.
             IsTrue done
             → Replaced rect.now given.items self.old.references.items self.new.references.items) }
@@ -33,7 +34,8 @@ impl<C: Drop> IndexNode<C> {
         ensures current { AreCurrentIn self.old.rect self.old.references.items
             → (IsSome rect.now.time.to → HasNoCurrent given.items)
             → AreCurrentIn self.new.rect self.new.references.items }
-        ensures meet { AllMeet self.old.rect self.old.references.items → AllMeet self.old.rect given.items
+        ensures meet { AllMeet self.old.rect self.old.references.items
+            → AllMeet self.old.rect given.items
             → AllMeet self.new.rect self.new.references.items }
         ensures err { OnErr result (self.new.references.items ≡ self.old.references.items) }
         ensures memory { OnlyMemory result }
@@ -63,9 +65,11 @@ impl<C: Share + Drop> IndexNode<C> {
             self.now.references.items n.references.items) }
         ensures tiled { Tiles self.now.rect self.now.references.items
             → IfOk result (λ n. Tiles self.now.rect n.references.items) }
-        ensures current { whole.now.time.to ≡ None → AreCurrentIn self.now.rect self.now.references.items
+        ensures current { whole.now.time.to ≡ None
+            → AreCurrentIn self.now.rect self.now.references.items
             → IfOk result (λ n. AreCurrentIn self.now.rect n.references.items) }
-        ensures meet { IsInside whole.now self.now.rect → AllMeet self.now.rect self.now.references.items
+        ensures meet { IsInside whole.now self.now.rect
+            → AllMeet self.now.rect self.now.references.items
             → IfOk result (λ n. AllMeet self.now.rect n.references.items) }
         ensures err { OnlyMemory result }
     {

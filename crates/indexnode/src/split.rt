@@ -10,8 +10,8 @@ use keyrange::{Rect, is_before_end, is_below, is_early};
 use slots::Share;
 use values::{Instant, KeyBytes, Mem};
 
-/// What a half keeps: the references that reach below a key, or to it and above; those that start before an instant, or end
-/// after it.
+/// What a half keeps: the references that reach below a key, or to it and above; those that start before an instant, or
+/// end after it.
 #[derive(Clone, Copy)]
 pub(crate) enum Half<'a> {
     Below(&'a KeyBytes),
@@ -21,12 +21,13 @@ pub(crate) enum Half<'a> {
 }
 
 impl<C: Share + Drop> IndexNode<C> {
-    /// The half below a key and the half from it on. A historical reference that crosses the key stands in both, each with
-    /// its child.
+    /// The half below a key and the half from it on. A historical reference that crosses the key stands in both, each
+    /// with its child.
     pub fn split_key(&self, key: &KeyBytes) -> Mem<(IndexNode<C>, IndexNode<C>)>
         requires inside { IsTrue (is_key_inside self.now.rect key.now) }
         requires uncrossed { IsUncrossed key.now self.now.references.items }
-        ensures rects { IfOk result (λ h. halves_by_key self.now.rect key.now ≡ Some (h.0.rect, h.1.rect)) }
+        ensures rects { IfOk result (λ h.
+            halves_by_key self.now.rect key.now ≡ Some (h.0.rect, h.1.rect)) }
         ensures parts { IfOk result (λ h. PartsKeys self.now.rect h.0.rect h.1.rect key.now) }
         ensures below { IfOk result (λ h.
             h.0.references.items
@@ -60,7 +61,8 @@ impl<C: Share + Drop> IndexNode<C> {
     pub fn split_time(&self, instant: Instant) -> Mem<(IndexNode<C>, IndexNode<C>)>
         requires inside { IsTrue (is_time_inside self.now.rect instant) }
         requires before_current { IsBeforeCurrent instant self.now.references.items }
-        ensures rects { IfOk result (λ h. halves_by_time self.now.rect instant ≡ Some (h.0.rect, h.1.rect)) }
+        ensures rects { IfOk result (λ h.
+            halves_by_time self.now.rect instant ≡ Some (h.0.rect, h.1.rect)) }
         ensures parts { IfOk result (λ h. PartsTime self.now.rect h.0.rect h.1.rect instant) }
         ensures past { IfOk result (λ h.
             h.0.references.items

@@ -21,7 +21,8 @@ is_key_inside r key = is_below r.keys.lo key && is_before_end key r.keys.hi
 
 -- strictly inside the range of instants, and an instant
 abbrev pub is_time_inside : Area → ℕ → Bool
-is_time_inside r instant = nat_lt r.time.from instant && (is_early instant r.time.to && nat_le instant max_instant)
+is_time_inside r instant =
+    nat_lt r.time.from instant && (is_early instant r.time.to && nat_le instant max_instant)
 
 abbrev pub halves_by_key : Area → List ℕ → Option (Area × Area)
 halves_by_key r key =
@@ -41,15 +42,21 @@ halves_by_time r instant =
     )
     else None
 
--- the points below the cut are in the first half and the others in the second: none in both, and none in neither
+-- the points below the cut are in the first half and the others in the second: none in both, and none
+-- in neither
 pub record PartsKeys (r first second : Area) (cut : List ℕ) : Type 0 where
-  pub below : (key : List ℕ) (instant : ℕ) → has_point first key instant ≡ (has_point r key instant && is_below key cut)
-  pub above : (key : List ℕ) (instant : ℕ) → has_point second key instant ≡ (has_point r key instant && not (is_below key cut))
+  pub below : (key : List ℕ) (instant : ℕ)
+      → has_point first key instant ≡ (has_point r key instant && is_below key cut)
+  pub above : (key : List ℕ) (instant : ℕ)
+      → has_point second key instant ≡ (has_point r key instant && not (is_below key cut))
 
 pub record PartsTime (r first second : Area) (cut : ℕ) : Type 0 where
-  pub before : (key : List ℕ) (instant : ℕ) → has_point first key instant ≡ (has_point r key instant && nat_lt instant cut)
-  pub after : (key : List ℕ) (instant : ℕ) → has_point second key instant ≡ (has_point r key instant && not (nat_lt instant cut))
+  pub before : (key : List ℕ) (instant : ℕ)
+      → has_point first key instant ≡ (has_point r key instant && nat_lt instant cut)
+  pub after : (key : List ℕ) (instant : ℕ)
+      → has_point second key instant ≡ (has_point r key instant && not (nat_lt instant cut))
 
 -- the two halves at a key, or at an instant
 abbrev pub AreHalves : Area → Area → Area → Type 0
-AreHalves r first second = ((cut : List ℕ) × PartsKeys r first second cut) ⊎ ((cut : ℕ) × PartsTime r first second cut)
+AreHalves r first second =
+    ((cut : List ℕ) × PartsKeys r first second cut) ⊎ ((cut : ℕ) × PartsTime r first second cut)

@@ -19,7 +19,8 @@ abbrev pub CommonEitherWay : Type 0
 CommonEitherWay = (a b : Area) → Common a b → Common b a
 
 abbrev pub HalvesInside : Type 0
-HalvesInside = (r first second : Area) → AreHalves r first second → IsInside first r × IsInside second r
+HalvesInside =
+    (r first second : Area) → AreHalves r first second → IsInside first r × IsInside second r
 
 abbrev pub HalvesApart : Type 0
 HalvesApart = (r first second : Area) → AreHalves r first second → Common first second → ⊥

@@ -19,7 +19,8 @@ is_instant_end (Some end) = nat_le end max_instant
 abbrev pub is_area : KeyRange → TimeRange → Bool
 is_area keys time =
     is_before_end keys.lo keys.hi
-    && (nat_le 1 time.from && (nat_le time.from max_instant && (is_early time.from time.to && is_instant_end time.to)))
+    && (nat_le 1 time.from
+    && (nat_le time.from max_instant && (is_early time.from time.to && is_instant_end time.to)))
 
 abbrev pub IsArea : Area → Type 0
 IsArea r = IsTrue (is_area r.keys r.time)
@@ -29,7 +30,9 @@ has_point r key instant = is_key_in r.keys key && is_time_in r.time instant
 
 -- each point of the first is one of the second
 abbrev pub IsInside : Area → Area → Type 0
-IsInside inner outer = (key : List ℕ) (instant : ℕ) → IsTrue (has_point inner key instant) → IsTrue (has_point outer key instant)
+IsInside inner outer =
+    (key : List ℕ) (instant : ℕ)
+    → IsTrue (has_point inner key instant) → IsTrue (has_point outer key instant)
 
 -- a point of both, at an instant that is one
 pub record Common (a b : Area) : Type 0 where

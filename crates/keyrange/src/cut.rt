@@ -44,12 +44,10 @@ fn key_halves(
     start: KeyBytes,
     time: TimeRange,
 ) -> Option<(Rect, Rect)>
-    ensures {
-        result
-            ≡ pair_of
-            (rect_of (record { lo = whole.lo; hi = Some end }) time)
-            (rect_of (record { lo = start; hi = whole.hi }) time)
-    }
+    ensures { result
+        ≡ pair_of
+        (rect_of (record { lo = whole.lo; hi = Some end }) time)
+        (rect_of (record { lo = start; hi = whole.hi }) time) }
 {
     let below = KeyRange {
         lo: whole.lo,
@@ -69,12 +67,10 @@ fn time_halves(
     time: TimeRange,
     cut: Instant,
 ) -> Option<(Rect, Rect)>
-    ensures {
-        result
-            ≡ pair_of
-            (rect_of past_keys (record { from = time.from; to = Some cut }))
-            (rect_of keys (record { from = cut; to = time.to }))
-    }
+    ensures { result
+        ≡ pair_of
+        (rect_of past_keys (record { from = time.from; to = Some cut }))
+        (rect_of keys (record { from = cut; to = time.to })) }
 {
     let past = TimeRange {
         from: time.from,

@@ -2,8 +2,8 @@ ghost use Rattle.std.specs.Prelude.{◌≡◌, IfOk, option_copied};
 ghost use Rattle.values.specs.Memory.{OnlyMemory};
 ghost use Rattle.keyrange.specs.Range.{is_below, is_before_end, is_key_in, is_time_in, key_ranges_meet, time_ranges_meet, is_early};
 
-use values::{Instant, KeyBytes, Mem};
 use std::alloc::AllocError;
+use values::{Instant, KeyBytes, Mem};
 
 /// The keys from `lo` on, and below `hi` where there is one.
 #[derive(Debug, PartialEq, Eq, Drop)]

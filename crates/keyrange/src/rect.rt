@@ -4,8 +4,8 @@ ghost use Rattle.keyrange.specs.Rect.{IsArea, is_area, has_point, Common};
 ghost use Rattle.keyrange.specs.Cut.{rect_of};
 
 use crate::range::{KeyRange, TimeRange, is_before_end, is_early};
-use values::{Instant, KeyBytes, LAST, Mem};
 use std::marker::Model;
+use values::{Instant, KeyBytes, LAST, Mem};
 
 /// A range of keys and one of instants, neither of them empty, with instants from 1 to the last.
 #[derive(Debug, Drop)]

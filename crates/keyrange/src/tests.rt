@@ -1,9 +1,9 @@
 //! Rectangles worked out by hand.
 
 use crate::{KeyRange, Rect, TimeRange};
-use values::{Instant, KeyBytes, LAST};
 use std::alloc::AllocError;
 use std::test::Fail;
+use values::{Instant, KeyBytes, LAST};
 
 fn bytes(rt: &HostRuntime, text: &[u8]) -> Result<Option<KeyBytes>, AllocError> {
     Ok(KeyBytes::new(text.to_vec(rt.alloc())?))

@@ -15,7 +15,8 @@ next_key key (e ∷ es) = if is_below key e.key then Some e.key else next_key ke
 
 -- the middle one, or the next above it where it is the first one
 abbrev pub middle_or_next : Option (List ℕ) → Option (List ℕ) → List Event → Option (List ℕ)
-middle_or_next (Some first) (Some middle) es = if is_bytes first middle then next_key first es else Some middle
+middle_or_next (Some first) (Some middle) es =
+    if is_bytes first middle then next_key first es else Some middle
 middle_or_next _ _ es = None
 
 -- of the keys at places 0 and 32

@@ -12,7 +12,8 @@ all_items (k ∷ ks) = k.1 ++ all_items ks
 -- each child but the last has n items, the last at least one; each has smaller places
 abbrev pub Packed : {T : Type 0} → ℕ → List (ℕ × List T) → Type 0
 Packed n [] = Unit {0}
-Packed n (k ∷ ks) = (k.0 < n) × (0 < length k.1) × (length k.1 ≤ n) × (0 < length ks → length k.1 ≡ n) × Packed n ks
+Packed n (k ∷ ks) =
+    (k.0 < n) × (0 < length k.1) × (length k.1 ≤ n) × (0 < length ks → length k.1 ≡ n) × Packed n ks
 
 abbrev pub items_of : {T : Type 0} → Body T → List T
 items_of (Leaf all) = all.items

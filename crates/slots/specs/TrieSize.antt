@@ -8,7 +8,8 @@ use Rattle.slots.specs.declared.trie.Body.TheVariants.{Leaf, Inner}
 use Rattle.slots.specs.declared.trie.Trie.TheDeep.{deep-Body}
 use Rattle.slots.specs.Trie.{IsShape, IsBody, Packed}
 
-pub most_le : {T : Type 0} → (n : ℕ) → (ks : List (ℕ × List T)) → Packed n ks → most (λ (k : ℕ × List T). k.0 + 1) ks ≤ n
+pub most_le : {T : Type 0} → (n : ℕ) → (ks : List (ℕ × List T)) → Packed n ks
+    → most (λ (k : ℕ × List T). k.0 + 1) ks ≤ n
 most_le n [] h = omega arith
 most_le n (k ∷ ks) h = omega (arith, most_le n ks h.4, h.0)
 

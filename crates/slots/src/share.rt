@@ -1,8 +1,8 @@
 ghost use Rattle.std.specs.Prelude.{◌≡◌, IfOk};
 ghost use Rattle.values.specs.Memory.{OnlyMemory};
 
-use values::Mem;
 use std::alloc::Global;
+use values::Mem;
 
 /// What can be had twice.
 pub trait Share {

@@ -4,9 +4,9 @@ ghost use Rattle.values.specs.Memory.{OnlyMemory};
 
 use crate::share::Share;
 use crate::trie::Trie;
-use values::Mem;
 use std::alloc::Global;
 use std::marker::Model;
+use values::Mem;
 
 /// A list, which contracts see as one. A share costs one more count; a change copies the nodes on the way to its place
 /// that others share too, and writes the others in place. Where memory runs out the list is what it was.
@@ -56,10 +56,8 @@ impl<T> Slots<T> {
 
     /// The item at a place, if there is one.
     pub fn get(&self, place: usize) -> Option<&T>
-        ensures {
-            MatchOption result (slice_get self.now place ≡ None) (λ x.
-                slice_get self.now place ≡ Some x.now)
-        }
+        ensures { MatchOption result (slice_get self.now place ≡ None) (λ x.
+            slice_get self.now place ≡ Some x.now) }
     {
         if place < self.len() {
             Some(self.at(place))

@@ -1,8 +1,8 @@
 //! Lists of numbers: what stands where, and what a share keeps.
 use crate::{Share, Slots};
-use values::Mem;
 use std::alloc::Global;
 use std::test::Fail;
+use values::Mem;
 
 /// The numbers below a bound, in order.
 fn numbers(alloc: Global, bound: usize) -> Mem<Slots<usize>> {

@@ -4,10 +4,10 @@ ghost use Rattle.values.specs.Memory.{OnlyMemory};
 ghost use Rattle.slots.specs.Trie.{all_items, Packed, items_of, view_of, IsShape};
 
 use crate::share::{Share, share_all};
-use values::{Mem, Refusal};
 use std::alloc::Global;
 use std::marker::Model;
 use std::sync::Arc;
+use values::{Mem, Refusal};
 
 /// How many items a leaf has, and how many children a node has, before the tree grows.
 const FAN: usize = 16;
@@ -182,7 +182,8 @@ impl<T: Share + Drop> Node<T> {
         requires inside { at < length (items_of self.old.body) }
         ensures shape { IsShape self.new }
         ensures each { self.new.each ≡ self.old.each }
-        ensures ok { OnOk result (items_of self.new.body ≡ slice_set (items_of self.old.body) at item) }
+        ensures ok { OnOk result (items_of self.new.body
+            ≡ slice_set (items_of self.old.body) at item) }
         ensures err { OnErr result (items_of self.new.body ≡ items_of self.old.body) }
         ensures memory { OnlyMemory result }
     {
@@ -227,7 +228,8 @@ fn push_last<T: Share + Drop>(
     requires each { 1 < each }
     requires packed { Packed each children.old.items }
     ensures packed { Packed each children.new.items }
-    ensures ok { OnOk result (all_items children.new.items ≡ all_items children.old.items ++ item ∷ []) }
+    ensures ok { OnOk result (all_items children.new.items
+        ≡ all_items children.old.items ++ item ∷ []) }
     ensures err { OnErr result (all_items children.new.items ≡ all_items children.old.items) }
     ensures memory { OnlyMemory result }
 {

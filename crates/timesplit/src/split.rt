@@ -12,11 +12,13 @@ use values::{Instant, Mem};
 /// The half before an instant and the half from it on, of which no event is copied.
 pub fn split_time(node: &DataNode, instant: Instant) -> Mem<(DataNode, DataNode)>
     requires { IsTrue (is_time_inside node.now.rect instant) }
-    ensures rects { IfOk result (λ p. halves_by_time node.now.rect instant ≡ Some (p.0.rect, p.1.rect)) }
+    ensures rects { IfOk result (λ p.
+        halves_by_time node.now.rect instant ≡ Some (p.0.rect, p.1.rect)) }
     ensures parts { IfOk result (λ p. PartsTime node.now.rect p.0.rect p.1.rect instant) }
     ensures past { IfOk result (λ p. p.0.events ≡ cut p.0.rect node.now.events) }
     ensures now { IfOk result (λ p. p.1.events ≡ cut p.1.rect node.now.events) }
-    ensures of_map { IfOk result (λ p. (m : List Event) → IsCutOf node.now m → IsCutOf p.0 m × IsCutOf p.1 m) }
+    ensures of_map { IfOk result (λ p.
+        (m : List Event) → IsCutOf node.now m → IsCutOf p.0 m × IsCutOf p.1 m) }
     ensures err { OnlyMemory result }
 {
     match node.rect().cut_time(instant)? {

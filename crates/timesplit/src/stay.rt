@@ -10,7 +10,8 @@ use values::{Instant, SharedEvent};
 fn stays(events: &[SharedEvent], place: usize, instant: Instant) -> bool
     requires map { IsMap events.now }
     requires inside { place < length events.now }
-    ensures { HoldsAt (λ e. result ≡ (nat_le instant e.at || is_carried events.now instant e)) events.now place }
+    ensures { HoldsAt (λ e. result ≡ (nat_le instant e.at || is_carried events.now instant e))
+        events.now place }
 {
     instant <= events[place].event().at() || is_carried(events, place, instant)
 }
@@ -19,7 +20,8 @@ fn stays(events: &[SharedEvent], place: usize, instant: Instant) -> bool
 /// split there.
 pub fn stay_count(node: &DataNode, instant: Instant) -> usize
     ensures count { result
-        ≡ length (filter (λ e. nat_le instant e.at || is_carried node.now.events instant e) node.now.events) }
+        ≡ length (filter (λ e. nat_le instant e.at || is_carried node.now.events instant e)
+        node.now.events) }
     ensures half { IfSome (halves_by_time node.now.rect instant) (λ h.
         result ≡ length (cut h.1 node.now.events)) }
 {

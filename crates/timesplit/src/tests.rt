@@ -94,7 +94,8 @@ fn event(rt: &impl Abort, alloc: Global, change: &Change) -> Mem<Event> {
     Ok(event.expect(rt, "the key has a byte"))
 }
 
-/// How many events the nodes hold, the historical ones first and then the current one, of changes that come one after another.
+/// How many events the nodes hold, the historical ones first and then the current one, of changes that come one after
+/// another.
 fn shape(rt: &impl Abort, alloc: Global, changes: &[Change]) -> Mem<Vec<usize>> {
     let mut sizes = Vec::new(alloc);
     let mut node = empty(rt, alloc)?;
