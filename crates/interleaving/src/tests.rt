@@ -1,10 +1,10 @@
 //! Conversations with a store: each step beside what it must answer.
-use crate::{System, run_script};
+use crate::System;
+use histories::{Listing, Reply, Step};
 use rows::{
-    Chars, Comparison, Form, Instant, Keys, Operator, Refusal, Row, Rows, Schema, Sequence, Set,
+    Chars, Comparison, Form, Instant, Keys, Mem, Operator, Refusal, Row, Rows, Schema, Sequence, Set,
     Sets, Shown, Value,
 };
-use statement::{Listing, Reply, Step};
 use std::alloc::{AllocError, Global};
 use std::process::Abort;
 use std::test::Fail;
@@ -13,9 +13,9 @@ fn chars(alloc: Global, text: &str) -> Result<Chars, AllocError> {
     Ok(Chars::new(String::from_str(alloc, text)?))
 }
 
-fn emp(alloc: Global, number: i64, name: &str) -> Result<Row, AllocError> {
+fn emp(alloc: Global, number: i64, name: &str) -> Mem<Row> {
     let name = Value::Text(chars(alloc, name)?);
-    Ok(Row::new(vec![in alloc; Value::Int(number), name]?))
+    Row::new(vec![in alloc; Value::Int(number), name]?).ok_or(Refusal::BadRow(2))
 }
 
 /// The keys that compare so with a number.
@@ -71,10 +71,10 @@ impl Talk {
         number: i64,
         name: &str,
         wanted: &'static str,
-    ) -> Result<(), AllocError> {
+    ) -> Mem<()> {
         let row = emp(self.alloc, number, name)?;
         let rows = Rows::new(vec![in self.alloc; row]?);
-        self.step(Step::Insert(session, 1, rows), wanted)
+        Ok(self.step(Step::Insert(session, 1, rows), wanted)?)
     }
 
     fn update(
@@ -119,14 +119,14 @@ impl Talk {
         name: &str,
         reading: Instant,
         wanted: [&'static str; 3],
-    ) -> Result<(), AllocError> {
+    ) -> Mem<()> {
         self.begin(1, wanted[0])?;
         if wanted[1] == "inserted 1" {
             self.insert(1, number, name, wanted[1])?;
         } else {
             self.update(1, number, name, wanted[1])?;
         }
-        self.commit(1, reading, wanted[2])
+        Ok(self.commit(1, reading, wanted[2])?)
     }
 
     fn holds(self, rt: &impl Abort) -> Result<(), Fail> {
@@ -361,30 +361,4 @@ fn a_transaction_writes_a_thousand_keys_and_no_more(rt: HostRuntime) -> Result<(
     talk.step(Step::Delete(1, some), "deleted 400")?;
     talk.commit(1, 7, "committed 7")?;
     talk.holds(&rt)
-}
-
-/// A script whose last line has no line feed, at whose end a transaction is open.
-const LEFT_OPEN: &str = "1: BEGIN\n\
-    1: INSERT INTO emp VALUES (1, 'Ann')\n\
-    clock: 100\n\
-    1: COMMIT\n\
-    1: BEGIN\n\
-    1: INSERT INTO emp VALUES (2, 'Bea')";
-
-#[test]
-fn a_script_leaves_the_system_after_its_steps(rt: HostRuntime) -> Result<(), Fail> {
-    let alloc = rt.alloc();
-    let schema = Schema::sample(alloc)?;
-    let mut replies = Vec::new(alloc);
-    let mut system = run_script(alloc, &mut LEFT_OPEN.as_bytes(), &mut replies, schema).expect(
-        &rt,
-        "memory is there",
-    );
-    for (session, wanted) in [(1, "Ann Bea "), (2, "Ann ")] {
-        let reply = system.step(Step::Select(session, Form::Plain, all(alloc)));
-        assert!(rt; is_told(alloc, &reply, wanted)?, "session {session}");
-    }
-    let reply = system.step(Step::Commit(1, 0));
-    assert!(rt; is_told(alloc, &reply, "committed 101")?);
-    Ok(())
 }
