@@ -37,7 +37,8 @@ size_at bytes = do
   Ok (n.0, closed)
 
 unfoldable pub is_whole_number_at : List ℕ → Bool
-is_whole_number_at bytes = is_word_at (codes "INT") bytes || is_word_at (codes "INTEGER") bytes || is_word_at (codes "BIGINT") bytes
+is_whole_number_at bytes =
+    is_word_at (codes "INT") bytes || is_word_at (codes "INTEGER") bytes || is_word_at (codes "BIGINT") bytes
 
 -- VARCHAR "(" digits ")"
 unfoldable pub varchar_at : List ℕ → Read ColumnType

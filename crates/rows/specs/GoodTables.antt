@@ -1,4 +1,5 @@
--- Which declarations are good tables: by what stands once, what stands twice, and how many there are.
+-- Which declarations are good tables: by what stands once, what stands twice, and how many there
+-- are.
 use Rattle.std.specs.Prelude.{◌≡◌, ℕ, ◌+◌, ◌≤◌, ◌↔◌, List, [], ◌∷◌, ◌++◌, Bool, true, false, Option, Some, None, length, map}
 use Rattle.std.specs.List.{count_by}
 use Rattle.std.specs.Char.{to_ascii_lowercase}
@@ -70,7 +71,8 @@ GivesKeys (Period p) = ⊥
 
 abbrev pub GivesOneKey : Entry → List (List ℕ) → Type 0
 GivesOneKey (Key names) key = names ≡ key
-GivesOneKey (User c) key = (c.name ∷ [] ≡ key) × IsTheOne (λ mark. mark ≡ PrimaryKey) PrimaryKey c.marks
+GivesOneKey (User c) key =
+    (c.name ∷ [] ≡ key) × IsTheOne (λ mark. mark ≡ PrimaryKey) PrimaryKey c.marks
 GivesOneKey (Generated g) key = ⊥
 GivesOneKey (Period p) key = ⊥
 
@@ -102,7 +104,8 @@ DigitsAreGood (Some n) = n ≤ 12
 -- what stands in one entry: its number in range, and NOT NULL not repeated
 abbrev pub EntryIsGood : Entry → Type 0
 EntryIsGood (User c) = TypeIsGood c.of × NoTwo (λ a b. (a ≡ NotNull) × (b ≡ NotNull)) c.marks
-EntryIsGood (Generated g) = DigitsAreGood g.digits × (g.not_null_before ≡ true → g.not_null_after ≡ true → ⊥)
+EntryIsGood (Generated g) =
+    DigitsAreGood g.digits × (g.not_null_before ≡ true → g.not_null_after ≡ true → ⊥)
 EntryIsGood (Period p) = Unit {0}
 EntryIsGood (Key names) = Unit {0}
 
@@ -158,7 +161,8 @@ abbrev pub AreNumbersOf : List Column → List (List ℕ) → List ℕ → Type 
 AreNumbersOf columns [] [] = Unit {0}
 AreNumbersOf columns [] (number ∷ numbers) = ⊥
 AreNumbersOf columns (name ∷ names) [] = ⊥
-AreNumbersOf columns (name ∷ names) (number ∷ numbers) = IsNumberOf columns name number × AreNumbersOf columns names numbers
+AreNumbersOf columns (name ∷ names) (number ∷ numbers) =
+    IsNumberOf columns name number × AreNumbersOf columns names numbers
 
 -- the table that a good declaration makes
 pub record IsTableOf (d : Declaration) (number : ℕ) (t : Table) : Type 0 where

@@ -1,4 +1,5 @@
--- The grammar of schemas: relations between what a text says, the text, and what comes after it. They know nothing of reading.
+-- The grammar of schemas: relations between what a text says, the text, and what comes after it.
+-- They know nothing of reading.
 use Rattle.std.specs.Prelude.{◌≡◌, ℕ, ◌≤◌, List, [], ◌∷◌, ◌++◌, ◌==◌, ◌⊎◌, Bool, true, false, Option, Some, None, length, not, codes}
 use Rattle.std.specs.Char.{is_ascii_digit}
 use Rattle.values.specs.declared.table.ColumnType.{ColumnType}
@@ -23,7 +24,8 @@ Says A = A → List ℕ → List ℕ → Type 0
 abbrev pub is_on_the_line : ℕ → Bool
 is_on_the_line b = not (b == 10)
 
--- what stands between tokens: separators, comments with the end of their line, and a comment that the text ends
+-- what stands between tokens: separators, comments with the end of their line, and a comment that
+-- the text ends
 pub data Piece : Type 0 where
   blank : ℕ → Piece
   comment : List ℕ → Piece
@@ -31,9 +33,12 @@ pub data Piece : Type 0 where
 
 abbrev pub Gap : List Piece → List ℕ → List ℕ → Type 0
 Gap [] bytes rest = bytes ≡ rest
-Gap (blank b ∷ gap) bytes rest = (more : List ℕ) × ((bytes ≡ b ∷ more) × ((is_separator b ≡ true) × Gap gap more rest))
-Gap (comment text ∷ gap) bytes rest = (more : List ℕ) × ((bytes ≡ 45 ∷ 45 ∷ (text ++ 10 ∷ more)) × (AllBytes is_on_the_line text × Gap gap more rest))
-Gap (last_comment text ∷ gap) bytes rest = (bytes ≡ 45 ∷ 45 ∷ text) × (AllBytes is_on_the_line text × (rest ≡ []))
+Gap (blank b ∷ gap) bytes rest =
+    (more : List ℕ) × ((bytes ≡ b ∷ more) × ((is_separator b ≡ true) × Gap gap more rest))
+Gap (comment text ∷ gap) bytes rest =
+    (more : List ℕ) × ((bytes ≡ 45 ∷ 45 ∷ (text ++ 10 ∷ more)) × (AllBytes is_on_the_line text × Gap gap more rest))
+Gap (last_comment text ∷ gap) bytes rest =
+    (bytes ≡ 45 ∷ 45 ∷ text) × (AllBytes is_on_the_line text × (rest ≡ []))
 
 -- no separator and no comment comes first
 abbrev pub BeginsToken : List ℕ → Type 0
@@ -93,7 +98,8 @@ abbrev pub ◌or◌ : {A : Type 0} → Says A → Says A → Says A
 abbrev pub Listed : {A : Type 0} → Says A → Says (List A)
 Listed R [] bytes rest = ⊥
 Listed R (x ∷ []) bytes rest = R x bytes rest
-Listed R (x ∷ y ∷ ys) bytes rest = (after : List ℕ) × ((more : List ℕ) × (R x bytes after × (Symbol 44 tt after more × Listed R (y ∷ ys) more rest)))
+Listed R (x ∷ y ∷ ys) bytes rest =
+    (after : List ℕ) × ((more : List ℕ) × (R x bytes after × (Symbol 44 tt after more × Listed R (y ∷ ys) more rest)))
 
 -- as many as there are
 abbrev pub Many : {A : Type 0} → Says A → Says (List A)
@@ -153,7 +159,8 @@ GeneratedAsRow = do
   row ← Word (codes "ROW")
   RowSide
 
--- name TIMESTAMP ["(" digits ")"] [NOT NULL] GENERATED ALWAYS AS ROW (START | END) [NOT NULL], after the name
+-- name TIMESTAMP ["(" digits ")"] [NOT NULL] GENERATED ALWAYS AS ROW (START | END) [NOT NULL],
+-- after the name
 abbrev pub GeneratedEntry : List ℕ → Says Entry
 GeneratedEntry name = do
   timestamp ← Word (codes "TIMESTAMP")
@@ -226,5 +233,7 @@ IsEnd bytes = IsNext bytes []
 -- create {";" create} [";"]
 abbrev pub SchemaText : List Declaration → List ℕ → Type 0
 SchemaText [] bytes = ⊥
-SchemaText (d ∷ []) bytes = (after : List ℕ) × (CreateText d bytes after × (IsEnd after ⊎ ((more : List ℕ) × (Symbol 59 tt after more × IsEnd more))))
-SchemaText (d ∷ e ∷ es) bytes = (after : List ℕ) × ((more : List ℕ) × (CreateText d bytes after × (Symbol 59 tt after more × SchemaText (e ∷ es) more)))
+SchemaText (d ∷ []) bytes =
+    (after : List ℕ) × (CreateText d bytes after × (IsEnd after ⊎ ((more : List ℕ) × (Symbol 59 tt after more × IsEnd more))))
+SchemaText (d ∷ e ∷ es) bytes =
+    (after : List ℕ) × ((more : List ℕ) × (CreateText d bytes after × (Symbol 59 tt after more × SchemaText (e ∷ es) more)))

@@ -25,26 +25,37 @@ pub record OfTheGrammar (text : List ℕ) (r : Result Schema SchemaFault) : Type
 
 -- where no fault of syntax is found, the text is of the grammar
 abbrev pub WhatIsReadIsOfTheGrammar : Type 0
-WhatIsReadIsOfTheGrammar = (text : List ℕ) → HasSyntaxFault (read_schema text) ⊎ OfTheGrammar text (read_schema text)
+WhatIsReadIsOfTheGrammar =
+    (text : List ℕ) → HasSyntaxFault (read_schema text) ⊎ OfTheGrammar text (read_schema text)
 
 -- a symbol, a word, a name and digits are read where they come next, and nowhere else
 pub record TokensAreRead : Type 0 where
-  pub symbols : (symbol : ℕ) (x : Unit {0}) (bytes rest : List ℕ) → (symbol_at symbol bytes ≡ Ok rest) ↔ Symbol symbol x bytes rest
-  pub words : (word : List ℕ) (x : Unit {0}) (bytes rest : List ℕ) → (word_at word bytes ≡ Ok rest) ↔ Word word x bytes rest
+  pub symbols : (symbol : ℕ) (x : Unit {0}) (bytes rest : List ℕ)
+      → (symbol_at symbol bytes ≡ Ok rest) ↔ Symbol symbol x bytes rest
+  pub words : (word : List ℕ) (x : Unit {0}) (bytes rest : List ℕ)
+      → (word_at word bytes ≡ Ok rest) ↔ Word word x bytes rest
   pub names : (name bytes rest : List ℕ) → (name_at bytes ≡ Ok (name, rest)) ↔ Name name bytes rest
-  pub digits : (n : ℕ) (bytes rest : List ℕ) → (digits_at bytes ≡ Ok (n, rest)) ↔ Digits n bytes rest
+  pub digits : (n : ℕ) (bytes rest : List ℕ)
+      → (digits_at bytes ≡ Ok (n, rest)) ↔ Digits n bytes rest
 
 -- every text of the grammar that is short enough is read, as what it says
 abbrev pub TheGrammarIsRead : Type 0
-TheGrammarIsRead = (text : List ℕ) (declarations : List Declaration) → length text ≤ longest_text → SchemaText declarations text → read_schema text ≡ tables_from [] declarations
+TheGrammarIsRead =
+    (text : List ℕ) (declarations : List Declaration) → length text ≤ longest_text
+    → SchemaText declarations text → read_schema text ≡ tables_from [] declarations
 
 -- no text says two things
 abbrev pub TextsSayOneThing : Type 0
-TextsSayOneThing = (text : List ℕ) (these those : List Declaration) → SchemaText these text → SchemaText those text → these ≡ those
+TextsSayOneThing =
+    (text : List ℕ) (these those : List Declaration) → SchemaText these text → SchemaText those text
+    → these ≡ those
 
 -- a fault of syntax is found where the text is too long or says nothing, and nowhere else
 abbrev pub OnlyTheGrammarIsRead : Type 0
-OnlyTheGrammarIsRead = (text : List ℕ) → HasSyntaxFault (read_schema text) ↔ ((longest_text < length text) ⊎ ((declarations : List Declaration) → SchemaText declarations text → ⊥))
+OnlyTheGrammarIsRead =
+    (text : List ℕ)
+    → HasSyntaxFault (read_schema text) ↔ ((longest_text < length text) ⊎ ((declarations : List Declaration)
+    → SchemaText declarations text → ⊥))
 
 -- at the byte a token begins, or the text ends
 pub record TokenAt (text : List ℕ) (n : ℕ) : Type 0 where
@@ -56,13 +67,19 @@ pub record TokenAt (text : List ℕ) (n : ℕ) : Type 0 where
 
 -- a fault of syntax in a text that is short enough is told at a token or at the end
 abbrev pub FaultsAreAtTokens : Type 0
-FaultsAreAtTokens = (text : List ℕ) (n : ℕ) → length text ≤ longest_text → read_schema text ≡ Err (Syntax n) → TokenAt text n
+FaultsAreAtTokens =
+    (text : List ℕ) (n : ℕ) → length text ≤ longest_text → read_schema text ≡ Err (Syntax n)
+    → TokenAt text n
 
--- declarations make a schema where they are good tables, and it has those; else the first bad one is told
+-- declarations make a schema where they are good tables, and it has those; else the first bad one
+-- is told
 pub record GoodTablesAreMade : Type 0 where
-  pub good : (declarations : List Declaration) → ((schema : Schema) × (tables_from [] declarations ≡ Ok schema)) ↔ TablesAreGood declarations
-  pub exactly : (declarations : List Declaration) (schema : Schema) → (tables_from [] declarations ≡ Ok schema) ↔ (TablesAreGood declarations × AreTablesOf 1 declarations schema.tables)
-  pub bad : (declarations : List Declaration) (n : ℕ) → (tables_from [] declarations ≡ Err (BadTable n)) ↔ IsFirstBad declarations n
+  pub good : (declarations : List Declaration)
+      → ((schema : Schema) × (tables_from [] declarations ≡ Ok schema)) ↔ TablesAreGood declarations
+  pub exactly : (declarations : List Declaration) (schema : Schema)
+      → (tables_from [] declarations ≡ Ok schema) ↔ (TablesAreGood declarations × AreTablesOf 1 declarations schema.tables)
+  pub bad : (declarations : List Declaration) (n : ℕ)
+      → (tables_from [] declarations ≡ Err (BadTable n)) ↔ IsFirstBad declarations n
 
 -- a text of at most 65,536 bytes that says good tables, and a schema that has them
 pub record SaysSchema (text : List ℕ) (schema : Schema) : Type 0 where
@@ -74,8 +91,12 @@ pub record SaysSchema (text : List ℕ) (schema : Schema) : Type 0 where
 
 -- a schema is read exactly from the texts that say it
 abbrev pub OnlySchemasAreRead : Type 0
-OnlySchemasAreRead = (text : List ℕ) (schema : Schema) → (read_schema text ≡ Ok schema) ↔ SaysSchema text schema
+OnlySchemasAreRead =
+    (text : List ℕ) (schema : Schema) → (read_schema text ≡ Ok schema) ↔ SaysSchema text schema
 
 -- every text that says good tables says a schema
 abbrev pub GoodTextsAreRead : Type 0
-GoodTextsAreRead = (text : List ℕ) (declarations : List Declaration) → length text ≤ longest_text → SchemaText declarations text → TablesAreGood declarations → (schema : Schema) × (read_schema text ≡ Ok schema)
+GoodTextsAreRead =
+    (text : List ℕ) (declarations : List Declaration) → length text ≤ longest_text
+    → SchemaText declarations text → TablesAreGood declarations
+    → (schema : Schema) × (read_schema text ≡ Ok schema)

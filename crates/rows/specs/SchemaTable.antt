@@ -34,7 +34,8 @@ same_side End End = true
 same_side _ _ = false
 
 abbrev pub user_column : Entry → Option Column
-user_column (User c) = Some (record { name = c.name; of = c.of; not_null = list_any is_not_null c.marks })
+user_column (User c) =
+    Some (record { name = c.name; of = c.of; not_null = list_any is_not_null c.marks })
 user_column _ = None
 
 -- the name of a user or generated column
@@ -71,7 +72,8 @@ is_good_precision (Some n) = nat_le n 12
 -- NOT NULL stands once at most
 abbrev pub is_good_entry : Entry → Bool
 is_good_entry (User c) = is_good_type c.of && nat_le (count_by is_not_null c.marks) 1
-is_good_entry (Generated g) = is_good_precision g.digits && not (g.not_null_before && g.not_null_after)
+is_good_entry (Generated g) =
+    is_good_precision g.digits && not (g.not_null_before && g.not_null_after)
 is_good_entry _ = true
 
 -- no name stands twice
@@ -90,7 +92,8 @@ number_in columns name = unwrap_or (position_from (λ c. same_name c.name name) 
 
 -- one to four different user columns
 abbrev pub is_good_key : List (List ℕ) → List ℕ → Bool
-is_good_key names numbers = nat_le (length names) 4 && are_distinct names && not (list_any (λ n. n == 0) numbers)
+is_good_key names numbers =
+    nat_le (length names) 4 && are_distinct names && not (list_any (λ n. n == 0) numbers)
 
 -- the period names the ROW START and the ROW END column
 abbrev pub is_good_period : List ℕ → List ℕ → PeriodNames → Bool
@@ -101,7 +104,8 @@ abbrev pub is_good_width : List Column → Bool
 is_good_width columns = nat_le 1 (length columns) && nat_le (length columns) 16
 
 abbrev pub are_good_entries : List Entry → Bool
-are_good_entries entries = list_all is_good_entry entries && are_distinct (filter_map column_name entries)
+are_good_entries entries =
+    list_all is_good_entry entries && are_distinct (filter_map column_name entries)
 
 infixl 10 ◌>>=◌
 abbrev ◌>>=◌ : {A B : Type 0} → Option A → (A → Option B) → Option B
@@ -125,16 +129,19 @@ unfoldable pub next_table : List Table → Declaration → Option Table
 next_table tables d =
     if nat_lt (length tables) 16 && not (list_any (λ t. same_name t.name d.name) tables) then table_of (length tables + 1) d else None
 
--- these tables and those of the declarations, or the number of the first declaration that makes none
+-- these tables and those of the declarations, or the number of the first declaration that makes
+-- none
 abbrev pub tables_from : List Table → List Declaration → Result Schema SchemaFault
 tables_from tables [] = Ok (record { tables = tables })
-tables_from tables (d ∷ ds) = elim (next_table tables d) [ None ↦ Err (BadTable (length tables + 1)) | Some t ↦ tables_from (tables ++ t ∷ []) ds ]
+tables_from tables (d ∷ ds) =
+    elim (next_table tables d) [ None ↦ Err (BadTable (length tables + 1)) | Some t ↦ tables_from (tables ++ t ∷ []) ds ]
 
 -- the bytes that a schema's text may have
 abbrev pub longest_text : ℕ
 longest_text = 65536
 
--- the schema of a text, or where its first fault is: syntax is looked for in the whole text before any table is
+-- the schema of a text, or where its first fault is: syntax is looked for in the whole text before
+-- any table is
 unfoldable pub read_schema : List ℕ → Result Schema SchemaFault
 read_schema text =
     if nat_lt longest_text (length text) then Err (Syntax longest_text)

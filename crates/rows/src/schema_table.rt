@@ -132,7 +132,8 @@ fn push_marked(
     name: &Chars,
     marks: &[Mark],
 ) -> Result<(), AllocError>
-    ensures { OnOk result (keys.new.items ≡ keys.old.items ++ map (λ mark. name.now ∷ []) (filter is_primary_key marks.now)) }
+    ensures { OnOk result (keys.new.items
+        ≡ keys.old.items ++ map (λ mark. name.now ∷ []) (filter is_primary_key marks.now)) }
 {
     for mark in marks {
         if is_primary_key(mark) {

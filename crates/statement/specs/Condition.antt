@@ -1,4 +1,5 @@
--- Names of tables and columns by their numbers, which are 0 where there is none, and what is said of columns.
+-- Names of tables and columns by their numbers, which are 0 where there is none, and what is said
+-- of columns.
 use Rattle.std.specs.Prelude.{ℕ, List, [], ◌∷◌, ◌==◌, Some, None, Ok, Err, codes, if◌then◌else◌}
 use Rattle.std.specs.Option.{unwrap_or}
 use Rattle.values.specs.Tables.{Schema}
@@ -20,7 +21,8 @@ table_of schema name = unwrap_or (table_number schema name) 0
 
 -- the number of a user column of a table, or 0
 unfoldable pub column_of : Schema → ℕ → List ℕ → ℕ
-column_of schema table name = elim (table_at schema table) [ None ↦ 0 | Some t ↦ unwrap_or (column_number t name) 0 ]
+column_of schema table name =
+    elim (table_at schema table) [ None ↦ 0 | Some t ↦ unwrap_or (column_number t name) 0 ]
 
 unfoldable pub table_name_at : Schema → List ℕ → Read ℕ
 table_name_at schema bytes = do

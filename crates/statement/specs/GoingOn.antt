@@ -9,15 +9,21 @@ use Rattle.statement.specs.Token.{is_blank}
 use Rattle.statement.specs.Line.{body_says}
 use Rattle.statement.specs.Grammar.{IsLine}
 
--- a token by its first byte and the others, before the rest: letters, digits and underscores, as many as come, or one other byte, which is no blank, no minus and no quote
+-- a token by its first byte and the others, before the rest: letters, digits and underscores, as
+-- many as come, or one other byte, which is no blank, no minus and no quote
 pub record Plain (first : ℕ) (others rest : List ℕ) : Type 0 where
   pub no_blank : is_blank first ≡ false
   pub no_minus : first ≡ 45 → ⊥
   pub no_quote : first ≡ 39 → ⊥
-  pub run : ((is_name_byte first ≡ true) × (AllBytes is_name_byte others × Ends is_name_byte rest)) ⊎ ((is_name_byte first ≡ false) × (others ≡ []))
+  pub run :
+      ((is_name_byte first ≡ true) × (AllBytes is_name_byte others × Ends is_name_byte rest))
+      ⊎ ((is_name_byte first ≡ false) × (others ≡ []))
 
--- where a fault of syntax is reported at such a token, no bytes after the token make a line of the grammar of it and the bytes before it
+-- where a fault of syntax is reported at such a token, no bytes after the token make a line of the
+-- grammar of it and the bytes before it
 abbrev pub FaultsAreFinal : Schema → Type 0
-FaultsAreFinal schema = (reading : ℕ) (before : List ℕ) (first : ℕ) (others rest : List ℕ) → Plain first others rest
+FaultsAreFinal schema =
+    (reading : ℕ) (before : List ℕ) (first : ℕ) (others rest : List ℕ) → Plain first others rest
     → body_says schema reading (before ++ first ∷ (others ++ rest)) ≡ Err (Syntax (length before))
-    → (other : List ℕ) (written : Written) → Plain first others other → IsLine schema written (before ++ first ∷ (others ++ other)) → ⊥
+    → (other : List ℕ) (written : Written) → Plain first others other
+    → IsLine schema written (before ++ first ∷ (others ++ other)) → ⊥

@@ -1,4 +1,5 @@
--- The grammar of lines: which bytes may stand, and what they say. A piece of a line is a relation between the bytes from its front on and those after it.
+-- The grammar of lines: which bytes may stand, and what they say. A piece of a line is a relation
+-- between the bytes from its front on and those after it.
 use Rattle.std.specs.Prelude.{◌≡◌, ℕ, ◌<◌, ◌≤◌, ◌-◌, ◌^◌, ◌==◌, List, [], ◌∷◌, ◌++◌, Bool, true, false, Option, Some, None, ℤ, pos, neg_ℤ, ◌⊎◌, flat_map, length, codes, if◌then◌else◌, IsUtf8}
 use Rattle.std.specs.Char.{is_ascii_digit}
 use Rattle.std.specs.Str.Parse.{digits_value}
@@ -55,7 +56,8 @@ Symbol symbol = Blanks ⋯ Exactly (symbol ∷ [])
 
 -- a word of the grammar, in any case
 abbrev pub Word : List ℕ → Piece
-Word word = Blanks ⋯ (λ bytes rest. (written : List ℕ) × (Run is_name_byte written bytes rest × (same_name word written ≡ true)))
+Word word =
+    Blanks ⋯ (λ bytes rest. (written : List ℕ) × (Run is_name_byte written bytes rest × (same_name word written ≡ true)))
 
 abbrev pub Name : List ℕ → Piece
 Name name = Blanks ⋯ (λ bytes rest. Run is_name_byte name bytes rest × (is_name name ≡ true))
@@ -116,25 +118,29 @@ IsInstant n = Blanks ⋯ Digits max_instant n
 -- which versions a SELECT asks for
 abbrev pub IsForm : Form → Piece
 IsForm Plain = Empty
-IsForm (AsOf instant) = Word (codes "FOR") ⋯ Word (codes "SYSTEM_TIME") ⋯ Word (codes "AS") ⋯ Word (codes "OF") ⋯ IsInstant instant
+IsForm (AsOf instant) =
+    Word (codes "FOR") ⋯ Word (codes "SYSTEM_TIME") ⋯ Word (codes "AS") ⋯ Word (codes "OF") ⋯ IsInstant instant
 IsForm (FromTo from to) = λ bytes rest. ⊥
 IsForm (Between from to) = λ bytes rest. ⊥
 
 module _ (schema : Schema) where
   -- a name, which stands for the table that has it, or for none
   abbrev pub IsTable : ℕ → Piece
-  IsTable number bytes rest = (name : List ℕ) × (Name name bytes rest × (table_of schema name ≡ number))
+  IsTable number bytes rest =
+      (name : List ℕ) × (Name name bytes rest × (table_of schema name ≡ number))
 
   module _ (table : ℕ) where
     -- a name, which stands for the user column that has it, or for none
     abbrev pub IsColumn : ℕ → Piece
-    IsColumn number bytes rest = (name : List ℕ) × (Name name bytes rest × (column_of schema table name ≡ number))
+    IsColumn number bytes rest =
+        (name : List ℕ) × (Name name bytes rest × (column_of schema table name ≡ number))
 
     abbrev pub IsSet : Set → Piece
     IsSet set = IsColumn set.column ⋯ Symbol 61 ⋯ Literal set.value
 
     abbrev pub IsComparison : Comparison → Piece
-    IsComparison comparison = IsColumn comparison.column ⋯ IsOperator comparison.operator ⋯ Literal comparison.value
+    IsComparison comparison =
+        IsColumn comparison.column ⋯ IsOperator comparison.operator ⋯ Literal comparison.value
 
     abbrev pub IsColumnList : Option (List ℕ) → Piece
     IsColumnList None = Empty
@@ -152,13 +158,15 @@ module _ (schema : Schema) where
       Word (codes "INSERT") ⋯ Word (codes "INTO") ⋯ IsTable table ⋯ IsColumnList table columns ⋯ Word (codes "VALUES") ⋯ Listed (Symbol 44) IsRow rows
   IsStatement (Update keys sets) =
       Word (codes "UPDATE") ⋯ IsTable keys.table ⋯ Word (codes "SET") ⋯ Listed (Symbol 44) (IsSet keys.table) sets ⋯ IsWhere keys.table keys.comparisons
-  IsStatement (Delete keys) = Word (codes "DELETE") ⋯ Word (codes "FROM") ⋯ IsTable keys.table ⋯ IsWhere keys.table keys.comparisons
+  IsStatement (Delete keys) =
+      Word (codes "DELETE") ⋯ Word (codes "FROM") ⋯ IsTable keys.table ⋯ IsWhere keys.table keys.comparisons
   IsStatement (Select form keys) =
       Word (codes "SELECT") ⋯ Symbol 42 ⋯ Word (codes "FROM") ⋯ IsTable keys.table ⋯ IsForm form ⋯ IsWhere keys.table keys.comparisons
 
   -- a line up to its end
   abbrev pub IsLine : Written → List ℕ → Type 0
-  IsLine (Clock instant) bytes = (Word (codes "CLOCK") ⋯ Symbol 58 ⋯ IsInstant instant ⋯ Blanks) bytes []
+  IsLine (Clock instant) bytes =
+      (Word (codes "CLOCK") ⋯ Symbol 58 ⋯ IsInstant instant ⋯ Blanks) bytes []
   IsLine (Session session statement) bytes =
       ((Blanks ⋯ Digits (2 ^ 63 - 1) session) ⋯ Symbol 58 ⋯ IsStatement statement ⋯ (Empty ∣ Symbol 59) ⋯ Blanks) bytes []
 

@@ -17,23 +17,34 @@ use Rattle.statement.specs.Grammar.{IsNothing, IsLine}
 module _ (schema : Schema) where
   -- every line of the grammar is read, as what it says
   abbrev pub LinesAreRead : Type 0
-  LinesAreRead = (reading : ℕ) (bytes : List ℕ) (written : Written) → IsLine schema written bytes → body_says schema reading bytes ≡ meaning_of schema reading written
+  LinesAreRead =
+      (reading : ℕ) (bytes : List ℕ) (written : Written) → IsLine schema written bytes
+      → body_says schema reading bytes ≡ meaning_of schema reading written
 
   -- no line of the grammar says two things
   abbrev pub LinesSayOneThing : Type 0
-  LinesSayOneThing = (bytes : List ℕ) (written other : Written) → IsLine schema written bytes → IsLine schema other bytes → written ≡ other
+  LinesSayOneThing =
+      (bytes : List ℕ) (written other : Written) → IsLine schema written bytes
+      → IsLine schema other bytes → written ≡ other
 
   -- blank lines and comments are read, and no line of the grammar is one
   abbrev pub NothingIsRead : Type 0
-  NothingIsRead = (reading : ℕ) (bytes : List ℕ) → IsNothing bytes → (body_says schema reading bytes ≡ Ok Nothing) × ((written : Written) → IsLine schema written bytes → ⊥)
+  NothingIsRead =
+      (reading : ℕ) (bytes : List ℕ) → IsNothing bytes
+      → (body_says schema reading bytes ≡ Ok Nothing) × ((written : Written)
+      → IsLine schema written bytes → ⊥)
 
   -- the bytes are no line of the grammar, and are answered so
   abbrev pub IsRefused : ℕ → List ℕ → Type 0
-  IsRefused reading bytes = (byte : ℕ) × ((body_says schema reading bytes ≡ Err (Syntax byte)) × ((written : Written) → IsLine schema written bytes → ⊥))
+  IsRefused reading bytes =
+      (byte : ℕ) × ((body_says schema reading bytes ≡ Err (Syntax byte)) × ((written : Written)
+      → IsLine schema written bytes → ⊥))
 
   -- whatever is read is nothing or a line of the grammar, and all else is refused with a byte
   abbrev pub OnlyLinesAreRead : Type 0
-  OnlyLinesAreRead = (reading : ℕ) (bytes : List ℕ) → IsNothing bytes ⊎ (((written : Written) × IsLine schema written bytes) ⊎ IsRefused reading bytes)
+  OnlyLinesAreRead =
+      (reading : ℕ) (bytes : List ℕ)
+      → IsNothing bytes ⊎ (((written : Written) × IsLine schema written bytes) ⊎ IsRefused reading bytes)
 
 -- at the byte a token begins, or the bytes end
 pub record TokenAt (bytes : List ℕ) (byte : ℕ) : Type 0 where
@@ -45,13 +56,16 @@ pub record TokenAt (bytes : List ℕ) (byte : ℕ) : Type 0 where
 
 -- a fault of syntax is reported where a token begins, or at the line's end
 abbrev pub FaultsAreAtTokens : Schema → Type 0
-FaultsAreAtTokens schema = (reading : ℕ) (bytes : List ℕ) (byte : ℕ) → body_says schema reading bytes ≡ Err (Syntax byte) → TokenAt bytes byte
+FaultsAreAtTokens schema =
+    (reading : ℕ) (bytes : List ℕ) (byte : ℕ) → body_says schema reading bytes ≡ Err (Syntax byte)
+    → TokenAt bytes byte
 
 -- the bytes do not end with this one
 abbrev pub EndsOtherwise : ℕ → List ℕ → Type 0
 EndsOtherwise byte bytes = (front : List ℕ) → bytes ≡ front ++ byte ∷ [] → ⊥
 
--- a line feed ends a line, with a carriage return or without one, and neither is among its tokens; a return without a feed is
+-- a line feed ends a line, with a carriage return or without one, and neither is among its tokens;
+-- a return without a feed is
 pub record LineEndsAreNoTokens : Type 0 where
   pub returned : (body : List ℕ) → body_of (body ++ 13 ∷ 10 ∷ []) ≡ body
   pub counted : (body : List ℕ) → before_feed (body ++ 13 ∷ 10 ∷ []) ≡ body ++ 13 ∷ []
@@ -72,4 +86,6 @@ ArePlain (v ∷ vs) = IsPlain v × ArePlain vs
 
 -- the values of a row as they are printed are read as that row, whatever follows
 abbrev pub PrintedRowsAreRead : Type 0
-PrintedRowsAreRead = (row : Row) (rest : List ℕ) → 0 < length row → ArePlain row → row_at (values_text row ++ rest) ≡ Ok (row, rest)
+PrintedRowsAreRead =
+    (row : Row) (rest : List ℕ) → 0 < length row → ArePlain row
+    → row_at (values_text row ++ rest) ≡ Ok (row, rest)

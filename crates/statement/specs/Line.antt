@@ -25,7 +25,8 @@ before_feed line = without_last 10 line
 
 -- the bytes of a line's tokens: a carriage return right before the line feed is none of them
 abbrev pub body_of : List ℕ → List ℕ
-body_of line = if length (before_feed line) == length line then line else without_last 13 (before_feed line)
+body_of line =
+    if length (before_feed line) == length line then line else without_last 13 (before_feed line)
 
 -- at its first token a line is blank or a comment
 abbrev pub is_nothing : List ℕ → Bool
@@ -63,7 +64,8 @@ module _ (schema : Schema) where
 
   unfoldable pub meaning_of : ℕ → Written → Result Line Refusal
   meaning_of reading (SetsClock instant) = Ok (Clock instant)
-  meaning_of reading (Session session statement) = step_of schema reading session statement >>= λ step. Ok (IsStep step)
+  meaning_of reading (Session session statement) =
+      step_of schema reading session statement >>= λ step. Ok (IsStep step)
 
   -- what the bytes of a line's tokens say
   unfoldable pub body_says : ℕ → List ℕ → Result Line Refusal
@@ -73,4 +75,5 @@ module _ (schema : Schema) where
 
   -- what a line of a text says, which ends with its line feed or, as a last line may, without one
   unfoldable pub line_says : ℕ → List ℕ → Result Line Refusal
-  line_says reading line = if nat_lt longest_line (length (before_feed line)) then Err LineTooLong else body_says reading (body_of line)
+  line_says reading line =
+      if nat_lt longest_line (length (before_feed line)) then Err LineTooLong else body_says reading (body_of line)

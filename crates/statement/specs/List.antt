@@ -6,12 +6,15 @@ use Rattle.tokens.specs.Token.{After, Read, ◌>>=◌, Stops}
 use Rattle.statement.specs.Token.{symbol_at}
 
 -- what a function returned is the list that reading gives, unless memory ran out
-abbrev pub MakesList : {A Z : Type 0} → Result (Vec A Z × Bor (List ℕ)) Stop → Read (List A) → Type 0
+abbrev pub MakesList : {A Z : Type 0} → Result (Vec A Z × Bor (List ℕ)) Stop → Read (List A)
+    → Type 0
 MakesList (Ok x) read = read ≡ Ok (x.0.items, x.1.now)
 MakesList (Err stop) read = Stops stop read
 
--- after each separator one more item, which go behind those in front; there are no more of them than bytes
-abbrev pub more_at : {A : Type 0} → (List ℕ → After) → (List ℕ → Read A) → List ℕ → List A → List ℕ → Read (List A)
+-- after each separator one more item, which go behind those in front; there are no more of them
+-- than bytes
+abbrev pub more_at : {A : Type 0} → (List ℕ → After) → (List ℕ → Read A) → List ℕ → List A → List ℕ
+    → Read (List A)
 more_at separator item [] front bytes = Ok (front, bytes)
 more_at separator item (_ ∷ turns) front bytes = elim (separator bytes) [
   | Err at ↦ Ok (front, bytes)
@@ -25,7 +28,8 @@ list_at separator item bytes = do
   more_at separator item first.1 (first.0 ∷ []) first.1
 
 -- the same in parentheses
-abbrev pub enclosed_at : {A : Type 0} → (List ℕ → After) → (List ℕ → Read A) → List ℕ → Read (List A)
+abbrev pub enclosed_at : {A : Type 0} → (List ℕ → After) → (List ℕ → Read A) → List ℕ
+    → Read (List A)
 enclosed_at separator item bytes = do
   inside ← symbol_at 40 bytes
   items ← list_at separator item inside

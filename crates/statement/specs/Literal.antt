@@ -17,7 +17,8 @@ digit_count bytes = prefix_len is_ascii_digit bytes
 
 -- the number that digits write, if it is at most so great
 abbrev pub value_within : ℕ → List ℕ → Option ℕ
-value_within most digits = if nat_lt most (digits_value 10 digits) then None else Some (digits_value 10 digits)
+value_within most digits =
+    if nat_lt most (digits_value 10 digits) then None else Some (digits_value 10 digits)
 
 -- the number at the very front, if it is at most so great, and the bytes after it
 unfoldable pub digits_here : ℕ → List ℕ → Option (ℕ × List ℕ)
@@ -26,7 +27,8 @@ digits_here most bytes =
     else option_map (λ number. (number, drop (digit_count bytes) bytes)) (value_within most (take (digit_count bytes) bytes))
 
 unfoldable pub digits_at : ℕ → List ℕ → Read ℕ
-digits_at most bytes = elim (digits_here most (next bytes)) [ None ↦ Err (next bytes) | Some x ↦ Ok x ]
+digits_at most bytes =
+    elim (digits_here most (next bytes)) [ None ↦ Err (next bytes) | Some x ↦ Ok x ]
 
 abbrev pub begins_with : ℕ → List ℕ → Bool
 begins_with byte [] = false
@@ -44,12 +46,15 @@ number_at bytes =
     let at = next bytes in
     elim (if begins_with 45 at then below_nought (drop 1 at) else above_nought at) [ None ↦ Err at | Some x ↦ Ok x ]
 
--- the text, which goes on behind what stands in front, up to the quote that closes it, and the bytes after that;
+-- the text, which goes on behind what stands in front, up to the quote that closes it, and the
+-- bytes after that;
 -- a quote closes it where no other follows, and else the two are one of the text's
 abbrev pub quoted_from : Bool → List ℕ → List ℕ → Option (List ℕ × List ℕ)
 quoted_from closed front [] = if closed then Some (front, []) else None
-quoted_from false front (b ∷ bytes) = if b == 39 then quoted_from true front bytes else quoted_from false (front ++ b ∷ []) bytes
-quoted_from true front (b ∷ bytes) = if b == 39 then quoted_from false (front ++ 39 ∷ []) bytes else Some (front, b ∷ bytes)
+quoted_from false front (b ∷ bytes) =
+    if b == 39 then quoted_from true front bytes else quoted_from false (front ++ b ∷ []) bytes
+quoted_from true front (b ∷ bytes) =
+    if b == 39 then quoted_from false (front ++ 39 ∷ []) bytes else Some (front, b ∷ bytes)
 
 abbrev pub quoted : List ℕ → Option (List ℕ × List ℕ)
 quoted bytes = quoted_from false [] bytes

@@ -21,7 +21,8 @@ use Rattle.tokens.specs.Token.{◌>>=◌}
 -- each name of a column list is a column's, and none stands twice
 abbrev pub is_column_list : List ℕ → Bool
 is_column_list [] = true
-is_column_list (column ∷ columns) = not (column == 0) && not (list_any (λ other. other == column) columns) && is_column_list columns
+is_column_list (column ∷ columns) =
+    not (column == 0) && not (list_any (λ other. other == column) columns) && is_column_list columns
 
 -- there is no column list, or a good one
 abbrev pub is_good_list : Option (List ℕ) → Bool
@@ -34,12 +35,14 @@ place_of columns number = position (λ column. column == number) columns
 
 -- the value that a row gives a column, by the columns of its values; NULL where it gives none
 abbrev pub value_of : List ℕ → Row → ℕ → Value
-value_of columns row number = elim (place_of columns number) [ None ↦ Null | Some i ↦ unwrap_or (slice_get row i) Null ]
+value_of columns row number =
+    elim (place_of columns number) [ None ↦ Null | Some i ↦ unwrap_or (slice_get row i) Null ]
 
 -- the values for the columns of a table, numbered from here on, behind those in front
 abbrev pub row_values_from : List ℕ → Row → Row → ℕ → List Column → Row
 row_values_from columns row front number [] = front
-row_values_from columns row front number (_ ∷ rest) = row_values_from columns row (front ++ value_of columns row number ∷ []) (number + 1) rest
+row_values_from columns row front number (_ ∷ rest) =
+    row_values_from columns row (front ++ value_of columns row number ∷ []) (number + 1) rest
 
 -- a row's values in the table's order
 abbrev pub row_values : Table → List ℕ → Row → Row
@@ -52,7 +55,8 @@ row_in table row = elim (row_fault table row) [ Some column ↦ Err (BadRow colu
 -- the row in the table's order, which is its own where there is no column list
 unfoldable pub fitting_row : Table → Option (List ℕ) → Row → Result Row Refusal
 fitting_row table None row = row_in table row
-fitting_row table (Some columns) row = if length columns == length row then row_in table (row_values table columns row) else Err (BadRow 0)
+fitting_row table (Some columns) row =
+    if length columns == length row then row_in table (row_values table columns row) else Err (BadRow 0)
 
 -- the same of rows in turn, behind those in front
 abbrev pub fitting_rows : Table → Option (List ℕ) → List Row → List Row → Result (List Row) Refusal
@@ -80,7 +84,8 @@ module _ (schema : Schema) where
   -- the step of a session that there is
   unfoldable pub session_step : ℕ → ℕ → Statement → Result Step Refusal
   session_step reading session Begin = fitting_step (Begins session)
-  session_step reading session (Insert number columns rows) = insert_step session number columns rows
+  session_step reading session (Insert number columns rows) =
+      insert_step session number columns rows
   session_step reading session (Update keys sets) = fitting_step (Updates session keys sets)
   session_step reading session (Delete keys) = fitting_step (Deletes session keys)
   session_step reading session (Select form keys) = fitting_step (Selects session form keys)

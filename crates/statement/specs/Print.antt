@@ -53,7 +53,8 @@ abbrev pub row_line : Row → List ℕ
 row_line row = line (values_text row)
 
 abbrev pub shown_line : Shown → List ℕ
-shown_line s = values_text s.row ++ (codes " from " ++ (decimal s.from ++ (codes " to " ++ line (end_text s.to))))
+shown_line s =
+    values_text s.row ++ (codes " from " ++ (decimal s.from ++ (codes " to " ++ line (end_text s.to))))
 
 -- how many rows, and a line for each
 abbrev pub listing_text : Listing → List ℕ
@@ -67,7 +68,8 @@ refusal_text (BadRow column) = numbered (codes "E3 bad row at column ") column
 refusal_text NoTransaction = line (codes "E4 no transaction")
 refusal_text InTransaction = line (codes "E5 in transaction")
 refusal_text (DuplicateKey key) = codes "E6 duplicate key " ++ line (values_text key.parts)
-refusal_text (Conflict key instant) = codes "E7 conflict " ++ (values_text key.parts ++ numbered (codes " at ") instant)
+refusal_text (Conflict key instant) =
+    codes "E7 conflict " ++ (values_text key.parts ++ numbered (codes " at ") instant)
 refusal_text ClockEnd = line (codes "E8 clock end")
 refusal_text TooManyWrites = line (codes "E9 too many writes")
 refusal_text Memory = line (codes "E10 memory")

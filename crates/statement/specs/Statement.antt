@@ -1,4 +1,5 @@
--- Statements as they are written: names by their numbers, and rows in the order in which their values stand.
+-- Statements as they are written: names by their numbers, and rows in the order in which their
+-- values stand.
 use Rattle.std.specs.Prelude.{ℕ, List, Option, Some, None, Ok, Err, codes}
 use Rattle.values.specs.Tables.{Schema}
 use Rattle.values.specs.Commits.{max_instant}
@@ -25,7 +26,8 @@ as_of_at bytes = do
 
 -- which versions a SELECT asks for
 unfoldable pub form_at : List ℕ → Read Form
-form_at bytes = elim (word_at (codes "FOR") bytes) [ Err _ ↦ Ok (Plain, bytes) | Ok rest ↦ as_of_at rest ]
+form_at bytes =
+    elim (word_at (codes "FOR") bytes) [ Err _ ↦ Ok (Plain, bytes) | Ok rest ↦ as_of_at rest ]
 
 unfoldable pub start_at : List ℕ → Read Statement
 start_at bytes = do

@@ -5,17 +5,22 @@ use Rattle.values.specs.Tables.{Schema}
 use Rattle.statement.specs.Transcript.{Partial, Progress, Reading, transcript, leaves}
 
 module _ (schema : Schema) (read : Reading) where
-  -- these bytes of a text were taken: what was written is what the transcript has for them, and the text leaves what is left from there on, whatever follows
+  -- these bytes of a text were taken: what was written is what the transcript has for them, and the
+  -- text leaves what is left from there on, whatever follows
   pub record Feeds (old new : Option (List ℕ)) (p : Progress) (line : Partial) (p' : Progress) (line' : Partial) (bytes : List ℕ) : Type 0 where
     pub marks : List Bool
     pub out : List ℕ
     pub wrote : Appends old new out
-    pub goes_on : (more : List Bool) (rest : List ℕ) → transcript schema read (marks ++ more) p line (bytes ++ rest) ≡ out ++ transcript schema read more p' line' rest
-    pub leaves_on : (more : List Bool) (rest : List ℕ) → leaves schema read (marks ++ more) p line (bytes ++ rest) ≡ leaves schema read more p' line' rest
+    pub goes_on : (more : List Bool) (rest : List ℕ)
+        → transcript schema read (marks ++ more) p line (bytes ++ rest) ≡ out ++ transcript schema read more p' line' rest
+    pub leaves_on : (more : List Bool) (rest : List ℕ)
+        → leaves schema read (marks ++ more) p line (bytes ++ rest) ≡ leaves schema read more p' line' rest
 
-  -- the writer failed in these bytes: what was written is a front of the transcript, whatever follows
+  -- the writer failed in these bytes: what was written is a front of the transcript, whatever
+  -- follows
   pub record Breaks (old new : Option (List ℕ)) (p : Progress) (line : Partial) (bytes : List ℕ) : Type 0 where
     pub marks : List Bool
     pub out : List ℕ
     pub wrote : Appends old new out
-    pub front : (more : List Bool) (rest : List ℕ) → (left : List ℕ) × (transcript schema read (marks ++ more) p line (bytes ++ rest) ≡ out ++ left)
+    pub front : (more : List Bool) (rest : List ℕ)
+        → (left : List ℕ) × (transcript schema read (marks ++ more) p line (bytes ++ rest) ≡ out ++ left)

@@ -17,9 +17,11 @@ Partial = Option (List ℕ)
 
 abbrev pub add : Partial → ℕ → Partial
 add None byte = None
-add (Some bytes) byte = if nat_lt (length bytes) longest_line then Some (bytes ++ byte ∷ []) else None
+add (Some bytes) byte =
+    if nat_lt (length bytes) longest_line then Some (bytes ++ byte ∷ []) else None
 
--- what lines leave: the steps that were answered, the newest first, and the reading of the last CLOCK line
+-- what lines leave: the steps that were answered, the newest first, and the reading of the last
+-- CLOCK line
 pub record Progress : Type 0 where
   pub history : History
   pub reading : ℕ
@@ -79,7 +81,8 @@ module _ (schema : Schema) (read : Reading) where
   last_reply m p (Some []) = []
   last_reply m p bytes = line_reply schema read m p bytes
 
-  -- what is written for the rest of a text, where this line has begun; the marks say at which lines memory ran out
+  -- what is written for the rest of a text, where this line has begun; the marks say at which lines
+  -- memory ran out
   abbrev pub transcript : List Bool → Progress → Partial → List ℕ → List ℕ
   transcript ms p bytes [] = last_reply (mark ms) p bytes
   transcript ms p bytes (b ∷ bs) =

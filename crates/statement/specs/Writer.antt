@@ -10,6 +10,7 @@ pub record AppendsFront (old new : Option (List ℕ)) (text : List ℕ) : Type 0
   pub front : text ≡ out ++ left
 
 -- a writer took all of a text, or failed in its midst
-abbrev pub Puts : {E : Type 0} → Option (List ℕ) → Option (List ℕ) → Result (Unit {0}) E → List ℕ → Type 0
+abbrev pub Puts : {E : Type 0} → Option (List ℕ) → Option (List ℕ) → Result (Unit {0}) E → List ℕ
+    → Type 0
 Puts old new (Ok done) text = Appends old new text
 Puts old new (Err fault) text = AppendsFront old new text

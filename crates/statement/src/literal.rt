@@ -86,7 +86,8 @@ fn below_nought(bytes: &[u8]) -> Option<(i64, &[u8])>
 
 /// The text up to its closing quote, and the bytes after it. Two quotes are one of the text's.
 fn quoted(alloc: Global, bytes: &[u8]) -> Result<Option<(Vec<u8>, &[u8])>, AllocError>
-    ensures { IfOk result (λ found. option_map (λ x. (x.0.items, x.1.now)) found ≡ quoted bytes.now) }
+    ensures { IfOk result (λ found.
+        option_map (λ x. (x.0.items, x.1.now)) found ≡ quoted bytes.now) }
 {
     let mut text = Vec::new(alloc);
     let mut closed = false;

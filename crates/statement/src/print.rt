@@ -35,7 +35,8 @@ pub fn print_reply<W: Write>(writer: &mut W, reply: &Reply) -> Put
 
 /// Writes the reply to a refused step.
 pub fn print_refusal<W: Write>(writer: &mut W, refusal: &Refusal) -> Put
-    ensures { Puts (W.contents writer.old) (W.contents writer.new) result (refusal_text refusal.now) }
+    ensures { Puts (W.contents writer.old) (W.contents writer.new) result
+        (refusal_text refusal.now) }
 {
     match refusal {
         Refusal::Syntax(byte) => put_numbered(writer, b"E1 syntax at ", *byte as u64),
@@ -59,7 +60,8 @@ pub fn print_refusal<W: Write>(writer: &mut W, refusal: &Refusal) -> Put
 
 /// Writes a label, a number and the end of the line.
 fn put_numbered<W: Write>(writer: &mut W, label: &[u8], number: u64) -> Put
-    ensures { Puts (W.contents writer.old) (W.contents writer.new) result (numbered label.now number) }
+    ensures { Puts (W.contents writer.old) (W.contents writer.new) result
+        (numbered label.now number) }
 {
     write_all(writer, label)?;
     put_number_line(writer, number)
@@ -73,28 +75,32 @@ fn put_number_line<W: Write>(writer: &mut W, number: u64) -> Put
 }
 
 fn put_key<W: Write>(writer: &mut W, label: &[u8], key: &Key) -> Put
-    ensures { Puts (W.contents writer.old) (W.contents writer.new) result (label.now ++ line (values_text key.now.parts)) }
+    ensures { Puts (W.contents writer.old) (W.contents writer.new) result
+        (label.now ++ line (values_text key.now.parts)) }
 {
     write_all(writer, label)?;
     put_values_line(writer, key.parts.items())
 }
 
 fn put_conflict<W: Write>(writer: &mut W, key: &Key, instant: Instant) -> Put
-    ensures { Puts (W.contents writer.old) (W.contents writer.new) result (refusal_text (Refusal.Conflict key.now instant)) }
+    ensures { Puts (W.contents writer.old) (W.contents writer.new) result
+        (refusal_text (Refusal.Conflict key.now instant)) }
 {
     write_all(writer, b"E7 conflict ")?;
     put_winner(writer, key, instant)
 }
 
 fn put_winner<W: Write>(writer: &mut W, key: &Key, instant: Instant) -> Put
-    ensures { Puts (W.contents writer.old) (W.contents writer.new) result (values_text key.now.parts ++ numbered (codes " at ") instant) }
+    ensures { Puts (W.contents writer.old) (W.contents writer.new) result
+        (values_text key.now.parts ++ numbered (codes " at ") instant) }
 {
     put_values(writer, key.parts.items())?;
     put_numbered(writer, b" at ", instant)
 }
 
 fn put_listing<W: Write>(writer: &mut W, listing: &Listing) -> Put
-    ensures { Puts (W.contents writer.old) (W.contents writer.new) result (listing_text listing.now) }
+    ensures { Puts (W.contents writer.old) (W.contents writer.new) result
+        (listing_text listing.now) }
 {
     match listing {
         Listing::Rows(rows) => put_rows(writer, rows.items()),
@@ -103,14 +109,16 @@ fn put_listing<W: Write>(writer: &mut W, listing: &Listing) -> Put
 }
 
 fn put_rows<W: Write>(writer: &mut W, rows: &[Row]) -> Put
-    ensures { Puts (W.contents writer.old) (W.contents writer.new) result (listing_text (Listing.Rows rows.now)) }
+    ensures { Puts (W.contents writer.old) (W.contents writer.new) result
+        (listing_text (Listing.Rows rows.now)) }
 {
     put_numbered(writer, b"rows ", rows.len() as u64)?;
     put_row_lines(writer, rows)
 }
 
 fn put_row_lines<W: Write>(writer: &mut W, rows: &[Row]) -> Put
-    ensures { Puts (W.contents writer.old) (W.contents writer.new) result (flat_map row_line rows.now) }
+    ensures { Puts (W.contents writer.old) (W.contents writer.new) result
+        (flat_map row_line rows.now) }
 {
     for row in rows {
         put_row(writer, row)?;
@@ -125,14 +133,16 @@ fn put_row<W: Write>(writer: &mut W, row: &Row) -> Put
 }
 
 fn put_periods<W: Write>(writer: &mut W, shown: &[Shown]) -> Put
-    ensures { Puts (W.contents writer.old) (W.contents writer.new) result (listing_text (Listing.Periods shown.now)) }
+    ensures { Puts (W.contents writer.old) (W.contents writer.new) result
+        (listing_text (Listing.Periods shown.now)) }
 {
     put_numbered(writer, b"rows ", shown.len() as u64)?;
     put_shown_lines(writer, shown)
 }
 
 fn put_shown_lines<W: Write>(writer: &mut W, shown: &[Shown]) -> Put
-    ensures { Puts (W.contents writer.old) (W.contents writer.new) result (flat_map shown_line shown.now) }
+    ensures { Puts (W.contents writer.old) (W.contents writer.new) result
+        (flat_map shown_line shown.now) }
 {
     for one in shown {
         put_shown(writer, one)?;
@@ -148,21 +158,24 @@ fn put_shown<W: Write>(writer: &mut W, shown: &Shown) -> Put
 }
 
 fn put_period<W: Write>(writer: &mut W, from: Instant, to: Option<Instant>) -> Put
-    ensures { Puts (W.contents writer.old) (W.contents writer.new) result (codes " from " ++ (decimal from ++ (codes " to " ++ line (end_text to)))) }
+    ensures { Puts (W.contents writer.old) (W.contents writer.new) result
+        (codes " from " ++ (decimal from ++ (codes " to " ++ line (end_text to)))) }
 {
     write_all(writer, b" from ")?;
     put_ends(writer, from, to)
 }
 
 fn put_ends<W: Write>(writer: &mut W, from: Instant, to: Option<Instant>) -> Put
-    ensures { Puts (W.contents writer.old) (W.contents writer.new) result (decimal from ++ (codes " to " ++ line (end_text to))) }
+    ensures { Puts (W.contents writer.old) (W.contents writer.new) result
+        (decimal from ++ (codes " to " ++ line (end_text to))) }
 {
     put_number(writer, from)?;
     put_end(writer, to)
 }
 
 fn put_end<W: Write>(writer: &mut W, to: Option<Instant>) -> Put
-    ensures { Puts (W.contents writer.old) (W.contents writer.new) result (codes " to " ++ line (end_text to)) }
+    ensures { Puts (W.contents writer.old) (W.contents writer.new) result
+        (codes " to " ++ line (end_text to)) }
 {
     match to {
         None => write_all(writer, b" to forever\n"),
@@ -171,7 +184,8 @@ fn put_end<W: Write>(writer: &mut W, to: Option<Instant>) -> Put
 }
 
 fn put_values_line<W: Write>(writer: &mut W, values: &[Value]) -> Put
-    ensures { Puts (W.contents writer.old) (W.contents writer.new) result (line (values_text values.now)) }
+    ensures { Puts (W.contents writer.old) (W.contents writer.new) result
+        (line (values_text values.now)) }
 {
     put_values(writer, values)?;
     write_all(writer, b"\n")
@@ -188,28 +202,32 @@ fn put_values<W: Write>(writer: &mut W, values: &[Value]) -> Put
 }
 
 fn put_first<W: Write>(writer: &mut W, first: &Value, others: &[Value]) -> Put
-    ensures { Puts (W.contents writer.old) (W.contents writer.new) result (values_text (first.now ∷ others.now)) }
+    ensures { Puts (W.contents writer.old) (W.contents writer.new) result
+        (values_text (first.now ∷ others.now)) }
 {
     write_all(writer, b"(")?;
     put_inside(writer, first, others)
 }
 
 fn put_inside<W: Write>(writer: &mut W, first: &Value, others: &[Value]) -> Put
-    ensures { Puts (W.contents writer.old) (W.contents writer.new) result (value_text first.now ++ (flat_map next_text others.now ++ codes ")")) }
+    ensures { Puts (W.contents writer.old) (W.contents writer.new) result
+        (value_text first.now ++ (flat_map next_text others.now ++ codes ")")) }
 {
     put_value(writer, first)?;
     put_others(writer, others)
 }
 
 fn put_others<W: Write>(writer: &mut W, others: &[Value]) -> Put
-    ensures { Puts (W.contents writer.old) (W.contents writer.new) result (flat_map next_text others.now ++ codes ")") }
+    ensures { Puts (W.contents writer.old) (W.contents writer.new) result
+        (flat_map next_text others.now ++ codes ")") }
 {
     put_next_values(writer, others)?;
     write_all(writer, b")")
 }
 
 fn put_next_values<W: Write>(writer: &mut W, values: &[Value]) -> Put
-    ensures { Puts (W.contents writer.old) (W.contents writer.new) result (flat_map next_text values.now) }
+    ensures { Puts (W.contents writer.old) (W.contents writer.new) result
+        (flat_map next_text values.now) }
 {
     for value in values {
         put_next(writer, value)?;
@@ -237,14 +255,16 @@ fn put_value<W: Write>(writer: &mut W, value: &Value) -> Put
 }
 
 fn put_quoted<W: Write>(writer: &mut W, text: &[u8]) -> Put
-    ensures { Puts (W.contents writer.old) (W.contents writer.new) result (codes "'" ++ (quoted text.now ++ codes "'")) }
+    ensures { Puts (W.contents writer.old) (W.contents writer.new) result
+        (codes "'" ++ (quoted text.now ++ codes "'")) }
 {
     write_all(writer, b"'")?;
     put_text(writer, text)
 }
 
 fn put_text<W: Write>(writer: &mut W, text: &[u8]) -> Put
-    ensures { Puts (W.contents writer.old) (W.contents writer.new) result (quoted text.now ++ codes "'") }
+    ensures { Puts (W.contents writer.old) (W.contents writer.new) result
+        (quoted text.now ++ codes "'") }
 {
     put_doubled(writer, text)?;
     write_all(writer, b"'")

@@ -1,4 +1,5 @@
--- Runs of bytes that pass a test, as the grammars speak of them: relations that know nothing of reading.
+-- Runs of bytes that pass a test, as the grammars speak of them: relations that know nothing of
+-- reading.
 use Rattle.std.specs.Prelude.{◌≡◌, ℕ, List, [], ◌∷◌, ◌++◌, Bool, true, false}
 
 -- each byte passes the test

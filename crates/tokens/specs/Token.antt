@@ -1,4 +1,5 @@
--- Reading from the left: a value and the bytes after it, or the bytes from the first unexpected token on.
+-- Reading from the left: a value and the bytes after it, or the bytes from the first unexpected
+-- token on.
 use Rattle.std.specs.Prelude.{◌≡◌, ℕ, List, [], ◌∷◌, ◌==◌, Bool, Option, Some, None, Result, Ok, Err, take, drop, if◌then◌else◌}
 use Rattle.std.specs.List.{prefix_len}
 use Rattle.std.specs.Borrow.{Bor}
