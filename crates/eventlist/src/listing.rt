@@ -7,6 +7,7 @@ ghost use Rattle.keyrange.specs.Range.{is_key_in};
 ghost use Rattle.eventlist.specs.Listing.{events_in, standing, stands_at};
 
 use crate::key_group::{split_first_key, standing_of};
+use crate::place::place_of_key;
 use crate::range::{of_range, place_of_end};
 use keyrange::KeyRange;
 use std::alloc::Global;

@@ -107,11 +107,11 @@ impl Table {
         self.key.items().iter().any(|column| *column == number)
     }
 
-    /// Refuses a row that does not fit by the number of its first column that does not, or by 0 for its width, which comes first.
-    pub fn check_row(&self, row: &Row) -> Result<(), Refusal>
-        ensures { result ≡ no_fault (row_fault self.now row.now) }
+    /// Refuses the values of a row that does not fit by the number of its first column that does not, or by 0 for its width, which comes first.
+    pub fn check_row(&self, values: &[Value]) -> Result<(), Refusal>
+        ensures { result ≡ no_fault (row_fault self.now values.now) }
     {
-        no_fault(self.row_fault(row.values()))
+        no_fault(self.row_fault(values))
     }
 
     /// Refuses rows by the first of them that does not fit.
