@@ -27,7 +27,7 @@ pub ran_none : (schema : Schema) (steps rest : List Step) (w : World) (done : Li
 ran_none schema steps rest w done same stands none all =
     subst (λ d. Ran schema steps w d rest) (sym none) (subst (λ r. Ran schema steps w [] r) (sym all) (record { same_schema = same; history = []; stands = stands; to_come = λ given. refl; taken = λ given. refl }))
 
-is_memory_so : (refusal : Refusal) → is_memory refusal ≡ true → refusal ≡ Memory
+pub is_memory_so : (refusal : Refusal) → is_memory refusal ≡ true → refusal ≡ Memory
 is_memory_so Memory e = refl
 is_memory_so (Syntax n) e = cc
 is_memory_so NoTable e = cc
@@ -45,7 +45,7 @@ is_memory_so (Overlap k) e = cc
 is_memory_so BadPeriod e = cc
 is_memory_so TransactionsOpen e = cc
 
-is_out_so : (r : Reply) → is_out_of_memory r ≡ true → r ≡ Refused Memory
+pub is_out_so : (r : Reply) → is_out_of_memory r ≡ true → r ≡ Refused Memory
 is_out_so (Refused refusal) e = ap Refused (is_memory_so refusal e)
 is_out_so (Begun i) e = cc
 is_out_so (Inserted n) e = cc

@@ -1,6 +1,5 @@
 pub mod ByTheGrammar
 pub mod Digits
-pub mod Feeding
 pub mod Final
 pub mod Fronts
 pub mod Gaps

@@ -5,8 +5,8 @@ ghost use Rattle.tsvd.specs.Words.{Refuses, faults};
 ghost use Rattle.tsvd.specs.Fault.{is_of_words, of_run, of_schema};
 
 use crate::words::WordsFault;
-use interleaving::RunFault;
 use rows::SchemaFault;
+use scripts::RunFault;
 use std::io::Write;
 use thiserror::Error;
 

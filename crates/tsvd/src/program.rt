@@ -1,14 +1,15 @@
 //! What the program does with its words and streams.
-ghost use Rattle.std.specs.Prelude.{◌≡◌, ◌≤◌, ◌⊎◌, IfErr, OnOk, is_ok, map, option_map, true, false};
+ghost use Rattle.std.specs.Prelude.{◌≡◌, ◌≤◌, IfErr, OnOk, is_ok, map, option_map, true, false};
 ghost use Rattle.rows.specs.declared.schema.Schema.{Schema};
-ghost use Rattle.tsvd.specs.Program.{HasRun, HasStopped, IsDone, IsFaulty, IsIdle, IsRefused};
-ghost use Rattle.tsvd.specs.Fault.{is_of_words};
+ghost use Rattle.tsvd.specs.Program.{HasRun, Leaves, IsDone, IsFaulty, IsRefused};
+ghost use Rattle.tsvd.specs.Fault.{is_of_words, outcome_of};
 
 use crate::fault::{FAULT, Fault, WORDS, run_fault, tell, words_fault};
 use crate::schema_file::schema_of;
 use crate::words;
-use interleaving::{RunFault, System, run_script};
+use interleaving::System;
 use rows::Schema;
+use scripts::{RunFault, run_script};
 use std::convert::AsStr;
 use std::fs::File;
 use std::io::{Read, Write};
@@ -64,9 +65,11 @@ fn run_script_of<R: AllocGlobal + Files, I: Read, O: Write>(
     out: &mut O,
     schema: Schema,
 ) -> Result<(), Fault>
-    ensures done { OnOk result (HasRun (option_map (λ text. text.now) file.entry) schema (I.remaining reader.old) (I.remaining reader.new) (O.contents out.old) (O.contents out.new)) }
-    ensures fault { IfErr result (λ fault. IsIdle (I.remaining reader.old) (I.remaining reader.new) (O.contents out.old) (O.contents out.new)
-        ⊎ HasStopped (option_map (λ text. text.now) file.entry) schema (I.remaining reader.old) (I.remaining reader.new) (O.contents out.old) (O.contents out.new)) }
+    ensures done { OnOk result (HasRun (option_map (λ text. text.now) file.entry) schema
+        (I.remaining reader.old) (I.remaining reader.new) (O.contents out.old) (O.contents out.new)) }
+    ensures fault { IfErr result (λ fault. Leaves fault
+        (option_map (λ text. text.now) file.entry) schema
+        (I.remaining reader.old) (I.remaining reader.new) (O.contents out.old) (O.contents out.new)) }
     ensures other { IfErr result (λ fault. is_of_words fault ≡ false) }
 {
     match file {
@@ -78,9 +81,10 @@ fn run_script_of<R: AllocGlobal + Files, I: Read, O: Write>(
     }
 }
 
+/// What a run comes to: a fault is reported as it is.
 fn finish(ran: Result<System, RunFault>) -> Result<(), Fault>
     ensures ok { OnOk result (is_ok ran ≡ true) }
-    ensures err { IfErr result (λ fault. (is_ok ran ≡ false) × (is_of_words fault ≡ false)) }
+    ensures exact { result ≡ outcome_of ran }
 {
     match ran {
         Ok(_) => Ok(()),

@@ -104,40 +104,46 @@ impl Write for Closing {
     }
 }
 
+/// Whether this is the text of a fault's status: nothing where all was done.
+fn is_reported(status: u8, told: &[u8], fault: &str) -> bool {
+    match status {
+        DONE => told.is_empty(),
+        FAULT => told == fault.as_bytes(),
+        _ => false,
+    }
+}
+
 #[test]
-fn where_a_stream_fails_a_front_of_the_replies_is_written(rt: HostRuntime) {
+fn a_reader_that_fails_is_reported_as_a_read_fault(rt: HostRuntime) {
     let (_, script, replies) = DIALOGUES[0];
-    for calls in 0..200usize {
-        let mut err = Vec::new(rt.alloc());
+    for calls in 0..100usize {
         let mut reader = Cut {
             rest: script.as_bytes(),
             calls,
         };
         let mut out = Vec::new(rt.alloc());
+        let mut err = Vec::new(rt.alloc());
         let status = program(&rt, &NO_WORDS, &mut reader, &mut out, &mut err);
-        assert!(rt; status == DONE || status == FAULT, "read {calls}");
-        assert!(rt;
-            replies.as_bytes().starts_with(out.as_slice()),
-            "read {calls}"
-        );
-        assert!(rt;
-            status == FAULT || out.len() == replies.len(),
-            "read {calls}"
-        );
+        let told = err.as_slice();
+        assert!(rt; is_reported(status, told, "read fault\n"), "{calls}");
+        assert!(rt; replies.as_bytes().starts_with(out.as_slice()), "{calls}");
+        assert!(rt; status == FAULT || out.len() == replies.len(), "{calls}");
+    }
+}
 
+#[test]
+fn a_writer_that_fails_is_reported_as_a_write_fault(rt: HostRuntime) {
+    let (_, script, replies) = DIALOGUES[0];
+    for calls in 0..200usize {
         let mut out = Closing {
             taken: Vec::new(rt.alloc()),
             calls,
         };
+        let mut err = Vec::new(rt.alloc());
         let status = program(&rt, &NO_WORDS, &mut script.as_bytes(), &mut out, &mut err);
-        assert!(rt; status == DONE || status == FAULT, "write {calls}");
-        assert!(rt;
-            replies.as_bytes().starts_with(out.taken.as_slice()),
-            "write {calls}"
-        );
-        assert!(rt;
-            status == FAULT || out.taken.len() == replies.len(),
-            "write {calls}"
-        );
+        let (taken, told) = (out.taken.as_slice(), err.as_slice());
+        assert!(rt; is_reported(status, told, "write fault\n"), "{calls}");
+        assert!(rt; replies.as_bytes().starts_with(taken), "{calls}");
+        assert_eq!(rt; status == DONE, taken.len() == replies.len(), "{calls}");
     }
 }

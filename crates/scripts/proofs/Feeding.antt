@@ -6,8 +6,8 @@ use Rattle.std.proofs.KnownBytes.{Appends-trans, Appends-nil, Consumes-nil, Cons
 use Rattle.std.specs.Io.KnownBytes.{Appends, Consumes, Keeps, IsAtEnd}
 use Rattle.values.specs.Tables.{Schema}
 use Rattle.statement.specs.Writer.{AppendsFront}
-use Rattle.statement.specs.Transcript.{Partial, Progress, Reading, beginning, add, ended, line_reply, line_leaves, last_reply, last_leaves, mark, marks_after, transcript, leaves, IsStopped}
-use Rattle.statement.specs.Taking.{Feeds, Breaks}
+use Rattle.scripts.specs.Transcript.{Partial, Progress, Reading, Ending, no_reply, beginning, add, ended, line_reply, line_leaves, last_reply, last_leaves, mark, marks_after, written, transcript, whole_replies, leaves, IsTranscript, IsCut, IsStopped}
+use Rattle.scripts.specs.Taking.{Feeds, Breaks}
 use Rattle.statement.proofs.Fronts.{front_then}
 
 not_end : (byte : ℕ) → byte ≢ 10 → (byte == 10) ≡ false
@@ -15,7 +15,7 @@ not_end byte other = grind (arith, nat_tests)
 
 module _ (schema : Schema) (read : Reading) where
   pub feeds_none : (a : Option (List ℕ)) (p : Progress) (line : Partial) → Feeds schema read a a p line p line []
-  feeds_none a p line = record { marks = []; out = []; wrote = Appends-nil a; goes_on = λ more rest. refl; leaves_on = λ more rest. refl }
+  feeds_none a p line = record { marks = []; out = []; wrote = Appends-nil a; goes_on = λ ending more rest. refl; leaves_on = λ more rest. refl }
 
   pub feeds_end : (a b : Option (List ℕ)) (m : Bool) (p : Progress) (byte : ℕ) (line : Partial) → Appends a b (line_reply schema read m p (ended line)) → byte ≡ 10
       → Feeds schema read a b p line (line_leaves schema read m p (ended line)) (Some []) (byte ∷ [])
@@ -23,7 +23,7 @@ module _ (schema : Schema) (read : Reading) where
     marks = m ∷ [];
     out = line_reply schema read m p (ended line);
     wrote = wrote;
-    goes_on = λ more rest. subst (λ c. transcript schema read (m ∷ more) p line (c ∷ rest) ≡ line_reply schema read m p (ended line) ++ transcript schema read more (line_leaves schema read m p (ended line)) (Some []) rest) (sym is_end) refl;
+    goes_on = λ ending more rest. subst (λ c. written schema read ending (m ∷ more) p line (c ∷ rest) ≡ line_reply schema read m p (ended line) ++ written schema read ending more (line_leaves schema read m p (ended line)) (Some []) rest) (sym is_end) refl;
     leaves_on = λ more rest. subst (λ c. leaves schema read (m ∷ more) p line (c ∷ rest) ≡ leaves schema read more (line_leaves schema read m p (ended line)) (Some []) rest) (sym is_end) refl;
   }
 
@@ -32,9 +32,9 @@ module _ (schema : Schema) (read : Reading) where
     marks = m ∷ [];
     out = f.out;
     wrote = f.wrote;
-    front = λ more rest. subst (λ c. (left : List ℕ) × (transcript schema read (m ∷ more) p line (c ∷ rest) ≡ f.out ++ left)) (sym is_end) (
-      f.left ++ transcript schema read more (line_leaves schema read m p (ended line)) (Some []) rest,
-      ap (λ l. l ++ transcript schema read more (line_leaves schema read m p (ended line)) (Some []) rest) f.front ∙ append_assoc f.out f.left _,
+    front = λ more rest. subst (λ c. (left : List ℕ) × (written schema read (last_reply schema read) (m ∷ more) p line (c ∷ rest) ≡ f.out ++ left)) (sym is_end) (
+      f.left ++ written schema read (last_reply schema read) more (line_leaves schema read m p (ended line)) (Some []) rest,
+      ap (λ l. l ++ written schema read (last_reply schema read) more (line_leaves schema read m p (ended line)) (Some []) rest) f.front ∙ append_assoc f.out f.left _,
     );
   }
 
@@ -43,8 +43,8 @@ module _ (schema : Schema) (read : Reading) where
     marks = [];
     out = [];
     wrote = Appends-nil a;
-    goes_on = λ more rest. ap (λ t. if t then line_reply schema read (mark more) p (ended line) ++ transcript schema read (marks_after more) (line_leaves schema read (mark more) p (ended line)) (Some []) rest else transcript schema read more p (add line byte) rest) (not_end byte other)
-        ∙ (λ i. transcript schema read more p (sym is_line i) rest);
+    goes_on = λ ending more rest. ap (λ t. if t then line_reply schema read (mark more) p (ended line) ++ written schema read ending (marks_after more) (line_leaves schema read (mark more) p (ended line)) (Some []) rest else written schema read ending more p (add line byte) rest) (not_end byte other)
+        ∙ (λ i. written schema read ending more p (sym is_line i) rest);
     leaves_on = λ more rest. ap (λ t. if t then leaves schema read (marks_after more) (line_leaves schema read (mark more) p (ended line)) (Some []) rest else leaves schema read more p (add line byte) rest) (not_end byte other)
         ∙ (λ i. leaves schema read more p (sym is_line i) rest);
   }
@@ -54,9 +54,9 @@ module _ (schema : Schema) (read : Reading) where
     marks = f.marks ++ g.marks;
     out = f.out ++ g.out;
     wrote = Appends-trans a b c f.out g.out f.wrote g.wrote;
-    goes_on = λ more rest.
-        (λ i. transcript schema read (append_assoc f.marks g.marks more i) p l (append_assoc xs ys rest i)) ∙ f.goes_on (g.marks ++ more) (ys ++ rest)
-        ∙ ap (λ o. f.out ++ o) (g.goes_on more rest) ∙ sym (append_assoc f.out g.out _);
+    goes_on = λ ending more rest.
+        (λ i. written schema read ending (append_assoc f.marks g.marks more i) p l (append_assoc xs ys rest i)) ∙ f.goes_on ending (g.marks ++ more) (ys ++ rest)
+        ∙ ap (λ o. f.out ++ o) (g.goes_on ending more rest) ∙ sym (append_assoc f.out g.out _);
     leaves_on = λ more rest.
         (λ i. leaves schema read (append_assoc f.marks g.marks more i) p l (append_assoc xs ys rest i)) ∙ f.leaves_on (g.marks ++ more) (ys ++ rest) ∙ g.leaves_on more rest;
   }
@@ -69,7 +69,7 @@ module _ (schema : Schema) (read : Reading) where
     front = λ more rest.
         let later = g.front more (zs ++ rest) in (
           later.0,
-          (λ i. transcript schema read (append_assoc f.marks g.marks more i) p l ((append_assoc (xs ++ ys) zs rest ∙ append_assoc xs ys (zs ++ rest)) i)) ∙ f.goes_on (g.marks ++ more) (ys ++ (zs ++ rest))
+          (λ i. written schema read (last_reply schema read) (append_assoc f.marks g.marks more i) p l ((append_assoc (xs ++ ys) zs rest ∙ append_assoc xs ys (zs ++ rest)) i)) ∙ f.goes_on (last_reply schema read) (g.marks ++ more) (ys ++ (zs ++ rest))
               ∙ ap (λ o. f.out ++ o) later.1 ∙ sym (append_assoc f.out g.out later.0),
         );
   }
@@ -83,12 +83,6 @@ module _ (schema : Schema) (read : Reading) where
     pub took : Consumes unread left bytes
     pub fed : Feeds schema read old new beginning (Some []) p line bytes
 
-  -- the transcript of a text was written, and this is what the text leaves
-  pub record Done (old new : Option (List ℕ)) (p : Progress) (text : List ℕ) : Type 0 where
-    pub marks : List Bool
-    pub wrote : Appends old new (transcript schema read marks beginning (Some []) text)
-    pub left : leaves schema read marks beginning (Some []) text ≡ p
-
 module _ (schema : Schema) (read : Reading) where
   pub taken_none : (r w : Option (List ℕ)) (line : Partial) → line ≡ Some [] → Taken schema read r r w w beginning line
   taken_none r w line e = subst (Taken schema read r r w w beginning) (sym e) (record { bytes = []; took = Consumes-nil r; fed = feeds_none schema read w beginning (Some []) })
@@ -100,51 +94,54 @@ module _ (schema : Schema) (read : Reading) where
     fed = feeds_join schema read a b c beginning p p' (Some []) line line' so.bytes ys so.fed fed;
   }
 
-  -- what the transcript has for bytes that were answered and for no more
-  whole : (a b : Option (List ℕ)) (p : Progress) (line : Partial) (bytes : List ℕ) (m : Bool) (f : Feeds schema read a b beginning (Some []) p line bytes)
-      → transcript schema read (f.marks ++ m ∷ []) beginning (Some []) bytes ≡ f.out ++ last_reply schema read m p line
-  whole a b p line bytes m f = ap (transcript schema read (f.marks ++ m ∷ []) beginning (Some [])) (sym (append-nil bytes)) ∙ f.goes_on (m ∷ []) []
+  -- what is written for bytes that were answered and for no more
+  whole : (a b : Option (List ℕ)) (p : Progress) (line : Partial) (bytes : List ℕ) (ending : Ending) (m : Bool) (f : Feeds schema read a b beginning (Some []) p line bytes)
+      → written schema read ending (f.marks ++ m ∷ []) beginning (Some []) bytes ≡ f.out ++ ending m p line
+  whole a b p line bytes ending m f = ap (written schema read ending (f.marks ++ m ∷ []) beginning (Some [])) (sym (append-nil bytes)) ∙ f.goes_on ending (m ∷ []) []
 
-  pub stopped_between : (r s t a b : Option (List ℕ)) (p : Progress) (line : Partial) (m : Bool) → Taken schema read r s a b p line → Keeps s t → IsStopped schema read r t a b
-  stopped_between r s t a b p line m so kept = record {
-    bytes = so.bytes;
+  -- the reader failed
+  pub cut_between : (r s t a b : Option (List ℕ)) (p : Progress) (line : Partial) → Taken schema read r s a b p line → Keeps s t → IsCut schema read r t a b
+  cut_between r s t a b p line so kept = record {
+    text = so.bytes;
     took = Consumes-kept r s t so.bytes so.took kept;
-    marks = so.fed.marks ++ m ∷ [];
-    wrote = record { out = so.fed.out; left = last_reply schema read m p line; wrote = so.fed.wrote; front = whole a b p line so.bytes m so.fed };
+    marks = so.fed.marks ++ false ∷ [];
+    wrote = subst (Appends a b) (sym (whole a b p line so.bytes no_reply false so.fed ∙ append-nil so.fed.out)) so.fed.wrote;
   }
 
+  -- the writer failed in the reply to a last line
   pub stopped_at_end : (r s t a b c : Option (List ℕ)) (p : Progress) (line : Partial) (m : Bool) → Taken schema read r s a b p line → Consumes s t [] → AppendsFront b c (last_reply schema read m p line) → IsStopped schema read r t a c
   stopped_at_end r s t a b c p line m so took front = record {
-    bytes = so.bytes;
+    text = so.bytes;
     took = subst (Consumes r t) (append-nil so.bytes) (Consumes-trans r s t so.bytes [] so.took took);
     marks = so.fed.marks ++ m ∷ [];
-    wrote = subst (AppendsFront a c) (sym (whole a b p line so.bytes m so.fed)) (front_then a b c so.fed.out (last_reply schema read m p line) so.fed.wrote front);
+    wrote = subst (AppendsFront a c) (sym (whole a b p line so.bytes (last_reply schema read) m so.fed)) (front_then a b c so.fed.out (last_reply schema read m p line) so.fed.wrote front);
   }
 
+  -- or in bytes that were read
   pub stopped_inside : (r s t a b c : Option (List ℕ)) (p : Progress) (line : Partial) (ys : List ℕ) → Taken schema read r s a b p line → Consumes s t ys → Breaks schema read b c p line ys → IsStopped schema read r t a c
   stopped_inside r s t a b c p line ys so took breaks =
       let all = breaks_join schema read a b c beginning p (Some []) line so.bytes ys [] so.fed breaks in
       let left = all.front [] [] in
       record {
-        bytes = so.bytes ++ ys;
+        text = so.bytes ++ ys;
         took = Consumes-trans r s t so.bytes ys so.took took;
         marks = all.marks ++ [];
-        wrote = record { out = all.out; left = left.0; wrote = all.wrote; front = ap (transcript schema read (all.marks ++ []) beginning (Some [])) (sym (append-nil ((so.bytes ++ ys) ++ []) ∙ append-nil (so.bytes ++ ys))) ∙ left.1 };
+        wrote = record { out = all.out; left = left.0; wrote = all.wrote; front = ap (transcript schema read (all.marks ++ [])) (sym (append-nil ((so.bytes ++ ys) ++ []) ∙ append-nil (so.bytes ++ ys))) ∙ left.1 };
       }
 
   -- at the end of the reader all was answered
   pub done_all : (r s t a b c : Option (List ℕ)) (p : Progress) (line : Partial) (m : Bool) → Taken schema read r s a b p line → Consumes s t [] → IsAtEnd t → Appends b c (last_reply schema read m p line)
-      → IfSome r (Done schema read a c (last_leaves schema read m p line))
-  done_all r s t a b c p line m so took end wrote = at_end r t (subst (Consumes r t) (append-nil so.bytes) (Consumes-trans r s t so.bytes [] so.took took)) end
-    where
-      done : Done schema read a c (last_leaves schema read m p line) so.bytes
-      done = record {
-        marks = so.fed.marks ++ m ∷ [];
-        wrote = subst (Appends a c) (sym (whole a b p line so.bytes m so.fed)) (Appends-trans a b c so.fed.out (last_reply schema read m p line) so.fed.wrote wrote);
-        left = ap (leaves schema read (so.fed.marks ++ m ∷ []) beginning (Some [])) (sym (append-nil so.bytes)) ∙ so.fed.leaves_on (m ∷ []) [];
-      }
+      → IsTranscript schema read r t a c
+  done_all r s t a b c p line m so took end wrote = record {
+    text = so.bytes;
+    took = subst (Consumes r t) (append-nil so.bytes) (Consumes-trans r s t so.bytes [] so.took took);
+    ended_there = end;
+    marks = so.fed.marks ++ m ∷ [];
+    wrote = subst (Appends a c) (sym (whole a b p line so.bytes (last_reply schema read) m so.fed)) (Appends-trans a b c so.fed.out (last_reply schema read m p line) so.fed.wrote wrote);
+  }
 
-      at_end : (r t : Option (List ℕ)) → Consumes r t so.bytes → IsAtEnd t → IfSome r (Done schema read a c (last_leaves schema read m p line))
-      at_end None t took end = tt
-      at_end (Some text) None took end = absurd took
-      at_end (Some text) (Some left) took end = subst (Done schema read a c (last_leaves schema read m p line)) (sym (took ∙ ap (λ l. so.bytes ++ l) end ∙ append-nil so.bytes)) done
+  -- and this is left
+  pub done_left : (r s t a b c : Option (List ℕ)) (p : Progress) (line : Partial) (m : Bool) (so : Taken schema read r s a b p line) (took : Consumes s t []) (end : IsAtEnd t) (wrote : Appends b c (last_reply schema read m p line))
+      → let done = done_all r s t a b c p line m so took end wrote in leaves schema read done.marks beginning (Some []) done.text ≡ last_leaves schema read m p line
+  unfolding done_all
+  done_left r s t a b c p line m so took end wrote = ap (leaves schema read (so.fed.marks ++ m ∷ []) beginning (Some [])) (sym (append-nil so.bytes)) ∙ so.fed.leaves_on (m ∷ []) []

@@ -1,0 +1,25 @@
+use Rattle.std.proofs.Common.{refl}
+use Rattle.scripts.proofs.Scripting.{Stepped, puts_ok, puts_err, step_answered, step_broken}
+use Rattle.scripts.proofs.script.take_step.Goals as goal
+
+pub returns-clause-ok : goal.returns-clause-ok
+returns-clause-ok g c =
+    let so : Stepped c.args.script.now (record c.args.script.now { system = c.step-reply.new.self }) c.args.step c.step-reply.result = record {
+      answers = c.step-reply.ensures.answers;
+      out_of_memory = c.step-reply.ensures.out_of_memory;
+      no_memory = c.step-reply.ensures.no_memory;
+      schema_stays = c.step-reply.ensures.schema;
+      reading_stays = refl;
+    } in
+    puts_ok _ _ _ _ c.print_reply.ensures (λ wrote schema p at. step_answered _ _ _ _ schema p _ _ so at c.requires wrote)
+
+pub returns-clause-err : goal.returns-clause-err
+returns-clause-err g c =
+    let so : Stepped c.args.script.now (record c.args.script.now { system = c.step-reply.new.self }) c.args.step c.step-reply.result = record {
+      answers = c.step-reply.ensures.answers;
+      out_of_memory = c.step-reply.ensures.out_of_memory;
+      no_memory = c.step-reply.ensures.no_memory;
+      schema_stays = c.step-reply.ensures.schema;
+      reading_stays = refl;
+    } in
+    puts_err _ _ _ _ c.print_reply.ensures (λ wrote schema p at. step_broken _ _ _ _ schema p _ _ so at c.requires wrote)

@@ -1,0 +1,176 @@
+-- What is written for a text of lines.
+use Rattle.std.specs.Prelude.{◌≡◌, ℕ, List, [], ◌∷◌, ◌++◌, ◌==◌, ◌&&◌, ◌||◌, not, Bool, true, false, Option, Some, None, Result, Ok, Err, if◌then◌else◌, length, nat_lt, codes}
+use Rattle.std.specs.Io.KnownBytes.{Appends, Consumes, IsAtEnd}
+use Rattle.values.specs.Tables.{Schema}
+use Rattle.values.specs.declared.refusal.Refusal.{Refusal}
+use Rattle.values.specs.declared.refusal.Refusal.TheVariants.{Memory, LineTooLong}
+use Rattle.histories.specs.History.{History, reply}
+use Rattle.histories.specs.Memory.{takes_no_memory_after}
+use Rattle.histories.specs.Stands.{Stands}
+use Rattle.histories.specs.World.{World}
+use Rattle.statement.specs.declared.line.Line.{Line}
+use Rattle.statement.specs.declared.line.Line.TheVariants.{Nothing, Clock, Step as Asks}
+use Rattle.statement.specs.Memory.{takes_memory}
+use Rattle.statement.specs.Print.{line, refusal_text, reply_text}
+use Rattle.statement.specs.Writer.{AppendsFront}
+
+-- the bytes that a line may have before its line feed
+abbrev pub max_line : ℕ
+max_line = 8192
+
+-- a line as far as it goes, or none where it is too long
+abbrev pub Partial : Type 0
+Partial = Option (List ℕ)
+
+abbrev pub add : Partial → ℕ → Partial
+add None byte = None
+add (Some bytes) byte = if nat_lt (length bytes) max_line then Some (bytes ++ byte ∷ []) else None
+
+-- reading the line takes memory, by what it says: it is not read where it is too long
+abbrev pub reading_takes : Partial → Result Line Refusal → Bool
+reading_takes None said = false
+reading_takes (Some bytes) said = takes_memory said
+
+-- a line with its line feed
+abbrev pub ended : Partial → Partial
+ended None = None
+ended (Some bytes) = Some (bytes ++ 10 ∷ [])
+
+-- what lines leave: the steps that were answered, the newest first, and the clock's last reading
+pub record Progress : Type 0 where
+  pub history : History
+  pub reading : ℕ
+
+abbrev pub beginning : Progress
+beginning = record { history = []; reading = 0 }
+
+-- how a line is read at a reading of the clock
+abbrev pub Reading : Type 0
+Reading = ℕ → List ℕ → Result Line Refusal
+
+abbrev pub read_at : Reading → ℕ → Partial → Result Line Refusal
+read_at read reading None = Err LineTooLong
+read_at read reading (Some bytes) = read reading bytes
+
+module _ (schema : Schema) where
+  -- the reply to what was read: a blank line and a comment have none
+  abbrev pub answered : Progress → Result Line Refusal → List ℕ
+  answered p (Err refusal) = refusal_text refusal
+  answered p (Ok Nothing) = []
+  answered p (Ok (Clock reading)) = line (codes "ok")
+  answered p (Ok (Asks step)) = reply_text (reply schema p.history step)
+
+  abbrev pub left_by : Progress → Result Line Refusal → Progress
+  left_by p (Err refusal) = p
+  left_by p (Ok Nothing) = p
+  left_by p (Ok (Clock reading)) = record { history = p.history; reading = reading }
+  left_by p (Ok (Asks step)) = record { history = step ∷ p.history; reading = p.reading }
+
+  -- the step that was read takes memory
+  abbrev pub asks_memory : Progress → Result Line Refusal → Bool
+  asks_memory p (Ok (Asks step)) = not (takes_no_memory_after schema p.history step)
+  asks_memory p _ = false
+
+  -- Memory can run out at a line while it is read or at its step. It can not at a blank line, a
+  -- comment, CLOCK or a line that is too long, nor at a BEGIN, COMMIT or ROLLBACK whose step takes
+  -- none. Rows, comparisons and new values take memory to be read: so E10 can be the reply to any
+  -- line with these, also to one that would be refused.
+  abbrev pub can_run_out : Progress → Partial → Result Line Refusal → Bool
+  can_run_out p bytes said = reading_takes bytes said || asks_memory p said
+
+module _ (schema : Schema) (read : Reading) where
+  -- the line is one at which memory can run out
+  abbrev pub is_risky : Progress → Partial → Bool
+  is_risky p bytes = can_run_out schema p bytes (read_at read p.reading bytes)
+
+  -- the reply to a line, where its mark says whether memory ran out: no other line heeds its mark
+  abbrev pub line_reply : Bool → Progress → Partial → List ℕ
+  line_reply m p bytes =
+      if m && is_risky p bytes then refusal_text Memory
+      else answered schema p (read_at read p.reading bytes)
+
+  -- a line at which memory ran out is no step
+  abbrev pub line_leaves : Bool → Progress → Partial → Progress
+  line_leaves m p bytes =
+      if m && is_risky p bytes then p
+      else left_by schema p (read_at read p.reading bytes)
+
+abbrev pub mark : List Bool → Bool
+mark [] = false
+mark (m ∷ ms) = m
+
+abbrev pub marks_after : List Bool → List Bool
+marks_after [] = []
+marks_after (m ∷ ms) = ms
+
+-- what is written at the end of a text, for a last line without a line feed
+abbrev pub Ending : Type 0
+Ending = Bool → Progress → Partial → List ℕ
+
+-- nothing
+abbrev pub no_reply : Ending
+no_reply m p bytes = []
+
+module _ (schema : Schema) (read : Reading) where
+  -- its reply, where it has a byte
+  abbrev pub last_reply : Ending
+  last_reply m p (Some []) = []
+  last_reply m p bytes = line_reply schema read m p bytes
+
+  -- what is written for the rest of a text, where this line has begun: the marks go with its lines
+  abbrev pub written : Ending → List Bool → Progress → Partial → List ℕ → List ℕ
+  written ending ms p bytes [] = ending (mark ms) p bytes
+  written ending ms p bytes (b ∷ bs) =
+      if b == 10
+      then line_reply schema read (mark ms) p (ended bytes)
+      ++ written ending (marks_after ms) (line_leaves schema read (mark ms) p (ended bytes)) (Some []) bs
+      else written ending ms p (add bytes b) bs
+
+  -- what a last line with no line feed leaves, where it has a byte
+  abbrev pub last_leaves : Bool → Progress → Partial → Progress
+  last_leaves m p (Some []) = p
+  last_leaves m p bytes = line_leaves schema read m p bytes
+
+  -- what the rest of a text leaves, with the marks of its transcript
+  abbrev pub leaves : List Bool → Progress → Partial → List ℕ → Progress
+  leaves ms p bytes [] = last_leaves (mark ms) p bytes
+  leaves ms p bytes (b ∷ bs) =
+      if b == 10
+      then leaves (marks_after ms) (line_leaves schema read (mark ms) p (ended bytes)) (Some []) bs
+      else leaves ms p (add bytes b) bs
+
+  -- the replies to all lines of a text
+  abbrev pub transcript : List Bool → List ℕ → List ℕ
+  transcript ms text = written last_reply ms beginning (Some []) text
+
+  -- the replies to those that have ended
+  abbrev pub whole_replies : List Bool → List ℕ → List ℕ
+  whole_replies ms text = written no_reply ms beginning (Some []) text
+
+  -- A text was read to its end, and its transcript was written: nothing but that. Where a reader's
+  -- bytes are known, the text is what was left of them.
+  pub record IsTranscript (unread left old new : Option (List ℕ)) : Type 0 where
+    pub text : List ℕ
+    pub took : Consumes unread left text
+    pub ended_there : IsAtEnd left
+    pub marks : List Bool
+    pub wrote : Appends old new (transcript marks text)
+
+  -- the same, and a system stands for what the text leaves
+  pub record IsRun (w : World) (unread left old new : Option (List ℕ)) : Type 0 where
+    pub ran : IsTranscript unread left old new
+    pub stands : Stands w (leaves ran.marks beginning (Some []) ran.text).history
+
+  -- some bytes were read, and just the replies to their lines that ended were written
+  pub record IsCut (unread left old new : Option (List ℕ)) : Type 0 where
+    pub text : List ℕ
+    pub took : Consumes unread left text
+    pub marks : List Bool
+    pub wrote : Appends old new (whole_replies marks text)
+
+  -- some bytes were read, and a prefix of their transcript was written
+  pub record IsStopped (unread left old new : Option (List ℕ)) : Type 0 where
+    pub text : List ℕ
+    pub took : Consumes unread left text
+    pub marks : List Bool
+    pub wrote : AppendsFront old new (transcript marks text)

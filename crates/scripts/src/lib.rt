@@ -1,0 +1,8 @@
+//! Scripts: their lines are read and answered in turn.
+#![tactic(auto)]
+
+mod script;
+#[cfg(test)]
+mod tests;
+
+pub use script::{RunFault, run_script};
