@@ -129,7 +129,7 @@ fn a_script_has_its_replies_however_it_is_read(rt: HostRuntime) -> Result<(), Fa
 
 #[test]
 fn a_reader_that_fails_is_a_read_fault(rt: HostRuntime) -> Result<(), Fail> {
-    for calls in 0..20usize {
+    for calls in 0..19usize {
         let mut out = Vec::new(rt.alloc());
         let mut reader = Cut {
             rest: SCRIPT.as_bytes(),
