@@ -150,7 +150,11 @@ fn rows_stand_until_the_next_event_of_their_key(rt: HostRuntime) -> Result<(), F
     let events = some(alloc)?;
     let range = keys_of_table(&rt, alloc, 1)?;
     for (at, count) in [(99, 0), (100, 1), (150, 2), (199, 2), (200, 1)] {
-        assert_eq!(rt; standing(alloc, &events, &range, at)?.len(), count, "at {at}");
+        assert_eq!(rt;
+            standing(alloc, &events, &range, at)?.len(),
+            count,
+            "at {at}"
+        );
     }
     assert!(rt; !is_overtaken(at(&rt, &events, 0), 199, events.get(1)));
     assert!(rt; is_overtaken(at(&rt, &events, 0), 200, events.get(1)));

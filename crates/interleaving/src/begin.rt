@@ -16,14 +16,10 @@ impl System {
     /// Opens a transaction on what stands now.
     pub(crate) fn begin(&mut self, session: u8) -> Reply
         requires { session ≤ max_session }
-        ensures answered {
-            is_out_of_memory result ≡ false
-                → (result, world self.new) ≡ begin_turn (world self.old) session
-        }
+        ensures answered { is_out_of_memory result ≡ false
+            → (result, world self.new) ≡ begin_turn (world self.old) session }
         ensures out { is_out_of_memory result ≡ true → self.new ≡ self.old }
-        ensures no_memory {
-            is_some (open_at (world self.old) session) ≡ true → is_out_of_memory result ≡ false
-        }
+        ensures no_memory { is_some (open_at (world self.old) session) ≡ true → is_out_of_memory result ≡ false }
     {
         let place = session as usize;
         if self.sessions[place].is_some() {

@@ -7,8 +7,8 @@ ghost use Rattle.histories.specs.Turn.{commit_turn};
 ghost use Rattle.interleaving.specs.SystemState.{world};
 
 use crate::system::System;
-use rows::{Instant, Refusal};
 use histories::Reply;
+use rows::{Instant, Refusal};
 
 impl System {
     /// Ends a transaction by this reading of the clock.
@@ -16,9 +16,7 @@ impl System {
         requires { session ≤ max_session }
         ensures answered { is_out_of_memory result ≡ false → (result, world self.new) ≡ commit_turn (world self.old) session reading }
         ensures out { is_out_of_memory result ≡ true → self.new ≡ self.old }
-        ensures no_memory {
-            is_some (open_at (world self.old) session) ≡ false → is_out_of_memory result ≡ false
-        }
+        ensures no_memory { is_some (open_at (world self.old) session) ≡ false → is_out_of_memory result ≡ false }
     {
         let place = session as usize;
         let Some(transaction) = &self.sessions[place] else {

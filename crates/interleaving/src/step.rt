@@ -6,8 +6,8 @@ ghost use Rattle.interleaving.specs.SystemState.{world};
 ghost use Rattle.histories.specs.Memory.{is_out_of_memory, takes_no_memory};
 
 use crate::system::System;
-use rows::{Mem, Refusal};
 use histories::{Reply, Step};
+use rows::{Mem, Refusal};
 
 impl System {
     ghost use Rattle.histories.specs.History.{History, reply};
@@ -15,18 +15,12 @@ impl System {
 
     /// Takes a step. Where memory runs out nothing has changed, and the step may be taken again.
     pub fn step(&mut self, step: Step) -> Reply
-        ensures answers {
-            (h : History) → Stands self.old h → result ≢ Reply.Refused Refusal.Memory
-                → (result ≡ reply self.old.schema h step) × Stands self.new (step ∷ h)
-        }
-        ensures out_of_memory {
-            (h : History) → Stands self.old h → result ≡ Reply.Refused Refusal.Memory
-                → Stands self.new h
-        }
+        ensures answers { (h : History) → Stands self.old h → result ≢ Reply.Refused Refusal.Memory
+            → (result ≡ reply self.old.schema h step) × Stands self.new (step ∷ h) }
+        ensures out_of_memory { (h : History) → Stands self.old h → result ≡ Reply.Refused Refusal.Memory
+            → Stands self.new h }
         ensures schema { self.new.schema ≡ self.old.schema }
-        ensures no_memory {
-            takes_no_memory (world self.old) step ≡ true → is_out_of_memory result ≡ false
-        }
+        ensures no_memory { takes_no_memory (world self.old) step ≡ true → is_out_of_memory result ≡ false }
     {
         if let Some(refusal) = step.misfit(&self.schema) {
             return Reply::Refused(refusal);
@@ -37,14 +31,10 @@ impl System {
     /// Takes a step that fits the schema.
     fn step_in(&mut self, step: &Step) -> Reply
         requires { misfit self.old.schema step.now ≡ None }
-        ensures answered {
-            is_out_of_memory result ≡ false
-                → (result, world self.new) ≡ turn_in (world self.old) step.now
-        }
+        ensures answered { is_out_of_memory result ≡ false
+            → (result, world self.new) ≡ turn_in (world self.old) step.now }
         ensures out { is_out_of_memory result ≡ true → self.new ≡ self.old }
-        ensures no_memory {
-            takes_no_memory (world self.old) step.now ≡ true → is_out_of_memory result ≡ false
-        }
+        ensures no_memory { takes_no_memory (world self.old) step.now ≡ true → is_out_of_memory result ≡ false }
     {
         match step {
             Step::Begin(session) => self.begin(*session),

@@ -2,8 +2,8 @@
 use crate::System;
 use histories::{Listing, Reply, Step};
 use rows::{
-    Chars, Comparison, Form, Instant, Keys, Mem, Operator, Refusal, Row, Rows, Schema, Sequence, Set,
-    Sets, Shown, Value,
+    Chars, Comparison, Form, Instant, Keys, Mem, Operator, Refusal, Row, Rows, Schema, Sequence,
+    Set, Sets, Shown, Value,
 };
 use std::alloc::{AllocError, Global};
 use std::process::Abort;
@@ -65,13 +65,7 @@ impl Talk {
         self.step(Step::Begin(session), wanted)
     }
 
-    fn insert(
-        &mut self,
-        session: u8,
-        number: i64,
-        name: &str,
-        wanted: &'static str,
-    ) -> Mem<()> {
+    fn insert(&mut self, session: u8, number: i64, name: &str, wanted: &'static str) -> Mem<()> {
         let row = emp(self.alloc, number, name)?;
         let rows = Rows::new(vec![in self.alloc; row]?);
         Ok(self.step(Step::Insert(session, 1, rows), wanted)?)

@@ -8,21 +8,17 @@ ghost use Rattle.histories.specs.Turn.{turn_in};
 ghost use Rattle.interleaving.specs.SystemState.{world};
 
 use crate::system::System;
-use rows::{Keys, Refusal, Row, Set};
 use histories::Reply;
+use rows::{Keys, Refusal, Row, Set};
 
 impl System {
     /// Inserts rows of a table.
     pub(crate) fn insert(&mut self, session: u8, number: u8, rows: &[Row]) -> Reply
         requires { misfit self.old.schema (Insert session number rows.now) ≡ None }
-        ensures answered {
-            is_out_of_memory result ≡ false
-                → (result, world self.new) ≡ turn_in (world self.old) (Insert session number rows.now)
-        }
+        ensures answered { is_out_of_memory result ≡ false
+            → (result, world self.new) ≡ turn_in (world self.old) (Insert session number rows.now) }
         ensures out { is_out_of_memory result ≡ true → self.new ≡ self.old }
-        ensures no_memory {
-            is_some (open_at (world self.old) session) ≡ false → is_out_of_memory result ≡ false
-        }
+        ensures no_memory { is_some (open_at (world self.old) session) ≡ false → is_out_of_memory result ≡ false }
     {
         let Some(transaction) = &mut self.sessions[session as usize] else {
             return Reply::Refused(Refusal::NoTransaction);
@@ -39,14 +35,10 @@ impl System {
     /// Sets columns of the rows whose keys meet all comparisons.
     pub(crate) fn update(&mut self, session: u8, keys: &Keys, sets: &[Set]) -> Reply
         requires { misfit self.old.schema (Update session keys.now sets.now) ≡ None }
-        ensures answered {
-            is_out_of_memory result ≡ false
-                → (result, world self.new) ≡ turn_in (world self.old) (Update session keys.now sets.now)
-        }
+        ensures answered { is_out_of_memory result ≡ false
+            → (result, world self.new) ≡ turn_in (world self.old) (Update session keys.now sets.now) }
         ensures out { is_out_of_memory result ≡ true → self.new ≡ self.old }
-        ensures no_memory {
-            is_some (open_at (world self.old) session) ≡ false → is_out_of_memory result ≡ false
-        }
+        ensures no_memory { is_some (open_at (world self.old) session) ≡ false → is_out_of_memory result ≡ false }
     {
         let Some(transaction) = &mut self.sessions[session as usize] else {
             return Reply::Refused(Refusal::NoTransaction);
@@ -63,14 +55,10 @@ impl System {
     /// Deletes the rows whose keys meet all comparisons.
     pub(crate) fn delete(&mut self, session: u8, keys: &Keys) -> Reply
         requires { misfit self.old.schema (Delete session keys.now) ≡ None }
-        ensures answered {
-            is_out_of_memory result ≡ false
-                → (result, world self.new) ≡ turn_in (world self.old) (Delete session keys.now)
-        }
+        ensures answered { is_out_of_memory result ≡ false
+            → (result, world self.new) ≡ turn_in (world self.old) (Delete session keys.now) }
         ensures out { is_out_of_memory result ≡ true → self.new ≡ self.old }
-        ensures no_memory {
-            is_some (open_at (world self.old) session) ≡ false → is_out_of_memory result ≡ false
-        }
+        ensures no_memory { is_some (open_at (world self.old) session) ≡ false → is_out_of_memory result ≡ false }
     {
         let Some(transaction) = &mut self.sessions[session as usize] else {
             return Reply::Refused(Refusal::NoTransaction);

@@ -10,7 +10,6 @@ use Rattle.histories.specs.Stands.{Stands}
 use Rattle.histories.specs.World.{World}
 use Rattle.statement.specs.declared.line.Line.{Line}
 use Rattle.statement.specs.declared.line.Line.TheVariants.{Nothing, Clock, Step as Asks}
-use Rattle.statement.specs.Memory.{takes_memory}
 use Rattle.statement.specs.Print.{line, refusal_text, reply_text}
 use Rattle.statement.specs.Writer.{AppendsFront}
 
@@ -26,10 +25,10 @@ abbrev pub add : Partial → ℕ → Partial
 add None byte = None
 add (Some bytes) byte = if nat_lt (length bytes) max_line then Some (bytes ++ byte ∷ []) else None
 
--- reading the line takes memory, by what it says: it is not read where it is too long
+-- reading the line may take memory: it is not read where it is too long
 abbrev pub reading_takes : Partial → Result Line Refusal → Bool
 reading_takes None said = false
-reading_takes (Some bytes) said = takes_memory said
+reading_takes (Some bytes) said = true
 
 -- a line with its line feed
 abbrev pub ended : Partial → Partial

@@ -8,7 +8,7 @@ ghost use Rattle.scripts.specs.Script.{line_of, said_by, IsRead, IsAt, SameRun, 
 use histories::Step;
 use interleaving::System;
 use rows::Schema;
-use statement::{Line, WriteFault, print_refusal, print_reply, put_all, read_line};
+use statement::{Line, WriteFault, print_refusal, print_reply, write_all, read_line};
 use std::alloc::{AllocError, Global};
 use std::io::{Read, Write};
 use values::{Instant, Refusal};
@@ -72,7 +72,7 @@ fn answer<W: Write>(
         Ok(Line::Nothing) => Ok(()),
         Ok(Line::Clock(reading)) => {
             script.reading = reading;
-            put_all(writer, b"ok\n")
+            write_all(writer, b"ok\n")
         }
         Ok(Line::Step(step)) => take_step(writer, script, step),
         Err(refusal) => refuse(writer, script, &refusal),

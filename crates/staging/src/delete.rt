@@ -7,22 +7,18 @@ ghost use Rattle.staging.specs.Staged.{deletions};
 
 use crate::staged::Staged;
 use crate::view::View;
-use values::{Key, Keys, Refusal, Row, Table};
 use std::alloc::{AllocError, Global};
 use std::collections::BTreeMap;
+use values::{Key, Keys, Refusal, Row, Table};
 
 impl Staged {
     /// Deletes the rows whose keys meet all comparisons, and answers their number. `NoTable` where the keys are of another table,
     /// `BadRow` where a comparison does not fit, `TooManyWrites` where the transaction would have written over 1,000 keys. After a refusal nothing has changed.
     pub fn delete(&mut self, view: &View, table: &Table, keys: &Keys) -> Result<usize, Refusal>
         requires { IsTable table.now.number table.now }
-        ensures answers {
-            WhenRead table.now view.now self.old (λ schema m.
-                result ≢ Err Refusal.Memory → (result, own m self.new) ≡ checked_delete table.now keys.now (own m self.old))
-        }
-        ensures keys {
-            WhenRead table.now view.now self.old (λ schema m. AreKeysIn schema self.new)
-        }
+        ensures answers { WhenRead table.now view.now self.old (λ schema m.
+            result ≢ Err Refusal.Memory → (result, own m self.new) ≡ checked_delete table.now keys.now (own m self.old)) }
+        ensures keys { WhenRead table.now view.now self.old (λ schema m. AreKeysIn schema self.new) }
         ensures refused { OnErr result (self.new ≡ self.old) }
     {
         if keys.table != table.number {

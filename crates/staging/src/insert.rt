@@ -11,21 +11,17 @@ ghost use Rattle.staging.specs.Staged.{insertions};
 
 use crate::staged::Staged;
 use crate::view::View;
-use values::{Key, Mem, Refusal, Row, Table};
 use std::alloc::{AllocError, Global};
+use values::{Key, Mem, Refusal, Row, Table};
 
 impl Staged {
     /// Inserts rows of a table, and answers their number. `BadRow` where one does not fit, `DuplicateKey` for the first whose key the transaction sees or an earlier one has,
     /// `TooManyWrites` where it would have written over 1,000 keys. After a refusal nothing has changed.
     pub fn insert(&mut self, view: &View, table: &Table, rows: &[Row]) -> Result<usize, Refusal>
         requires { IsTable table.now.number table.now }
-        ensures answers {
-            WhenRead table.now view.now self.old (λ schema m.
-                result ≢ Err Refusal.Memory → (result, own m self.new) ≡ checked_insert table.now rows.now (own m self.old))
-        }
-        ensures keys {
-            WhenRead table.now view.now self.old (λ schema m. AreKeysIn schema self.new)
-        }
+        ensures answers { WhenRead table.now view.now self.old (λ schema m.
+            result ≢ Err Refusal.Memory → (result, own m self.new) ≡ checked_insert table.now rows.now (own m self.old)) }
+        ensures keys { WhenRead table.now view.now self.old (λ schema m. AreKeysIn schema self.new) }
         ensures refused { OnErr result (self.new ≡ self.old) }
     {
         if let Err(refusal) = table.check_rows(rows) {

@@ -6,8 +6,8 @@ ghost use Rattle.values.specs.Order.{key_cmp};
 ghost use Rattle.values.specs.KeyEncoding.{IsShortKey};
 ghost use Rattle.staging.specs.Net.{IsNet};
 
-use values::{Key, Row};
 use std::marker::Model;
+use values::{Key, Row};
 
 /// What a transaction changed, by key: the row that each key has from then on, or none. Its keys strictly rise. Contracts see it as a list.
 #[derive(Drop)]

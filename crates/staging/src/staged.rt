@@ -21,10 +21,12 @@ ghost use Rattle.staging.specs.Staged.{put_all, put_answer, sees, first_seen, ro
 use crate::net::Net;
 use crate::table_range::range_of_table;
 use crate::view::View;
-use values::{Event, Instant, Key, Keys, Mem, Refusal, Row, SharedEvent, Table, key_bytes, read_key};
 use std::alloc::{AllocError, Global};
 use std::collections::BTreeMap;
 use std::marker::Model;
+use values::{
+    Event, Instant, Key, Keys, Mem, Refusal, Row, SharedEvent, Table, key_bytes, read_key,
+};
 
 /// The keys that a transaction may write.
 const MOST_WRITTEN: usize = 1000;
@@ -62,11 +64,9 @@ impl Staged {
 
     /// By key: the rows that the transaction sees and that the keys of the table take.
     pub fn rows(&self, view: &View, table: &Table, keys: &Keys) -> Mem<BTreeMap<Key, Row>>
-        ensures ok {
-            IfOk result (λ found. WhenRead table.now view.now self.now (λ schema m.
-                keys.now.table ≡ table.now.number
-                    → found.entries ≡ filter (λ e. matches table.now keys.now e.0) (seen m self.now)))
-        }
+        ensures ok { IfOk result (λ found. WhenRead table.now view.now self.now (λ schema m.
+            keys.now.table ≡ table.now.number
+            → found.entries ≡ filter (λ e. matches table.now keys.now e.0) (seen m self.now))) }
         ensures err { OnlyMemory result }
     {
         Ok(self.rows_found(view, view.last(), table, keys)?)
@@ -74,10 +74,8 @@ impl Staged {
 
     /// What the transaction changes: what each key that it wrote has in the end, without those that are absent both then and in the view.
     pub fn net(&self, view: &View) -> Mem<Net>
-        ensures ok {
-            IfOk result (λ net. (schema : Schema) (m : Changes)
-                → Holds schema view.now m → AreKeysIn schema self.now → net ≡ net_over m self.now)
-        }
+        ensures ok { IfOk result (λ net. (schema : Schema) (m : Changes)
+            → Holds schema view.now m → AreKeysIn schema self.now → net ≡ net_over m self.now) }
         ensures keys { IfOk result (λ net. (schema : Schema) → AreKeysIn schema self.now → AreKeysIn schema net) }
         ensures err { OnlyMemory result }
     {
@@ -93,11 +91,9 @@ impl Staged {
         table: &Table,
         keys: &Keys,
     ) -> Mem<BTreeMap<Key, Row>>
-        ensures ok {
-            IfOk result (λ found. found.entries
-                ≡ rows_in table.now keys.now
-                    (standing (events view.now) (is_key_in (range_of_table table.now.number)) last) self.now)
-        }
+        ensures ok { IfOk result (λ found. found.entries
+            ≡ rows_in table.now keys.now
+            (standing (events view.now) (is_key_in (range_of_table table.now.number)) last) self.now) }
         ensures err { OnlyMemory result }
         ensures ordered { OnOk result (IsStrictlySortedBy key_cmp (keys_of self.now)) }
         ensures short { IsTable table.now.number table.now → IfOk result (λ found. All (λ e. IsShortKey e.0) found.entries) }

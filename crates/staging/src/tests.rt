@@ -6,13 +6,13 @@ ghost use Rattle.staging.specs.View.{last};
 
 use crate::{EventStore, Staged, View, range_of_table};
 use keyrange::KeyRange;
-use values::{
-    Chars, Comparison, Instant, Key, KeyBytes, Keys, Mem, Operator, Refusal, Row, Sequence,
-    Set, Table, Value, Values, key_bytes,
-};
 use std::alloc::{AllocError, Global};
 use std::process::Abort;
 use std::test::Fail;
+use values::{
+    Chars, Comparison, Instant, Key, KeyBytes, Keys, Mem, Operator, Refusal, Row, Sequence, Set,
+    Table, Value, Values, key_bytes,
+};
 
 fn text(alloc: Global, text: &str) -> Result<Value, AllocError> {
     Ok(Value::Text(Chars::new(String::from_str(alloc, text)?)))

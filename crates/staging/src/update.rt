@@ -9,9 +9,9 @@ ghost use Rattle.staging.specs.Staged.{updates};
 
 use crate::staged::Staged;
 use crate::view::View;
-use values::{Key, Keys, Refusal, Row, Set, Table};
 use std::alloc::{AllocError, Global};
 use std::collections::BTreeMap;
+use values::{Key, Keys, Refusal, Row, Set, Table};
 
 impl Staged {
     /// Sets columns of the rows whose keys meet all comparisons, and answers their number. `NoTable` where the keys are of another table,
@@ -24,13 +24,9 @@ impl Staged {
         sets: &[Set],
     ) -> Result<usize, Refusal>
         requires { IsTable table.now.number table.now }
-        ensures answers {
-            WhenRead table.now view.now self.old (λ schema m.
-                result ≢ Err Refusal.Memory → (result, own m self.new) ≡ checked_update table.now keys.now sets.now (own m self.old))
-        }
-        ensures keys {
-            WhenRead table.now view.now self.old (λ schema m. AreKeysIn schema self.new)
-        }
+        ensures answers { WhenRead table.now view.now self.old (λ schema m.
+            result ≢ Err Refusal.Memory → (result, own m self.new) ≡ checked_update table.now keys.now sets.now (own m self.old)) }
+        ensures keys { WhenRead table.now view.now self.old (λ schema m. AreKeysIn schema self.new) }
         ensures refused { OnErr result (self.new ≡ self.old) }
     {
         if keys.table != table.number {

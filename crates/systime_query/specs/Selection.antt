@@ -41,4 +41,4 @@ instant_of (Some e) = Some e.at
 abbrev pub WhenShown : Committed → Table → Keys → (Changes → Type 0) → Type 0
 WhenShown view table keys P =
     (schema : Schema) (m : Changes) → Holds schema view m → table_at schema table.number ≡ Some table
-        → keys.table ≡ table.number → P m
+    → keys.table ≡ table.number → P m

@@ -1,8 +1,8 @@
 //! What a query shows of what was committed, in all forms of FOR SYSTEM_TIME.
 #![tactic(auto)]
 
-mod selection;
 mod period;
+mod selection;
 mod snapshot;
 mod standing;
 #[cfg(test)]

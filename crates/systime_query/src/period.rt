@@ -4,8 +4,8 @@ ghost use Rattle.values.specs.Events.{is_bytes};
 ghost use Rattle.values.specs.Memory.{OnlyMemory};
 ghost use Rattle.systime_query.specs.Selection.{is_taken, shown_of};
 
-use values::{Event, Form, Instant, KeyBytes, Keys, Mem, Shown, Table, read_key};
 use std::alloc::Global;
+use values::{Event, Form, Instant, KeyBytes, Keys, Mem, Shown, Table, read_key};
 
 /// The version that an event begins, where the query selects it.
 pub(crate) fn shown_of(

@@ -6,17 +6,15 @@ ghost use Rattle.systime_query.specs.Selection.{WhenShown, next_of, selected_by}
 
 use crate::period::{is_same, shown_of};
 use crate::snapshot::selected_at;
-use values::{Event, Form, Instant, Keys, Mem, SharedEvent, Shown, Table};
 use staging::{View, range_of_table};
 use std::alloc::Global;
+use values::{Event, Form, Instant, Keys, Mem, SharedEvent, Shown, Table};
 
 /// The versions of a table's rows that a query selects, with their periods, by key and then by start. The keys are of that table.
 /// An end after the view's last instant is none.
 pub fn answer(alloc: Global, view: &View, table: &Table, form: Form, keys: &Keys) -> Mem<Vec<Shown>>
-    ensures ok {
-        IfOk result (λ v. WhenShown view.now table.now keys.now (λ m.
-            v.items ≡ answer m table.now form keys.now))
-    }
+    ensures ok { IfOk result (λ v. WhenShown view.now table.now keys.now (λ m.
+        v.items ≡ answer m table.now form keys.now)) }
     ensures err { OnlyMemory result }
 {
     let range = range_of_table(alloc, table.number)?;

@@ -10,8 +10,8 @@ ghost use Rattle.systime_query.specs.Selection.{instant_of, selected_by};
 
 use crate::period::shown_of;
 use eventlist::{place_until, split_first_key};
-use values::{Form, Instant, Keys, Mem, SharedEvent, Shown, Table};
 use std::alloc::Global;
+use values::{Form, Instant, Keys, Mem, SharedEvent, Shown, Table};
 
 /// The versions at an instant, of events in order. It jumps from key to key.
 pub(crate) fn selected_at(

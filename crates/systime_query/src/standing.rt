@@ -20,10 +20,8 @@ pub fn rows_at(
     instant: Instant,
     keys: &Keys,
 ) -> Mem<Vec<Row>>
-    ensures ok {
-        IfOk result (λ v. WhenShown view.now table.now keys.now (λ m.
-            v.items ≡ shown_rows m table.now (AsOf instant) keys.now))
-    }
+    ensures ok { IfOk result (λ v. WhenShown view.now table.now keys.now (λ m.
+        v.items ≡ shown_rows m table.now (AsOf instant) keys.now)) }
     ensures err { OnlyMemory result }
 {
     let range = range_of_table(alloc, table.number)?;
@@ -33,10 +31,8 @@ pub fn rows_at(
 
 /// By key: the rows of a table that a query without a form of time shows, the current ones. The keys are of that table.
 pub fn current_rows(alloc: Global, view: &View, table: &Table, keys: &Keys) -> Mem<Vec<Row>>
-    ensures ok {
-        IfOk result (λ v. WhenShown view.now table.now keys.now (λ m.
-            v.items ≡ shown_rows m table.now Plain keys.now))
-    }
+    ensures ok { IfOk result (λ v. WhenShown view.now table.now keys.now (λ m.
+        v.items ≡ shown_rows m table.now Plain keys.now)) }
     ensures err { OnlyMemory result }
 {
     let last = view.last();
@@ -46,12 +42,7 @@ pub fn current_rows(alloc: Global, view: &View, table: &Table, keys: &Keys) -> M
 }
 
 /// The rows of events whose keys the query takes.
-fn rows_shown(
-    alloc: Global,
-    events: &[SharedEvent],
-    table: &Table,
-    keys: &Keys,
-) -> Mem<Vec<Row>>
+fn rows_shown(alloc: Global, events: &[SharedEvent], table: &Table, keys: &Keys) -> Mem<Vec<Row>>
     ensures ok { IfOk result (λ v. v.items ≡ filter_map (row_shown table.now keys.now) events.now) }
     ensures err { OnlyMemory result }
 {

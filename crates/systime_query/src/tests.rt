@@ -4,13 +4,13 @@ ghost use Rattle.values.specs.Tables.{IsTable};
 ghost use Rattle.staging.specs.View.{last};
 
 use crate::{answer, current_rows, rows_at};
+use staging::{EventStore, Staged};
+use std::alloc::{AllocError, Global};
+use std::test::Fail;
 use values::{
     Chars, Comparison, Form, Instant, Keys, Mem, Operator, Refusal, Row, Sequence, Set, Shown,
     Table, Value,
 };
-use staging::{EventStore, Staged};
-use std::alloc::{AllocError, Global};
-use std::test::Fail;
 
 fn text(alloc: Global, name: &str) -> Result<Value, AllocError> {
     Ok(Value::Text(Chars::new(String::from_str(alloc, name)?)))
@@ -68,7 +68,12 @@ fn rename(alloc: Global, table: &Table, store: &mut EventStore) -> Result<(), Fa
         value: text(alloc, "Bea")?,
     };
     let one = by(alloc, Operator::Equal, 1)?;
-    staged.update(store.current(), table, &one, vec![in alloc; set]?.as_slice())?;
+    staged.update(
+        store.current(),
+        table,
+        &one,
+        vec![in alloc; set]?.as_slice(),
+    )?;
     let net = staged.net(store.current())?;
     store.apply(200, net)?;
     Ok(())
@@ -89,7 +94,13 @@ fn recorded(alloc: Global, table: &Table) -> Result<EventStore, Fail>
 fn periods(alloc: Global, form: Form) -> Result<Vec<(Instant, Option<Instant>)>, Fail> {
     let table = &Table::sample(alloc)?;
     let store = recorded(alloc, table)?;
-    let shown: Vec<Shown> = answer(alloc, store.current(), table, form, &by(alloc, Operator::AtMost, 1)?)?;
+    let shown: Vec<Shown> = answer(
+        alloc,
+        store.current(),
+        table,
+        form,
+        &by(alloc, Operator::AtMost, 1)?,
+    )?;
     let mut periods = Vec::new(alloc);
     for version in shown {
         periods.push((version.from, version.to))?;
@@ -145,7 +156,10 @@ fn each_key_shows_one_version_at_an_instant(rt: HostRuntime) -> Result<(), Fail>
         (Form::Between(1, 300), 3),
     ];
     for (form, count) in cases {
-        assert_eq!(rt; answer(alloc, store.current(), table, form, &keys)?.len(), count);
+        assert_eq!(rt;
+            answer(alloc, store.current(), table, form, &keys)?.len(),
+            count
+        );
     }
     Ok(())
 }
@@ -160,6 +174,9 @@ fn rows_at_an_instant_are_those_that_stand(rt: HostRuntime) -> Result<(), Fail> 
         let rows = rows_at(alloc, store.current(), table, at, &keys)?;
         assert_eq!(rt; rows.len(), count, "at {at}");
     }
-    assert_eq!(rt; current_rows(alloc, store.current(), table, &keys)?.len(), 2);
+    assert_eq!(rt;
+        current_rows(alloc, store.current(), table, &keys)?.len(),
+        2
+    );
     Ok(())
 }

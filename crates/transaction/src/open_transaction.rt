@@ -45,15 +45,11 @@ impl OpenTransaction {
 
     /// What the transaction changes: what each key that it wrote has in the end, without those that are absent both then and in the view.
     pub fn net(&self) -> Mem<Net>
-        ensures ok {
-            IfOk result (λ net. (schema : Schema) (m : Changes)
-                → Holds schema self.now.view m → AreKeysIn schema self.now.writes
-                → net ≡ net_over m self.now.writes)
-        }
-        ensures keys {
-            IfOk result (λ net. (schema : Schema)
-                → AreKeysIn schema self.now.writes → AreKeysIn schema net)
-        }
+        ensures ok { IfOk result (λ net. (schema : Schema) (m : Changes)
+            → Holds schema self.now.view m → AreKeysIn schema self.now.writes
+            → net ≡ net_over m self.now.writes) }
+        ensures keys { IfOk result (λ net. (schema : Schema)
+            → AreKeysIn schema self.now.writes → AreKeysIn schema net) }
         ensures err { OnlyMemory result }
     {
         self.staged.net(&self.view)

@@ -17,11 +17,9 @@ use values::{Form, Key, Keys, Mem, Row, Rows, ShownRows, Table};
 impl OpenTransaction {
     /// What a query of a table shows: a plain one the rows that the transaction sees, any other what was committed until its start. The keys are of that table.
     pub fn select(&self, alloc: Global, form: Form, table: &Table, keys: &Keys) -> Mem<Listing>
-        ensures ok {
-            IfOk result (λ l. WhenRead table.now self.now.view self.now.writes (λ schema m.
-                keys.now.table ≡ table.now.number
-                    → l ≡ listed_in m self.now.writes table.now form keys.now))
-        }
+        ensures ok { IfOk result (λ l. WhenRead table.now self.now.view self.now.writes (λ schema m.
+            keys.now.table ≡ table.now.number
+            → l ≡ listed_in m self.now.writes table.now form keys.now)) }
         ensures memory { OnlyMemory result }
     {
         match form {
@@ -44,10 +42,8 @@ pub fn listing_of(
     table: &Table,
     keys: &Keys,
 ) -> Mem<Listing>
-    ensures ok {
-        IfOk result (λ l. WhenShown view.now table.now keys.now (λ m.
-            l ≡ listed form (answer m table.now form keys.now)))
-    }
+    ensures ok { IfOk result (λ l. WhenShown view.now table.now keys.now (λ m.
+        l ≡ listed form (answer m table.now form keys.now))) }
     ensures memory { OnlyMemory result }
 {
     match form {

@@ -38,7 +38,11 @@ fn a_transaction_reads_its_own_writes_in_a_plain_query_alone(rt: HostRuntime) ->
     assert_eq!(rt; transaction.start(), 0);
     let rows = vec![in alloc; employee(alloc, 1, "Ann")?]?;
     assert!(rt; transaction.insert(table, &rows) == Ok(1));
-    for (form, shown) in [(Form::Plain, 1), (Form::AsOf(1), 0), (Form::Between(0, 9), 0)] {
+    for (form, shown) in [
+        (Form::Plain, 1),
+        (Form::AsOf(1), 0),
+        (Form::Between(0, 9), 0),
+    ] {
         let listing = transaction.select(alloc, form, table, &all(alloc))?;
         assert_eq!(rt; count(&listing), shown);
     }

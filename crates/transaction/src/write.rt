@@ -12,15 +12,11 @@ impl OpenTransaction {
     /// `TooManyWrites` where it would have written over 1,000 keys. After a refusal nothing has changed.
     pub fn insert(&mut self, table: &Table, rows: &[Row]) -> Result<usize, Refusal>
         requires { IsTable table.now.number table.now }
-        ensures answers {
-            WhenRead table.now self.old.view self.old.writes (λ schema m.
-                result ≢ Err Refusal.Memory
-                    → (result, own m self.new.writes) ≡ checked_insert table.now rows.now (own m self.old.writes))
-        }
-        ensures keys {
-            WhenRead table.now self.old.view self.old.writes (λ schema m.
-                AreKeysIn schema self.new.writes)
-        }
+        ensures answers { WhenRead table.now self.old.view self.old.writes (λ schema m.
+            result ≢ Err Refusal.Memory
+            → (result, own m self.new.writes) ≡ checked_insert table.now rows.now (own m self.old.writes)) }
+        ensures keys { WhenRead table.now self.old.view self.old.writes (λ schema m.
+            AreKeysIn schema self.new.writes) }
         ensures view { self.new.view ≡ self.old.view }
         ensures refused { OnErr result (self.new ≡ self.old) }
     {
@@ -31,15 +27,11 @@ impl OpenTransaction {
     /// `BadRow` where a set or a comparison does not fit, `TooManyWrites` where the transaction would have written over 1,000 keys. After a refusal nothing has changed.
     pub fn update(&mut self, table: &Table, keys: &Keys, sets: &[Set]) -> Result<usize, Refusal>
         requires { IsTable table.now.number table.now }
-        ensures answers {
-            WhenRead table.now self.old.view self.old.writes (λ schema m.
-                result ≢ Err Refusal.Memory
-                    → (result, own m self.new.writes) ≡ checked_update table.now keys.now sets.now (own m self.old.writes))
-        }
-        ensures keys {
-            WhenRead table.now self.old.view self.old.writes (λ schema m.
-                AreKeysIn schema self.new.writes)
-        }
+        ensures answers { WhenRead table.now self.old.view self.old.writes (λ schema m.
+            result ≢ Err Refusal.Memory
+            → (result, own m self.new.writes) ≡ checked_update table.now keys.now sets.now (own m self.old.writes)) }
+        ensures keys { WhenRead table.now self.old.view self.old.writes (λ schema m.
+            AreKeysIn schema self.new.writes) }
         ensures view { self.new.view ≡ self.old.view }
         ensures refused { OnErr result (self.new ≡ self.old) }
     {
@@ -50,15 +42,11 @@ impl OpenTransaction {
     /// `BadRow` where a comparison does not fit, `TooManyWrites` where the transaction would have written over 1,000 keys. After a refusal nothing has changed.
     pub fn delete(&mut self, table: &Table, keys: &Keys) -> Result<usize, Refusal>
         requires { IsTable table.now.number table.now }
-        ensures answers {
-            WhenRead table.now self.old.view self.old.writes (λ schema m.
-                result ≢ Err Refusal.Memory
-                    → (result, own m self.new.writes) ≡ checked_delete table.now keys.now (own m self.old.writes))
-        }
-        ensures keys {
-            WhenRead table.now self.old.view self.old.writes (λ schema m.
-                AreKeysIn schema self.new.writes)
-        }
+        ensures answers { WhenRead table.now self.old.view self.old.writes (λ schema m.
+            result ≢ Err Refusal.Memory
+            → (result, own m self.new.writes) ≡ checked_delete table.now keys.now (own m self.old.writes)) }
+        ensures keys { WhenRead table.now self.old.view self.old.writes (λ schema m.
+            AreKeysIn schema self.new.writes) }
         ensures view { self.new.view ≡ self.old.view }
         ensures refused { OnErr result (self.new ≡ self.old) }
     {

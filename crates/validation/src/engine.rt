@@ -71,19 +71,13 @@ impl Engine {
         net: Net,
         reading: Instant,
     ) -> Result<Option<Instant>, Refusal>
-        ensures outcome {
-            (schema : Schema) (m : Changes) → Holds schema self.old m → AreKeysIn schema net
-                → result ≢ Err Refusal.Memory
-                → result ≡ outcome m (last self.old) start net reading
-        }
-        ensures committed {
-            IfOk result (λ end. IfSome end (λ instant. Adds instant net self.old self.new))
-        }
-        ensures holds {
-            IfOk result (λ end. IfSome end (λ instant. (schema : Schema) (m : Changes)
-                → Holds schema self.old m → AreKeysIn schema net
-                → Holds schema self.new (add_net instant m net)))
-        }
+        ensures outcome { (schema : Schema) (m : Changes) → Holds schema self.old m → AreKeysIn schema net
+            → result ≢ Err Refusal.Memory
+            → result ≡ outcome m (last self.old) start net reading }
+        ensures committed { IfOk result (λ end. IfSome end (λ instant. Adds instant net self.old self.new)) }
+        ensures holds { IfOk result (λ end. IfSome end (λ instant. (schema : Schema) (m : Changes)
+            → Holds schema self.old m → AreKeysIn schema net
+            → Holds schema self.new (add_net instant m net))) }
         ensures later { IfOk result (λ end. IfSome end (λ instant. last self.old < instant)) }
         ensures nothing { IfOk result (λ end. IfNone end (self.new ≡ self.old)) }
         ensures refused { OnErr result (self.new ≡ self.old) }
@@ -108,10 +102,8 @@ impl Engine {
         net: &Net,
         reading: Instant,
     ) -> Result<Option<Instant>, Refusal>
-        ensures outcome {
-            result ≢ Err Refusal.Memory
-                → result ≡ outcome_by (changed_in (events self.now) start) (last self.now) net.now reading
-        }
+        ensures outcome { result ≢ Err Refusal.Memory
+            → result ≡ outcome_by (changed_in (events self.now) start) (last self.now) net.now reading }
         ensures later { IfOk result (λ end. IfSome end (λ instant. last self.now < instant)) }
         ensures in_range { IfOk result (λ end. IfSome end (λ instant. instant ≤ max_instant)) }
     {
@@ -136,10 +128,8 @@ fn first_conflict(
     start: Instant,
     net: &Net,
 ) -> Mem<Option<(Key, Instant)>>
-    ensures ok {
-        IfOk result (λ found.
-            found ≡ slice_get (won_by (changed_in (events view.now) start) net.now) 0)
-    }
+    ensures ok { IfOk result (λ found.
+        found ≡ slice_get (won_by (changed_in (events view.now) start) net.now) 0) }
     ensures err { OnlyMemory result }
 {
     for (key, _row) in net.changes() {

@@ -1,10 +1,10 @@
 //! Transactions that overlap.
 
 use crate::Engine;
-use values::{Chars, Key, Mem, Refusal, Row, Table, Value, Values};
 use staging::{Net, Staged, View};
 use std::alloc::{AllocError, Global};
 use std::test::Fail;
+use values::{Chars, Key, Mem, Refusal, Row, Table, Value, Values};
 
 fn employee(alloc: Global, number: i64, name: &str) -> Mem<Row> {
     let name = Value::Text(Chars::new(String::from_str(alloc, name)?));

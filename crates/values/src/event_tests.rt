@@ -10,12 +10,7 @@ use std::process::Abort;
 use std::test::Fail;
 
 /// One value, from an instant on.
-fn event_at(
-    rt: &impl Abort,
-    alloc: Global,
-    key: &[u8],
-    at: Instant,
-) -> Result<Event, AllocError> {
+fn event_at(rt: &impl Abort, alloc: Global, key: &[u8], at: Instant) -> Result<Event, AllocError> {
     let key = KeyBytes::new(key.to_vec(alloc)?).expect(rt, "a few bytes");
     let row = Row::new(vec![in alloc; Value::Int(7)]?).expect(rt, "a row of one value");
     Ok(Event::new(key, at, Some(row)).expect(rt, "the key is not empty"))

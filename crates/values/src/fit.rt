@@ -6,8 +6,8 @@ ghost use Rattle.values.specs.Faults.{no_fault};
 
 use crate::query::{ColumnNumber, Comparison, Set};
 use crate::refusal::Refusal;
-use crate::table::{Column, ColumnType, Table};
 use crate::row::Row;
+use crate::table::{Column, ColumnType, Table};
 use crate::value::Value;
 
 /// The bytes that a text of a key may have.

@@ -2,8 +2,8 @@ ghost use Rattle.std.specs.Prelude.{◌≡◌, IfOk};
 ghost use Rattle.values.specs.Memory.{OnlyMemory};
 
 use crate::refusal::Mem;
-use crate::sequence::Sequence;
 use crate::row::Row;
+use crate::sequence::Sequence;
 use crate::value::Values;
 use std::alloc::AllocError;
 

@@ -4,12 +4,12 @@ ghost use Rattle.values.specs.Memory.{OnlyMemory};
 ghost use Rattle.values.specs.RowReading.{Takes};
 ghost use Rattle.values.specs.KeyReading.{IsKeyWith, NoKeyWith, lowered, text_from, number_from, name_from, truth_from, part_from, column_from, parts_from, key_from};
 
-use crate::key_encoding::KeyBytes;
+use crate::chars::Chars;
 use crate::key::Key;
+use crate::key_encoding::KeyBytes;
 use crate::query::ColumnNumber;
 use crate::refusal::Mem;
 use crate::table::{ColumnType, Table};
-use crate::chars::Chars;
 use crate::value::{Value, Values};
 use std::alloc::{AllocError, Global};
 

@@ -1,10 +1,10 @@
 ghost use Rattle.std.specs.Prelude.{IfOk, ◌≤◌, length};
 ghost use Rattle.values.specs.KeyEncoding.{IsShortKey};
 
+use crate::chars::Chars;
+use crate::key::Key;
 use crate::key_encoding::{KeyBytes, key_bytes};
 use crate::key_reading::read_key;
-use crate::key::Key;
-use crate::chars::Chars;
 use crate::sequence::Sequence;
 use crate::table::{Column, ColumnType, Table};
 use crate::value::{Value, Values};

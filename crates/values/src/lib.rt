@@ -34,7 +34,9 @@ pub use key_encoding::{KeyBytes, key_bytes};
 pub use key_laws::{bytes_stand_for_keys, fitting_keys_have_bytes, fitting_rows_have_keys};
 pub use key_reading::read_key;
 pub use laws::{as_of_shows_the_state, empty_net_leaves_the_log, states_are_versions};
-pub use query::{ColumnNumber, Comparison, Form, Keys, Operator, Rows, Set, Sets, Shown, ShownRows};
+pub use query::{
+    ColumnNumber, Comparison, Form, Keys, Operator, Rows, Set, Sets, Shown, ShownRows,
+};
 pub use refusal::{Mem, Refusal};
 pub use row::Row;
 pub use row_encoding::{read_row, row_bytes};

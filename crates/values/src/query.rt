@@ -1,6 +1,6 @@
 use crate::key::Instant;
-use crate::sequence::Sequence;
 use crate::row::Row;
+use crate::sequence::Sequence;
 use crate::value::Value;
 
 /// Which versions a query selects.

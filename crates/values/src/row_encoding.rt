@@ -6,8 +6,8 @@ ghost use Rattle.values.specs.Fit.{is_line_break, fits_text};
 ghost use Rattle.values.specs.RowEncoding.{value_bytes, bytes_of_row, IsStored, IsStoredRow, StandsIn, NoRowAt};
 ghost use Rattle.values.specs.RowReading.{Takes, int_from, is_stored_text, text_of, text_from, tagged_from, value_from, values_from, row_from};
 
-use crate::refusal::Mem;
 use crate::chars::Chars;
+use crate::refusal::Mem;
 use crate::row::{Row, WIDTH, fits_text};
 use crate::value::Value;
 use std::alloc::{AllocError, Global};

@@ -1,6 +1,6 @@
-use crate::row_encoding::{read_row, row_bytes};
 use crate::chars::Chars;
 use crate::row::Row;
+use crate::row_encoding::{read_row, row_bytes};
 use crate::value::Value;
 use std::alloc::{AllocError, Global};
 use std::test::Fail;

@@ -5,12 +5,12 @@ ghost use Rattle.values.specs.Writes.{key_of};
 ghost use Rattle.values.specs.RowEncoding.{IsHeld};
 ghost use Rattle.values.specs.Memory.{OnlyMemory};
 
+use crate::chars::Chars;
 use crate::key::Key;
 use crate::query::ColumnNumber;
 use crate::refusal::Mem;
-use crate::sequence::Sequence;
-use crate::chars::Chars;
 use crate::row::Row;
+use crate::sequence::Sequence;
 use crate::value::{Value, Values};
 use std::alloc::{AllocError, Global};
 use std::marker::Model;

@@ -1,8 +1,8 @@
 ghost use Rattle.std.specs.Prelude.{◌≡◌, IfOk};
 ghost use Rattle.values.specs.Memory.{OnlyMemory};
 
-use crate::refusal::Mem;
 use crate::chars::Chars;
+use crate::refusal::Mem;
 use std::alloc::AllocError;
 use std::cmp::Ordering;
 use std::marker::Model;
