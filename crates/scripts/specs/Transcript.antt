@@ -70,10 +70,8 @@ module _ (schema : Schema) where
   asks_memory p (Ok (Asks step)) = not (takes_no_memory_after schema p.history step)
   asks_memory p _ = false
 
-  -- Memory can run out at a line while it is read or at its step. It can not at a blank line, a
-  -- comment, CLOCK or a line that is too long, nor at a BEGIN, COMMIT or ROLLBACK whose step takes
-  -- none. Rows, comparisons and new values take memory to be read: so E10 can be the reply to any
-  -- line with these, also to one that would be refused.
+  -- Memory can run out at a line while it is read or at its step, and not at one that is too long,
+  -- which is not read. Which lines take no memory to be read is not said yet.
   abbrev pub can_run_out : Progress → Partial → Result Line Refusal → Bool
   can_run_out p bytes said = reading_takes bytes said || asks_memory p said
 

@@ -8,7 +8,7 @@ ghost use Rattle.scripts.specs.Script.{line_of, said_by, IsRead, IsAt, SameRun, 
 use histories::Step;
 use interleaving::System;
 use rows::Schema;
-use statement::{Line, WriteFault, print_refusal, print_reply, write_all, read_line};
+use statement::{Line, WriteFault, print_refusal, print_reply, read_line, write_all};
 use std::alloc::{AllocError, Global};
 use std::io::{Read, Write};
 use values::{Instant, Refusal};
