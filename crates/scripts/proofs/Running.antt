@@ -10,7 +10,7 @@ use Rattle.scripts.specs.Taking.{Feeds, Breaks}
 use Rattle.scripts.specs.Transcript.{Partial, Progress, Reading, beginning, add, ended, line_reply, line_leaves, last_reply, last_leaves, IsRun, IsCut, IsStopped}
 use Rattle.scripts.proofs.Feeding.{Taken, feeds_none, feeds_byte, feeds_end, breaks_end, feeds_join, breaks_join, taken_none, taken_more, cut_between, stopped_inside, stopped_at_end, done_all, done_left}
 use Rattle.scripts.specs.declared.script.Script.{Script}
-use Rattle.histories.specs.Stands.{Stands}
+use Rattle.interleaving.specs.SystemState.{Stands}
 use Rattle.scripts.specs.Script.{line_of, IsAt, SameRun, Answered, Broken, has_byte, Fed, Finished, Unfinished, AnswersLine, BreaksLine, TakesBytes, BreaksBytes, EndsScript, BreaksEnd}
 use Rattle.scripts.proofs.Scripting.{at_same}
 

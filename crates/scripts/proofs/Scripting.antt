@@ -11,7 +11,7 @@ use Rattle.histories.specs.declared.step.Reply.{Reply}
 use Rattle.histories.specs.declared.step.Reply.TheVariants.{Refused}
 use Rattle.histories.specs.History.{History, reply}
 use Rattle.histories.specs.Memory.{is_memory, is_out_of_memory, takes_no_memory, takes_no_memory_after}
-use Rattle.histories.specs.Stands.{Stands}
+use Rattle.interleaving.specs.SystemState.{world, Stands}
 use Rattle.histories.proofs.Memory.{memory_is_taken_alike}
 use Rattle.histories.proofs.Turned.{not_out}
 use Rattle.histories.proofs.Ran.{is_memory_so, is_out_so}
@@ -108,19 +108,19 @@ broken_as a b schema p line r e wrote = record { mark = false; wrote = subst (λ
 pub record Stepped (s s' : Script) (step : Step) (r : Reply) : Type 0 where
   pub answers : (h : History) → Stands s.system h → r ≢ Refused Memory → (r ≡ reply s.system.schema h step) × Stands s'.system (step ∷ h)
   pub out_of_memory : (h : History) → Stands s.system h → r ≡ Refused Memory → Stands s'.system h
-  pub no_memory : takes_no_memory s.system step ≡ true → is_out_of_memory r ≡ false
+  pub no_memory : takes_no_memory (world s.system) step ≡ true → is_out_of_memory r ≡ false
   pub schema_stays : s'.system.schema ≡ s.system.schema
   pub reading_stays : s'.reading ≡ s.reading
 
 -- the step takes memory where it ran out
 step_risky : (s s' : Script) (schema : Schema) (p : Progress) (step : Step) (r : Reply) → Stepped s s' step r → IsAt s schema p → said_by s ≡ Ok (Asks step) → is_out_of_memory r ≡ true → is_risky schema (line_says schema) p (line_of s) ≡ true
 step_risky s s' schema p step r so at e out =
-    ap (can_run_out schema p (line_of s)) (sym (said_is s schema p at) ∙ e) ∙ or_right (reading_takes (line_of s) (Ok (Asks step))) _ (ap not (sym alike ∙ taken (takes_no_memory s.system step) refl))
+    ap (can_run_out schema p (line_of s)) (sym (said_is s schema p at) ∙ e) ∙ or_right (reading_takes (line_of s) (Ok (Asks step))) _ (ap not (sym alike ∙ taken (takes_no_memory (world s.system) step) refl))
   where
-    alike : takes_no_memory s.system step ≡ takes_no_memory_after schema p.history step
-    alike = memory_is_taken_alike s.system p.history step at.stands ∙ ap (λ x. takes_no_memory_after x p.history step) at.schema_is
+    alike : takes_no_memory (world s.system) step ≡ takes_no_memory_after schema p.history step
+    alike = memory_is_taken_alike (world s.system) p.history step at.stands ∙ ap (λ x. takes_no_memory_after x p.history step) at.schema_is
 
-    taken : (b : Bool) → takes_no_memory s.system step ≡ b → b ≡ false
+    taken : (b : Bool) → takes_no_memory (world s.system) step ≡ b → b ≡ false
     taken true is = cc (sym (so.no_memory is) ∙ out)
     taken false is = refl
 

@@ -6,8 +6,7 @@ use Rattle.values.specs.declared.refusal.Refusal.{Refusal}
 use Rattle.values.specs.declared.refusal.Refusal.TheVariants.{Memory, LineTooLong}
 use Rattle.histories.specs.History.{History, reply}
 use Rattle.histories.specs.Memory.{takes_no_memory_after}
-use Rattle.histories.specs.Stands.{Stands}
-use Rattle.histories.specs.World.{World}
+use Rattle.interleaving.specs.SystemState.{SystemState, Stands}
 use Rattle.statement.specs.declared.line.Line.{Line}
 use Rattle.statement.specs.declared.line.Line.TheVariants.{Nothing, Clock, Step as Asks}
 use Rattle.statement.specs.Print.{line, refusal_text, reply_text}
@@ -154,9 +153,9 @@ module _ (schema : Schema) (read : Reading) where
     pub wrote : Appends old new (transcript marks text)
 
   -- the same, and a system stands for what the text leaves
-  pub record IsRun (w : World) (unread left old new : Option (List ℕ)) : Type 0 where
+  pub record IsRun (s : SystemState) (unread left old new : Option (List ℕ)) : Type 0 where
     pub ran : IsTranscript unread left old new
-    pub stands : Stands w (leaves ran.marks beginning (Some []) ran.text).history
+    pub stands : Stands s (leaves ran.marks beginning (Some []) ran.text).history
 
   -- some bytes were read, and just the replies to their lines that ended were written
   pub record IsCut (unread left old new : Option (List ℕ)) : Type 0 where
