@@ -55,8 +55,8 @@ fn shared_events_are_in_order_by_key_and_then_by_instant(rt: HostRuntime) -> Res
     for (event, at) in events.iter().zip([2, 9, 1, 1]) {
         assert_eq!(rt; event.event().at(), at);
     }
-    assert!(rt; events[2] == events[3]);
-    assert!(rt; events[0] != events[1]);
+    assert!(rt; events.get(2) == events.get(3));
+    assert!(rt; events.get(0) != events.get(1));
     Ok(())
 }
 
