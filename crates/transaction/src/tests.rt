@@ -29,44 +29,68 @@ fn count(listing: &Listing) -> usize {
     }
 }
 
-#[test]
-fn a_transaction_reads_its_own_writes_in_a_plain_query_alone(rt: HostRuntime) -> Result<(), Fail> {
-    let alloc = rt.alloc();
-    let table = &Table::sample(alloc)?;
+/// A transaction that has inserted an employee, over nothing committed.
+fn with_ann(alloc: Global) -> Mem<OpenTransaction> {
     let store = EventStore::new(alloc)?;
     let mut transaction = OpenTransaction::begin(alloc, store.current().share()?)?;
-    assert_eq!(rt; transaction.start(), 0);
     let rows = vec![in alloc; employee(alloc, 1, "Ann")?]?;
-    assert!(rt; transaction.insert(table, &rows) == Ok(1));
-    for (form, shown) in [
-        (Form::Plain, 1),
-        (Form::AsOf(1), 0),
-        (Form::Between(0, 9), 0),
-    ] {
-        let listing = transaction.select(alloc, form, table, &all(alloc))?;
-        assert_eq!(rt; count(&listing), shown);
-    }
-    let listing = listing_of(alloc, store.current(), Form::Plain, table, &all(alloc))?;
-    assert_eq!(rt; count(&listing), 0);
-    Ok(())
+    transaction.insert(&Table::sample(alloc)?, &rows)?;
+    Ok(transaction)
 }
 
-#[test]
-fn a_transaction_changes_what_it_wrote(rt: HostRuntime) -> Result<(), Fail> {
-    let alloc = rt.alloc();
-    let table = &Table::sample(alloc)?;
+/// How many rows a query of it shows.
+fn shown(alloc: Global, form: Form) -> Mem<usize> {
+    let transaction = with_ann(alloc)?;
+    let listing = transaction.select(alloc, form, &Table::sample(alloc)?, &all(alloc))?;
+    Ok(count(&listing))
+}
+
+/// How many rows a query shows outside any transaction.
+fn shown_outside(alloc: Global) -> Mem<usize> {
     let store = EventStore::new(alloc)?;
-    let mut transaction = OpenTransaction::begin(alloc, store.current().share()?)?;
-    let rows = vec![in alloc; employee(alloc, 1, "Ann")?]?;
-    assert!(rt; transaction.insert(table, &rows) == Ok(1));
+    let table = Table::sample(alloc)?;
+    let listing = listing_of(alloc, store.current(), Form::Plain, &table, &all(alloc))?;
+    Ok(count(&listing))
+}
+
+/// How many rows an update of all rows meets, and how many changes are left.
+fn updated(alloc: Global) -> Mem<(usize, usize)> {
+    let mut transaction = with_ann(alloc)?;
     let set = Set {
         column: 2,
         value: text(alloc, "Bea")?,
     };
     let sets = vec![in alloc; set]?;
-    assert!(rt; transaction.update(table, &all(alloc), &sets) == Ok(1));
-    assert_eq!(rt; transaction.net()?.changes().len(), 1);
-    assert!(rt; transaction.delete(table, &all(alloc)) == Ok(1));
-    assert_eq!(rt; transaction.net()?.changes().len(), 0);
+    let met = transaction.update(&Table::sample(alloc)?, &all(alloc), &sets)?;
+    Ok((met, transaction.net()?.changes().len()))
+}
+
+/// How many rows a deletion of all rows meets, and how many changes are left.
+fn deleted(alloc: Global) -> Mem<(usize, usize)> {
+    let mut transaction = with_ann(alloc)?;
+    let met = transaction.delete(&Table::sample(alloc)?, &all(alloc))?;
+    Ok((met, transaction.net()?.changes().len()))
+}
+
+#[test]
+fn a_transaction_begins_at_the_last_commit(rt: HostRuntime) -> Result<(), Fail> {
+    let transaction = with_ann(rt.alloc())?;
+    assert_eq!(rt; transaction.start(), 0);
+    Ok(())
+}
+
+#[test]
+fn a_transaction_reads_its_own_writes_in_a_plain_query_alone(rt: HostRuntime) -> Result<(), Fail> {
+    assert_eq!(rt; shown(rt.alloc(), Form::Plain)?, 1);
+    assert_eq!(rt; shown(rt.alloc(), Form::AsOf(1))?, 0);
+    assert_eq!(rt; shown(rt.alloc(), Form::Between(0, 9))?, 0);
+    assert_eq!(rt; shown_outside(rt.alloc())?, 0);
+    Ok(())
+}
+
+#[test]
+fn a_transaction_changes_what_it_wrote(rt: HostRuntime) -> Result<(), Fail> {
+    assert_eq!(rt; updated(rt.alloc())?, (1, 1));
+    assert_eq!(rt; deleted(rt.alloc())?, (1, 0));
     Ok(())
 }
