@@ -19,7 +19,9 @@ impl Rect {
             return Ok(None);
         }
         let whole = self.keys().copy()?;
-        Ok(key_halves(whole, key.copy()?, key.copy()?, self.time()))
+        let end = key.copy()?;
+        let start = key.copy()?;
+        Ok(key_halves(whole, end, start, self.time()))
     }
 
     /// The half before an instant and the half from it on; None where the instant is not strictly inside, or above the

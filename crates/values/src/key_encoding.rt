@@ -5,6 +5,7 @@ ghost use Rattle.values.specs.Memory.{OnlyMemory};
 use crate::key::Key;
 use crate::refusal::Mem;
 use crate::value::Value;
+use smallvec::SmallVec;
 use std::alloc::{AllocError, Global};
 use std::cmp::Ordering;
 use std::marker::Model;
@@ -12,10 +13,16 @@ use std::marker::Model;
 /// The longest bytes of a key: the table, and four texts of 200 bytes that are all 0.
 const LONGEST: usize = 1609;
 
+/// How many bytes of a key are kept in the value: enough for a table and two numbers.
+const INSIDE: usize = 22;
+
+/// The bytes of a key while it is made and compared: short ones need no allocation and no second look-up.
+type Bytes = SmallVec<u8, INSIDE>;
+
 /// At most 1,609 bytes, ordered by bytes. The empty one is the least, and is no key's.
 #[derive(Debug, Drop)]
 pub struct KeyBytes {
-    bytes: Vec<u8>,
+    bytes: Bytes,
 }
 
 impl Model for KeyBytes {
@@ -34,6 +41,8 @@ impl KeyBytes {
         ensures { result ≡ (if nat_le (length bytes.items) 1609 then Some bytes.items else None) }
     {
         if bytes.len() <= LONGEST {
+            let mut bytes = Bytes::from_vec(bytes);
+            bytes.shrink_to_fit();
             Some(KeyBytes { bytes })
         } else {
             None
@@ -45,7 +54,7 @@ impl KeyBytes {
         ensures { result ≡ [] }
     {
         KeyBytes {
-            bytes: Vec::new(alloc),
+            bytes: Bytes::new(alloc),
         }
     }
 
@@ -71,7 +80,7 @@ impl Clone for KeyBytes {
 
     fn clone(&self) -> Result<KeyBytes, AllocError> {
         Ok(KeyBytes {
-            bytes: self.bytes.clone()?,
+            bytes: Bytes::from_slice(*self.bytes.allocator(), self.bytes())?,
         })
     }
 }
@@ -134,7 +143,7 @@ pub fn key_bytes(alloc: Global, key: &Key) -> Mem<KeyBytes>
     ensures ok { IfOk result (λ b. b ≡ bytes_of_key key.now) }
     ensures err { OnlyMemory result }
 {
-    let mut bytes = Vec::new(alloc);
+    let mut bytes = Bytes::new(alloc);
     bytes.push(key.table)?;
     for part in key.parts.items() {
         push_part(&mut bytes, part)?;
@@ -142,7 +151,7 @@ pub fn key_bytes(alloc: Global, key: &Key) -> Mem<KeyBytes>
     Ok(KeyBytes { bytes })
 }
 
-fn push_part(bytes: &mut Vec<u8>, part: &Value) -> Result<(), AllocError>
+fn push_part(bytes: &mut Bytes, part: &Value) -> Result<(), AllocError>
     ensures { OnOk result (bytes.new.items ≡ bytes.old.items ++ part_bytes part.now) }
 {
     match part {
@@ -164,7 +173,7 @@ fn raised(number: i64) -> u64
     }
 }
 
-fn push_text(bytes: &mut Vec<u8>, text: &[u8]) -> Result<(), AllocError>
+fn push_text(bytes: &mut Bytes, text: &[u8]) -> Result<(), AllocError>
     ensures { OnOk result (bytes.new.items ≡ bytes.old.items ++ text_bytes text.now) }
 {
     for byte in text {

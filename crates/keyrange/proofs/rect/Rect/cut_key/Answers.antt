@@ -7,7 +7,7 @@ halves_is : goal.returns-clause-halves
 halves_is c =
     let whole : c.in_ok-whole.whole ≡ c.args.self.now.keys = c.in_ok-whole.ensures.ok ∙ c.keys.ensures.keys in
     c.key_halves.ensures
-    ∙ (λ i. pair_of (rect_of (record { lo = (whole i).lo; hi = Some (c.in_ok-copy.ensures.ok i) }) (c.time.ensures.time i)) (rect_of (record { lo = c.in_ok-copy-2.ensures.ok i; hi = (whole i).hi }) (c.time.ensures.time i)))
+    ∙ (λ i. pair_of (rect_of (record { lo = (whole i).lo; hi = Some (c.in_ok-end.ensures.ok i) }) (c.time.ensures.time i)) (rect_of (record { lo = c.in_ok-start.ensures.ok i; hi = (whole i).hi }) (c.time.ensures.time i)))
     ∙ halves_made c.args.self.now c.args.key.now c.keys.ensures.area (sym c.is_key_inside.ensures ∙ c.if-not-is_key_inside.false)
 
 pub returns-clause-halves : goal.returns-clause-halves
