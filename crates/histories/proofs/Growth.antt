@@ -8,12 +8,12 @@ use Rattle.values.specs.Tables.{Schema}
 use Rattle.values.specs.Log.{Log, Net, Changes, last, changes}
 use Rattle.values.specs.Laws.{IsLog, shown_rows}
 use Rattle.values.specs.declared.query.Form.TheVariants.{AsOf}
-use Rattle.values.specs.Commits.{won, outcome, ended, after, max_instant}
+use Rattle.values.specs.Commits.{conflicts, outcome, log_after, after, max_instant}
 use Rattle.values.proofs.AsOf.{as_of_stays}
 use Rattle.values.proofs.Now.{Rises-push}
 use Rattle.histories.specs.declared.step.Step.{Step}
 use Rattle.histories.specs.declared.step.Step.TheVariants.{Begin, Insert, Update, Delete, Select, Commit, Rollback, SplitKey, SplitTime, Migrate}
-use Rattle.histories.specs.History.{History, log, opened, own, net_change_of}
+use Rattle.histories.specs.History.{History, log, log_at_begin, own, net_change_of}
 use Rattle.histories.specs.Laws.{LogsRise, LaterStepsAdd, PastStays}
 
 late : (b : Bool) (n i : ℕ) (e : Refusal) → ◌≡◌ {A = Result (Option ℕ) Refusal} (if b then Err e else Ok (Some n)) (Ok (Some i)) → i ≡ n
@@ -32,14 +32,14 @@ settled (x ∷ xs) latest reading i e = cc
 -- a commit's instant is above the last one
 pub outcome_above : (m : Changes) (latest start : ℕ) (net : Net) (reading i : ℕ) → outcome m latest start net reading ≡ Ok (Some i) → latest < i
 outcome_above m latest start [] reading i e = cc
-outcome_above m latest start (change ∷ net) reading i e = settled (won m start (change ∷ net)) latest reading i e
+outcome_above m latest start (change ∷ net) reading i e = settled (conflicts m start (change ∷ net)) latest reading i e
 
-rises_ended : (log : Log) (net : Net) (end : Result (Option ℕ) Refusal) → ((i : ℕ) → end ≡ Ok (Some i) → last log < i) → IsLog log → IsLog (ended log net end)
+rises_ended : (log : Log) (net : Net) (end : Result (Option ℕ) Refusal) → ((i : ℕ) → end ≡ Ok (Some i) → last log < i) → IsLog log → IsLog (log_after log net end)
 rises_ended log net (Ok (Some i)) above r = Rises-push log 0 (record { instant = i; net = net }) r (above i refl)
 rises_ended log net (Ok None) above r = r
 rises_ended log net (Err e) above r = r
 
-adds_ended : (log : Log) (net : Net) (end : Result (Option ℕ) Refusal) → (added : Log) × (ended log net end ≡ log ++ added)
+adds_ended : (log : Log) (net : Net) (end : Result (Option ℕ) Refusal) → (added : Log) × (log_after log net end ≡ log ++ added)
 adds_ended log net (Ok (Some i)) = (record { instant = i; net = net } ∷ [], refl)
 adds_ended log net (Ok None) = ([], sym (append-nil log))
 adds_ended log net (Err e) = ([], sym (append-nil log))
@@ -47,7 +47,7 @@ adds_ended log net (Err e) = ([], sym (append-nil log))
 pub log_rises : (schema : Schema) → LogsRise schema
 log_rises schema [] = tt
 log_rises schema (Commit i reading ∷ h) =
-    elim (opened schema h i) as (λ o. IsLog (elim o [ None ↦ log schema h | Some before ↦ after (log schema h) (last before) (net_change_of schema (log schema h) (opened schema h i) (own schema h i)) reading ])) [
+    elim (log_at_begin schema h i) as (λ o. IsLog (elim o [ None ↦ log schema h | Some before ↦ after (log schema h) (last before) (net_change_of schema (log schema h) (log_at_begin schema h i) (own schema h i)) reading ])) [
       | None ↦ log_rises schema h
       | Some before ↦ rises_ended (log schema h) _ _ (λ i e. outcome_above (changes (log schema h)) (last (log schema h)) _ _ reading i e) (log_rises schema h)
     ]
@@ -64,7 +64,7 @@ log_rises schema (Migrate ∷ h) = log_rises schema h
 -- one step adds at most one transaction
 pub step_adds : (schema : Schema) (h : History) (step : Step) → (added : Log) × (log schema (step ∷ h) ≡ log schema h ++ added)
 step_adds schema h (Commit i reading) =
-    elim (opened schema h i) as (λ o. (added : Log) × (elim o [ None ↦ log schema h | Some before ↦ after (log schema h) (last before) (net_change_of schema (log schema h) (opened schema h i) (own schema h i)) reading ] ≡ log schema h ++ added)) [
+    elim (log_at_begin schema h i) as (λ o. (added : Log) × (elim o [ None ↦ log schema h | Some before ↦ after (log schema h) (last before) (net_change_of schema (log schema h) (log_at_begin schema h i) (own schema h i)) reading ] ≡ log schema h ++ added)) [
       | None ↦ ([], sym (append-nil (log schema h)))
       | Some before ↦ adds_ended (log schema h) _ _
     ]

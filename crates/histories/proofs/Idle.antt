@@ -14,7 +14,7 @@ use Rattle.histories.specs.declared.step.Step.{Step}
 use Rattle.histories.specs.declared.step.Step.TheVariants.{Begin, Insert, Update, Delete, Select, Commit, Rollback, SplitKey, SplitTime, Migrate}
 use Rattle.histories.specs.declared.step.Reply.TheVariants.{Refused}
 use Rattle.histories.specs.Misfit.{max_session, misfit, misfit_of, bad_row, no_session}
-use Rattle.histories.specs.History.{History, log, opened, own, own_of, write, written_reply, write_reply, is_write_of, is_refused, ends, begins, net_change_of}
+use Rattle.histories.specs.History.{History, log, log_at_begin, own, own_of, write, written_reply, write_reply, is_write_of, is_refused, ends, begins, net_change_of}
 use Rattle.histories.specs.World.{World}
 use Rattle.histories.specs.Stands.{Stands, open_in, open_from}
 
@@ -49,9 +49,9 @@ begins_none i (SplitTime key instant) h = refl
 begins_none i Migrate h = refl
 
 -- none of them opens
-pub none_open : (schema : Schema) (h : History) (i : ℕ) → max_session < i → opened schema h i ≡ None
+pub none_open : (schema : Schema) (h : History) (i : ℕ) → max_session < i → log_at_begin schema h i ≡ None
 none_open schema [] i large = refl
-none_open schema (step ∷ h) i large = (λ k. if ends i step then None else if begins_none i step large k && is_none (opened schema h i) then Some (log schema h) else none_open schema h i large k) ∙ closed (ends i step)
+none_open schema (step ∷ h) i large = (λ k. if ends i step then None else if begins_none i step large k && is_none (log_at_begin schema h i) then Some (log schema h) else none_open schema h i large k) ∙ closed (ends i step)
   where
     closed : (b : Bool) → ◌≡◌ {A = Option Log} (if b then None else None) None
     closed true = refl
@@ -72,9 +72,9 @@ dropped false false xs ys = refl
 kept_session : (schema : Schema) (h : History) (step : Step) (j : ℕ) (refusal : Refusal) → misfit schema step ≡ Some refusal → ends j step ≡ false → begins j step ≡ false → log schema (step ∷ h) ≡ log schema h
     → open_in schema (step ∷ h) j ≡ open_in schema h j
 kept_session schema h step j refusal is no_end no_begin same_log =
-    (λ k. open_from schema (same_log k) (if no_end k then None else if no_begin k && is_none (opened schema h j) then Some (log schema h) else opened schema h j)
-    (if no_end k then [] else if is_write_of j step && is_some (opened schema h j) && not (refused_write schema step refusal (own_of schema (log schema h) (opened schema h j) (own schema h j)) is k) then own schema h j ++ step ∷ [] else own schema h j))
-    ∙ ap (open_from schema (log schema h) (opened schema h j)) (dropped (is_write_of j step) (is_some (opened schema h j)) (own schema h j ++ step ∷ []) (own schema h j))
+    (λ k. open_from schema (same_log k) (if no_end k then None else if no_begin k && is_none (log_at_begin schema h j) then Some (log schema h) else log_at_begin schema h j)
+    (if no_end k then [] else if is_write_of j step && is_some (log_at_begin schema h j) && not (refused_write schema step refusal (own_of schema (log schema h) (log_at_begin schema h j) (own schema h j)) is k) then own schema h j ++ step ∷ [] else own schema h j))
+    ∙ ap (open_from schema (log schema h) (log_at_begin schema h j)) (dropped (is_write_of j step) (is_some (log_at_begin schema h j)) (own schema h j ++ step ∷ []) (own schema h j))
 
 large : (b : Bool) (refusal : Refusal) (i : ℕ) → nat_lt max_session i ≡ b → ◌≡◌ {A = Option Refusal} (if b then Some NoSession else None) (Some refusal) → max_session < i
 large true refusal i at is = grind (arith, nat_tests)
@@ -95,7 +95,7 @@ misfit_stands w h (Select i form keys) refusal is stands = idle_stands w h (Sele
 misfit_stands w h (Commit i reading) refusal is stands = idle_stands w h (Commit i reading) stands same_log (λ j small. kept_session w.schema h (Commit i reading) j refusal is (other i j (large (nat_lt max_session i) refusal i refl is) small) refl same_log)
   where
     same_log : log w.schema (Commit i reading ∷ h) ≡ log w.schema h
-    same_log = ap (λ (o : Option Log). let l : Log = elim o [ None ↦ log w.schema h | Some before ↦ after (log w.schema h) (last before) (net_change_of w.schema (log w.schema h) (opened w.schema h i) (own w.schema h i)) reading ] in l) (none_open w.schema h i (large (nat_lt max_session i) refusal i refl is))
+    same_log = ap (λ (o : Option Log). let l : Log = elim o [ None ↦ log w.schema h | Some before ↦ after (log w.schema h) (last before) (net_change_of w.schema (log w.schema h) (log_at_begin w.schema h i) (own w.schema h i)) reading ] in l) (none_open w.schema h i (large (nat_lt max_session i) refusal i refl is))
 misfit_stands w h (Rollback i) refusal is stands = idle_stands w h (Rollback i) stands refl (λ j small. kept_session w.schema h (Rollback i) j refusal is (other i j (large (nat_lt max_session i) refusal i refl is) small) refl refl)
 misfit_stands w h (SplitKey key) refusal is stands = idle_stands w h (SplitKey key) stands refl (λ j small. refl)
 misfit_stands w h (SplitTime key instant) refusal is stands = idle_stands w h (SplitTime key instant) stands refl (λ j small. refl)

@@ -15,7 +15,7 @@ use Rattle.histories.specs.declared.step.Step.TheVariants.{Begin, Insert, Update
 use Rattle.histories.specs.declared.step.Listing.TheVariants.{Rows, Periods}
 use Rattle.histories.specs.declared.step.Reply.TheVariants.{Begun, RolledBack, Refused, Shown as Shows}
 use Rattle.histories.specs.Misfit.{misfit}
-use Rattle.histories.specs.History.{History, log, opened, own, own_of, mine_of, snap_of, net_change_of, is_kept, ends, begins, committed, rows_taken, rows_of, write_reply, listing, reply, reply_in, replies}
+use Rattle.histories.specs.History.{History, log, log_at_begin, own, own_of, mine_of, snap_of, net_change_of, is_kept, ends, begins, commit_reply, rows_taken, rows_of, write_reply, listing, reply, reply_in, replies}
 use Rattle.histories.specs.Maintenance.{is_maintenance, without_maintenance, with_maintenance, maintenance_reply}
 use Rattle.histories.specs.Laws.{MaintenanceChangesNoReply, MaintenanceCommitsNothing}
 
@@ -23,7 +23,7 @@ module _ (schema : Schema) where
   -- histories that committed the same, and have the same open
   record AreAlike (h g : History) : Type 0 where
     same_log : log schema h ≡ log schema g
-    same_opened : (i : ℕ) → opened schema h i ≡ opened schema g i
+    same_opened : (i : ℕ) → log_at_begin schema h i ≡ log_at_begin schema g i
     same_own : (i : ℕ) → own schema h i ≡ own schema g i
 
   log_more : (h g : History) (step : Step) → AreAlike h g → log schema (step ∷ h) ≡ log schema (step ∷ g)
@@ -110,7 +110,7 @@ module _ (schema : Schema) where
   in_alike h g (Select i form keys) alike = λ k. elim (table_at schema keys.table) [ None ↦ Refused NoTable | Some table ↦ Shows (listing_alike h g i form table keys alike k) ]
   in_alike h g (Commit i reading) alike =
       λ k. elim (alike.same_opened i k) [
-        | Some before ↦ committed (outcome (changes (alike.same_log k)) (last (alike.same_log k)) (snap_of (alike.same_log k) (alike.same_opened i k)) (net_change_of schema (alike.same_log k) (alike.same_opened i k) (alike.same_own i k)) reading)
+        | Some before ↦ commit_reply (outcome (changes (alike.same_log k)) (last (alike.same_log k)) (snap_of (alike.same_log k) (alike.same_opened i k)) (net_change_of schema (alike.same_log k) (alike.same_opened i k) (alike.same_own i k)) reading)
         | None ↦ Refused NoTransaction
       ]
   in_alike h g (Rollback i) alike = λ k. elim (alike.same_opened i k) [ Some before ↦ RolledBack | None ↦ Refused NoTransaction ]

@@ -14,7 +14,7 @@ use Rattle.histories.specs.declared.step.Step.TheVariants.{Begin}
 use Rattle.histories.specs.declared.step.Reply.{Reply}
 use Rattle.histories.specs.declared.step.Reply.TheVariants.{Begun, Refused}
 use Rattle.values.specs.declared.refusal.Refusal.TheVariants.{InTransaction}
-use Rattle.histories.specs.History.{History, log, opened, own, reply_in, ends, begins, is_write_of}
+use Rattle.histories.specs.History.{History, log, log_at_begin, own, reply_in, ends, begins, is_write_of}
 use Rattle.histories.specs.World.{OpenTransaction, World}
 use Rattle.histories.specs.Stands.{Stands, open_in, open_from, open_at}
 use Rattle.values.specs.Log.{rows_after}
@@ -31,9 +31,9 @@ no_writes_step false true w r (Some x) now xs ys h none = cc
 no_writes_step false false w r (Some x) now xs ys h none = cc
 
 -- with none open there are no writes of an open transaction
-pub no_writes : (schema : Schema) (h : History) (i : ℕ) → opened schema h i ≡ None → own schema h i ≡ []
+pub no_writes : (schema : Schema) (h : History) (i : ℕ) → log_at_begin schema h i ≡ None → own schema h i ≡ []
 no_writes schema [] i none = refl
-no_writes schema (step ∷ h) i none = no_writes_step (ends i step) (begins i step) (is_write_of i step) _ (opened schema h i) (log schema h) _ (own schema h i) (no_writes schema h i) none
+no_writes schema (step ∷ h) i none = no_writes_step (ends i step) (begins i step) (is_write_of i step) _ (log_at_begin schema h i) (log schema h) _ (own schema h i) (no_writes schema h i) none
 
 pub closed : (schema : Schema) (now : Log) (o : Option Log) (own : List Step) → open_from schema now o own ≡ None → o ≡ None
 closed schema now None own e = refl
@@ -50,8 +50,8 @@ begins_itself i small = grind (arith, nat_tests)
 pub session_begun : (schema : Schema) (h : History) (i : ℕ) → i ≤ max_session → open_in schema h i ≡ None
     → open_in schema (Begin i ∷ h) i ≡ Some (record { start = last (log schema h); rows = state (log schema h) (last (log schema h)); written = [] })
 session_begun schema h i small none =
-    let is_closed = closed schema (log schema h) (opened schema h i) (own schema h i) none in
-    let is_open = opens (begins i (Begin i)) (opened schema h i) (log schema h) (begins_itself i small) is_closed in
+    let is_closed = closed schema (log schema h) (log_at_begin schema h i) (own schema h i) none in
+    let is_open = opens (begins i (Begin i)) (log_at_begin schema h i) (log schema h) (begins_itself i small) is_closed in
     let is_empty = no_writes schema h i is_closed in
     λ k. open_from schema (log schema h) (is_open k) (is_empty k)
 
@@ -61,7 +61,7 @@ begins_other i j other = grind (arith, nat_tests)
 -- and changes nothing of another session
 pub session_other : (schema : Schema) (h : History) (i j : ℕ) → j ≢ i → open_in schema (Begin i ∷ h) j ≡ open_in schema h j
 session_other schema h i j other =
-    ap (λ b. open_from schema (log schema h) (if b && is_none (opened schema h j) then Some (log schema h) else opened schema h j) (own schema h j)) (begins_other i j other)
+    ap (λ b. open_from schema (log schema h) (if b && is_none (log_at_begin schema h j) then Some (log schema h) else log_at_begin schema h j) (own schema h j)) (begins_other i j other)
 
 pub decided : {P : Type 0} (j i : ℕ) (b : Bool) → (j == i) ≡ b → (j ≡ i → P) → (j ≢ i → P) → P
 decided j i true e same other = same (grind (arith, nat_tests))
@@ -103,7 +103,7 @@ refused_stands w h i s small is_open stands = record {
   latest_is = stands.latest_is;
   sessions_are = λ j in_range. decided j i (j == i) refl
       (λ same. subst (λ k. open_at w k ≡ open_in w.schema (Begin i ∷ h) k) (sym same)
-      (stands.sessions_are i small ∙ sym (stays w.schema _ (opened w.schema h i) (own w.schema h i) s (begins i (Begin i)) (sym (stands.sessions_are i small) ∙ is_open))))
+      (stands.sessions_are i small ∙ sym (stays w.schema _ (log_at_begin w.schema h i) (own w.schema h i) s (begins i (Begin i)) (sym (stands.sessions_are i small) ∙ is_open))))
       (λ other. stands.sessions_are j in_range ∙ sym (session_other w.schema h i j other));
 }
 
@@ -120,9 +120,9 @@ answers_at : (w : World) (h : History) (i : ℕ) (o : Option OpenTransaction) �
     → ((turn_of w i o).0 ≡ reply_in w.schema h (Begin i)) × Stands (turn_of w i o).1 (Begin i ∷ h)
 unfolding turn_of
 answers_at w h i (Some s) small stands e =
-    (open_reply w.schema (log w.schema h) (opened w.schema h i) (own w.schema h i) s (sym (stands.sessions_are i small) ∙ e), refused_stands w h i s small e stands)
+    (open_reply w.schema (log w.schema h) (log_at_begin w.schema h i) (own w.schema h i) s (sym (stands.sessions_are i small) ∙ e), refused_stands w h i s small e stands)
 answers_at w h i None small stands e =
-    let is_closed = closed w.schema (log w.schema h) (opened w.schema h i) (own w.schema h i) (sym (stands.sessions_are i small) ∙ e) in
+    let is_closed = closed w.schema (log w.schema h) (log_at_begin w.schema h i) (own w.schema h i) (sym (stands.sessions_are i small) ∙ e) in
     (ap Begun stands.latest_is ∙ sym (ap (λ o. elim o [ Some before ↦ Refused InTransaction | None ↦ Begun (last (log w.schema h)) ]) is_closed), begin_stands w h i small e stands)
 
 same_turn : (w : World) (i : ℕ) (o : Option OpenTransaction) → turn_of w i o ≡ elim o [

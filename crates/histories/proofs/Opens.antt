@@ -4,7 +4,7 @@ use Rattle.std.specs.Prelude.{◌&&◌, Bool, true, false, Option, Some, None, i
 use Rattle.std.specs.Option.{option_map}
 use Rattle.values.specs.Tables.{Schema}
 use Rattle.values.specs.Log.{Log}
-use Rattle.histories.specs.History.{History, ends, begins, before_open, log, opened}
+use Rattle.histories.specs.History.{History, ends, begins, before_open, log, log_at_begin}
 use Rattle.histories.specs.Laws.{OpensAtItsBegin}
 
 step_same : (e b : Bool) (now : Log) (h : History) (f : History → Log) (o : Option Log) (g : Option History) → f h ≡ now → o ≡ option_map f g
@@ -16,4 +16,4 @@ step_same false false now h f o g is same = same
 
 pub opens_at_its_begin : (schema : Schema) → OpensAtItsBegin schema
 opens_at_its_begin schema [] i = refl
-opens_at_its_begin schema (step ∷ h) i = step_same (ends i step) (begins i step) (log schema h) h (log schema) (opened schema h i) (before_open i h) refl (opens_at_its_begin schema h i)
+opens_at_its_begin schema (step ∷ h) i = step_same (ends i step) (begins i step) (log schema h) h (log schema) (log_at_begin schema h i) (before_open i h) refl (opens_at_its_begin schema h i)

@@ -12,7 +12,7 @@ use Rattle.values.proofs.AsOf.{as_of_shows_state, Rises-upto, upto-append}
 use Rattle.histories.specs.Misfit.{max_session}
 use Rattle.histories.specs.declared.step.Step.{Step}
 use Rattle.histories.specs.declared.step.Listing.TheVariants.{Rows}
-use Rattle.histories.specs.History.{History, log, opened, snap, snap_of, rows_taken}
+use Rattle.histories.specs.History.{History, log, log_at_begin, snap, snap_of, rows_taken}
 use Rattle.histories.specs.Laws.{PastIsReadAlike, PastIsToldAlike}
 use Rattle.histories.proofs.Growth.{log_rises, later_steps_add}
 use Rattle.histories.proofs.Prefixes.{opened_below}
@@ -21,7 +21,7 @@ use Rattle.histories.proofs.Snapshots.{select_by}
 -- ---- a snapshot is at or before the last instant
 
 snap_below : (schema : Schema) (h : History) (i : ℕ) → snap schema h i ≤ last (log schema h)
-snap_below schema h i = by (opened schema h i) (opened_below schema h i)
+snap_below schema h i = by (log_at_begin schema h i) (opened_below schema h i)
   where
     by : (o : Option Log) → ((before : Log) → o ≡ Some before → last before ≤ last (log schema h)) → snap_of (log schema h) o ≤ last (log schema h)
     by None below = omega arith

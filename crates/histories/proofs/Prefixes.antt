@@ -6,7 +6,7 @@ use Rattle.values.specs.Log.{Log, last, last_from}
 use Rattle.values.specs.Laws.{IsLog}
 use Rattle.values.proofs.AsOf.{Rises-rest}
 use Rattle.values.proofs.Now.{last_above}
-use Rattle.histories.specs.History.{History, ends, begins, log, opened}
+use Rattle.histories.specs.History.{History, ends, begins, log, log_at_begin}
 use Rattle.histories.proofs.Growth.{log_rises, step_adds}
 
 abbrev pub IsPrefix : Log → Log → Type 0
@@ -23,11 +23,11 @@ opened_step false false None now before is old = cc
 opened_step false true (Some x) now before is old = old before is
 opened_step false false (Some x) now before is old = old before is
 
-pub opened_prefix : (schema : Schema) (h : History) (i : ℕ) (before : Log) → opened schema h i ≡ Some before → IsPrefix before (log schema h)
+pub opened_prefix : (schema : Schema) (h : History) (i : ℕ) (before : Log) → log_at_begin schema h i ≡ Some before → IsPrefix before (log schema h)
 opened_prefix schema [] i before is = cc
 opened_prefix schema (step ∷ h) i before is =
     prefix_more before (log schema h) (log schema (step ∷ h))
-    (opened_step (ends i step) (begins i step) (opened schema h i) (log schema h) before is (λ x was. opened_prefix schema h i x was))
+    (opened_step (ends i step) (begins i step) (log_at_begin schema h i) (log schema h) before is (λ x was. opened_prefix schema h i x was))
     (step_adds schema h step)
 
 last_more : (before added : Log) (n : ℕ) → last_from n (before ++ added) ≡ last_from (last_from n before) added
@@ -40,5 +40,5 @@ prefix_below before now prefix rises =
     omega (arith, above, ap last prefix.1, last_more before prefix.0 0)
 
 -- it began at no later instant than the last one now
-pub opened_below : (schema : Schema) (h : History) (i : ℕ) (before : Log) → opened schema h i ≡ Some before → last before ≤ last (log schema h)
+pub opened_below : (schema : Schema) (h : History) (i : ℕ) (before : Log) → log_at_begin schema h i ≡ Some before → last before ≤ last (log schema h)
 opened_below schema h i before is = prefix_below before (log schema h) (opened_prefix schema h i before is) (log_rises schema h)

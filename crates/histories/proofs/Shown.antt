@@ -16,7 +16,7 @@ use Rattle.histories.specs.declared.step.Reply.{Reply}
 use Rattle.histories.specs.declared.step.Reply.TheVariants.{Refused, Shown}
 use Rattle.histories.specs.declared.step.Step.TheVariants.{Select}
 use Rattle.histories.specs.History as history
-use Rattle.histories.specs.History.{History, log, opened, own, snap, snap_of, rows_taken, rows_of, mine_of, reply_in}
+use Rattle.histories.specs.History.{History, log, log_at_begin, own, snap, snap_of, rows_taken, rows_of, mine_of, reply_in}
 use Rattle.histories.specs.World.{OpenTransaction, World}
 use Rattle.histories.specs.Stands.{Stands, open_in, open_at, open_from}
 use Rattle.histories.specs.Turn.{start_of, listing, select_reply}
@@ -27,9 +27,9 @@ start_is w h i (Some before) stands = refl
 
 -- the changes up to the transaction's start
 seen_changes : (w : World) (h : History) (i : ℕ) → Stands w h → changes_upto w.changes (start_of w (open_in w.schema h i)) ≡ changes (upto (log w.schema h) (snap w.schema h i))
-seen_changes w h i stands = (λ k. changes_upto (stands.changes_are k) (start_is w h i (opened w.schema h i) stands k)) ∙ sym (changes_upto_is (log w.schema h) (snap w.schema h i))
+seen_changes w h i stands = (λ k. changes_upto (stands.changes_are k) (start_is w h i (log_at_begin w.schema h i) stands k)) ∙ sym (changes_upto_is (log w.schema h) (snap w.schema h i))
 
-plain_for : (w : World) (h : History) (i : ℕ) (table : Table) (keys : Keys) (o : Option Log) → opened w.schema h i ≡ o → Stands w h
+plain_for : (w : World) (h : History) (i : ℕ) (table : Table) (keys : Keys) (o : Option Log) → log_at_begin w.schema h i ≡ o → Stands w h
     → listing w (open_from w.schema (log w.schema h) o (own w.schema h i)) Plain table keys ≡ history.listing w.schema h i Plain table keys
 plain_for w h i table keys None is stands =
     ap (λ m. Rows (rows_of (answer m table Plain keys)))
@@ -39,7 +39,7 @@ plain_for w h i table keys (Some before) is stands =
     λ k. elim (sym is k) [ Some before ↦ Rows (rows_taken table keys (mine_of w.schema (log w.schema h) (sym is k) (own w.schema h i))) | None ↦ Rows (rows_of (answer (changes (upto (log w.schema h) (snap w.schema h i))) table Plain keys)) ]
 
 listing_for : (w : World) (h : History) (i : ℕ) (form : Form) (table : Table) (keys : Keys) → Stands w h → listing w (open_in w.schema h i) form table keys ≡ history.listing w.schema h i form table keys
-listing_for w h i Plain table keys stands = plain_for w h i table keys (opened w.schema h i) refl stands
+listing_for w h i Plain table keys stands = plain_for w h i table keys (log_at_begin w.schema h i) refl stands
 listing_for w h i (AsOf t) table keys stands = as_of (open_in w.schema h i) ∙ ap (λ m. Rows (rows_of (answer m table (AsOf t) keys))) (seen_changes w h i stands)
   where
     as_of : (s : Option OpenTransaction) → listing w s (AsOf t) table keys ≡ Rows (rows_of (answer (changes_upto w.changes (start_of w s)) table (AsOf t) keys))

@@ -22,7 +22,7 @@ use Rattle.histories.specs.declared.step.Listing.TheVariants.{Rows, Periods}
 use Rattle.histories.specs.declared.step.Reply.{Reply}
 use Rattle.histories.specs.declared.step.Reply.TheVariants.{Refused, Shown as Shows}
 use Rattle.histories.specs.Misfit.{max_session, bad_row}
-use Rattle.histories.specs.History.{History, ends, begins, log, opened, own, snap_of, rewrite_all, rows_taken, rows_of, listing}
+use Rattle.histories.specs.History.{History, ends, begins, log, log_at_begin, own, snap_of, rewrite_all, rows_taken, rows_of, listing}
 use Rattle.histories.specs.Laws.{ReadsBySnapshot, SelectsBySnapshot}
 use Rattle.histories.proofs.Growth.{log_rises}
 use Rattle.histories.proofs.Prefixes.{opened_prefix}
@@ -33,7 +33,7 @@ use Rattle.histories.proofs.Prefixes.{opened_prefix}
 upto_prefix : (before added : Log) → IsLog (before ++ added) → upto (before ++ added) (last before) ≡ before
 upto_prefix before added rises = upto-append before added 0 (last before) (omega arith) rises ∙ upto_all before 0 (last before) (Rises-front before added 0 rises) (omega arith)
 
-upto_snapshot : (schema : Schema) (h : History) (i : ℕ) (before : Log) → opened schema h i ≡ Some before → upto (log schema h) (last before) ≡ before
+upto_snapshot : (schema : Schema) (h : History) (i : ℕ) (before : Log) → log_at_begin schema h i ≡ Some before → upto (log schema h) (last before) ≡ before
 upto_snapshot schema h i before is =
     let is_prefix = opened_prefix schema h i before is in
     ap (λ (l : Log). upto l (last before)) is_prefix.1 ∙ upto_prefix before is_prefix.0 (subst IsLog is_prefix.1 (log_rises schema h))
@@ -53,10 +53,10 @@ module _ (schema : Schema) where
     | None ↦ Rows (rows_of (answer (changes seen) table Plain keys))
   ]
 
-  seen_at : (h : History) (i : ℕ) (before : Log) → opened schema h i ≡ Some before → upto (log schema h) (snap_of (log schema h) (opened schema h i)) ≡ before
+  seen_at : (h : History) (i : ℕ) (before : Log) → log_at_begin schema h i ≡ Some before → upto (log schema h) (snap_of (log schema h) (log_at_begin schema h i)) ≡ before
   seen_at h i before is = ap (λ o. upto (log schema h) (snap_of (log schema h) o)) is ∙ upto_snapshot schema h i before is
 
-  reads : (h : History) (i : ℕ) (before : Log) (form : Form) (table : Table) (keys : Keys) → opened schema h i ≡ Some before → listing schema h i form table keys ≡ listing_at before (own schema h i) form table keys
+  reads : (h : History) (i : ℕ) (before : Log) (form : Form) (table : Table) (keys : Keys) → log_at_begin schema h i ≡ Some before → listing schema h i form table keys ≡ listing_at before (own schema h i) form table keys
   reads h i before Plain table keys is = λ k. plain_by (seen_at h i before is k) (is k) (own schema h i) table keys
   reads h i before (AsOf t) table keys is = ap (λ l. Rows (rows_of (answer (changes l) table (AsOf t) keys))) (seen_at h i before is)
   reads h i before (FromTo a b) table keys is = ap (λ l. Periods (answer (changes l) table (FromTo a b) keys)) (seen_at h i before is)
@@ -92,10 +92,10 @@ small_step false true o now before is begun old = begun refl
 small_step false false o now before is begun old = old before is
 
 -- a session that has a transaction open is there
-opened_small : (schema : Schema) (h : History) (i : ℕ) (before : Log) → opened schema h i ≡ Some before → nat_lt max_session i ≡ false
+opened_small : (schema : Schema) (h : History) (i : ℕ) (before : Log) → log_at_begin schema h i ≡ Some before → nat_lt max_session i ≡ false
 opened_small schema [] i before is = cc
 opened_small schema (step ∷ h) i before is =
-    small_step (ends i step) (begins i step) (opened schema h i) (log schema h) before is (begun_small i step) (λ x was. opened_small schema h i x was)
+    small_step (ends i step) (begins i step) (log_at_begin schema h i) (log schema h) before is (begun_small i step) (λ x was. opened_small schema h i x was)
 
 module _ (schema : Schema) where
   abbrev pub select_by : Keys → Bool → (Table → Listing) → Reply

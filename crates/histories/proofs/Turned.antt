@@ -8,7 +8,7 @@ use Rattle.values.specs.declared.refusal.Refusal.{Refusal}
 use Rattle.values.specs.declared.refusal.Refusal.TheVariants.{NoSession, NoTable, NoTransaction, InTransaction, Conflict, ClockEnd, Memory}
 use Rattle.values.specs.Log.{Net, Changes}
 use Rattle.values.specs.Tables.{table_at}
-use Rattle.values.specs.Commits.{won, outcome, max_instant}
+use Rattle.values.specs.Commits.{conflicts, outcome, max_instant}
 use Rattle.histories.specs.declared.step.Step.{Step}
 use Rattle.histories.specs.declared.step.Step.TheVariants.{Begin, Insert, Update, Delete, Select, Commit, Rollback, SplitKey, SplitTime, Migrate}
 use Rattle.histories.specs.declared.step.Reply.{Reply}
@@ -111,7 +111,7 @@ end_plain w i net (Err refusal) h = record { answered = h; same_schema = refl }
 
 outcome_is_other : (m : Changes) (latest start : ℕ) (net : Net) (reading : ℕ) → names_memory (outcome m latest start net reading) ≡ false
 outcome_is_other m latest start [] reading = refl
-outcome_is_other m latest start (change ∷ net) reading = by (won m start (change ∷ net)) (nat_lt max_instant (max reading (latest + 1)))
+outcome_is_other m latest start (change ∷ net) reading = by (conflicts m start (change ∷ net)) (nat_lt max_instant (max reading (latest + 1)))
   where
     by : (found : List (Key × ℕ)) (late : Bool) → names_memory (elim found [ first ∷ others ↦ Err (Conflict first.0 first.1) | [] ↦ if late then Err ClockEnd else Ok (Some (max reading (latest + 1))) ]) ≡ false
     by [] true = refl

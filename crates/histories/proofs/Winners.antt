@@ -17,11 +17,11 @@ use Rattle.values.specs.Order.{key_cmp, is_key}
 use Rattle.values.specs.Tables.{Schema}
 use Rattle.rows.specs.GoodTables.{Each}
 use Rattle.values.specs.Log.{Log, Net, Row, Changes, last, changes, add_net, add_all, point_cmp}
-use Rattle.values.specs.Commits.{changed_since, or_else, won, outcome, ended, after, max_instant}
+use Rattle.values.specs.Commits.{changed_since, or_else, conflicts, outcome, log_after, after, max_instant}
 use Rattle.values.proofs.Orders.{key_cmp_total, point_cmp-IsAntisymmetric}
 use Rattle.rows.proofs.Places.{Apart, apart_push, apart_no_two, each_to}
 use Rattle.histories.specs.declared.step.Step.TheVariants.{Begin, Insert, Update, Delete, Select, Commit, Rollback, SplitKey, SplitTime, Migrate}
-use Rattle.histories.specs.History.{History, log, opened, net}
+use Rattle.histories.specs.History.{History, log, log_at_begin, net}
 use Rattle.histories.specs.Winners.{Winner, winners, winners_with, AreConcurrent, ShareAKey}
 use Rattle.histories.specs.Laws.{FirstCommitterWins, LogIsOfWinners}
 
@@ -128,11 +128,11 @@ all_touch (w ∷ ws) m start = (
 
 -- ---- what a commit finds
 
-won_none : (m : Changes) (start : ℕ) (net : Net) → won m start net ≡ [] → All (λ k. touched m start k ≡ false) (keys_of net)
+won_none : (m : Changes) (start : ℕ) (net : Net) → conflicts m start net ≡ [] → All (λ k. touched m start k ≡ false) (keys_of net)
 won_none m start [] e = All-nil (λ k. touched m start k ≡ false)
 won_none m start (c ∷ net) e = by (changed_since m start c.0) (won_none m start net) refl e
   where
-    by : (o : Option ℕ) → (won m start net ≡ [] → All (λ k. touched m start k ≡ false) (keys_of net)) → changed_since m start c.0 ≡ o → ◌≡◌ {A = List (Key × ℕ)} (elim o [ None ↦ won m start net | Some instant ↦ (c.0, instant) ∷ won m start net ]) [] → All (λ k. touched m start k ≡ false) (keys_of (c ∷ net))
+    by : (o : Option ℕ) → (conflicts m start net ≡ [] → All (λ k. touched m start k ≡ false) (keys_of net)) → changed_since m start c.0 ≡ o → ◌≡◌ {A = List (Key × ℕ)} (elim o [ None ↦ conflicts m start net | Some instant ↦ (c.0, instant) ∷ conflicts m start net ]) [] → All (λ k. touched m start k ≡ false) (keys_of (c ∷ net))
     by None others is e = All-cons (λ k. touched m start k ≡ false) c.0 (keys_of net) (sym (touched_is m start c.0) ∙ ap is_some is) (others e)
     by (Some instant) others is e = cc
 
@@ -146,7 +146,7 @@ settled_none (x ∷ xs) latest reading i e = cc
 -- a transaction is committed where none of its keys was touched since it began
 untouched : (m : Changes) (latest start : ℕ) (net : Net) (reading i : ℕ) → outcome m latest start net reading ≡ Ok (Some i) → All (λ k. touched m start k ≡ false) (keys_of net)
 untouched m latest start [] reading i e = cc
-untouched m latest start (c ∷ net) reading i e = won_none m start (c ∷ net) (settled_none (won m start (c ∷ net)) latest reading i e)
+untouched m latest start (c ∷ net) reading i e = won_none m start (c ∷ net) (settled_none (conflicts m start (c ∷ net)) latest reading i e)
 
 -- ---- the log and the winners, step by step
 
@@ -154,14 +154,14 @@ pushed : (ws : List Winner) (w : Winner) → transactions (ws ++ w ∷ []) ≡ t
 pushed [] w = refl
 pushed (v ∷ ws) w = ap (λ l. v.transaction ∷ l) (pushed ws w)
 
-log_with : (log : Log) (ws : List Winner) (start : ℕ) (net : Net) (end : Result (Option ℕ) Refusal) → log ≡ transactions ws → ended log net end ≡ transactions (winners_with ws start net end)
+log_with : (log : Log) (ws : List Winner) (start : ℕ) (net : Net) (end : Result (Option ℕ) Refusal) → log ≡ transactions ws → log_after log net end ≡ transactions (winners_with ws start net end)
 log_with log ws start net (Ok (Some instant)) is = ap (λ (l : Log). l ++ record { instant = instant; net = net } ∷ []) is ∙ sym (pushed ws (record { start = start; transaction = record { instant = instant; net = net } }))
 log_with log ws start net (Ok None) is = is
 log_with log ws start net (Err e) is = is
 
 pub log_is_of_winners : (schema : Schema) → LogIsOfWinners schema
 log_is_of_winners schema [] = refl
-log_is_of_winners schema (Commit i reading ∷ h) = by (log_is_of_winners schema h) (opened schema h i)
+log_is_of_winners schema (Commit i reading ∷ h) = by (log_is_of_winners schema h) (log_at_begin schema h i)
   where
     by : log schema h ≡ transactions (winners schema h) → (o : Option Log) → ◌≡◌ {A = Log} (elim o [ None ↦ log schema h | Some before ↦ after (log schema h) (last before) (net schema h i) reading ]) (transactions (elim o [
       | None ↦ winners schema h
@@ -201,7 +201,7 @@ apart_with log ws latest start reading net (Err e) is ends apart = apart
 
 all_apart : (schema : Schema) (h : History) → Apart Clash (winners schema h)
 all_apart schema [] = tt
-all_apart schema (Commit i reading ∷ h) = by (all_apart schema h) (opened schema h i)
+all_apart schema (Commit i reading ∷ h) = by (all_apart schema h) (log_at_begin schema h i)
   where
     by : Apart Clash (winners schema h) → (o : Option Log) → Apart Clash (elim o [
       | None ↦ winners schema h

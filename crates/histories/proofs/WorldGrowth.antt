@@ -6,13 +6,13 @@ use Rattle.values.specs.declared.key.Transaction.{Transaction}
 use Rattle.values.specs.declared.refusal.Refusal.{Refusal}
 use Rattle.values.specs.Tables.{Schema}
 use Rattle.values.specs.Log.{Log, Net, replay, last, last_from, upto, state, changes}
-use Rattle.values.specs.Commits.{outcome, ended, after}
+use Rattle.values.specs.Commits.{outcome, log_after, after}
 use Rattle.histories.specs.declared.step.Step.{Step}
 use Rattle.histories.specs.declared.step.Step.TheVariants.{Commit}
 use Rattle.histories.proofs.Growth.{outcome_above}
 use Rattle.histories.proofs.Prefixes.{opened_below}
 use Rattle.histories.specs.Stands.{open_in, open_from}
-use Rattle.histories.specs.History.{History, log, opened, own, net_change_of, rewrite_all}
+use Rattle.histories.specs.History.{History, log, log_at_begin, own, net_change_of, rewrite_all}
 
 later_test : (a s : ℕ) → s < a → nat_le a s ≡ false
 later_test a s h = grind (arith, nat_tests)
@@ -29,7 +29,7 @@ last_from_push n (u ∷ log) t = last_from_push u.instant log t
 pub last_push : (log : Log) (t : Transaction) → last (log ++ t ∷ []) ≡ t.instant
 last_push log t = last_from_push 0 log t
 
-upto_ended : (log : Log) (net : Net) (end : Result (Option ℕ) Refusal) (s : ℕ) → s ≤ last log → ((i : ℕ) → end ≡ Ok (Some i) → last log < i) → upto (ended log net end) s ≡ upto log s
+upto_ended : (log : Log) (net : Net) (end : Result (Option ℕ) Refusal) (s : ℕ) → s ≤ last log → ((i : ℕ) → end ≡ Ok (Some i) → last log < i) → upto (log_after log net end) s ≡ upto log s
 upto_ended log net (Ok (Some i)) s below above = upto_later log _ s (let h : last log < i = above i refl in omega arith)
 upto_ended log net (Ok None) s below above = refl
 upto_ended log net (Err e) s below above = refl
@@ -48,10 +48,10 @@ state_after log start net reading s below =
 -- a commit of one session changes nothing of another
 pub session_other_commit : (schema : Schema) (h : History) (i j reading : ℕ) → (j == i) ≡ false → open_in schema (Commit i reading ∷ h) j ≡ open_in schema h j
 session_other_commit schema h i j reading other =
-    ap (λ b. open_from schema (log schema (Commit i reading ∷ h)) (if b then None else opened schema h j) (if b then [] else own schema h j)) other
-    ∙ session_kept schema (log schema h) (log schema (Commit i reading ∷ h)) (opened schema h j) (own schema h j) (λ before is. by (opened schema h i) before (opened_below schema h j before is))
+    ap (λ b. open_from schema (log schema (Commit i reading ∷ h)) (if b then None else log_at_begin schema h j) (if b then [] else own schema h j)) other
+    ∙ session_kept schema (log schema h) (log schema (Commit i reading ∷ h)) (log_at_begin schema h j) (own schema h j) (λ before is. by (log_at_begin schema h i) before (opened_below schema h j before is))
   where
     by : (o : Option Log) (before : Log) → last before ≤ last (log schema h)
-        → state (elim o [ None ↦ log schema h | Some first ↦ after (log schema h) (last first) (net_change_of schema (log schema h) (opened schema h i) (own schema h i)) reading ]) (last before) ≡ state (log schema h) (last before)
+        → state (elim o [ None ↦ log schema h | Some first ↦ after (log schema h) (last first) (net_change_of schema (log schema h) (log_at_begin schema h i) (own schema h i)) reading ]) (last before) ≡ state (log schema h) (last before)
     by None before below = refl
     by (Some first) before below = state_after (log schema h) (last first) _ reading (last before) below

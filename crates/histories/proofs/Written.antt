@@ -9,7 +9,7 @@ use Rattle.values.specs.declared.refusal.Refusal.{Refusal}
 use Rattle.values.specs.declared.refusal.Refusal.TheVariants.{NoTable, DuplicateKey, TooManyWrites}
 use Rattle.values.specs.Tables.{Schema, table_at}
 use Rattle.values.specs.Log.{State, Row}
-use Rattle.values.specs.Writes.{Own, Written, most_written, writing, insert_into, update_in, delete_from, key_of, duplicate, insert_rows, update_rows, delete_rows, met, add_keys}
+use Rattle.values.specs.Writes.{Own, Written, most_written, write_keys, insert_into, update_in, delete_from, key_of, duplicate, insert_rows, update_rows, delete_rows, matching_keys, add_keys}
 use Rattle.histories.specs.declared.step.Step.{Step}
 use Rattle.histories.specs.declared.step.Step.TheVariants.{Begin, Insert, Update, Delete, Select, Commit, Rollback, SplitKey, SplitTime, Migrate}
 use Rattle.histories.specs.History.{write}
@@ -27,7 +27,7 @@ pub record IsWritten (o : Own) (done : Written) : Type 0 where
   pub leaves : is_err done.0 ≡ true → done.1 ≡ o
   pub answered : names_memory done.0 ≡ false
 
-writing_is : (keys : List Key) (count : ℕ) (rows : State) (o : Own) → IsWritten o (writing keys count rows o)
+writing_is : (keys : List Key) (count : ℕ) (rows : State) (o : Own) → IsWritten o (write_keys keys count rows o)
 writing_is keys count rows o = by (nat_lt most_written (length (add_keys keys o.written)))
   where
     by : (full : Bool) → IsWritten o (if full then (Err TooManyWrites, o) else (Ok count, record { rows = rows; written = add_keys keys o.written }))
@@ -37,15 +37,15 @@ writing_is keys count rows o = by (nat_lt most_written (length (add_keys keys o.
 insert_is : (rows : List Row) (o : Own) (table : Table) → IsWritten o (insert_into table rows o)
 insert_is rows o table = by (duplicate table rows o.rows)
   where
-    by : (d : Option Key) → IsWritten o (elim d [ Some key ↦ (Err (DuplicateKey key), o) | None ↦ writing (map (key_of table) rows) (length rows) (insert_rows table rows o.rows) o ])
+    by : (d : Option Key) → IsWritten o (elim d [ Some key ↦ (Err (DuplicateKey key), o) | None ↦ write_keys (map (key_of table) rows) (length rows) (insert_rows table rows o.rows) o ])
     by None = writing_is (map (key_of table) rows) (length rows) (insert_rows table rows o.rows) o
     by (Some key) = record { leaves = λ e. refl; answered = refl }
 
 update_is : (keys : Keys) (sets : List Set) (o : Own) (table : Table) → IsWritten o (update_in table keys sets o)
-update_is keys sets o table = writing_is (met table keys o.rows) (length (met table keys o.rows)) (update_rows table keys sets o.rows) o
+update_is keys sets o table = writing_is (matching_keys table keys o.rows) (length (matching_keys table keys o.rows)) (update_rows table keys sets o.rows) o
 
 delete_is : (keys : Keys) (o : Own) (table : Table) → IsWritten o (delete_from table keys o)
-delete_is keys o table = writing_is (met table keys o.rows) (length (met table keys o.rows)) (delete_rows table keys o.rows) o
+delete_is keys o table = writing_is (matching_keys table keys o.rows) (length (matching_keys table keys o.rows)) (delete_rows table keys o.rows) o
 
 table_is : (t : Option Table) (does : Table → Own → Written) (o : Own) → ((table : Table) → IsWritten o (does table o)) → IsWritten o (elim t [ None ↦ (Err NoTable, o) | Some table ↦ does table o ])
 table_is None does o is = record { leaves = λ e. refl; answered = refl }

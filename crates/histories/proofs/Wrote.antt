@@ -13,7 +13,7 @@ use Rattle.histories.specs.declared.step.Step.TheVariants.{Insert, Update, Delet
 use Rattle.histories.specs.declared.step.Reply.{Reply}
 use Rattle.histories.specs.declared.step.Reply.TheVariants.{Refused}
 use Rattle.histories.specs.Misfit.{max_session, misfit}
-use Rattle.histories.specs.History.{History, log, opened, own, own_of, reply_in, seen_of, write, written_reply, write_reply, rewrite_all, is_write_of, is_refused, ends, begins}
+use Rattle.histories.specs.History.{History, log, log_at_begin, own, own_of, reply_in, seen_of, write, written_reply, write_reply, rewrite_all, is_write_of, is_refused, ends, begins}
 use Rattle.histories.specs.World.{OpenTransaction, World}
 use Rattle.histories.specs.Stands.{Stands, open_in, open_from, open_at}
 use Rattle.histories.specs.Turn.{put, Turn, own_in, with_own, write_turn}
@@ -33,7 +33,7 @@ record IsWrite (schema : Schema) (h : History) (step : Step) (i : ℕ) : Type 0 
   same_log : log schema (step ∷ h) ≡ log schema h
   fits : misfit schema step ≡ None
   counts : (count : ℕ) → is_refused (written_reply step (Ok count)) ≡ false
-  replied : reply_in schema h step ≡ elim (opened schema h i) [ None ↦ Refused NoTransaction | Some before ↦ write_reply schema step (own_of schema (log schema h) (opened schema h i) (own schema h i)) ]
+  replied : reply_in schema h step ≡ elim (log_at_begin schema h i) [ None ↦ Refused NoTransaction | Some before ↦ write_reply schema step (own_of schema (log schema h) (log_at_begin schema h i) (own schema h i)) ]
 
 reply_is : (schema : Schema) (h : History) (step : Step) (i : ℕ) (o : Own) → IsWrite schema h step i → write_reply schema step o ≡ written_reply step (write schema step o).0
 reply_is schema h step i o is = λ k. elim (is.fits k) [ Some refusal ↦ Refused refusal | None ↦ written_reply step (write schema step o).0 ]
@@ -52,14 +52,14 @@ abbrev refused_in : Schema → Step → Log → Option Log → List Step → Boo
 refused_in schema step now o own = is_refused (write_reply schema step (own_of schema now o own))
 
 session_of : (schema : Schema) (h : History) (step : Step) (i j : ℕ) → IsWrite schema h step i
-    → open_in schema (step ∷ h) j ≡ after_write schema (log schema h) (opened schema h j) (own schema h j) step (j == i) (refused_in schema step (log schema h) (opened schema h j) (own schema h j))
+    → open_in schema (step ∷ h) j ≡ after_write schema (log schema h) (log_at_begin schema h j) (own schema h j) step (j == i) (refused_in schema step (log schema h) (log_at_begin schema h j) (own schema h j))
 session_of schema h step i j is =
-    λ k. open_from schema (is.same_log k) (if is.no_end j k then None else if is.no_begin j k && is_none (opened schema h j) then Some (log schema h) else opened schema h j)
-    (if is.no_end j k then [] else if is.its_own j k && is_some (opened schema h j) && not (refused_in schema step (log schema h) (opened schema h j) (own schema h j)) then own schema h j ++ step ∷ [] else own schema h j)
+    λ k. open_from schema (is.same_log k) (if is.no_end j k then None else if is.no_begin j k && is_none (log_at_begin schema h j) then Some (log schema h) else log_at_begin schema h j)
+    (if is.no_end j k then [] else if is.its_own j k && is_some (log_at_begin schema h j) && not (refused_in schema step (log schema h) (log_at_begin schema h j) (own schema h j)) then own schema h j ++ step ∷ [] else own schema h j)
 
 write_other : (schema : Schema) (h : History) (step : Step) (i j : ℕ) → IsWrite schema h step i → j ≢ i → open_in schema (step ∷ h) j ≡ open_in schema h j
 write_other schema h step i j is other =
-    session_of schema h step i j is ∙ ap (λ b. after_write schema (log schema h) (opened schema h j) (own schema h j) step b (refused_in schema step (log schema h) (opened schema h j) (own schema h j))) (not_other i j other)
+    session_of schema h step i j is ∙ ap (λ b. after_write schema (log schema h) (log_at_begin schema h j) (own schema h j) step b (refused_in schema step (log schema h) (log_at_begin schema h j) (own schema h j))) (not_other i j other)
 
 -- the transaction once it wrote
 abbrev next : Schema → Step → OpenTransaction → OpenTransaction
@@ -91,13 +91,13 @@ same_reply : (o : Option Log) (r : Reply) → reply_when o r ≡ elim o [ None �
 same_reply None r = refl
 same_reply (Some before) r = refl
 
-reply_of : (schema : Schema) (h : History) (step : Step) (i : ℕ) (o : Option Log) → opened schema h i ≡ o → IsWrite schema h step i → own_reply schema step (log schema h) (own schema h i) o ≡ reply_in schema h step
+reply_of : (schema : Schema) (h : History) (step : Step) (i : ℕ) (o : Option Log) → log_at_begin schema h i ≡ o → IsWrite schema h step i → own_reply schema step (log schema h) (own schema h i) o ≡ reply_in schema h step
 reply_of schema h step i o at is =
     ap (own_reply schema step (log schema h) (own schema h i)) (sym at)
-    ∙ same_reply (opened schema h i) (write_reply schema step (own_of schema (log schema h) (opened schema h i) (own schema h i)))
+    ∙ same_reply (log_at_begin schema h i) (write_reply schema step (own_of schema (log schema h) (log_at_begin schema h i) (own schema h i)))
     ∙ sym is.replied
 
-write_for : (w : World) (h : History) (step : Step) (i : ℕ) (o : Option Log) → IsWrite w.schema h step i → opened w.schema h i ≡ o → i ≤ max_session → Stands w h
+write_for : (w : World) (h : History) (step : Step) (i : ℕ) (o : Option Log) → IsWrite w.schema h step i → log_at_begin w.schema h i ≡ o → i ≤ max_session → Stands w h
     → ((turn_of w i step (open_from w.schema (log w.schema h) o (own w.schema h i))).0 ≡ reply_in w.schema h step) × Stands (turn_of w i step (open_from w.schema (log w.schema h) o (own w.schema h i))).1 (step ∷ h)
 write_for w h step i None is at small stands = (
   reply_of w.schema h step i None at is,
@@ -132,7 +132,7 @@ write_answers : (w : World) (h : History) (step : Step) (i : ℕ) → IsWrite w.
 write_answers w h step i is small stands =
     subst (λ (t : Turn). (t.0 ≡ reply_in w.schema h step) × Stands t.1 (step ∷ h))
     (ap (turn_of w i step) (sym (stands.sessions_are i small)) ∙ same_turn w i step (open_at w i))
-    (write_for w h step i (opened w.schema h i) is refl small stands)
+    (write_for w h step i (log_at_begin w.schema h i) is refl small stands)
 
 pub insert_answers : (w : World) (h : History) (i number : ℕ) (rows : List Row) → misfit w.schema (Insert i number rows) ≡ None → i ≤ max_session → Stands w h
     → ((write_turn w i (Insert i number rows)).0 ≡ reply_in w.schema h (Insert i number rows)) × Stands (write_turn w i (Insert i number rows)).1 (Insert i number rows ∷ h)

@@ -102,7 +102,7 @@ snap_of now None = last now
 snap_of now (Some before) = last before
 
 abbrev pub seen_of : Log → Option Log → State
-seen_of now opened = state now (snap_of now opened)
+seen_of now log_at_begin = state now (snap_of now log_at_begin)
 
 abbrev pub rows_taken : Table → Keys → State → List Row
 rows_taken table keys m = map (λ e. e.1) (filter (λ e. matches table keys e.0) m)
@@ -110,70 +110,70 @@ rows_taken table keys m = map (λ e. e.1) (filter (λ e. matches table keys e.0)
 abbrev pub rows_of : List Shown → List Row
 rows_of shown = map (λ s. s.row) shown
 
-abbrev pub committed : Result (Option ℕ) Refusal → Reply
-committed (Ok instant) = Committed instant
-committed (Err refusal) = Refused refusal
+abbrev pub commit_reply : Result (Option ℕ) Refusal → Reply
+commit_reply (Ok instant) = Committed instant
+commit_reply (Err refusal) = Refused refusal
 
 module _ (schema : Schema) where
   abbrev pub own_of : Log → Option Log → List Step → Own
-  own_of now opened own =
-      rewrite_all schema own (record { rows = seen_of now opened; written = [] })
+  own_of now log_at_begin own =
+      rewrite_all schema own (record { rows = seen_of now log_at_begin; written = [] })
 
   abbrev pub mine_of : Log → Option Log → List Step → State
-  mine_of now opened own = (own_of now opened own).rows
+  mine_of now log_at_begin own = (own_of now log_at_begin own).rows
 
   -- in order
   abbrev pub written_of : Log → Option Log → List Step → List Key
-  written_of now opened own = (own_of now opened own).written
+  written_of now log_at_begin own = (own_of now log_at_begin own).written
 
   abbrev pub net_change_of : Log → Option Log → List Step → Net
-  net_change_of now opened own =
-      net_of (seen_of now opened) (mine_of now opened own) (written_of now opened own)
+  net_change_of now log_at_begin own =
+      net_of (seen_of now log_at_begin) (mine_of now log_at_begin own) (written_of now log_at_begin own)
 
   -- a write that is the session's and is not refused, with one open
   abbrev pub is_kept : Step → ℕ → Log → Option Log → List Step → Bool
-  is_kept step i now opened own =
-      is_write_of i step && is_some opened
-      && not (is_refused (write_reply schema step (own_of now opened own)))
+  is_kept step i now log_at_begin own =
+      is_write_of i step && is_some log_at_begin
+      && not (is_refused (write_reply schema step (own_of now log_at_begin own)))
 
   abbrev mutual
     -- what was committed
     pub log : History → Log
     log [] = []
-    log (Commit i reading ∷ h) = elim (opened h i) [
+    log (Commit i reading ∷ h) = elim (log_at_begin h i) [
       | None ↦ log h
       | Some before ↦
-          after (log h) (last before) (net_change_of (log h) (opened h i) (own h i)) reading
+          after (log h) (last before) (net_change_of (log h) (log_at_begin h i) (own h i)) reading
     ]
     log (step ∷ h) = log h
 
     -- the log at the BEGIN of the session's open transaction
-    pub opened : History → ℕ → Option Log
-    opened [] i = None
-    opened (step ∷ h) i =
+    pub log_at_begin : History → ℕ → Option Log
+    log_at_begin [] i = None
+    log_at_begin (step ∷ h) i =
         if ends i step then None
-        else if begins i step && is_none (opened h i) then Some (log h)
-        else opened h i
+        else if begins i step && is_none (log_at_begin h i) then Some (log h)
+        else log_at_begin h i
 
     -- the session's writes since then that were not refused, the oldest first
     pub own : History → ℕ → List Step
     own [] i = []
     own (step ∷ h) i =
         if ends i step then []
-        else if is_kept step i (log h) (opened h i) (own h i) then own h i ++ step ∷ []
+        else if is_kept step i (log h) (log_at_begin h i) (own h i) then own h i ++ step ∷ []
         else own h i
 
   abbrev pub snap : History → ℕ → ℕ
-  snap h i = snap_of (log h) (opened h i)
+  snap h i = snap_of (log h) (log_at_begin h i)
 
   abbrev pub mine : History → ℕ → State
-  mine h i = mine_of (log h) (opened h i) (own h i)
+  mine h i = mine_of (log h) (log_at_begin h i) (own h i)
 
-  abbrev pub written : History → ℕ → List Key
-  written h i = written_of (log h) (opened h i) (own h i)
+  abbrev pub written_keys : History → ℕ → List Key
+  written_keys h i = written_of (log h) (log_at_begin h i) (own h i)
 
   abbrev pub net : History → ℕ → Net
-  net h i = net_change_of (log h) (opened h i) (own h i)
+  net h i = net_change_of (log h) (log_at_begin h i) (own h i)
 
   -- what a query of a table shows of what was committed when the session's transaction began
   abbrev pub answer_in : History → ℕ → Form → Table → Keys → List Shown
@@ -181,7 +181,7 @@ module _ (schema : Schema) where
 
   -- what a query of a table shows
   abbrev pub listing : History → ℕ → Form → Table → Keys → Listing
-  listing h i Plain table keys = elim (opened h i) [
+  listing h i Plain table keys = elim (log_at_begin h i) [
     | Some before ↦ Rows (rows_taken table keys (mine h i))
     | None ↦ Rows (rows_of (answer_in h i Plain table keys))
   ]
@@ -191,7 +191,7 @@ module _ (schema : Schema) where
 
   -- the reply to a step that fits the schema
   abbrev pub reply_in : History → Step → Reply
-  reply_in h (Begin i) = elim (opened h i) [
+  reply_in h (Begin i) = elim (log_at_begin h i) [
     | Some before ↦ Refused InTransaction
     | None ↦ Begun (last (log h))
   ]
@@ -199,12 +199,12 @@ module _ (schema : Schema) where
     | None ↦ Refused NoTable
     | Some table ↦ Shows (listing h i form table keys)
   ]
-  reply_in h (Commit i reading) = elim (opened h i) [
+  reply_in h (Commit i reading) = elim (log_at_begin h i) [
     | Some before ↦
-        committed (outcome (changes (log h)) (last (log h)) (snap h i) (net h i) reading)
+        commit_reply (outcome (changes (log h)) (last (log h)) (snap h i) (net h i) reading)
     | None ↦ Refused NoTransaction
   ]
-  reply_in h (Rollback i) = elim (opened h i) [
+  reply_in h (Rollback i) = elim (log_at_begin h i) [
     | Some before ↦ RolledBack
     | None ↦ Refused NoTransaction
   ]
@@ -213,9 +213,9 @@ module _ (schema : Schema) where
   reply_in h Migrate = Done
   reply_in h step = elim (writer step) [
     | None ↦ Done
-    | Some i ↦ elim (opened h i) [
+    | Some i ↦ elim (log_at_begin h i) [
       | None ↦ Refused NoTransaction
-      | Some before ↦ write_reply schema step (own_of (log h) (opened h i) (own h i))
+      | Some before ↦ write_reply schema step (own_of (log h) (log_at_begin h i) (own h i))
     ]
   ]
 

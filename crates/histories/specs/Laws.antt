@@ -15,13 +15,13 @@ use Rattle.histories.specs.declared.step.Reply.{Reply}
 use Rattle.histories.specs.Due.{AllAnswered, due}
 use Rattle.histories.specs.Maintenance.{without_maintenance, with_maintenance}
 use Rattle.histories.specs.Misfit.{max_session}
-use Rattle.histories.specs.History.{History, before_open, log, opened, own, snap, listing, reply, replies}
+use Rattle.histories.specs.History.{History, before_open, log, log_at_begin, own, snap, listing, reply, replies}
 use Rattle.histories.specs.Winners.{winners, AreConcurrent, ShareAKey}
 
 -- a session's open transaction began at the log of the steps before its BEGIN
 abbrev pub OpensAtItsBegin : Schema → Type 0
 OpensAtItsBegin schema =
-    (h : History) (i : ℕ) → opened schema h i ≡ option_map (log schema) (before_open i h)
+    (h : History) (i : ℕ) → log_at_begin schema h i ≡ option_map (log schema) (before_open i h)
 
 -- the instants of a log strictly rise
 abbrev pub LogsRise : Schema → Type 0
@@ -71,8 +71,8 @@ LogIsOfWinners schema =
 -- one session's after others
 pub record SeeTheSame (schema : Schema) (h : History) (i : ℕ) (g : History) (j : ℕ) : Type 0 where
   pub snapshot : Log
-  pub first_opened : opened schema h i ≡ Some snapshot
-  pub second_opened : opened schema g j ≡ Some snapshot
+  pub first_opened : log_at_begin schema h i ≡ Some snapshot
+  pub second_opened : log_at_begin schema g j ≡ Some snapshot
   pub own_same : own schema h i ≡ own schema g j
 
 -- every query shows both the same, whatever was committed since

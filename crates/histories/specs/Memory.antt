@@ -8,7 +8,7 @@ use Rattle.histories.specs.declared.step.Step.TheVariants.{Begin, Insert, Update
 use Rattle.histories.specs.declared.step.Reply.{Reply}
 use Rattle.histories.specs.declared.step.Reply.TheVariants.{Refused}
 use Rattle.histories.specs.Misfit.{misfit}
-use Rattle.histories.specs.History.{History, opened}
+use Rattle.histories.specs.History.{History, log_at_begin}
 use Rattle.histories.specs.World.{World}
 use Rattle.histories.specs.Stands.{open_at}
 
@@ -42,4 +42,4 @@ takes_no_memory w step =
 -- the same, by the history
 abbrev pub takes_no_memory_after : Schema → History → Step → Bool
 takes_no_memory_after schema h step =
-    is_some (misfit schema step) || takes_no_memory_by (λ i. is_some (opened schema h i)) step
+    is_some (misfit schema step) || takes_no_memory_by (λ i. is_some (log_at_begin schema h i)) step

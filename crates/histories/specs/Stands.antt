@@ -4,7 +4,7 @@ use Rattle.values.specs.Tables.{Schema}
 use Rattle.values.specs.Log.{Log, last, changes}
 use Rattle.histories.specs.declared.step.Step.{Step}
 use Rattle.histories.specs.Misfit.{max_session}
-use Rattle.histories.specs.History.{History, log, opened, own, mine_of, written_of}
+use Rattle.histories.specs.History.{History, log, log_at_begin, own, mine_of, written_of}
 use Rattle.histories.specs.World.{OpenTransaction, World}
 
 -- by the log now, the log at its BEGIN, where one is open, and its writes so far
@@ -18,7 +18,7 @@ open_from schema now (Some before) own = Some (record {
 
 -- the session's open transaction, as the history has it
 abbrev pub open_in : Schema → History → ℕ → Option OpenTransaction
-open_in schema h i = open_from schema (log schema h) (opened schema h i) (own schema h i)
+open_in schema h i = open_from schema (log schema h) (log_at_begin schema h i) (own schema h i)
 
 -- the session's open transaction, as the system has it
 abbrev pub open_at : World → ℕ → Option OpenTransaction

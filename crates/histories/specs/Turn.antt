@@ -117,8 +117,8 @@ net_in m s =
     filter (λ c. is_some c.1 || was_there m s.start c.0) (map (λ k. (k, row_at s.rows k)) s.written)
 
 -- with what a transaction committed at an instant
-abbrev pub applied : ℕ → Net → World → World
-applied instant net w = record {
+abbrev pub after_commit : ℕ → Net → World → World
+after_commit instant net w = record {
   schema = w.schema;
   changes = add_net instant w.changes net;
   latest = instant;
@@ -127,7 +127,7 @@ applied instant net w = record {
 
 abbrev pub end_turn : World → ℕ → Net → Result (Option ℕ) Refusal → Turn
 end_turn w i net (Ok (Some instant)) =
-    (Committed (Some instant), put (applied instant net w) i None)
+    (Committed (Some instant), put (after_commit instant net w) i None)
 end_turn w i net (Ok None) = (Committed None, put w i None)
 end_turn w i net (Err refusal) = (Refused refusal, put w i None)
 

@@ -8,7 +8,7 @@ use Rattle.values.specs.Tables.{Schema}
 use Rattle.values.specs.Log.{Log, Net, last, changes}
 use Rattle.values.specs.Commits.{outcome}
 use Rattle.histories.specs.declared.step.Step.TheVariants.{Commit}
-use Rattle.histories.specs.History.{History, log, opened, net}
+use Rattle.histories.specs.History.{History, log, log_at_begin, net}
 
 -- a committed transaction, and the instant of its snapshot
 pub record Winner : Type 0 where
@@ -32,7 +32,7 @@ end_of schema h i before reading =
 -- the oldest first
 abbrev pub winners : Schema → History → List Winner
 winners schema [] = []
-winners schema (Commit i reading ∷ h) = elim (opened schema h i) [
+winners schema (Commit i reading ∷ h) = elim (log_at_begin schema h i) [
   | None ↦ winners schema h
   | Some before ↦
       winners_with (winners schema h) (last before) (net schema h i)

@@ -25,12 +25,12 @@ use Rattle.values.proofs.Sorted.{sorted_from}
 use Rattle.values.proofs.Upto.{late_put}
 use Rattle.eventlist.proofs.PutPlaced.{all_put}
 use Rattle.staging.specs.View.{Committed, events, last, Holds, Adds}
-use Rattle.staging.specs.Own.{seen, net_over}
+use Rattle.staging.specs.Own.{rows_seen, net_over}
 use Rattle.transaction.specs.TransactionState.{TransactionState}
 use Rattle.histories.specs.declared.step.Reply.{Reply}
 use Rattle.histories.specs.declared.step.Reply.TheVariants.{Committed as Commits, Refused}
 use Rattle.histories.specs.World.{OpenTransaction, World}
-use Rattle.histories.specs.Turn.{Turn, put, last_until, was_there, net_in, applied, end_turn, commit_turn}
+use Rattle.histories.specs.Turn.{Turn, put, last_until, was_there, net_in, after_commit, end_turn, commit_turn}
 use Rattle.histories.specs.Memory.{is_out_of_memory}
 use Rattle.histories.proofs.Nows.{row_after, flat, value, last_value, there}
 use Rattle.interleaving.specs.SystemState.{changes_in, open_of, world_of, IsOpen, IsSystem}
@@ -72,8 +72,8 @@ there_is m t q =
 -- what is committed is what the turn commits
 pub net_is : (schema : Schema) (m : Changes) (b : TransactionState) → changes_in schema (events b.view) ≡ changes_upto m (last b.view) → net_over (changes_in schema (events b.view)) b.writes ≡ net_in m (open_of schema b)
 net_is schema m b part =
-    (λ i. filter (λ c. is_some c.1 || is_some (row_at (rows_after [] (part i)) c.0)) (map (λ k. (k, row_at (seen (changes_in schema (events b.view)) b.writes) k)) (keys_of b.writes)))
-    ∙ (λ i. filter (λ c. is_some c.1 || there_is m (last b.view) c.0 i) (map (λ k. (k, row_at (seen (changes_in schema (events b.view)) b.writes) k)) (keys_of b.writes)))
+    (λ i. filter (λ c. is_some c.1 || is_some (row_at (rows_after [] (part i)) c.0)) (map (λ k. (k, row_at (rows_seen (changes_in schema (events b.view)) b.writes) k)) (keys_of b.writes)))
+    ∙ (λ i. filter (λ c. is_some c.1 || there_is m (last b.view) c.0 i) (map (λ k. (k, row_at (rows_seen (changes_in schema (events b.view)) b.writes) k)) (keys_of b.writes)))
 
 -- ---- what a commit adds
 
@@ -166,7 +166,7 @@ module _ (schema : Schema) (engine new : Committed) (sessions : List (Option Tra
   left_none is = ap (λ e. world_of schema e closed) is ∙ put_is schema engine sessions i None
 
   left_added : (instant : ℕ) → Adds instant net engine new → Holds schema new (add_net instant (changes_in schema (events engine)) net)
-      → world_of schema new closed ≡ put (applied instant net (world_of schema engine sessions)) i None
+      → world_of schema new closed ≡ put (after_commit instant net (world_of schema engine sessions)) i None
   left_added instant adds holds =
       λ j. record { schema = schema; changes = added_changes schema engine new held net instant adds holds j; latest = adds.last_is j; sessions = map-set (option_map (open_of schema)) sessions i None j }
 

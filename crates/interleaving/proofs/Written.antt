@@ -15,7 +15,7 @@ use Rattle.values.specs.Fit.{rows_fault, comparisons_fault, sets_fault, first_of
 use Rattle.values.specs.Writes.{Own, Written, insert_into, update_in, delete_from}
 use Rattle.values.specs.Events.{AreKeysIn}
 use Rattle.staging.specs.View.{Committed, events}
-use Rattle.staging.specs.Own.{own, Reads, WhenRead, fitting, checked_insert, checked_update, checked_delete, update_fault}
+use Rattle.staging.specs.Own.{own, Reads, WhenRead, write_if_fits, checked_insert, checked_update, checked_delete, update_fault}
 use Rattle.transaction.specs.TransactionState.{TransactionState}
 use Rattle.histories.specs.declared.step.Reply.{Reply}
 use Rattle.histories.specs.declared.step.Reply.TheVariants.{Refused}
@@ -36,13 +36,13 @@ same_table : (table : Table) (keys : Keys) → table.number ≡ keys.table → (
 same_table table keys h = grind (arith, nat_tests)
 
 insert_fits : (table : Table) (rows : List Row) (o : Own) → rows_fault table rows ≡ None → checked_insert table rows o ≡ insert_into table rows o
-insert_fits table rows o fits = ap (λ f. fitting f (insert_into table rows o) o) fits
+insert_fits table rows o fits = ap (λ f. write_if_fits f (insert_into table rows o) o) fits
 
 update_fits : (table : Table) (keys : Keys) (sets : List Set) (o : Own) → table.number ≡ keys.table → update_fault table keys sets ≡ None → checked_update table keys sets o ≡ update_in table keys sets o
-update_fits table keys sets o number fits = λ i. if same_table table keys number i then fitting (fits i) (update_in table keys sets o) o else (Err NoTable, o)
+update_fits table keys sets o number fits = λ i. if same_table table keys number i then write_if_fits (fits i) (update_in table keys sets o) o else (Err NoTable, o)
 
 delete_fits : (table : Table) (keys : Keys) (o : Own) → table.number ≡ keys.table → comparisons_fault table keys.comparisons ≡ None → checked_delete table keys o ≡ delete_from table keys o
-delete_fits table keys o number fits = λ i. if same_table table keys number i then fitting (fits i) (delete_from table keys o) o else (Err NoTable, o)
+delete_fits table keys o number fits = λ i. if same_table table keys number i then write_if_fits (fits i) (delete_from table keys o) o else (Err NoTable, o)
 
 -- ---- a step that fits the schema
 

@@ -12,7 +12,7 @@ use Rattle.values.specs.Laws.{changes_upto}
 use Rattle.values.specs.KeyReading.{key_from}
 use Rattle.values.specs.Events.{AreKeysIn}
 use Rattle.staging.specs.View.{Committed, events, last, Holds}
-use Rattle.staging.specs.Own.{seen}
+use Rattle.staging.specs.Own.{rows_seen}
 use Rattle.transaction.specs.TransactionState.{TransactionState}
 use Rattle.histories.specs.Misfit.{max_session}
 use Rattle.histories.specs.History.{History}
@@ -42,7 +42,7 @@ pub record SystemState : Type 0 where
 abbrev pub open_of : Schema → TransactionState → OpenTransaction
 open_of schema t = record {
   start = last t.view;
-  rows = seen (changes_in schema (events t.view)) t.writes;
+  rows = rows_seen (changes_in schema (events t.view)) t.writes;
   written = keys_of t.writes;
 }
 

@@ -9,7 +9,7 @@ use Rattle.tokens.specs.Token.{After, front_while}
 use Rattle.tokens.specs.Token.{symbol_at as symbol_after}
 use Rattle.tokens.specs.Word.{is_name_byte, word_length}
 use Rattle.tokens.specs.Word.{is_word_at as is_word_after}
-use Rattle.tokens.specs.Name.{is_name, reserved, is_reserved}
+use Rattle.tokens.specs.Name.{is_name, reserved_words, is_reserved}
 use Rattle.tokens.specs.Run.{AllBytes}
 use Rattle.tokens.proofs.Words.{Refused, some_written, none_same, not_same, same_length}
 use Rattle.rows.specs.SchemaToken.{symbol_at, is_word_at}
@@ -41,7 +41,7 @@ not_reserved (b ∷ bs) e =
     flipped false e = refl
 
 -- where a name stands, a word of the grammars does not
-pub word_no_name : (front rest : List (List ℕ)) (word : List ℕ) → reserved ≡ front ++ word ∷ rest → (name bytes after : List ℕ) → Name name bytes after → is_word_at word bytes ≡ false
+pub word_no_name : (front rest : List (List ℕ)) (word : List ℕ) → reserved_words ≡ front ++ word ∷ rest → (name bytes after : List ℕ) → Name name bytes after → is_word_at word bytes ≡ false
 unfolding is_reserved is_word_after
 word_no_name front rest word place name bytes after n = by_test (is_word_at word bytes) refl
   where
@@ -56,12 +56,12 @@ word_no_name front rest word place name bytes after n = by_test (is_word_at word
     by_test true e = sym (is_it e) ∙ not_reserved name n.fits
 
 pub period_no_name : (name bytes after : List ℕ) → Name name bytes after → is_word_at (codes "PERIOD") bytes ≡ false
-unfolding reserved
-period_no_name = word_no_name (take 16 reserved) (drop 17 reserved) (codes "PERIOD") refl
+unfolding reserved_words
+period_no_name = word_no_name (take 16 reserved_words) (drop 17 reserved_words) (codes "PERIOD") refl
 
 pub primary_no_name : (name bytes after : List ℕ) → Name name bytes after → is_word_at (codes "PRIMARY") bytes ≡ false
-unfolding reserved
-primary_no_name = word_no_name (take 7 reserved) (drop 8 reserved) (codes "PRIMARY") refl
+unfolding reserved_words
+primary_no_name = word_no_name (take 7 reserved_words) (drop 8 reserved_words) (codes "PRIMARY") refl
 
 -- no word stands at a symbol, no symbol at a word, and no symbol at another
 pub no_word_at_symbol : (w : ℕ) (ws : List ℕ) (symbol : ℕ) → is_name_byte symbol ≡ false → (x : Unit {0}) (bytes rest : List ℕ) → Symbol symbol x bytes rest → is_word_at (w ∷ ws) bytes ≡ false

@@ -12,7 +12,7 @@ use Rattle.rows.specs.declared.declaration.Declaration.{Declaration}
 use Rattle.tokens.specs.Token as tokens
 use Rattle.tokens.specs.Token.{After, Read}
 use Rattle.rows.specs.SchemaToken.{next, symbol_at, is_word_at, after_word, word_at, name_at, digits_at}
-use Rattle.rows.specs.Declaration.{joined, listed, names_at, size_at, is_whole_number_at, varchar_at, type_at, not_null_at, primary_key_at, mark_at, is_mark_at, marks_upto, marks_at, user_at, precision_at, maybe_not_null_at, side_at, row_side_at, generated_at, two_names_at, period_at, key_at, column_at, entry_at, entries_at, body_at, versioning_at, create_at, is_nothing, is_end_at, more_at, creates_upto, creates_at}
+use Rattle.rows.specs.Declaration.{prepend, list_at, names_at, size_at, is_whole_number_at, varchar_at, type_at, not_null_at, primary_key_at, mark_at, is_mark_at, marks_upto, marks_at, user_at, precision_at, maybe_not_null_at, side_at, row_side_at, generated_at, two_names_at, period_at, key_at, column_at, entry_at, entries_at, body_at, versioning_at, create_at, is_nothing, is_end_at, more_at, creates_upto, creates_at}
 use Rattle.rows.specs.SchemaGrammar.{Says, Symbol, Word, Name, Listed, Many, Size, TypeName, NotNullWords, PrimaryKeyWords, MarkWords, UserEntry, Precision, MaybeNotNull, RowSide, GeneratedAsRow, GeneratedEntry, TwoNames, PeriodEntry, KeyEntry, ColumnEntry, EntryText, Body, Versioning, CreateText, IsEnd, SchemaText}
 use Rattle.rows.specs.declared.schema_reading.SchemaFault.TheVariants.{Syntax}
 use Rattle.rows.specs.SchemaTable.{tables_from, read_schema}
@@ -117,7 +117,7 @@ mark_says m bytes rest e = elim (either (is_word_at (codes "NOT") bytes) _ _ _ e
 ]
 
 -- more of a list
-more_of : {A : Type 0} (x : A) (r : Read (List A)) (xs : List A) (rest : List ℕ) → joined (x ∷ []) r ≡ Ok (xs, rest) → (ys : List A) × ((r ≡ Ok (ys, rest)) × (x ∷ ys ≡ xs))
+more_of : {A : Type 0} (x : A) (r : Read (List A)) (xs : List A) (rest : List ℕ) → prepend (x ∷ []) r ≡ Ok (xs, rest) → (ys : List A) × ((r ≡ Ok (ys, rest)) × (x ∷ ys ≡ xs))
 more_of x (Ok (ys, left)) xs rest e =
     let parts = same_read (x ∷ ys) xs left rest e in
     (ys, (ap (λ l. Ok (ys, l)) parts.1, parts.0))
@@ -320,7 +320,7 @@ period_says x bytes rest e =
     )
 
 listed_says : {A : Type 0} (item : List ℕ → Read A) (R : Says A) → ((x : A) (bytes rest : List ℕ) → item bytes ≡ Ok (x, rest) → R x bytes rest)
-    → (n : ℕ) (xs : List A) (bytes rest : List ℕ) → listed item n bytes ≡ Ok (xs, rest) → Listed R xs bytes rest
+    → (n : ℕ) (xs : List A) (bytes rest : List ℕ) → list_at item n bytes ≡ Ok (xs, rest) → Listed R xs bytes rest
 listed_says item R says zero xs bytes rest e = cc
 listed_says {A = A} item R says (suc n) xs bytes rest e =
     let a = step (item bytes) _ xs rest e in
@@ -331,13 +331,13 @@ listed_says {A = A} item R says (suc n) xs bytes rest e =
     two x after more (y ∷ ys) one comma others = (after, (more, (one, (comma, others))))
 
     found : (x : A) (after : List ℕ) → item bytes ≡ Ok (x, after) → (o : After) → symbol_at 44 after ≡ o
-        → ◌≡◌ {A = Read (List A)} (elim o [ Err _ ↦ Ok (x ∷ [], after) | Ok more ↦ joined (x ∷ []) (listed item n more) ]) (Ok (xs, rest))
-        → ((ys : List A) (more left : List ℕ) → listed item n more ≡ Ok (ys, left) → Listed R ys more left) → Listed R xs bytes rest
+        → ◌≡◌ {A = Read (List A)} (elim o [ Err _ ↦ Ok (x ∷ [], after) | Ok more ↦ prepend (x ∷ []) (list_at item n more) ]) (Ok (xs, rest))
+        → ((ys : List A) (more left : List ℕ) → list_at item n more ≡ Ok (ys, left) → Listed R ys more left) → Listed R xs bytes rest
     found x after first (Err at) comma e others =
         let parts = same_read (x ∷ []) xs after rest e in
         subst (λ l. Listed R l bytes rest) parts.0 (subst (λ r. R x bytes r) parts.1 (says x bytes after first))
     found x after first (Ok more) comma e others =
-        let b = more_of x (listed item n more) xs rest e in
+        let b = more_of x (list_at item n more) xs rest e in
         subst (λ l. Listed R l bytes rest) b.1.1 (two x after more b.0 (says x bytes after first) (symbol_says 44 tt after more comma) (others b.0 more rest b.1.0))
 
 names_say : (xs : List (List ℕ)) (bytes rest : List ℕ) → names_at bytes ≡ Ok (xs, rest) → Listed Name xs bytes rest
@@ -535,7 +535,7 @@ schema_says (suc n) ds bytes rest e =
     one d after create (f ∷ es) left s others = (after, (left, (create, (s, others))))
 
     found : (d : Declaration) (after : List ℕ) → CreateText d bytes after → (more : Bool) (left : List ℕ) → MoreSays more after left
-        → ((more ≡ true) × (joined (d ∷ []) (creates_upto n left) ≡ Ok (ds, rest))) ⊎ ((more ≡ false) × (◌≡◌ {A = Read (List Declaration)} (Ok (d ∷ [], left)) (Ok (ds, rest))))
+        → ((more ≡ true) × (prepend (d ∷ []) (creates_upto n left) ≡ Ok (ds, rest))) ⊎ ((more ≡ false) × (◌≡◌ {A = Read (List Declaration)} (Ok (d ∷ [], left)) (Ok (ds, rest))))
         → ((es : List Declaration) (left : List ℕ) → creates_upto n left ≡ Ok (es, rest) → SchemaText es left) → SchemaText ds bytes
     found d after create more left (inl end) (inl w) others = let no : true ≡ false = sym w.0 ∙ end.0 in cc
     found d after create more left (inl end) (inr w) others = subst (λ l. SchemaText l bytes) ((same_read (d ∷ []) ds left rest w.1).0) (after, (create, end.1))

@@ -13,7 +13,7 @@ use Rattle.tokens.specs.Name.{is_name}
 use Rattle.tokens.specs.Name.{name_at as name_after}
 use Rattle.rows.specs.SchemaToken.{next, symbol_at, is_word_at, after_word, word_at, name_at, number_from, digits_at}
 use Rattle.std.specs.Char.{is_ascii_digit}
-use Rattle.rows.specs.Declaration.{joined, listed, names_at, size_at, is_whole_number_at, varchar_at, type_at, not_null_at, primary_key_at, mark_at, is_mark_at, marks_upto, marks_at, user_at, precision_at, maybe_not_null_at, side_at, row_side_at, generated_at, two_names_at, period_at, key_at, column_at, entry_at, entries_at, body_at, versioning_at, create_at, is_end_at, more_at, creates_upto, creates_at}
+use Rattle.rows.specs.Declaration.{prepend, list_at, names_at, size_at, is_whole_number_at, varchar_at, type_at, not_null_at, primary_key_at, mark_at, is_mark_at, marks_upto, marks_at, user_at, precision_at, maybe_not_null_at, side_at, row_side_at, generated_at, two_names_at, period_at, key_at, column_at, entry_at, entries_at, body_at, versioning_at, create_at, is_end_at, more_at, creates_upto, creates_at}
 use Rattle.rows.specs.SchemaGrammar.{Says, Piece, blank, comment, last_comment, Gap, BeginsToken, Name, EntryText}
 use Rattle.rows.proofs.SchemaSpelled.{front-skip, next_is, symbol_says, name_says}
 use Rattle.rows.proofs.SchemaSays.{entry_says, create_says}
@@ -125,7 +125,7 @@ if_stops : {A : Type 0} (bytes : List ℕ) (t : Bool) (p q : Read A) → Stops b
 if_stops bytes true p q a b = a
 if_stops bytes false p q a b = b
 
-joined_stops : {A : Type 0} (xs : List A) (bytes : List ℕ) (r : Read (List A)) → Stops bytes r → Stops bytes (joined xs r)
+joined_stops : {A : Type 0} (xs : List A) (bytes : List ℕ) (r : Read (List A)) → Stops bytes r → Stops bytes (prepend xs r)
 joined_stops xs bytes (Ok (ys, rest)) s = goes_on bytes rest (xs ++ ys) (s.ended ys rest refl)
 joined_stops xs bytes (Err at) s = let p = s.stopped at refl in stops_at bytes at p.0 p.1
 
@@ -282,18 +282,18 @@ period_stops bytes =
 -- lists: the turns are enough, since each item takes a byte or more
 module _ {A : Type 0} (item : List ℕ → Read A) (R : Says A) (says : (x : A) (bytes rest : List ℕ) → item bytes ≡ Ok (x, rest) → R x bytes rest) (matches : Takes R)
     (item_stops : (bytes : List ℕ) → Stops bytes (item bytes)) where
-  listed_stops : (n : ℕ) (bytes : List ℕ) → length bytes ≤ n → Stops bytes (listed item n bytes)
+  listed_stops : (n : ℕ) (bytes : List ℕ) → length bytes ≤ n → Stops bytes (list_at item n bytes)
   listed_stops zero bytes h = nothing_left bytes h
   listed_stops (suc n) bytes h =
       then_stops bytes (item bytes) _ (item_stops bytes)
       (λ x more e. by_comma x more (matches.below x bytes more (says x bytes more e)) (symbol_at 44 more) refl (λ left enough. listed_stops n left enough))
     where
-      by_comma : (x : A) (more : List ℕ) → length more < length bytes → (o : After) → symbol_at 44 more ≡ o → ((left : List ℕ) → length left ≤ n → Stops left (listed item n left))
-          → Stops {A = List A} more (elim o [ Err _ ↦ Ok (x ∷ [], more) | Ok left ↦ joined (x ∷ []) (listed item n left) ])
+      by_comma : (x : A) (more : List ℕ) → length more < length bytes → (o : After) → symbol_at 44 more ≡ o → ((left : List ℕ) → length left ≤ n → Stops left (list_at item n left))
+          → Stops {A = List A} more (elim o [ Err _ ↦ Ok (x ∷ [], more) | Ok left ↦ prepend (x ∷ []) (list_at item n left) ])
       by_comma x more less (Err at) e others = stays more (x ∷ [])
       by_comma x more less (Ok left) e others =
-          wider more left (joined (x ∷ []) (listed item n left)) (symbol_ends 44 more left e)
-          (joined_stops (x ∷ []) left (listed item n left) (others left (omega (arith, h, less, (symbol_takes 44).below tt more left (symbol_says 44 tt more left e)))))
+          wider more left (prepend (x ∷ []) (list_at item n left)) (symbol_ends 44 more left e)
+          (joined_stops (x ∷ []) left (list_at item n left) (others left (omega (arith, h, less, (symbol_takes 44).below tt more left (symbol_says 44 tt more left e)))))
 
 names_stop : (bytes : List ℕ) → Stops bytes (names_at bytes)
 unfolding names_at

@@ -14,7 +14,7 @@ use Rattle.tokens.specs.Word.{is_name_byte}
 use Rattle.tokens.specs.Word.{is_word_at as is_word_after}
 use Rattle.tokens.proofs.Words.{Refused, none_same}
 use Rattle.rows.specs.SchemaToken.{next, symbol_at, is_word_at, after_word, name_at}
-use Rattle.rows.specs.Declaration.{joined, listed, names_at, size_at, is_whole_number_at, varchar_at, type_at, not_null_at, primary_key_at, mark_at, is_mark_at, marks_upto, marks_at, user_at, precision_at, maybe_not_null_at, side_at, row_side_at, generated_at, two_names_at, period_at, key_at, column_at, entry_at, entries_at, body_at, versioning_at, create_at, is_nothing, is_end_at, more_at, creates_upto, creates_at}
+use Rattle.rows.specs.Declaration.{prepend, list_at, names_at, size_at, is_whole_number_at, varchar_at, type_at, not_null_at, primary_key_at, mark_at, is_mark_at, marks_upto, marks_at, user_at, precision_at, maybe_not_null_at, side_at, row_side_at, generated_at, two_names_at, period_at, key_at, column_at, entry_at, entries_at, body_at, versioning_at, create_at, is_nothing, is_end_at, more_at, creates_upto, creates_at}
 use Rattle.rows.specs.SchemaGrammar.{Says, Symbol, Word, Name, Listed, Many, Size, TypeName, NotNullWords, PrimaryKeyWords, MarkWords, UserEntry, Precision, MaybeNotNull, RowSide, GeneratedAsRow, GeneratedEntry, TwoNames, PeriodEntry, KeyEntry, ColumnEntry, EntryText, Body, Versioning, CreateText, IsEnd, SchemaText}
 use Rattle.rows.proofs.SchemaRead.{next_reads, symbol_read, word_is_at, word_left, word_read, name_read, digits_read}
 use Rattle.rows.proofs.SchemaApart.{other_word, period_no_name, primary_no_name, no_word_at_symbol, no_symbol_at_symbol, no_symbol_at_word}
@@ -157,7 +157,7 @@ upto_read [] (suc n) bytes rest enough done e = unless (is_mark_at bytes) _ _ _ 
 upto_read (m ∷ ms) zero bytes rest enough done e = absurd (omega arith)
 upto_read (m ∷ ms) (suc n) bytes rest enough done (more, (mark, others)) =
     when (is_mark_at bytes) _ _ _ (mark_begins m bytes more mark)
-    (ok_then _ (mark_read m bytes more mark) (ap (joined (m ∷ [])) (upto_read ms n more rest (omega arith) done others)))
+    (ok_then _ (mark_read m bytes more mark) (ap (prepend (m ∷ [])) (upto_read ms n more rest (omega arith) done others)))
 
 marks_read : (ms : List Mark) (bytes rest : List ℕ) → is_mark_at rest ≡ false → Many MarkWords ms bytes rest → marks_at bytes ≡ Ok (ms, rest)
 unfolding marks_at
@@ -231,18 +231,18 @@ period_read x bytes rest (p, (a, (period, (q, (b, (for, (r, (c, (system_time, na
 
 -- lists
 abbrev ended : {A : Type 0} → (List ℕ → Read A) → ℕ → A → List ℕ → After → Read (List A)
-ended item n x after o = elim o [ Err _ ↦ Ok (x ∷ [], after) | Ok more ↦ joined (x ∷ []) (listed item n more) ]
+ended item n x after o = elim o [ Err _ ↦ Ok (x ∷ [], after) | Ok more ↦ prepend (x ∷ []) (list_at item n more) ]
 
 module _ {A : Type 0} (item : List ℕ → Read A) (R : Says A) (Follows : List ℕ → Type 0)
     (item_read : (x : A) (bytes rest : List ℕ) → Follows rest → R x bytes rest → item bytes ≡ Ok (x, rest))
     (comma_follows : (bytes rest : List ℕ) → Symbol 44 tt bytes rest → Follows bytes) where
-  listed_read : (xs : List A) (n : ℕ) (bytes rest : List ℕ) → length xs ≤ n → Follows rest → Refused (symbol_at 44 rest) → Listed R xs bytes rest → listed item n bytes ≡ Ok (xs, rest)
+  listed_read : (xs : List A) (n : ℕ) (bytes rest : List ℕ) → length xs ≤ n → Follows rest → Refused (symbol_at 44 rest) → Listed R xs bytes rest → list_at item n bytes ≡ Ok (xs, rest)
   listed_read [] n bytes rest enough done none e = absurd e
   listed_read (x ∷ xs) zero bytes rest enough done none e = absurd (omega arith)
   listed_read (x ∷ []) (suc n) bytes rest enough done none e = ok_then _ (item_read x bytes rest done e) (ap (ended item n x rest) none.is)
   listed_read (x ∷ y ∷ ys) (suc n) bytes rest enough done none (after, (more, (one, (comma, others)))) =
       ok_then _ (item_read x bytes after (comma_follows after more comma) one)
-      (ap (ended item n x after) (symbol_read 44 tt after more comma) ∙ ap (joined (x ∷ [])) (listed_read (y ∷ ys) n more rest (omega arith) done none others))
+      (ap (ended item n x after) (symbol_read 44 tt after more comma) ∙ ap (prepend (x ∷ [])) (listed_read (y ∷ ys) n more rest (omega arith) done none others))
 
 names_read : (xs : List (List ℕ)) (bytes rest : List ℕ) → Refused (symbol_at 44 rest) → Listed Name xs bytes rest → names_at bytes ≡ Ok (xs, rest)
 unfolding names_at
@@ -251,9 +251,9 @@ names_read xs bytes rest none e =
 
 key_read : (x : Entry) (bytes rest : List ℕ) → KeyEntry x bytes rest → key_at bytes ≡ Ok (x, rest)
 unfolding key_at
-key_read x bytes rest (p, (a, (primary_key, (o, (b, (opened, (names, (c, (listed, (v, (d, (closed, (same, at))))))))))))) =
+key_read x bytes rest (p, (a, (primary_key, (o, (b, (opened, (names, (c, (list_at, (v, (d, (closed, (same, at))))))))))))) =
     after_then _ (primary_key_read p bytes a primary_key)
-    (after_then _ (symbol_read 40 o a b opened) (ok_then _ (names_read names b c (no_symbol_at_symbol 44 41 refl v c d closed) listed) (after_then _ (symbol_read 41 v c d closed) (said same at))))
+    (after_then _ (symbol_read 40 o a b opened) (ok_then _ (names_read names b c (no_symbol_at_symbol 44 41 refl v c d closed) list_at) (after_then _ (symbol_read 41 v c d closed) (said same at))))
 
 -- entries
 column_read : (x : Entry) (bytes rest : List ℕ) → is_mark_at rest ≡ false → ColumnEntry x bytes rest → column_at bytes ≡ Ok (x, rest)
@@ -289,9 +289,9 @@ entries_read xs bytes rest done none e =
 
 body_read : (xs : List Entry) (bytes rest : List ℕ) → Body xs bytes rest → body_at bytes ≡ Ok (xs, rest)
 unfolding body_at
-body_read xs bytes rest (o, (a, (opened, (entries, (b, (listed, (v, (c, (closed, (same, at)))))))))) =
+body_read xs bytes rest (o, (a, (opened, (entries, (b, (list_at, (v, (c, (closed, (same, at)))))))))) =
     after_then _ (symbol_read 40 o bytes a opened)
-    (ok_then _ (entries_read entries a b (no_mark_at_symbol 41 refl v b c closed) (no_symbol_at_symbol 44 41 refl v b c closed) listed) (after_then _ (symbol_read 41 v b c closed) (said same at)))
+    (ok_then _ (entries_read entries a b (no_mark_at_symbol 41 refl v b c closed) (no_symbol_at_symbol 44 41 refl v b c closed) list_at) (after_then _ (symbol_read 41 v b c closed) (said same at)))
 
 versioning_read : (x : Unit {0}) (bytes rest : List ℕ) → Versioning x bytes rest → versioning_at bytes ≡ Ok rest
 unfolding versioning_at
@@ -346,7 +346,7 @@ schema_read (d ∷ f ∷ es) (suc n) bytes enough (after, (more, (create, (s, ot
     let left = schema_read (f ∷ es) n more (omega arith) others in (
       left.0,
       ok_then _ (create_read d bytes after create)
-          (ok_then _ (after_read false after more s (no_end_at_schema f es more others)) (ap (joined (d ∷ [])) left.1)),
+          (ok_then _ (after_read false after more s (no_end_at_schema f es more others)) (ap (prepend (d ∷ [])) left.1)),
     )
 
 pub text_read : (ds : List Declaration) (text : List ℕ) → SchemaText ds text → (rest : List ℕ) × (creates_at text ≡ Ok (ds, rest))

@@ -13,20 +13,20 @@ use Rattle.tokens.specs.Token.{After, Read, ◌>>=◌}
 use Rattle.rows.specs.SchemaToken.{next, symbol_at, is_word_at, after_word, word_at, name_at, digits_at}
 
 -- what was read comes after these
-abbrev pub joined : {A : Type 0} → List A → Read (List A) → Read (List A)
-joined xs (Ok (ys, rest)) = Ok (xs ++ ys, rest)
-joined xs (Err at) = Err at
+abbrev pub prepend : {A : Type 0} → List A → Read (List A) → Read (List A)
+prepend xs (Ok (ys, rest)) = Ok (xs ++ ys, rest)
+prepend xs (Err at) = Err at
 
 -- items with commas between them, at most n
-abbrev pub listed : {A : Type 0} → (List ℕ → Read A) → ℕ → List ℕ → Read (List A)
-listed item zero bytes = Err bytes
-listed item (suc n) bytes = do
+abbrev pub list_at : {A : Type 0} → (List ℕ → Read A) → ℕ → List ℕ → Read (List A)
+list_at item zero bytes = Err bytes
+list_at item (suc n) bytes = do
   x ← item bytes
-  elim (symbol_at 44 x.1) [ Err _ ↦ Ok (x.0 ∷ [], x.1) | Ok more ↦ joined (x.0 ∷ []) (listed item n more) ]
+  elim (symbol_at 44 x.1) [ Err _ ↦ Ok (x.0 ∷ [], x.1) | Ok more ↦ prepend (x.0 ∷ []) (list_at item n more) ]
 
 -- each takes a byte or more
 unfoldable pub names_at : List ℕ → Read (List (List ℕ))
-names_at bytes = listed name_at (length bytes) bytes
+names_at bytes = list_at name_at (length bytes) bytes
 
 -- "(" digits ")"
 unfoldable pub size_at : List ℕ → Read ℕ
@@ -80,7 +80,7 @@ abbrev pub marks_upto : ℕ → List ℕ → Read (List Mark)
 marks_upto zero bytes = Ok ([], bytes)
 marks_upto (suc n) bytes =
     if is_mark_at bytes
-    then (mark_at bytes >>= (λ x. joined (x.0 ∷ []) (marks_upto n x.1)))
+    then (mark_at bytes >>= (λ x. prepend (x.0 ∷ []) (marks_upto n x.1)))
     else Ok ([], bytes)
 
 unfoldable pub marks_at : List ℕ → Read (List Mark)
@@ -172,7 +172,7 @@ entry_at bytes =
     else column_at bytes
 
 unfoldable pub entries_at : List ℕ → Read (List Entry)
-entries_at bytes = listed entry_at (length bytes) bytes
+entries_at bytes = list_at entry_at (length bytes) bytes
 
 -- "(" entry {"," entry} ")"
 unfoldable pub body_at : List ℕ → Read (List Entry)
@@ -219,7 +219,7 @@ creates_upto zero bytes = Err bytes
 creates_upto (suc n) bytes = do
   create ← create_at bytes
   more ← more_at create.1
-  if more.0 then joined (create.0 ∷ []) (creates_upto n more.1) else Ok (create.0 ∷ [], more.1)
+  if more.0 then prepend (create.0 ∷ []) (creates_upto n more.1) else Ok (create.0 ∷ [], more.1)
 
 unfoldable pub creates_at : List ℕ → Read (List Declaration)
 creates_at bytes = creates_upto (length bytes) bytes

@@ -25,7 +25,7 @@ use Rattle.values.specs.Log.{State, Net, Row, Changes, row_at, set_row, apply_ne
 use Rattle.values.specs.Tables.{Schema, IsTable}
 use Rattle.values.specs.Fit.{rows_fault, row_fault, key_fault, comparisons_fault, sets_fault, first_of}
 use Rattle.values.specs.Faults.{no_fault}
-use Rattle.values.specs.Writes.{Own, Written, writing, insert_into, update_in, delete_from, key_of, insert_rows, insert_all, duplicate, duplicate_from, update_rows, delete_rows, met, set_all}
+use Rattle.values.specs.Writes.{Own, Written, write_keys, insert_into, update_in, delete_from, key_of, insert_rows, insert_all, duplicate, duplicate_from, update_rows, delete_rows, matching_keys, set_all}
 use Rattle.values.specs.Versions.{matches}
 use Rattle.values.specs.KeyEncoding.{IsShortKey}
 use Rattle.values.specs.RowEncoding.{IsHeld}
@@ -35,7 +35,7 @@ use Rattle.values.specs.Events.{event_cmp, events_of, IsKeyIn, AreKeysIn}
 use Rattle.values.proofs.KeyLengths.{fitting_keys_are_short, first_none}
 use Rattle.values.proofs.RowKeys.{fitting_key, keys_are_short}
 use Rattle.staging.specs.View.{events, Committed}
-use Rattle.staging.specs.Own.{Reads, seen, own, fitting, checked_insert, of_table, checked_update, checked_delete}
+use Rattle.staging.specs.Own.{Reads, rows_seen, own, write_if_fits, checked_insert, of_table, checked_update, checked_delete}
 use Rattle.staging.specs.Staged.{put_all, put_answer, insertions, updates, deletions, sees, first_seen, row_taken, rows_in}
 use Rattle.staging.proofs.Entries.{sorted_from, sorted_apply, apply-updates, apply-deletions}
 use Rattle.staging.proofs.Bridge.{are_seen, sorted_base, sees_is, key_in}
@@ -43,7 +43,7 @@ use Rattle.staging.proofs.Calls.{put_is, put_keys}
 
 -- ---- faults
 
-pub fault_answer : (o : Option ℕ) (refusal : Refusal) (w : Written) (before : Own) → ◌≡◌ {A = Result (Unit {0}) Refusal} (Err refusal) (no_fault o) → ◌≡◌ {A = Written} (Err refusal, before) (fitting o w before)
+pub fault_answer : (o : Option ℕ) (refusal : Refusal) (w : Written) (before : Own) → ◌≡◌ {A = Result (Unit {0}) Refusal} (Err refusal) (no_fault o) → ◌≡◌ {A = Written} (Err refusal, before) (write_if_fits o w before)
 fault_answer None refusal w before e = cc
 fault_answer (Some column) refusal w before e = let same : refusal ≡ BadRow column = cc in ap (λ r. (Err r, before)) same
 
@@ -101,30 +101,30 @@ duplicates schema es t s w (k ∷ ks) earlier h same =
 
 -- the first key that is seen is the first duplicate
 pub duplicate_is : (schema : Schema) (table : Table) (view : Committed) (t : ℕ) (m : Changes) (w : Net) (rows : List Row) (keys : List Key) → Reads schema table view w m → IsStrictlySortedBy event_cmp (events view) → All (λ e. e.at ≤ t) (events view)
-    → IsStrictlySortedBy key_cmp (keys_of w) → keys ≡ map (key_of table) rows → All (IsKeyOf table) keys → first_seen (sees (events view) t w) [] keys ≡ duplicate table rows (seen m w)
+    → IsStrictlySortedBy key_cmp (keys_of w) → keys ≡ map (key_of table) rows → All (IsKeyOf table) keys → first_seen (sees (events view) t w) [] keys ≡ duplicate table rows (rows_seen m w)
 duplicate_is schema table view t m w rows keys reads sorted upto ordered same own =
     ap (λ es. first_seen (sees es t w) [] keys) reads.held.events_are
-    ∙ duplicates schema (events_of m) t (seen m w) w keys [] (recursion_from_All (IsKeyIn schema) keys (All-weaker (IsKeyOf table) (IsKeyIn schema) (λ k h. key_in schema table k reads.is_table h) keys own))
+    ∙ duplicates schema (events_of m) t (rows_seen m w) w keys [] (recursion_from_All (IsKeyIn schema) keys (All-weaker (IsKeyOf table) (IsKeyIn schema) (λ k h. key_in schema table k reads.is_table h) keys own))
     (λ k h. sees_is schema t m w k (are_seen schema view t m reads.held sorted upto) (sorted_from w ordered) h)
-    ∙ ap (duplicate_from (seen m w) []) same
+    ∙ ap (duplicate_from (rows_seen m w) []) same
 
 abbrev unless_duplicate : Table → List Row → Own → Option Key → Written
 unless_duplicate table rows o found = elim found [
   | Some key ↦ (Err (DuplicateKey key), o)
-  | None ↦ writing (map (key_of table) rows) (length rows) (insert_rows table rows o.rows) o
+  | None ↦ write_keys (map (key_of table) rows) (length rows) (insert_rows table rows o.rows) o
 ]
 
 pub insert_duplicate : (table : Table) (rows : List Row) (o : Own) (key : Key) → rows_fault table rows ≡ None → duplicate table rows o.rows ≡ Some key → ◌≡◌ {A = Written} (Err (DuplicateKey key), o) (checked_insert table rows o)
 insert_duplicate table rows o key fits is =
-    sym (ap (λ f. fitting f (unless_duplicate table rows o (duplicate table rows o.rows)) o) fits ∙ ap (unless_duplicate table rows o) is)
+    sym (ap (λ f. write_if_fits f (unless_duplicate table rows o (duplicate table rows o.rows)) o) fits ∙ ap (unless_duplicate table rows o) is)
 
-pub insert_done : (table : Table) (rows : List Row) (m : Changes) (w new : Net) (r : Result ℕ Refusal) (cs : Net) → rows_fault table rows ≡ None → duplicate table rows (seen m w) ≡ None → cs ≡ insertions (map (key_of table) rows) rows
+pub insert_done : (table : Table) (rows : List Row) (m : Changes) (w new : Net) (r : Result ℕ Refusal) (cs : Net) → rows_fault table rows ≡ None → duplicate table rows (rows_seen m w) ≡ None → cs ≡ insertions (map (key_of table) rows) rows
     → T (is_sorted key_cmp w) → r ≡ put_answer cs w → OnOk r (new ≡ put_all cs w) → OnErr r (new ≡ w) → ◌≡◌ {A = Written} (r, own m new) (checked_insert table rows (own m w))
 insert_done table rows m w new r cs fits none is sorted answer ok err =
     put_is m cs w new r sorted answer ok err
-    ∙ ap (λ cs. writing (keys_of cs) (length cs) (apply_net (seen m w) cs) (own m w)) is
-    ∙ (λ i. writing (insertion_keys table rows i) (insertion_count table rows i) (apply_insertions table rows (seen m w) i) (own m w))
-    ∙ sym (ap (λ f. fitting f (unless_duplicate table rows (own m w) (duplicate table rows (seen m w))) (own m w)) fits ∙ ap (unless_duplicate table rows (own m w)) none)
+    ∙ ap (λ cs. write_keys (keys_of cs) (length cs) (apply_net (rows_seen m w) cs) (own m w)) is
+    ∙ (λ i. write_keys (insertion_keys table rows i) (insertion_count table rows i) (apply_insertions table rows (rows_seen m w) i) (own m w))
+    ∙ sym (ap (λ f. write_if_fits f (unless_duplicate table rows (own m w) (duplicate table rows (rows_seen m w))) (own m w)) fits ∙ ap (unless_duplicate table rows (own m w)) none)
 
 -- ---- what is put has keys of the schema
 
@@ -187,10 +187,10 @@ module _ (P : Key → Type 0) where
 
 -- the keys of the rows that are seen are of the schema
 pub seen_keys : (schema : Schema) (table : Table) (view : Committed) (t : ℕ) (m : Changes) (w : Net) (p : Key × Row → Bool) → Reads schema table view w m → IsStrictlySortedBy event_cmp (events view) → All (λ e. e.at ≤ t) (events view)
-    → All (λ e. IsKeyIn schema e.0) (filter p (seen m w))
+    → All (λ e. IsKeyIn schema e.0) (filter p (rows_seen m w))
 seen_keys schema table view t m w p reads sorted upto =
-    All-from_recursion (λ e. IsKeyIn schema e.0) (filter p (seen m w))
-    (all_chosen {X = Row} (IsKeyIn schema) p (seen m w)
+    All-from_recursion (λ e. IsKeyIn schema e.0) (filter p (rows_seen m w))
+    (all_chosen {X = Row} (IsKeyIn schema) p (rows_seen m w)
     (all_applied (IsKeyIn schema) w (rows_after [] m) (net_keys (IsKeyIn schema) w (recursion_from_All (IsKeyIn schema) (keys_of w) reads.keys))
     (all_after (IsKeyIn schema) m [] (are_seen schema view t m reads.held sorted upto).keys tt)))
 
@@ -255,38 +255,38 @@ delete_keys [] = refl
 delete_keys (e ∷ es) = ap (λ l. e.0 ∷ l) (delete_keys es)
 
 pub update_done : (table : Table) (keys : Keys) (sets : List Set) (m : Changes) (w new : Net) (r : Result ℕ Refusal) (cs : Net) (found : State) → keys.table ≡ table.number → sets_fault table [] sets ≡ None → comparisons_fault table keys.comparisons ≡ None
-    → found ≡ filter (λ e. matches table keys e.0) (seen m w) → cs ≡ updates sets found → T (is_sorted key_cmp w) → r ≡ put_answer cs w → OnOk r (new ≡ put_all cs w) → OnErr r (new ≡ w)
+    → found ≡ filter (λ e. matches table keys e.0) (rows_seen m w) → cs ≡ updates sets found → T (is_sorted key_cmp w) → r ≡ put_answer cs w → OnOk r (new ≡ put_all cs w) → OnErr r (new ≡ w)
     → ◌≡◌ {A = Written} (r, own m new) (checked_update table keys sets (own m w))
 update_done table keys sets m w new r cs found same no_set no_comparison found_is is sorted answer ok err =
     own_table table keys _ (r, own m new) (own m w) same (
     put_is m cs w new r sorted answer ok err
-    ∙ ap (λ cs. writing (keys_of cs) (length cs) (apply_net (seen m w) cs) (own m w)) (is ∙ ap (updates sets) found_is)
-    ∙ (λ i. writing (update_keys sets kept i) (count i) (apply-updates (matches table keys) sets (seen m w) (sorted_apply w (rows_after [] m) (sorted_base m)) i) (own m w))
-    ∙ sym (λ i. fitting (first_of (no_set i) (no_comparison i)) (writing (met table keys (seen m w)) (length (met table keys (seen m w))) (update_rows table keys sets (seen m w)) (own m w)) (own m w))
+    ∙ ap (λ cs. write_keys (keys_of cs) (length cs) (apply_net (rows_seen m w) cs) (own m w)) (is ∙ ap (updates sets) found_is)
+    ∙ (λ i. write_keys (update_keys sets kept i) (count i) (apply-updates (matches table keys) sets (rows_seen m w) (sorted_apply w (rows_after [] m) (sorted_base m)) i) (own m w))
+    ∙ sym (λ i. write_if_fits (first_of (no_set i) (no_comparison i)) (write_keys (matching_keys table keys (rows_seen m w)) (length (matching_keys table keys (rows_seen m w))) (update_rows table keys sets (rows_seen m w)) (own m w)) (own m w))
     )
   where
     kept : State
-    kept = filter (λ e. matches table keys e.0) (seen m w)
+    kept = filter (λ e. matches table keys e.0) (rows_seen m w)
 
-    count : length (updates sets kept) ≡ length (met table keys (seen m w))
+    count : length (updates sets kept) ≡ length (matching_keys table keys (rows_seen m w))
     count = length-map kept (λ e. (e.0, Some (set_all sets e.1))) ∙ sym (length-map kept (λ e. e.0))
 
 pub delete_done : (table : Table) (keys : Keys) (m : Changes) (w new : Net) (r : Result ℕ Refusal) (cs : Net) (found : State) → keys.table ≡ table.number → comparisons_fault table keys.comparisons ≡ None
-    → found ≡ filter (λ e. matches table keys e.0) (seen m w) → cs ≡ deletions found → T (is_sorted key_cmp w) → r ≡ put_answer cs w → OnOk r (new ≡ put_all cs w) → OnErr r (new ≡ w)
+    → found ≡ filter (λ e. matches table keys e.0) (rows_seen m w) → cs ≡ deletions found → T (is_sorted key_cmp w) → r ≡ put_answer cs w → OnOk r (new ≡ put_all cs w) → OnErr r (new ≡ w)
     → ◌≡◌ {A = Written} (r, own m new) (checked_delete table keys (own m w))
 delete_done table keys m w new r cs found same no_comparison found_is is sorted answer ok err =
     own_table table keys _ (r, own m new) (own m w) same (
     put_is m cs w new r sorted answer ok err
-    ∙ ap (λ cs. writing (keys_of cs) (length cs) (apply_net (seen m w) cs) (own m w)) (is ∙ ap deletions found_is)
-    ∙ (λ i. writing (delete_keys kept i) (count i) (apply-deletions (matches table keys) (seen m w) (sorted_apply w (rows_after [] m) (sorted_base m)) i) (own m w))
-    ∙ sym (λ i. fitting (no_comparison i) (writing (met table keys (seen m w)) (length (met table keys (seen m w))) (delete_rows table keys (seen m w)) (own m w)) (own m w))
+    ∙ ap (λ cs. write_keys (keys_of cs) (length cs) (apply_net (rows_seen m w) cs) (own m w)) (is ∙ ap deletions found_is)
+    ∙ (λ i. write_keys (delete_keys kept i) (count i) (apply-deletions (matches table keys) (rows_seen m w) (sorted_apply w (rows_after [] m) (sorted_base m)) i) (own m w))
+    ∙ sym (λ i. write_if_fits (no_comparison i) (write_keys (matching_keys table keys (rows_seen m w)) (length (matching_keys table keys (rows_seen m w))) (delete_rows table keys (rows_seen m w)) (own m w)) (own m w))
     )
   where
     kept : State
-    kept = filter (λ e. matches table keys e.0) (seen m w)
+    kept = filter (λ e. matches table keys e.0) (rows_seen m w)
 
     none : Key × Row → Key × Option Row
     none e = (e.0, None)
 
-    count : length (deletions kept) ≡ length (met table keys (seen m w))
+    count : length (deletions kept) ≡ length (matching_keys table keys (rows_seen m w))
     count = length-map kept none ∙ sym (length-map kept (λ e. e.0))

@@ -30,7 +30,7 @@ use Rattle.values.proofs.Orders.{key_cmp_total, first, second}
 use Rattle.values.proofs.States.{row_at-set_row, sorted_set_row}
 use Rattle.values.proofs.KeyOrder.{byte_order_is_key_order}
 use Rattle.staging.specs.View.{events, Committed, Holds}
-use Rattle.staging.specs.Own.{seen, net_over}
+use Rattle.staging.specs.Own.{rows_seen, net_over}
 use Rattle.staging.specs.Staged.{sees, net_in}
 use Rattle.eventlist.proofs.PlaceOrder.{sorted_tail}
 use Rattle.staging.proofs.Entries.{upon, row_at-apply}
@@ -146,7 +146,7 @@ row_until_is schema t m q h hq = by (event_until (events_of m) (bytes_of_key q) 
 
 -- ---- what a transaction sees of a key
 
-pub sees_is : (schema : Schema) (t : ℕ) (m : Changes) (w : Net) (q : Key) → AreSeen schema t m → T (is_sorted key_cmp w) → IsKeyIn schema q → sees (events_of m) t w q ≡ is_some (row_at (seen m w) q)
+pub sees_is : (schema : Schema) (t : ℕ) (m : Changes) (w : Net) (q : Key) → AreSeen schema t m → T (is_sorted key_cmp w) → IsKeyIn schema q → sees (events_of m) t w q ≡ is_some (row_at (rows_seen m w) q)
 sees_is schema t m w q h sorted hq = by (lookup (is_at (key_cmp q)) w) ∙ ap is_some (sym (row_at-apply w (rows_after [] m) q (sorted_base m) sorted))
   where
     by : (o : Option (Option Row)) → elim o [ Some row ↦ is_some row | None ↦ is_some (row_until (events_of m) (bytes_of_key q) t) ] ≡ is_some (upon o (row_at (rows_after [] m) q))

@@ -18,14 +18,14 @@ use Rattle.values.specs.declared.refusal.Refusal.TheVariants.{TooManyWrites}
 use Rattle.values.specs.Order.{key_cmp}
 use Rattle.values.specs.Log.{Net, Row, Changes, apply_net, rows_after}
 use Rattle.values.specs.Tables.{Schema}
-use Rattle.values.specs.Writes.{Written, writing, most_written, insert_all, add_keys}
+use Rattle.values.specs.Writes.{Written, write_keys, most_written, insert_all, add_keys}
 use Rattle.values.specs.Versions.{matches}
 use Rattle.values.specs.Events.{event_cmp, AreKeysIn}
 use Rattle.keyrange.specs.Range.{is_key_in}
 use Rattle.eventlist.specs.Listing.{standing}
 use Rattle.staging.proofs.KeyTable.{is_of_table}
 use Rattle.staging.specs.View.{events, range_of_table, Committed, Holds}
-use Rattle.staging.specs.Own.{Reads, seen, own, net_over}
+use Rattle.staging.specs.Own.{Reads, rows_seen, own, net_over}
 use Rattle.staging.specs.Staged.{put_all, put_answer, rows_in, net_in}
 use Rattle.staging.proofs.TableRange.{in_range, narrowed}
 use Rattle.staging.proofs.Entries.{sorted_from, apply-put_all, keys_put_all}
@@ -35,7 +35,7 @@ use Rattle.staging.proofs.Seen.{rows_are}
 -- ---- what is read of a view
 
 pub rows_of_view : (schema : Schema) (table : Table) (keys : Keys) (view : Committed) (t : ℕ) (m : Changes) (w : Net) → Reads schema table view w m → keys.table ≡ table.number → IsStrictlySortedBy event_cmp (events view) → All (λ e. e.at ≤ t) (events view)
-    → IsStrictlySortedBy key_cmp (keys_of w) → rows_in table keys (standing (events view) (is_key_in (range_of_table table.number)) t) w ≡ filter (λ e. matches table keys e.0) (seen m w)
+    → IsStrictlySortedBy key_cmp (keys_of w) → rows_in table keys (standing (events view) (is_key_in (range_of_table table.number)) t) w ≡ filter (λ e. matches table keys e.0) (rows_seen m w)
 rows_of_view schema table keys view t m w reads same sorted upto ordered =
     ap (λ es. apply_net (insert_all [] es) (filter (λ c. matches table keys c.0) w)) (narrowed table keys (is_key_in (range_of_table table.number)) (in_range table.number) t (events view) (events view))
     ∙ ap (λ es. rows_in table keys (standing es (is_of_table table.number) t) w) reads.held.events_are
@@ -115,23 +115,23 @@ few_answer cs w new count n is c l few =
 
 -- a write of changes, over what was seen
 pub put_is : (m : Changes) (cs w new : Net) (r : Result ℕ Refusal) → T (is_sorted key_cmp w) → r ≡ put_answer cs w → OnOk r (new ≡ put_all cs w) → OnErr r (new ≡ w)
-    → ◌≡◌ {A = Written} (r, own m new) (writing (keys_of cs) (length cs) (apply_net (seen m w) cs) (own m w))
+    → ◌≡◌ {A = Written} (r, own m new) (write_keys (keys_of cs) (length cs) (apply_net (rows_seen m w) cs) (own m w))
 put_is m cs w new r sorted is ok err = by (nat_lt most_written (length (put_all cs w))) refl
   where
     same_length : length (put_all cs w) ≡ length (add_keys (keys_of cs) (keys_of w))
     same_length = sym (length-map (put_all cs w) (λ c. c.0)) ∙ ap length (keys_put_all cs w)
 
-    own_put : own m (put_all cs w) ≡ record { rows = apply_net (seen m w) cs; written = add_keys (keys_of cs) (keys_of w) }
+    own_put : own m (put_all cs w) ≡ record { rows = apply_net (rows_seen m w) cs; written = add_keys (keys_of cs) (keys_of w) }
     own_put = λ i. record { rows = apply-put_all cs w (rows_after [] m) (sorted_base m) sorted i; written = keys_put_all cs w i }
 
-    at : (b : Bool) → nat_lt most_written (length (put_all cs w)) ≡ b → writing (keys_of cs) (length cs) (apply_net (seen m w) cs) (own m w)
-        ≡ (if b then (Err TooManyWrites, own m w) else (Ok (length cs), record { rows = apply_net (seen m w) cs; written = add_keys (keys_of cs) (keys_of w) }))
-    at b h = ap (λ (b : Bool). if b then (Err TooManyWrites, own m w) else (Ok (length cs), record { rows = apply_net (seen m w) cs; written = add_keys (keys_of cs) (keys_of w) })) (ap (nat_lt most_written) (sym same_length) ∙ h)
+    at : (b : Bool) → nat_lt most_written (length (put_all cs w)) ≡ b → write_keys (keys_of cs) (length cs) (apply_net (rows_seen m w) cs) (own m w)
+        ≡ (if b then (Err TooManyWrites, own m w) else (Ok (length cs), record { rows = apply_net (rows_seen m w) cs; written = add_keys (keys_of cs) (keys_of w) }))
+    at b h = ap (λ (b : Bool). if b then (Err TooManyWrites, own m w) else (Ok (length cs), record { rows = apply_net (rows_seen m w) cs; written = add_keys (keys_of cs) (keys_of w) })) (ap (nat_lt most_written) (sym same_length) ∙ h)
 
     answer : (b : Bool) → nat_lt most_written (length (put_all cs w)) ≡ b → r ≡ (if b then Err TooManyWrites else Ok (length cs))
     answer b h = is ∙ ap (λ (b : Bool). if b then Err TooManyWrites else Ok (length cs)) h
 
-    by : (b : Bool) → nat_lt most_written (length (put_all cs w)) ≡ b → ◌≡◌ {A = Written} (r, own m new) (writing (keys_of cs) (length cs) (apply_net (seen m w) cs) (own m w))
+    by : (b : Bool) → nat_lt most_written (length (put_all cs w)) ≡ b → ◌≡◌ {A = Written} (r, own m new) (write_keys (keys_of cs) (length cs) (apply_net (rows_seen m w) cs) (own m w))
     by true h =
         let same : new ≡ w = subst (λ r. OnErr r (new ≡ w)) (answer true h) err in
         (λ i. (answer true h i, own m (same i))) ∙ sym (at true h)

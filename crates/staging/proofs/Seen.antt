@@ -26,7 +26,7 @@ use Rattle.values.proofs.KeyReads.{key_back}
 use Rattle.eventlist.specs.Overtaking.{overtakes}
 use Rattle.eventlist.specs.Listing.{stands_at, standing}
 use Rattle.staging.proofs.KeyTable.{is_of_table}
-use Rattle.staging.specs.Own.{seen}
+use Rattle.staging.specs.Own.{rows_seen}
 use Rattle.staging.specs.Staged.{row_taken, rows_in}
 use Rattle.eventlist.proofs.PlaceOrder.{sorted_head, sorted_tail, is_lower}
 use Rattle.eventlist.proofs.OvertakingNext.{not_earlier, not_itself, overtakes_is, is_overtakes, never}
@@ -248,6 +248,6 @@ base_is schema table keys t m at same h =
 
 -- the rows that a transaction sees and that the keys take
 pub rows_are : (schema : Schema) (table : Table) (keys : Keys) (t : ℕ) (m : Changes) (w : Net) → table_at schema table.number ≡ Some table → keys.table ≡ table.number → AreSeen schema t m → T (is_sorted key_cmp w)
-    → rows_in table keys (standing (events_of m) (is_of_table table.number) t) w ≡ filter (λ e. matches table keys e.0) (seen m w)
+    → rows_in table keys (standing (events_of m) (is_of_table table.number) t) w ≡ filter (λ e. matches table keys e.0) (rows_seen m w)
 rows_are schema table keys t m w at same h sorted =
     ap (λ s. apply_net s (filter (λ c. matches table keys c.0) w)) (base_is schema table keys t m at same h) ∙ apply-filter (matches table keys) w (rows_after [] m) (sorted_base m) sorted

@@ -12,15 +12,15 @@ use Rattle.values.specs.Events.{AreKeysIn}
 use Rattle.staging.specs.View.{Committed, Holds}
 
 -- what stands after the changes, with a transaction's own writes over it: each key that it wrote has a row, or none
-abbrev pub seen : Changes → Net → State
-seen m writes = apply_net (rows_after [] m) writes
+abbrev pub rows_seen : Changes → Net → State
+rows_seen m writes = apply_net (rows_after [] m) writes
 
 abbrev pub own : Changes → Net → Own
-own m writes = record { rows = seen m writes; written = map (λ w. w.0) writes }
+own m writes = record { rows = rows_seen m writes; written = map (λ w. w.0) writes }
 
 -- a transaction's net changes over what its view shows
 abbrev pub net_over : Changes → Net → Net
-net_over m writes = net_of (rows_after [] m) (seen m writes) (map (λ w. w.0) writes)
+net_over m writes = net_of (rows_after [] m) (rows_seen m writes) (map (λ w. w.0) writes)
 
 -- the view shows the changes, whose keys are of the schema as the written ones are, and the table is one of its tables
 pub record Reads (schema : Schema) (table : Table) (view : Committed) (writes : Net) (m : Changes) : Type 0 where
@@ -34,12 +34,12 @@ WhenRead table view writes P =
     (schema : Schema) (m : Changes) → Reads schema table view writes m → P schema m
 
 -- a write, unless a column does not fit
-abbrev pub fitting : Option ℕ → Written → Own → Written
-fitting (Some column) w o = (Err (BadRow column), o)
-fitting None w o = w
+abbrev pub write_if_fits : Option ℕ → Written → Own → Written
+write_if_fits (Some column) w o = (Err (BadRow column), o)
+write_if_fits None w o = w
 
 abbrev pub checked_insert : Table → List Row → Own → Written
-checked_insert table rows o = fitting (rows_fault table rows) (insert_into table rows o) o
+checked_insert table rows o = write_if_fits (rows_fault table rows) (insert_into table rows o) o
 
 -- of the rows of another table there are none here
 abbrev pub of_table : Table → Keys → Written → Own → Written
@@ -50,8 +50,8 @@ update_fault table keys sets = first_of (sets_fault table [] sets) (comparisons_
 
 abbrev pub checked_update : Table → Keys → List Set → Own → Written
 checked_update table keys sets o =
-    of_table table keys (fitting (update_fault table keys sets) (update_in table keys sets o) o) o
+    of_table table keys (write_if_fits (update_fault table keys sets) (update_in table keys sets o) o) o
 
 abbrev pub checked_delete : Table → Keys → Own → Written
 checked_delete table keys o =
-    of_table table keys (fitting (comparisons_fault table keys.comparisons) (delete_from table keys o) o) o
+    of_table table keys (write_if_fits (comparisons_fault table keys.comparisons) (delete_from table keys o) o) o

@@ -21,7 +21,7 @@ use Rattle.values.specs.declared.query.Shown.{Shown}
 use Rattle.values.specs.Tables.{Schema, table_at}
 use Rattle.values.specs.Order.{key_cmp, is_key}
 use Rattle.values.specs.Log.{Changes, Row, point_cmp}
-use Rattle.values.specs.Versions.{Version, next_change, version_of, versions, selects, holds, matches, shown, answer}
+use Rattle.values.specs.Versions.{Version, next_change, version_of, versions, selects, holds, matches, shown_version, answer}
 use Rattle.values.specs.KeyEncoding.{bytes_of_key, part_bytes}
 use Rattle.values.specs.KeyReading.{whole_key, parts_from}
 use Rattle.values.specs.Events.{event_cmp, events_of, event_of, IsKeyOfAny, IsKeyIn, AreChangesIn}
@@ -161,13 +161,13 @@ module _ (schema : Schema) (table : Table) (form : Form) (keys : Keys) (is_table
 
   abbrev shown_by : Option Version → Option Shown
   shown_by None = None
-  shown_by (Some v) = cond (picks v) (Some (shown v)) None
+  shown_by (Some v) = cond (picks v) (Some (shown_version v)) None
 
-  picked : (o : Option Version) (vs : List Version) → map shown (filter picks (cons_option o vs)) ≡ cons_option (shown_by o) (map shown (filter picks vs))
+  picked : (o : Option Version) (vs : List Version) → map shown_version (filter picks (cons_option o vs)) ≡ cons_option (shown_by o) (map shown_version (filter picks vs))
   picked None vs = refl
   picked (Some v) vs = by (picks v)
     where
-      by : (b : Bool) → map shown (cond b (v ∷ filter picks vs) (filter picks vs)) ≡ cons_option (cond b (Some (shown v)) None) (map shown (filter picks vs))
+      by : (b : Bool) → map shown_version (cond b (v ∷ filter picks vs) (filter picks vs)) ≡ cons_option (cond b (Some (shown_version v)) None) (map shown_version (filter picks vs))
       by true = refl
       by false = refl
 
@@ -196,7 +196,7 @@ module _ (schema : Schema) (table : Table) (form : Form) (keys : Keys) (is_table
       (ap (shown_of table form keys (event_of c)) (next_is c cs h) ∙ shown_is c (behind c.0 cs) (All-head (λ (p : Point). IsKeyIn schema p.key) c.0 (keys_of cs) h))
       ∙ ap (cons_option (shown_by (version_by c (behind c.0 cs)))) (selected_is cs (All-tail (λ (p : Point). IsKeyIn schema p.key) c.0 (keys_of cs) h) (second _ _ s))
       ∙ sym (picked (version_by c (behind c.0 cs)) (versions cs))
-      ∙ sym (ap (λ vs. map shown (filter picks vs)) (versions_are c cs s))
+      ∙ sym (ap (λ vs. map shown_version (filter picks vs)) (versions_are c cs s))
 
 -- ---- what a view shows
 

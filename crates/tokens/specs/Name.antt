@@ -7,8 +7,8 @@ use Rattle.tokens.specs.Token.{Read, front_while, skip_while}
 use Rattle.tokens.specs.Word.{is_name_byte}
 
 -- the words of the grammars of schemas and of lines, which no name is
-unfoldable pub reserved : List (List ℕ)
-reserved =
+unfoldable pub reserved_words : List (List ℕ)
+reserved_words =
     codes "CREATE" ∷ codes "TABLE" ∷ codes "WITH" ∷ codes "SYSTEM" ∷ codes "VERSIONING" ∷ codes "NOT" ∷
     codes "NULL" ∷ codes "PRIMARY" ∷ codes "KEY" ∷ codes "TIMESTAMP" ∷ codes "GENERATED" ∷ codes "ALWAYS" ∷
     codes "AS" ∷ codes "ROW" ∷ codes "START" ∷ codes "END" ∷ codes "PERIOD" ∷ codes "FOR" ∷
@@ -21,7 +21,7 @@ reserved =
     codes "PORTION" ∷ []
 
 unfoldable pub is_reserved : List ℕ → Bool
-is_reserved name = list_any (λ word. same_name word name) reserved
+is_reserved name = list_any (λ word. same_name word name) reserved_words
 
 -- letters, digits and underscores, as many as come, are a name: the first is no digit, there are at
 -- most 64, and they are no word of the grammars

@@ -2,7 +2,7 @@ ghost use Rattle.std.specs.Prelude.{◌≡◌, IfOk, IsUtf8};
 ghost use Rattle.std.specs.List.{list_any};
 ghost use Rattle.values.specs.Names.{same_name};
 ghost use Rattle.tokens.specs.Token.{GivesBytes};
-ghost use Rattle.tokens.specs.Name.{reserved, is_reserved, is_name, name_at};
+ghost use Rattle.tokens.specs.Name.{reserved_words, is_reserved, is_name, name_at};
 
 use crate::token::{Read, Separators};
 use crate::word::split_word;
@@ -78,7 +78,7 @@ fn is_one_of(words: &[&str], name: &[u8]) -> bool
 }
 
 /// Whether a name is, in any case, one of the words of the grammars of schemas and of lines.
-#[tactic(auto, unfolding(crate::specs::Name::is_reserved, crate::specs::Name::reserved))]
+#[tactic(auto, unfolding(crate::specs::Name::is_reserved, crate::specs::Name::reserved_words))]
 pub fn is_reserved(name: &[u8]) -> bool
     ensures { result ≡ is_reserved name.now }
 {

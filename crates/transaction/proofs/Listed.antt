@@ -7,12 +7,12 @@ use Rattle.values.specs.declared.query.Keys.{Keys}
 use Rattle.values.specs.declared.refusal.Refusal.{Refusal}
 use Rattle.values.specs.Log.{Changes, State, Net, Row}
 use Rattle.values.specs.Versions.{answer, matches}
-use Rattle.staging.specs.Own.{WhenRead, seen}
+use Rattle.staging.specs.Own.{WhenRead, rows_seen}
 use Rattle.systime_query.specs.Selection.{WhenShown}
 use Rattle.histories.specs.declared.step.Listing.{Listing}
 use Rattle.histories.specs.declared.step.Listing.TheVariants.{Rows}
 use Rattle.transaction.specs.TransactionState.{TransactionState}
-use Rattle.transaction.specs.Listing.{listed, listed_in}
+use Rattle.transaction.specs.Listing.{as_listing, listing_in}
 
 -- ---- a form that is not the plain one
 
@@ -22,18 +22,18 @@ is_plain (AsOf t) = false
 is_plain (FromTo a b) = false
 is_plain (Between a b) = false
 
-listed_past : (m : Changes) (writes : Net) (table : Table) (form : Form) (keys : Keys) → is_plain form ≡ false → listed form (answer m table form keys) ≡ listed_in m writes table form keys
+listed_past : (m : Changes) (writes : Net) (table : Table) (form : Form) (keys : Keys) → is_plain form ≡ false → as_listing form (answer m table form keys) ≡ listing_in m writes table form keys
 listed_past m writes table Plain keys h = cc
 listed_past m writes table (AsOf t) keys h = refl
 listed_past m writes table (FromTo a b) keys h = refl
 listed_past m writes table (Between a b) keys h = refl
 
 abbrev ShownIn : TransactionState → Table → Form → Keys → Listing → Type 0
-ShownIn t table form keys l = WhenRead table t.view t.writes (λ schema m. keys.table ≡ table.number → l ≡ listed_in m t.writes table form keys)
+ShownIn t table form keys l = WhenRead table t.view t.writes (λ schema m. keys.table ≡ table.number → l ≡ listing_in m t.writes table form keys)
 
 -- what is shown of what was committed until its start
 pub past_shown : (r : Result Listing Refusal) (t u : TransactionState) (table : Table) (form : Form) (keys : Keys) → t ≡ u → is_plain form ≡ false
-    → IfOk r (λ l. WhenShown t.view table keys (λ m. l ≡ listed form (answer m table form keys))) → IfOk r (ShownIn u table form keys)
+    → IfOk r (λ l. WhenShown t.view table keys (λ m. l ≡ as_listing form (answer m table form keys))) → IfOk r (ShownIn u table form keys)
 past_shown (Err refusal) t u table form keys is past h = h
 past_shown (Ok l) t u table form keys is past h =
     subst (λ u. ShownIn u table form keys l) is
@@ -41,8 +41,8 @@ past_shown (Ok l) t u table form keys is past h =
 
 -- what a plain query shows
 pub plain_shown : (t u : TransactionState) (table : Table) (form : Form) (keys : Keys) (found : State) (rows : List Row) → t ≡ u → form ≡ Plain → rows ≡ map (λ e. e.1) found
-    → WhenRead table t.view t.writes (λ schema m. keys.table ≡ table.number → found ≡ filter (λ e. matches table keys e.0) (seen m t.writes))
+    → WhenRead table t.view t.writes (λ schema m. keys.table ≡ table.number → found ≡ filter (λ e. matches table keys e.0) (rows_seen m t.writes))
     → ShownIn u table form keys (Rows rows)
 plain_shown t u table form keys found rows is plain are did =
     subst (λ u. ShownIn u table form keys (Rows rows)) is
-    (λ schema m reads same. ap Rows (are ∙ ap (map (λ e. e.1)) (did schema m reads same)) ∙ (λ i. listed_in m t.writes table (sym plain i) keys))
+    (λ schema m reads same. ap Rows (are ∙ ap (map (λ e. e.1)) (did schema m reads same)) ∙ (λ i. listing_in m t.writes table (sym plain i) keys))

@@ -4,7 +4,7 @@ ghost use Rattle.values.specs.Memory.{OnlyMemory};
 ghost use Rattle.values.specs.Versions.{answer};
 ghost use Rattle.staging.specs.Own.{WhenRead};
 ghost use Rattle.systime_query.specs.Selection.{WhenShown};
-ghost use Rattle.transaction.specs.Listing.{listed, listed_in};
+ghost use Rattle.transaction.specs.Listing.{as_listing, listing_in};
 
 use crate::open_transaction::OpenTransaction;
 use histories::Listing;
@@ -19,7 +19,7 @@ impl OpenTransaction {
     pub fn select(&self, alloc: Global, form: Form, table: &Table, keys: &Keys) -> Mem<Listing>
         ensures ok { IfOk result (λ l. WhenRead table.now self.now.view self.now.writes (λ schema m.
             keys.now.table ≡ table.now.number
-            → l ≡ listed_in m self.now.writes table.now form keys.now)) }
+            → l ≡ listing_in m self.now.writes table.now form keys.now)) }
         ensures memory { OnlyMemory result }
     {
         match form {
@@ -43,7 +43,7 @@ pub fn listing_of(
     keys: &Keys,
 ) -> Mem<Listing>
     ensures ok { IfOk result (λ l. WhenShown view.now table.now keys.now (λ m.
-        l ≡ listed form (answer m table.now form keys.now))) }
+        l ≡ as_listing form (answer m table.now form keys.now))) }
     ensures memory { OnlyMemory result }
 {
     match form {

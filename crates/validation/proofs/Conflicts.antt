@@ -7,7 +7,7 @@ use Rattle.values.specs.declared.key.Key.{Key}
 use Rattle.values.specs.Log.{Changes, Net}
 use Rattle.values.specs.declared.refusal.Refusal.{Refusal}
 use Rattle.values.specs.declared.refusal.Refusal.TheVariants.{Conflict, ClockEnd, Memory}
-use Rattle.values.specs.Commits.{changed_since, won, won_by, outcome, outcome_by, max_instant}
+use Rattle.values.specs.Commits.{changed_since, conflicts, conflicts_by, outcome, outcome_by, max_instant}
 use Rattle.values.specs.Events.{events_of, IsKeyIn, AreChangesIn, AreKeysIn}
 use Rattle.values.proofs.EventKeys.{since_is}
 use Rattle.staging.specs.View.{Committed, events, last, Holds}
@@ -23,10 +23,10 @@ with key others None = others
 with key others (Some instant) = (key, instant) ∷ others
 
 module _ (schema : Schema) where
-  won_is : (m : Changes) (start : ℕ) (net : Net) → AreChangesIn schema m → AreKeysIn schema net → won_by (changed_in (events_of m) start) net ≡ won m start net
+  won_is : (m : Changes) (start : ℕ) (net : Net) → AreChangesIn schema m → AreKeysIn schema net → conflicts_by (changed_in (events_of m) start) net ≡ conflicts m start net
   won_is m start [] ins h = refl
   won_is m start (c ∷ net) ins h =
-      ap (with c.0 (won_by (changed_in (events_of m) start) net)) (since_is schema m start c.0 (All-head (IsKeyIn schema) c.0 (keys_of net) h) ins)
+      ap (with c.0 (conflicts_by (changed_in (events_of m) start) net)) (since_is schema m start c.0 (All-head (IsKeyIn schema) c.0 (keys_of net) h) ins)
       ∙ ap (λ others. with c.0 others (changed_since m start c.0)) (won_is m start net ins (All-tail (IsKeyIn schema) c.0 (keys_of net) h))
 
   pub outcome_is : (m : Changes) (latest start : ℕ) (net : Net) (reading : ℕ) → AreChangesIn schema m → AreKeysIn schema net → outcome_by (changed_in (events_of m) start) latest net reading ≡ outcome m latest start net reading

@@ -3,7 +3,7 @@ ghost use Rattle.std.specs.Prelude.{◌≡◌, ◌≢◌, ◌≤◌, ◌<◌, Re
 ghost use Rattle.std.specs.List.{slice_get};
 ghost use Rattle.values.specs.Log.{Changes, Net, add_net};
 ghost use Rattle.values.specs.Tables.{Schema};
-ghost use Rattle.values.specs.Commits.{outcome, outcome_by, won_by, max_instant};
+ghost use Rattle.values.specs.Commits.{outcome, outcome_by, conflicts_by, max_instant};
 ghost use Rattle.values.specs.Events.{AreKeysIn};
 ghost use Rattle.values.specs.Memory.{OnlyMemory};
 ghost use Rattle.staging.specs.View.{events, last, IsEmpty, Holds, Adds};
@@ -129,7 +129,7 @@ fn first_conflict(
     net: &Net,
 ) -> Mem<Option<(Key, Instant)>>
     ensures ok { IfOk result (λ found.
-        found ≡ slice_get (won_by (changed_in (events view.now) start) net.now) 0) }
+        found ≡ slice_get (conflicts_by (changed_in (events view.now) start) net.now) 0) }
     ensures err { OnlyMemory result }
 {
     for (key, _row) in net.changes() {

@@ -5,7 +5,7 @@ use Rattle.values.specs.declared.query.Form.TheVariants.{Plain, AsOf}
 use Rattle.values.specs.declared.key.Key.{Key}
 use Rattle.values.specs.Order.{is_key}
 use Rattle.values.specs.Log.{Log, State, Row, Changes, add_all, changes, replay, state, upto, last_from}
-use Rattle.values.specs.Versions.{Version, next_change, version_of, versions, ends_after, selects, matches, shown}
+use Rattle.values.specs.Versions.{Version, next_change, version_of, versions, ends_after, selects, matches, shown_version}
 use Rattle.values.specs.Laws.{Rises, rows_by, StateIsAsOf, StateIsCurrent, AsOfShowsState, AsOfStays}
 use Rattle.values.proofs.Orders.{key_cmp_total, key_cmp-IsAntisymmetric}
 use Rattle.values.proofs.Maps.{same_map}
@@ -95,7 +95,7 @@ abbrev taken : (Key → Bool) → State → List Row
 taken is m = map (λ e. e.1) (filter (λ e. is e.0) m)
 
 abbrev rows_of : List Version → List Row
-rows_of vs = map (λ s. s.row) (map shown vs)
+rows_of vs = map (λ s. s.row) (map shown_version vs)
 
 taken_row : (b c : Bool) (v : Version) (is : Key → Bool) (xs ys : List Version) → is v.key ≡ b → rows_of xs ≡ taken is (pairs ys)
     → rows_of (cond (b && c) (v ∷ xs) xs) ≡ taken is (pairs (cond c (v ∷ ys) ys))

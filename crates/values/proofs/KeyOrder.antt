@@ -25,7 +25,7 @@ use Rattle.values.specs.declared.table.ColumnType.TheVariants.{Int as IsInt, Tex
 use Rattle.values.specs.declared.key.Key.{Key}
 use Rattle.values.specs.Order.{value_cmp, key_cmp}
 use Rattle.values.specs.Fit.{fits_type, parts_fault, part_fault}
-use Rattle.values.specs.KeyEncoding.{raised, text_bytes, part_bytes, bytes_of_key}
+use Rattle.values.specs.KeyEncoding.{ordinal_of, text_bytes, part_bytes, bytes_of_key}
 use Rattle.values.specs.KeyEncodingLaws.{IsStorable, AreKeyParts, AreOfOneSchema}
 use Rattle.values.proofs.KeyLengths.{FitsColumn, part_fits, first_none, key_fits}
 use Rattle.values.proofs.Orders.{key_cmp-IsAntisymmetric}
@@ -85,27 +85,27 @@ high_first_cmp (suc k) m n xs ys =
     (sym (ap (λ a. nat_cmp a (n % 256 ^ suc k)) (split_off k m) ∙ ap (nat_cmp (byte_at k m * 256 ^ k + m % 256 ^ k)) (split_off k n)
     ∙ digits_cmp (256 ^ k) (byte_at k m) (byte_at k n) (m % 256 ^ k) (n % 256 ^ k) (mod-lt m (pow_positive k)) (mod-lt n (pow_positive k))))
 
-raised_below : (x : ℤ) → FitsSigned w64 x → raised x < 256 ^ 8
-raised_below (pos n) f = omega (arith, f.sfits)
-raised_below (negsuc n) f = omega (arith, f.sfits)
+ordinal_below : (x : ℤ) → FitsSigned w64 x → ordinal_of x < 256 ^ 8
+ordinal_below (pos n) f = omega (arith, f.sfits)
+ordinal_below (negsuc n) f = omega (arith, f.sfits)
 
-raised_less : (x y : ℤ) → FitsSigned w64 x → FitsSigned w64 y → x <ℤ y → raised x < raised y
-raised_less (pos a) (pos b) f g h = omega (arith, ints, f.sfits, g.sfits)
-raised_less (pos a) (negsuc b) f g h = absurd (omega (arith, ints))
-raised_less (negsuc a) (pos b) f g h = omega (arith, ints, f.sfits, g.sfits)
-raised_less (negsuc a) (negsuc b) f g h = omega (arith, ints, f.sfits, g.sfits)
+ordinal_less : (x y : ℤ) → FitsSigned w64 x → FitsSigned w64 y → x <ℤ y → ordinal_of x < ordinal_of y
+ordinal_less (pos a) (pos b) f g h = omega (arith, ints, f.sfits, g.sfits)
+ordinal_less (pos a) (negsuc b) f g h = absurd (omega (arith, ints))
+ordinal_less (negsuc a) (pos b) f g h = omega (arith, ints, f.sfits, g.sfits)
+ordinal_less (negsuc a) (negsuc b) f g h = omega (arith, ints, f.sfits, g.sfits)
 
-raised_cmp : (x y : ℤ) → FitsSigned w64 x → FitsSigned w64 y → nat_cmp (raised x) (raised y) ≡ int_cmp x y
-raised_cmp x y f g =
-    sym (nat_cmp_is (raised x) (raised y) (int_cmp x y)
-    (mapped (int_cmp x y) (raised_less x y f g) (λ e. ap raised e) (raised_less y x g f) (int_ranks x y)))
+ordinal_cmp : (x y : ℤ) → FitsSigned w64 x → FitsSigned w64 y → nat_cmp (ordinal_of x) (ordinal_of y) ≡ int_cmp x y
+ordinal_cmp x y f g =
+    sym (nat_cmp_is (ordinal_of x) (ordinal_of y) (int_cmp x y)
+    (mapped (int_cmp x y) (ordinal_less x y f g) (λ e. ap ordinal_of e) (ordinal_less y x g f) (int_ranks x y)))
 
 int_bytes_cmp : (x y : ℤ) (xs ys : List ℕ) → FitsSigned w64 x → FitsSigned w64 y
-    → bytes_cmp (to_be_bytes w64 (raised x) ++ xs) (to_be_bytes w64 (raised y) ++ ys) ≡ ordering_then (int_cmp x y) (bytes_cmp xs ys)
+    → bytes_cmp (to_be_bytes w64 (ordinal_of x) ++ xs) (to_be_bytes w64 (ordinal_of y) ++ ys) ≡ ordering_then (int_cmp x y) (bytes_cmp xs ys)
 int_bytes_cmp x y xs ys f g =
-    high_first_cmp 8 (raised x) (raised y) xs ys
+    high_first_cmp 8 (ordinal_of x) (ordinal_of y) xs ys
     ∙ ap (λ o. ordering_then o (bytes_cmp xs ys))
-    (ap (λ a. nat_cmp a (raised y % 256 ^ 8)) (mod-eq_of_lt (raised_below x f)) ∙ ap (nat_cmp (raised x)) (mod-eq_of_lt (raised_below y g)) ∙ raised_cmp x y f g)
+    (ap (λ a. nat_cmp a (ordinal_of y % 256 ^ 8)) (mod-eq_of_lt (ordinal_below x f)) ∙ ap (nat_cmp (ordinal_of x)) (mod-eq_of_lt (ordinal_below y g)) ∙ ordinal_cmp x y f g)
 
 bool_bytes_cmp : (x y : Bool) (xs ys : List ℕ) → bytes_cmp (part_bytes (Truth x) ++ xs) (part_bytes (Truth y) ++ ys) ≡ ordering_then (bool_cmp x y) (bytes_cmp xs ys)
 bool_bytes_cmp true true xs ys = refl

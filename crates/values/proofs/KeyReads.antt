@@ -20,16 +20,16 @@ use Rattle.values.specs.declared.table.Table.{Table}
 use Rattle.values.specs.declared.key.Key.{Key}
 use Rattle.values.specs.Tables.{column_at}
 use Rattle.values.specs.Fit.{fits_type, parts_fault, part_fault, key_fault}
-use Rattle.values.specs.KeyEncoding.{raised, text_bytes, part_bytes, bytes_of_key}
+use Rattle.values.specs.KeyEncoding.{ordinal_of, text_bytes, part_bytes, bytes_of_key}
 use Rattle.values.specs.RowEncoding.{IsHeld}
 use Rattle.values.specs.RowReading.{Taken, after}
-use Rattle.values.specs.KeyReading.{IsKeyOf, IsKeyWith, NoKeyWith, lowered, text_from, number_from, name_from, truth_from, part_from, column_from, parts_from, is_empty, whole_key, key_from}
+use Rattle.values.specs.KeyReading.{IsKeyOf, IsKeyWith, NoKeyWith, number_at, text_from, number_from, name_from, truth_from, part_from, column_from, parts_from, is_empty, whole_key, key_from}
 use Rattle.values.proofs.KeyLengths.{FitsColumn, part_fits, first_none, key_fits}
 use Rattle.values.proofs.RowReads.{long, chosen, and_first, and_second, same_taken, byte_at, below_8, taken_length, at_least, AreBytes}
 
 -- numbers
-lowered-raised : (n : ℤ) → FitsSigned w64 n → lowered (raised n) ≡ n
-lowered-raised (pos n) f = upper (nat_lt (n + 9223372036854775808) 9223372036854775808) refl
+number_at-ordinal_of : (n : ℤ) → FitsSigned w64 n → number_at (ordinal_of n) ≡ n
+number_at-ordinal_of (pos n) f = upper (nat_lt (n + 9223372036854775808) 9223372036854775808) refl
   where
     upper : (t : Bool) → nat_lt (n + 9223372036854775808) 9223372036854775808 ≡ t
         → (if t then negsuc (9223372036854775807 - (n + 9223372036854775808)) else pos ((n + 9223372036854775808) - 9223372036854775808)) ≡ pos n
@@ -38,7 +38,7 @@ lowered-raised (pos n) f = upper (nat_lt (n + 9223372036854775808) 9223372036854
         no : (m : ℕ) → nat_lt m 9223372036854775808 ≡ true → 9223372036854775808 ≤ m → ⊥
         no m e h = grind (arith, nat_tests)
     upper false e = ap pos (omega arith)
-lowered-raised (negsuc n) f = lower (nat_lt (9223372036854775807 - n) 9223372036854775808) refl f
+number_at-ordinal_of (negsuc n) f = lower (nat_lt (9223372036854775807 - n) 9223372036854775808) refl f
   where
     lower : (t : Bool) → nat_lt (9223372036854775807 - n) 9223372036854775808 ≡ t → FitsSigned w64 (negsuc n)
         → (if t then negsuc (9223372036854775807 - (9223372036854775807 - n)) else pos ((9223372036854775807 - n) - 9223372036854775808)) ≡ negsuc n
@@ -48,27 +48,27 @@ lowered-raised (negsuc n) f = lower (nat_lt (9223372036854775807 - n) 9223372036
         no : (m : ℕ) → nat_lt m 9223372036854775808 ≡ false → m ≤ 9223372036854775807 → ⊥
         no m e h = grind (arith, nat_tests)
 
-raised_small : (n : ℤ) → FitsSigned w64 n → raised n < 2 ^ 64
-raised_small (pos n) f = omega (arith, f.sfits)
-raised_small (negsuc n) f = omega (arith, f.sfits)
+ordinal_small : (n : ℤ) → FitsSigned w64 n → ordinal_of n < 2 ^ 64
+ordinal_small (pos n) f = omega (arith, f.sfits)
+ordinal_small (negsuc n) f = omega (arith, f.sfits)
 
-record IsLowered (m : ℕ) (n : ℤ) : Type 0 where
+record IsNumberAt (m : ℕ) (n : ℤ) : Type 0 where
   fits : FitsSigned w64 n
-  raised_is : raised n ≡ m
+  ordinal_is : ordinal_of n ≡ m
 
-lowered_is : (m : ℕ) → m < 2 ^ 64 → IsLowered m (lowered m)
-lowered_is m h = half (nat_lt m 9223372036854775808) refl
+number_at_is : (m : ℕ) → m < 2 ^ 64 → IsNumberAt m (number_at m)
+number_at_is m h = half (nat_lt m 9223372036854775808) refl
   where
-    half : (t : Bool) → nat_lt m 9223372036854775808 ≡ t → IsLowered m (if t then negsuc (9223372036854775807 - m) else pos (m - 9223372036854775808))
-    half true e = let b : m < 9223372036854775808 = grind (arith, nat_tests) in record { fits = record { sfits = omega arith }; raised_is = omega arith }
-    half false e = let b : 9223372036854775808 ≤ m = grind (arith, nat_tests) in record { fits = record { sfits = omega arith }; raised_is = omega arith }
+    half : (t : Bool) → nat_lt m 9223372036854775808 ≡ t → IsNumberAt m (if t then negsuc (9223372036854775807 - m) else pos (m - 9223372036854775808))
+    half true e = let b : m < 9223372036854775808 = grind (arith, nat_tests) in record { fits = record { sfits = omega arith }; ordinal_is = omega arith }
+    half false e = let b : 9223372036854775808 ≤ m = grind (arith, nat_tests) in record { fits = record { sfits = omega arith }; ordinal_is = omega arith }
 
-number_back : (n : ℤ) (rest : List ℕ) → FitsSigned w64 n → number_from (to_be_bytes w64 (raised n) ++ rest) ≡ Some (Int n, rest)
+number_back : (n : ℤ) (rest : List ℕ) → FitsSigned w64 n → number_from (to_be_bytes w64 (ordinal_of n) ++ rest) ≡ Some (Int n, rest)
 unfolding number_from
 number_back n rest f =
-    chosen _ _ None (long (to_be_bytes w64 (raised n)) rest)
-    ∙ ap (λ m. Some (Int (lowered m), rest)) (from_be_bytes-to_be_bytes_8 (raised n) (raised_small n f))
-    ∙ ap (λ z. Some (Int z, rest)) (lowered-raised n f)
+    chosen _ _ None (long (to_be_bytes w64 (ordinal_of n)) rest)
+    ∙ ap (λ m. Some (Int (number_at m), rest)) (from_be_bytes-to_be_bytes_8 (ordinal_of n) (ordinal_small n f))
+    ∙ ap (λ z. Some (Int z, rest)) (number_at-ordinal_of n f)
 
 -- texts
 text_back : (t rest : List ℕ) → text_from false (text_bytes t ++ rest) ≡ Some (t, rest)
@@ -152,15 +152,15 @@ reads bytes w v left rest e r =
     subst (λ x. Reads bytes x rest) parts.0 (subst (λ l. Reads bytes w l) parts.1 r)
 
 number_found : (bytes : List ℕ) (v : Value) (rest : List ℕ) (t : Bool) → nat_le 8 (length bytes) ≡ t → AreBytes bytes
-    → ◌≡◌ {A = Taken Value} (if t then Some (Int (lowered (from_be_bytes w64 (take 8 bytes))), drop 8 bytes) else None) (Some (v, rest)) → Reads bytes v rest
+    → ◌≡◌ {A = Taken Value} (if t then Some (Int (number_at (from_be_bytes w64 (take 8 bytes))), drop 8 bytes) else None) (Some (v, rest)) → Reads bytes v rest
 number_found bytes v rest false e h is = cc
 number_found bytes v rest true e h is =
     let m = from_be_bytes w64 (take 8 bytes) in
     let each = byte_at (take 8 bytes) (All-take (λ b. b < 256) 8 bytes h) in
-    let low = lowered_is m (below_8 (take 8 bytes) each) in
-    reads bytes (Int (lowered m)) v (drop 8 bytes) rest is (record {
+    let low = number_at_is m (below_8 (take 8 bytes) each) in
+    reads bytes (Int (number_at m)) v (drop 8 bytes) rest is (record {
       spelled = sym (take-append-drop 8 bytes)
-          ∙ ap (λ l. l ++ drop 8 bytes) (sym (be_bytes_8 (take 8 bytes) m (taken_length 8 bytes (at_least 8 bytes e)) each refl) ∙ ap (to_be_bytes w64) (sym low.raised_is));
+          ∙ ap (λ l. l ++ drop 8 bytes) (sym (be_bytes_8 (take 8 bytes) m (taken_length 8 bytes (at_least 8 bytes e)) each refl) ∙ ap (to_be_bytes w64) (sym low.ordinal_is));
       held = low.fits;
     })
 

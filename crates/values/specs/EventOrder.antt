@@ -5,4 +5,7 @@ use Rattle.values.specs.Event.{Event}
 use Rattle.values.specs.Events.{event_cmp}
 
 pub event_total : IsTotalOrder event_cmp
-event_total = then_total (on_total (λ (e : Event). e.key) nat_list_cmp_total) (on_total (λ (e : Event). e.at) nat_cmp_total)
+event_total =
+    then_total
+    (on_total (λ (e : Event). e.key) nat_list_cmp_total)
+    (on_total (λ (e : Event). e.at) nat_cmp_total)

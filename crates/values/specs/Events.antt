@@ -56,7 +56,8 @@ later None o = o
 -- the key's last event at the instant or before it
 abbrev pub event_until : List Event → List ℕ → ℕ → Option Event
 event_until [] key t = None
-event_until (e ∷ es) key t = later (event_until es key t) (if is_bytes key e.key && nat_le e.at t then Some e else None)
+event_until (e ∷ es) key t =
+    later (event_until es key t) (if is_bytes key e.key && nat_le e.at t then Some e else None)
 
 -- the key's row at the instant
 abbrev pub row_until : List Event → List ℕ → ℕ → Option Row
@@ -65,7 +66,9 @@ row_until es key t = option_and_then (λ e. e.row) (event_until es key t)
 -- the instant of the key's last event above another
 abbrev pub event_since : List Event → ℕ → List ℕ → Option ℕ
 event_since [] start key = None
-event_since (e ∷ es) start key = later (event_since es start key) (if is_bytes key e.key && nat_lt start e.at then Some e.at else None)
+event_since (e ∷ es) start key =
+    later (event_since es start key)
+    (if is_bytes key e.key && nat_lt start e.at then Some e.at else None)
 
 -- ---- events that are added
 
@@ -77,4 +80,6 @@ put_event e (d ∷ ds) = match_ordering (event_cmp e d) (e ∷ d ∷ ds) (e ∷ 
 -- what a transaction changed at an instant
 abbrev pub put_net : ℕ → Net → List Event → List Event
 put_net instant [] es = es
-put_net instant (c ∷ net) es = put_net instant net (put_event (record { key = bytes_of_key c.0; at = instant; row = c.1 }) es)
+put_net instant (c ∷ net) es =
+    put_net instant net
+    (put_event (record { key = bytes_of_key c.0; at = instant; row = c.1 }) es)

@@ -45,30 +45,42 @@ fits_value in_key column value = fits_type (text_limit in_key) column.of value
 
 -- the first column, numbered from n, whose value does not fit
 abbrev pub first_fault : Table → ℕ → List Column → Row → Option ℕ
-first_fault table n (c ∷ cs) (v ∷ vs) = if fits_value (is_key_column table n) c v then first_fault table (n + 1) cs vs else Some n
+first_fault table n (c ∷ cs) (v ∷ vs) =
+    if fits_value (is_key_column table n) c v then first_fault table (n + 1) cs vs else Some n
 first_fault table n _ _ = None
 
 -- the width comes first
 abbrev pub row_fault : Table → Row → Option ℕ
-row_fault table row = if length table.columns == length row then first_fault table 1 table.columns row else Some 0
+row_fault table row =
+    if length table.columns == length row then first_fault table 1 table.columns row else Some 0
 
 -- the first fault of rows in turn
 abbrev pub rows_fault : Table → List Row → Option ℕ
 rows_fault table [] = None
-rows_fault table (row ∷ rows) = elim (row_fault table row) [ Some n ↦ Some n | None ↦ rows_fault table rows ]
+rows_fault table (row ∷ rows) = elim (row_fault table row) [
+  | Some n ↦ Some n
+  | None ↦ rows_fault table rows
+]
 
 -- the key column where its value does not fit
 abbrev pub part_fault : Table → ℕ → Value → Option ℕ
-part_fault table n v = elim (column_at table n) [ None ↦ Some 0 | Some c ↦ if fits_value true c v then None else Some n ]
+part_fault table n v = elim (column_at table n) [
+  | None ↦ Some 0
+  | Some c ↦ if fits_value true c v then None else Some n
+]
 
 -- the first of them; the values stand in the key's order
 abbrev pub parts_fault : Table → List ℕ → List Value → Option ℕ
-parts_fault table (n ∷ ns) (v ∷ vs) = elim (part_fault table n v) [ Some column ↦ Some column | None ↦ parts_fault table ns vs ]
+parts_fault table (n ∷ ns) (v ∷ vs) = elim (part_fault table n v) [
+  | Some column ↦ Some column
+  | None ↦ parts_fault table ns vs
+]
 parts_fault table _ _ = None
 
 -- the width of a key comes first
 abbrev pub key_fault : Table → List Value → Option ℕ
-key_fault table parts = if length table.key == length parts then parts_fault table table.key parts else Some 0
+key_fault table parts =
+    if length table.key == length parts then parts_fault table table.key parts else Some 0
 
 -- a value that a column can be compared with, however long its own texts are
 abbrev pub can_compare : ColumnType → Value → Bool
@@ -78,12 +90,17 @@ can_compare of v = fits_type 200 of v
 abbrev pub comparison_fault : Table → Comparison → Option ℕ
 comparison_fault table c = elim (column_at table c.column) [
   | None ↦ Some 0
-  | Some column ↦ if is_key_column table c.column && can_compare column.of c.value then None else Some c.column
+  | Some column ↦
+      if is_key_column table c.column && can_compare column.of c.value then None
+      else Some c.column
 ]
 
 abbrev pub comparisons_fault : Table → List Comparison → Option ℕ
 comparisons_fault table [] = None
-comparisons_fault table (c ∷ cs) = elim (comparison_fault table c) [ Some n ↦ Some n | None ↦ comparisons_fault table cs ]
+comparisons_fault table (c ∷ cs) = elim (comparison_fault table c) [
+  | Some n ↦ Some n
+  | None ↦ comparisons_fault table cs
+]
 
 -- the name comes before the value: no column, or one that an earlier entry sets, is a fault of the name
 abbrev pub set_fault : Table → List Set → Set → Option ℕ
@@ -99,7 +116,10 @@ set_fault table earlier s = elim (column_at table s.column) [
 -- the first fault of what an UPDATE sets, after these entries
 abbrev pub sets_fault : Table → List Set → List Set → Option ℕ
 sets_fault table earlier [] = None
-sets_fault table earlier (s ∷ sets) = elim (set_fault table earlier s) [ Some n ↦ Some n | None ↦ sets_fault table (earlier ++ s ∷ []) sets ]
+sets_fault table earlier (s ∷ sets) = elim (set_fault table earlier s) [
+  | Some n ↦ Some n
+  | None ↦ sets_fault table (earlier ++ s ∷ []) sets
+]
 
 -- one fault, or where there is none the next
 abbrev pub first_of : Option ℕ → Option ℕ → Option ℕ

@@ -6,10 +6,10 @@ use Rattle.values.specs.declared.value.Value.{Value}
 use Rattle.values.specs.declared.value.Value.TheVariants.{Int, Text, Bool as Truth, Null}
 use Rattle.values.specs.declared.key.Key.{Key}
 
--- a whole number of 64 bits plus 2^63
-abbrev pub raised : ℤ → ℕ
-raised (pos n) = n + 9223372036854775808
-raised (negsuc n) = 9223372036854775807 - n
+-- the place of a whole number among those of 64 bits, from 0: the number plus 2^63
+abbrev pub ordinal_of : ℤ → ℕ
+ordinal_of (pos n) = n + 9223372036854775808
+ordinal_of (negsuc n) = 9223372036854775807 - n
 
 -- the bytes with 255 after each 0, and then two zeros
 abbrev pub text_bytes : List ℕ → List ℕ
@@ -18,7 +18,7 @@ text_bytes (b ∷ bs) = if b == 0 then 0 ∷ 255 ∷ text_bytes bs else b ∷ te
 
 -- NULL has none, and is in no key
 abbrev pub part_bytes : Value → List ℕ
-part_bytes (Int n) = to_be_bytes w64 (raised n)
+part_bytes (Int n) = to_be_bytes w64 (ordinal_of n)
 part_bytes (Text t) = text_bytes t
 part_bytes (Truth t) = (if t then 1 else 0) ∷ []
 part_bytes Null = []

@@ -28,24 +28,38 @@ AreOfOneSchema table k l = k.table ≡ l.table → AreKeyParts table k.parts × 
 
 -- the order of their bytes is the order of keys
 abbrev pub ByteOrderIsKeyOrder : Type 0
-ByteOrderIsKeyOrder = (table : Table) (k l : Key) → AreOfOneSchema table k l → slice_cmp nat_cmp (bytes_of_key k) (bytes_of_key l) ≡ key_cmp k l
+ByteOrderIsKeyOrder =
+    (table : Table) (k l : Key) → AreOfOneSchema table k l
+    → slice_cmp nat_cmp (bytes_of_key k) (bytes_of_key l) ≡ key_cmp k l
 
 -- other keys have other bytes
 abbrev pub BytesTellKeysApart : Type 0
-BytesTellKeysApart = (table : Table) (k l : Key) → AreOfOneSchema table k l → bytes_of_key k ≡ bytes_of_key l → k ≡ l
+BytesTellKeysApart =
+    (table : Table) (k l : Key) → AreOfOneSchema table k l
+    → bytes_of_key k ≡ bytes_of_key l → k ≡ l
 
 -- no key's bytes begin another's
 abbrev pub NoKeyBeginsAnother : Type 0
-NoKeyBeginsAnother = (table : Table) (k l : Key) (more : List ℕ) → AreOfOneSchema table k l → bytes_of_key k ++ more ≡ bytes_of_key l → k ≡ l
+NoKeyBeginsAnother =
+    (table : Table) (k l : Key) (more : List ℕ) → AreOfOneSchema table k l
+    → bytes_of_key k ++ more ≡ bytes_of_key l → k ≡ l
 
 -- values that fit a table of at most four key columns have bytes
 abbrev pub FittingKeysAreShort : Type 0
-FittingKeysAreShort = (table : Table) (key : Key) → length table.key ≤ 4 → key_fault table key.parts ≡ None → IsShortKey key
+FittingKeysAreShort =
+    (table : Table) (key : Key) → length table.key ≤ 4 → key_fault table key.parts ≡ None
+    → IsShortKey key
 
--- bytes worked out by hand, in table 1
+-- the key of a row of table 1 that has these values, put to bytes
+abbrev pub bytes_in_1 : List Value → List ℕ
+bytes_in_1 parts = bytes_of_key (record { table = 1; parts = parts })
+
+-- bytes worked out by hand
 pub record WorkedKeyBytes : Type 0 where
-  pub one : bytes_of_key (record { table = 1; parts = Int (pos 1) ∷ [] }) ≡ 1 ∷ 128 ∷ 0 ∷ 0 ∷ 0 ∷ 0 ∷ 0 ∷ 0 ∷ 1 ∷ []
-  pub minus_one : bytes_of_key (record { table = 1; parts = Int (negsuc 0) ∷ [] }) ≡ 1 ∷ 127 ∷ 255 ∷ 255 ∷ 255 ∷ 255 ∷ 255 ∷ 255 ∷ 255 ∷ []
-  pub letter : bytes_of_key (record { table = 1; parts = Text (97 ∷ []) ∷ [] }) ≡ 1 ∷ 97 ∷ 0 ∷ 0 ∷ []
-  pub letter_and_number : bytes_of_key (record { table = 1; parts = Text (97 ∷ []) ∷ Int (pos 2) ∷ [] }) ≡ 1 ∷ 97 ∷ 0 ∷ 0 ∷ 128 ∷ 0 ∷ 0 ∷ 0 ∷ 0 ∷ 0 ∷ 0 ∷ 2 ∷ []
-  pub zero_byte : bytes_of_key (record { table = 1; parts = Text (0 ∷ []) ∷ [] }) ≡ 1 ∷ 0 ∷ 255 ∷ 0 ∷ 0 ∷ []
+  pub one : bytes_in_1 (Int (pos 1) ∷ []) ≡ 1 ∷ 128 ∷ 0 ∷ 0 ∷ 0 ∷ 0 ∷ 0 ∷ 0 ∷ 1 ∷ []
+  pub minus_one : bytes_in_1 (Int (negsuc 0) ∷ [])
+      ≡ 1 ∷ 127 ∷ 255 ∷ 255 ∷ 255 ∷ 255 ∷ 255 ∷ 255 ∷ 255 ∷ []
+  pub letter : bytes_in_1 (Text (97 ∷ []) ∷ []) ≡ 1 ∷ 97 ∷ 0 ∷ 0 ∷ []
+  pub letter_and_number : bytes_in_1 (Text (97 ∷ []) ∷ Int (pos 2) ∷ [])
+      ≡ 1 ∷ 97 ∷ 0 ∷ 0 ∷ 128 ∷ 0 ∷ 0 ∷ 0 ∷ 0 ∷ 0 ∷ 0 ∷ 2 ∷ []
+  pub zero_byte : bytes_in_1 (Text (0 ∷ []) ∷ []) ≡ 1 ∷ 0 ∷ 255 ∷ 0 ∷ 0 ∷ []

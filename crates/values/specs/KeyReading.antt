@@ -29,25 +29,37 @@ pub record IsKeyWith (table : Table) (bytes : List ℕ) (key : Key) : Type 0 whe
 abbrev pub NoKeyWith : Table → List ℕ → Type 0
 NoKeyWith table bytes = (key : Key) → IsKeyOf table key → bytes_of_key key ≡ bytes → ⊥
 
--- the number whose bytes are those of n: n less 2^63
-abbrev pub lowered : ℕ → ℤ
-lowered n = if nat_lt n 9223372036854775808 then negsuc (9223372036854775807 - n) else pos (n - 9223372036854775808)
+-- the whole number at a place among those of 64 bits: the place less 2^63
+abbrev pub number_at : ℕ → ℤ
+number_at n =
+    if nat_lt n 9223372036854775808 then negsuc (9223372036854775807 - n)
+    else pos (n - 9223372036854775808)
 
 -- a text up to its end mark, after a zero or not
 abbrev pub text_from : Bool → List ℕ → Taken (List ℕ)
 text_from zero_before [] = None
 text_from false (b ∷ bs) = if b == 0 then text_from true bs else after (b ∷ []) (text_from false bs)
-text_from true (b ∷ bs) = if b == 0 then Some ([], bs) else if b == 255 then after (0 ∷ []) (text_from false bs) else None
+text_from true (b ∷ bs) =
+    if b == 0 then Some ([], bs)
+    else if b == 255 then after (0 ∷ []) (text_from false bs)
+    else None
 
 unfoldable pub number_from : List ℕ → Taken Value
-number_from bytes = if nat_le 8 (length bytes) then Some (Int (lowered (from_be_bytes w64 (take 8 bytes))), drop 8 bytes) else None
+number_from bytes =
+    if nat_le 8 (length bytes)
+    then Some (Int (number_at (from_be_bytes w64 (take 8 bytes))), drop 8 bytes)
+    else None
 
 unfoldable pub name_from : List ℕ → Taken Value
-name_from bytes = elim (text_from false bytes) [ None ↦ None | Some x ↦ if is_utf8 x.0 then Some (Text x.0, x.1) else None ]
+name_from bytes = elim (text_from false bytes) [
+  | None ↦ None
+  | Some x ↦ if is_utf8 x.0 then Some (Text x.0, x.1) else None
+]
 
 abbrev pub truth_from : List ℕ → Taken Value
 truth_from [] = None
-truth_from (b ∷ bs) = if b == 0 then Some (Truth false, bs) else if b == 1 then Some (Truth true, bs) else None
+truth_from (b ∷ bs) =
+    if b == 0 then Some (Truth false, bs) else if b == 1 then Some (Truth true, bs) else None
 
 unfoldable pub part_from : ColumnType → List ℕ → Taken Value
 part_from IsInt bytes = number_from bytes
@@ -56,11 +68,17 @@ part_from (IsVarchar n) bytes = name_from bytes
 part_from IsBoolean bytes = truth_from bytes
 
 unfoldable pub column_from : Table → ℕ → List ℕ → Taken Value
-column_from table n bytes = elim (column_at table n) [ None ↦ None | Some column ↦ part_from column.of bytes ]
+column_from table n bytes = elim (column_at table n) [
+  | None ↦ None
+  | Some column ↦ part_from column.of bytes
+]
 
 abbrev pub parts_from : Table → List ℕ → List ℕ → Taken (List Value)
 parts_from table [] bytes = Some ([], bytes)
-parts_from table (n ∷ ns) bytes = elim (column_from table n bytes) [ None ↦ None | Some x ↦ after (x.0 ∷ []) (parts_from table ns x.1) ]
+parts_from table (n ∷ ns) bytes = elim (column_from table n bytes) [
+  | None ↦ None
+  | Some x ↦ after (x.0 ∷ []) (parts_from table ns x.1)
+]
 
 abbrev pub is_empty : List ℕ → Bool
 is_empty [] = true
@@ -69,8 +87,12 @@ is_empty (b ∷ bs) = false
 -- parts with nothing behind them, which fit
 abbrev pub whole_key : Table → Taken (List Value) → Option Key
 whole_key table None = None
-whole_key table (Some (parts, rest)) = if is_empty rest && is_none (key_fault table parts) then Some (record { table = table.number; parts = parts }) else None
+whole_key table (Some (parts, rest)) =
+    if is_empty rest && is_none (key_fault table parts)
+    then Some (record { table = table.number; parts = parts })
+    else None
 
 abbrev pub key_from : Table → List ℕ → Option Key
 key_from table [] = None
-key_from table (b ∷ bytes) = if b == table.number then whole_key table (parts_from table table.key bytes) else None
+key_from table (b ∷ bytes) =
+    if b == table.number then whole_key table (parts_from table table.key bytes) else None

@@ -29,15 +29,23 @@ StateIsAsOf = (log : Log) (t : ℕ) → IsLog log → state log t ≡ rows_by (c
 
 -- of what was committed until then, it is the rows of the versions that have not ended
 abbrev pub StateIsCurrent : Type 0
-StateIsCurrent = (log : Log) (t : ℕ) → IsLog log → state log t ≡ rows_by (changes (upto log t)) Plain
+StateIsCurrent =
+    (log : Log) (t : ℕ) → IsLog log → state log t ≡ rows_by (changes (upto log t)) Plain
 
 -- a query as of an instant shows the rows of the state then that the keys take, by key
 abbrev pub AsOfShowsState : Type 0
-AsOfShowsState = (log : Log) (t : ℕ) (table : Table) (keys : Keys) → IsLog log → shown_rows (changes log) table (AsOf t) keys ≡ map (λ e. e.1) (filter (λ e. matches table keys e.0) (state log t))
+AsOfShowsState =
+    (log : Log) (t : ℕ) (table : Table) (keys : Keys) → IsLog log
+    → shown_rows (changes log) table (AsOf t) keys
+    ≡ map (λ e. e.1) (filter (λ e. matches table keys e.0) (state log t))
 
 -- what comes later changes nothing of it
 abbrev pub AsOfStays : Type 0
-AsOfStays = (log later : Log) (t : ℕ) (table : Table) (keys : Keys) → IsLog (log ++ later) → t ≤ last log → shown_rows (changes (log ++ later)) table (AsOf t) keys ≡ shown_rows (changes log) table (AsOf t) keys
+AsOfStays =
+    (log later : Log) (t : ℕ) (table : Table) (keys : Keys)
+    → IsLog (log ++ later) → t ≤ last log
+    → shown_rows (changes (log ++ later)) table (AsOf t) keys
+    ≡ shown_rows (changes log) table (AsOf t) keys
 
 -- the changes up to an instant
 abbrev pub changes_upto : Changes → ℕ → Changes

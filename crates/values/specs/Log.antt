@@ -67,7 +67,9 @@ Changes = List (Point × Option Row)
 
 abbrev pub add_net : ℕ → Changes → Net → Changes
 add_net instant m [] = m
-add_net instant m (change ∷ net) = add_net instant (insert_entry point_cmp m (record { key = change.0; instant = instant }) change.1) net
+add_net instant m (change ∷ net) =
+    add_net instant
+    (insert_entry point_cmp m (record { key = change.0; instant = instant }) change.1) net
 
 abbrev pub add_all : Changes → Log → Changes
 add_all m [] = m

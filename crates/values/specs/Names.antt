@@ -16,7 +16,8 @@ same_name x y = (length x == length y) && same_letters x y
 
 -- the number of the first table with the name
 abbrev pub table_number : Schema → List ℕ → Option ℕ
-table_number schema name = option_map (λ t. t.number) (find (λ t. same_name t.name name) schema.tables)
+table_number schema name =
+    option_map (λ t. t.number) (find (λ t. same_name t.name name) schema.tables)
 
 -- the number of the first column with the name, from 1
 abbrev pub column_number : Table → List ℕ → Option ℕ

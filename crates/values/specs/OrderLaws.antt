@@ -24,7 +24,10 @@ truth_of _ = false
 
 -- the same order, field by field
 abbrev by_parts : Value → Value → Ordering
-by_parts = then_cmp (on kind_of nat_cmp) (then_cmp (on int_of int_cmp) (then_cmp (on text_of (slice_cmp nat_cmp)) (on truth_of bool_cmp)))
+by_parts =
+    then_cmp (on kind_of nat_cmp)
+    (then_cmp (on int_of int_cmp)
+    (then_cmp (on text_of (slice_cmp nat_cmp)) (on truth_of bool_cmp)))
 
 then_equal : (o : Ordering) → ordering_then o Equal ≡ o
 then_equal Less = refl
@@ -50,4 +53,8 @@ same Null (Truth y) = refl
 same Null Null = refl
 
 pub value_cmp_total : IsTotalOrder value_cmp
-value_cmp_total = subst IsTotalOrder (λ i x y. same x y i) (then_total (on_total kind_of nat_cmp_total) (then_total (on_total int_of int_cmp_total) (then_total (on_total text_of nat_list_cmp_total) (on_total truth_of bool_cmp_total))))
+value_cmp_total =
+    subst IsTotalOrder (λ i x y. same x y i)
+    (then_total (on_total kind_of nat_cmp_total)
+    (then_total (on_total int_of int_cmp_total)
+    (then_total (on_total text_of nat_list_cmp_total) (on_total truth_of bool_cmp_total))))

@@ -52,4 +52,6 @@ pub record StandsIn (bytes : List ℕ) (n : ℕ) (row : Row) : Type 0 where
 
 -- no row stands at the front
 abbrev pub NoRowAt : List ℕ → Type 0
-NoRowAt bytes = (row : Row) (rest : List ℕ) → IsStoredRow row → All IsHeld row → bytes ≡ bytes_of_row row ++ rest → ⊥
+NoRowAt bytes =
+    (row : Row) (rest : List ℕ) → IsStoredRow row → All IsHeld row
+    → bytes ≡ bytes_of_row row ++ rest → ⊥

@@ -17,16 +17,24 @@ Takes view None taken = taken ≡ None
 Takes view (Some x) taken = taken ≡ Some (view x.0, x.1.now)
 
 unfoldable pub int_from : List ℕ → Taken Value
-int_from bytes = if nat_le 8 (length bytes) then Some (Int (cast_signed w64 (from_be_bytes w64 (take 8 bytes))), drop 8 bytes) else None
+int_from bytes =
+    if nat_le 8 (length bytes)
+    then Some (Int (cast_signed w64 (from_be_bytes w64 (take 8 bytes))), drop 8 bytes)
+    else None
 
 abbrev pub is_stored_text : List ℕ → Bool
 is_stored_text text = fits_text 1000 text && is_utf8 text
 
 unfoldable pub text_of : ℕ → List ℕ → Taken Value
-text_of n bytes = if nat_le n (length bytes) && is_stored_text (take n bytes) then Some (Text (take n bytes), drop n bytes) else None
+text_of n bytes =
+    if nat_le n (length bytes) && is_stored_text (take n bytes)
+    then Some (Text (take n bytes), drop n bytes)
+    else None
 
 unfoldable pub text_from : List ℕ → Taken Value
-text_from bytes = if nat_le 2 (length bytes) then text_of (from_be_bytes w16 (take 2 bytes)) (drop 2 bytes) else None
+text_from bytes =
+    if nat_le 2 (length bytes) then text_of (from_be_bytes w16 (take 2 bytes)) (drop 2 bytes)
+    else None
 
 unfoldable pub tagged_from : ℕ → List ℕ → Taken Value
 tagged_from tag bytes =
@@ -48,10 +56,15 @@ after xs (Some (ys, rest)) = Some (xs ++ ys, rest)
 
 abbrev pub values_from : ℕ → List ℕ → Taken (List Value)
 values_from zero bytes = Some ([], bytes)
-values_from (suc n) bytes = elim (value_from bytes) [ None ↦ None | Some x ↦ after (x.0 ∷ []) (values_from n x.1) ]
+values_from (suc n) bytes = elim (value_from bytes) [
+  | None ↦ None
+  | Some x ↦ after (x.0 ∷ []) (values_from n x.1)
+]
 
 -- a row and the number of its bytes
 abbrev pub row_from : List ℕ → Option (Row × ℕ)
 row_from [] = None
 row_from (n ∷ bytes) =
-    if nat_le 1 n && nat_le n 16 then option_map (λ x. (x.0, length (n ∷ bytes) - length x.1)) (values_from n bytes) else None
+    if nat_le 1 n && nat_le n 16
+    then option_map (λ x. (x.0, length (n ∷ bytes) - length x.1)) (values_from n bytes)
+    else None

@@ -7,7 +7,9 @@ abbrev pub sample_table : Table
 sample_table = record {
   number = 1;
   name = codes "emp";
-  columns = record { name = codes "no"; of = IsInt; not_null = false } ∷ record { name = codes "name"; of = IsText; not_null = false } ∷ [];
+  columns =
+      record { name = codes "no"; of = IsInt; not_null = false }
+      ∷ record { name = codes "name"; of = IsText; not_null = false } ∷ [];
   key = 1 ∷ [];
   row_start = codes "sys_start";
   row_end = codes "sys_end";

@@ -27,12 +27,15 @@ pub record Version : Type 0 where
 -- the key's next change after an instant: changes are in order, so it is the first
 abbrev pub next_change : Changes → Key → ℕ → Option ℕ
 next_change [] key instant = None
-next_change (c ∷ cs) key instant = if is_key key c.0.key && nat_lt instant c.0.instant then Some c.0.instant else next_change cs key instant
+next_change (c ∷ cs) key instant =
+    if is_key key c.0.key && nat_lt instant c.0.instant then Some c.0.instant
+    else next_change cs key instant
 
 -- a change to a row begins a version, which the key's next change ends
 abbrev pub version_of : Changes → (Point × Option Row) → Option Version
 version_of m (p, None) = None
-version_of m (p, Some row) = Some (record { key = p.key; row = row; from = p.instant; to = next_change m p.key p.instant })
+version_of m (p, Some row) =
+    Some (record { key = p.key; row = row; from = p.instant; to = next_change m p.key p.instant })
 
 -- by key, and then by start
 abbrev pub versions : Changes → List Version
@@ -58,22 +61,27 @@ compares AtLeast o = is_ge o
 
 -- a key's value of a column, or none where the column is not one of the key's
 abbrev pub part_of : Table → Key → ℕ → Option Value
-part_of table key column = option_and_then (slice_get key.parts) (position (λ k. k == column) table.key)
+part_of table key column =
+    option_and_then (slice_get key.parts) (position (λ k. k == column) table.key)
 
 -- the key's value of the column compares so
 abbrev pub holds : Table → Key → Comparison → Bool
-holds table key c = elim (part_of table key c.column) [ None ↦ false | Some value ↦ compares c.operator (value_cmp value c.value) ]
+holds table key c = elim (part_of table key c.column) [
+  | None ↦ false
+  | Some value ↦ compares c.operator (value_cmp value c.value)
+]
 
 -- a key of the table that meets all comparisons
 abbrev pub matches : Table → Keys → Key → Bool
 matches table keys key = (key.table == keys.table) && list_all (holds table key) keys.comparisons
 
-abbrev pub shown : Version → Shown
-shown v = record { row = v.row; from = v.from; to = v.to }
+abbrev pub shown_version : Version → Shown
+shown_version v = record { row = v.row; from = v.from; to = v.to }
 
-abbrev pub selected : Changes → Table → Form → Keys → List Version
-selected m table form keys = filter (λ v. matches table keys v.key && selects form v.from v.to) (versions m)
+abbrev pub selected_versions : Changes → Table → Form → Keys → List Version
+selected_versions m table form keys =
+    filter (λ v. matches table keys v.key && selects form v.from v.to) (versions m)
 
 -- what a query shows of what was committed
 abbrev pub answer : Changes → Table → Form → Keys → List Shown
-answer m table form keys = map shown (selected m table form keys)
+answer m table form keys = map shown_version (selected_versions m table form keys)

@@ -23,12 +23,15 @@ key_of table row = record { table = table.number; parts = map (value_at row) tab
 
 abbrev pub insert_rows : Table → List Row → State → State
 insert_rows table [] m = m
-insert_rows table (row ∷ rows) m = insert_rows table rows (insert_entry key_cmp m (key_of table row) row)
+insert_rows table (row ∷ rows) m =
+    insert_rows table rows (insert_entry key_cmp m (key_of table row) row)
 
 -- the first of the keys that m has, or that is among the earlier ones
 abbrev pub duplicate_from : State → List Key → List Key → Option Key
 duplicate_from m earlier [] = None
-duplicate_from m earlier (k ∷ ks) = if is_some (row_at m k) || list_any (is_key k) earlier then Some k else duplicate_from m (earlier ++ k ∷ []) ks
+duplicate_from m earlier (k ∷ ks) =
+    if is_some (row_at m k) || list_any (is_key k) earlier then Some k
+    else duplicate_from m (earlier ++ k ∷ []) ks
 
 -- the key of the first row whose key m has, or an earlier row has
 abbrev pub duplicate : Table → List Row → State → Option Key
@@ -39,14 +42,15 @@ set_all [] row = row
 set_all (s ∷ sets) row = set_all sets (slice_set row (s.column - 1) s.value)
 
 abbrev pub update_rows : Table → Keys → List Set → State → State
-update_rows table keys sets m = map (λ e. if matches table keys e.0 then (e.0, set_all sets e.1) else e) m
+update_rows table keys sets m =
+    map (λ e. if matches table keys e.0 then (e.0, set_all sets e.1) else e) m
 
 abbrev pub delete_rows : Table → Keys → State → State
 delete_rows table keys m = filter (λ e. not (matches table keys e.0)) m
 
 -- the keys that the comparisons meet
-abbrev pub met : Table → Keys → State → List Key
-met table keys m = map (λ e. e.0) (filter (λ e. matches table keys e.0) m)
+abbrev pub matching_keys : Table → Keys → State → List Key
+matching_keys table keys m = map (λ e. e.0) (filter (λ e. matches table keys e.0) m)
 
 -- a set of keys, in order, with more keys
 abbrev pub add_keys : List Key → List Key → List Key
@@ -55,7 +59,8 @@ add_keys (k ∷ ks) ls = add_keys ks (insert_key key_cmp ls k)
 
 -- what the keys have in the end, without those that are absent both before and after
 abbrev pub net_of : State → State → List Key → Net
-net_of before now keys = filter (λ c. is_some c.1 || is_some (row_at before c.0)) (map (λ k. (k, row_at now k)) keys)
+net_of before now keys =
+    filter (λ c. is_some c.1 || is_some (row_at before c.0)) (map (λ k. (k, row_at now k)) keys)
 
 -- rows with their keys, inserted in turn
 abbrev pub insert_all : State → State → State
@@ -74,19 +79,24 @@ abbrev pub Written : Type 0
 Written = Result ℕ Refusal × Own
 
 -- a write of keys, unless they are too many
-abbrev pub writing : List Key → ℕ → State → Own → Written
-writing keys count rows o =
+abbrev pub write_keys : List Key → ℕ → State → Own → Written
+write_keys keys count rows o =
     let written = add_keys keys o.written in
-    if nat_lt most_written (length written) then (Err TooManyWrites, o) else (Ok count, record { rows = rows; written = written })
+    if nat_lt most_written (length written) then (Err TooManyWrites, o)
+    else (Ok count, record { rows = rows; written = written })
 
 abbrev pub insert_into : Table → List Row → Own → Written
 insert_into table rows o = elim (duplicate table rows o.rows) [
   | Some key ↦ (Err (DuplicateKey key), o)
-  | None ↦ writing (map (key_of table) rows) (length rows) (insert_rows table rows o.rows) o
+  | None ↦ write_keys (map (key_of table) rows) (length rows) (insert_rows table rows o.rows) o
 ]
 
 abbrev pub update_in : Table → Keys → List Set → Own → Written
-update_in table keys sets o = writing (met table keys o.rows) (length (met table keys o.rows)) (update_rows table keys sets o.rows) o
+update_in table keys sets o =
+    write_keys (matching_keys table keys o.rows) (length (matching_keys table keys o.rows))
+    (update_rows table keys sets o.rows) o
 
 abbrev pub delete_from : Table → Keys → Own → Written
-delete_from table keys o = writing (met table keys o.rows) (length (met table keys o.rows)) (delete_rows table keys o.rows) o
+delete_from table keys o =
+    write_keys (matching_keys table keys o.rows) (length (matching_keys table keys o.rows))
+    (delete_rows table keys o.rows) o

@@ -35,7 +35,8 @@ impl Event {
 
     /// None where the key is empty.
     pub fn new(key: KeyBytes, at: Instant, row: Option<Row>) -> Option<Event>
-        ensures { result ≡ (if nat_lt 0 (length key) then Some (record { key = key; at = at; row = row }) else None) }
+        ensures { result ≡ (if nat_lt 0 (length key)
+            then Some (record { key = key; at = at; row = row }) else None) }
     {
         if key.bytes().is_empty() {
             None

@@ -1,5 +1,5 @@
 ghost use Rattle.std.specs.Prelude.{◌≡◌, ℤ, ◌++◌, ◌∷◌, [], IfOk, OnOk, Option, Some, None, if◌then◌else◌, nat_le, length, ◌<◌};
-ghost use Rattle.values.specs.KeyEncoding.{raised, text_bytes, part_bytes, bytes_of_key, IsShortKey};
+ghost use Rattle.values.specs.KeyEncoding.{ordinal_of, text_bytes, part_bytes, bytes_of_key, IsShortKey};
 ghost use Rattle.values.specs.Memory.{OnlyMemory};
 
 use crate::key::Key;
@@ -155,16 +155,16 @@ fn push_part(bytes: &mut Bytes, part: &Value) -> Result<(), AllocError>
     ensures { OnOk result (bytes.new.items ≡ bytes.old.items ++ part_bytes part.now) }
 {
     match part {
-        Value::Int(number) => bytes.extend_from_slice(&raised(*number).to_be_bytes()),
+        Value::Int(number) => bytes.extend_from_slice(&ordinal_of(*number).to_be_bytes()),
         Value::Text(text) => push_text(bytes, text.text().as_bytes()),
         Value::Bool(truth) => bytes.extend_from_slice(&[*truth as u8]),
         Value::Null => Ok(()),
     }
 }
 
-/// The number plus 2^63.
-fn raised(number: i64) -> u64
-    ensures { result ≡ raised number }
+/// The place of a number among all of 64 bits, from 0: the number plus 2^63.
+fn ordinal_of(number: i64) -> u64
+    ensures { result ≡ ordinal_of number }
 {
     if number < 0 {
         (number - i64::MIN) as u64

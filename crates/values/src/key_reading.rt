@@ -2,7 +2,7 @@ ghost use Rattle.std.specs.Prelude.{◌≡◌, true, false, IfOk, IfSome, IfNone
 ghost use Rattle.std.specs.Str.{is_utf8};
 ghost use Rattle.values.specs.Memory.{OnlyMemory};
 ghost use Rattle.values.specs.RowReading.{Takes};
-ghost use Rattle.values.specs.KeyReading.{IsKeyWith, NoKeyWith, lowered, text_from, number_from, name_from, truth_from, part_from, column_from, parts_from, key_from};
+ghost use Rattle.values.specs.KeyReading.{IsKeyWith, NoKeyWith, number_at, text_from, number_from, name_from, truth_from, part_from, column_from, parts_from, key_from};
 
 use crate::chars::Chars;
 use crate::key::Key;
@@ -17,8 +17,8 @@ use std::alloc::{AllocError, Global};
 type Front<'a, T> = Result<Option<(T, &'a [u8])>, AllocError>;
 
 /// The number whose bytes are those of `n`: `n` less 2^63.
-fn lowered(n: u64) -> i64
-    ensures { result ≡ lowered n }
+fn number_at(n: u64) -> i64
+    ensures { result ≡ number_at n }
 {
     if n < 1 << 63 {
         n as i64 + i64::MIN
@@ -32,7 +32,7 @@ fn number_from(bytes: &[u8]) -> Option<(Value, &[u8])>
     ensures { Takes (λ value. value) result (number_from bytes.now) }
 {
     let (number, rest) = bytes.split_first_chunk::<8>()?;
-    Some((Value::Int(lowered(u64::from_be_bytes(*number))), rest))
+    Some((Value::Int(number_at(u64::from_be_bytes(*number))), rest))
 }
 
 fn truth_from(bytes: &[u8]) -> Option<(Value, &[u8])>
@@ -72,7 +72,8 @@ fn text_from(alloc: Global, bytes: &[u8]) -> Front<'_, Vec<u8>>
 }
 
 fn text_of(alloc: Global, bytes: &[u8]) -> Result<Option<Chars>, AllocError>
-    ensures some { IfOk result (λ text. IfSome text (λ text. (text ≡ bytes.now) × (is_utf8 bytes.now ≡ true))) }
+    ensures some { IfOk result (λ text. IfSome text (λ text.
+        (text ≡ bytes.now) × (is_utf8 bytes.now ≡ true))) }
     ensures none { IfOk result (λ text. IfNone text (is_utf8 bytes.now ≡ false)) }
 {
     match str::from_utf8(bytes) {
@@ -114,7 +115,8 @@ impl Table {
         number: ColumnNumber,
         bytes: &'a [u8],
     ) -> Front<'a, Value>
-        ensures { IfOk result (λ taken. Takes (λ value. value) taken (column_from self.now number bytes.now)) }
+        ensures { IfOk result (λ taken.
+            Takes (λ value. value) taken (column_from self.now number bytes.now)) }
     {
         match self.column_at(number) {
             None => Ok(None),
@@ -123,7 +125,8 @@ impl Table {
     }
 
     fn parts_from<'a>(&self, alloc: Global, bytes: &'a [u8]) -> Front<'a, Values>
-        ensures { IfOk result (λ taken. Takes (λ parts. parts) taken (parts_from self.now self.now.key bytes.now)) }
+        ensures { IfOk result (λ taken.
+            Takes (λ parts. parts) taken (parts_from self.now self.now.key bytes.now)) }
     {
         let mut parts = Vec::new(alloc);
         let mut rest = bytes;

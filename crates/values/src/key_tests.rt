@@ -11,7 +11,7 @@ use crate::value::{Value, Values};
 use std::alloc::{AllocError, Global};
 use std::test::Fail;
 
-fn numbered(alloc: Global, number: i64) -> Result<Key, AllocError>
+fn number_key(alloc: Global, number: i64) -> Result<Key, AllocError>
     ensures { IfOk result IsShortKey }
 {
     Ok(Key {
@@ -20,7 +20,7 @@ fn numbered(alloc: Global, number: i64) -> Result<Key, AllocError>
     })
 }
 
-fn named(alloc: Global, name: &str, number: i64) -> Result<Key, AllocError>
+fn name_key(alloc: Global, name: &str, number: i64) -> Result<Key, AllocError>
     requires { length name.now ≤ 200 }
     ensures { IfOk result IsShortKey }
 {
@@ -32,7 +32,7 @@ fn named(alloc: Global, name: &str, number: i64) -> Result<Key, AllocError>
 }
 
 #[test]
-fn whole_numbers_are_raised_into_the_order_of_bytes(rt: HostRuntime) -> Result<(), Fail> {
+fn whole_numbers_keep_their_order_in_bytes(rt: HostRuntime) -> Result<(), Fail> {
     let rising = [
         (i64::MIN, *b"\x01\x00\x00\x00\x00\x00\x00\x00\x00"),
         (-1, *b"\x01\x7f\xff\xff\xff\xff\xff\xff\xff"),
@@ -41,7 +41,7 @@ fn whole_numbers_are_raised_into_the_order_of_bytes(rt: HostRuntime) -> Result<(
         (i64::MAX, *b"\x01\xff\xff\xff\xff\xff\xff\xff\xff"),
     ];
     for (number, bytes) in rising {
-        let key = numbered(rt.alloc(), number)?;
+        let key = number_key(rt.alloc(), number)?;
         assert_eq!(rt;
             key_bytes(rt.alloc(), &key)?.bytes(),
             bytes.as_slice(),
@@ -53,9 +53,9 @@ fn whole_numbers_are_raised_into_the_order_of_bytes(rt: HostRuntime) -> Result<(
 
 #[test]
 fn a_text_ends_before_the_next_column(rt: HostRuntime) -> Result<(), Fail> {
-    let lower = key_bytes(rt.alloc(), &named(rt.alloc(), "a", -1)?)?;
-    let upper = key_bytes(rt.alloc(), &named(rt.alloc(), "a", 2)?)?;
-    let longer = key_bytes(rt.alloc(), &named(rt.alloc(), "a\0", -9)?)?;
+    let lower = key_bytes(rt.alloc(), &name_key(rt.alloc(), "a", -1)?)?;
+    let upper = key_bytes(rt.alloc(), &name_key(rt.alloc(), "a", 2)?)?;
+    let longer = key_bytes(rt.alloc(), &name_key(rt.alloc(), "a\0", -9)?)?;
     assert_eq!(rt;
         lower.bytes(),
         b"\x01\x61\x00\x00\x7f\xff\xff\xff\xff\xff\xff\xff".as_slice()

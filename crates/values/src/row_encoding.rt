@@ -46,7 +46,8 @@ fn push_tagged(bytes: &mut Vec<u8>, tag: u8, tail: &[u8]) -> Result<(), AllocErr
 
 fn push_text(bytes: &mut Vec<u8>, text: &[u8]) -> Result<(), AllocError>
     requires { length text.now ≤ 1000 }
-    ensures { OnOk result (bytes.new.items ≡ bytes.old.items ++ (2 ∷ (to_be_bytes w16 (length text.now) ++ text.now))) }
+    ensures { OnOk result (bytes.new.items
+        ≡ bytes.old.items ++ (2 ∷ (to_be_bytes w16 (length text.now) ++ text.now))) }
 {
     push_tagged(bytes, 2, &(text.len() as u16).to_be_bytes())?;
     bytes.extend_from_slice(text)
@@ -80,7 +81,8 @@ fn text_of(alloc: Global, n: usize, bytes: &[u8]) -> Result<Option<(Value, &[u8]
 
 /// The bytes as a text that can be stored.
 fn stored_text(bytes: &[u8]) -> Option<&str>
-    ensures some { IfSome result (λ text. (text.now ≡ bytes.now) × (is_stored_text bytes.now ≡ true)) }
+    ensures some { IfSome result (λ text.
+        (text.now ≡ bytes.now) × (is_stored_text bytes.now ≡ true)) }
     ensures none { IfNone result (is_stored_text bytes.now ≡ false) }
 {
     if !fits_text(bytes) {

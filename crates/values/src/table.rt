@@ -87,13 +87,13 @@ fn value_at(values: &[Value], column: ColumnNumber) -> Result<Value, AllocError>
     ensures held { IfOk result IsHeld }
 {
     match values.get(column.saturating_sub(1)) {
-        Some(value) => held(value),
+        Some(value) => copy_value(value),
         None => Ok(Value::Null),
     }
 }
 
 /// An equal value, which is one that a program holds.
-fn held(value: &Value) -> Result<Value, AllocError>
+fn copy_value(value: &Value) -> Result<Value, AllocError>
     ensures is { IfOk result (λ v. v ≡ value.now) }
     ensures held { IfOk result IsHeld }
 {

@@ -1,5 +1,5 @@
 use Rattle.std.proofs.Common.{◌≡◌, ◌<◌, ◌-◌, ◌+◌, ◌++◌, ◌∷◌, [], Ok, true, false, sym, ap, ◌∙◌, length, arith, rules}
-use Rattle.rows.specs.Declaration.{creates_at, create_at, creates_upto, joined}
+use Rattle.rows.specs.Declaration.{creates_at, create_at, creates_upto, prepend}
 use Rattle.tokens.proofs.Alike.{stops_alike}
 use Rattle.rows.proofs.Listed.{creates_err, creates_more_err, creates_last, creates_more}
 use Rattle.rows.proofs.declaration.creates_at.Goals as goal
@@ -34,7 +34,7 @@ loop-preserved c =
     let below : c.loop.counter < length c.args.bytes.now = omega arith in
     let pushed : c.push.new.self.items ≡ c.loop.declarations.items ++ c.in-Ok.read.0 ∷ [] = search rules in
     let goes_on : c.in-Ok-more_at.read.0 ≡ true = search rules in
-    ap (λ xs. joined xs (creates_upto (length c.args.bytes.now - (c.loop.counter + 1)) c.in-Ok-more_at.read.1.now)) pushed
+    ap (λ xs. prepend xs (creates_upto (length c.args.bytes.now - (c.loop.counter + 1)) c.in-Ok-more_at.read.1.now)) pushed
     ∙ sym (creates_more (length c.args.bytes.now) c.loop.counter c.loop.declarations.items c.in-Ok.read.0 c.loop.rest.now c.in-Ok.read.1.now c.in-Ok-more_at.read.1.now below
     c.in-Ok.ensures (c.in-Ok-more_at.ensures ∙ ap (λ t. Ok (t, c.in-Ok-more_at.read.1.now)) goes_on))
     ∙ c.loop.invariant

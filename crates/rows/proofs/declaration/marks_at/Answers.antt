@@ -1,5 +1,5 @@
 use Rattle.std.proofs.Common.{◌≡◌, ◌<◌, ◌-◌, ◌+◌, ◌++◌, ◌∷◌, [], Ok, true, false, sym, ap, ◌∙◌, length, arith, rules}
-use Rattle.rows.specs.Declaration.{marks_at, is_mark_at, marks_upto, joined}
+use Rattle.rows.specs.Declaration.{marks_at, is_mark_at, marks_upto, prepend}
 use Rattle.rows.proofs.Listed.{marks_end, marks_err, marks_more}
 use Rattle.rows.proofs.declaration.marks_at.Goals as goal
 
@@ -23,6 +23,6 @@ loop-preserved c =
     let below : c.loop.counter < length c.args.bytes.now = omega arith in
     let one : is_mark_at c.loop.rest.now ≡ true = search rules in
     let pushed : c.push.new.self.items ≡ c.loop.marks.items ++ c.in-Ok.read.0 ∷ [] = search rules in
-    ap (λ xs. joined xs (marks_upto (length c.args.bytes.now - (c.loop.counter + 1)) c.in-Ok.read.1.now)) pushed
+    ap (λ xs. prepend xs (marks_upto (length c.args.bytes.now - (c.loop.counter + 1)) c.in-Ok.read.1.now)) pushed
     ∙ sym (marks_more (length c.args.bytes.now) c.loop.counter c.loop.marks.items c.in-Ok.read.0 c.loop.rest.now c.in-Ok.read.1.now below one c.in-Ok.ensures)
     ∙ c.loop.invariant

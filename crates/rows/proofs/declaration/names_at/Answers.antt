@@ -1,6 +1,6 @@
 use Rattle.std.proofs.Common.{◌≡◌, ◌<◌, ◌++◌, ◌∷◌, [], Ok, sym, ap, ◌∙◌, length, arith, rules, ◌-◌, ◌+◌}
 use Rattle.rows.specs.SchemaToken.{name_at}
-use Rattle.rows.specs.Declaration.{names_at, joined, listed}
+use Rattle.rows.specs.Declaration.{names_at, prepend, list_at}
 use Rattle.tokens.proofs.Alike.{stops_alike}
 use Rattle.rows.proofs.Listed.{listed_err, listed_last, listed_more}
 use Rattle.rows.proofs.declaration.names_at.Goals as goal
@@ -25,6 +25,6 @@ pub loop-preserved : goal.loop-preserved
 loop-preserved c =
     let below : c.loop.counter < length c.args.bytes.now = omega arith in
     let pushed : c.push.new.self.items ≡ c.loop.names.items ++ c.in-Ok.read.0 ∷ [] = search rules in
-    ap (λ xs. joined xs (listed name_at (length c.args.bytes.now - (c.loop.counter + 1)) c.in-Ok-symbol_at.more.now)) pushed
+    ap (λ xs. prepend xs (list_at name_at (length c.args.bytes.now - (c.loop.counter + 1)) c.in-Ok-symbol_at.more.now)) pushed
     ∙ sym (listed_more name_at (length c.args.bytes.now) c.loop.counter c.loop.names.items c.in-Ok.read.0 c.loop.rest.now c.in-Ok.read.1.now c.in-Ok-symbol_at.more.now below c.in-Ok.ensures c.in-Ok-symbol_at.ensures)
     ∙ c.loop.invariant

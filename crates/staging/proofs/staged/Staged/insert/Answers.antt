@@ -5,7 +5,7 @@ use Rattle.values.specs.KeyReading.{IsKeyOf}
 use Rattle.values.specs.Fit.{rows_fault}
 use Rattle.values.specs.Writes.{duplicate}
 use Rattle.values.specs.Events.{IsKeyIn}
-use Rattle.staging.specs.Own.{seen, own}
+use Rattle.staging.specs.Own.{rows_seen, own}
 use Rattle.staging.specs.Staged.{insertions}
 use Rattle.staging.proofs.Bridge.{key_in}
 use Rattle.staging.proofs.Entries.{sorted_from}
@@ -18,7 +18,7 @@ first_seen-requires c = subst (All IsShortKey) (sym c.deref.ensures.value) (shor
 pub returns-in-Some-clause-answers : goal.returns-in-Some-clause-answers
 returns-in-Some-clause-answers c = λ schema m reads ok.
     let fits : rows_fault c.args.table.now c.args.rows.now ≡ None = no_fault_is (rows_fault c.args.table.now c.args.rows.now) (sym c.in_default.is ∙ c.check_rows.ensures) in
-    let found : duplicate c.args.table.now c.args.rows.now (seen m c.args.self.now) ≡ Some c.in-Some.key =
+    let found : duplicate c.args.table.now c.args.rows.now (rows_seen m c.args.self.now) ≡ Some c.in-Some.key =
     sym (
     duplicate_is schema c.args.table.now c.args.view.now c.last.result m c.args.self.now c.args.rows.now c.deref.result.now reads c.last.ensures.ordered c.last.ensures.upto c.in_ok-key.ensures.ordered (c.deref.ensures.value ∙ c.in_ok-keys.ensures.ok)
     (subst (All (IsKeyOf c.args.table.now)) (sym c.deref.ensures.value) c.in_ok-keys.ensures.own)
@@ -35,7 +35,7 @@ put-requires c =
 pub returns-clause-answers : goal.returns-clause-answers
 returns-clause-answers c = λ schema m reads ok.
     let fits : rows_fault c.args.table.now c.args.rows.now ≡ None = no_fault_is (rows_fault c.args.table.now c.args.rows.now) (sym c.in_default.is ∙ c.check_rows.ensures) in
-    let none : duplicate c.args.table.now c.args.rows.now (seen m c.args.self.now) ≡ None =
+    let none : duplicate c.args.table.now c.args.rows.now (rows_seen m c.args.self.now) ≡ None =
     sym (
     duplicate_is schema c.args.table.now c.args.view.now c.last.result m c.args.self.now c.args.rows.now c.deref.result.now reads c.last.ensures.ordered c.last.ensures.upto c.in_ok-key.ensures.ordered (c.deref.ensures.value ∙ c.in_ok-keys.ensures.ok)
     (subst (All (IsKeyOf c.args.table.now)) (sym c.deref.ensures.value) c.in_ok-keys.ensures.own)

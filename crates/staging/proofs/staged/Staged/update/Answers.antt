@@ -4,7 +4,7 @@ use Rattle.values.specs.Fit.{sets_fault, comparisons_fault}
 use Rattle.values.specs.Faults.{no_fault}
 use Rattle.values.specs.Versions.{matches}
 use Rattle.values.specs.Events.{IsKeyIn}
-use Rattle.staging.specs.Own.{seen}
+use Rattle.staging.specs.Own.{rows_seen}
 use Rattle.staging.proofs.StoredSets.{sets_stored}
 use Rattle.staging.proofs.Entries.{sorted_from}
 use Rattle.staging.proofs.Calls.{rows_of_view}
@@ -24,7 +24,7 @@ returns-clause-answers c = λ schema m reads ok.
     let no_set : sets_fault c.args.table.now [] c.args.sets.now ≡ None = no_fault_is (sets_fault c.args.table.now [] c.args.sets.now) (sym c.in_default.is ∙ c.check_sets.ensures) in
     let no_comparison : comparisons_fault c.args.table.now c.args.keys.now.comparisons ≡ None =
     no_fault_is (comparisons_fault c.args.table.now c.args.keys.now.comparisons) (sym c.in_default-check_comparisons.is ∙ c.check_comparisons.ensures ∙ ap (λ l. no_fault (comparisons_fault c.args.table.now l)) c.items.ensures) in
-    let found : c.in_ok-found.found.entries ≡ filter (λ e. matches c.args.table.now c.args.keys.now e.0) (seen m c.args.self.now) =
+    let found : c.in_ok-found.found.entries ≡ filter (λ e. matches c.args.table.now c.args.keys.now e.0) (rows_seen m c.args.self.now) =
     c.in_ok-found.ensures.ok
     ∙ rows_of_view schema c.args.table.now c.args.keys.now c.args.view.now c.last.result m c.args.self.now reads same c.last.ensures.ordered c.last.ensures.upto c.in_ok-found.ensures.ordered in
     update_done c.args.table.now c.args.keys.now c.args.sets.now m c.args.self.now c.put.new.self c.put.result c.in_ok-changes.changes.items c.in_ok-found.found.entries same no_set no_comparison found c.in_ok-changes.ensures
@@ -33,7 +33,7 @@ returns-clause-answers c = λ schema m reads ok.
 pub returns-clause-keys : goal.returns-clause-keys
 returns-clause-keys c = λ schema m reads.
     let same : c.args.keys.now.table ≡ c.args.table.now.number = c.if-keys-table.false in
-    let found : c.in_ok-found.found.entries ≡ filter (λ e. matches c.args.table.now c.args.keys.now e.0) (seen m c.args.self.now) =
+    let found : c.in_ok-found.found.entries ≡ filter (λ e. matches c.args.table.now c.args.keys.now e.0) (rows_seen m c.args.self.now) =
     c.in_ok-found.ensures.ok
     ∙ rows_of_view schema c.args.table.now c.args.keys.now c.args.view.now c.last.result m c.args.self.now reads same c.last.ensures.ordered c.last.ensures.upto c.in_ok-found.ensures.ordered in
     keys_after schema c.in_ok-changes.changes.items c.args.self.now c.put.new.self c.put.result c.put.ensures.ok c.put.ensures.err reads.keys
