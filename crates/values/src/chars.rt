@@ -1,7 +1,9 @@
-ghost use Rattle.std.specs.Prelude.{◌≡◌};
+ghost use Rattle.std.specs.Prelude.{◌≡◌, IfOk};
 ghost use Rattle.std.specs.String.{string_bytes};
+ghost use Rattle.values.specs.Memory.{OnlyMemory};
 
-use std::alloc::AllocError;
+use crate::refusal::Mem;
+use std::alloc::{AllocError, Global};
 use std::cmp::Ordering;
 use std::marker::Model;
 
@@ -25,6 +27,14 @@ impl Chars {
         ensures { result ≡ string_bytes text }
     {
         Chars { text }
+    }
+
+    /// A copy of a text.
+    pub fn copy_of(alloc: Global, text: &str) -> Mem<Chars>
+        ensures ok { IfOk result (λ c. c ≡ text.now) }
+        ensures err { OnlyMemory result }
+    {
+        Ok(Chars::new(String::from_str(alloc, text)?))
     }
 
     pub fn text(&self) -> &str

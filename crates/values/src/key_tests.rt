@@ -5,6 +5,8 @@ use crate::chars::Chars;
 use crate::key::Key;
 use crate::key_encoding::{KeyBytes, key_bytes};
 use crate::key_reading::read_key;
+use crate::query::{Comparison, Keys, Operator};
+use crate::refusal::Mem;
 use crate::sequence::Sequence;
 use crate::table::{Column, ColumnType, Table};
 use crate::value::{Value, Values};
@@ -20,11 +22,11 @@ fn number_key(alloc: Global, number: i64) -> Result<Key, AllocError>
     })
 }
 
-fn name_key(alloc: Global, name: &str, number: i64) -> Result<Key, AllocError>
+fn name_key(alloc: Global, name: &str, number: i64) -> Mem<Key>
     requires { length name.now ≤ 200 }
     ensures { IfOk result IsShortKey }
 {
-    let name = Value::Text(Chars::new(String::from_str(alloc, name)?));
+    let name = Value::Text(Chars::copy_of(alloc, name)?);
     Ok(Key {
         table: 1,
         parts: Values::new(vec![in alloc; name, Value::Int(number)]?),
@@ -81,29 +83,25 @@ fn key_bytes_are_at_most_1609(rt: HostRuntime) -> Result<(), Fail> {
     Ok(())
 }
 
-fn chars(alloc: Global, text: &str) -> Result<Chars, AllocError> {
-    Ok(Chars::new(String::from_str(alloc, text)?))
-}
-
-fn column(alloc: Global, name: &str, of: ColumnType) -> Result<Column, AllocError> {
+fn column(alloc: Global, name: &str, of: ColumnType) -> Mem<Column> {
     Ok(Column {
-        name: chars(alloc, name)?,
+        name: Chars::copy_of(alloc, name)?,
         of,
         not_null: true,
     })
 }
 
 /// Table 1 of a text of two characters and a truth, both of them its key.
-fn table(alloc: Global) -> Result<Table, AllocError> {
+fn table(alloc: Global) -> Mem<Table> {
     let text = column(alloc, "a", ColumnType::Varchar(2))?;
     let truth = column(alloc, "b", ColumnType::Boolean)?;
     Ok(Table {
         number: 1,
-        name: chars(alloc, "t")?,
+        name: Chars::copy_of(alloc, "t")?,
         columns: Sequence::new(vec![in alloc; text, truth]?),
         key: Sequence::new(vec![in alloc; 1, 2]?),
-        row_start: chars(alloc, "s")?,
-        row_end: chars(alloc, "e")?,
+        row_start: Chars::copy_of(alloc, "s")?,
+        row_end: Chars::copy_of(alloc, "e")?,
     })
 }
 
@@ -127,6 +125,24 @@ fn a_key_is_read_from_its_own_bytes_alone(rt: HostRuntime) -> Result<(), Fail> {
         let bytes = KeyBytes::new(copy).expect(&rt, "they are few");
         let key = read_key(rt.alloc(), &table, &bytes)?;
         assert_eq!(rt; key.is_some(), stands, "at {i}");
+    }
+    Ok(())
+}
+
+#[test]
+fn keys_match_where_they_meet_the_comparison(rt: HostRuntime) -> Result<(), Fail> {
+    let table = Table::sample(rt.alloc())?;
+    let below = Comparison {
+        column: 1,
+        operator: Operator::Below,
+        value: Value::Int(2),
+    };
+    let some = Keys::of_comparison(rt.alloc(), 1, below)?;
+    let all = Keys::all(rt.alloc(), 1);
+    for (number, is_below) in [(1, true), (2, false)] {
+        let key = number_key(rt.alloc(), number)?;
+        assert_eq!(rt; some.matches(&table, &key), is_below, "at {number}");
+        assert!(rt; all.matches(&table, &key), "at {number}");
     }
     Ok(())
 }

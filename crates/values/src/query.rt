@@ -1,7 +1,12 @@
+ghost use Rattle.std.specs.Prelude.{◌≡◌, IfOk, [], ◌∷◌};
+ghost use Rattle.values.specs.Memory.{OnlyMemory};
+
 use crate::key::Instant;
+use crate::refusal::Mem;
 use crate::row::Row;
 use crate::sequence::Sequence;
 use crate::value::Value;
+use std::alloc::Global;
 
 /// Which versions a query selects.
 #[derive(Clone, Copy, Debug, PartialEq, Eq)]
@@ -42,6 +47,28 @@ pub struct Comparison {
 pub struct Keys {
     pub table: u8,
     pub comparisons: Sequence<Comparison>,
+}
+
+impl Keys {
+    /// All keys of a table.
+    pub fn all(alloc: Global, table: u8) -> Keys
+        ensures { result ≡ record { table = table; comparisons = [] } }
+    {
+        Keys {
+            table,
+            comparisons: Sequence::new(Vec::new(alloc)),
+        }
+    }
+
+    /// The keys of a table that meet one comparison.
+    pub fn of_comparison(alloc: Global, table: u8, comparison: Comparison) -> Mem<Keys>
+        ensures ok { IfOk result (λ k. k
+            ≡ record { table = table; comparisons = comparison ∷ [] }) }
+        ensures err { OnlyMemory result }
+    {
+        let comparisons = Sequence::new(vec![in alloc; comparison]?);
+        Ok(Keys { table, comparisons })
+    }
 }
 
 /// A column and its new value.

@@ -7,7 +7,7 @@ use crate::chars::Chars;
 use crate::refusal::Mem;
 use crate::sequence::Sequence;
 use crate::table::{Column, ColumnType, Table};
-use std::alloc::{AllocError, Global};
+use std::alloc::Global;
 
 impl Table {
     /// The table where none is declared: `emp` with the columns `no INT`, its key, and `name TEXT`,
@@ -21,27 +21,22 @@ impl Table {
         let name = sample_column(alloc, "name", ColumnType::Text)?;
         Ok(Table {
             number: 1,
-            name: chars(alloc, "emp")?,
+            name: Chars::copy_of(alloc, "emp")?,
             columns: Sequence::new(vec![in alloc; number, name]?),
             key: Sequence::new(vec![in alloc; 1]?),
-            row_start: chars(alloc, "sys_start")?,
-            row_end: chars(alloc, "sys_end")?,
+            row_start: Chars::copy_of(alloc, "sys_start")?,
+            row_end: Chars::copy_of(alloc, "sys_end")?,
         })
     }
 }
 
-fn sample_column(alloc: Global, name: &str, of: ColumnType) -> Result<Column, AllocError>
-    ensures { IfOk result (λ c. c ≡ record { name = name.now; of = of; not_null = false }) }
+fn sample_column(alloc: Global, name: &str, of: ColumnType) -> Mem<Column>
+    ensures ok { IfOk result (λ c. c ≡ record { name = name.now; of = of; not_null = false }) }
+    ensures err { OnlyMemory result }
 {
     Ok(Column {
-        name: chars(alloc, name)?,
+        name: Chars::copy_of(alloc, name)?,
         of,
         not_null: false,
     })
-}
-
-fn chars(alloc: Global, text: &str) -> Result<Chars, AllocError>
-    ensures { IfOk result (λ c. c ≡ text.now) }
-{
-    Ok(Chars::new(String::from_str(alloc, text)?))
 }
