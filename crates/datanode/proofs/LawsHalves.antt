@@ -97,16 +97,20 @@ module _ (r : Area) (k : List ℕ) (area : IsArea r) (inside : is_key_inside r k
       joined = λ map. (λ i. is_lower i ++ is_upper i) ∙ parted k (cut r m) (IsStrictlySortedBy-filter event_cmp (in_cut r m) m map);
     }
 
+-- what holds of two halves where the cut is inside holds of the pair that is made
+of_pair : (c : Bool) (x y a b : Area) (P : Area → Area → Type 0) → (c ≡ true → P x y)
+    → cond {A = Option (Area × Area)} c (Some (x, y)) None ≡ Some (a, b) → P a b
+of_pair true x y a b P holds is =
+    let pair = some_is (x, y) (a, b) is in
+    let first : x ≡ a = ap (λ p. p.0) pair in
+    let second : y ≡ b = ap (λ p. p.1) pair in
+    subst (λ z. P a z) second (subst (λ z. P z y) first (holds refl))
+of_pair false x y a b P holds is = cc
+
 pub halves_at_key : HalvesByKey
-halves_at_key r a b k m area e = by (is_key_inside r k) refl e
-  where
-    by : (t : Bool) → is_key_inside r k ≡ t → cond {A = Option (Area × Area)} t (Some (below_of r k, above_of r k)) None ≡ Some (a, b) → KeyHalves r a b k m
-    by true inside is =
-        let pair = some_is (below_of r k, above_of r k) (a, b) is in
-        let first : below_of r k ≡ a = ap (λ p. p.0) pair in
-        let second : above_of r k ≡ b = ap (λ p. p.1) pair in
-        subst (λ x. KeyHalves r a x k m) second (subst (λ x. KeyHalves r x (above_of r k) k m) first (key_halves r k area inside m))
-    by false inside is = cc
+halves_at_key r a b k m area e =
+    of_pair (is_key_inside r k) (below_of r k) (above_of r k) a b (λ x y. KeyHalves r x y k m)
+    (λ inside. key_halves r k area inside m) e
 
 -- ---- at an instant
 
@@ -158,12 +162,6 @@ module _ (r : Area) (t : ℕ) (area : IsArea r) (inside : is_time_inside r t ≡
     }
 
 pub halves_at_instant : HalvesByTime
-halves_at_instant r a b t m area e = by (is_time_inside r t) refl e
-  where
-    by : (c : Bool) → is_time_inside r t ≡ c → cond {A = Option (Area × Area)} c (Some (past_of r t, now_of r t)) None ≡ Some (a, b) → TimeHalves r a b t m
-    by true inside is =
-        let pair = some_is (past_of r t, now_of r t) (a, b) is in
-        let first : past_of r t ≡ a = ap (λ p. p.0) pair in
-        let second : now_of r t ≡ b = ap (λ p. p.1) pair in
-        subst (λ x. TimeHalves r a x t m) second (subst (λ x. TimeHalves r x (now_of r t) t m) first (time_halves r t area inside m))
-    by false inside is = cc
+halves_at_instant r a b t m area e =
+    of_pair (is_time_inside r t) (past_of r t) (now_of r t) a b (λ x y. TimeHalves r x y t m)
+    (λ inside. time_halves r t area inside m) e

@@ -13,6 +13,7 @@ use Rattle.values.specs.Event.{Event}
 use Rattle.values.specs.Events.{bytes_cmp, is_bytes, event_cmp, put_event}
 use Rattle.keyrange.specs.Rect.{Area, has_point}
 use Rattle.keyrange.specs.Range.{is_early, is_key_in}
+use Rattle.keyrange.proofs.RangeOrder.{is_less}
 use Rattle.eventlist.specs.Overtaking.{overtakes}
 use Rattle.eventlist.specs.Place.{AreFirst, is_before}
 use Rattle.eventlist.proofs.PlaceOrder.{bytes_total, bytes_exact, bytes_tie, same_bytes, is_own, is_lower}
@@ -42,11 +43,6 @@ not_less_by d e Less p h later = cc
 not_less_by d e Equal p h later = absurd (let q = event_equal d e p in let a : d.at < e.at = later q.0 in let b : d.at ≡ e.at = q.1 in omega arith)
 not_less_by d e Greater p h later = flipped d e p
 
-less_by : (o : Ordering) → is_lt o ≡ true → o ≡ Less
-less_by Less h = refl
-less_by Equal h = cc
-less_by Greater h = cc
-
 -- of three in order, whose first and last are of one key, so is the one between
 between : (d e f : Event) → event_cmp d e ≡ Less → event_cmp e f ≡ Less → d.key ≡ f.key → (d.key ≡ e.key) × (d.at < e.at) × (e.at < f.at)
 between d e f p q same = by (is_bytes d.key e.key) refl
@@ -69,7 +65,7 @@ pub record IsPlace (m : List Event) (e : Event) (i : ℕ) : Type 0 where
 pub place_of : (m : List Event) (e : Event) (i : ℕ) → IsLast e m → i ≤ length m → AreFirst (is_before e) m i → IsPlace m e i
 place_of m e i last within first = record {
   within = within;
-  before = λ k d lt. less_by _ (first.0 k d (omega arith) lt);
+  before = λ k d lt. is_less _ (first.0 k d (omega arith) lt);
   behind = λ k d le lt. not_less_by (get_or m k d) e (event_cmp (get_or m k d) e) refl (first.1 k d le lt) (last k d lt);
 }
 

@@ -9,6 +9,7 @@ use Rattle.values.specs.Event.{Event}
 use Rattle.values.specs.Events.{bytes_cmp, event_cmp}
 use Rattle.keyrange.specs.declared.range.KeyRange.{KeyRange}
 use Rattle.keyrange.specs.Range.{is_below, is_before_end, is_key_in}
+use Rattle.keyrange.proofs.RangeOrder.{is_less}
 use Rattle.eventlist.specs.Listing.{events_in}
 use Rattle.eventlist.specs.Place.{AreFirst}
 use Rattle.eventlist.proofs.PlaceOrder.{bytes_total, bytes_exact, partitioned, within_tail, within_rest, within_head}
@@ -45,11 +46,6 @@ below_key key e = is_below e.key key
 pub below_parts : (key : List ℕ) (es : List Event) → IsStrictlySortedBy event_cmp es → IsPartitionedBy (below_key key) es
 below_parts key es h = partitioned event_cmp (below_key key) down es h
   where
-    is_less : (o : Ordering) → is_lt o ≡ true → o ≡ Less
-    is_less Less e = refl
-    is_less Equal e = cc
-    is_less Greater e = cc
-
     down : (x y : Event) → event_cmp x y ≡ Less → is_below y.key key ≡ true → is_below x.key key ≡ true
     down x y h is = by (bytes_cmp x.key y.key) refl h
       where
@@ -64,11 +60,6 @@ not_above key e = not (is_below key e.key)
 pub not_above_parts : (key : List ℕ) (es : List Event) → IsStrictlySortedBy event_cmp es → IsPartitionedBy (not_above key) es
 not_above_parts key es h = partitioned event_cmp (not_above key) down es h
   where
-    less : (o : Ordering) → is_lt o ≡ true → o ≡ Less
-    less Less e = refl
-    less Equal e = cc
-    less Greater e = cc
-
     kept : (b c : Bool) → (c ≡ true → b ≡ true) → not b ≡ true → not c ≡ true
     kept b false h e = refl
     kept true true h e = cc
@@ -78,7 +69,7 @@ not_above_parts key es h = partitioned event_cmp (not_above key) down es h
     up x y h is = by (bytes_cmp x.key y.key) refl h
       where
         by : (o : Ordering) → bytes_cmp x.key y.key ≡ o → ordering_then o (nat_cmp x.at y.at) ≡ Less → is_below key y.key ≡ true
-        by Less p q = ap is_lt (bytes_total.trans key x.key y.key (less (bytes_cmp key x.key) is) p)
+        by Less p q = ap is_lt (bytes_total.trans key x.key y.key (is_less (bytes_cmp key x.key) is) p)
         by Equal p q = subst (λ k. is_below key k ≡ true) (bytes_exact x.key y.key p) is
         by Greater p q = cc
 

@@ -1,5 +1,6 @@
 -- Of events in order the next one shows whether an event's row stands.
 use Rattle.std.proofs.Common.{◌≡◌, ℕ, ◌+◌, ◌<◌, ◌≤◌, Bool, true, false, ◌&&◌, ◌||◌, List, [], ◌∷◌, Option, Some, refl, sym, ap, subst, ◌∙◌, arith, zero, suc, nat_le, nat_lt, not, is_some}
+use Rattle.std.proofs.lemmas.Bool.{and_from, and_parts}
 use Rattle.std.specs.declared.cmp.Ordering.TheVariants.{Less}
 use Rattle.std.specs.List.{AllByRecursion, slice_get, list_any}
 use Rattle.std.specs.List.Sorted.{IsStrictlySortedBy}
@@ -9,18 +10,6 @@ use Rattle.values.specs.Events.{bytes_cmp, is_bytes, event_cmp}
 use Rattle.eventlist.specs.Overtaking.{overtakes, is_overtaken}
 use Rattle.eventlist.specs.Listing.{stands_at}
 use Rattle.eventlist.proofs.PlaceOrder.{same_bytes, is_own, is_lower, bytes_total, bytes_tie, sorted_head, sorted_tail}
-
-first : (a b : Bool) → (a && b) ≡ true → a ≡ true
-first true b e = refl
-first false b e = cc
-
-second : (a b : Bool) → (a && b) ≡ true → b ≡ true
-second true b e = e
-second false b e = cc
-
-both : (a b : Bool) → a ≡ true → b ≡ true → (a && b) ≡ true
-both true b e f = f
-both false b e f = e
 
 pub never : (b : Bool) → (b ≡ true → ⊥) → b ≡ false
 never true h = absurd (h refl)
@@ -35,9 +24,9 @@ pub record Overtakes (e : Event) (t : ℕ) (d : Event) : Type 0 where
 pub overtakes_is : (e : Event) (t : ℕ) (d : Event) → overtakes e t d ≡ true → Overtakes e t d
 unfolding overtakes
 overtakes_is e t d h = record {
-  of_key = same_bytes e.key d.key (first _ _ h);
-  after = below e.at d.at (first _ _ (second (is_bytes e.key d.key) _ h));
-  until = at_most d.at t (second (nat_lt e.at d.at) _ (second (is_bytes e.key d.key) _ h));
+  of_key = same_bytes e.key d.key (and_parts _ _ h).0;
+  after = below e.at d.at ((and_parts _ _ (and_parts (is_bytes e.key d.key) _ h).1).0);
+  until = at_most d.at t ((and_parts (nat_lt e.at d.at) _ (and_parts (is_bytes e.key d.key) _ h).1).1);
 }
   where
     below : (i j : ℕ) → nat_lt i j ≡ true → i < j
@@ -49,7 +38,7 @@ overtakes_is e t d h = record {
 pub is_overtakes : (e : Event) (t : ℕ) (d : Event) → Overtakes e t d → overtakes e t d ≡ true
 unfolding overtakes
 is_overtakes e t d h =
-    both (is_bytes e.key d.key) _ (subst (λ k. is_bytes e.key k ≡ true) h.of_key (is_own e.key)) (both (nat_lt e.at d.at) _ (below e.at d.at h.after) (at_most d.at t h.until))
+    and_from (is_bytes e.key d.key) _ (subst (λ k. is_bytes e.key k ≡ true) h.of_key (is_own e.key)) (and_from (nat_lt e.at d.at) _ (below e.at d.at h.after) (at_most d.at t h.until))
   where
     below : (i j : ℕ) → i < j → nat_lt i j ≡ true
     below i j h = grind (arith, nat_tests)

@@ -1,5 +1,6 @@
 -- The last event of a key is found by its place.
 use Rattle.std.proofs.Common.{◌≡◌, ℕ, ◌-◌, ◌<◌, ◌≤◌, Bool, true, false, ◌&&◌, List, [], ◌∷◌, Option, Some, None, refl, sym, ap, subst, ◌∙◌, arith, zero, suc, length, get_or, nat_le, nat_lt, not, if◌then◌else◌, ◌+◌}
+use Rattle.std.proofs.lemmas.Bool.{and_parts}
 use Rattle.std.specs.Ordering.{nat_cmp, ordering_then, ordering_reverse, is_eq, is_lt, match_ordering}
 use Rattle.std.specs.declared.cmp.Ordering.{Ordering}
 use Rattle.std.specs.declared.cmp.Ordering.TheVariants.{Less, Equal, Greater}
@@ -138,14 +139,11 @@ pub found_in : (P : Event → Type 0) (es : List Event) (key : List ℕ) (t : �
 found_in P [] key t d h is = cc
 found_in P (e ∷ es) key t d h is = by (event_until es key t) (is_bytes key e.key && nat_le e.at t) refl refl is (λ k. found_in P es key t d h.1 k)
   where
-    first : (a b : Bool) → (a && b) ≡ true → a ≡ true
-    first true b e = refl
-    first false b e = cc
 
     by : (o : Option Event) (b : Bool) → event_until es key t ≡ o → (is_bytes key e.key && nat_le e.at t) ≡ b → later o (if b then Some e else None) ≡ Some d
         → (event_until es key t ≡ Some d → P d × (is_bytes key d.key ≡ true)) → P d × (is_bytes key d.key ≡ true)
     by (Some x) b at b_is is more = more (at ∙ is)
-    by None true at b_is is more = let same : e ≡ d = cc in subst (λ d. P d × (is_bytes key d.key ≡ true)) same (h.0, first (is_bytes key e.key) (nat_le e.at t) b_is)
+    by None true at b_is is more = let same : e ≡ d = cc in subst (λ d. P d × (is_bytes key d.key ≡ true)) same (h.0, (and_parts (is_bytes key e.key) (nat_le e.at t) b_is).0)
     by None false at b_is is more = cc
 
 pub since_is : (es : List Event) (start : ℕ) (key : List ℕ) (t : ℕ) → IsStrictlySortedBy event_cmp es → AllByRecursion (λ e. e.at ≤ t) es → event_since es start key ≡ since start (event_until es key t)

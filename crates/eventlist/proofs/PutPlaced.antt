@@ -11,12 +11,8 @@ use Rattle.values.specs.Events.{event_cmp, put_event}
 use Rattle.eventlist.specs.Place.{AreFirst, is_before}
 use Rattle.eventlist.specs.Put.{is_same}
 use Rattle.values.specs.EventOrder.{event_total}
+use Rattle.keyrange.proofs.RangeOrder.{is_less}
 use Rattle.eventlist.proofs.PlaceOrder.{sorted_head, sorted_tail, sorted_cons, sorted_none, partitioned, within_tail, within_rest, within_head}
-
-is_less : (o : Ordering) → is_lt o ≡ true → o ≡ Less
-is_less Less e = refl
-is_less Equal e = cc
-is_less Greater e = cc
 
 before_before : (e x y : Event) → event_cmp x y ≡ Less → is_before e y ≡ true → is_before e x ≡ true
 before_before e x y h is = ap is_lt (event_total.trans x y e h (is_less (event_cmp y e) is))

@@ -22,7 +22,7 @@ turned Greater p e h = cc
 pub not_back : (x y : List ℕ) → is_below x y ≡ true → is_below y x ≡ false
 not_back x y h = turned (cmp x y) (cmp y x) (nat_list_cmp_total.antisymm y x) h
 
-is_less : (o : Ordering) → is_lt o ≡ true → o ≡ Less
+pub is_less : (o : Ordering) → is_lt o ≡ true → o ≡ Less
 is_less Less h = refl
 is_less Equal h = cc
 is_less Greater h = cc

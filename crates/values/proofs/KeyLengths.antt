@@ -1,5 +1,6 @@
 -- How long the bytes of a key are, and that a key that fits its table is short enough.
 use Rattle.std.proofs.Common.{◌≡◌, ℕ, ◌+◌, ◌*◌, ◌≤◌, List, [], ◌∷◌, ◌==◌, Bool, true, false, ◌&&◌, Option, Some, None, length, refl, arith, leb-true, nat_le, if◌then◌else◌, All}
+use Rattle.std.proofs.lemmas.Bool.{and_parts}
 use Rattle.std.specs.Prelude.{not, ◌||◌}
 use Rattle.std.specs.List.{flat_map}
 use Rattle.std.proofs.lemmas.List.{length-append}
@@ -40,19 +41,11 @@ key_bytes_length k h = omega (arith, parts_length k.parts h.short_parts, h.few_p
 
 -- what fits a type of at most 200 bytes is short
 text_short : (t : List ℕ) → fits_text 200 t ≡ true → length t ≤ 200
-text_short t e = leb-true (length t) 200 (and_left (nat_le (length t) 200) _ e)
-  where
-    and_left : (a b : Bool) → (a && b) ≡ true → a ≡ true
-    and_left true b e = refl
-    and_left false b e = e
-
-and_first : (a b : Bool) → (a && b) ≡ true → a ≡ true
-and_first true b e = refl
-and_first false b e = e
+text_short t e = leb-true (length t) 200 ((and_parts (nat_le (length t) 200) _ e).0)
 
 typed_short : (of : ColumnType) (v : Value) → fits_type 200 of v ≡ true → IsShort v
 typed_short IsText (Text t) e = text_short t e
-typed_short (IsVarchar n) (Text t) e = text_short t (and_first (fits_text 200 t) (nat_le (character_count t) n) e)
+typed_short (IsVarchar n) (Text t) e = text_short t ((and_parts (fits_text 200 t) (nat_le (character_count t) n) e).0)
 typed_short IsInt (Int x) e = tt
 typed_short IsBoolean (Truth x) e = tt
 typed_short _ (Int x) e = tt

@@ -1,5 +1,6 @@
 -- Keys read back from their bytes, and nothing else is read.
 use Rattle.std.proofs.Common.{◌≡◌, ℕ, ◌+◌, ◌-◌, ◌^◌, ◌<◌, ◌≤◌, List, [], ◌∷◌, ◌++◌, ◌==◌, ◌&&◌, Bool, true, false, Option, Some, None, length, take, drop, refl, sym, subst, ap, ◌∙◌, arith, nat_le, nat_lt, if◌then◌else◌, append_assoc, append-nil, All, IsUtf8, IfSome, IfNone}
+use Rattle.std.proofs.lemmas.Bool.{and_parts}
 use Rattle.std.specs.Prelude.{ℤ, pos, negsuc, is_none}
 use Rattle.std.specs.Int.{w64, to_be_bytes, from_be_bytes}
 use Rattle.std.specs.Int.RustNames.{FitsSigned}
@@ -25,7 +26,7 @@ use Rattle.values.specs.RowEncoding.{IsHeld}
 use Rattle.values.specs.RowReading.{Taken, after}
 use Rattle.values.specs.KeyReading.{IsKeyOf, IsKeyWith, NoKeyWith, number_at, text_from, number_from, name_from, truth_from, part_from, column_from, parts_from, is_empty, whole_key, key_from}
 use Rattle.values.proofs.KeyLengths.{FitsColumn, part_fits, first_none, key_fits}
-use Rattle.values.proofs.RowReads.{long, chosen, and_first, and_second, same_taken, byte_at, below_8, taken_length, at_least, AreBytes}
+use Rattle.values.proofs.RowReads.{long, chosen, same_taken, byte_at, below_8, taken_length, at_least, AreBytes}
 
 -- numbers
 number_at-ordinal_of : (n : ℤ) → FitsSigned w64 n → number_at (ordinal_of n) ≡ n
@@ -300,10 +301,10 @@ whole_sound table bytes key (Some (parts, rest)) at h e = by_test (is_empty rest
     by_test false t e = cc
     by_test true t e =
         let all = parts_sound table table.key bytes parts rest h at in
-        let end = nothing rest (and_first (is_empty rest) _ t) in
+        let end = nothing rest (and_parts (is_empty rest) _ t).0 in
         let same : record { table = table.number; parts = parts } ≡ key = ap (λ (o : Option Key). elim o [ Some k ↦ k | None ↦ key ]) e in
         subst (λ k. IsKeyWith table (table.number ∷ bytes) k) same (record {
-          is_key = record { own = refl; fits = no_fault_is (key_fault table parts) (and_second (is_empty rest) _ t); held = all.all_held };
+          is_key = record { own = refl; fits = no_fault_is (key_fault table parts) (and_parts (is_empty rest) _ t).1; held = all.all_held };
           bytes_are = ap (λ l. table.number ∷ l) (sym (all.all_spelled ∙ ap (λ l. flat_map part_bytes parts ++ l) end ∙ append-nil (flat_map part_bytes parts)));
         })
 

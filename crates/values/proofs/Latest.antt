@@ -11,6 +11,7 @@ use Rattle.values.specs.declared.key.Key.{Key}
 use Rattle.values.specs.declared.key.Point.{Point}
 use Rattle.values.specs.Order.{key_cmp}
 use Rattle.values.specs.Log.{Changes, Row, point_cmp}
+use Rattle.values.proofs.Sorted.{below_less}
 use Rattle.values.proofs.Orders.{point_cmp_total, key_cmp-IsAntisymmetric, point_cmp-IsAntisymmetric, below, both, first, second}
 
 abbrev pub later : {A : Type 0} → Option A → Option A → Option A
@@ -56,16 +57,6 @@ latest_none [] t i q h up = refl
 latest_none (c ∷ cs) t i q h up =
     (λ k. later (latest_none cs t i q (second _ _ h) up.1 k) (cond (no_more (key_cmp q c.0.key) i c.0.instant (first _ _ h) up.0 k && nat_le c.0.instant t) (Some c.1) None))
 
-is_less : (o : Ordering) → T (is_lt o) → o ≡ Less
-is_less Less h = refl
-is_less Equal h = absurd h
-is_less Greater h = absurd h
-
-below_less : (p r : Point) (m : Changes) → point_cmp p r ≡ Less → T (below_all point_cmp r m) → T (below_all point_cmp p m)
-below_less p r [] e h = tt
-below_less p r (c ∷ cs) e h =
-    both _ _ (subst (λ o. T (is_lt o)) (sym (point_cmp_total.trans p r c.0 e (is_less _ (first _ _ h)))) tt) (below_less p r cs e (second _ _ h))
-
 ties : (o : Ordering) (b : Bool) → (is_eq o && b) ≡ true → o ≡ Equal
 ties Less b e = cc
 ties Equal b e = refl
@@ -89,7 +80,7 @@ insert_at : (o : Ordering) (c : Point × Option Row) (cs : Changes) (t i : ℕ) 
 insert_at Less c cs t i q k v e sorted up rest =
     put_before (is_eq (key_cmp q k) && nat_le i t) v (latest (c ∷ cs) t q) (λ b.
     let same : k ≡ q = sym (key_cmp-IsAntisymmetric q k (ties _ _ b)) in
-    latest_none (c ∷ cs) t i q (subst (λ k. T (below_all point_cmp (point k i) (c ∷ cs))) same (both _ _ (subst (λ o. T (is_lt o)) (sym e) tt) (below_less (point k i) c.0 cs e (first _ _ sorted)))) up)
+    latest_none (c ∷ cs) t i q (subst (λ k. T (below_all point_cmp (point k i) (c ∷ cs))) same (both _ _ (subst (λ o. T (is_lt o)) (sym e) tt) (below_less point_cmp_total (point k i) c.0 cs e (first _ _ sorted)))) up)
 insert_at Equal c cs t i q k v e sorted up rest =
     let same : point k i ≡ c.0 = point_cmp-IsAntisymmetric (point k i) c.0 e in
     subst (λ (p : Point). T (below_all point_cmp p cs) → later (latest cs t q) (cond (is_eq (key_cmp q p.key) && nat_le p.instant t) (Some v) None)

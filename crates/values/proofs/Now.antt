@@ -1,5 +1,5 @@
 -- The rows that have not ended are the state at the last instant.
-use Rattle.std.proofs.Common.{◌≡◌, ℕ, ◌<◌, ◌≤◌, true, cond, T, [], ◌∷◌, ◌++◌, refl, sym, ap, subst, ◌∙◌, arith, nat_le, append_assoc, append-nil}
+use Rattle.std.proofs.Common.{◌≡◌, ℕ, ◌<◌, ◌≤◌, true, cond, T, List, [], ◌∷◌, ◌++◌, refl, sym, ap, subst, ◌∙◌, arith, nat_le, append_assoc, append-nil}
 use Rattle.std.proofs.lemmas.Bool.Decides.{nat_tests}
 use Rattle.std.specs.Ordering.{is_lt, ordering_reverse, match_ordering}
 use Rattle.std.specs.declared.cmp.Ordering.{Ordering}
@@ -15,6 +15,7 @@ use Rattle.values.specs.Log.{Log, State, Row, Changes, changes, add_all, add_net
 use Rattle.values.specs.Writes.{insert_all}
 use Rattle.values.specs.Laws.{Rises, IsLog, rows_by}
 use Rattle.values.proofs.Orders.{key_cmp_total, first, second}
+use Rattle.values.proofs.Sorted.{is_less}
 use Rattle.values.proofs.States.{state_matches}
 use Rattle.values.proofs.AsOf.{state_is_as_of, state_is_current}
 
@@ -39,16 +40,12 @@ add_all-push (u ∷ log) m t = add_all-push log (add_net u.instant m u.net) t
 
 -- ---- rows in order, inserted in turn
 
-above : (x : Key × Row) (m : State) (e : Key × Row) (es : State) → T (below_all key_cmp x.0 (m ++ e ∷ es)) → key_cmp e.0 x.0 ≡ Greater
-above x [] e es h = key_cmp_total.antisymm e.0 x.0 ∙ ap ordering_reverse (less (key_cmp x.0 e.0) (first _ _ h))
-  where
-    less : (o : Ordering) → T (is_lt o) → o ≡ Less
-    less Less h = refl
-    less Equal h = absurd h
-    less Greater h = absurd h
+above : {X : Type 0} (x : Key × X) (m : List (Key × X)) (e : Key × X) (es : List (Key × X)) → T (below_all key_cmp x.0 (m ++ e ∷ es)) → key_cmp e.0 x.0 ≡ Greater
+above x [] e es h = key_cmp_total.antisymm e.0 x.0 ∙ ap ordering_reverse (is_less (key_cmp x.0 e.0) (first _ _ h))
 above x (y ∷ m) e es h = above x m e es (second _ _ h)
 
-insert_last : (m : State) (e : Key × Row) (es : State) → T (is_sorted key_cmp (m ++ e ∷ es)) → insert_entry key_cmp m e.0 e.1 ≡ m ++ e ∷ []
+-- an entry above all others comes last
+pub insert_last : {X : Type 0} (m : List (Key × X)) (e : Key × X) (es : List (Key × X)) → T (is_sorted key_cmp (m ++ e ∷ es)) → insert_entry key_cmp m e.0 e.1 ≡ m ++ e ∷ []
 insert_last [] e es h = refl
 insert_last (x ∷ m) e es h =
     ap (λ o. match_ordering o ((e.0, e.1) ∷ x ∷ m) ((x.0, e.1) ∷ m) (x ∷ insert_entry key_cmp m e.0 e.1)) (above x m e es (first _ _ h)) ∙ ap (λ l. x ∷ l) (insert_last m e es (second _ _ h))

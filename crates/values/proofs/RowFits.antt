@@ -1,5 +1,6 @@
 -- A row that fits its table has bytes.
 use Rattle.std.proofs.Common.{◌≡◌, ℕ, ◌+◌, ◌≤◌, List, [], ◌∷◌, ◌==◌, ◌&&◌, Bool, true, false, Option, Some, None, length, refl, ap, ◌∙◌, arith, nat_le, if◌then◌else◌, All}
+use Rattle.std.proofs.lemmas.Bool.{and_parts}
 use Rattle.std.specs.List.{list_any}
 use Rattle.std.specs.Prelude.{not}
 use Rattle.std.proofs.lemmas.Bool.Decides.{nat_tests}
@@ -15,23 +16,15 @@ use Rattle.values.specs.Tables.{is_key_column}
 use Rattle.values.specs.Fit.{is_line_break, fits_text, fits_type, fits_value, text_limit, character_count, first_fault, row_fault}
 use Rattle.values.specs.RowEncoding.{IsStored, IsStoredRow}
 
-and_first : (a b : Bool) → (a && b) ≡ true → a ≡ true
-and_first true b e = refl
-and_first false b e = e
-
 wider : (m : ℕ) (t : List ℕ) → m ≤ 1000 → fits_text m t ≡ true → fits_text 1000 t ≡ true
-wider m t h e = ap (λ a. a && not (list_any is_line_break t)) (longer (length t) (and_first (nat_le (length t) m) _ e)) ∙ second (nat_le (length t) m) _ e
+wider m t h e = ap (λ a. a && not (list_any is_line_break t)) (longer (length t) ((and_parts (nat_le (length t) m) _ e).0)) ∙ (and_parts (nat_le (length t) m) _ e).1
   where
     longer : (n : ℕ) → nat_le n m ≡ true → nat_le n 1000 ≡ true
     longer n e = grind (arith, nat_tests)
 
-    second : (a b : Bool) → (a && b) ≡ true → b ≡ true
-    second true b e = e
-    second false b e = cc
-
 typed : (m : ℕ) (of : ColumnType) (v : Value) → m ≤ 1000 → fits_type m of v ≡ true → IsStored v
 typed m IsText (Text t) h e = wider m t h e
-typed m (IsVarchar n) (Text t) h e = wider m t h (and_first (fits_text m t) (nat_le (character_count t) n) e)
+typed m (IsVarchar n) (Text t) h e = wider m t h ((and_parts (fits_text m t) (nat_le (character_count t) n) e).0)
 typed m IsInt (Text t) h e = cc
 typed m IsBoolean (Text t) h e = cc
 typed m of (Int x) h e = refl

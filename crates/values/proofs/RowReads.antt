@@ -1,5 +1,6 @@
 -- Rows read back from their bytes, and nothing else is read.
 use Rattle.std.proofs.Common.{◌≡◌, ℕ, ◌-◌, ◌^◌, ◌<◌, ◌≤◌, List, [], ◌∷◌, ◌++◌, ◌==◌, ◌&&◌, Bool, true, false, Option, Some, None, length, take, drop, get_or, refl, sym, subst, ap, ◌∙◌, arith, nat_le, if◌then◌else◌, suc, zero, append_assoc, append-nil, All, IsUtf8, IfSome, IfNone, Fits, w8, option_map, length-append, length-take}
+use Rattle.std.proofs.lemmas.Bool.{and_from, and_parts}
 use Rattle.std.specs.Prelude.{ℤ, pos, negsuc}
 use Rattle.std.specs.Int.{w16, w64, to_be_bytes, from_be_bytes, cast_unsigned, cast_signed}
 use Rattle.std.specs.Int.RustNames.{FitsSigned}
@@ -41,26 +42,15 @@ int_back n rest f =
     ∙ ap (λ m. Some (Int (cast_signed w64 m), rest)) (from_be_bytes-to_be_bytes_8 (cast_unsigned w64 n) (unsigned_below n f))
     ∙ ap (λ z. Some (Int z, rest)) (to_z-of_z w64 n f)
 
-pub both : (a b : Bool) → a ≡ true → b ≡ true → (a && b) ≡ true
-both a b d e = ap (λ t. t && b) d ∙ e
-
-pub and_first : (a b : Bool) → (a && b) ≡ true → a ≡ true
-and_first true b e = refl
-and_first false b e = e
-
-pub and_second : (a b : Bool) → (a && b) ≡ true → b ≡ true
-and_second true b e = e
-and_second false b e = cc
-
 text_within : (t : List ℕ) → fits_text 1000 t ≡ true → length t ≤ 1000
-text_within t e = let h = and_first (nat_le (length t) 1000) _ e in grind (arith, nat_tests)
+text_within t e = let h = (and_parts (nat_le (length t) 1000) _ e).0 in grind (arith, nat_tests)
 
 of_back : (t rest : List ℕ) → fits_text 1000 t ≡ true → IsUtf8 t → text_of (length t) (t ++ rest) ≡ Some (Text t, rest)
 unfolding text_of
 of_back t rest e u =
     ap (λ l. if nat_le (length t) (length (t ++ rest)) && is_stored_text l then Some (Text l, drop (length t) (t ++ rest)) else None) (take-append_seam t rest)
     ∙ ap (λ l. if nat_le (length t) (length (t ++ rest)) && is_stored_text t then Some (Text t, l) else None) (drop-append_seam t rest)
-    ∙ chosen _ _ None (both _ _ (long t rest) (both _ _ e (is_utf8-from_IsUtf8 t u)))
+    ∙ chosen _ _ None (and_from _ _ (long t rest) (and_from _ _ e (is_utf8-from_IsUtf8 t u)))
 
 text_back : (t rest : List ℕ) → fits_text 1000 t ≡ true → IsUtf8 t → text_from ((to_be_bytes w16 (length t) ++ t) ++ rest) ≡ Some (Text t, rest)
 unfolding text_from
@@ -164,13 +154,13 @@ text_found : (n : ℕ) (bytes : List ℕ) (v : Value) (rest : List ℕ) (t : Boo
 text_found n bytes v rest false e is = cc
 text_found n bytes v rest true e is =
     let parts = same_taken (Text (take n bytes)) v (drop n bytes) rest is in
-    let long_enough : n ≤ length bytes = at_least n bytes (and_first _ _ e) in
-    let fine = and_second (nat_le n (length bytes)) _ e in
+    let long_enough : n ≤ length bytes = at_least n bytes (and_parts _ _ e).0 in
+    let fine = (and_parts (nat_le n (length bytes)) _ e).1 in
     let spelled : 2 ∷ (to_be_bytes w16 n ++ bytes) ≡ value_bytes (Text (take n bytes)) ++ drop n bytes =
     ap (λ l. 2 ∷ l) (ap (λ l. to_be_bytes w16 n ++ l) (sym (take-append-drop n bytes)) ∙ sym (append_assoc (to_be_bytes w16 n) (take n bytes) (drop n bytes))
     ∙ ap (λ k. (to_be_bytes w16 k ++ take n bytes) ++ drop n bytes) (sym (taken_length n bytes long_enough))) in
     subst (λ w. Reads (2 ∷ (to_be_bytes w16 n ++ bytes)) w rest) parts.0 (subst (λ r. Reads (2 ∷ (to_be_bytes w16 n ++ bytes)) (Text (take n bytes)) r) parts.1
-    (record { spelled = spelled; stored = and_first _ _ fine; held = IsUtf8-from_is_utf8 (take n bytes) (and_second (fits_text 1000 (take n bytes)) _ fine) }))
+    (record { spelled = spelled; stored = (and_parts _ _ fine).0; held = IsUtf8-from_is_utf8 (take n bytes) ((and_parts (fits_text 1000 (take n bytes)) _ fine).1) }))
 
 of_sound : (n : ℕ) (bytes : List ℕ) (v : Value) (rest : List ℕ) → text_of n bytes ≡ Some (v, rest) → Reads (2 ∷ (to_be_bytes w16 n ++ bytes)) v rest
 unfolding text_of
@@ -281,8 +271,8 @@ row_sound (m ∷ bytes) row n h is = by_count (nat_le 1 m && nat_le m 16) refl i
     found (Some (vs, left)) at e is =
         let parts = same_taken vs row (length (m ∷ bytes) - length left) n is in
         let all : ReadsAll m bytes vs left = values_sound m bytes vs left (All-tail (λ b. b < 256) m bytes h) at in
-        let some : 1 ≤ m = at_most 1 m (and_first (nat_le 1 m) _ e) in
-        let few : m ≤ 16 = at_most m 16 (and_second (nat_le 1 m) _ e) in
+        let some : 1 ≤ m = at_most 1 m (and_parts (nat_le 1 m) _ e).0 in
+        let few : m ≤ 16 = at_most m 16 (and_parts (nat_le 1 m) _ e).1 in
         subst (λ ws. StandsIn (m ∷ bytes) n ws) parts.0 (subst (λ k. StandsIn (m ∷ bytes) k vs) parts.1
         (same_row (m ∷ bytes) left vs
         (record { some = subst (λ k. 1 ≤ k) (sym all.counted) some; few = subst (λ k. k ≤ 16) (sym all.counted) few; stored = all.all_stored }) all.all_held
