@@ -12,7 +12,8 @@ use Rattle.tokens.specs.Token.{Read}
 use Rattle.rows.specs.Declaration.{creates_at}
 use Rattle.rows.specs.SchemaTable.{next_table, tables_from, read_schema}
 use Rattle.rows.specs.SchemaGrammar.{SchemaText}
-use Rattle.rows.specs.SchemaLaws.{HasSyntaxFault, OfTheGrammar, TheGrammarIsRead, TextsSayOneThing, OnlyTheGrammarIsRead, TokenAt, FaultsAreAtTokens, GoodTextsAreRead, SaysSchema, OnlySchemasAreRead}
+use Rattle.rows.specs.SchemaGrammarLaws.{HasSyntaxFault, OfTheGrammar, SaysNothing, TheGrammarIsRead, TextsSayOneThing, OnlyTheGrammarIsRead, TokenAt, FaultsAreAtTokens}
+use Rattle.rows.specs.GoodTablesLaws.{GoodTextsAreRead, SaysSchema, OnlySchemasAreRead}
 use Rattle.rows.proofs.SchemaSays.{of_the_grammar}
 use Rattle.rows.proofs.SchemaWhole.{text_read}
 use Rattle.rows.proofs.SchemaStops.{creates_stop}
@@ -53,14 +54,14 @@ pub only : OnlyTheGrammarIsRead
 unfolding read_schema
 only text = (found, missed)
   where
-    found : HasSyntaxFault (read_schema text) → (65536 < length text) ⊎ ((ds : List Declaration) → SchemaText ds text → ⊥)
+    found : HasSyntaxFault (read_schema text) → (65536 < length text) ⊎ SaysNothing text
     found fault = by_length (nat_lt 65536 (length text)) refl
       where
-        by_length : (t : Bool) → nat_lt 65536 (length text) ≡ t → (65536 < length text) ⊎ ((ds : List Declaration) → SchemaText ds text → ⊥)
+        by_length : (t : Bool) → nat_lt 65536 (length text) ≡ t → (65536 < length text) ⊎ SaysNothing text
         by_length true e = inl (grind (arith, nat_tests))
         by_length false e = inr (λ ds spelled. no_syntax ds [] fault.0 (sym (read text ds (grind (arith, nat_tests)) spelled) ∙ fault.1))
 
-    missed : (65536 < length text) ⊎ ((ds : List Declaration) → SchemaText ds text → ⊥) → HasSyntaxFault (read_schema text)
+    missed : (65536 < length text) ⊎ SaysNothing text → HasSyntaxFault (read_schema text)
     missed (inl h) = (65536, ap (λ t. if t then Err (Syntax 65536) else read_as text (creates_at text)) (long (length text) h))
     missed (inr none) = elim (of_the_grammar text) [ inl fault ↦ fault | inr is ↦ absurd (none is.declarations is.spelled) ]
 

@@ -1,5 +1,6 @@
 -- The tables that declarations make are good, and stand in the places of their numbers.
 use Rattle.std.proofs.Common.{◌≡◌, ℕ, ◌+◌, ◌-◌, ◌<◌, ◌≤◌, List, [], ◌∷◌, ◌++◌, ◌==◌, ◌&&◌, ◌||◌, Bool, true, false, cond, Option, Some, None, IfSome, length, map, refl, sym, subst, ap, ◌∙◌, arith, nat_le, nat_lt, if◌then◌else◌, All, zero, suc, get_or}
+use Rattle.std.proofs.lemmas.Bool.{and_parts}
 use Rattle.std.specs.Prelude.{not, option_and_then, is_some}
 use Rattle.std.specs.List.{list_any, filter_map, flat_map, position_from, slice_get}
 use Rattle.std.specs.Option.{unwrap_or}
@@ -62,14 +63,6 @@ is_known ts i t h lt is =
 
 -- ---- what a declaration makes
 
-first : (a b : Bool) → (a && b) ≡ true → a ≡ true
-first true b e = refl
-first false b e = e
-
-second : (a b : Bool) → (a && b) ≡ true → b ≡ true
-second true b e = e
-second false b e = cc
-
 at_most : (n m : ℕ) → nat_le n m ≡ true → n ≤ m
 at_most n m e = grind (arith, nat_tests)
 
@@ -122,17 +115,17 @@ made_is : (number : ℕ) (d : Declaration) (start end : List ℕ) (period : Peri
 made_is number d start end period names h =
     let columns = filter_map user_column d.entries in
     let key = map (number_in columns) names in
-    let three : (is_good_period start end period && is_good_key names key && is_good_width columns) ≡ true = first _ _ h in
-    let two : (is_good_period start end period && is_good_key names key) ≡ true = first _ _ three in
-    let wide : is_good_width columns ≡ true = second _ _ three in
-    let keyed : is_good_key names key ≡ true = second _ _ two in
-    let few : length names ≤ 4 = at_most (length names) 4 (first (nat_le (length names) 4) (are_distinct names) (first (nat_le (length names) 4 && are_distinct names) _ keyed)) in
+    let three : (is_good_period start end period && is_good_key names key && is_good_width columns) ≡ true = (and_parts _ _ h).0 in
+    let two : (is_good_period start end period && is_good_key names key) ≡ true = (and_parts _ _ three).0 in
+    let wide : is_good_width columns ≡ true = (and_parts _ _ three).1 in
+    let keyed : is_good_key names key ≡ true = (and_parts _ _ two).1 in
+    let few : length names ≤ 4 = at_most (length names) 4 ((and_parts (nat_le (length names) 4) (are_distinct names) ((and_parts (nat_le (length names) 4 && are_distinct names) _ keyed).0)).0) in
     let same : length key ≡ length names = length-map names (number_in columns) in
-    let none : not (list_any (λ n. n == 0) key) ≡ true = second _ _ keyed in
+    let none : not (list_any (λ n. n == 0) key) ≡ true = (and_parts _ _ keyed).1 in
     record {
       numbered = refl;
-      some_columns = at_most 1 (length columns) (first _ _ wide);
-      few_columns = at_most (length columns) 16 (second _ _ wide);
+      some_columns = at_most 1 (length columns) (and_parts _ _ wide).0;
+      few_columns = at_most (length columns) 16 (and_parts _ _ wide).1;
       few_key_columns = subst (λ n. n ≤ 4) (sym same) few;
       own_key_columns = own_columns (made number d start end names) names none;
     }

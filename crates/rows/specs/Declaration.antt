@@ -22,7 +22,10 @@ abbrev pub list_at : {A : Type 0} → (List ℕ → Read A) → ℕ → List ℕ
 list_at item zero bytes = Err bytes
 list_at item (suc n) bytes = do
   x ← item bytes
-  elim (symbol_at 44 x.1) [ Err _ ↦ Ok (x.0 ∷ [], x.1) | Ok more ↦ prepend (x.0 ∷ []) (list_at item n more) ]
+  elim (symbol_at 44 x.1) [
+    | Err _ ↦ Ok (x.0 ∷ [], x.1)
+    | Ok more ↦ prepend (x.0 ∷ []) (list_at item n more)
+  ]
 
 -- each takes a byte or more
 unfoldable pub names_at : List ℕ → Read (List (List ℕ))
@@ -38,7 +41,9 @@ size_at bytes = do
 
 unfoldable pub is_whole_number_at : List ℕ → Bool
 is_whole_number_at bytes =
-    is_word_at (codes "INT") bytes || is_word_at (codes "INTEGER") bytes || is_word_at (codes "BIGINT") bytes
+    is_word_at (codes "INT") bytes
+    || is_word_at (codes "INTEGER") bytes
+    || is_word_at (codes "BIGINT") bytes
 
 -- VARCHAR "(" digits ")"
 unfoldable pub varchar_at : List ℕ → Read ColumnType
@@ -130,7 +135,13 @@ generated_at name bytes = do
   before ← maybe_not_null_at digits.1
   side ← row_side_at before.1
   after ← maybe_not_null_at side.1
-  Ok (Generated (record { name = name; digits = digits.0; side = side.0; not_null_before = before.0; not_null_after = after.0 }), after.1)
+  Ok (Generated (record {
+    name = name;
+    digits = digits.0;
+    side = side.0;
+    not_null_before = before.0;
+    not_null_after = after.0;
+  }), after.1)
 
 -- "(" name "," name ")"
 unfoldable pub two_names_at : List ℕ → Read Entry
@@ -163,7 +174,8 @@ key_at bytes = do
 unfoldable pub column_at : List ℕ → Read Entry
 column_at bytes = do
   name ← name_at bytes
-  if is_word_at (codes "TIMESTAMP") name.1 then generated_at name.0 name.1 else user_at name.0 name.1
+  if is_word_at (codes "TIMESTAMP") name.1 then generated_at name.0 name.1
+      else user_at name.0 name.1
 
 unfoldable pub entry_at : List ℕ → Read Entry
 entry_at bytes =

@@ -37,7 +37,9 @@ pub record IsTheOne {A : Type 0} (P : A → Type 0) (x : A) (xs : List A) : Type
 
 -- no two of the elements, at two places, stand so to one another
 abbrev pub NoTwo : {A : Type 0} → (A → A → Type 0) → List A → Type 0
-NoTwo {A = A} R xs = (before between after : List A) (x y : A) → xs ≡ before ++ x ∷ (between ++ y ∷ after) → R x y → ⊥
+NoTwo {A = A} R xs =
+    (before between after : List A) (x y : A)
+    → xs ≡ before ++ x ∷ (between ++ y ∷ after) → R x y → ⊥
 
 -- names are the same in any case
 abbrev pub SameName : List ℕ → List ℕ → Type 0

@@ -1,17 +1,7 @@
 -- The schema where none is given: a table of employees, by number.
-use Rattle.std.specs.Prelude.{[], ◌∷◌, codes, false}
-use Rattle.values.specs.declared.table.ColumnType.TheVariants.{Int as IsInt, Text as IsText}
+use Rattle.std.specs.Prelude.{[], ◌∷◌}
+use Rattle.values.specs.Sample.{sample_table}
 use Rattle.values.specs.Tables.{Schema}
 
 abbrev pub sample : Schema
-sample = record {
-  tables = record {
-    number = 1;
-    name = codes "emp";
-    columns =
-        record { name = codes "no"; of = IsInt; not_null = false } ∷ record { name = codes "name"; of = IsText; not_null = false } ∷ [];
-    key = 1 ∷ [];
-    row_start = codes "sys_start";
-    row_end = codes "sys_end";
-  } ∷ [];
-}
+sample = record { tables = sample_table ∷ [] }

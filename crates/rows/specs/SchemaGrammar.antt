@@ -36,7 +36,9 @@ Gap [] bytes rest = bytes ≡ rest
 Gap (blank b ∷ gap) bytes rest =
     (more : List ℕ) × ((bytes ≡ b ∷ more) × ((is_separator b ≡ true) × Gap gap more rest))
 Gap (comment text ∷ gap) bytes rest =
-    (more : List ℕ) × ((bytes ≡ 45 ∷ 45 ∷ (text ++ 10 ∷ more)) × (AllBytes is_on_the_line text × Gap gap more rest))
+    (more : List ℕ)
+    × ((bytes ≡ 45 ∷ 45 ∷ (text ++ 10 ∷ more))
+    × (AllBytes is_on_the_line text × Gap gap more rest))
 Gap (last_comment text ∷ gap) bytes rest =
     (bytes ≡ 45 ∷ 45 ∷ text) × (AllBytes is_on_the_line text × (rest ≡ []))
 
@@ -99,7 +101,9 @@ abbrev pub Listed : {A : Type 0} → Says A → Says (List A)
 Listed R [] bytes rest = ⊥
 Listed R (x ∷ []) bytes rest = R x bytes rest
 Listed R (x ∷ y ∷ ys) bytes rest =
-    (after : List ℕ) × ((more : List ℕ) × (R x bytes after × (Symbol 44 tt after more × Listed R (y ∷ ys) more rest)))
+    (after : List ℕ)
+    × ((more : List ℕ)
+    × (R x bytes after × (Symbol 44 tt after more × Listed R (y ∷ ys) more rest)))
 
 -- as many as there are
 abbrev pub Many : {A : Type 0} → Says A → Says (List A)
@@ -116,7 +120,9 @@ Size = do
 
 abbrev pub TypeName : Says ColumnType
 TypeName =
-    (Word (codes "INT") >>= (λ x. just Int)) or (Word (codes "INTEGER") >>= (λ x. just Int)) or (Word (codes "BIGINT") >>= (λ x. just Int))
+    (Word (codes "INT") >>= (λ x. just Int))
+    or (Word (codes "INTEGER") >>= (λ x. just Int))
+    or (Word (codes "BIGINT") >>= (λ x. just Int))
     or (Word (codes "TEXT") >>= (λ x. just Text))
     or (Word (codes "BOOLEAN") >>= (λ x. just Boolean))
     or (Word (codes "VARCHAR") >>= (λ x. Size >>= (λ n. just (Varchar n))))
@@ -168,7 +174,13 @@ GeneratedEntry name = do
   before ← MaybeNotNull
   side ← GeneratedAsRow
   after ← MaybeNotNull
-  just (Generated (record { name = name; digits = digits; side = side; not_null_before = before; not_null_after = after }))
+  just (Generated (record {
+    name = name;
+    digits = digits;
+    side = side;
+    not_null_before = before;
+    not_null_after = after;
+  }))
 
 -- "(" name "," name ")"
 abbrev pub TwoNames : Says Entry
@@ -234,6 +246,10 @@ IsEnd bytes = IsNext bytes []
 abbrev pub SchemaText : List Declaration → List ℕ → Type 0
 SchemaText [] bytes = ⊥
 SchemaText (d ∷ []) bytes =
-    (after : List ℕ) × (CreateText d bytes after × (IsEnd after ⊎ ((more : List ℕ) × (Symbol 59 tt after more × IsEnd more))))
+    (after : List ℕ)
+    × (CreateText d bytes after
+    × (IsEnd after ⊎ ((more : List ℕ) × (Symbol 59 tt after more × IsEnd more))))
 SchemaText (d ∷ e ∷ es) bytes =
-    (after : List ℕ) × ((more : List ℕ) × (CreateText d bytes after × (Symbol 59 tt after more × SchemaText (e ∷ es) more)))
+    (after : List ℕ)
+    × ((more : List ℕ)
+    × (CreateText d bytes after × (Symbol 59 tt after more × SchemaText (e ∷ es) more)))

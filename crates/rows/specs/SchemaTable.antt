@@ -120,21 +120,34 @@ table_of number d = do
   names ← only (flat_map keys_in d.entries)
   let columns = filter_map user_column d.entries
   let key = map (number_in columns) names
-  if is_good_period start end period && is_good_key names key && is_good_width columns && are_good_entries d.entries
-      then Some (record { number = number; name = d.name; columns = columns; key = key; row_start = start; row_end = end })
+  if is_good_period start end period && is_good_key names key
+      && is_good_width columns && are_good_entries d.entries
+      then Some (record {
+        number = number;
+        name = d.name;
+        columns = columns;
+        key = key;
+        row_start = start;
+        row_end = end;
+      })
       else None
 
 -- the table after these: there are at most 16, and no two of one name
 unfoldable pub next_table : List Table → Declaration → Option Table
 next_table tables d =
-    if nat_lt (length tables) 16 && not (list_any (λ t. same_name t.name d.name) tables) then table_of (length tables + 1) d else None
+    if nat_lt (length tables) 16 && not (list_any (λ t. same_name t.name d.name) tables)
+    then table_of (length tables + 1) d
+    else None
 
 -- these tables and those of the declarations, or the number of the first declaration that makes
 -- none
 abbrev pub tables_from : List Table → List Declaration → Result Schema SchemaFault
 tables_from tables [] = Ok (record { tables = tables })
 tables_from tables (d ∷ ds) =
-    elim (next_table tables d) [ None ↦ Err (BadTable (length tables + 1)) | Some t ↦ tables_from (tables ++ t ∷ []) ds ]
+    elim (next_table tables d) [
+      | None ↦ Err (BadTable (length tables + 1))
+      | Some t ↦ tables_from (tables ++ t ∷ []) ds
+    ]
 
 -- the bytes that a schema's text may have
 abbrev pub longest_text : ℕ

@@ -2,19 +2,20 @@
 #![tactic(auto)]
 
 mod declaration;
+mod good_tables;
 mod sample;
 mod schema;
-mod schema_laws;
+mod schema_grammar;
 mod schema_reading;
 mod schema_table;
 #[cfg(test)]
 mod schema_tests;
 mod schema_token;
 
+pub use good_tables::good_tables_are_made;
+pub use sample::sample_is_a_schema;
 pub use schema::Schema;
-pub use schema_laws::{
-    good_tables_are_made, sample_is_a_schema, schemas_are_of_the_grammar, the_grammar_is_read,
-};
+pub use schema_grammar::{schemas_are_of_the_grammar, the_grammar_is_read};
 pub use schema_reading::{SAMPLE, SchemaFault};
 pub use values::{
     Chars, Column, ColumnNumber, ColumnType, Comparison, Event, Form, Instant, Key, KeyBytes, Keys,

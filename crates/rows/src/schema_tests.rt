@@ -49,7 +49,8 @@ fn a_fault_of_syntax_has_its_tokens_first_byte(rt: HostRuntime) -> Result<(), Fa
 #[test]
 fn a_bad_table_is_told_by_its_number(rt: HostRuntime) -> Result<(), Fail> {
     let times =
-        "s TIMESTAMP GENERATED ALWAYS AS ROW START, e TIMESTAMP GENERATED ALWAYS AS ROW END, PERIOD FOR SYSTEM_TIME (s, e)";
+        "s TIMESTAMP GENERATED ALWAYS AS ROW START, e TIMESTAMP GENERATED ALWAYS AS ROW END, \
+         PERIOD FOR SYSTEM_TIME (s, e)";
     let columns = [
         ("a INT", 1),
         ("a INT PRIMARY KEY, A TEXT", 1),

@@ -9,16 +9,17 @@ use Rattle.tokens.specs.Word.{is_name_byte}
 -- the words of the grammars of schemas and of lines, which no name is
 unfoldable pub reserved_words : List (List ℕ)
 reserved_words =
-    codes "CREATE" ∷ codes "TABLE" ∷ codes "WITH" ∷ codes "SYSTEM" ∷ codes "VERSIONING" ∷ codes "NOT" ∷
-    codes "NULL" ∷ codes "PRIMARY" ∷ codes "KEY" ∷ codes "TIMESTAMP" ∷ codes "GENERATED" ∷ codes "ALWAYS" ∷
-    codes "AS" ∷ codes "ROW" ∷ codes "START" ∷ codes "END" ∷ codes "PERIOD" ∷ codes "FOR" ∷
-    codes "SYSTEM_TIME" ∷ codes "INT" ∷ codes "INTEGER" ∷ codes "BIGINT" ∷ codes "TEXT" ∷ codes "VARCHAR" ∷
-    codes "BOOLEAN" ∷ codes "CLOCK" ∷ codes "SPLIT" ∷ codes "TIME" ∷ codes "AT" ∷ codes "MIGRATE" ∷
-    codes "BEGIN" ∷ codes "TRANSACTION" ∷ codes "COMMIT" ∷ codes "WORK" ∷ codes "ROLLBACK" ∷ codes "INSERT" ∷
-    codes "INTO" ∷ codes "VALUES" ∷ codes "UPDATE" ∷ codes "SET" ∷ codes "DELETE" ∷ codes "FROM" ∷
-    codes "SELECT" ∷ codes "OF" ∷ codes "TO" ∷ codes "BETWEEN" ∷ codes "AND" ∷ codes "WHERE" ∷ codes "TRUE" ∷
-    codes "FALSE" ∷ codes "ALTER" ∷ codes "ADD" ∷ codes "COLUMN" ∷ codes "WITHOUT" ∷ codes "OVERLAPS" ∷
-    codes "PORTION" ∷ []
+    codes "CREATE" ∷ codes "TABLE" ∷ codes "WITH" ∷ codes "SYSTEM" ∷ codes "VERSIONING" ∷
+    codes "NOT" ∷ codes "NULL" ∷ codes "PRIMARY" ∷ codes "KEY" ∷ codes "TIMESTAMP" ∷
+    codes "GENERATED" ∷ codes "ALWAYS" ∷ codes "AS" ∷ codes "ROW" ∷ codes "START" ∷
+    codes "END" ∷ codes "PERIOD" ∷ codes "FOR" ∷ codes "SYSTEM_TIME" ∷ codes "INT" ∷
+    codes "INTEGER" ∷ codes "BIGINT" ∷ codes "TEXT" ∷ codes "VARCHAR" ∷ codes "BOOLEAN" ∷
+    codes "CLOCK" ∷ codes "SPLIT" ∷ codes "TIME" ∷ codes "AT" ∷ codes "MIGRATE" ∷
+    codes "BEGIN" ∷ codes "TRANSACTION" ∷ codes "COMMIT" ∷ codes "WORK" ∷ codes "ROLLBACK" ∷
+    codes "INSERT" ∷ codes "INTO" ∷ codes "VALUES" ∷ codes "UPDATE" ∷ codes "SET" ∷
+    codes "DELETE" ∷ codes "FROM" ∷ codes "SELECT" ∷ codes "OF" ∷ codes "TO" ∷ codes "BETWEEN" ∷
+    codes "AND" ∷ codes "WHERE" ∷ codes "TRUE" ∷ codes "FALSE" ∷ codes "ALTER" ∷ codes "ADD" ∷
+    codes "COLUMN" ∷ codes "WITHOUT" ∷ codes "OVERLAPS" ∷ codes "PORTION" ∷ []
 
 unfoldable pub is_reserved : List ℕ → Bool
 is_reserved name = list_any (λ word. same_name word name) reserved_words

@@ -1,5 +1,5 @@
 use Rattle.rows.proofs.SchemaReads as reads
-use Rattle.rows.proofs.schema_laws.the_grammar_is_read.Goals as goal
+use Rattle.rows.proofs.schema_grammar.the_grammar_is_read.Goals as goal
 
 pub returns : goal.returns
 returns c = record { read = reads.read; one_thing = reads.one_thing; only = reads.only; at_tokens = reads.at_tokens }

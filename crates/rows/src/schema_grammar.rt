@@ -1,0 +1,17 @@
+//! Laws of the grammar of schemas, which knows nothing of reading.
+ghost use Rattle.rows.specs.SchemaGrammarLaws.{WhatIsReadIsOfTheGrammar, TokensAreRead, TheGrammarIsRead, TextsSayOneThing, OnlyTheGrammarIsRead, FaultsAreAtTokens};
+
+/// Where the reading of a schema finds no fault of syntax, the text is of the grammar.
+pub fn schemas_are_of_the_grammar()
+    ensures grammar { WhatIsReadIsOfTheGrammar }
+    ensures tokens { TokensAreRead }
+{}
+
+/// Every text of the grammar of at most 65,536 bytes is read, as the one thing that it says; a fault of syntax is found
+/// in all others and in no such text, and is told where a token begins or the text ends.
+pub fn the_grammar_is_read()
+    ensures read { TheGrammarIsRead }
+    ensures one_thing { TextsSayOneThing }
+    ensures only { OnlyTheGrammarIsRead }
+    ensures at_tokens { FaultsAreAtTokens }
+{}
