@@ -133,7 +133,7 @@ fn an_event_at_the_first_instant_takes_the_place_of_the_carried_one(
 }
 
 /// How many events of all keys a node has from an instant to another.
-fn listed(alloc: Global, node: &DataNode, from: Instant, to: Instant) -> Mem<usize> {
+fn count_events(alloc: Global, node: &DataNode, from: Instant, to: Instant) -> Mem<usize> {
     let range = KeyRange {
         lo: KeyBytes::least(alloc),
         hi: None,
@@ -145,9 +145,9 @@ fn listed(alloc: Global, node: &DataNode, from: Instant, to: Instant) -> Mem<usi
 fn a_node_lists_carried_events_too(rt: HostRuntime) -> Result<(), Fail> {
     let alloc = rt.alloc();
     let now = since(&rt, &sample(&rt, alloc)?, 150)?;
-    assert_eq!(rt; listed(alloc, &now, 100, 199)?, 1);
-    assert_eq!(rt; listed(alloc, &now, 101, 200)?, 1);
-    assert_eq!(rt; listed(alloc, &now, 201, 300)?, 0);
+    assert_eq!(rt; count_events(alloc, &now, 100, 199)?, 1);
+    assert_eq!(rt; count_events(alloc, &now, 101, 200)?, 1);
+    assert_eq!(rt; count_events(alloc, &now, 201, 300)?, 0);
     Ok(())
 }
 

@@ -128,7 +128,8 @@ module _ (schema : Schema) where
 
   abbrev pub net_change_of : Log → Option Log → List Step → Net
   net_change_of now log_at_begin own =
-      net_of (seen_of now log_at_begin) (mine_of now log_at_begin own) (written_of now log_at_begin own)
+      net_of (seen_of now log_at_begin)
+      (mine_of now log_at_begin own) (written_of now log_at_begin own)
 
   -- a write that is the session's and is not refused, with one open
   abbrev pub is_kept : Step → ℕ → Log → Option Log → List Step → Bool

@@ -10,7 +10,7 @@ use Rattle.histories.specs.declared.step.Reply.TheVariants.{Refused}
 use Rattle.histories.specs.Misfit.{misfit}
 use Rattle.histories.specs.History.{History, log_at_begin}
 use Rattle.histories.specs.World.{World}
-use Rattle.histories.specs.Stands.{open_at}
+use Rattle.histories.specs.Stands.{is_open_at}
 
 abbrev pub is_memory : Refusal → Bool
 is_memory Memory = true
@@ -37,7 +37,7 @@ takes_no_memory_by has_open Migrate = true
 -- a step that takes no memory: one that does not fit, or one of these
 abbrev pub takes_no_memory : World → Step → Bool
 takes_no_memory w step =
-    is_some (misfit w.schema step) || takes_no_memory_by (λ i. is_some (open_at w i)) step
+    is_some (misfit w.schema step) || takes_no_memory_by (is_open_at w) step
 
 -- the same, by the history
 abbrev pub takes_no_memory_after : Schema → History → Step → Bool

@@ -1,5 +1,5 @@
 -- When a system stands for a history.
-use Rattle.std.specs.Prelude.{◌≡◌, ℕ, ◌≤◌, ◌+◌, List, Option, Some, None, slice_index_or, length}
+use Rattle.std.specs.Prelude.{◌≡◌, ℕ, ◌≤◌, ◌+◌, List, Bool, Option, Some, None, is_some, slice_index_or, length}
 use Rattle.values.specs.Tables.{Schema}
 use Rattle.values.specs.Log.{Log, last, changes}
 use Rattle.histories.specs.declared.step.Step.{Step}
@@ -23,6 +23,9 @@ open_in schema h i = open_from schema (log schema h) (log_at_begin schema h i) (
 -- the session's open transaction, as the system has it
 abbrev pub open_at : World → ℕ → Option OpenTransaction
 open_at w i = slice_index_or w.sessions i None
+
+abbrev pub is_open_at : World → ℕ → Bool
+is_open_at w i = is_some (open_at w i)
 
 -- the system has what the history committed, and the history's open transactions
 pub record Stands (w : World) (h : History) : Type 0 where

@@ -27,13 +27,15 @@ pub record HasOneCurrent {C : Type 0} (area : Area) (references : List (Referenc
   pub one : current_count references ≡ 1
 
 -- of a tiled node so many are current at least, and lie inside
-pub record HasCurrents {C : Type 0} (n : ℕ) (area : Area) (references : List (Reference C)) : Type 0 where
+pub record HasCurrents {C : Type 0} (n : ℕ) (area : Area) (references : List (Reference C))
+    : Type 0 where
   pub tiled : Tiles area references
   pub inside : AreCurrentIn area references
   pub count : n ≤ current_count references
 
 -- from the instant on there is one reference alone, and of several the others lie before it
-pub record StandsAlone {C : Type 0} (area : Area) (references : List (Reference C)) (instant : ℕ) : Type 0 where
+pub record StandsAlone {C : Type 0} (area : Area) (references : List (Reference C)) (instant : ℕ)
+    : Type 0 where
   pub stays : length (filter (λ r. ends_after instant r.rect) references) ≡ 1
   pub later : 2 ≤ length references → area.time.from < instant
 
@@ -42,7 +44,8 @@ abbrev pub current_keys : {C : Type 0} → List (Reference C) → List (List ℕ
 current_keys references = map (λ r. r.rect.keys.lo) (filter is_current references)
 
 -- they are put in order
-pub record AreOrdered {C : Type 0} (references : List (Reference C)) (ordered : List (List ℕ)) : Type 0 where
+pub record AreOrdered {C : Type 0} (references : List (Reference C)) (ordered : List (List ℕ))
+    : Type 0 where
   pub same_keys : IsPermutation (current_keys references) ordered
   pub in_order : IsSorted bytes_cmp ordered
 

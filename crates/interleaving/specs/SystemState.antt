@@ -22,10 +22,12 @@ use Rattle.histories.specs.Stands.{Stands as WorldStands}
 -- the key with these bytes, of the table that their first byte names
 abbrev pub key_in : Schema → List ℕ → Option Key
 key_in schema [] = None
-key_in schema (b ∷ bytes) = option_and_then (λ table. key_from table (b ∷ bytes)) (table_at schema b)
+key_in schema (b ∷ bytes) =
+    option_and_then (λ table. key_from table (b ∷ bytes)) (table_at schema b)
 
 abbrev pub change_in : Schema → Event → Option (Point × Option Row)
-change_in schema e = option_map (λ key. (record { key = key; instant = e.at }, e.row)) (key_in schema e.key)
+change_in schema e =
+    option_map (λ key. (record { key = key; instant = e.at }, e.row)) (key_in schema e.key)
 
 -- the changes that events stand for
 abbrev pub changes_in : Schema → List Event → Changes
@@ -75,7 +77,8 @@ IsOpen schema engine None = Unit {0}
 IsOpen schema engine (Some t) = IsOpenIn schema engine t
 
 -- what is true of every system: its changes are the events', and none is later than its last instant
-pub record IsSystem (schema : Schema) (engine : Committed) (sessions : List (Option TransactionState)) : Type 0 where
+pub record IsSystem (schema : Schema) (engine : Committed)
+    (sessions : List (Option TransactionState)) : Type 0 where
   pub wide : length sessions ≡ max_session + 1
   pub held : Holds schema engine (changes_in schema (events engine))
   pub upto : All (λ e. e.at ≤ last engine) (events engine)

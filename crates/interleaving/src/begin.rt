@@ -1,9 +1,9 @@
 //! BEGIN and ROLLBACK.
-ghost use Rattle.std.specs.Prelude.{◌≡◌, ◌≤◌, [], true, false, IfOk, is_some};
+ghost use Rattle.std.specs.Prelude.{◌≡◌, ◌≤◌, [], true, false, IfOk};
 ghost use Rattle.values.specs.Memory.{OnlyMemory};
 ghost use Rattle.histories.specs.Memory.{is_out_of_memory};
 ghost use Rattle.histories.specs.Misfit.{max_session};
-ghost use Rattle.histories.specs.Stands.{open_at};
+ghost use Rattle.histories.specs.Stands.{is_open_at};
 ghost use Rattle.histories.specs.Turn.{begin_turn, rollback_turn};
 ghost use Rattle.interleaving.specs.SystemState.{world};
 
@@ -19,7 +19,8 @@ impl System {
         ensures answered { is_out_of_memory result ≡ false
             → (result, world self.new) ≡ begin_turn (world self.old) session }
         ensures out { is_out_of_memory result ≡ true → self.new ≡ self.old }
-        ensures no_memory { is_some (open_at (world self.old) session) ≡ true → is_out_of_memory result ≡ false }
+        ensures no_memory { is_open_at (world self.old) session ≡ true
+            → is_out_of_memory result ≡ false }
     {
         let place = session as usize;
         if self.sessions[place].is_some() {

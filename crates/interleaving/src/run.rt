@@ -12,7 +12,8 @@ use std::alloc::Global;
 impl System {
     /// The replies to steps in turn, from a store in which nothing was committed.
     pub fn run(alloc: Global, schema: Schema, steps: Vec<Step>) -> Mem<Vec<Reply>>
-        ensures answers { IfOk result (λ v. AllAnswered v.items → v.items ≡ replies schema [] steps.items) }
+        ensures answers { IfOk result (λ v.
+            AllAnswered v.items → v.items ≡ replies schema [] steps.items) }
         ensures out_of_memory { IfOk result (λ v. v.items ≡ due schema [] steps.items v.items) }
         ensures where_taken { IfOk result (λ v. OutWhereTaken schema steps.items v.items) }
         ensures memory { OnlyMemory result }

@@ -14,7 +14,8 @@ impl System {
     /// What a query of a session shows.
     pub(crate) fn select(&self, session: u8, form: Form, keys: &Keys) -> Mem<Reply>
         requires { session ≤ max_session }
-        ensures ok { IfOk result (λ reply. reply ≡ select_reply (world self.now) session form keys.now) }
+        ensures ok { IfOk result (λ reply.
+            reply ≡ select_reply (world self.now) session form keys.now) }
         ensures memory { OnlyMemory result }
     {
         let Some(table) = self.schema.table_at(keys.table) else {

@@ -17,10 +17,11 @@ impl System {
     pub fn step(&mut self, step: Step) -> Reply
         ensures answers { (h : History) → Stands self.old h → result ≢ Reply.Refused Refusal.Memory
             → (result ≡ reply self.old.schema h step) × Stands self.new (step ∷ h) }
-        ensures out_of_memory { (h : History) → Stands self.old h → result ≡ Reply.Refused Refusal.Memory
-            → Stands self.new h }
+        ensures out_of_memory { (h : History) → Stands self.old h
+            → result ≡ Reply.Refused Refusal.Memory → Stands self.new h }
         ensures schema { self.new.schema ≡ self.old.schema }
-        ensures no_memory { takes_no_memory (world self.old) step ≡ true → is_out_of_memory result ≡ false }
+        ensures no_memory { takes_no_memory (world self.old) step ≡ true
+            → is_out_of_memory result ≡ false }
     {
         if let Some(refusal) = step.misfit(&self.schema) {
             return Reply::Refused(refusal);
@@ -34,7 +35,8 @@ impl System {
         ensures answered { is_out_of_memory result ≡ false
             → (result, world self.new) ≡ turn_in (world self.old) step.now }
         ensures out { is_out_of_memory result ≡ true → self.new ≡ self.old }
-        ensures no_memory { takes_no_memory (world self.old) step.now ≡ true → is_out_of_memory result ≡ false }
+        ensures no_memory { takes_no_memory (world self.old) step.now ≡ true
+            → is_out_of_memory result ≡ false }
     {
         match step {
             Step::Begin(session) => self.begin(*session),

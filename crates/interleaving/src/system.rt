@@ -25,7 +25,8 @@ impl Model for System {
 
     ghost Value = { SystemState };
 
-    ghost view = { λ s. record { schema = s.schema; engine = s.engine; sessions = s.sessions.items } };
+    ghost view = { λ s.
+        record { schema = s.schema; engine = s.engine; sessions = s.sessions.items } };
 
     ghost invariant = { λ s. IsSystem s.schema s.engine s.sessions.items };
 }

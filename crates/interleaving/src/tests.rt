@@ -2,40 +2,26 @@
 use crate::System;
 use histories::{Listing, Reply, Step};
 use rows::{
-    Chars, Comparison, Form, Instant, Keys, Mem, Operator, Refusal, Row, Rows, Schema, Sequence,
-    Set, Sets, Shown, Value,
+    Chars, Comparison, Form, Instant, Keys, Mem, Operator, Refusal, Row, Rows, Schema, Set,
+    Sets, Shown, Value,
 };
 use std::alloc::{AllocError, Global};
 use std::process::Abort;
 use std::test::Fail;
 
-fn chars(alloc: Global, text: &str) -> Result<Chars, AllocError> {
-    Ok(Chars::new(String::from_str(alloc, text)?))
-}
-
 fn emp(alloc: Global, number: i64, name: &str) -> Mem<Row> {
-    let name = Value::Text(chars(alloc, name)?);
+    let name = Value::Text(Chars::copy_of(alloc, name)?);
     Row::new(vec![in alloc; Value::Int(number), name]?).ok_or(Refusal::BadRow(2))
 }
 
 /// The keys that compare so with a number.
-fn by(alloc: Global, operator: Operator, number: i64) -> Result<Keys, AllocError> {
+fn by(alloc: Global, operator: Operator, number: i64) -> Mem<Keys> {
     let comparison = Comparison {
         column: 1,
         operator,
         value: Value::Int(number),
     };
-    Ok(Keys {
-        table: 1,
-        comparisons: Sequence::new(vec![in alloc; comparison]?),
-    })
-}
-
-fn all(alloc: Global) -> Keys {
-    Keys {
-        table: 1,
-        comparisons: Sequence::new(Vec::new(alloc)),
-    }
+    Keys::of_comparison(alloc, 1, comparison)
 }
 
 /// Steps, and the text of the reply that each must get.
@@ -77,19 +63,19 @@ impl Talk {
         number: i64,
         name: &str,
         wanted: &'static str,
-    ) -> Result<(), AllocError> {
+    ) -> Mem<()> {
         let keys = by(self.alloc, Operator::Equal, number)?;
         let set = Set {
             column: 2,
-            value: Value::Text(chars(self.alloc, name)?),
+            value: Value::Text(Chars::copy_of(self.alloc, name)?),
         };
         let sets = Sets::new(vec![in self.alloc; set]?);
-        self.step(Step::Update(session, keys, sets), wanted)
+        Ok(self.step(Step::Update(session, keys, sets), wanted)?)
     }
 
-    fn delete(&mut self, session: u8, number: i64, wanted: &'static str) -> Result<(), AllocError> {
+    fn delete(&mut self, session: u8, number: i64, wanted: &'static str) -> Mem<()> {
         let keys = by(self.alloc, Operator::Equal, number)?;
-        self.step(Step::Delete(session, keys), wanted)
+        Ok(self.step(Step::Delete(session, keys), wanted)?)
     }
 
     fn commit(
@@ -102,7 +88,7 @@ impl Talk {
     }
 
     fn select(&mut self, session: u8, form: Form, wanted: &'static str) -> Result<(), AllocError> {
-        let keys = all(self.alloc);
+        let keys = Keys::all(self.alloc, 1);
         self.step(Step::Select(session, form, keys), wanted)
     }
 
@@ -139,11 +125,11 @@ impl Talk {
 }
 
 fn is_told(alloc: Global, reply: &Reply, wanted: &str) -> Result<bool, AllocError> {
-    Ok(told(alloc, reply)?.as_str() == wanted)
+    Ok(text_of(alloc, reply)?.as_str() == wanted)
 }
 
 /// A reply in one line.
-fn told(alloc: Global, reply: &Reply) -> Result<String, AllocError> {
+fn text_of(alloc: Global, reply: &Reply) -> Result<String, AllocError> {
     match reply {
         Reply::Begun(start) => format!(in alloc; "begun {start}"),
         Reply::Inserted(count) => format!(in alloc; "inserted {count}"),

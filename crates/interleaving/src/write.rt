@@ -1,9 +1,9 @@
 //! INSERT, UPDATE and DELETE: a session's open transaction keeps them, and nobody else sees them.
-ghost use Rattle.std.specs.Prelude.{◌≡◌, None, true, false, is_some};
+ghost use Rattle.std.specs.Prelude.{◌≡◌, None, true, false};
 ghost use Rattle.histories.specs.declared.step.Step.TheVariants.{Insert, Update, Delete};
 ghost use Rattle.histories.specs.Misfit.{misfit};
 ghost use Rattle.histories.specs.Memory.{is_out_of_memory};
-ghost use Rattle.histories.specs.Stands.{open_at};
+ghost use Rattle.histories.specs.Stands.{is_open_at};
 ghost use Rattle.histories.specs.Turn.{turn_in};
 ghost use Rattle.interleaving.specs.SystemState.{world};
 
@@ -18,7 +18,8 @@ impl System {
         ensures answered { is_out_of_memory result ≡ false
             → (result, world self.new) ≡ turn_in (world self.old) (Insert session number rows.now) }
         ensures out { is_out_of_memory result ≡ true → self.new ≡ self.old }
-        ensures no_memory { is_some (open_at (world self.old) session) ≡ false → is_out_of_memory result ≡ false }
+        ensures no_memory { is_open_at (world self.old) session ≡ false
+            → is_out_of_memory result ≡ false }
     {
         let Some(transaction) = &mut self.sessions[session as usize] else {
             return Reply::Refused(Refusal::NoTransaction);
@@ -36,9 +37,11 @@ impl System {
     pub(crate) fn update(&mut self, session: u8, keys: &Keys, sets: &[Set]) -> Reply
         requires { misfit self.old.schema (Update session keys.now sets.now) ≡ None }
         ensures answered { is_out_of_memory result ≡ false
-            → (result, world self.new) ≡ turn_in (world self.old) (Update session keys.now sets.now) }
+            → (result, world self.new)
+            ≡ turn_in (world self.old) (Update session keys.now sets.now) }
         ensures out { is_out_of_memory result ≡ true → self.new ≡ self.old }
-        ensures no_memory { is_some (open_at (world self.old) session) ≡ false → is_out_of_memory result ≡ false }
+        ensures no_memory { is_open_at (world self.old) session ≡ false
+            → is_out_of_memory result ≡ false }
     {
         let Some(transaction) = &mut self.sessions[session as usize] else {
             return Reply::Refused(Refusal::NoTransaction);
@@ -58,7 +61,8 @@ impl System {
         ensures answered { is_out_of_memory result ≡ false
             → (result, world self.new) ≡ turn_in (world self.old) (Delete session keys.now) }
         ensures out { is_out_of_memory result ≡ true → self.new ≡ self.old }
-        ensures no_memory { is_some (open_at (world self.old) session) ≡ false → is_out_of_memory result ≡ false }
+        ensures no_memory { is_open_at (world self.old) session ≡ false
+            → is_out_of_memory result ≡ false }
     {
         let Some(transaction) = &mut self.sessions[session as usize] else {
             return Reply::Refused(Refusal::NoTransaction);

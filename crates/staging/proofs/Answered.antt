@@ -39,7 +39,7 @@ use Rattle.staging.specs.Own.{Reads, rows_seen, own, write_if_fits, checked_inse
 use Rattle.staging.specs.Staged.{put_all, put_answer, insertions, updates, deletions, sees, first_seen, row_taken, rows_in}
 use Rattle.staging.proofs.Entries.{sorted_from, sorted_apply, apply-updates, apply-deletions}
 use Rattle.staging.proofs.Bridge.{are_seen, sorted_base, sees_is, key_in}
-use Rattle.staging.proofs.Calls.{put_is, put_keys}
+use Rattle.staging.proofs.Calls.{put_is, put_keys, all_entry, all_chosen}
 
 -- ---- faults
 
@@ -133,22 +133,9 @@ keys_after schema cs w new (Ok n) ok err h k = subst (AreKeysIn schema) (sym ok)
 keys_after schema cs w new (Err e) ok err h k = subst (AreKeysIn schema) (sym err) h
 
 module _ {X : Type 0} (P : Key → Type 0) where
-  all_entry : (es : List (Key × X)) (k : Key) (x : X) → P k → AllByRecursion (λ e. P e.0) es → AllByRecursion (λ e. P e.0) (insert_entry key_cmp es k x)
-  all_entry [] k x p h = (p, tt)
-  all_entry (e ∷ es) k x p h =
-      elim (key_cmp k e.0) as (λ o. AllByRecursion (λ e. P e.0) (match_ordering o ((k, x) ∷ e ∷ es) ((e.0, x) ∷ es) (e ∷ insert_entry key_cmp es k x))) [
-        | Less ↦ (p, h)
-        | Equal ↦ (h.0, h.1)
-        | Greater ↦ (h.0, all_entry es k x p h.1)
-      ]
-
   all_removed : (p : Key → Bool) (es : List (Key × X)) → AllByRecursion (λ e. P e.0) es → AllByRecursion (λ e. P e.0) (remove_entry p es)
   all_removed p [] h = tt
   all_removed p (e ∷ es) h = elim (p e.0) as (λ b. AllByRecursion (λ e. P e.0) (cond b es (e ∷ remove_entry p es))) [ true ↦ h.1 | false ↦ (h.0, all_removed p es h.1) ]
-
-  all_chosen : (p : Key × X → Bool) (es : List (Key × X)) → AllByRecursion (λ e. P e.0) es → AllByRecursion (λ e. P e.0) (filter p es)
-  all_chosen p [] h = tt
-  all_chosen p (e ∷ es) h = elim (p e) as (λ b. AllByRecursion (λ e. P e.0) (cond b (e ∷ filter p es) (filter p es))) [ true ↦ (h.0, all_chosen p es h.1) | false ↦ all_chosen p es h.1 ]
 
 module _ (P : Key → Type 0) where
   all_set : (k : Key) (v : Option Row) (s : State) → P k → AllByRecursion (λ e. P e.0) s → AllByRecursion (λ e. P e.0) (set_row k v s)

@@ -1,5 +1,5 @@
 -- What the calls of a transaction answer, for every list of changes that its view stands for.
-use Rattle.std.proofs.Common.{◌≡◌, ℕ, ◌≤◌, Bool, true, false, cond, T, [], ◌∷◌, Option, Result, Ok, Err, OnOk, OnErr, refl, sym, ap, subst, ◌∙◌, arith, filter, length, if◌then◌else◌, nat_lt, All}
+use Rattle.std.proofs.Common.{◌≡◌, ℕ, ◌≤◌, Bool, true, false, cond, T, List, [], ◌∷◌, Option, Result, Ok, Err, OnOk, OnErr, refl, sym, ap, subst, ◌∙◌, arith, filter, length, if◌then◌else◌, nat_lt, All}
 use Rattle.std.proofs.lemmas.Bool.Decides.{nat_tests}
 use Rattle.std.proofs.lemmas.List.{length-map}
 use Rattle.std.proofs.lemmas.List.Elements.{All-from_recursion, recursion_from_All}
@@ -48,6 +48,20 @@ net_of_view schema view t m w held keys sorted upto ordered =
 
 -- ---- what holds of each key
 
+module _ {X : Type 0} (P : Key → Type 0) where
+  pub all_entry : (es : List (Key × X)) (k : Key) (x : X) → P k → AllByRecursion (λ e. P e.0) es → AllByRecursion (λ e. P e.0) (insert_entry key_cmp es k x)
+  all_entry [] k x p h = (p, tt)
+  all_entry (e ∷ es) k x p h =
+      elim (key_cmp k e.0) as (λ o. AllByRecursion (λ e. P e.0) (match_ordering o ((k, x) ∷ e ∷ es) ((e.0, x) ∷ es) (e ∷ insert_entry key_cmp es k x))) [
+        | Less ↦ (p, h)
+        | Equal ↦ (h.0, h.1)
+        | Greater ↦ (h.0, all_entry es k x p h.1)
+      ]
+
+  pub all_chosen : (p : Key × X → Bool) (es : List (Key × X)) → AllByRecursion (λ e. P e.0) es → AllByRecursion (λ e. P e.0) (filter p es)
+  all_chosen p [] h = tt
+  all_chosen p (e ∷ es) h = elim (p e) as (λ b. AllByRecursion (λ e. P e.0) (cond b (e ∷ filter p es) (filter p es))) [ true ↦ (h.0, all_chosen p es h.1) | false ↦ all_chosen p es h.1 ]
+
 module _ (P : Key → Type 0) where
   all_keys : (w : Net) → AllByRecursion (λ c. P c.0) w → AllByRecursion P (keys_of w)
   all_keys [] h = tt
@@ -57,22 +71,9 @@ module _ (P : Key → Type 0) where
   keys_all [] h = tt
   keys_all (c ∷ w) h = (h.0, keys_all w h.1)
 
-  all_put : (w : Net) (k : Key) (v : Option Row) → P k → AllByRecursion (λ c. P c.0) w → AllByRecursion (λ c. P c.0) (insert_entry key_cmp w k v)
-  all_put [] k v p h = (p, tt)
-  all_put (c ∷ w) k v p h =
-      elim (key_cmp k c.0) as (λ o. AllByRecursion (λ c. P c.0) (match_ordering o ((k, v) ∷ c ∷ w) ((c.0, v) ∷ w) (c ∷ insert_entry key_cmp w k v))) [
-        | Less ↦ (p, h)
-        | Equal ↦ (h.0, h.1)
-        | Greater ↦ (h.0, all_put w k v p h.1)
-      ]
-
   all_put_all : (cs w : Net) → AllByRecursion (λ c. P c.0) cs → AllByRecursion (λ c. P c.0) w → AllByRecursion (λ c. P c.0) (put_all cs w)
   all_put_all [] w h k = k
-  all_put_all (c ∷ cs) w h k = all_put_all cs _ h.1 (all_put w c.0 c.1 h.0 k)
-
-  all_kept : (p : Key × Option Row → Bool) (w : Net) → AllByRecursion (λ c. P c.0) w → AllByRecursion (λ c. P c.0) (filter p w)
-  all_kept p [] h = tt
-  all_kept p (c ∷ w) h = elim (p c) as (λ b. AllByRecursion (λ c. P c.0) (cond b (c ∷ filter p w) (filter p w))) [ true ↦ (h.0, all_kept p w h.1) | false ↦ all_kept p w h.1 ]
+  all_put_all (c ∷ cs) w h k = all_put_all cs _ h.1 (all_entry {X = Option Row} P w c.0 c.1 h.0 k)
 
   pub put_entries : (cs w : Net) → All (λ c. P c.0) cs → All (λ c. P c.0) w → All (λ c. P c.0) (put_all cs w)
   put_entries cs w h k =
@@ -83,10 +84,10 @@ module _ (P : Key → Type 0) where
       All-from_recursion P (keys_of (put_all cs w)) (all_keys (put_all cs w) (all_put_all cs w (recursion_from_All (λ c. P c.0) cs h) (keys_all w (recursion_from_All P (keys_of w) k))))
 
   pub kept_entries : (p : Key × Option Row → Bool) (w : Net) → All (λ c. P c.0) w → All (λ c. P c.0) (filter p w)
-  kept_entries p w h = All-from_recursion (λ c. P c.0) (filter p w) (all_kept p w (recursion_from_All (λ c. P c.0) w h))
+  kept_entries p w h = All-from_recursion (λ c. P c.0) (filter p w) (all_chosen {X = Option Row} P p w (recursion_from_All (λ c. P c.0) w h))
 
   pub kept_keys : (p : Key × Option Row → Bool) (w : Net) → All P (keys_of w) → All P (keys_of (filter p w))
-  kept_keys p w h = All-from_recursion P (keys_of (filter p w)) (all_keys (filter p w) (all_kept p w (keys_all w (recursion_from_All P (keys_of w) h))))
+  kept_keys p w h = All-from_recursion P (keys_of (filter p w)) (all_keys (filter p w) (all_chosen {X = Option Row} P p w (keys_all w (recursion_from_All P (keys_of w) h))))
 
 -- ---- what is kept is in order
 

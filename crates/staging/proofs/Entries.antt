@@ -18,31 +18,17 @@ use Rattle.values.specs.Log.{State, Net, Row, row_at, set_row, apply_net}
 use Rattle.values.specs.Writes.{set_all, add_keys}
 use Rattle.values.proofs.Orders.{key_cmp_total, key_cmp-IsAntisymmetric, both, first, second}
 use Rattle.values.proofs.Maps.{same_map, sorted_insert, lookup-insert_entry}
+use Rattle.values.proofs.Now.{insert_last}
+use Rattle.values.proofs.Sorted.{is_less, is_equal, sorted_from as sorted_by_key}
 use Rattle.values.proofs.States.{row_at-set_row, sorted_set_row}
 use Rattle.staging.specs.Staged.{put_all, updates, deletions}
 
-is_less : (o : Ordering) → T (is_lt o) → o ≡ Less
-is_less Less h = refl
-is_less Equal h = absurd h
-is_less Greater h = absurd h
-
-tied : (o : Ordering) → is_eq o ≡ true → o ≡ Equal
-tied Less e = cc
-tied Equal e = refl
-tied Greater e = cc
-
 pub same_key : (q k : Key) → is_key q k ≡ true → q ≡ k
-same_key q k e = key_cmp-IsAntisymmetric q k (tied (key_cmp q k) e)
+same_key q k e = key_cmp-IsAntisymmetric q k (is_equal (key_cmp q k) e)
 
 -- a map's keys are in order
 pub sorted_from : {X : Type 0} (es : List (Key × X)) → IsStrictlySortedBy key_cmp (keys_of es) → T (is_sorted key_cmp es)
-unfolding IsStrictlySortedBy
-sorted_from [] h = tt
-sorted_from {X = X} (e ∷ es) h = both _ _ (below es h.0) (sorted_from es h.1)
-  where
-    below : (ds : List (Key × X)) → AllByRecursion (λ y. key_cmp e.0 y ≡ Less) (keys_of ds) → T (below_all key_cmp e.0 ds)
-    below [] h = tt
-    below (d ∷ ds) h = both _ _ (subst (λ o. T (is_lt o)) (sym h.0) tt) (below ds h.1)
+sorted_from es h = sorted_by_key key_cmp es h
 
 -- what is above a key is not that key
 pub none_below : {X : Type 0} (es : List (Key × X)) (k q : Key) → key_cmp q k ≡ Equal → T (below_all key_cmp k es) → lookup (is_at (key_cmp q)) es ≡ None
@@ -100,7 +86,7 @@ row_at-apply (c ∷ w) s q h k =
     row_at-apply w _ q (sorted_set_row c.0 c.1 s h) (second _ _ k) ∙ ap (upon (lookup (is_at (key_cmp q)) w)) (row_at-set_row q c.0 c.1 s h) ∙ by (is_key q c.0) refl
   where
     by : (b : Bool) → is_key q c.0 ≡ b → upon (lookup (is_at (key_cmp q)) w) (cond b c.1 (row_at s q)) ≡ upon (cond b (Some c.1) (lookup (is_at (key_cmp q)) w)) (row_at s q)
-    by true is = ap (λ o. upon o c.1) (none_below w c.0 q (tied (key_cmp q c.0) is) (first _ _ k))
+    by true is = ap (λ o. upon o c.1) (none_below w c.0 q (is_equal (key_cmp q c.0) is) (first _ _ k))
     by false is = refl
 
 -- a change that is put over earlier ones comes after them
@@ -221,15 +207,6 @@ apply-filter p w s h sorted =
     by q false = refl
 
 -- ---- a map's entries, put in turn
-
-lower : (x : Key × Option Row) (m : Net) (e : Key × Option Row) (es : Net) → T (below_all key_cmp x.0 (m ++ e ∷ es)) → key_cmp e.0 x.0 ≡ Greater
-lower x [] e es h = key_cmp_total.antisymm e.0 x.0 ∙ ap ordering_reverse (is_less (key_cmp x.0 e.0) (first _ _ h))
-lower x (y ∷ m) e es h = lower x m e es (second _ _ h)
-
-insert_last : (m : Net) (e : Key × Option Row) (es : Net) → T (is_sorted key_cmp (m ++ e ∷ es)) → insert_entry key_cmp m e.0 e.1 ≡ m ++ e ∷ []
-insert_last [] e es h = refl
-insert_last (x ∷ m) e es h =
-    ap (λ o. match_ordering o ((e.0, e.1) ∷ x ∷ m) ((x.0, e.1) ∷ m) (x ∷ insert_entry key_cmp m e.0 e.1)) (lower x m e es (first _ _ h)) ∙ ap (λ l. x ∷ l) (insert_last m e es (second _ _ h))
 
 put_onto : (es m : Net) → T (is_sorted key_cmp (m ++ es)) → put_all es m ≡ m ++ es
 put_onto [] m h = sym (append-nil m)

@@ -84,10 +84,6 @@ abbrev taken_rest : Table → Keys → Changes → State
 taken_rest table keys [] = []
 taken_rest table keys (c ∷ cs) = cons_option (taken_at table keys c cs) (taken_rest table keys cs)
 
-first : (a b : Bool) → (a && b) ≡ true → a ≡ true
-first true b e = refl
-first false b e = cc
-
 -- of another table none is taken
 other_table : (table : Table) (keys : Keys) (k : Key) → keys.table ≡ table.number → (k.table == table.number) ≡ false → matches table keys k ≡ false
 other_table table keys k same is = ap (λ b. b && list_all (holds table k) keys.comparisons) (ap (λ n. k.table == n) same ∙ is)

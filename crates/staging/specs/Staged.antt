@@ -26,7 +26,9 @@ put_all (c ∷ cs) w = put_all cs (insert_entry key_cmp w c.0 c.1)
 
 -- the number of the changes, unless the keys are too many
 abbrev pub put_answer : Net → Net → Result ℕ Refusal
-put_answer changes w = if nat_lt most_written (length (put_all changes w)) then Err TooManyWrites else Ok (length changes)
+put_answer changes w =
+    if nat_lt most_written (length (put_all changes w)) then Err TooManyWrites
+    else Ok (length changes)
 
 abbrev pub insertions : List Key → List Row → Net
 insertions (k ∷ ks) (row ∷ rows) = (k, Some row) ∷ insertions ks rows
@@ -40,20 +42,29 @@ deletions m = map (λ e. (e.0, None)) m
 
 -- a key has a row: by what was written, and where nothing was by the events until an instant
 abbrev pub sees : List Event → ℕ → Net → Key → Bool
-sees es t w key = elim (lookup (is_at (key_cmp key)) w) [ Some row ↦ is_some row | None ↦ is_some (row_until es (bytes_of_key key) t) ]
+sees es t w key = elim (lookup (is_at (key_cmp key)) w) [
+  | Some row ↦ is_some row
+  | None ↦ is_some (row_until es (bytes_of_key key) t)
+]
 
 -- the first key that has a row, or that is among the earlier ones
 abbrev pub first_seen : (Key → Bool) → List Key → List Key → Option Key
 first_seen has earlier [] = None
-first_seen has earlier (k ∷ ks) = if has k || list_any (is_key k) earlier then Some k else first_seen has (earlier ++ k ∷ []) ks
+first_seen has earlier (k ∷ ks) =
+    if has k || list_any (is_key k) earlier then Some k else first_seen has (earlier ++ k ∷ []) ks
 
 -- an event's row with its key, where the keys take it
 abbrev pub row_taken : Table → Keys → Event → Option (Key × Row)
-row_taken table keys e = elim (key_from table e.key) [ None ↦ None | Some k ↦ if matches table keys k then option_map (λ row. (k, row)) e.row else None ]
+row_taken table keys e = elim (key_from table e.key) [
+  | None ↦ None
+  | Some k ↦ if matches table keys k then option_map (λ row. (k, row)) e.row else None
+]
 
 -- the rows of events that the keys take, and the writes that they take over them
 abbrev pub rows_in : Table → Keys → List Event → Net → State
-rows_in table keys es w = apply_net (insert_all [] (filter_map (row_taken table keys) es)) (filter (λ c. matches table keys c.0) w)
+rows_in table keys es w =
+    apply_net (insert_all [] (filter_map (row_taken table keys) es))
+    (filter (λ c. matches table keys c.0) w)
 
 -- what was written, without the keys that have no row both then and by the events until an instant
 abbrev pub net_in : List Event → ℕ → Net → Net

@@ -1,8 +1,8 @@
 //! DELETE.
-ghost use Rattle.std.specs.Prelude.{◌≡◌, ◌≢◌, Result, Err, IfOk, OnErr};
+ghost use Rattle.std.specs.Prelude.{◌≡◌, IfOk, OnErr};
 ghost use Rattle.values.specs.Tables.{IsTable};
 ghost use Rattle.values.specs.Events.{AreKeysIn};
-ghost use Rattle.staging.specs.Own.{WhenRead, own, checked_delete};
+ghost use Rattle.staging.specs.Own.{WhenRead, IsAnswered, own, checked_delete};
 ghost use Rattle.staging.specs.Staged.{deletions};
 
 use crate::staged::Staged;
@@ -17,8 +17,9 @@ impl Staged {
     pub fn delete(&mut self, view: &View, table: &Table, keys: &Keys) -> Result<usize, Refusal>
         requires { IsTable table.now.number table.now }
         ensures answers { WhenRead table.now view.now self.old (λ schema m.
-            result ≢ Err Refusal.Memory → (result, own m self.new) ≡ checked_delete table.now keys.now (own m self.old)) }
-        ensures keys { WhenRead table.now view.now self.old (λ schema m. AreKeysIn schema self.new) }
+            IsAnswered result m self.new (checked_delete table.now keys.now (own m self.old))) }
+        ensures keys { WhenRead table.now view.now self.old (λ schema m.
+            AreKeysIn schema self.new) }
         ensures refused { OnErr result (self.new ≡ self.old) }
     {
         if keys.table != table.number {

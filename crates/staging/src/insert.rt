@@ -1,12 +1,12 @@
 //! INSERT.
-ghost use Rattle.std.specs.Prelude.{◌≡◌, ◌≢◌, All, None, Result, Err, IfOk, OnErr, length, map};
+ghost use Rattle.std.specs.Prelude.{◌≡◌, All, None, IfOk, OnErr, length, map};
 ghost use Rattle.values.specs.Tables.{IsTable};
 ghost use Rattle.values.specs.Fit.{rows_fault};
 ghost use Rattle.values.specs.Memory.{OnlyMemory};
 ghost use Rattle.values.specs.KeyReading.{IsKeyOf};
 ghost use Rattle.values.specs.Writes.{key_of};
 ghost use Rattle.values.specs.Events.{AreKeysIn};
-ghost use Rattle.staging.specs.Own.{WhenRead, own, checked_insert};
+ghost use Rattle.staging.specs.Own.{WhenRead, IsAnswered, own, checked_insert};
 ghost use Rattle.staging.specs.Staged.{insertions};
 
 use crate::staged::Staged;
@@ -20,8 +20,9 @@ impl Staged {
     pub fn insert(&mut self, view: &View, table: &Table, rows: &[Row]) -> Result<usize, Refusal>
         requires { IsTable table.now.number table.now }
         ensures answers { WhenRead table.now view.now self.old (λ schema m.
-            result ≢ Err Refusal.Memory → (result, own m self.new) ≡ checked_insert table.now rows.now (own m self.old)) }
-        ensures keys { WhenRead table.now view.now self.old (λ schema m. AreKeysIn schema self.new) }
+            IsAnswered result m self.new (checked_insert table.now rows.now (own m self.old))) }
+        ensures keys { WhenRead table.now view.now self.old (λ schema m.
+            AreKeysIn schema self.new) }
         ensures refused { OnErr result (self.new ≡ self.old) }
     {
         if let Err(refusal) = table.check_rows(rows) {

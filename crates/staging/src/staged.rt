@@ -15,7 +15,7 @@ ghost use Rattle.values.specs.Events.{AreKeysIn, row_until};
 ghost use Rattle.keyrange.specs.Range.{is_key_in};
 ghost use Rattle.eventlist.specs.Listing.{standing};
 ghost use Rattle.staging.specs.View.{events, range_of_table, Holds};
-ghost use Rattle.staging.specs.Own.{WhenRead, seen, net_over};
+ghost use Rattle.staging.specs.Own.{WhenRead, rows_seen, net_over};
 ghost use Rattle.staging.specs.Staged.{put_all, put_answer, sees, first_seen, row_taken, rows_in, net_in};
 
 use crate::net::Net;
@@ -66,7 +66,8 @@ impl Staged {
     pub fn rows(&self, view: &View, table: &Table, keys: &Keys) -> Mem<BTreeMap<Key, Row>>
         ensures ok { IfOk result (λ found. WhenRead table.now view.now self.now (λ schema m.
             keys.now.table ≡ table.now.number
-            → found.entries ≡ filter (λ e. matches table.now keys.now e.0) (seen m self.now))) }
+            → found.entries
+            ≡ filter (λ e. matches table.now keys.now e.0) (rows_seen m self.now))) }
         ensures err { OnlyMemory result }
     {
         Ok(self.rows_found(view, view.last(), table, keys)?)
@@ -76,7 +77,8 @@ impl Staged {
     pub fn net(&self, view: &View) -> Mem<Net>
         ensures ok { IfOk result (λ net. (schema : Schema) (m : Changes)
             → Holds schema view.now m → AreKeysIn schema self.now → net ≡ net_over m self.now) }
-        ensures keys { IfOk result (λ net. (schema : Schema) → AreKeysIn schema self.now → AreKeysIn schema net) }
+        ensures keys { IfOk result (λ net. (schema : Schema)
+            → AreKeysIn schema self.now → AreKeysIn schema net) }
         ensures err { OnlyMemory result }
     {
         let net = net_of(self.alloc, view, view.last(), &self.writes)?;
@@ -93,10 +95,12 @@ impl Staged {
     ) -> Mem<BTreeMap<Key, Row>>
         ensures ok { IfOk result (λ found. found.entries
             ≡ rows_in table.now keys.now
-            (standing (events view.now) (is_key_in (range_of_table table.now.number)) last) self.now) }
+            (standing (events view.now) (is_key_in (range_of_table table.now.number)) last)
+            self.now) }
         ensures err { OnlyMemory result }
         ensures ordered { OnOk result (IsStrictlySortedBy key_cmp (keys_of self.now)) }
-        ensures short { IsTable table.now.number table.now → IfOk result (λ found. All (λ e. IsShortKey e.0) found.entries) }
+        ensures short { IsTable table.now.number table.now
+            → IfOk result (λ found. All (λ e. IsShortKey e.0) found.entries) }
     {
         let range = range_of_table(self.alloc, table.number)?;
         let standing = view.standing(self.alloc, &range, last)?;
@@ -119,7 +123,8 @@ impl Staged {
 
     fn is_taken(&self, view: &View, last: Instant, key: &Key, earlier: &[Key]) -> Mem<bool>
         requires { IsShortKey key.now }
-        ensures ok { IfOk result (λ b. b ≡ (sees (events view.now) last self.now key.now || list_any (is_key key.now) earlier.now)) }
+        ensures ok { IfOk result (λ b. b ≡ (sees (events view.now) last self.now key.now
+            || list_any (is_key key.now) earlier.now)) }
         ensures err { OnlyMemory result }
     {
         let seen = self.sees(view, last, key)?;
@@ -129,7 +134,8 @@ impl Staged {
     /// The first of the keys that the transaction sees, or that came before.
     pub(crate) fn first_seen(&self, view: &View, last: Instant, keys: &[Key]) -> Mem<Option<Key>>
         requires { All IsShortKey keys.now }
-        ensures ok { IfOk result (λ found. found ≡ first_seen (sees (events view.now) last self.now) [] keys.now) }
+        ensures ok { IfOk result (λ found. found
+            ≡ first_seen (sees (events view.now) last self.now) [] keys.now) }
         ensures err { OnlyMemory result }
         ensures ordered { IsStrictlySortedBy key_cmp (keys_of self.now) }
     {
@@ -195,7 +201,8 @@ fn rows_taken(
     keys: &Keys,
     events: &[SharedEvent],
 ) -> Mem<BTreeMap<Key, Row>>
-    ensures ok { IfOk result (λ found. found.entries ≡ insert_all [] (filter_map (row_taken table.now keys.now) events.now)) }
+    ensures ok { IfOk result (λ found. found.entries
+        ≡ insert_all [] (filter_map (row_taken table.now keys.now) events.now)) }
     ensures err { OnlyMemory result }
 {
     let mut found = BTreeMap::new(alloc);
@@ -231,7 +238,8 @@ fn put_taken(
     writes: &BTreeMap<Key, Option<Row>>,
     found: &mut BTreeMap<Key, Row>,
 ) -> Result<(), AllocError>
-    ensures put { OnOk result (found.new.entries ≡ apply_net found.old.entries (filter (λ c. matches table.now keys.now c.0) writes.now.entries)) }
+    ensures put { OnOk result (found.new.entries ≡ apply_net found.old.entries
+        (filter (λ c. matches table.now keys.now c.0) writes.now.entries)) }
     ensures ordered { IsOrdered key_cmp writes.now }
 {
     for (key, row) in writes {
@@ -259,7 +267,8 @@ fn set_row(rows: &mut BTreeMap<Key, Row>, key: &Key, row: &Option<Row>) -> Resul
 /// Whether a key has a row at an instant.
 fn has_row(alloc: Global, view: &View, instant: Instant, key: &Key) -> Mem<bool>
     requires { IsShortKey key.now }
-    ensures ok { IfOk result (λ b. b ≡ is_some (row_until (events view.now) (bytes_of_key key.now) instant)) }
+    ensures ok { IfOk result (λ b. b
+        ≡ is_some (row_until (events view.now) (bytes_of_key key.now) instant)) }
     ensures err { OnlyMemory result }
 {
     let bytes = key_bytes(alloc, key)?;
@@ -290,7 +299,8 @@ fn net_of(
 /// Whether a written key has a row, in the end or in the view.
 fn stays(alloc: Global, view: &View, last: Instant, key: &Key, row: &Option<Row>) -> Mem<bool>
     requires { IsShortKey key.now }
-    ensures ok { IfOk result (λ b. b ≡ (is_some row.now || is_some (row_until (events view.now) (bytes_of_key key.now) last))) }
+    ensures ok { IfOk result (λ b. b ≡ (is_some row.now
+        || is_some (row_until (events view.now) (bytes_of_key key.now) last))) }
     ensures err { OnlyMemory result }
 {
     if row.is_some() {

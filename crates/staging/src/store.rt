@@ -90,7 +90,8 @@ fn put_change(
 ) -> Mem<()>
     requires short { IsShortKey key }
     requires sorted { IsStrictlySortedBy event_cmp events.old.items }
-    ensures ok { OnOk result (events.new.items ≡ put_event (event_of (record { key = key; instant = instant }, row)) events.old.items) }
+    ensures ok { OnOk result (events.new.items
+        ≡ put_event (event_of (record { key = key; instant = instant }, row)) events.old.items) }
     ensures sorted { IsStrictlySortedBy event_cmp events.new.items }
     ensures err { OnlyMemory result }
 {

@@ -20,7 +20,8 @@ pub fn range_of_table(alloc: Global, table: u8) -> Mem<KeyRange>
 
 /// The bytes after a table's, where its number is not the greatest byte.
 fn byte_after(alloc: Global, table: u8) -> Mem<Option<KeyBytes>>
-    ensures ok { IfOk result (λ key. key ≡ (if table == 255 then None else Some ((table + 1) ∷ []))) }
+    ensures ok { IfOk result (λ key. key
+        ≡ (if table == 255 then None else Some ((table + 1) ∷ []))) }
     ensures err { OnlyMemory result }
 {
     match table.checked_add(1) {

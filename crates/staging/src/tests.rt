@@ -10,12 +10,12 @@ use std::alloc::{AllocError, Global};
 use std::process::Abort;
 use std::test::Fail;
 use values::{
-    Chars, Comparison, Instant, Key, KeyBytes, Keys, Mem, Operator, Refusal, Row, Sequence, Set,
+    Chars, Comparison, Instant, Key, KeyBytes, Keys, Mem, Operator, Refusal, Row, Set,
     Table, Value, Values, key_bytes,
 };
 
-fn text(alloc: Global, text: &str) -> Result<Value, AllocError> {
-    Ok(Value::Text(Chars::new(String::from_str(alloc, text)?)))
+fn text(alloc: Global, text: &str) -> Mem<Value> {
+    Ok(Value::Text(Chars::copy_of(alloc, text)?))
 }
 
 fn emp(alloc: Global, number: i64, name: &str) -> Mem<Row> {
@@ -39,26 +39,16 @@ fn bytes(alloc: Global, number: i64) -> Mem<KeyBytes> {
 }
 
 /// The keys of `emp` that compare so with a number.
-fn by(alloc: Global, operator: Operator, number: i64) -> Result<Keys, AllocError> {
+fn by(alloc: Global, operator: Operator, number: i64) -> Mem<Keys> {
     let comparison = Comparison {
         column: 1,
         operator,
         value: Value::Int(number),
     };
-    Ok(Keys {
-        table: 1,
-        comparisons: Sequence::new(vec![in alloc; comparison]?),
-    })
+    Keys::of_comparison(alloc, 1, comparison)
 }
 
-fn all(alloc: Global) -> Keys {
-    Keys {
-        table: 1,
-        comparisons: Sequence::new(Vec::new(alloc)),
-    }
-}
-
-fn named(alloc: Global, name: &str) -> Result<Set, AllocError> {
+fn set_name(alloc: Global, name: &str) -> Mem<Set> {
     Ok(Set {
         column: 2,
         value: text(alloc, name)?,
@@ -66,7 +56,7 @@ fn named(alloc: Global, name: &str) -> Result<Set, AllocError> {
 }
 
 /// Inserts an employee.
-fn inserted(
+fn insert_emp(
     alloc: Global,
     table: &Table,
     view: &View,
@@ -96,7 +86,7 @@ fn record(
     ensures { OnOk result (last store.new ≡ at) }
 {
     let mut staged = Staged::new(alloc)?;
-    if let Err(refusal) = inserted(alloc, table, store.current(), &mut staged, number, name) {
+    if let Err(refusal) = insert_emp(alloc, table, store.current(), &mut staged, number, name) {
         return Err(refusal);
     }
     let net = staged.net(store.current())?;
@@ -127,7 +117,7 @@ fn has_row(alloc: Global, view: &View, number: i64, instant: Instant) -> Mem<boo
     Ok(view.get(&key, instant)?.is_some())
 }
 
-fn changed(alloc: Global, view: &View, number: i64, start: Instant) -> Mem<Option<Instant>> {
+fn last_change(alloc: Global, view: &View, number: i64, start: Instant) -> Mem<Option<Instant>> {
     let key = bytes(alloc, number)?;
     Ok(view.changed_since(&key, start)?)
 }
@@ -141,7 +131,7 @@ fn events(alloc: Global, view: &View, from: Instant, to: Instant) -> Mem<usize> 
     Ok(view.events(alloc, &range, from, to)?.len())
 }
 
-fn standing(alloc: Global, view: &View, table: u8, instant: Instant) -> Mem<usize> {
+fn count_standing(alloc: Global, view: &View, table: u8, instant: Instant) -> Mem<usize> {
     let range = range_of_table(alloc, table)?;
     Ok(view.standing(alloc, &range, instant)?.len())
 }
@@ -151,7 +141,7 @@ fn changes(staged: &Staged, view: &View) -> Mem<usize> {
     Ok(staged.net(view)?.changes().len())
 }
 
-fn deleted(
+fn delete_emp(
     alloc: Global,
     table: &Table,
     view: &View,
@@ -181,8 +171,8 @@ fn a_key_was_changed_at_its_last_instant(rt: HostRuntime) -> Result<(), Fail> {
     let alloc = rt.alloc();
     let store = ann(alloc, &Table::sample(alloc)?)?;
     let view = store.current();
-    assert_eq!(rt; changed(alloc, view, 1, 99)?, Some(100));
-    assert_eq!(rt; changed(alloc, view, 1, 100)?, None);
+    assert_eq!(rt; last_change(alloc, view, 1, 99)?, Some(100));
+    assert_eq!(rt; last_change(alloc, view, 1, 100)?, None);
     Ok(())
 }
 
@@ -201,9 +191,9 @@ fn a_view_lists_the_rows_that_stand(rt: HostRuntime) -> Result<(), Fail> {
     let alloc = rt.alloc();
     let store = two(alloc, &Table::sample(alloc)?)?;
     let view = store.current();
-    assert_eq!(rt; standing(alloc, view, 1, 200)?, 2);
-    assert_eq!(rt; standing(alloc, view, 1, 199)?, 1);
-    assert_eq!(rt; standing(alloc, view, 2, 200)?, 0);
+    assert_eq!(rt; count_standing(alloc, view, 1, 200)?, 2);
+    assert_eq!(rt; count_standing(alloc, view, 1, 199)?, 1);
+    assert_eq!(rt; count_standing(alloc, view, 2, 200)?, 0);
     Ok(())
 }
 
@@ -216,7 +206,7 @@ fn a_shared_view_stays(rt: HostRuntime) -> Result<(), Fail> {
     record(alloc, table, &mut store, 200, 2, "Bea")?;
     assert_eq!(rt; store.current().last(), 200);
     assert_eq!(rt; kept.last(), 100);
-    assert_eq!(rt; standing(alloc, &kept, 1, 300)?, 1);
+    assert_eq!(rt; count_standing(alloc, &kept, 1, 300)?, 1);
     Ok(())
 }
 
@@ -227,9 +217,9 @@ fn a_transaction_sees_its_own_writes(rt: HostRuntime) -> Result<(), Fail> {
     let store = ann(alloc, table)?;
     let view = store.current();
     let mut staged = Staged::new(alloc)?;
-    assert!(rt; inserted(alloc, table, view, &mut staged, 2, "Bea") == Ok(1));
-    assert!(rt; deleted(alloc, table, view, &mut staged, 1) == Ok(1));
-    let found = staged.rows(view, table, &all(alloc))?;
+    assert!(rt; insert_emp(alloc, table, view, &mut staged, 2, "Bea") == Ok(1));
+    assert!(rt; delete_emp(alloc, table, view, &mut staged, 1) == Ok(1));
+    let found = staged.rows(view, table, &Keys::all(alloc, 1))?;
     assert_eq!(rt; found.len(), 1);
     Ok(())
 }
@@ -241,8 +231,8 @@ fn an_update_sets_a_column(rt: HostRuntime) -> Result<(), Fail> {
     let store = ann(alloc, table)?;
     let view = store.current();
     let mut staged = Staged::new(alloc)?;
-    let sets = vec![in alloc; named(alloc, "Fay")?]?;
-    assert!(rt; staged.update(view, table, &all(alloc), &sets) == Ok(1));
+    let sets = vec![in alloc; set_name(alloc, "Fay")?]?;
+    assert!(rt; staged.update(view, table, &Keys::all(alloc, 1), &sets) == Ok(1));
     assert_eq!(rt; changes(&staged, view)?, 1);
     Ok(())
 }
@@ -254,9 +244,9 @@ fn a_key_that_is_absent_before_and_after_is_no_change(rt: HostRuntime) -> Result
     let store = ann(alloc, table)?;
     let view = store.current();
     let mut staged = Staged::new(alloc)?;
-    assert!(rt; inserted(alloc, table, view, &mut staged, 9, "tmp") == Ok(1));
+    assert!(rt; insert_emp(alloc, table, view, &mut staged, 9, "tmp") == Ok(1));
     assert_eq!(rt; changes(&staged, view)?, 1);
-    assert!(rt; deleted(alloc, table, view, &mut staged, 9) == Ok(1));
+    assert!(rt; delete_emp(alloc, table, view, &mut staged, 9) == Ok(1));
     assert_eq!(rt; changes(&staged, view)?, 0);
     Ok(())
 }
@@ -268,9 +258,9 @@ fn a_refused_insert_changes_nothing(rt: HostRuntime) -> Result<(), Fail> {
     let store = ann(alloc, table)?;
     let view = store.current();
     let mut staged = Staged::new(alloc)?;
-    let there = inserted(alloc, table, view, &mut staged, 1, "Al");
+    let there = insert_emp(alloc, table, view, &mut staged, 1, "Al");
     assert!(rt; there == Err(Refusal::DuplicateKey(key(alloc, 1)?)));
-    let broken = inserted(alloc, table, view, &mut staged, 2, "two\nlines");
+    let broken = insert_emp(alloc, table, view, &mut staged, 2, "two\nlines");
     assert!(rt; broken == Err(Refusal::BadRow(2)));
     assert_eq!(rt; changes(&staged, view)?, 0);
     Ok(())
@@ -292,7 +282,7 @@ fn a_transaction_writes_1000_keys_at_most(rt: HostRuntime) -> Result<(), Fail> {
     let view = &View::new(alloc)?;
     let mut staged = Staged::new(alloc)?;
     assert!(rt; staged.insert(view, table, &many(alloc, 1000)?) == Ok(1000));
-    let more = inserted(alloc, table, view, &mut staged, 1000, "n");
+    let more = insert_emp(alloc, table, view, &mut staged, 1000, "n");
     assert!(rt; more == Err(Refusal::TooManyWrites));
     Ok(())
 }
@@ -303,10 +293,7 @@ fn keys_of_another_table_are_refused(rt: HostRuntime) -> Result<(), Fail> {
     let table = &Table::sample(alloc)?;
     let view = &View::new(alloc)?;
     let mut staged = Staged::new(alloc)?;
-    let other = Keys {
-        table: 2,
-        comparisons: Sequence::new(Vec::new(alloc)),
-    };
+    let other = Keys::all(alloc, 2);
     assert!(rt; staged.delete(view, table, &other) == Err(Refusal::NoTable));
     Ok(())
 }

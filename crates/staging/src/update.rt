@@ -1,10 +1,10 @@
 //! UPDATE.
-ghost use Rattle.std.specs.Prelude.{◌≡◌, ◌≢◌, All, Result, Err, IfOk, OnErr};
+ghost use Rattle.std.specs.Prelude.{◌≡◌, All, IfOk, OnErr};
 ghost use Rattle.values.specs.RowEncoding.{IsStored};
 ghost use Rattle.values.specs.Tables.{IsTable};
 ghost use Rattle.values.specs.Writes.{set_all};
 ghost use Rattle.values.specs.Events.{AreKeysIn};
-ghost use Rattle.staging.specs.Own.{WhenRead, own, checked_update};
+ghost use Rattle.staging.specs.Own.{WhenRead, IsAnswered, own, checked_update};
 ghost use Rattle.staging.specs.Staged.{updates};
 
 use crate::staged::Staged;
@@ -25,8 +25,10 @@ impl Staged {
     ) -> Result<usize, Refusal>
         requires { IsTable table.now.number table.now }
         ensures answers { WhenRead table.now view.now self.old (λ schema m.
-            result ≢ Err Refusal.Memory → (result, own m self.new) ≡ checked_update table.now keys.now sets.now (own m self.old)) }
-        ensures keys { WhenRead table.now view.now self.old (λ schema m. AreKeysIn schema self.new) }
+            IsAnswered result m self.new
+            (checked_update table.now keys.now sets.now (own m self.old))) }
+        ensures keys { WhenRead table.now view.now self.old (λ schema m.
+            AreKeysIn schema self.new) }
         ensures refused { OnErr result (self.new ≡ self.old) }
     {
         if keys.table != table.number {

@@ -104,7 +104,8 @@ impl View {
         range: &KeyRange,
         instant: Instant,
     ) -> Mem<Vec<SharedEvent>>
-        ensures ok { IfOk result (λ v. v.items ≡ standing (events self.now) (is_key_in range.now) instant) }
+        ensures ok { IfOk result (λ v. v.items
+            ≡ standing (events self.now) (is_key_in range.now) instant) }
         ensures ordered { IsStrictlySortedBy event_cmp (events self.now) }
         ensures err { OnlyMemory result }
     {

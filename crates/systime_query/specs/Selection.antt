@@ -20,18 +20,25 @@ next_of e (d ∷ ds) = if is_bytes e.key d.key then Some d.at else None
 
 -- the bytes are of a key that the query takes
 abbrev pub is_taken : Table → Keys → List ℕ → Bool
-is_taken table keys bytes = elim (key_from table bytes) [ None ↦ false | Some key ↦ matches table keys key ]
+is_taken table keys bytes = elim (key_from table bytes) [
+  | None ↦ false
+  | Some key ↦ matches table keys key
+]
 
 -- the version that an event begins, of those behind it, where the query selects it
 abbrev pub shown_of : Table → Form → Keys → Event → Option ℕ → Option Shown
 shown_of table form keys e to = elim e.row [
   | None ↦ None
-  | Some row ↦ if selects form e.at to && is_taken table keys e.key then Some (record { row = row; from = e.at; to = to }) else None
+  | Some row ↦
+      if selects form e.at to && is_taken table keys e.key
+      then Some (record { row = row; from = e.at; to = to })
+      else None
 ]
 
 abbrev pub selected_by : Table → Form → Keys → List Event → List Shown
 selected_by table form keys [] = []
-selected_by table form keys (e ∷ es) = cons_option (shown_of table form keys e (next_of e es)) (selected_by table form keys es)
+selected_by table form keys (e ∷ es) =
+    cons_option (shown_of table form keys e (next_of e es)) (selected_by table form keys es)
 
 abbrev pub instant_of : Option Event → Option ℕ
 instant_of None = None
@@ -40,5 +47,6 @@ instant_of (Some e) = Some e.at
 -- of all changes that the view shows, where the table is one of the schema's and the keys are its own
 abbrev pub WhenShown : Committed → Table → Keys → (Changes → Type 0) → Type 0
 WhenShown view table keys P =
-    (schema : Schema) (m : Changes) → Holds schema view m → table_at schema table.number ≡ Some table
+    (schema : Schema) (m : Changes)
+    → Holds schema view m → table_at schema table.number ≡ Some table
     → keys.table ≡ table.number → P m

@@ -23,12 +23,12 @@ pub fn answer(alloc: Global, view: &View, table: &Table, form: Form, keys: &Keys
     match form {
         Form::Plain => selected_at(alloc, &events, last, table, keys),
         Form::AsOf(instant) => selected_at(alloc, &events, instant, table, keys),
-        Form::FromTo(_, _) | Form::Between(_, _) => selected(alloc, &events, table, form, keys),
+        Form::FromTo(_, _) | Form::Between(_, _) => select(alloc, &events, table, form, keys),
     }
 }
 
 /// The versions that a query selects, of events in order.
-fn selected(
+fn select(
     alloc: Global,
     events: &[SharedEvent],
     table: &Table,

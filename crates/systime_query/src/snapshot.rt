@@ -22,7 +22,8 @@ pub(crate) fn selected_at(
     keys: &Keys,
 ) -> Mem<Vec<Shown>>
     requires { IsStrictlySortedBy event_cmp events.now }
-    ensures ok { IfOk result (λ v. v.items ≡ selected_by table.now (AsOf instant) keys.now events.now) }
+    ensures ok { IfOk result (λ v. v.items
+        ≡ selected_by table.now (AsOf instant) keys.now events.now) }
     ensures err { OnlyMemory result }
 {
     let mut shown = Vec::new(alloc);
@@ -47,7 +48,8 @@ fn version_at(
 ) -> Mem<Option<Shown>>
     requires sorted { IsStrictlySortedBy event_cmp events.now }
     requires one_key { AreOfKey (first_key events.now) events.now }
-    ensures ok { IfOk result (λ v. option_to_list v ≡ selected_by table.now (AsOf instant) keys.now events.now) }
+    ensures ok { IfOk result (λ v. option_to_list v
+        ≡ selected_by table.now (AsOf instant) keys.now events.now) }
     ensures err { OnlyMemory result }
 {
     let place = place_until(events, instant);

@@ -5,28 +5,25 @@ ghost use Rattle.staging.specs.View.{last};
 
 use crate::{answer, current_rows, rows_at};
 use staging::{EventStore, Staged};
-use std::alloc::{AllocError, Global};
+use std::alloc::Global;
 use std::test::Fail;
 use values::{
-    Chars, Comparison, Form, Instant, Keys, Mem, Operator, Refusal, Row, Sequence, Set, Shown,
+    Chars, Comparison, Form, Instant, Keys, Mem, Operator, Refusal, Row, Set, Shown,
     Table, Value,
 };
 
-fn text(alloc: Global, name: &str) -> Result<Value, AllocError> {
-    Ok(Value::Text(Chars::new(String::from_str(alloc, name)?)))
+fn text(alloc: Global, name: &str) -> Mem<Value> {
+    Ok(Value::Text(Chars::copy_of(alloc, name)?))
 }
 
 /// The keys of `emp` that compare so with a number.
-fn by(alloc: Global, operator: Operator, number: i64) -> Result<Keys, AllocError> {
+fn by(alloc: Global, operator: Operator, number: i64) -> Mem<Keys> {
     let comparison = Comparison {
         column: 1,
         operator,
         value: Value::Int(number),
     };
-    Ok(Keys {
-        table: 1,
-        comparisons: Sequence::new(vec![in alloc; comparison]?),
-    })
+    Keys::of_comparison(alloc, 1, comparison)
 }
 
 fn employee(alloc: Global, number: i64, name: &str) -> Mem<Row> {
@@ -80,7 +77,7 @@ fn rename(alloc: Global, table: &Table, store: &mut EventStore) -> Result<(), Fa
 }
 
 /// Ann comes at 100 as number 1, and is Bea from 200 on.
-fn recorded(alloc: Global, table: &Table) -> Result<EventStore, Fail>
+fn ann_then_bea(alloc: Global, table: &Table) -> Result<EventStore, Fail>
     requires { IsTable table.now.number table.now }
     ensures { IfOk result (λ s. last s ≡ 200) }
 {
@@ -93,7 +90,7 @@ fn recorded(alloc: Global, table: &Table) -> Result<EventStore, Fail>
 /// The periods of what a query shows.
 fn periods(alloc: Global, form: Form) -> Result<Vec<(Instant, Option<Instant>)>, Fail> {
     let table = &Table::sample(alloc)?;
-    let store = recorded(alloc, table)?;
+    let store = ann_then_bea(alloc, table)?;
     let shown: Vec<Shown> = answer(
         alloc,
         store.current(),
@@ -137,7 +134,7 @@ fn a_version_is_closed_at_its_start_and_open_at_its_end(rt: HostRuntime) -> Resu
 fn two(alloc: Global, table: &Table) -> Result<EventStore, Fail>
     requires { IsTable table.now.number table.now }
 {
-    let mut store = recorded(alloc, table)?;
+    let mut store = ann_then_bea(alloc, table)?;
     hire(alloc, table, &mut store, 300, 2, "Cid")?;
     Ok(store)
 }

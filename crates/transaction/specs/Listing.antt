@@ -23,5 +23,7 @@ as_listing (Between a b) shown = Periods shown
 abbrev pub listing_in : Changes → Net → Table → Form → Keys → Listing
 listing_in m writes table Plain keys = Rows (rows_taken table keys (rows_seen m writes))
 listing_in m writes table (AsOf t) keys = as_listing (AsOf t) (answer m table (AsOf t) keys)
-listing_in m writes table (FromTo a b) keys = as_listing (FromTo a b) (answer m table (FromTo a b) keys)
-listing_in m writes table (Between a b) keys = as_listing (Between a b) (answer m table (Between a b) keys)
+listing_in m writes table (FromTo a b) keys =
+    as_listing (FromTo a b) (answer m table (FromTo a b) keys)
+listing_in m writes table (Between a b) keys =
+    as_listing (Between a b) (answer m table (Between a b) keys)

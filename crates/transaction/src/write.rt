@@ -1,8 +1,8 @@
 //! INSERT, UPDATE and DELETE.
-ghost use Rattle.std.specs.Prelude.{◌≡◌, ◌≢◌, Result, Err, OnErr};
+ghost use Rattle.std.specs.Prelude.{◌≡◌, OnErr};
 ghost use Rattle.values.specs.Tables.{IsTable};
 ghost use Rattle.values.specs.Events.{AreKeysIn};
-ghost use Rattle.staging.specs.Own.{WhenRead, own, checked_insert, checked_update, checked_delete};
+ghost use Rattle.staging.specs.Own.{WhenRead, IsAnswered, own, checked_insert, checked_update, checked_delete};
 
 use crate::open_transaction::OpenTransaction;
 use values::{Keys, Refusal, Row, Set, Table};
@@ -13,8 +13,8 @@ impl OpenTransaction {
     pub fn insert(&mut self, table: &Table, rows: &[Row]) -> Result<usize, Refusal>
         requires { IsTable table.now.number table.now }
         ensures answers { WhenRead table.now self.old.view self.old.writes (λ schema m.
-            result ≢ Err Refusal.Memory
-            → (result, own m self.new.writes) ≡ checked_insert table.now rows.now (own m self.old.writes)) }
+            IsAnswered result m self.new.writes
+            (checked_insert table.now rows.now (own m self.old.writes))) }
         ensures keys { WhenRead table.now self.old.view self.old.writes (λ schema m.
             AreKeysIn schema self.new.writes) }
         ensures view { self.new.view ≡ self.old.view }
@@ -28,8 +28,8 @@ impl OpenTransaction {
     pub fn update(&mut self, table: &Table, keys: &Keys, sets: &[Set]) -> Result<usize, Refusal>
         requires { IsTable table.now.number table.now }
         ensures answers { WhenRead table.now self.old.view self.old.writes (λ schema m.
-            result ≢ Err Refusal.Memory
-            → (result, own m self.new.writes) ≡ checked_update table.now keys.now sets.now (own m self.old.writes)) }
+            IsAnswered result m self.new.writes
+            (checked_update table.now keys.now sets.now (own m self.old.writes))) }
         ensures keys { WhenRead table.now self.old.view self.old.writes (λ schema m.
             AreKeysIn schema self.new.writes) }
         ensures view { self.new.view ≡ self.old.view }
@@ -43,8 +43,8 @@ impl OpenTransaction {
     pub fn delete(&mut self, table: &Table, keys: &Keys) -> Result<usize, Refusal>
         requires { IsTable table.now.number table.now }
         ensures answers { WhenRead table.now self.old.view self.old.writes (λ schema m.
-            result ≢ Err Refusal.Memory
-            → (result, own m self.new.writes) ≡ checked_delete table.now keys.now (own m self.old.writes)) }
+            IsAnswered result m self.new.writes
+            (checked_delete table.now keys.now (own m self.old.writes))) }
         ensures keys { WhenRead table.now self.old.view self.old.writes (λ schema m.
             AreKeysIn schema self.new.writes) }
         ensures view { self.new.view ≡ self.old.view }

@@ -71,10 +71,12 @@ impl Engine {
         net: Net,
         reading: Instant,
     ) -> Result<Option<Instant>, Refusal>
-        ensures outcome { (schema : Schema) (m : Changes) → Holds schema self.old m → AreKeysIn schema net
+        ensures outcome { (schema : Schema) (m : Changes)
+            → Holds schema self.old m → AreKeysIn schema net
             → result ≢ Err Refusal.Memory
             → result ≡ outcome m (last self.old) start net reading }
-        ensures committed { IfOk result (λ end. IfSome end (λ instant. Adds instant net self.old self.new)) }
+        ensures committed { IfOk result (λ end. IfSome end (λ instant.
+            Adds instant net self.old self.new)) }
         ensures holds { IfOk result (λ end. IfSome end (λ instant. (schema : Schema) (m : Changes)
             → Holds schema self.old m → AreKeysIn schema net
             → Holds schema self.new (add_net instant m net))) }
@@ -103,7 +105,8 @@ impl Engine {
         reading: Instant,
     ) -> Result<Option<Instant>, Refusal>
         ensures outcome { result ≢ Err Refusal.Memory
-            → result ≡ outcome_by (changed_in (events self.now) start) (last self.now) net.now reading }
+            → result
+            ≡ outcome_by (changed_in (events self.now) start) (last self.now) net.now reading }
         ensures later { IfOk result (λ end. IfSome end (λ instant. last self.now < instant)) }
         ensures in_range { IfOk result (λ end. IfSome end (λ instant. instant ≤ max_instant)) }
     {

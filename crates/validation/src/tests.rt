@@ -7,7 +7,7 @@ use std::test::Fail;
 use values::{Chars, Key, Mem, Refusal, Row, Table, Value, Values};
 
 fn employee(alloc: Global, number: i64, name: &str) -> Mem<Row> {
-    let name = Value::Text(Chars::new(String::from_str(alloc, name)?));
+    let name = Value::Text(Chars::copy_of(alloc, name)?);
     Row::new(vec![in alloc; Value::Int(number), name]?).ok_or(Refusal::BadRow(2))
 }
 
@@ -19,7 +19,7 @@ fn key(alloc: Global, number: i64) -> Result<Key, AllocError> {
 }
 
 /// The net change of a transaction that inserts an employee.
-fn inserting(alloc: Global, view: &View, number: i64) -> Result<Net, Fail> {
+fn insertion(alloc: Global, view: &View, number: i64) -> Result<Net, Fail> {
     let table = &Table::sample(alloc)?;
     let rows = vec![in alloc; employee(alloc, number, "Ann")?]?;
     let mut staged = Staged::new(alloc)?;
@@ -32,8 +32,8 @@ fn the_first_committer_wins(rt: HostRuntime) -> Result<(), Fail> {
     let alloc = rt.alloc();
     let mut engine = Engine::new(alloc)?;
     let view = engine.begin()?;
-    let first = inserting(alloc, &view, 1)?;
-    let second = inserting(alloc, &view, 1)?;
+    let first = insertion(alloc, &view, 1)?;
+    let second = insertion(alloc, &view, 1)?;
     let conflict = Refusal::Conflict(key(alloc, 1)?, 100);
     assert_eq!(rt; engine.commit(0, first, 100), Ok(Some(100)));
     assert_eq!(rt; engine.commit(0, second, 200), Err(conflict));
@@ -46,8 +46,8 @@ fn other_keys_both_commit(rt: HostRuntime) -> Result<(), Fail> {
     let alloc = rt.alloc();
     let mut engine = Engine::new(alloc)?;
     let view = engine.begin()?;
-    let first = inserting(alloc, &view, 1)?;
-    let second = inserting(alloc, &view, 2)?;
+    let first = insertion(alloc, &view, 1)?;
+    let second = insertion(alloc, &view, 2)?;
     assert_eq!(rt; engine.commit(0, first, 100), Ok(Some(100)));
     assert_eq!(rt; engine.commit(0, second, 50), Ok(Some(101)));
     assert_eq!(rt; view.last(), 0);

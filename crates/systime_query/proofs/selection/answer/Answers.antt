@@ -20,4 +20,4 @@ returns-in-AsOf-clause-ok c =
 pub returns-clause-ok : goal.returns-clause-ok
 returns-clause-ok c =
     let are = listed c.args.view.now c.args.table.now c.args.keys.now c.in_ok-range.range c.last-last.result c.deref-in-FromTo.result.now c.in_ok-events.events.items c.last-last.ensures.upto c.deref-in-FromTo.ensures.value c.in_ok-events.ensures.ok c.in_ok-range.ensures.ok in
-    answered c.args.view.now c.args.table.now c.args.keys.now (λ v. v.items) c.deref-in-FromTo.result.now c.args.form c.selected.result c.last-last.ensures.ordered are c.selected.ensures.ok
+    answered c.args.view.now c.args.table.now c.args.keys.now (λ v. v.items) c.deref-in-FromTo.result.now c.args.form c.select.result c.last-last.ensures.ordered are c.select.ensures.ok

@@ -1,6 +1,6 @@
 use Rattle.std.proofs.Common.{◌≡◌, ◌++◌, length}
 use Rattle.systime_query.specs.Selection.{selected_by}
-use Rattle.systime_query.proofs.selection.selected.Given as goal
+use Rattle.systime_query.proofs.selection.select.Given as goal
 
 abbrev pub decreases-loop-rest : goal.decreases-loop-rest
 decreases-loop-rest l = length l.rest
