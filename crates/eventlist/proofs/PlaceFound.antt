@@ -139,7 +139,6 @@ pub found_in : (P : Event → Type 0) (es : List Event) (key : List ℕ) (t : �
 found_in P [] key t d h is = cc
 found_in P (e ∷ es) key t d h is = by (event_until es key t) (is_bytes key e.key && nat_le e.at t) refl refl is (λ k. found_in P es key t d h.1 k)
   where
-
     by : (o : Option Event) (b : Bool) → event_until es key t ≡ o → (is_bytes key e.key && nat_le e.at t) ≡ b → later o (if b then Some e else None) ≡ Some d
         → (event_until es key t ≡ Some d → P d × (is_bytes key d.key ≡ true)) → P d × (is_bytes key d.key ≡ true)
     by (Some x) b at b_is is more = more (at ∙ is)

@@ -2,8 +2,8 @@
 use crate::System;
 use histories::{Listing, Reply, Step};
 use rows::{
-    Chars, Comparison, Form, Instant, Keys, Mem, Operator, Refusal, Row, Rows, Schema, Set,
-    Sets, Shown, Value,
+    Chars, Comparison, Form, Instant, Keys, Mem, Operator, Refusal, Row, Rows, Schema, Set, Sets,
+    Shown, Value,
 };
 use std::alloc::{AllocError, Global};
 use std::process::Abort;
@@ -57,13 +57,7 @@ impl Talk {
         Ok(self.step(Step::Insert(session, 1, rows), wanted)?)
     }
 
-    fn update(
-        &mut self,
-        session: u8,
-        number: i64,
-        name: &str,
-        wanted: &'static str,
-    ) -> Mem<()> {
+    fn update(&mut self, session: u8, number: i64, name: &str, wanted: &'static str) -> Mem<()> {
         let keys = by(self.alloc, Operator::Equal, number)?;
         let set = Set {
             column: 2,

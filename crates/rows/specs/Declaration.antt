@@ -135,13 +135,16 @@ generated_at name bytes = do
   before ← maybe_not_null_at digits.1
   side ← row_side_at before.1
   after ← maybe_not_null_at side.1
-  Ok (Generated (record {
-    name = name;
-    digits = digits.0;
-    side = side.0;
-    not_null_before = before.0;
-    not_null_after = after.0;
-  }), after.1)
+  Ok (
+    Generated (record {
+      name = name;
+      digits = digits.0;
+      side = side.0;
+      not_null_before = before.0;
+      not_null_after = after.0;
+    }),
+    after.1,
+  )
 
 -- "(" name "," name ")"
 unfoldable pub two_names_at : List ℕ → Read Entry

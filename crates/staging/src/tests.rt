@@ -10,8 +10,8 @@ use std::alloc::{AllocError, Global};
 use std::process::Abort;
 use std::test::Fail;
 use values::{
-    Chars, Comparison, Instant, Key, KeyBytes, Keys, Mem, Operator, Refusal, Row, Set,
-    Table, Value, Values, key_bytes,
+    Chars, Comparison, Instant, Key, KeyBytes, Keys, Mem, Operator, Refusal, Row, Set, Table,
+    Value, Values, key_bytes,
 };
 
 fn text(alloc: Global, text: &str) -> Mem<Value> {

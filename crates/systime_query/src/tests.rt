@@ -8,8 +8,7 @@ use staging::{EventStore, Staged};
 use std::alloc::Global;
 use std::test::Fail;
 use values::{
-    Chars, Comparison, Form, Instant, Keys, Mem, Operator, Refusal, Row, Set, Shown,
-    Table, Value,
+    Chars, Comparison, Form, Instant, Keys, Mem, Operator, Refusal, Row, Set, Shown, Table, Value,
 };
 
 fn text(alloc: Global, name: &str) -> Mem<Value> {

@@ -42,7 +42,13 @@ fn count_shown(alloc: Global, form: Form) -> Mem<usize> {
 fn shown_outside(alloc: Global) -> Mem<usize> {
     let store = EventStore::new(alloc)?;
     let table = Table::sample(alloc)?;
-    let listing = listing_of(alloc, store.current(), Form::Plain, &table, &Keys::all(alloc, 1))?;
+    let listing = listing_of(
+        alloc,
+        store.current(),
+        Form::Plain,
+        &table,
+        &Keys::all(alloc, 1),
+    )?;
     Ok(count(&listing))
 }
 
