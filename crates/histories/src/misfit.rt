@@ -1,4 +1,4 @@
-ghost use Rattle.std.specs.Prelude.{◌≡◌, ℕ, Option, IfOk, IfErr};
+ghost use Rattle.std.specs.Prelude.{◌≡◌, ◌≢◌, ℕ, Option, IfOk, IfErr, IfSome};
 ghost use Rattle.values.specs.declared.table.Table.{Table};
 ghost use Rattle.values.specs.Tables.{table_at};
 ghost use Rattle.values.specs.Fit.{rows_fault};
@@ -9,9 +9,10 @@ use rows::{Key, Keys, Refusal, Row, Schema, Set, Table};
 
 impl Step {
     /// Why a step does not fit the schema: its session's number, then its table, then the first
-    /// column at fault.
+    /// column at fault. It is never that memory ran out.
     pub fn misfit(&self, schema: &Schema) -> Option<Refusal>
-        ensures { result ≡ misfit schema.now self.now }
+        ensures why { result ≡ misfit schema.now self.now }
+        ensures memory { IfSome result (λ refusal. refusal ≢ Refusal.Memory) }
     {
         match self {
             Step::Begin(session) => no_session(*session),

@@ -87,7 +87,7 @@ or_right false y e = e
 
 -- memory ran out while the line was read
 read_risky : (s : Script) (schema : Schema) (p : Progress) → IsAt s schema p → IsRead (Err Memory) s → is_risky schema (line_says schema) p (line_of s) ≡ true
-read_risky s schema p at is = or_left _ _ (ap (reading_takes (line_of s)) (sym (said_is s schema p at)) ∙ is.memory refl)
+read_risky s schema p at is = or_left _ _ (is.memory refl)
 
 -- ---- a line that was answered
 
@@ -115,7 +115,7 @@ pub record Stepped (s s' : Script) (step : Step) (r : Reply) : Type 0 where
 -- the step takes memory where it ran out
 step_risky : (s s' : Script) (schema : Schema) (p : Progress) (step : Step) (r : Reply) → Stepped s s' step r → IsAt s schema p → said_by s ≡ Ok (Asks step) → is_out_of_memory r ≡ true → is_risky schema (line_says schema) p (line_of s) ≡ true
 step_risky s s' schema p step r so at e out =
-    ap (can_run_out schema p (line_of s)) (sym (said_is s schema p at) ∙ e) ∙ or_right (reading_takes (line_of s) (Ok (Asks step))) _ (ap not (sym alike ∙ taken (takes_no_memory (world s.system) step) refl))
+    ap (can_run_out schema p (line_of s)) (sym (said_is s schema p at) ∙ e) ∙ or_right (reading_takes (line_of s)) _ (ap not (sym alike ∙ taken (takes_no_memory (world s.system) step) refl))
   where
     alike : takes_no_memory (world s.system) step ≡ takes_no_memory_after schema p.history step
     alike = memory_is_taken_alike (world s.system) p.history step at.stands ∙ ap (λ x. takes_no_memory_after x p.history step) at.schema_is

@@ -1,5 +1,5 @@
 -- What a run of a script keeps, by what contracts see of it.
-use Rattle.std.specs.Prelude.{◌≡◌, ◌≤◌, ◌+◌, ℕ, List, [], ◌∷◌, Option, Some, None, Bool, true, false, Result, IfErr, if◌then◌else◌, vec_capacity, length}
+use Rattle.std.specs.Prelude.{◌≡◌, ◌≤◌, ◌+◌, ℕ, List, [], ◌∷◌, Option, Some, None, Bool, true, false, Result, Err, if◌then◌else◌, vec_capacity, length}
 use Rattle.std.specs.Io.KnownBytes.{Appends, Keeps}
 use Rattle.values.specs.Tables.{Schema}
 use Rattle.values.specs.declared.refusal.Refusal.{Refusal}
@@ -24,7 +24,7 @@ said_by s = read_at (line_says s.system.schema) s.reading (line_of s)
 -- this was read of the line: memory may have run out where reading it takes some
 pub record IsRead (r : Result Line Refusal) (s : Script) : Type 0 where
   pub unless : UnlessMemory r (said_by s)
-  pub memory : IfErr r (λ e. e ≡ Memory → reading_takes (line_of s) (said_by s) ≡ true)
+  pub memory : r ≡ Err Memory → reading_takes (line_of s) ≡ true
 
 -- a run that has a schema's tables is as far as this
 pub record IsAt (s : Script) (schema : Schema) (p : Progress) : Type 0 where
@@ -38,13 +38,16 @@ pub record SameRun (s s' : Script) : Type 0 where
   pub reading : s'.reading ≡ s.reading
 
 -- a line was answered, where its mark says whether memory ran out
-pub record Answered (old new : Option (List ℕ)) (s : Script) (schema : Schema) (p : Progress) (line : Partial) : Type 0 where
+pub record Answered
+    (old new : Option (List ℕ)) (s : Script) (schema : Schema) (p : Progress) (line : Partial)
+    : Type 0 where
   pub mark : Bool
   pub wrote : Appends old new (line_reply schema (line_says schema) mark p line)
   pub left : IsAt s schema (line_leaves schema (line_says schema) mark p line)
 
 -- the writer failed in the reply to a line
-pub record Broken (old new : Option (List ℕ)) (schema : Schema) (p : Progress) (line : Partial) : Type 0 where
+pub record Broken
+    (old new : Option (List ℕ)) (schema : Schema) (p : Progress) (line : Partial) : Type 0 where
   pub mark : Bool
   pub wrote : AppendsFront old new (line_reply schema (line_says schema) mark p line)
 
@@ -59,18 +62,22 @@ has_byte (Some []) = false
 has_byte (Some (b ∷ bytes)) = true
 
 -- some bytes of the script were taken and answered
-pub record Fed (old new : Option (List ℕ)) (s s' : Script) (schema : Schema) (p : Progress) (bytes : List ℕ) : Type 0 where
+pub record Fed
+    (old new : Option (List ℕ)) (s s' : Script) (schema : Schema) (p : Progress) (bytes : List ℕ)
+    : Type 0 where
   pub later : Progress
   pub left : IsAt s' schema later
   pub fed : Feeds schema (line_says schema) old new p (line_of s) later (line_of s') bytes
 
 -- what was due after the last byte was written, and the run is at the end of its script
-pub record Finished (old new : Option (List ℕ)) (s s' : Script) (schema : Schema) (p : Progress) : Type 0 where
+pub record Finished
+    (old new : Option (List ℕ)) (s s' : Script) (schema : Schema) (p : Progress) : Type 0 where
   pub mark : Bool
   pub wrote : Appends old new (last_reply schema (line_says schema) mark p (line_of s))
   pub left : IsAt s' schema (last_leaves schema (line_says schema) mark p (line_of s))
 
-pub record Unfinished (old new : Option (List ℕ)) (s : Script) (schema : Schema) (p : Progress) : Type 0 where
+pub record Unfinished
+    (old new : Option (List ℕ)) (s : Script) (schema : Schema) (p : Progress) : Type 0 where
   pub mark : Bool
   pub wrote : AppendsFront old new (last_reply schema (line_says schema) mark p (line_of s))
 

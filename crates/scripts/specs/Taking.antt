@@ -7,7 +7,9 @@ use Rattle.scripts.specs.Transcript.{Partial, Progress, Reading, Ending, last_re
 module _ (schema : Schema) (read : Reading) where
   -- these bytes of a text were taken: what was written is what is written for them however the text
   -- ends, and the text leaves what is left from there on
-  pub record Feeds (old new : Option (List ℕ)) (p : Progress) (line : Partial) (p' : Progress) (line' : Partial) (bytes : List ℕ) : Type 0 where
+  pub record Feeds
+      (old new : Option (List ℕ)) (p : Progress) (line : Partial) (p' : Progress) (line' : Partial)
+      (bytes : List ℕ) : Type 0 where
     pub marks : List Bool
     pub out : List ℕ
     pub wrote : Appends old new out
@@ -19,9 +21,11 @@ module _ (schema : Schema) (read : Reading) where
         ≡ leaves schema read more p' line' rest
 
   -- the writer failed in these bytes: what was written is a prefix, whatever follows
-  pub record Breaks (old new : Option (List ℕ)) (p : Progress) (line : Partial) (bytes : List ℕ) : Type 0 where
+  pub record Breaks
+      (old new : Option (List ℕ)) (p : Progress) (line : Partial) (bytes : List ℕ) : Type 0 where
     pub marks : List Bool
     pub out : List ℕ
     pub wrote : Appends old new out
     pub front : (more : List Bool) (rest : List ℕ) → (left : List ℕ)
-        × (written schema read (last_reply schema read) (marks ++ more) p line (bytes ++ rest) ≡ out ++ left)
+        × (written schema read (last_reply schema read) (marks ++ more) p line (bytes ++ rest)
+        ≡ out ++ left)

@@ -9,6 +9,7 @@ use Rattle.histories.specs.Memory.{takes_no_memory_after}
 use Rattle.interleaving.specs.SystemState.{SystemState, Stands}
 use Rattle.statement.specs.declared.line.Line.{Line}
 use Rattle.statement.specs.declared.line.Line.TheVariants.{Nothing, Clock, Step as Asks}
+use Rattle.statement.specs.Memory.{takes_memory}
 use Rattle.statement.specs.Print.{line, refusal_text, reply_text}
 use Rattle.statement.specs.Writer.{AppendsFront}
 
@@ -24,10 +25,10 @@ abbrev pub add : Partial → ℕ → Partial
 add None byte = None
 add (Some bytes) byte = if nat_lt (length bytes) max_line then Some (bytes ++ byte ∷ []) else None
 
--- reading the line may take memory: it is not read where it is too long
-abbrev pub reading_takes : Partial → Result Line Refusal → Bool
-reading_takes None said = false
-reading_takes (Some bytes) said = true
+-- reading the line takes memory: it is not read where it is too long
+abbrev pub reading_takes : Partial → Bool
+reading_takes None = false
+reading_takes (Some bytes) = takes_memory bytes
 
 -- a line with its line feed
 abbrev pub ended : Partial → Partial
@@ -69,10 +70,9 @@ module _ (schema : Schema) where
   asks_memory p (Ok (Asks step)) = not (takes_no_memory_after schema p.history step)
   asks_memory p _ = false
 
-  -- Memory can run out at a line while it is read or at its step, and not at one that is too long,
-  -- which is not read. Which lines take no memory to be read is not said yet.
+  -- memory can run out at a line while it is read, or at its step
   abbrev pub can_run_out : Progress → Partial → Result Line Refusal → Bool
-  can_run_out p bytes said = reading_takes bytes said || asks_memory p said
+  can_run_out p bytes said = reading_takes bytes || asks_memory p said
 
 module _ (schema : Schema) (read : Reading) where
   -- the line is one at which memory can run out
@@ -119,7 +119,8 @@ module _ (schema : Schema) (read : Reading) where
   written ending ms p bytes (b ∷ bs) =
       if b == 10
       then line_reply schema read (mark ms) p (ended bytes)
-      ++ written ending (marks_after ms) (line_leaves schema read (mark ms) p (ended bytes)) (Some []) bs
+      ++ written ending (marks_after ms)
+      (line_leaves schema read (mark ms) p (ended bytes)) (Some []) bs
       else written ending ms p (add bytes b) bs
 
   -- what a last line with no line feed leaves, where it has a byte

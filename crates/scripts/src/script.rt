@@ -64,8 +64,10 @@ fn answer<W: Write>(
     line: Result<Line, Refusal>,
 ) -> Result<(), WriteFault>
     requires { IsRead line script.old }
-    ensures ok { OnOk result (AnswersLine (W.contents writer.old) (W.contents writer.new) script.old script.new) }
-    ensures err { OnErr result (BreaksLine (W.contents writer.old) (W.contents writer.new) script.old) }
+    ensures ok { OnOk result (AnswersLine
+        (W.contents writer.old) (W.contents writer.new) script.old script.new) }
+    ensures err { OnErr result (BreaksLine
+        (W.contents writer.old) (W.contents writer.new) script.old) }
     ensures room { vec_capacity script.new.line ≡ vec_capacity script.old.line }
 {
     match line {
@@ -82,8 +84,10 @@ fn answer<W: Write>(
 /// Takes a step, and writes the reply.
 fn take_step<W: Write>(writer: &mut W, script: &mut Script, step: Step) -> Result<(), WriteFault>
     requires { said_by script.old ≡ Ok (Line.Step step) }
-    ensures ok { OnOk result (AnswersLine (W.contents writer.old) (W.contents writer.new) script.old script.new) }
-    ensures err { OnErr result (BreaksLine (W.contents writer.old) (W.contents writer.new) script.old) }
+    ensures ok { OnOk result (AnswersLine
+        (W.contents writer.old) (W.contents writer.new) script.old script.new) }
+    ensures err { OnErr result (BreaksLine
+        (W.contents writer.old) (W.contents writer.new) script.old) }
     ensures room { vec_capacity script.new.line ≡ vec_capacity script.old.line }
 {
     let reply = script.system.step(step);
@@ -93,8 +97,10 @@ fn take_step<W: Write>(writer: &mut W, script: &mut Script, step: Step) -> Resul
 /// Writes why a line was refused.
 fn refuse<W: Write>(writer: &mut W, script: &Script, refusal: &Refusal) -> Result<(), WriteFault>
     requires { IsRead (Err refusal.now) script.now }
-    ensures ok { OnOk result (AnswersLine (W.contents writer.old) (W.contents writer.new) script.now script.now) }
-    ensures err { OnErr result (BreaksLine (W.contents writer.old) (W.contents writer.new) script.now) }
+    ensures ok { OnOk result (AnswersLine
+        (W.contents writer.old) (W.contents writer.new) script.now script.now) }
+    ensures err { OnErr result (BreaksLine
+        (W.contents writer.old) (W.contents writer.new) script.now) }
 {
     print_refusal(writer, refusal)
 }
@@ -102,8 +108,10 @@ fn refuse<W: Write>(writer: &mut W, script: &Script, refusal: &Refusal) -> Resul
 /// Ends the line: writes its reply, and begins the next one.
 fn end_line<W: Write>(alloc: Global, writer: &mut W, script: &mut Script) -> Result<(), WriteFault>
     requires { LINE + 1 ≤ vec_capacity script.old.line }
-    ensures ok { OnOk result (AnswersLine (W.contents writer.old) (W.contents writer.new) script.old script.new) }
-    ensures err { OnErr result (BreaksLine (W.contents writer.old) (W.contents writer.new) script.old) }
+    ensures ok { OnOk result (AnswersLine
+        (W.contents writer.old) (W.contents writer.new) script.old script.new) }
+    ensures err { OnErr result (BreaksLine
+        (W.contents writer.old) (W.contents writer.new) script.old) }
     ensures line { OnOk result (line_of script.new ≡ Some []) }
     ensures room { OnOk result (HasRoom script.new) }
 {
@@ -152,8 +160,10 @@ fn take_byte<W: Write>(
     byte: u8,
 ) -> Result<(), WriteFault>
     requires { HasRoom script.old }
-    ensures ok { OnOk result (TakesBytes (W.contents writer.old) (W.contents writer.new) script.old script.new (byte ∷ [])) }
-    ensures err { OnErr result (BreaksBytes (W.contents writer.old) (W.contents writer.new) script.old (byte ∷ [])) }
+    ensures ok { OnOk result (TakesBytes
+        (W.contents writer.old) (W.contents writer.new) script.old script.new (byte ∷ [])) }
+    ensures err { OnErr result (BreaksBytes
+        (W.contents writer.old) (W.contents writer.new) script.old (byte ∷ [])) }
     ensures room { OnOk result (HasRoom script.new) }
 {
     if byte == b'\n' {
@@ -173,8 +183,10 @@ fn feed<W: Write>(
     bytes: &[u8],
 ) -> Result<(), WriteFault>
     requires { HasRoom script.old }
-    ensures ok { OnOk result (TakesBytes (W.contents writer.old) (W.contents writer.new) script.old script.new bytes.now) }
-    ensures err { OnErr result (BreaksBytes (W.contents writer.old) (W.contents writer.new) script.old bytes.now) }
+    ensures ok { OnOk result (TakesBytes
+        (W.contents writer.old) (W.contents writer.new) script.old script.new bytes.now) }
+    ensures err { OnErr result (BreaksBytes
+        (W.contents writer.old) (W.contents writer.new) script.old bytes.now) }
     ensures room { OnOk result (HasRoom script.new) }
 {
     for byte in bytes {
@@ -192,8 +204,10 @@ fn has_byte(script: &Script) -> bool
 /// Ends the script: a last line without a line feed is answered where it has a byte.
 fn finish<W: Write>(alloc: Global, writer: &mut W, script: &mut Script) -> Result<(), WriteFault>
     requires { HasRoom script.old }
-    ensures ok { OnOk result (EndsScript (W.contents writer.old) (W.contents writer.new) script.old script.new) }
-    ensures err { OnErr result (BreaksEnd (W.contents writer.old) (W.contents writer.new) script.old) }
+    ensures ok { OnOk result (EndsScript
+        (W.contents writer.old) (W.contents writer.new) script.old script.new) }
+    ensures err { OnErr result (BreaksEnd
+        (W.contents writer.old) (W.contents writer.new) script.old) }
 {
     if has_byte(script) {
         end_line(alloc, writer, script)

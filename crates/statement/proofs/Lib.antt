@@ -3,10 +3,16 @@ pub mod Digits
 pub mod Final
 pub mod Fronts
 pub mod Gaps
+pub mod Going
+pub mod GoingLines
+pub mod GoingLists
+pub mod GoingStatements
+pub mod GoingTokens
 pub mod Holds
 pub mod Lengths
 pub mod LineEnds
 pub mod Meanings
+pub mod Moves
 pub mod Printed
 pub mod Quotes
 pub mod SameLine

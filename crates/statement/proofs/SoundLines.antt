@@ -23,10 +23,10 @@ optional_sound : {P : List ℕ → Type 0} (bytes : List ℕ) (r : After) → Le
 optional_sound bytes (Ok rest) h = inr h.it
 optional_sound bytes (Err at) h = inl refl
 
-work_sound : (bytes : List ℕ) → (Empty ∣ Word (codes "WORK")) bytes (after_optional_word (codes "WORK") bytes)
+pub work_sound : (bytes : List ℕ) → (Empty ∣ Word (codes "WORK")) bytes (after_optional_word (codes "WORK") bytes)
 work_sound bytes = optional_sound bytes (word_at (codes "WORK") bytes) (word_sound (codes "WORK") bytes)
 
-semicolon_sound : (bytes : List ℕ) → (Empty ∣ Symbol 59) bytes (after_semicolon bytes)
+pub semicolon_sound : (bytes : List ℕ) → (Empty ∣ Symbol 59) bytes (after_semicolon bytes)
 semicolon_sound bytes = optional_sound bytes (symbol_at 59 bytes) (symbol_sound 59 bytes)
 
 ended : (bytes at : List ℕ) → Blanks bytes at → Leaves (elim at [ [] ↦ Ok [] | b ∷ bs ↦ Err (b ∷ bs) ]) (λ rest. Blanks bytes [])
@@ -38,7 +38,7 @@ unfolding end_at
 end_sound bytes = ended bytes (next bytes) (blanks_before bytes)
 
 module _ (schema : Schema) where
-  where_of : (table : ℕ) (cs : List Comparison) (bytes between rest : List ℕ) → Word (codes "WHERE") bytes between
+  pub where_of : (table : ℕ) (cs : List Comparison) (bytes between rest : List ℕ) → Word (codes "WHERE") bytes between
       → Listed (Word (codes "AND")) (IsComparison schema table) cs between rest → IsWhere schema table cs bytes rest
   where_of table [] bytes between rest word list = absurd list
   where_of table (c ∷ cs) bytes between rest word list = (between, (word, list))
@@ -66,7 +66,7 @@ module _ (schema : Schema) where
       holds (Insert table columns rows) rest (bytes, (first, (a, (into, (b, (named, (c, (list, (d, (values, are)))))))))))))))
 
   -- a table that two names of the grammar agree on
-  table_at_keys : (table : ℕ) (keys : Keys) (bytes rest : List ℕ) → table ≡ keys.table → IsTable schema table bytes rest → IsTable schema keys.table bytes rest
+  pub table_at_keys : (table : ℕ) (keys : Keys) (bytes rest : List ℕ) → table ≡ keys.table → IsTable schema table bytes rest → IsTable schema keys.table bytes rest
   table_at_keys table keys bytes rest same is = subst (λ (t : ℕ). IsTable schema t bytes rest) same is
 
   update_sound : (start bytes : List ℕ) → Word (codes "UPDATE") start bytes → Holds (update_at schema bytes) (λ statement rest. IsStatement schema statement start rest)

@@ -1,4 +1,4 @@
--- What a line cannot go on with.
+-- What a line cannot go on with, and what it can.
 use Rattle.std.specs.Prelude.{◌≡◌, ℕ, List, [], ◌∷◌, ◌++◌, ◌⊎◌, true, false, Err, length}
 use Rattle.values.specs.Tables.{Schema}
 use Rattle.values.specs.declared.refusal.Refusal.TheVariants.{Syntax}
@@ -27,3 +27,10 @@ FaultsAreFinal schema =
     → body_says schema reading (before ++ first ∷ (others ++ rest)) ≡ Err (Syntax (length before))
     → (other : List ℕ) (written : Written) → Plain first others other
     → IsLine schema written (before ++ first ∷ (others ++ other)) → ⊥
+
+-- the bytes before a fault of syntax can go on to a line of the grammar
+abbrev pub FrontsGoOn : Schema → Type 0
+FrontsGoOn schema =
+    (reading : ℕ) (before rest : List ℕ)
+    → body_says schema reading (before ++ rest) ≡ Err (Syntax (length before))
+    → (more : List ℕ) × ((written : Written) × IsLine schema written (before ++ more))

@@ -57,7 +57,8 @@ Symbol symbol = Blanks ⋯ Exactly (symbol ∷ [])
 -- a word of the grammar, in any case
 abbrev pub Word : List ℕ → Piece
 Word word =
-    Blanks ⋯ (λ bytes rest. (written : List ℕ) × (Run is_name_byte written bytes rest × (same_name word written ≡ true)))
+    Blanks ⋯ (λ bytes rest. (written : List ℕ)
+        × (Run is_name_byte written bytes rest × (same_name word written ≡ true)))
 
 abbrev pub Name : List ℕ → Piece
 Name name = Blanks ⋯ (λ bytes rest. Run is_name_byte name bytes rest × (is_name name ≡ true))
@@ -72,7 +73,8 @@ pub record Digits (most n : ℕ) (bytes rest : List ℕ) : Type 0 where
 
 abbrev pub Number : ℤ → Piece
 Number z = (λ bytes rest. (n : ℕ) × ((z ≡ pos n) × Digits (2 ^ 63 - 1) n bytes rest))
-    ∣ (λ bytes rest. (n : ℕ) × ((z ≡ neg_ℤ (pos n)) × (Exactly (45 ∷ []) ⋯ Digits (2 ^ 63) n) bytes rest))
+    ∣ (λ bytes rest. (n : ℕ)
+        × ((z ≡ neg_ℤ (pos n)) × (Exactly (45 ∷ []) ⋯ Digits (2 ^ 63) n) bytes rest))
 
 -- between its quotes a text has each of its own quotes twice
 abbrev pub doubled : List ℕ → List ℕ
@@ -119,7 +121,8 @@ IsInstant n = Blanks ⋯ Digits max_instant n
 abbrev pub IsForm : Form → Piece
 IsForm Plain = Empty
 IsForm (AsOf instant) =
-    Word (codes "FOR") ⋯ Word (codes "SYSTEM_TIME") ⋯ Word (codes "AS") ⋯ Word (codes "OF") ⋯ IsInstant instant
+    Word (codes "FOR") ⋯ Word (codes "SYSTEM_TIME") ⋯ Word (codes "AS") ⋯ Word (codes "OF")
+    ⋯ IsInstant instant
 IsForm (FromTo from to) = λ bytes rest. ⊥
 IsForm (Between from to) = λ bytes rest. ⊥
 
@@ -155,20 +158,25 @@ module _ (schema : Schema) where
   IsStatement Commit = Word (codes "COMMIT") ⋯ (Empty ∣ Word (codes "WORK"))
   IsStatement Rollback = Word (codes "ROLLBACK") ⋯ (Empty ∣ Word (codes "WORK"))
   IsStatement (Insert table columns rows) =
-      Word (codes "INSERT") ⋯ Word (codes "INTO") ⋯ IsTable table ⋯ IsColumnList table columns ⋯ Word (codes "VALUES") ⋯ Listed (Symbol 44) IsRow rows
+      Word (codes "INSERT") ⋯ Word (codes "INTO") ⋯ IsTable table ⋯ IsColumnList table columns
+      ⋯ Word (codes "VALUES") ⋯ Listed (Symbol 44) IsRow rows
   IsStatement (Update keys sets) =
-      Word (codes "UPDATE") ⋯ IsTable keys.table ⋯ Word (codes "SET") ⋯ Listed (Symbol 44) (IsSet keys.table) sets ⋯ IsWhere keys.table keys.comparisons
+      Word (codes "UPDATE") ⋯ IsTable keys.table ⋯ Word (codes "SET")
+      ⋯ Listed (Symbol 44) (IsSet keys.table) sets ⋯ IsWhere keys.table keys.comparisons
   IsStatement (Delete keys) =
-      Word (codes "DELETE") ⋯ Word (codes "FROM") ⋯ IsTable keys.table ⋯ IsWhere keys.table keys.comparisons
+      Word (codes "DELETE") ⋯ Word (codes "FROM") ⋯ IsTable keys.table
+      ⋯ IsWhere keys.table keys.comparisons
   IsStatement (Select form keys) =
-      Word (codes "SELECT") ⋯ Symbol 42 ⋯ Word (codes "FROM") ⋯ IsTable keys.table ⋯ IsForm form ⋯ IsWhere keys.table keys.comparisons
+      Word (codes "SELECT") ⋯ Symbol 42 ⋯ Word (codes "FROM") ⋯ IsTable keys.table ⋯ IsForm form
+      ⋯ IsWhere keys.table keys.comparisons
 
   -- a line up to its end
   abbrev pub IsLine : Written → List ℕ → Type 0
   IsLine (Clock instant) bytes =
       (Word (codes "CLOCK") ⋯ Symbol 58 ⋯ IsInstant instant ⋯ Blanks) bytes []
   IsLine (Session session statement) bytes =
-      ((Blanks ⋯ Digits (2 ^ 63 - 1) session) ⋯ Symbol 58 ⋯ IsStatement statement ⋯ (Empty ∣ Symbol 59) ⋯ Blanks) bytes []
+      ((Blanks ⋯ Digits (2 ^ 63 - 1) session) ⋯ Symbol 58 ⋯ IsStatement statement
+      ⋯ (Empty ∣ Symbol 59) ⋯ Blanks) bytes []
 
 -- a blank line, or a comment
 abbrev pub IsNothing : List ℕ → Type 0

@@ -44,7 +44,8 @@ module _ (schema : Schema) where
   abbrev pub OnlyLinesAreRead : Type 0
   OnlyLinesAreRead =
       (reading : ℕ) (bytes : List ℕ)
-      → IsNothing bytes ⊎ (((written : Written) × IsLine schema written bytes) ⊎ IsRefused reading bytes)
+      → IsNothing bytes
+      ⊎ (((written : Written) × IsLine schema written bytes) ⊎ IsRefused reading bytes)
 
 -- at the byte a token begins, or the bytes end
 pub record TokenAt (bytes : List ℕ) (byte : ℕ) : Type 0 where

@@ -17,7 +17,8 @@ use Rattle.statement.specs.Meaning.{step_of}
 -- the bytes without the last, where that is this one
 abbrev pub without_last : ℕ → List ℕ → List ℕ
 without_last byte bytes =
-    if nat_lt 0 (length bytes) && (slice_index bytes (length bytes - 1) == byte) then take (length bytes - 1) bytes else bytes
+    if nat_lt 0 (length bytes) && (slice_index bytes (length bytes - 1) == byte)
+    then take (length bytes - 1) bytes else bytes
 
 -- what stands before the line feed, where there is one
 abbrev pub before_feed : List ℕ → List ℕ
@@ -71,9 +72,13 @@ module _ (schema : Schema) where
   unfoldable pub body_says : ℕ → List ℕ → Result Line Refusal
   body_says reading bytes =
       if is_nothing (next bytes) then Ok Nothing
-      else elim (written_at bytes) [ Err at ↦ Err (Syntax (length bytes - length at)) | Ok x ↦ meaning_of reading x.0 ]
+      else elim (written_at bytes) [
+        | Err at ↦ Err (Syntax (length bytes - length at))
+        | Ok x ↦ meaning_of reading x.0
+      ]
 
   -- what a line of a text says, which ends with its line feed or, as a last line may, without one
   unfoldable pub line_says : ℕ → List ℕ → Result Line Refusal
   line_says reading line =
-      if nat_lt longest_line (length (before_feed line)) then Err LineTooLong else body_says reading (body_of line)
+      if nat_lt longest_line (length (before_feed line)) then Err LineTooLong
+      else body_says reading (body_of line)

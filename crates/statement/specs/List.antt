@@ -18,7 +18,10 @@ abbrev pub more_at : {A : Type 0} → (List ℕ → After) → (List ℕ → Rea
 more_at separator item [] front bytes = Ok (front, bytes)
 more_at separator item (_ ∷ turns) front bytes = elim (separator bytes) [
   | Err at ↦ Ok (front, bytes)
-  | Ok rest ↦ elim (item rest) [ Err at ↦ Err at | Ok x ↦ more_at separator item turns (front ++ x.0 ∷ []) x.1 ]
+  | Ok rest ↦ elim (item rest) [
+    | Err at ↦ Err at
+    | Ok x ↦ more_at separator item turns (front ++ x.0 ∷ []) x.1
+  ]
 ]
 
 -- one item or more, with a separator between any two

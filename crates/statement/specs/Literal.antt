@@ -24,7 +24,8 @@ value_within most digits =
 unfoldable pub digits_here : ℕ → List ℕ → Option (ℕ × List ℕ)
 digits_here most bytes =
     if digit_count bytes == 0 then None
-    else option_map (λ number. (number, drop (digit_count bytes) bytes)) (value_within most (take (digit_count bytes) bytes))
+    else option_map (λ number. (number, drop (digit_count bytes) bytes))
+        (value_within most (take (digit_count bytes) bytes))
 
 unfoldable pub digits_at : ℕ → List ℕ → Read ℕ
 digits_at most bytes =
@@ -44,7 +45,10 @@ below_nought bytes = option_map (λ x. (neg_ℤ (pos x.0), x.1)) (digits_here (2
 unfoldable pub number_at : List ℕ → Read ℤ
 number_at bytes =
     let at = next bytes in
-    elim (if begins_with 45 at then below_nought (drop 1 at) else above_nought at) [ None ↦ Err at | Some x ↦ Ok x ]
+    elim (if begins_with 45 at then below_nought (drop 1 at) else above_nought at) [
+      | None ↦ Err at
+      | Some x ↦ Ok x
+    ]
 
 -- the text, which goes on behind what stands in front, up to the quote that closes it, and the
 -- bytes after that;

@@ -56,7 +56,8 @@ row_in table row = elim (row_fault table row) [ Some column ↦ Err (BadRow colu
 unfoldable pub fitting_row : Table → Option (List ℕ) → Row → Result Row Refusal
 fitting_row table None row = row_in table row
 fitting_row table (Some columns) row =
-    if length columns == length row then row_in table (row_values table columns row) else Err (BadRow 0)
+    if length columns == length row then row_in table (row_values table columns row)
+    else Err (BadRow 0)
 
 -- the same of rows in turn, behind those in front
 abbrev pub fitting_rows : Table → Option (List ℕ) → List Row → List Row → Result (List Row) Refusal
@@ -95,4 +96,5 @@ module _ (schema : Schema) where
   -- sessions are numbered from 1 to 64
   unfoldable pub step_of : ℕ → ℕ → Statement → Result Step Refusal
   step_of reading session statement =
-      if (session == 0) || nat_lt max_session session then Err NoSession else session_step reading session statement
+      if (session == 0) || nat_lt max_session session then Err NoSession
+      else session_step reading session statement

@@ -1,9 +1,53 @@
--- Where memory runs out.
-use Rattle.std.specs.Prelude.{◌≡◌, Result, Err}
+-- Where memory can run out, and which lines take none to be read.
+use Rattle.std.specs.Prelude.{◌≡◌, ℕ, ◌^◌, ◌-◌, ◌||◌, List, Bool, true, false, Result, Ok, Err, IsTrue, IfErr, codes}
+use Rattle.std.specs.Result.{is_ok}
+use Rattle.std.specs.Borrow.{Bor}
 use Rattle.values.specs.declared.refusal.Refusal.{Refusal}
 use Rattle.values.specs.declared.refusal.Refusal.TheVariants.{Memory}
+use Rattle.tokens.specs.declared.token.Stop.{Stop}
+use Rattle.tokens.specs.declared.token.Stop.TheVariants.{At, Memory as OutOfMemory}
+use Rattle.statement.specs.declared.statement.Statement.{Statement}
+use Rattle.statement.specs.declared.statement.Statement.TheVariants.{Insert}
+use Rattle.statement.specs.declared.line.Written.{Written}
+use Rattle.statement.specs.declared.line.Written.TheVariants.{Clock, Session}
+use Rattle.statement.specs.Token.{symbol_at, word_at}
+use Rattle.statement.specs.Literal.{digits_at}
+use Rattle.statement.specs.Line.{body_of}
 
 -- the answer, unless memory ran out
 abbrev pub UnlessMemory : {A : Type 0} → Result A Refusal → Result A Refusal → Type 0
 UnlessMemory (Err Memory) answer = Unit {0}
 UnlessMemory result answer = answer ≡ result
+
+-- the bytes go on with a word that begins a statement on rows
+abbrev pub is_on_rows : List ℕ → Bool
+is_on_rows bytes =
+    is_ok (word_at (codes "INSERT") bytes)
+    || (is_ok (word_at (codes "UPDATE") bytes)
+    || (is_ok (word_at (codes "DELETE") bytes) || is_ok (word_at (codes "SELECT") bytes)))
+
+-- a session's statement on rows
+abbrev pub asks_for_rows : List ℕ → Bool
+asks_for_rows bytes = elim (digits_at (2 ^ 63 - 1) bytes) [
+  | Err _ ↦ false
+  | Ok session ↦ elim (symbol_at 58 session.1) [ Err _ ↦ false | Ok rest ↦ is_on_rows rest ]
+]
+
+-- reading the line takes memory: only what is said of rows does
+abbrev pub takes_memory : List ℕ → Bool
+takes_memory line = asks_for_rows (body_of line)
+
+-- the rows of an INSERT are put in the table's order, which takes memory once more
+abbrev pub is_insert : Statement → Bool
+is_insert (Insert _ _ _) = true
+is_insert _ = false
+
+abbrev pub inserts : Written → Bool
+inserts (Clock _) = false
+inserts (Session _ statement) = is_insert statement
+
+-- memory ran out, or can still run out over what was read
+abbrev pub can_run_out : {A : Type 0} → (A → Bool) → Result (A × Bor (List ℕ)) Stop → Bool
+can_run_out more (Ok x) = more x.0
+can_run_out more (Err (At _)) = false
+can_run_out more (Err OutOfMemory) = true

@@ -54,7 +54,8 @@ row_line row = line (values_text row)
 
 abbrev pub shown_line : Shown → List ℕ
 shown_line s =
-    values_text s.row ++ (codes " from " ++ (decimal s.from ++ (codes " to " ++ line (end_text s.to))))
+    values_text s.row
+    ++ (codes " from " ++ (decimal s.from ++ (codes " to " ++ line (end_text s.to))))
 
 -- how many rows, and a line for each
 abbrev pub listing_text : Listing → List ℕ

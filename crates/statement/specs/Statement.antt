@@ -83,7 +83,10 @@ module _ (schema : Schema) where
       | Ok rest ↦ update_at rest
       | Err _ ↦ elim (word_at (codes "DELETE") bytes) [
         | Ok rest ↦ delete_at rest
-        | Err _ ↦ elim (word_at (codes "SELECT") bytes) [ Ok rest ↦ select_at rest | Err at ↦ Err at ]
+        | Err _ ↦ elim (word_at (codes "SELECT") bytes) [
+          | Ok rest ↦ select_at rest
+          | Err at ↦ Err at
+        ]
       ]
     ]
   ]

@@ -1,6 +1,6 @@
-ghost use Rattle.std.specs.Prelude.{◌≡◌};
+ghost use Rattle.std.specs.Prelude.{◌≡◌, IsTrue, IfOk, true, false, Err};
 ghost use Rattle.tokens.specs.Token.{Makes, Gives};
-ghost use Rattle.statement.specs.Memory.{UnlessMemory};
+ghost use Rattle.statement.specs.Memory.{UnlessMemory, can_run_out, inserts, asks_for_rows, takes_memory};
 ghost use Rattle.statement.specs.Line.{without_last, before_feed, body_of, is_nothing, begins_digit, clock_at, session_at, written_at, meaning_of, body_says, line_says};
 
 use crate::literal::digits_at;
@@ -87,7 +87,8 @@ fn begins_digit(at: &[u8]) -> bool
 
 #[tactic(auto, unfolding(crate::specs::Line::clock_at))]
 fn clock_at(bytes: &[u8]) -> Read<'_, Written>
-    ensures { Gives result (clock_at bytes.now) }
+    ensures gives { Gives result (clock_at bytes.now) }
+    ensures sets { IfOk result (λ x. inserts x.0 ≡ false) }
 {
     let rest = word_at::<Blanks>(b"CLOCK", bytes)?;
     let rest = symbol_at::<Blanks>(b':', rest)?;
@@ -98,7 +99,8 @@ fn clock_at(bytes: &[u8]) -> Read<'_, Written>
 
 #[tactic(auto, unfolding(crate::specs::Line::session_at))]
 fn session_at<'a>(alloc: Global, schema: &Schema, bytes: &'a [u8]) -> Made<'a, Written>
-    ensures { Makes result (session_at schema.now bytes.now) }
+    ensures makes { Makes result (session_at schema.now bytes.now) }
+    ensures memory { IsTrue (can_run_out inserts result) → asks_for_rows bytes.now ≡ true }
 {
     let (session, rest) = digits_at(SESSION, bytes)?;
     let rest = symbol_at::<Blanks>(b':', rest)?;
@@ -109,7 +111,8 @@ fn session_at<'a>(alloc: Global, schema: &Schema, bytes: &'a [u8]) -> Made<'a, W
 
 #[tactic(auto, unfolding(crate::specs::Line::written_at))]
 fn written_at<'a>(alloc: Global, schema: &Schema, bytes: &'a [u8]) -> Made<'a, Written>
-    ensures { Makes result (written_at schema.now bytes.now) }
+    ensures makes { Makes result (written_at schema.now bytes.now) }
+    ensures memory { IsTrue (can_run_out inserts result) → asks_for_rows bytes.now ≡ true }
 {
     if begins_digit(Blanks::next(bytes)) {
         session_at(alloc, schema, bytes)
@@ -125,7 +128,8 @@ fn meaning_of(
     reading: Instant,
     written: Written,
 ) -> Result<Line, Refusal>
-    ensures { UnlessMemory result (meaning_of schema.now reading written) }
+    ensures unless { UnlessMemory result (meaning_of schema.now reading written) }
+    ensures memory { result ≡ Err Refusal.Memory → inserts written ≡ true }
 {
     match written {
         Written::Clock(instant) => Ok(Line::Clock(instant)),
@@ -145,7 +149,8 @@ fn body_says(
     schema: &Schema,
     reading: Instant,
 ) -> Result<Line, Refusal>
-    ensures { UnlessMemory result (body_says schema.now reading bytes.now) }
+    ensures unless { UnlessMemory result (body_says schema.now reading bytes.now) }
+    ensures memory { result ≡ Err Refusal.Memory → asks_for_rows bytes.now ≡ true }
 {
     if is_nothing(Blanks::next(bytes)) {
         return Ok(Line::Nothing);
@@ -167,7 +172,8 @@ pub fn read_line(
     schema: &Schema,
     reading: Instant,
 ) -> Result<Line, Refusal>
-    ensures { UnlessMemory result (line_says schema.now reading line.now) }
+    ensures unless { UnlessMemory result (line_says schema.now reading line.now) }
+    ensures memory { result ≡ Err Refusal.Memory → takes_memory line.now ≡ true }
 {
     if before_feed(line).len() > LINE {
         return Err(Refusal::LineTooLong);

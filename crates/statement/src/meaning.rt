@@ -1,7 +1,7 @@
-ghost use Rattle.std.specs.Prelude.{◌≡◌, ◌==◌, ◌≤◌, length, IfOk, []};
+ghost use Rattle.std.specs.Prelude.{◌≡◌, ◌==◌, ◌≤◌, length, IfOk, [], Err, true};
 ghost use Rattle.std.specs.List.{list_any};
 ghost use Rattle.statement.specs.Meaning.{is_column_list, is_good_list, place_of, value_of, row_values, row_in, fitting_row, fitting_rows, fitting_step, insert_step, session_step, step_of};
-ghost use Rattle.statement.specs.Memory.{UnlessMemory};
+ghost use Rattle.statement.specs.Memory.{UnlessMemory, is_insert};
 
 use crate::literal::WrittenRows;
 use crate::statement::{Columns, Statement};
@@ -195,7 +195,8 @@ fn session_step(
     session: u8,
     statement: Statement,
 ) -> Mem<Step>
-    ensures { UnlessMemory result (session_step schema.now reading session statement) }
+    ensures unless { UnlessMemory result (session_step schema.now reading session statement) }
+    ensures memory { result ≡ Err Refusal.Memory → is_insert statement ≡ true }
 {
     match statement {
         Statement::Insert(table, columns, rows) => {
@@ -219,7 +220,8 @@ pub fn step_of(
     session: u64,
     statement: Statement,
 ) -> Mem<Step>
-    ensures { UnlessMemory result (step_of schema.now reading session statement) }
+    ensures unless { UnlessMemory result (step_of schema.now reading session statement) }
+    ensures memory { result ≡ Err Refusal.Memory → is_insert statement ≡ true }
 {
     if session == 0 || session > SESSIONS {
         return Err(Refusal::NoSession);

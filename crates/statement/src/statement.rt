@@ -1,5 +1,6 @@
-ghost use Rattle.std.specs.Prelude.{◌≡◌};
+ghost use Rattle.std.specs.Prelude.{◌≡◌, IsTrue, IfOk, true, false};
 ghost use Rattle.tokens.specs.Token.{Gives, Makes};
+ghost use Rattle.statement.specs.Memory.{can_run_out, is_insert, is_on_rows};
 ghost use Rattle.statement.specs.Statement.{instant_at, as_of_at, form_at, start_at, listed_at, insert_at, update_at, delete_at, select_at, data_at, statement_at};
 
 use crate::condition::{columns_at, keys_at, sets_at, table_name_at};
@@ -117,18 +118,11 @@ fn select_at<'a>(alloc: Global, schema: &Schema, bytes: &'a [u8]) -> Made<'a, St
     Ok((Statement::Select(form, keys), rest))
 }
 
-#[tactic(auto, unfolding(crate::specs::Statement::start_at))]
-fn start_at(bytes: &[u8]) -> Read<'_, Statement>
-    ensures { Gives result (start_at bytes.now) }
-{
-    let rest = word_at::<Blanks>(b"TRANSACTION", bytes)?;
-    Ok((Statement::Begin, rest))
-}
-
 /// A statement on rows, by its first word.
 #[tactic(auto, unfolding(crate::specs::Statement::data_at))]
 fn data_at<'a>(alloc: Global, schema: &Schema, bytes: &'a [u8]) -> Made<'a, Statement>
-    ensures { Makes result (data_at schema.now bytes.now) }
+    ensures makes { Makes result (data_at schema.now bytes.now) }
+    ensures memory { IsTrue (can_run_out is_insert result) → is_on_rows bytes.now ≡ true }
 {
     if let Ok(rest) = word_at::<Blanks>(b"INSERT", bytes) {
         return insert_at(alloc, schema, rest);
@@ -143,10 +137,21 @@ fn data_at<'a>(alloc: Global, schema: &Schema, bytes: &'a [u8]) -> Made<'a, Stat
     select_at(alloc, schema, rest)
 }
 
+/// The second word of START TRANSACTION.
+#[tactic(auto, unfolding(crate::specs::Statement::start_at))]
+fn start_at(bytes: &[u8]) -> Read<'_, Statement>
+    ensures gives { Gives result (start_at bytes.now) }
+    ensures begins { IfOk result (λ x. is_insert x.0 ≡ false) }
+{
+    let rest = word_at::<Blanks>(b"TRANSACTION", bytes)?;
+    Ok((Statement::Begin, rest))
+}
+
 /// Any statement, by its first word.
 #[tactic(auto, unfolding(crate::specs::Statement::statement_at))]
 pub fn statement_at<'a>(alloc: Global, schema: &Schema, bytes: &'a [u8]) -> Made<'a, Statement>
-    ensures { Makes result (statement_at schema.now bytes.now) }
+    ensures makes { Makes result (statement_at schema.now bytes.now) }
+    ensures memory { IsTrue (can_run_out is_insert result) → is_on_rows bytes.now ≡ true }
 {
     if let Ok(rest) = word_at::<Blanks>(b"BEGIN", bytes) {
         return Ok((Statement::Begin, rest));

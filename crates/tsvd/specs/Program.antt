@@ -32,7 +32,8 @@ HasReadFault (Some file) schema unread left old new =
 
 -- a script was run up to a fault of the writer
 abbrev pub HasWriteFault : Option Text → Schema → (unread left old new : Option (List ℕ)) → Type 0
-HasWriteFault None schema unread left old new = IsStopped schema (line_says schema) unread left old new
+HasWriteFault None schema unread left old new =
+    IsStopped schema (line_says schema) unread left old new
 HasWriteFault (Some file) schema unread left old new =
     Keeps unread left × IsStopped schema (line_says schema) None None old new
 

@@ -7,7 +7,9 @@ use Rattle.tsvd.specs.declared.words.WordsFault.TheVariants.{Clap, Words as Othe
 
 -- the command with no option yet; the program's name is not among its words
 abbrev pub bare : App
-bare = record (new_app (codes "tsvd")) { top = record (new_app (codes "tsvd")).top { no_binary_name = true } }
+bare = record (new_app (codes "tsvd")) {
+  top = record (new_app (codes "tsvd")).top { no_binary_name = true };
+}
 
 -- an option that takes the text that follows it
 abbrev pub option : Text → Rule

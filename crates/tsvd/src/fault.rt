@@ -35,9 +35,10 @@ pub enum Fault {
     Memory,
 }
 
-/// Words that memory did not suffice for are no fault of theirs.
+/// Words for which memory ran out are not refused for a fault of theirs.
 pub fn words_fault(fault: WordsFault) -> Fault
-    ensures { (words : List Text) → Refuses words fault → is_of_words result ≡ true → faults words ≢ [] }
+    ensures { (words : List Text) → Refuses words fault
+        → is_of_words result ≡ true → faults words ≢ [] }
 {
     match fault {
         WordsFault::Memory => Fault::Memory,

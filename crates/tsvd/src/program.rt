@@ -18,8 +18,9 @@ use std::rt::Files;
 /// All was done. Refused lines are replies, and no faults.
 pub const DONE: u8 = 0;
 
-/// Runs the program: reads a script over a schema, each from standard input or from a file as the words ask for, and writes its transcript. The answer is
-/// the status: 0 done, 1 a fault, 2 words that are refused, each but the first told on standard error.
+/// Runs the program: reads a script over a schema, each from standard input or from a file as the
+/// words ask for, and writes its transcript. The answer is the status: 0 done, 1 a fault, 2 words
+/// that are refused; a fault is reported on standard error.
 pub fn program<R: AllocGlobal + Files, S: AsStr, I: Read, O: Write, E: Write>(
     rt: &R,
     words: &[S],
@@ -27,9 +28,15 @@ pub fn program<R: AllocGlobal + Files, S: AsStr, I: Read, O: Write, E: Write>(
     out: &mut O,
     err: &mut E,
 ) -> u8
-    ensures done { result ≡ DONE → IsDone (map S.text words.now) (I.remaining reader.old) (I.remaining reader.new) (O.contents out.old) (O.contents out.new) }
-    ensures words { result ≡ WORDS → IsRefused (map S.text words.now) (I.remaining reader.old) (I.remaining reader.new) (O.contents out.old) (O.contents out.new) }
-    ensures fault { result ≡ FAULT → IsFaulty (map S.text words.now) (I.remaining reader.old) (I.remaining reader.new) (O.contents out.old) (O.contents out.new) }
+    ensures done { result ≡ DONE → IsDone (map S.text words.now)
+        (I.remaining reader.old) (I.remaining reader.new)
+        (O.contents out.old) (O.contents out.new) }
+    ensures words { result ≡ WORDS → IsRefused (map S.text words.now)
+        (I.remaining reader.old) (I.remaining reader.new)
+        (O.contents out.old) (O.contents out.new) }
+    ensures fault { result ≡ FAULT → IsFaulty (map S.text words.now)
+        (I.remaining reader.old) (I.remaining reader.new)
+        (O.contents out.old) (O.contents out.new) }
     ensures status { result ≤ WORDS }
 {
     match run(rt, words, reader, out) {
@@ -45,9 +52,17 @@ fn run<R: AllocGlobal + Files, S: AsStr, I: Read, O: Write>(
     reader: &mut I,
     out: &mut O,
 ) -> Result<(), Fault>
-    ensures done { OnOk result (IsDone (map S.text words.now) (I.remaining reader.old) (I.remaining reader.new) (O.contents out.old) (O.contents out.new)) }
-    ensures words { IfErr result (λ fault. is_of_words fault ≡ true → IsRefused (map S.text words.now) (I.remaining reader.old) (I.remaining reader.new) (O.contents out.old) (O.contents out.new)) }
-    ensures fault { IfErr result (λ fault. is_of_words fault ≡ false → IsFaulty (map S.text words.now) (I.remaining reader.old) (I.remaining reader.new) (O.contents out.old) (O.contents out.new)) }
+    ensures done { OnOk result (IsDone (map S.text words.now)
+        (I.remaining reader.old) (I.remaining reader.new)
+        (O.contents out.old) (O.contents out.new)) }
+    ensures words { IfErr result (λ fault. is_of_words fault ≡ true
+        → IsRefused (map S.text words.now)
+        (I.remaining reader.old) (I.remaining reader.new)
+        (O.contents out.old) (O.contents out.new)) }
+    ensures fault { IfErr result (λ fault. is_of_words fault ≡ false
+        → IsFaulty (map S.text words.now)
+        (I.remaining reader.old) (I.remaining reader.new)
+        (O.contents out.old) (O.contents out.new)) }
 {
     let options = match words::words(rt.alloc(), words) {
         Ok(options) => options,
@@ -66,10 +81,12 @@ fn run_script_of<R: AllocGlobal + Files, I: Read, O: Write>(
     schema: Schema,
 ) -> Result<(), Fault>
     ensures done { OnOk result (HasRun (option_map (λ text. text.now) file.entry) schema
-        (I.remaining reader.old) (I.remaining reader.new) (O.contents out.old) (O.contents out.new)) }
+        (I.remaining reader.old) (I.remaining reader.new)
+        (O.contents out.old) (O.contents out.new)) }
     ensures fault { IfErr result (λ fault. Leaves fault
         (option_map (λ text. text.now) file.entry) schema
-        (I.remaining reader.old) (I.remaining reader.new) (O.contents out.old) (O.contents out.new)) }
+        (I.remaining reader.old) (I.remaining reader.new)
+        (O.contents out.old) (O.contents out.new)) }
     ensures other { IfErr result (λ fault. is_of_words fault ≡ false) }
 {
     match file {

@@ -16,7 +16,8 @@ const READ: u64 = 65_537;
 
 /// The schema of a file, or the sample where no file is named.
 pub fn schema_of<R: AllocGlobal + Files>(rt: &R, file: Option<&str>) -> Result<Schema, Fault>
-    ensures ok { IfOk result (λ schema. IsSchemaOf (option_map (λ text. text.now) file.entry) schema) }
+    ensures ok { IfOk result (λ schema.
+        IsSchemaOf (option_map (λ text. text.now) file.entry) schema) }
     ensures err { IfErr result (λ fault. is_of_words fault ≡ false) }
 {
     match file {

@@ -71,9 +71,11 @@ fn tsvd<'a>(alloc: Global) -> Result<Command<'a>, AllocError>
         .arg(option(alloc, "script", "Reads the script from this file"))
 }
 
-fn given<'a>(matches: &ArgMatches<'a>) -> Options<'a>
-    ensures schema { option_map (λ text. text.now) result.schema ≡ first_value (found_of matches.now) (codes "schema") }
-    ensures script { option_map (λ text. text.now) result.script ≡ first_value (found_of matches.now) (codes "script") }
+fn options_of<'a>(matches: &ArgMatches<'a>) -> Options<'a>
+    ensures schema { option_map (λ text. text.now) result.schema
+        ≡ first_value (found_of matches.now) (codes "schema") }
+    ensures script { option_map (λ text. text.now) result.script
+        ≡ first_value (found_of matches.now) (codes "script") }
 {
     Options {
         schema: matches.get_str("schema"),
@@ -101,7 +103,7 @@ pub fn words<'a, S: AsStr>(alloc: Global, words: &'a [S]) -> Result<Options<'a>,
         return Err(WordsFault::Memory);
     };
     match command.try_get_matches_from(words) {
-        Ok(matches) => Ok(given(&matches)),
+        Ok(matches) => Ok(options_of(&matches)),
         Err(error) => Err(refused(error)),
     }
 }

@@ -15,8 +15,8 @@ returns-in-Ok-try_get_matches_from-clause-ok g c =
     let rows = (parse.ensures.matches (ap is_simple is_command ∙ command_is_simple)).0 ∙ ap (λ (a : App). matches_of a texts) is_command in
     record {
       taken = sym (ap (λ (a : App). fault_of a texts) is_command) ∙ taken;
-      schema = c.given.ensures.schema ∙ (first_value-rows (found_of parse.matches) (codes "schema") ∙ ap (first_of (codes "schema")) rows);
-      script = c.given.ensures.script ∙ (first_value-rows (found_of parse.matches) (codes "script") ∙ ap (first_of (codes "script")) rows);
+      schema = c.options_of.ensures.schema ∙ (first_value-rows (found_of parse.matches) (codes "schema") ∙ ap (first_of (codes "schema")) rows);
+      script = c.options_of.ensures.script ∙ (first_value-rows (found_of parse.matches) (codes "script") ∙ ap (first_of (codes "script")) rows);
     }
 
 pub returns-in-Err-clause-err : goal.returns-in-Err-clause-err
