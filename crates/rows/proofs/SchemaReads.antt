@@ -19,13 +19,13 @@ use Rattle.rows.proofs.SchemaWhole.{text_read}
 use Rattle.rows.proofs.SchemaStops.{creates_stop}
 use Rattle.rows.proofs.SchemaGood.{good_tables, exact_tables}
 
-short : (n : ℕ) → n ≤ 65536 → nat_lt 65536 n ≡ false
+pub short : (n : ℕ) → n ≤ 65536 → nat_lt 65536 n ≡ false
 short n h = grind (arith, nat_tests)
 
 long : (n : ℕ) → 65536 < n → nat_lt 65536 n ≡ true
 long n h = grind (arith, nat_tests)
 
-abbrev read_as : List ℕ → Read (List Declaration) → Result Schema SchemaFault
+abbrev pub read_as : List ℕ → Read (List Declaration) → Result Schema SchemaFault
 read_as text r = elim r [ Err at ↦ Err (Syntax (length text - length at)) | Ok declarations ↦ tables_from [] declarations.0 ]
 
 pub read : TheGrammarIsRead
@@ -40,7 +40,7 @@ pub one_thing : TextsSayOneThing
 one_thing text these those e f = ap (those_of these) (sym (text_read these text e).1 ∙ (text_read those text f).1)
 
 -- declarations that make no schema have a bad table, and no fault of syntax
-no_syntax : (ds : List Declaration) (tables : List Table) (at : ℕ) → tables_from tables ds ≡ Err (Syntax at) → ⊥
+pub no_syntax : (ds : List Declaration) (tables : List Table) (at : ℕ) → tables_from tables ds ≡ Err (Syntax at) → ⊥
 no_syntax [] tables at e = cc
 no_syntax (d ∷ ds) tables at e = by_table (next_table tables d) e (λ t f. no_syntax ds (tables ++ t ∷ []) at f)
   where

@@ -495,7 +495,7 @@ create_says d bytes rest e =
       ),
     )
 
-end_says : (bytes : List ℕ) → is_end_at bytes ≡ true → IsEnd bytes
+pub end_says : (bytes : List ℕ) → is_end_at bytes ≡ true → IsEnd bytes
 unfolding is_end_at
 end_says bytes e = next_is bytes [] (nothing (next bytes) e)
   where

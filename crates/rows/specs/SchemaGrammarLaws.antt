@@ -68,3 +68,10 @@ abbrev pub FaultsAreAtTokens : Type 0
 FaultsAreAtTokens =
     (text : List ℕ) (n : ℕ) → length text ≤ longest_text → read_schema text ≡ Err (Syntax n)
     → TokenAt text n
+
+-- in a text that is short enough the bytes before a fault of syntax can go on to a text of the grammar
+abbrev pub FrontsGoOn : Type 0
+FrontsGoOn =
+    (before rest : List ℕ) → length (before ++ rest) ≤ longest_text
+    → read_schema (before ++ rest) ≡ Err (Syntax (length before))
+    → (more : List ℕ) × ((declarations : List Declaration) × SchemaText declarations (before ++ more))

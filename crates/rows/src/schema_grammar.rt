@@ -1,5 +1,5 @@
 //! Laws of the grammar of schemas, which knows nothing of reading.
-ghost use Rattle.rows.specs.SchemaGrammarLaws.{WhatIsReadIsOfTheGrammar, TokensAreRead, TheGrammarIsRead, TextsSayOneThing, OnlyTheGrammarIsRead, FaultsAreAtTokens};
+ghost use Rattle.rows.specs.SchemaGrammarLaws.{WhatIsReadIsOfTheGrammar, TokensAreRead, TheGrammarIsRead, TextsSayOneThing, OnlyTheGrammarIsRead, FaultsAreAtTokens, FrontsGoOn};
 
 /// Where the reading of a schema finds no fault of syntax, the text is of the grammar.
 pub fn schemas_are_of_the_grammar()
@@ -8,10 +8,12 @@ pub fn schemas_are_of_the_grammar()
 {}
 
 /// Every text of the grammar of at most 65,536 bytes is read, as the one thing that it says; a fault of syntax is found
-/// in all others and in no such text, and is told where a token begins or the text ends.
+/// in all others and in no such text. It is reported where a token begins or the text ends, and the bytes before it can
+/// go on to a text of the grammar.
 pub fn the_grammar_is_read()
     ensures read { TheGrammarIsRead }
     ensures one_thing { TextsSayOneThing }
     ensures only { OnlyTheGrammarIsRead }
     ensures at_tokens { FaultsAreAtTokens }
+    ensures goes_on { FrontsGoOn }
 {}

@@ -20,8 +20,10 @@ use Rattle.statement.specs.GoingOn.{FrontsGoOn}
 use Rattle.statement.proofs.Gaps.{blanks_before}
 use Rattle.statement.proofs.Meanings.{never_syntax}
 use Rattle.statement.proofs.SoundLines.{semicolon_sound}
-use Rattle.statement.proofs.Moves.{Moved, Moves, both_move, either_moves, empty_moves, blanks_move, word_moves, symbol_moves, digits_move, instant_moves, statement_moves}
-use Rattle.statement.proofs.Going.{Usual, Goes, Reads, ReadsAfter, Then, Next, Last, usual_of, usual_then, usual_next, usual_last, reads_then, reads_weaker, reads_past, after_then, reads_last, nothing}
+use Rattle.tokens.proofs.Follows.{Moved, Moves}
+use Rattle.statement.proofs.Moves.{both_move, either_moves, empty_moves, blanks_move, word_moves, symbol_moves, digits_move, instant_moves, statement_moves}
+use Rattle.tokens.proofs.Going.{Usual, Goes, Reads, ReadsAfter, Then, Next, Last, usual_then, usual_next, usual_last, reads_then, reads_weaker, reads_past, after_then, reads_last, nothing}
+use Rattle.statement.proofs.Going.{usual_of}
 use Rattle.statement.proofs.GoingTokens.{symbol_usual, symbol_reads, word_usual, word_reads, digits_usual, digits_reads, instant_usual, instant_reads}
 use Rattle.statement.proofs.GoingStatements.{statement_usual, statement_reads}
 

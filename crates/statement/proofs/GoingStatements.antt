@@ -18,8 +18,10 @@ use Rattle.statement.specs.Condition.{table_name_at, column_name_at, operator_at
 use Rattle.statement.specs.Statement.{instant_at, as_of_at, form_at, start_at, listed_at, insert_at, update_at, delete_at, select_at, data_at, statement_at}
 use Rattle.statement.specs.Grammar.{Piece, ◌⋯◌, ◌∣◌, Empty, Symbol, Word, Literal, Listed, IsRow, IsOperator, IsInstant, IsForm, IsTable, IsColumn, IsSet, IsComparison, IsColumnList, IsWhere, IsStatement}
 use Rattle.statement.proofs.SoundLines.{work_sound, where_of, table_at_keys}
-use Rattle.statement.proofs.Moves.{Moves, both_move, empty_moves, word_moves, symbol_moves, literal_moves, operator_moves, list_moves, enclosed_moves, form_moves, table_moves, column_moves, set_moves, comparison_moves, column_list_moves}
-use Rattle.statement.proofs.Going.{Usual, Goes, Reads, Then, Next, By, Last, usual_of, usual_then, usual_next, usual_weaker, usual_by, usual_last, reads_then, reads_weaker, reads_either, reads_whether, after_then, after_read, reads_by, reads_last, nothing}
+use Rattle.tokens.proofs.Follows.{Moves}
+use Rattle.statement.proofs.Moves.{both_move, empty_moves, word_moves, symbol_moves, literal_moves, operator_moves, list_moves, enclosed_moves, form_moves, table_moves, column_moves, set_moves, comparison_moves, column_list_moves}
+use Rattle.tokens.proofs.Going.{Usual, Goes, Reads, Then, Next, By, Last, usual_then, usual_next, usual_weaker, usual_by, usual_last, reads_then, reads_weaker, reads_either, reads_whether, after_then, after_read, reads_by, reads_last, nothing}
+use Rattle.statement.proofs.Going.{usual_of}
 use Rattle.statement.proofs.GoingTokens.{symbol_usual, symbol_reads, word_usual, word_reads, table_usual, table_reads, column_usual, column_reads, instant_usual, instant_reads, literal_usual, literal_reads, operator_usual, operator_reads}
 use Rattle.statement.proofs.GoingLists.{list_reads, list_usual, enclosed_reads, enclosed_usual, rows_reads, rows_usual}
 

@@ -17,7 +17,7 @@ use Rattle.tokens.specs.Token.{symbol_at as symbol_after}
 use Rattle.tokens.specs.Run.{AllBytes}
 use Rattle.tokens.specs.Word.{is_name_byte}
 use Rattle.tokens.specs.Word.{is_word_at as is_word_after, after_word as rest_of_word, word_at as word_after}
-use Rattle.tokens.specs.Name.{reserved, is_reserved, is_name}
+use Rattle.tokens.specs.Name.{reserved_words, is_reserved, is_name}
 use Rattle.tokens.specs.Name.{name_at as name_after}
 use Rattle.statement.specs.Token.{next, symbol_at, word_at, name_at, end_at}
 use Rattle.statement.specs.Literal.{digits_here, digits_at, begins_with, above_nought, below_nought, number_at, quoted, text_of, text_at, constant_at, begins_number, literal_at}
@@ -28,8 +28,9 @@ use Rattle.statement.proofs.Gaps.{blanks_before, blanks_join}
 use Rattle.statement.proofs.Sound.{symbol_sound, word_sound, name_sound}
 use Rattle.statement.proofs.SoundLiterals.{digits_sound, literal_sound}
 use Rattle.statement.proofs.SoundLists.{operator_sound}
-use Rattle.statement.proofs.Moves.{Follows, IsClean, ends_so}
-use Rattle.statement.proofs.Going.{UsualToken, Reads, ReadsAfter, AtNext, AfterNext, token_goes, token_reads, token_reads_after, reads_map}
+use Rattle.tokens.proofs.Follows.{Follows, IsClean, ends_so}
+use Rattle.tokens.proofs.Going.{Reads, ReadsAfter, reads_map}
+use Rattle.statement.proofs.Going.{UsualToken, AtNext, AfterNext, token_goes, token_reads, token_reads_after}
 
 -- ---- symbols and words
 
@@ -69,7 +70,7 @@ word_usual word is =
     record {
       text = word;
       value = tt;
-      holds = λ bytes tail blanks clean. (word ++ tail, (blanks, (word, (record { all = all_from is_name_byte word both.0; ends = ends_so is_name_byte refl [] tail clean tt; spelled = refl }, both.1))));
+      holds = λ bytes tail blanks clean. (word ++ tail, (blanks, (word, (record { all = all_from is_name_byte word both.0; ends = ends_so is_name_byte refl refl [] tail clean tt; spelled = refl }, both.1))));
     }
 
 word_next : (word bytes : List ℕ) → AfterNext bytes (word_at word bytes)
@@ -86,14 +87,14 @@ word_reads word is bytes = token_reads_after (word_usual word is) _ (word_sound 
 -- ---- names
 
 a_name : is_name (codes "t") ≡ true
-unfolding is_name is_reserved reserved
+unfolding is_name is_reserved reserved_words
 a_name = refl
 
 pub name_usual : UsualToken Name
 name_usual = record {
   text = codes "t";
   value = codes "t";
-  holds = λ bytes tail blanks clean. (codes "t" ++ tail, (blanks, (record { all = all_from is_name_byte (codes "t") refl; ends = ends_so is_name_byte refl [] tail clean tt; spelled = refl }, a_name)));
+  holds = λ bytes tail blanks clean. (codes "t" ++ tail, (blanks, (record { all = all_from is_name_byte (codes "t") refl; ends = ends_so is_name_byte refl refl [] tail clean tt; spelled = refl }, a_name)));
 }
 
 name_next : (bytes : List ℕ) → AtNext bytes (name_at bytes)
@@ -136,7 +137,7 @@ digits_usual most some = record {
       record {
         digits = 49 ∷ [];
         some = omega arith;
-        run = record { all = (refl, tt); ends = ends_so is_ascii_digit refl [] tail clean tt; spelled = refl };
+        run = record { all = (refl, tt); ends = ends_so is_ascii_digit refl refl [] tail clean tt; spelled = refl };
         value = refl;
         within = some;
       },

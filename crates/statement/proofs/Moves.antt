@@ -21,40 +21,8 @@ use Rattle.tokens.specs.Run.{Ends, Run}
 use Rattle.tokens.specs.Word.{is_name_byte}
 use Rattle.tokens.specs.Name.{is_name}
 use Rattle.statement.specs.Condition.{table_of, column_of}
+use Rattle.tokens.proofs.Follows.{Follows, IsClean, front_follows, ends_so, Moved, Moves}
 use Rattle.statement.specs.Grammar.{Piece, ◌⋯◌, ◌∣◌, Empty, Blanks, Exactly, Symbol, Word, Name, Digits, Number, doubled, is_quote, Quoted, Literal, Listed, Enclosed, IsRow, IsOperator, IsInstant, IsForm, IsTable, IsColumn, IsSet, IsComparison, IsColumnList, IsWhere, IsStatement}
-
--- no bytes, a blank first, or the same byte first
-abbrev pub Follows : List ℕ → List ℕ → Type 0
-Follows rest [] = Unit {0}
-Follows [] (c ∷ other) = c ≡ 32
-Follows (b ∷ rest) (c ∷ other) = (c ≡ 32) ⊎ (c ≡ b)
-
--- no bytes, or a blank first
-abbrev pub IsClean : List ℕ → Type 0
-IsClean tail = Follows [] tail
-
-pub clean_follows : (rest tail : List ℕ) → IsClean tail → Follows rest tail
-clean_follows rest [] clean = tt
-clean_follows [] (c ∷ tail) clean = clean
-clean_follows (b ∷ rest) (c ∷ tail) clean = inl clean
-
-pub front_follows : (front rest other : List ℕ) → Follows rest other → Follows (front ++ rest) (front ++ other)
-front_follows [] rest other follows = follows
-front_follows (b ∷ front) rest other follows = inr refl
-
-pub ends_so : (p : ℕ → Bool) → p 32 ≡ false → (rest other : List ℕ) → Follows rest other → Ends p rest → Ends p other
-ends_so p blank rest [] follows ends = tt
-ends_so p blank [] (c ∷ other) follows ends = ap p follows ∙ blank
-ends_so p blank (b ∷ rest) (c ∷ other) (inl is) ends = ap p is ∙ blank
-ends_so p blank (b ∷ rest) (c ∷ other) (inr is) ends = ap p is ∙ ends
-
-pub record Moved (P : Piece) (bytes rest : List ℕ) : Type 0 where
-  pub taken : List ℕ
-  pub place : bytes ≡ taken ++ rest
-  pub stays : (other : List ℕ) → Follows rest other → P (taken ++ other) other
-
-abbrev pub Moves : Piece → Type 0
-Moves P = (bytes rest : List ℕ) → P bytes rest → Moved P bytes rest
 
 pub both_move : {P Q : Piece} → Moves P → Moves Q → Moves (P ⋯ Q)
 both_move {P} {Q} p q bytes rest is =
@@ -85,21 +53,21 @@ text_moves text bytes rest is = record { taken = text; place = is; stays = λ ot
 pub symbol_moves : (symbol : ℕ) → Moves (Symbol symbol)
 symbol_moves symbol = both_move blanks_move (text_moves (symbol ∷ []))
 
-run_stays : (p : ℕ → Bool) → p 32 ≡ false → (run bytes rest other : List ℕ) → Run p run bytes rest → Follows rest other → Run p run (run ++ other) other
-run_stays p blank run bytes rest other r follows = record { all = r.all; ends = ends_so p blank rest other follows r.ends; spelled = refl }
+run_stays : (p : ℕ → Bool) → p 32 ≡ false → p 10 ≡ false → (run bytes rest other : List ℕ) → Run p run bytes rest → Follows rest other → Run p run (run ++ other) other
+run_stays p space feed run bytes rest other r follows = record { all = r.all; ends = ends_so p space feed rest other follows r.ends; spelled = refl }
 
 pub word_moves : (word : List ℕ) → Moves (Word word)
 word_moves word = both_move blanks_move (λ bytes rest is. record {
   taken = is.0;
   place = is.1.0.spelled;
-  stays = λ other follows. (is.0, (run_stays is_name_byte refl is.0 bytes rest other is.1.0 follows, is.1.1));
+  stays = λ other follows. (is.0, (run_stays is_name_byte refl refl is.0 bytes rest other is.1.0 follows, is.1.1));
 })
 
 pub name_moves : (name : List ℕ) → Moves (Name name)
 name_moves name = both_move blanks_move (λ bytes rest is. record {
   taken = name;
   place = is.0.spelled;
-  stays = λ other follows. (run_stays is_name_byte refl name bytes rest other is.0 follows, is.1);
+  stays = λ other follows. (run_stays is_name_byte refl refl name bytes rest other is.0 follows, is.1);
 })
 
 pub digits_move : (most n : ℕ) → Moves (Digits most n)
@@ -109,7 +77,7 @@ digits_move most n bytes rest is = record {
   stays = λ other follows. record {
     digits = is.digits;
     some = is.some;
-    run = run_stays is_ascii_digit refl is.digits bytes rest other is.run follows;
+    run = run_stays is_ascii_digit refl refl is.digits bytes rest other is.run follows;
     value = is.value;
     within = is.within;
   };
@@ -126,7 +94,7 @@ quoted_moves text bytes rest is = record {
   place = is.spelled ∙ ap (λ (l : List ℕ). 39 ∷ l) (sym (append_assoc (doubled text) (39 ∷ []) rest));
   stays = λ other follows. record {
     utf8 = is.utf8;
-    ends = ends_so is_quote refl rest other follows is.ends;
+    ends = ends_so is_quote refl refl rest other follows is.ends;
     spelled = ap (λ (l : List ℕ). 39 ∷ l) (append_assoc (doubled text) (39 ∷ []) other);
   };
 }
@@ -150,7 +118,7 @@ pub row_moves : (row : Row) → Moves (IsRow row)
 row_moves row = enclosed_moves literal_moves row
 
 strict_moves : (first : ℕ) → Moves (λ bytes rest. Exactly (first ∷ []) bytes rest × Ends (λ b. b == 61) rest)
-strict_moves first bytes rest is = record { taken = first ∷ []; place = is.0; stays = λ other follows. (refl, ends_so (λ b. b == 61) refl rest other follows is.1) }
+strict_moves first bytes rest is = record { taken = first ∷ []; place = is.0; stays = λ other follows. (refl, ends_so (λ b. b == 61) refl refl rest other follows is.1) }
 
 pub operator_moves : (operator : Operator) → Moves (IsOperator operator)
 operator_moves Equal = symbol_moves 61

@@ -1,4 +1,6 @@
 pub mod Alike
 pub mod Ascii
+pub mod Follows
+pub mod Going
 pub mod Runs
 pub mod Words
