@@ -1,0 +1,9 @@
+pub mod Node
+pub mod Tree
+pub mod Map
+pub mod Sound
+pub mod Lookup
+pub mod Event
+pub mod Split
+pub mod Root
+pub mod Laws

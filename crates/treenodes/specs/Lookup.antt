@@ -1,0 +1,39 @@
+-- The data node at a point, and the way to it.
+use Rattle.std.specs.Prelude.{◌≡◌, ℕ, ◌+◌, ◌-◌, ◌<◌, List, Some, IsTrue, length, slice_get, slice_index_or}
+use Rattle.std.specs.List.{Any}
+use Rattle.keyrange.specs.Rect.{Area, has_point}
+use Rattle.datanode.specs.Node.{Node}
+use Rattle.indexnode.specs.declared.reference.Reference.{Reference}
+use Rattle.treenodes.specs.Node.{Content, References, TreeNode, IsAt, data_node, references_of}
+
+-- the number is that of a data node
+pub record IsData (nodes : List TreeNode) (number : ℕ) : Type 0 where
+  pub node : Node
+  pub there : IsAt nodes number (data_node node)
+
+-- and that has the point
+pub record IsLeafAt (nodes : List TreeNode) (key : List ℕ) (instant number : ℕ) : Type 0 where
+  pub node : Node
+  pub there : IsAt nodes number (data_node node)
+  pub holds : IsTrue (has_point node.rect key instant)
+
+-- a node with a reference to another
+pub record IsParent (nodes : List TreeNode) (parent number : ℕ) : Type 0 where
+  pub node : TreeNode
+  pub there : IsAt nodes parent node
+  pub refers : Any (λ r. r.child ≡ number) (references_of node.content)
+
+-- a way down: each node of it is the parent of the next
+abbrev pub IsWay : List TreeNode → List ℕ → Type 0
+IsWay nodes way =
+    (k d : ℕ) → k + 1 < length way
+    → IsParent nodes (slice_index_or way k d) (slice_index_or way (k + 1) d)
+
+-- from the root to the data node at a point
+pub record IsWayTo (nodes : List TreeNode) (key : List ℕ) (instant : ℕ) (way : List ℕ)
+    : Type 0 where
+  pub leads : IsWay nodes way
+  pub from_root : (d : ℕ) → slice_index_or way 0 d ≡ 0
+  pub number : ℕ
+  pub last : slice_get way (length way - 1) ≡ Some number
+  pub leaf : IsLeafAt nodes key instant number

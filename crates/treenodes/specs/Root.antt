@@ -1,0 +1,12 @@
+-- A root over another.
+use Rattle.std.specs.Prelude.{ℕ, ◌+◌, [], ◌∷◌, None}
+use Rattle.treenodes.specs.Node.{TreeNode, References}
+
+-- an index node with one reference, to a node of a number
+abbrev pub root_over : TreeNode → ℕ → TreeNode
+root_over n number = record {
+  level = n.level + 1;
+  rect = n.rect;
+  content = References (record { rect = n.rect; child = number } ∷ []);
+  packed = None;
+}

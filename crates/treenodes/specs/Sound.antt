@@ -1,0 +1,19 @@
+-- A tree that holds the map that is read off it, in nodes that are not too large.
+use Rattle.std.specs.Prelude.{◌≡◌, ℕ, ◌≤◌, List, All}
+use Rattle.treenodes.specs.Node.{TreeNode, count_of}
+use Rattle.treenodes.specs.Tree.{IsTree}
+use Rattle.treenodes.specs.Map.{HoldsMap, changes, latest}
+
+-- the most events or references of a node
+abbrev pub capacity : ℕ
+capacity = 64
+
+abbrev pub AreWithinCapacity : List TreeNode → Type 0
+AreWithinCapacity nodes = All (λ n. count_of n.content ≤ capacity) nodes
+
+-- a tree that holds its changes, the latest of them at the instant
+pub record IsSound (nodes : List TreeNode) (last : ℕ) : Type 0 where
+  pub tree : IsTree nodes
+  pub holds : HoldsMap nodes (changes nodes)
+  pub last_is : last ≡ latest (changes nodes)
+  pub small : AreWithinCapacity nodes

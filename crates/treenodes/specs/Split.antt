@@ -1,0 +1,91 @@
+-- A node that two halves take the place of.
+use Rattle.std.specs.Prelude.{◌≡◌, ◌≢◌, ℕ, ◌+◌, List, None, IsTrue, length, filter}
+use Rattle.values.specs.Event.{Event}
+use Rattle.keyrange.specs.Rect.{Area, IsArea}
+use Rattle.keyrange.specs.Cut.{AreHalves, is_key_inside, is_time_inside}
+use Rattle.datanode.specs.Node.{Node}
+use Rattle.datanode.specs.Cut.{cut}
+use Rattle.indexnode.specs.declared.reference.Reference.{Reference}
+use Rattle.indexnode.specs.Split.{IsBeforeCurrent, IsUncrossed}
+use Rattle.treenodes.specs.Node.{TreeNode, Content, References, IsAt, IsIndexNode, data_node, references_of}
+use Rattle.treenodes.specs.Tree.{HasContent}
+use Rattle.treenodes.specs.Map.{IsCut, EndsBy, latest}
+
+-- a current data node with the key strictly inside
+pub record CanSplitKey (nodes : List TreeNode) (number : ℕ) (key : List ℕ) : Type 0 where
+  pub node : Node
+  pub there : IsAt nodes number (data_node node)
+  pub current : node.rect.time.to ≡ None
+  pub inside : IsTrue (is_key_inside node.rect key)
+
+-- or the instant
+pub record CanSplitTime (nodes : List TreeNode) (number instant : ℕ) : Type 0 where
+  pub node : Node
+  pub there : IsAt nodes number (data_node node)
+  pub current : node.rect.time.to ≡ None
+  pub inside : IsTrue (is_time_inside node.rect instant)
+
+-- a current index node with the key strictly inside, which no current reference crosses
+pub record CanSplitIndexKey (nodes : List TreeNode) (number : ℕ) (key : List ℕ) : Type 0 where
+  pub node : TreeNode
+  pub there : IsAt nodes number node
+  pub is_index : IsIndexNode node.content
+  pub current : node.rect.time.to ≡ None
+  pub inside : IsTrue (is_key_inside node.rect key)
+  pub uncrossed : IsUncrossed key (references_of node.content)
+
+-- a current index node with the instant strictly inside, which is before no current reference
+pub record CanSplitIndexTime (nodes : List TreeNode) (number instant : ℕ) : Type 0 where
+  pub node : TreeNode
+  pub there : IsAt nodes number node
+  pub is_index : IsIndexNode node.content
+  pub current : node.rect.time.to ≡ None
+  pub inside : IsTrue (is_time_inside node.rect instant)
+  pub before : IsBeforeCurrent instant (references_of node.content)
+
+-- current nodes of one level whose rectangles are halves of a node's
+pub record AreSplit (nodes : List TreeNode) (n first second : TreeNode) : Type 0 where
+  pub current : n.rect.time.to ≡ None
+  pub first_level : first.level ≡ n.level
+  pub second_level : second.level ≡ n.level
+  pub halves : AreHalves n.rect first.rect second.rect
+  pub first_area : IsArea first.rect
+  pub second_area : IsArea second.rect
+  pub first_has : HasContent nodes n.level first.rect first.content
+  pub second_has : HasContent nodes n.level second.rect second.content
+
+-- both hold a map's cuts
+pub record HoldCuts (m : List Event) (first second : TreeNode) : Type 0 where
+  pub first_cut : IsCut m first.rect first.content
+  pub second_cut : IsCut m second.rect second.content
+  pub first_ends : EndsBy (latest m) first.content first.rect.time.to
+  pub second_ends : EndsBy (latest m) second.content second.rect.time.to
+
+-- the parent of a node that was split: it has one reference more
+pub record IsLonger (before after : TreeNode) : Type 0 where
+  pub level : after.level ≡ before.level
+  pub rect : after.rect ≡ before.rect
+  pub index : IsIndexNode after.content
+  pub more :
+      length (references_of after.content) ≡ length (references_of before.content) + 1
+
+-- the first half has the node's number, the second a new one, and their parent has one reference more; all others are
+-- as they were
+pub record Halved (before after : List TreeNode) (parent number : ℕ) (first second : TreeNode)
+    : Type 0 where
+  pub first_there : IsAt after number first
+  pub second_there : IsAt after (length before) second
+  pub long : length after ≡ length before + 1
+  pub others : (i : ℕ) (n : TreeNode) → i ≢ number → i ≢ parent → IsAt before i n → IsAt after i n
+  pub above : TreeNode
+  pub above_there : IsAt after parent above
+  pub as_before : (p : TreeNode) → IsAt before parent p → IsLonger p above
+
+-- what a rectangle inside a data node holds of it
+abbrev pub part : Node → Area → TreeNode
+part n r = data_node (record { rect = r; events = cut r n.events })
+
+-- an index node of a rectangle, with some of its references
+abbrev pub part_of : TreeNode → Area → (List (Reference ℕ) → List (Reference ℕ)) → TreeNode
+part_of n r kept =
+    record { level = n.level; rect = r; content = References (kept (references_of n.content)); packed = None }

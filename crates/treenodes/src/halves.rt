@@ -1,0 +1,77 @@
+//! Two halves in the place of a node.
+ghost use Rattle.std.specs.Prelude.{◌≡◌, ◌<◌, ◌++◌, ◌∷◌, [], List, IfOk, length, slice_set};
+ghost use Rattle.values.specs.Event.{Event as Change};
+ghost use Rattle.values.specs.Memory.{OnlyMemory};
+ghost use Rattle.treenodes.specs.Node.{TreeNode, IsAt, seen};
+ghost use Rattle.treenodes.specs.Tree.{IsTree};
+ghost use Rattle.treenodes.specs.Map.{HoldsMap};
+ghost use Rattle.treenodes.specs.Lookup.{IsParent};
+ghost use Rattle.treenodes.specs.Split.{AreSplit, HoldCuts, Halved};
+
+use crate::node::{Child, Slot};
+use indexnode::Reference;
+use slots::Slots;
+use std::alloc::Global;
+use values::Mem;
+
+/// The nodes with other ones at two numbers, and one more.
+fn placed(
+    mut nodes: Slots<Slot>,
+    number: usize,
+    first: Slot,
+    parent: usize,
+    above: Slot,
+    second: Slot,
+) -> Mem<Slots<Slot>>
+    requires number { number < length nodes }
+    requires parent { parent < length nodes }
+    ensures ok { IfOk result (λ s.
+        s ≡ slice_set (slice_set nodes number first) parent above ++ second ∷ []) }
+    ensures err { OnlyMemory result }
+{
+    nodes.set(number, first)?;
+    nodes.set(parent, above)?;
+    nodes.push(second)?;
+    Ok(nodes)
+}
+
+/// The nodes with two halves in the place of one: the first has its number, the second a new one, and both stand below
+/// its parent.
+pub fn with_halves(
+    alloc: Global,
+    nodes: Slots<Slot>,
+    parent: usize,
+    number: usize,
+    first: Child,
+    second: Child,
+) -> Mem<Slots<Slot>>
+    requires tree { IsTree nodes }
+    requires parent { IsParent nodes parent number }
+    requires split { (n : TreeNode) → IsAt nodes number n
+        → AreSplit nodes n (seen n.level first) (seen n.level second) }
+    ensures tree { IfOk result IsTree }
+    ensures halved { (n : TreeNode) → IsAt nodes number n → IfOk result (λ s.
+        Halved nodes s parent number (seen n.level first) (seen n.level second)) }
+    ensures holds { (m : List Change) (n : TreeNode) → HoldsMap nodes m → IsAt nodes number n
+        → HoldCuts m (seen n.level first) (seen n.level second) → IfOk result (λ s. HoldsMap s m) }
+    ensures err { OnlyMemory result }
+{
+    let slot = nodes.at(number);
+    let level = slot.level();
+    let above = nodes.at(parent);
+    let lower = Reference {
+        rect: first.rect().copy()?,
+        child: number,
+    };
+    let upper = Reference {
+        rect: second.rect().copy()?,
+        child: nodes.len(),
+    };
+    let node = above
+        .index()
+        .with_references(slot.child().rect(), lower, upper)?;
+    let low = Slot::new(alloc, level, first)?;
+    let middle = Slot::new(alloc, above.level(), Child::Index(node))?;
+    let high = Slot::new(alloc, level, second)?;
+    placed(nodes, number, low, parent, middle, high)
+}

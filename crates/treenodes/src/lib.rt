@@ -1,0 +1,20 @@
+//! Numbered nodes that form a tree, and the steps that change them.
+#![tactic(auto)]
+
+mod event;
+mod halves;
+mod laws;
+mod lookup;
+mod node;
+mod root;
+mod split;
+#[cfg(test)]
+mod tests;
+
+pub use event::with_event;
+pub use halves::with_halves;
+pub use laws::{maps_are_read_off, meeting_references_are_one};
+pub use lookup::{data_at, leaf_at, way};
+pub use node::{Child, Slot};
+pub use root::{leaf_alone, raised, whole};
+pub use split::{with_index_keys_split, with_index_time_split, with_keys_split, with_time_split};

@@ -1,0 +1,93 @@
+//! A node with its level, which several lists share.
+ghost use Rattle.std.specs.Prelude.{◌≡◌, List, None, IfOk, OnOk, OnErr};
+ghost use Rattle.values.specs.Memory.{OnlyMemory};
+ghost use Rattle.keyrange.specs.Rect.{IsArea};
+ghost use Rattle.treenodes.specs.Node.{seen, rect_of, IsIndexNode};
+
+use datanode::DataNode;
+use indexnode::IndexNode;
+use keyrange::Rect;
+use slots::Share;
+use std::alloc::Global;
+use std::marker::Model;
+use std::sync::Arc;
+use values::Mem;
+
+/// A data node, or an index node whose references name nodes one level down.
+#[derive(Drop)]
+pub enum Child {
+    Data(DataNode),
+    Index(IndexNode<usize>),
+}
+
+/// What stands at a number: a node and its level, counted from the data nodes up. A share of it is the same node.
+#[derive(Drop)]
+pub struct Slot {
+    level: usize,
+    child: Arc<Child>,
+}
+
+impl Model for Slot {
+    ghost use Rattle.treenodes.specs.Node.{TreeNode};
+
+    ghost Value = { TreeNode };
+
+    ghost use Rattle.treenodes.specs.Node.{seen};
+
+    ghost view = { λ s. seen s.level s.child.value };
+}
+
+impl Child {
+    pub fn rect(&self) -> &Rect
+        ensures rect { result.now ≡ rect_of self.now }
+        ensures area { IsArea result.now }
+    {
+        match self {
+            Child::Data(node) => node.rect(),
+            Child::Index(node) => node.rect(),
+        }
+    }
+}
+
+impl Slot {
+    pub fn new(alloc: Global, level: usize, child: Child) -> Mem<Slot>
+        ensures ok { IfOk result (λ s. s ≡ seen level child) }
+        ensures err { OnlyMemory result }
+    {
+        let child = Arc::new(alloc, child)?;
+        Ok(Slot { level, child })
+    }
+
+    pub fn level(&self) -> usize
+        ensures { result ≡ self.now.level }
+    {
+        self.level
+    }
+
+    pub fn child(&self) -> &Child
+        ensures { self.now ≡ seen self.now.level result.now }
+    {
+        &self.child
+    }
+
+    /// The index node that stands here.
+    pub fn index(&self) -> &IndexNode<usize>
+        requires { IsIndexNode self.now.content }
+        ensures { self.now ≡ seen self.now.level (Child.Index result.now) }
+    {
+        match self.child() {
+            Child::Index(node) => node,
+            Child::Data(_) => unreachable!(),
+        }
+    }
+}
+
+impl Share for Slot {
+    fn share(&self) -> Mem<Slot> {
+        let child = Arc::try_clone(&self.child)?;
+        Ok(Slot {
+            level: self.level,
+            child,
+        })
+    }
+}

@@ -1,0 +1,67 @@
+//! The root of a tree.
+ghost use Rattle.std.specs.Prelude.{◌≡◌, ◌++◌, ◌∷◌, [], ◌+◌, List, IfOk, length, slice_set};
+ghost use Rattle.values.specs.Event.{Event as Change};
+ghost use Rattle.values.specs.Memory.{OnlyMemory};
+ghost use Rattle.treenodes.specs.Node.{TreeNode, IsAt};
+ghost use Rattle.treenodes.specs.Tree.{IsTree, whole};
+ghost use Rattle.treenodes.specs.Map.{HoldsMap, changes};
+ghost use Rattle.treenodes.specs.Sound.{IsSound};
+ghost use Rattle.treenodes.specs.Lookup.{IsParent};
+ghost use Rattle.treenodes.specs.Root.{root_over};
+
+use crate::node::{Child, Slot};
+use datanode::DataNode;
+use indexnode::{IndexNode, Reference, single};
+use keyrange::{KeyRange, Rect, TimeRange};
+use slots::{Share, Slots};
+use std::alloc::Global;
+use values::{KeyBytes, Mem};
+
+/// All keys, and all instants from 1 on.
+pub fn whole(alloc: Global) -> Rect
+    ensures { result ≡ whole }
+{
+    let keys = KeyRange {
+        lo: KeyBytes::least(alloc),
+        hi: None,
+    };
+    match Rect::new(keys, TimeRange { from: 1, to: None }) {
+        Some(rect) => rect,
+        None => unreachable!(),
+    }
+}
+
+/// A tree of one data node, without events.
+pub fn leaf_alone(alloc: Global) -> Mem<Slots<Slot>>
+    ensures sound { IfOk result (λ s. IsSound s 0) }
+    ensures empty { IfOk result (λ s. changes s ≡ []) }
+    ensures err { OnlyMemory result }
+{
+    let node = DataNode::new(alloc, whole(alloc))?;
+    let mut nodes = Slots::new(alloc);
+    nodes.push(Slot::new(alloc, 0, Child::Data(node))?)?;
+    Ok(nodes)
+}
+
+/// The nodes with a new root, whose one reference is to the old one, which has a new number.
+pub fn raised(alloc: Global, mut nodes: Slots<Slot>) -> Mem<Slots<Slot>>
+    requires { IsTree nodes }
+    ensures tree { IfOk result IsTree }
+    ensures parent { IfOk result (λ s. IsParent s 0 (length nodes)) }
+    ensures holds { (m : List Change) → HoldsMap nodes m → IfOk result (λ s. HoldsMap s m) }
+    ensures raised { (root : TreeNode) → IsAt nodes 0 root → IfOk result (λ s.
+        s ≡ slice_set nodes 0 (root_over root (length nodes)) ++ root ∷ []) }
+    ensures err { OnlyMemory result }
+{
+    let number = nodes.len();
+    let root = nodes.at(0).share()?;
+    let whole = Reference {
+        rect: root.child().rect().copy()?,
+        child: number,
+    };
+    let references = single(alloc, whole)?;
+    let node = IndexNode::new(alloc, root.child().rect().copy()?, references)?;
+    nodes.set(0, Slot::new(alloc, root.level() + 1, Child::Index(node))?)?;
+    nodes.push(root)?;
+    Ok(nodes)
+}

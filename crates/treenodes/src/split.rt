@@ -1,0 +1,143 @@
+//! Current nodes that are split.
+ghost use Rattle.std.specs.Prelude.{◌≡◌, ◌≤◌, List, Some, IfOk, filter};
+ghost use Rattle.values.specs.Event.{Event as Change};
+ghost use Rattle.values.specs.Memory.{OnlyMemory};
+ghost use Rattle.keyrange.specs.Rect.{Area};
+ghost use Rattle.keyrange.specs.Cut.{halves_by_key, halves_by_time};
+ghost use Rattle.datanode.specs.Node.{Node};
+ghost use Rattle.indexnode.specs.Split.{reaches_below, reaches_up, starts_before, ends_after};
+ghost use Rattle.treenodes.specs.Node.{TreeNode, IsAt, data_node};
+ghost use Rattle.treenodes.specs.Tree.{IsTree};
+ghost use Rattle.treenodes.specs.Map.{HoldsMap, latest};
+ghost use Rattle.treenodes.specs.Lookup.{IsParent};
+ghost use Rattle.treenodes.specs.Split.{CanSplitKey, CanSplitTime, CanSplitIndexKey, CanSplitIndexTime, Halved, part, part_of};
+
+use crate::halves::with_halves;
+use crate::lookup::data_at;
+use crate::node::{Child, Slot};
+use keysplit::split_key;
+use slots::Slots;
+use std::alloc::Global;
+use timesplit::split_time;
+use values::{Instant, KeyBytes, Mem};
+
+/// The nodes with a current data node split at a key.
+pub fn with_keys_split(
+    alloc: Global,
+    nodes: Slots<Slot>,
+    parent: usize,
+    number: usize,
+    key: &KeyBytes,
+) -> Mem<Slots<Slot>>
+    requires tree { IsTree nodes }
+    requires parent { IsParent nodes parent number }
+    requires can { CanSplitKey nodes number key.now }
+    ensures tree { IfOk result IsTree }
+    ensures holds { (m : List Change) → HoldsMap nodes m → IfOk result (λ s. HoldsMap s m) }
+    ensures halved { (n : Node) (h : Area × Area) → IsAt nodes number (data_node n)
+        → halves_by_key n.rect key.now ≡ Some h → IfOk result (λ s.
+        Halved nodes s parent number (part n h.0) (part n h.1)) }
+    ensures err { OnlyMemory result }
+{
+    let (below, above) = split_key(data_at(&nodes, number), key)?;
+    with_halves(
+        alloc,
+        nodes,
+        parent,
+        number,
+        Child::Data(below),
+        Child::Data(above),
+    )
+}
+
+/// The nodes with a current data node split at an instant.
+pub fn with_time_split(
+    alloc: Global,
+    nodes: Slots<Slot>,
+    parent: usize,
+    number: usize,
+    instant: Instant,
+) -> Mem<Slots<Slot>>
+    requires tree { IsTree nodes }
+    requires parent { IsParent nodes parent number }
+    requires can { CanSplitTime nodes number instant }
+    ensures tree { IfOk result IsTree }
+    ensures holds { (m : List Change) → HoldsMap nodes m → instant ≤ latest m
+        → IfOk result (λ s. HoldsMap s m) }
+    ensures halved { (n : Node) (h : Area × Area) → IsAt nodes number (data_node n)
+        → halves_by_time n.rect instant ≡ Some h → IfOk result (λ s.
+        Halved nodes s parent number (part n h.0) (part n h.1)) }
+    ensures err { OnlyMemory result }
+{
+    let (past, now) = split_time(data_at(&nodes, number), instant)?;
+    with_halves(
+        alloc,
+        nodes,
+        parent,
+        number,
+        Child::Data(past),
+        Child::Data(now),
+    )
+}
+
+/// The nodes with a current index node split at a key.
+pub fn with_index_keys_split(
+    alloc: Global,
+    nodes: Slots<Slot>,
+    parent: usize,
+    number: usize,
+    key: &KeyBytes,
+) -> Mem<Slots<Slot>>
+    requires tree { IsTree nodes }
+    requires parent { IsParent nodes parent number }
+    requires can { CanSplitIndexKey nodes number key.now }
+    ensures tree { IfOk result IsTree }
+    ensures holds { (m : List Change) → HoldsMap nodes m → IfOk result (λ s. HoldsMap s m) }
+    ensures halved { (n : TreeNode) (h : Area × Area) → IsAt nodes number n
+        → halves_by_key n.rect key.now ≡ Some h → IfOk result (λ s.
+        Halved nodes s parent number
+        (part_of n h.0 (filter (λ r. reaches_below key.now r.rect)))
+        (part_of n h.1 (filter (λ r. reaches_up key.now r.rect)))) }
+    ensures err { OnlyMemory result }
+{
+    let (below, above) = nodes.at(number).index().split_key(key)?;
+    with_halves(
+        alloc,
+        nodes,
+        parent,
+        number,
+        Child::Index(below),
+        Child::Index(above),
+    )
+}
+
+/// The nodes with a current index node split at an instant.
+pub fn with_index_time_split(
+    alloc: Global,
+    nodes: Slots<Slot>,
+    parent: usize,
+    number: usize,
+    instant: Instant,
+) -> Mem<Slots<Slot>>
+    requires tree { IsTree nodes }
+    requires parent { IsParent nodes parent number }
+    requires can { CanSplitIndexTime nodes number instant }
+    ensures tree { IfOk result IsTree }
+    ensures holds { (m : List Change) → HoldsMap nodes m → IfOk result (λ s. HoldsMap s m) }
+    ensures halved { (n : TreeNode) (h : Area × Area) → IsAt nodes number n
+        → halves_by_time n.rect instant ≡ Some h → IfOk result (λ s.
+        Halved nodes s parent number
+        (part_of n h.0 (filter (λ r. starts_before instant r.rect)))
+        (part_of n h.1 (filter (λ r. ends_after instant r.rect)))) }
+    ensures err { OnlyMemory result }
+{
+    let (past, now) = nodes.at(number).index().split_time(instant)?;
+    with_halves(
+        alloc,
+        nodes,
+        parent,
+        number,
+        Child::Index(past),
+        Child::Index(now),
+    )
+}
