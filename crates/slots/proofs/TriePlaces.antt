@@ -144,3 +144,14 @@ module _ {T : Type 0} where
   child_some n q [] d h lt = absurd (omega arith)
   child_some n zero (k ∷ ks) d h lt = h.1
   child_some n (suc q) (k ∷ ks) d h lt = child_some n q ks d h.4 (omega (arith, lt))
+
+  -- an item, where there is one
+  pub some_of : (xs : List T) (r : ℕ) → r < length xs → T
+  some_of [] r lt = absurd (omega arith)
+  some_of (x ∷ xs) r lt = x
+
+  -- an item of all, read from its child
+  pub item_read : (n i : ℕ) (ks : List (ℕ × List T)) (k : ℕ × List T) (all : List T) (x : T) → 0 < n → Packed n ks → i < length (all_items ks) → all ≡ all_items ks → k ≡ get_or ks (i / n) k
+      → get_or all i x ≡ get_or k.1 (i % n) x
+  item_read n i ks k all x pos h lt e is =
+      ap (λ l. get_or l i x) e ∙ reach_item n i ks k x pos h lt ∙ ap (λ (p : ℕ × List T). get_or p.1 (i % n) x) (sym is)

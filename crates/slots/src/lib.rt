@@ -7,5 +7,5 @@ mod slots;
 mod tests;
 mod trie;
 
-pub use share::Share;
+pub use share::{Share, Update};
 pub use slots::Slots;

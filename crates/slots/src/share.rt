@@ -1,4 +1,4 @@
-ghost use Rattle.std.specs.Prelude.{◌≡◌, IfOk};
+ghost use Rattle.std.specs.Prelude.{◌≡◌, IfOk, OnOk, OnErr};
 ghost use Rattle.values.specs.Memory.{OnlyMemory};
 
 use std::alloc::Global;
@@ -19,6 +19,20 @@ impl Share for usize {
     {
         Ok(*self)
     }
+}
+
+/// What a change can be made to in place.
+pub trait Update<C>: Share + Drop {
+    ghost can_update: { Self → C → Type 0 };
+
+    ghost updated: { Self → C → Self };
+
+    /// Makes the change. Where memory runs out the value is what it was.
+    fn update(&mut self, alloc: Global, change: C) -> Mem<()>
+        requires { can_update self.old change }
+        ensures ok { OnOk result (self.new ≡ updated self.old change) }
+        ensures err { OnErr result (self.new ≡ self.old) }
+        ensures memory { OnlyMemory result };
 }
 
 /// The items once more, with room for some.

@@ -1,8 +1,8 @@
 //! A list that shares its parts.
-ghost use Rattle.std.specs.Prelude.{◌≡◌, ◌<◌, [], ◌∷◌, ◌++◌, length, slice_get, slice_set, IfOk, OnOk, OnErr, Some, None, MatchOption};
+ghost use Rattle.std.specs.Prelude.{◌≡◌, ◌<◌, [], ◌∷◌, ◌++◌, length, slice_get, slice_set, HoldsAt, IfOk, OnOk, OnErr, Some, None, MatchOption};
 ghost use Rattle.values.specs.Memory.{OnlyMemory};
 
-use crate::share::Share;
+use crate::share::{Share, Update};
 use crate::trie::Trie;
 use std::alloc::Global;
 use std::marker::Model;
@@ -93,6 +93,24 @@ impl<T: Share + Drop> Slots<T> {
         match &mut self.root {
             None => Ok(()),
             Some(root) => root.set(self.alloc, place, item),
+        }
+    }
+
+    /// Changes an item. One that is not shared is changed in place.
+    pub fn update<C: Drop>(&mut self, place: usize, change: C) -> Mem<()>
+    where
+        T: Update<C>,
+        requires inside { place < length self.old }
+        requires can { HoldsAt (λ x. T.can_update x change) self.old place }
+        ensures ok { HoldsAt (λ x.
+            OnOk result (self.new ≡ slice_set self.old place (T.updated x change)))
+            self.old place }
+        ensures err { OnErr result (self.new ≡ self.old) }
+        ensures memory { OnlyMemory result }
+    {
+        match &mut self.root {
+            None => Ok(()),
+            Some(root) => root.update(self.alloc, place, change),
         }
     }
 

@@ -1,5 +1,5 @@
 //! Lists of numbers: what stands where, and what a share keeps.
-use crate::{Share, Slots};
+use crate::{Share, Slots, Update};
 use std::alloc::Global;
 use std::test::Fail;
 use values::Mem;
@@ -97,5 +97,63 @@ fn a_refused_growth_changes_nothing(rt: HostRuntime) {
 #[test]
 fn a_number_is_shared(rt: HostRuntime) -> Result<(), Fail> {
     assert_eq!(rt; 5usize.share()?, 5);
+    Ok(())
+}
+
+/// A number that another is put in the place of.
+#[derive(Drop)]
+struct Mark {
+    number: usize,
+}
+
+impl Share for Mark {
+    fn share(&self) -> Mem<Mark> {
+        Ok(Mark {
+            number: self.number,
+        })
+    }
+}
+
+impl Update<usize> for Mark {
+    ghost can_update = { λ mark number. Unit {0} };
+
+    ghost updated = { λ mark number. record { number = number } };
+
+    fn update(&mut self, _alloc: Global, number: usize) -> Mem<()> {
+        self.number = number;
+        Ok(())
+    }
+}
+
+fn marks(alloc: Global, bound: usize) -> Mem<Slots<Mark>> {
+    let mut list = Slots::new(alloc);
+    for number in 0..bound {
+        list.push(Mark { number })?;
+    }
+    Ok(list)
+}
+
+fn mark_at(list: &Slots<Mark>, place: usize) -> Option<usize> {
+    list.get(place).map(|mark| mark.number)
+}
+
+fn update_at(list: &mut Slots<Mark>, place: usize, number: usize) -> Mem<()> {
+    if place < list.len() {
+        list.update(place, number)?;
+    }
+    Ok(())
+}
+
+#[test]
+fn an_item_is_changed_and_a_share_keeps_it(rt: HostRuntime) -> Result<(), Fail> {
+    let mut list = marks(rt.alloc(), 300)?;
+    update_at(&mut list, 17, 1000)?;
+    let before = list.share()?;
+    update_at(&mut list, 17, 2000)?;
+    update_at(&mut list, 299, 3000)?;
+    for (place, was, is) in [(16, 16, 16), (17, 1000, 2000), (299, 299, 3000)] {
+        assert_eq!(rt; mark_at(&before, place), Some(was));
+        assert_eq!(rt; mark_at(&list, place), Some(is));
+    }
     Ok(())
 }

@@ -1,9 +1,9 @@
 //! A tree of shared nodes, seen as a list.
-ghost use Rattle.std.specs.Prelude.{◌≡◌, ◌<◌, ◌≤◌, ◌*◌, ◌+◌, [], ◌∷◌, ◌++◌, length, max, slice_get, slice_set, IfOk, OnOk, OnErr, Some};
+ghost use Rattle.std.specs.Prelude.{◌≡◌, ◌<◌, ◌≤◌, ◌*◌, ◌+◌, [], ◌∷◌, ◌++◌, length, max, slice_get, slice_set, HoldsAt, IfOk, OnOk, OnErr, Some};
 ghost use Rattle.values.specs.Memory.{OnlyMemory};
 ghost use Rattle.slots.specs.Trie.{all_items, Packed, items_of, view_of, IsShape};
 
-use crate::share::{Share, share_all};
+use crate::share::{Share, Update, share_all};
 use std::alloc::Global;
 use std::marker::Model;
 use std::sync::Arc;
@@ -114,6 +114,28 @@ impl<T: Share + Drop> Trie<T> {
         Ok(())
     }
 
+    #[cycle(update)]
+    pub fn update<C: Drop>(&mut self, alloc: Global, at: usize, change: C) -> Mem<()>
+    where
+        T: Update<C>,
+        requires inside { at < length self.old.1 }
+        requires can { HoldsAt (λ x. T.can_update x change) self.old.1 at }
+        ensures each { self.new.0 ≡ self.old.0 }
+        ensures ok { HoldsAt (λ x.
+            OnOk result (self.new.1 ≡ slice_set self.old.1 at (T.updated x change)))
+            self.old.1 at }
+        ensures err { OnErr result (self.new.1 ≡ self.old.1) }
+        ensures memory { OnlyMemory result }
+    {
+        if let Some(node) = Arc::get_mut(&mut self.node) {
+            return node.update(alloc, at, change);
+        }
+        let mut node = self.node.copy(alloc)?;
+        node.update(alloc, at, change)?;
+        self.node = Arc::new(alloc, node)?;
+        Ok(())
+    }
+
     #[cycle(push)]
     pub fn push(&mut self, alloc: Global, item: T) -> Mem<()>
         ensures each { self.new.0 ≤ max self.old.0 (length self.old.1) }
@@ -194,6 +216,28 @@ impl<T: Share + Drop> Node<T> {
                 Ok(())
             }
             Body::Inner(children) => children[at / each].set(alloc, at % each, item),
+        }
+    }
+
+    #[cycle(update)]
+    fn update<C: Drop>(&mut self, alloc: Global, at: usize, change: C) -> Mem<()>
+    where
+        T: Update<C>,
+        requires shape { IsShape self.old }
+        requires inside { at < length (items_of self.old.body) }
+        requires can { HoldsAt (λ x. T.can_update x change) (items_of self.old.body) at }
+        ensures shape { IsShape self.new }
+        ensures each { self.new.each ≡ self.old.each }
+        ensures ok { HoldsAt (λ x. OnOk result (items_of self.new.body
+            ≡ slice_set (items_of self.old.body) at (T.updated x change)))
+            (items_of self.old.body) at }
+        ensures err { OnErr result (items_of self.new.body ≡ items_of self.old.body) }
+        ensures memory { OnlyMemory result }
+    {
+        let each = self.each;
+        match &mut self.body {
+            Body::Leaf(all) => all[at].update(alloc, change),
+            Body::Inner(children) => children[at / each].update(alloc, at % each, change),
         }
     }
 

@@ -2,38 +2,28 @@
 ghost use Rattle.std.specs.Prelude.{◌≡◌, IfOk, slice_set};
 ghost use Rattle.values.specs.Memory.{OnlyMemory};
 ghost use Rattle.values.specs.Events.{put_event};
-ghost use Rattle.datanode.specs.Node.{Node};
-ghost use Rattle.treenodes.specs.Node.{IsAt, data_node};
+ghost use Rattle.treenodes.specs.Node.{TreeNode, IsAt};
 ghost use Rattle.treenodes.specs.Tree.{IsTree};
 ghost use Rattle.treenodes.specs.Map.{HoldsMap, IsNext, changes};
 ghost use Rattle.treenodes.specs.Lookup.{IsLeafAt};
 ghost use Rattle.treenodes.specs.Event.{with_put};
 
-use crate::lookup::data_at;
-use crate::node::{Child, Slot};
+use crate::node::Slot;
 use slots::Slots;
-use std::alloc::Global;
 use values::{Event, Mem};
 
 /// The nodes with an event in the data node at its point. A node that nobody shares is written in place.
-pub fn with_event(
-    alloc: Global,
-    mut nodes: Slots<Slot>,
-    number: usize,
-    event: Event,
-) -> Mem<Slots<Slot>>
+pub fn with_event(mut nodes: Slots<Slot>, number: usize, event: Event) -> Mem<Slots<Slot>>
     requires tree { IsTree nodes }
     requires holds { HoldsMap nodes (changes nodes) }
     requires next { IsNext (changes nodes) event }
     requires leaf { IsLeafAt nodes event.key event.at number }
     ensures tree { IfOk result IsTree }
     ensures holds { IfOk result (λ s. HoldsMap s (put_event event (changes nodes))) }
-    ensures taken { (n : Node) → IsAt nodes number (data_node n)
-        → IfOk result (λ s. s ≡ slice_set nodes number (data_node (with_put event n))) }
+    ensures taken { (n : TreeNode) → IsAt nodes number n
+        → IfOk result (λ s. s ≡ slice_set nodes number (with_put n event)) }
     ensures err { OnlyMemory result }
 {
-    let mut node = data_at(&nodes, number).copy()?;
-    node.put(event)?;
-    nodes.set(number, Slot::new(alloc, 0, Child::Data(node))?)?;
+    nodes.update(number, event)?;
     Ok(nodes)
 }

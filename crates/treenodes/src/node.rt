@@ -3,15 +3,16 @@ ghost use Rattle.std.specs.Prelude.{◌≡◌, List, None, IfOk, OnOk, OnErr};
 ghost use Rattle.values.specs.Memory.{OnlyMemory};
 ghost use Rattle.keyrange.specs.Rect.{IsArea};
 ghost use Rattle.treenodes.specs.Node.{seen, rect_of, IsIndexNode};
+ghost use Rattle.treenodes.specs.Event.{IsDataNode, Takes, with_put};
 
 use datanode::DataNode;
 use indexnode::IndexNode;
 use keyrange::Rect;
-use slots::Share;
+use slots::{Share, Update};
 use std::alloc::Global;
 use std::marker::Model;
 use std::sync::Arc;
-use values::Mem;
+use values::{Event, Mem};
 
 /// A data node, or an index node whose references name nodes one level down.
 #[derive(Drop)]
@@ -70,6 +71,17 @@ impl Slot {
         &self.child
     }
 
+    /// The data node that stands here.
+    pub fn data(&self) -> &DataNode
+        requires { IsDataNode self.now.content }
+        ensures { self.now ≡ seen self.now.level (Child.Data result.now) }
+    {
+        match self.child() {
+            Child::Data(node) => node,
+            Child::Index(_) => unreachable!(),
+        }
+    }
+
     /// The index node that stands here.
     pub fn index(&self) -> &IndexNode<usize>
         requires { IsIndexNode self.now.content }
@@ -89,5 +101,22 @@ impl Share for Slot {
             level: self.level,
             child,
         })
+    }
+}
+
+/// An event is put into a data node, in place where nobody shares the node.
+impl Update<Event> for Slot {
+    ghost can_update = { Takes };
+
+    ghost updated = { with_put };
+
+    fn update(&mut self, alloc: Global, event: Event) -> Mem<()> {
+        if let Some(Child::Data(node)) = Arc::get_mut(&mut self.child) {
+            return node.put(event);
+        }
+        let mut node = self.data().copy()?;
+        node.put(event)?;
+        self.child = Arc::new(alloc, Child::Data(node))?;
+        Ok(())
     }
 }
