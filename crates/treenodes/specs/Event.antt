@@ -1,14 +1,10 @@
 -- A data node takes an event.
-use Rattle.std.specs.Prelude.{List, None}
+use Rattle.std.specs.Prelude.{None}
 use Rattle.values.specs.Event.{Event}
 use Rattle.values.specs.Events.{put_event}
 use Rattle.datanode.specs.Cut.{cut}
 use Rattle.datanode.specs.Node.{Accepts}
-use Rattle.treenodes.specs.Node.{TreeNode, Content, Events, References, events_of}
-
-abbrev pub IsDataNode : Content → Type 0
-IsDataNode (Events es) = Unit {0}
-IsDataNode (References rs) = ⊥
+use Rattle.treenodes.specs.Node.{TreeNode, Events, IsDataNode, events_of}
 
 -- a data node that accepts the event
 pub record Takes (n : TreeNode) (e : Event) : Type 0 where

@@ -1,21 +1,20 @@
 -- The data node at a point, and the way to it.
 use Rattle.std.specs.Prelude.{◌≡◌, ℕ, ◌+◌, ◌-◌, ◌<◌, List, Some, IsTrue, length, slice_get, slice_index_or}
 use Rattle.std.specs.List.{Any}
-use Rattle.keyrange.specs.Rect.{Area, has_point}
-use Rattle.datanode.specs.Node.{Node}
-use Rattle.indexnode.specs.declared.reference.Reference.{Reference}
-use Rattle.treenodes.specs.Node.{Content, References, TreeNode, IsAt, data_node, references_of}
+use Rattle.keyrange.specs.Rect.{has_point}
+use Rattle.treenodes.specs.Node.{TreeNode, IsAt, IsDataNode, references_of}
 
 -- the number is that of a data node
 pub record IsData (nodes : List TreeNode) (number : ℕ) : Type 0 where
-  pub node : Node
-  pub there : IsAt nodes number (data_node node)
+  pub node : TreeNode
+  pub there : IsAt nodes number node
+  pub bottom : node.level ≡ 0
+  pub is_data : IsDataNode node.content
 
 -- and that has the point
 pub record IsLeafAt (nodes : List TreeNode) (key : List ℕ) (instant number : ℕ) : Type 0 where
-  pub node : Node
-  pub there : IsAt nodes number (data_node node)
-  pub holds : IsTrue (has_point node.rect key instant)
+  pub data : IsData nodes number
+  pub holds : IsTrue (has_point data.node.rect key instant)
 
 -- a node with a reference to another
 pub record IsParent (nodes : List TreeNode) (parent number : ℕ) : Type 0 where

@@ -40,6 +40,10 @@ seen level child =
 abbrev pub data_node : Node → TreeNode
 data_node n = record { level = 0; rect = n.rect; content = Events n.events; packed = None }
 
+abbrev pub IsDataNode : Content → Type 0
+IsDataNode (Events es) = Unit {0}
+IsDataNode (References rs) = ⊥
+
 abbrev pub IsIndexNode : Content → Type 0
 IsIndexNode (Events es) = ⊥
 IsIndexNode (References rs) = Unit {0}

@@ -9,21 +9,20 @@ use Rattle.indexnode.specs.declared.reference.Reference.{Reference}
 use Rattle.indexnode.specs.Split.{IsBeforeCurrent, IsUncrossed}
 use Rattle.treenodes.specs.Node.{TreeNode, Content, References, IsAt, IsIndexNode, data_node, references_of}
 use Rattle.treenodes.specs.Tree.{HasContent}
+use Rattle.treenodes.specs.Lookup.{IsData}
 use Rattle.treenodes.specs.Map.{IsCut, EndsBy, latest}
 
 -- a current data node with the key strictly inside
 pub record CanSplitKey (nodes : List TreeNode) (number : ℕ) (key : List ℕ) : Type 0 where
-  pub node : Node
-  pub there : IsAt nodes number (data_node node)
-  pub current : node.rect.time.to ≡ None
-  pub inside : IsTrue (is_key_inside node.rect key)
+  pub data : IsData nodes number
+  pub current : data.node.rect.time.to ≡ None
+  pub inside : IsTrue (is_key_inside data.node.rect key)
 
 -- or the instant
 pub record CanSplitTime (nodes : List TreeNode) (number instant : ℕ) : Type 0 where
-  pub node : Node
-  pub there : IsAt nodes number (data_node node)
-  pub current : node.rect.time.to ≡ None
-  pub inside : IsTrue (is_time_inside node.rect instant)
+  pub data : IsData nodes number
+  pub current : data.node.rect.time.to ≡ None
+  pub inside : IsTrue (is_time_inside data.node.rect instant)
 
 -- a current index node with the key strictly inside, which no current reference crosses
 pub record CanSplitIndexKey (nodes : List TreeNode) (number : ℕ) (key : List ℕ) : Type 0 where

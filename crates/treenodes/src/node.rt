@@ -2,8 +2,8 @@
 ghost use Rattle.std.specs.Prelude.{◌≡◌, List, None, IfOk, OnOk, OnErr};
 ghost use Rattle.values.specs.Memory.{OnlyMemory};
 ghost use Rattle.keyrange.specs.Rect.{IsArea};
-ghost use Rattle.treenodes.specs.Node.{seen, rect_of, IsIndexNode};
-ghost use Rattle.treenodes.specs.Event.{IsDataNode, Takes, with_put};
+ghost use Rattle.treenodes.specs.Node.{seen, rect_of, IsDataNode, IsIndexNode};
+ghost use Rattle.treenodes.specs.Event.{Takes, with_put};
 
 use datanode::DataNode;
 use indexnode::IndexNode;
