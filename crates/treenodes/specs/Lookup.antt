@@ -13,8 +13,8 @@ pub record IsData (nodes : List TreeNode) (number : ℕ) : Type 0 where
 
 -- and that has the point
 pub record IsLeafAt (nodes : List TreeNode) (key : List ℕ) (instant number : ℕ) : Type 0 where
-  pub data : IsData nodes number
-  pub holds : IsTrue (has_point data.node.rect key instant)
+  pub leaf : IsData nodes number
+  pub holds : IsTrue (has_point leaf.node.rect key instant)
 
 -- a node with a reference to another
 pub record IsParent (nodes : List TreeNode) (parent number : ℕ) : Type 0 where

@@ -14,15 +14,15 @@ use Rattle.treenodes.specs.Map.{IsCut, EndsBy, latest}
 
 -- a current data node with the key strictly inside
 pub record CanSplitKey (nodes : List TreeNode) (number : ℕ) (key : List ℕ) : Type 0 where
-  pub data : IsData nodes number
-  pub current : data.node.rect.time.to ≡ None
-  pub inside : IsTrue (is_key_inside data.node.rect key)
+  pub leaf : IsData nodes number
+  pub current : leaf.node.rect.time.to ≡ None
+  pub inside : IsTrue (is_key_inside leaf.node.rect key)
 
 -- or the instant
 pub record CanSplitTime (nodes : List TreeNode) (number instant : ℕ) : Type 0 where
-  pub data : IsData nodes number
-  pub current : data.node.rect.time.to ≡ None
-  pub inside : IsTrue (is_time_inside data.node.rect instant)
+  pub leaf : IsData nodes number
+  pub current : leaf.node.rect.time.to ≡ None
+  pub inside : IsTrue (is_time_inside leaf.node.rect instant)
 
 -- a current index node with the key strictly inside, which no current reference crosses
 pub record CanSplitIndexKey (nodes : List TreeNode) (number : ℕ) (key : List ℕ) : Type 0 where
