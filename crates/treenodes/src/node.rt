@@ -1,5 +1,5 @@
 //! A node with its level, which several lists share.
-ghost use Rattle.std.specs.Prelude.{◌≡◌, List, None, IfOk, OnOk, OnErr};
+ghost use Rattle.std.specs.Prelude.{◌≡◌, ℕ, IfOk, OnOk, OnErr};
 ghost use Rattle.values.specs.Memory.{OnlyMemory};
 ghost use Rattle.keyrange.specs.Rect.{IsArea};
 ghost use Rattle.treenodes.specs.Node.{seen, rect_of, IsDataNode, IsIndexNode};
@@ -46,6 +46,20 @@ impl Child {
         match self {
             Child::Data(node) => node.rect(),
             Child::Index(node) => node.rect(),
+        }
+    }
+
+    /// Puts an event into a data node. Where memory runs out nothing has changed.
+    fn put(&mut self, event: Event) -> Mem<()>
+        requires { Takes (seen 0 self.old) event }
+        ensures ok { OnOk result ((level : ℕ) →
+            seen level self.new ≡ with_put (seen level self.old) event) }
+        ensures err { OnErr result (self.new ≡ self.old) }
+        ensures memory { OnlyMemory result }
+    {
+        match self {
+            Child::Data(node) => node.put(event),
+            Child::Index(_) => unreachable!(),
         }
     }
 }
@@ -111,12 +125,12 @@ impl Update<Event> for Slot {
     ghost updated = { with_put };
 
     fn update(&mut self, alloc: Global, event: Event) -> Mem<()> {
-        if let Some(Child::Data(node)) = Arc::get_mut(&mut self.child) {
-            return node.put(event);
+        if let Some(child) = Arc::get_mut(&mut self.child) {
+            return child.put(event);
         }
-        let mut node = self.data().copy()?;
-        node.put(event)?;
-        self.child = Arc::new(alloc, Child::Data(node))?;
+        let mut child = Child::Data(self.data().copy()?);
+        child.put(event)?;
+        self.child = Arc::new(alloc, child)?;
         Ok(())
     }
 }

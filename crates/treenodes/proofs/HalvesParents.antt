@@ -1,0 +1,104 @@
+-- A parent and the node below it.
+use Rattle.std.proofs.Common.{◌≡◌, ℕ, ◌+◌, ◌<◌, List, [], ◌∷◌, ◌++◌, length, set, get_or, Option, Some, None, refl, sym, ap, subst, ◌∙◌}
+use Rattle.std.specs.Prelude.{slice_get, IfOk}
+use Rattle.std.specs.List.{Any}
+use Rattle.std.specs.declared.result.Result.{Result}
+use Rattle.std.specs.declared.result.Result.TheVariants.{Ok, Err}
+use Rattle.std.proofs.lemmas.Option.{slice_get_within}
+use Rattle.keyrange.specs.Rect.{Area, IsInside}
+use Rattle.indexnode.specs.declared.reference.Reference.{Reference}
+use Rattle.indexnode.specs.Replacement.{HasRect, Replaced}
+use Rattle.treenodes.specs.Node.{Content, Events, References, TreeNode, IsIndexNode, IsAt, seen, rect_of, content_of}
+use Rattle.treenodes.specs.Tree.{RefersTo, IsIndex, IsTree}
+use Rattle.treenodes.specs.Lookup.{IsParent}
+use Rattle.values.specs.Event.{Event}
+use Rattle.indexnode.specs.declared.node.IndexNode.{IndexNode}
+use Rattle.indexnode.specs.Node.{Tiles, AllMeet}
+use Rattle.indexnode.specs.Split.{AreCurrentIn}
+use Rattle.treenodes.specs.declared.node.Child.{Child}
+use Rattle.treenodes.specs.declared.node.Child.TheVariants.{Data, Index}
+use Rattle.treenodes.specs.Map.{HoldsMap}
+use Rattle.keyrange.specs.Cut.{AreHalves}
+use Rattle.treenodes.specs.Split.{AreSplit, HoldCuts, Halved}
+use Rattle.treenodes.proofs.HalvesTree.{after, in_parent, split_tree, split_holds, halved}
+use Rattle.treenodes.proofs.NodeNumbers.{one_at}
+
+-- what holds of the value that a call gives
+pub given : {T E : Type 0} (r : Result T E) (v : T) (P : T → Type 0) → IfOk r (λ x. x ≡ v) → P v → IfOk r P
+given (Ok x) v P is h = subst P (sym is) h
+given (Err e) v P is h = tt
+
+module _ (nodes : List TreeNode) (tree : IsTree nodes) (p c : ℕ) (h : IsParent nodes p c) where
+  abbrev pub above : TreeNode
+  above = record { level = h.level; rect = h.rect; content = References h.references; packed = None }
+
+  pub parent_within : p < length nodes
+  parent_within = slice_get_within nodes p above h.there
+
+  pub refers : RefersTo nodes h.level h.refers.1
+  refers = subst (RefersTo nodes h.level) h.refers.3 ((tree.contents p above h.there).below h.refers.0 h.refers.1 h.refers.2)
+
+  pub below_there : IsAt nodes c refers.node
+  below_there = ap (slice_get nodes) (sym h.refers.4) ∙ refers.there
+
+  pub below_within : c < length nodes
+  below_within = slice_get_within nodes c refers.node below_there
+
+  pub is_above : (q : TreeNode) → IsAt nodes p q → q ≡ above
+  is_above q at = one_at nodes p q above at h.there
+
+  pub is_index : (q : TreeNode) → IsAt nodes p q → IsIndexNode q.content
+  is_index q at = subst (λ (q : TreeNode). IsIndexNode q.content) (sym (is_above q at)) tt
+
+  pub has_rect : (n : TreeNode) → IsAt nodes c n → HasRect n.rect h.references
+  has_rect n at = (h.refers.0, h.refers.1, h.refers.2, h.refers.3, refers.same ∙ ap (λ (q : TreeNode). q.rect) (one_at nodes c refers.node n below_there at))
+
+same_references : (l k : ℕ) (a b : Area) (rs ts : List (Reference ℕ)) → ◌≡◌ {A = TreeNode} (record { level = l; rect = a; content = References rs; packed = None }) (record { level = k; rect = b; content = References ts; packed = None }) → rs ≡ ts
+same_references l k a b rs ts e = let inner : References rs ≡ References ts = ap (λ (q : TreeNode). q.content) e in cc
+
+-- ---- what the code knows of a node that it splits
+
+module _ (nodes : List TreeNode) (tree : IsTree nodes) (p c : ℕ) (h : IsParent nodes p c) (slot top : TreeNode) (at_c : IsAt nodes c slot) (at_top : IsAt nodes p top) (x : IndexNode ℕ) (is : top ≡ seen top.level (Index x)) (first second : Child)
+    (split : AreSplit nodes slot (seen slot.level first) (seen slot.level second)) where
+  at_p : IsAt nodes p (record { level = top.level; rect = x.rect; content = References x.references.items; packed = None })
+  at_p = at_top ∙ ap Some is
+
+  references_are : x.references.items ≡ h.references
+  references_are = same_references top.level h.level x.rect h.rect x.references.items h.references (is_above nodes tree p c h _ at_p)
+
+  names_it : Any (λ (r : Reference ℕ). r.child ≡ c) x.references.items
+  names_it = subst (Any (λ (r : Reference ℕ). r.child ≡ c)) (sym references_are) h.refers
+
+  module _ (whole lo hi : Area) (whole_is : whole ≡ slot.rect) (lo_is : lo ≡ rect_of first) (hi_is : hi ≡ rect_of second) where
+    pub halves_of : AreHalves whole lo hi
+    halves_of = subst (λ a. AreHalves a lo hi) (sym whole_is) (subst (λ b. AreHalves slot.rect b hi) (sym lo_is) (subst (AreHalves slot.rect (rect_of first)) (sym hi_is) split.halves))
+
+    pub has_whole : HasRect whole x.references.items
+    has_whole = subst (HasRect whole) (sym references_are) (subst (λ a. HasRect a h.references) (sym whole_is) (has_rect nodes tree p c h slot at_c))
+
+    module _ (n : ℕ) (n_is : n ≡ length nodes) (rs' : List (Reference ℕ)) (replaced : Replaced whole (record { rect = lo; child = c } ∷ record { rect = hi; child = n } ∷ []) x.references.items rs')
+        (tiled : Tiles x.rect x.references.items → Tiles x.rect rs') (current : whole.time.to ≡ None → AreCurrentIn x.rect x.references.items → AreCurrentIn x.rect rs') (meet : IsInside whole x.rect → AllMeet x.rect x.references.items → AllMeet x.rect rs') where
+      index : IsIndex nodes top.level x.rect x.references.items
+      index = tree.contents p _ at_p
+
+      lies : IsInside whole x.rect
+      lies = subst (λ a. IsInside a x.rect) (sym whole_is) (in_parent nodes tree c p slot (seen slot.level first) (seen slot.level second) at_c split top.level x.rect x.references.items rs' at_p names_it)
+
+      placed_as : Replaced slot.rect (record { rect = rect_of first; child = c } ∷ record { rect = rect_of second; child = length nodes } ∷ []) x.references.items rs'
+      placed_as = subst (λ k. Replaced slot.rect (record { rect = rect_of first; child = c } ∷ record { rect = rect_of second; child = k } ∷ []) x.references.items rs') n_is
+          (subst (λ b. Replaced slot.rect (record { rect = rect_of first; child = c } ∷ record { rect = b; child = n } ∷ []) x.references.items rs') hi_is
+          (subst (λ b. Replaced slot.rect (record { rect = b; child = c } ∷ record { rect = hi; child = n } ∷ []) x.references.items rs') lo_is
+          (subst (λ a. Replaced a (record { rect = lo; child = c } ∷ record { rect = hi; child = n } ∷ []) x.references.items rs') whole_is replaced)))
+
+      abbrev pub split_slots : List TreeNode
+      split_slots = set (set nodes c (seen slot.level first)) p (record { level = top.level; rect = x.rect; content = References rs'; packed = None }) ++ seen slot.level second ∷ []
+
+      pub tree_after : IsTree split_slots
+      tree_after = split_tree nodes tree c p slot (seen slot.level first) (seen slot.level second) at_c split top.level x.rect x.references.items rs' at_p names_it
+          (tiled index.tiled) (meet lies index.meet) (current (ap (λ (a : Area). a.time.to) whole_is ∙ split.current) index.inside) placed_as
+
+      pub holds_after : (m : List Event) → HoldsMap nodes m → HoldCuts m (seen slot.level first) (seen slot.level second) → HoldsMap split_slots m
+      holds_after m holds cuts = split_holds nodes tree c p slot (seen slot.level first) (seen slot.level second) at_c split top.level x.rect x.references.items rs' at_p names_it m holds cuts
+
+      pub halved_after : Halved nodes split_slots p c (seen slot.level first) (seen slot.level second)
+      halved_after = halved nodes tree c p slot (seen slot.level first) (seen slot.level second) at_c split top.level x.rect x.references.items rs' at_p names_it _ refl placed_as

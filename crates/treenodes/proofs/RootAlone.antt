@@ -1,0 +1,42 @@
+-- One data node of the whole rectangle is a tree.
+use Rattle.std.proofs.Common.{◌≡◌, ℕ, zero, suc, ◌+◌, ◌<◌, ◌≤◌, List, [], ◌∷◌, length, Option, Some, None, refl, sym, ap, subst, ◌∙◌, arith}
+use Rattle.std.specs.Prelude.{slice_get}
+use Rattle.values.specs.Event.{Event}
+use Rattle.values.specs.Events.{event_cmp}
+use Rattle.eventlist.proofs.PlaceOrder.{sorted_none}
+use Rattle.keyrange.specs.Rect.{IsArea}
+use Rattle.treenodes.specs.Node.{TreeNode, Content, Events, IsAt, data_node}
+use Rattle.treenodes.specs.Tree.{IsTree, whole, HasContent}
+use Rattle.treenodes.specs.Map.{HoldsMap, IsCut, EndsBy, changes}
+use Rattle.treenodes.specs.Sound.{IsSound}
+
+abbrev pub root : TreeNode
+root = data_node (record { rect = whole; events = [] })
+
+one : (i : ℕ) (n : TreeNode) → IsAt (root ∷ []) i n → (i ≡ 0) × (root ≡ n)
+one zero n h = (refl, cc)
+one (suc i) n h = absurd (cc)
+
+pub one_tree : IsTree (root ∷ [])
+one_tree = record {
+  root = record { root = root; first = refl; covers = refl };
+  areas = λ i n h. subst (λ (n : TreeNode). IsArea n.rect) (one i n h).1 refl;
+  contents = λ i n h. subst (λ (n : TreeNode). HasContent (root ∷ []) n.level n.rect n.content) (one i n h).1 refl;
+  levels = λ i n h. subst (λ (n : TreeNode). n.level ≤ 0) (one i n h).1 (omega arith);
+  height = omega arith;
+  apart = λ i j n p h k level meet. (one i n h).0 ∙ sym (one j p k).0;
+}
+
+pub one_holds : HoldsMap (root ∷ []) []
+one_holds = record {
+  ordered = sorted_none event_cmp;
+  instants = λ k d lt. absurd (omega arith);
+  cuts = λ i n h. subst (λ (n : TreeNode). IsCut [] n.rect n.content) (one i n h).1 refl;
+  ended = λ i n h. subst (λ (n : TreeNode). EndsBy 0 n.content n.rect.time.to) (one i n h).1 tt;
+}
+
+pub one_sound : (nodes : List TreeNode) → nodes ≡ root ∷ [] → IsSound nodes 0
+one_sound nodes is = subst (λ s. IsSound s 0) (sym is) (record { tree = one_tree; holds = one_holds; last_is = refl })
+
+pub none_yet : (nodes : List TreeNode) → nodes ≡ root ∷ [] → changes nodes ≡ []
+none_yet nodes is = ap changes is

@@ -1,0 +1,63 @@
+-- Data nodes that are split.
+use Rattle.std.proofs.Common.{◌≡◌, ℕ, ◌≤◌, Bool, true, false, List, Option, Some, None, refl, sym, ap, subst, ◌∙◌, inl, inr, if◌then◌else◌}
+use Rattle.std.specs.Prelude.{slice_get}
+use Rattle.values.specs.Event.{Event}
+use Rattle.keyrange.specs.Rect.{Area, IsArea}
+use Rattle.keyrange.specs.Cut.{is_key_inside, is_time_inside, halves_by_key, halves_by_time, AreHalves}
+use Rattle.datanode.specs.Node.{Node, IsCutOf}
+use Rattle.treenodes.specs.declared.node.Child.TheVariants.{Data, Index}
+use Rattle.treenodes.specs.Node.{TreeNode, Content, Events, seen, IsAt, data_node}
+use Rattle.treenodes.specs.Tree.{IsTree}
+use Rattle.treenodes.specs.Map.{HoldsMap, EndsBy, latest}
+use Rattle.treenodes.specs.Split.{AreSplit, HoldCuts}
+use Rattle.treenodes.proofs.NodeNumbers.{one_at}
+
+module _ (nodes : List TreeNode) (number : ℕ) (node a b : Node) (at : IsAt nodes number (data_node node)) where
+  pub split_data : node.rect.time.to ≡ None → AreHalves node.rect a.rect b.rect → IsArea a.rect → IsArea b.rect → (n : TreeNode) → IsAt nodes number n → AreSplit nodes n (seen n.level (Data a)) (seen n.level (Data b))
+  split_data current halves area_a area_b n here = subst (λ (n : TreeNode). AreSplit nodes n (seen n.level (Data a)) (seen n.level (Data b))) (one_at nodes number (data_node node) n at here) (record {
+    current = current;
+    first_level = refl;
+    second_level = refl;
+    halves = halves;
+    first_area = area_a;
+    second_area = area_b;
+    first_has = refl;
+    second_has = refl;
+  })
+
+  -- both halves hold the map's cuts
+  pub halves_hold : (m : List Event) → IsCutOf a m → IsCutOf b m → EndsBy (latest m) (Events a.events) a.rect.time.to → EndsBy (latest m) (Events b.events) b.rect.time.to → HoldCuts m (data_node a) (data_node b)
+  halves_hold m cut_a cut_b ends_a ends_b = record { first_cut = cut_a.events_are; second_cut = cut_b.events_are; first_ends = ends_a; second_ends = ends_b }
+
+pub no_end : (es : List Event) (l : ℕ) (to : Option ℕ) → to ≡ None → EndsBy l (Events es) to
+no_end es l None e = tt
+no_end es l (Some t) e = absurd (cc)
+
+pub this_end : (es : List Event) (l t : ℕ) (to : Option ℕ) → to ≡ Some t → t ≤ l → EndsBy l (Events es) to
+this_end es l t None e h = absurd (cc)
+this_end es l t (Some u) e h = let same : u ≡ t = cc in subst (λ x. x ≤ l) (sym same) h
+
+-- ---- what halves end at
+
+abbrev keys_pair : Area → List ℕ → Area × Area
+keys_pair r key = (record { keys = record { lo = r.keys.lo; hi = Some key }; time = r.time }, record { keys = record { lo = key; hi = r.keys.hi }; time = r.time })
+
+abbrev times_pair : Area → ℕ → Area × Area
+times_pair r t = (record { keys = r.keys; time = record { from = r.time.from; to = Some t } }, record { keys = r.keys; time = record { from = t; to = r.time.to } })
+
+ends : (p q : Area × Area) (x y : Option ℕ) → Some p ≡ Some q → p.0.time.to ≡ x → p.1.time.to ≡ y → (q.0.time.to ≡ x) × (q.1.time.to ≡ y)
+ends p q x y e f g = let same : p ≡ q = cc in (sym (ap (λ (p : Area × Area). p.0.time.to) same) ∙ f, sym (ap (λ (p : Area × Area). p.1.time.to) same) ∙ g)
+
+pub ends_by_key : (r a b : Area) (key : List ℕ) → halves_by_key r key ≡ Some (a, b) → (a.time.to ≡ r.time.to) × (b.time.to ≡ r.time.to)
+ends_by_key r a b key e = by (is_key_inside r key) e
+  where
+    by : (t : Bool) → (if t then Some (keys_pair r key) else None) ≡ Some (a, b) → (a.time.to ≡ r.time.to) × (b.time.to ≡ r.time.to)
+    by true e = ends (keys_pair r key) (a, b) r.time.to r.time.to e refl refl
+    by false e = absurd (cc)
+
+pub ends_by_time : (r a b : Area) (t : ℕ) → halves_by_time r t ≡ Some (a, b) → (a.time.to ≡ Some t) × (b.time.to ≡ r.time.to)
+ends_by_time r a b t e = by (is_time_inside r t) e
+  where
+    by : (s : Bool) → (if s then Some (times_pair r t) else None) ≡ Some (a, b) → (a.time.to ≡ Some t) × (b.time.to ≡ r.time.to)
+    by true e = ends (times_pair r t) (a, b) (Some t) r.time.to e refl refl
+    by false e = absurd (cc)
