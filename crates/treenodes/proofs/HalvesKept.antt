@@ -13,7 +13,7 @@ use Rattle.treenodes.proofs.HalvesParents.{refers, below_there}
 -- a parent that is neither the split node nor its parent is as it was
 pub parent_kept : (before after : List TreeNode) (parent number : ℕ) (first second : TreeNode) → Halved before after parent number first second → (j i : ℕ) → j ≢ number → j ≢ parent → IsParent before j i → IsParent after j i
 parent_kept before after parent number first second halved j i not_number not_parent h =
-    record { level = h.level; rect = h.rect; references = h.references; there = halved.others j _ not_number not_parent h.there; refers = h.refers }
+    record { node = h.node; there = halved.others j h.node not_number not_parent h.there; refers = h.refers }
 
 -- a node's parent stands one level above it
 pub one_above : (nodes : List TreeNode) → IsTree nodes → (j i : ℕ) → IsParent nodes j i → (p q : TreeNode) → IsAt nodes j p → IsAt nodes i q → p.level ≡ q.level + 1

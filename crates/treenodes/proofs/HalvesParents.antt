@@ -1,6 +1,7 @@
 -- A parent and the node below it.
-use Rattle.std.proofs.Common.{◌≡◌, ℕ, ◌+◌, ◌<◌, List, [], ◌∷◌, ◌++◌, length, set, get_or, Option, Some, None, refl, sym, ap, subst, ◌∙◌}
-use Rattle.std.specs.Prelude.{slice_get, IfOk}
+use Rattle.std.proofs.Common.{◌≡◌, ℕ, ◌+◌, ◌<◌, List, [], ◌∷◌, ◌++◌, length, set, get_or, Option, Some, None, refl, sym, ap, subst, ◌∙◌, arith}
+use Rattle.std.specs.Prelude.{slice_get, IfOk, All}
+use Rattle.std.proofs.lemmas.List.Elements.{All-nil}
 use Rattle.std.specs.List.{Any}
 use Rattle.std.specs.declared.result.Result.{Result}
 use Rattle.std.specs.declared.result.Result.TheVariants.{Ok, Err}
@@ -8,8 +9,8 @@ use Rattle.std.proofs.lemmas.Option.{slice_get_within}
 use Rattle.keyrange.specs.Rect.{Area, IsInside}
 use Rattle.indexnode.specs.declared.reference.Reference.{Reference}
 use Rattle.indexnode.specs.Replacement.{HasRect, Replaced}
-use Rattle.treenodes.specs.Node.{Content, Events, References, TreeNode, IsIndexNode, IsAt, seen, rect_of, content_of}
-use Rattle.treenodes.specs.Tree.{RefersTo, IsIndex, IsTree}
+use Rattle.treenodes.specs.Node.{Content, Events, References, TreeNode, IsIndexNode, IsAt, seen, rect_of, references_of}
+use Rattle.treenodes.specs.Tree.{RefersTo, IsIndex, HasContent, IsTree}
 use Rattle.treenodes.specs.Lookup.{IsParent}
 use Rattle.values.specs.Event.{Event}
 use Rattle.indexnode.specs.declared.node.IndexNode.{IndexNode}
@@ -28,15 +29,24 @@ pub given : {T E : Type 0} (r : Result T E) (v : T) (P : T → Type 0) → IfOk 
 given (Ok x) v P is h = subst P (sym is) h
 given (Err e) v P is h = tt
 
+pub weaker : {T E : Type 0} (r : Result T E) (P Q : T → Type 0) → ((x : T) → P x → Q x) → IfOk r P → IfOk r Q
+weaker (Ok x) P Q f h = f x h
+weaker (Err e) P Q f h = tt
+
+index_of : {c : ℕ} (content : Content) → Any (λ (r : Reference ℕ). r.child ≡ c) (references_of content) → IsIndexNode content
+index_of (Events es) h = absurd (let lt : h.0 < 0 = h.2 in omega arith)
+index_of (References rs) h = tt
+
+all_below : (nodes : List TreeNode) (level : ℕ) (rect : Area) (content : Content) → HasContent nodes level rect content → All (RefersTo nodes level) (references_of content)
+all_below nodes level rect (Events es) h = All-nil (RefersTo nodes level)
+all_below nodes level rect (References rs) h = h.below
+
 module _ (nodes : List TreeNode) (tree : IsTree nodes) (p c : ℕ) (h : IsParent nodes p c) where
-  abbrev pub above : TreeNode
-  above = record { level = h.level; rect = h.rect; content = References h.references; packed = None }
-
   pub parent_within : p < length nodes
-  parent_within = slice_get_within nodes p above h.there
+  parent_within = slice_get_within nodes p h.node h.there
 
-  pub refers : RefersTo nodes h.level h.refers.1
-  refers = subst (RefersTo nodes h.level) h.refers.3 ((tree.contents p above h.there).below h.refers.0 h.refers.1 h.refers.2)
+  pub refers : RefersTo nodes h.node.level h.refers.1
+  refers = subst (RefersTo nodes h.node.level) h.refers.3 (all_below nodes h.node.level h.node.rect h.node.content (tree.contents p h.node h.there) h.refers.0 h.refers.1 h.refers.2)
 
   pub below_there : IsAt nodes c refers.node
   below_there = ap (slice_get nodes) (sym h.refers.4) ∙ refers.there
@@ -44,17 +54,20 @@ module _ (nodes : List TreeNode) (tree : IsTree nodes) (p c : ℕ) (h : IsParent
   pub below_within : c < length nodes
   below_within = slice_get_within nodes c refers.node below_there
 
-  pub is_above : (q : TreeNode) → IsAt nodes p q → q ≡ above
-  is_above q at = one_at nodes p q above at h.there
+  pub is_above : (q : TreeNode) → IsAt nodes p q → q ≡ h.node
+  is_above q at = one_at nodes p q h.node at h.there
 
   pub is_index : (q : TreeNode) → IsAt nodes p q → IsIndexNode q.content
-  is_index q at = subst (λ (q : TreeNode). IsIndexNode q.content) (sym (is_above q at)) tt
+  is_index q at = subst (λ (q : TreeNode). IsIndexNode q.content) (sym (is_above q at)) (index_of h.node.content h.refers)
 
-  pub has_rect : (n : TreeNode) → IsAt nodes c n → HasRect n.rect h.references
+  pub has_rect : (n : TreeNode) → IsAt nodes c n → HasRect n.rect (references_of h.node.content)
   has_rect n at = (h.refers.0, h.refers.1, h.refers.2, h.refers.3, refers.same ∙ ap (λ (q : TreeNode). q.rect) (one_at nodes c refers.node n below_there at))
 
-same_references : (l k : ℕ) (a b : Area) (rs ts : List (Reference ℕ)) → ◌≡◌ {A = TreeNode} (record { level = l; rect = a; content = References rs; packed = None }) (record { level = k; rect = b; content = References ts; packed = None }) → rs ≡ ts
-same_references l k a b rs ts e = let inner : References rs ≡ References ts = ap (λ (q : TreeNode). q.content) e in cc
+-- what comes of a split
+pub record HasHalves (nodes : List TreeNode) (p c : ℕ) (first second : Child) (result : List TreeNode) : Type 0 where
+  pub tree : IsTree result
+  pub holds : (m : List Event) (n : TreeNode) → HoldsMap nodes m → IsAt nodes c n → HoldCuts m (seen n.level first) (seen n.level second) → HoldsMap result m
+  pub halved : (n : TreeNode) → IsAt nodes c n → Halved nodes result p c (seen n.level first) (seen n.level second)
 
 -- ---- what the code knows of a node that it splits
 
@@ -63,8 +76,8 @@ module _ (nodes : List TreeNode) (tree : IsTree nodes) (p c : ℕ) (h : IsParent
   at_p : IsAt nodes p (record { level = top.level; rect = x.rect; content = References x.references.items; packed = None })
   at_p = at_top ∙ ap Some is
 
-  references_are : x.references.items ≡ h.references
-  references_are = same_references top.level h.level x.rect h.rect x.references.items h.references (is_above nodes tree p c h _ at_p)
+  references_are : x.references.items ≡ references_of h.node.content
+  references_are = ap (λ (q : TreeNode). references_of q.content) (is_above nodes tree p c h _ at_p)
 
   names_it : Any (λ (r : Reference ℕ). r.child ≡ c) x.references.items
   names_it = subst (Any (λ (r : Reference ℕ). r.child ≡ c)) (sym references_are) h.refers
@@ -74,7 +87,7 @@ module _ (nodes : List TreeNode) (tree : IsTree nodes) (p c : ℕ) (h : IsParent
     halves_of = subst (λ a. AreHalves a lo hi) (sym whole_is) (subst (λ b. AreHalves slot.rect b hi) (sym lo_is) (subst (AreHalves slot.rect (rect_of first)) (sym hi_is) split.halves))
 
     pub has_whole : HasRect whole x.references.items
-    has_whole = subst (HasRect whole) (sym references_are) (subst (λ a. HasRect a h.references) (sym whole_is) (has_rect nodes tree p c h slot at_c))
+    has_whole = subst (HasRect whole) (sym references_are) (subst (λ a. HasRect a (references_of h.node.content)) (sym whole_is) (has_rect nodes tree p c h slot at_c))
 
     module _ (n : ℕ) (n_is : n ≡ length nodes) (rs' : List (Reference ℕ)) (replaced : Replaced whole (record { rect = lo; child = c } ∷ record { rect = hi; child = n } ∷ []) x.references.items rs')
         (tiled : Tiles x.rect x.references.items → Tiles x.rect rs') (current : whole.time.to ≡ None → AreCurrentIn x.rect x.references.items → AreCurrentIn x.rect rs') (meet : IsInside whole x.rect → AllMeet x.rect x.references.items → AllMeet x.rect rs') where
@@ -90,15 +103,20 @@ module _ (nodes : List TreeNode) (tree : IsTree nodes) (p c : ℕ) (h : IsParent
           (subst (λ b. Replaced slot.rect (record { rect = b; child = c } ∷ record { rect = hi; child = n } ∷ []) x.references.items rs') lo_is
           (subst (λ a. Replaced a (record { rect = lo; child = c } ∷ record { rect = hi; child = n } ∷ []) x.references.items rs') whole_is replaced)))
 
-      abbrev pub split_slots : List TreeNode
-      split_slots = set (set nodes c (seen slot.level first)) p (record { level = top.level; rect = x.rect; content = References rs'; packed = None }) ++ seen slot.level second ∷ []
+      abbrev pub split_nodes : List TreeNode
+      split_nodes = set (set nodes c (seen slot.level first)) p (record { level = top.level; rect = x.rect; content = References rs'; packed = None }) ++ seen slot.level second ∷ []
 
-      pub tree_after : IsTree split_slots
+      tree_after : IsTree split_nodes
       tree_after = split_tree nodes tree c p slot (seen slot.level first) (seen slot.level second) at_c split top.level x.rect x.references.items rs' at_p names_it
           (tiled index.tiled) (meet lies index.meet) (current (ap (λ (a : Area). a.time.to) whole_is ∙ split.current) index.inside) placed_as
 
-      pub holds_after : (m : List Event) → HoldsMap nodes m → HoldCuts m (seen slot.level first) (seen slot.level second) → HoldsMap split_slots m
-      holds_after m holds cuts = split_holds nodes tree c p slot (seen slot.level first) (seen slot.level second) at_c split top.level x.rect x.references.items rs' at_p names_it m holds cuts
+      holds_after : (m : List Event) (n : TreeNode) → HoldsMap nodes m → IsAt nodes c n → HoldCuts m (seen n.level first) (seen n.level second) → HoldsMap split_nodes m
+      holds_after m n holds at cuts = split_holds nodes tree c p slot (seen slot.level first) (seen slot.level second) at_c split top.level x.rect x.references.items rs' at_p names_it m holds
+          (subst (λ (q : TreeNode). HoldCuts m (seen q.level first) (seen q.level second)) (one_at nodes c n slot at at_c) cuts)
 
-      pub halved_after : Halved nodes split_slots p c (seen slot.level first) (seen slot.level second)
-      halved_after = halved nodes tree c p slot (seen slot.level first) (seen slot.level second) at_c split top.level x.rect x.references.items rs' at_p names_it _ refl placed_as
+      halved_after : (n : TreeNode) → IsAt nodes c n → Halved nodes split_nodes p c (seen n.level first) (seen n.level second)
+      halved_after n at = subst (λ (q : TreeNode). Halved nodes split_nodes p c (seen q.level first) (seen q.level second)) (one_at nodes c slot n at_c at)
+          (halved nodes tree c p slot (seen slot.level first) (seen slot.level second) at_c split top.level x.rect x.references.items rs' at_p names_it _ refl placed_as)
+
+      pub has_halves : (low middle high : TreeNode) → low ≡ seen slot.level first → middle ≡ record { level = top.level; rect = x.rect; content = References rs'; packed = None } → high ≡ seen slot.level second → HasHalves nodes p c first second (set (set nodes c low) p middle ++ high ∷ [])
+      has_halves low middle high a b d = subst (HasHalves nodes p c first second) (λ t. set (set nodes c (sym a t)) p (sym b t) ++ sym d t ∷ []) (record { tree = tree_after; holds = holds_after; halved = halved_after })

@@ -10,7 +10,7 @@ use Rattle.values.specs.Commits.{max_instant}
 use Rattle.keyrange.specs.Rect.{Area, has_point, Common, IsArea, IsInside}
 use Rattle.keyrange.specs.Range.{is_before_end, is_below}
 use Rattle.keyrange.specs.Cut.{PartsKeys, PartsTime, AreHalves}
-use Rattle.keyrange.proofs.RectInside.{first_key_in, first_instant_in}
+use Rattle.keyrange.proofs.RectInside.{first_key_in, first_instant_in, inside_itself, halves_inside, halves_apart, common_to_outer, common_either_way, inner_is_common}
 use Rattle.indexnode.specs.declared.reference.Reference.{Reference}
 use Rattle.indexnode.specs.Node.{Tiles, AllMeet, at_point}
 use Rattle.indexnode.specs.Split.{is_current, AreCurrentIn}
@@ -22,45 +22,6 @@ use Rattle.treenodes.specs.Map.{HoldsMap, IsCut, EndsBy, latest}
 use Rattle.treenodes.specs.Lookup.{IsParent}
 use Rattle.treenodes.specs.Split.{AreSplit, HoldCuts, Halved}
 use Rattle.treenodes.proofs.NodeNumbers.{at_set, set_other, set_same, at_push, push_old, push_new, one_at, same_or_not}
-
--- ---- what halves are
-
-differ : (a t : Bool) → (a && t) ≡ true → (a && not t) ≡ true → ⊥
-differ true true e f = cc
-differ true false e f = cc
-differ false t e f = cc
-
-pub first_in : (rect a b : Area) → AreHalves rect a b → IsInside a rect
-first_in rect a b (inl h) = one_in rect a b h.0 h.1
-first_in rect a b (inr h) = past_in rect a b h.0 h.1
-
-pub second_in : (rect a b : Area) → AreHalves rect a b → IsInside b rect
-second_in rect a b (inl h) = other_in rect a b h.0 h.1
-second_in rect a b (inr h) = now_in rect a b h.0 h.1
-
-pub none_in_both : (rect a b : Area) → AreHalves rect a b → (key : List ℕ) (instant : ℕ) → has_point a key instant ≡ true → has_point b key instant ≡ true → ⊥
-none_in_both rect a b (inl h) key instant p q = differ (has_point rect key instant) (is_below key h.0) (sym (h.1.below key instant) ∙ p) (sym (h.1.above key instant) ∙ q)
-none_in_both rect a b (inr h) key instant p q = differ (has_point rect key instant) (nat_lt instant h.0) (sym (h.1.before key instant) ∙ p) (sym (h.1.after key instant) ∙ q)
-
-pub common_in : (a b c : Area) → IsInside a b → Common a c → Common b c
-common_in a b c h k = record { key = k.key; instant = k.instant; is_first = k.is_first; is_last = k.is_last; in_first = h k.key k.instant k.in_first; in_second = k.in_second }
-
-pub turned : (a b : Area) → Common a b → Common b a
-turned a b k = record { key = k.key; instant = k.instant; is_first = k.is_first; is_last = k.is_last; in_first = k.in_second; in_second = k.in_first }
-
--- a rectangle has a point, so two that it lies in have one in common
-pub common_of : (r a b : Area) → IsArea r → IsInside r a → IsInside r b → Common a b
-common_of r a b area in_a in_b =
-    let rest = (and_parts (is_before_end r.keys.lo r.keys.hi) _ area).1 in
-    let has : has_point r r.keys.lo r.time.from ≡ true = and_from _ _ (first_key_in r area) (first_instant_in r area) in
-    record {
-      key = r.keys.lo;
-      instant = r.time.from;
-      is_first = leb-true 1 r.time.from (and_parts _ _ rest).0;
-      is_last = leb-true r.time.from max_instant (and_parts _ _ (and_parts (nat_le 1 r.time.from) _ rest).1).0;
-      in_first = in_a r.keys.lo r.time.from has;
-      in_second = in_b r.keys.lo r.time.from has;
-    }
 
 -- ---- of a list in which one alone passes, none behind that one does
 
@@ -118,11 +79,11 @@ module _ (nodes : List TreeNode) (tree : IsTree nodes) (c p : ℕ) (n first seco
       subst (λ a. IsInside a rp) e (the_reference.2.1 (is_current_ref r e))
 
   -- no other index node refers to it
-  one_parent : (q level : ℕ) (rect : Area) (ts : List (Reference ℕ)) → IsAt nodes q (record { level = level; rect = rect; content = References ts; packed = None }) → q ≢ p → (r : Reference ℕ) → RefersTo nodes level r → (IsTrue (is_current r) → IsInside r.rect rect) → r.child ≢ c
-  one_parent q level rect ts at_q other r refers_r inside e =
+  one_parent : (q level : ℕ) (rect : Area) (ts : List (Reference ℕ)) (pk : Option (List ℕ)) → IsAt nodes q (record { level = level; rect = rect; content = References ts; packed = pk }) → q ≢ p → (r : Reference ℕ) → RefersTo nodes level r → (IsTrue (is_current r) → IsInside r.rect rect) → r.child ≢ c
+  one_parent q level rect ts pk at_q other r refers_r inside e =
       let o = of_node level r refers_r e in
       let lies : IsInside n.rect rect = subst (λ a. IsInside a rect) o.1 (inside (is_current_ref r o.1)) in
-      other (tree.apart q p _ parent at_q at_p (o.0 ∙ sym above) (common_of n.rect rect rp (tree.areas c n at_c) lies in_parent))
+      other (tree.apart q p _ parent at_q at_p (o.0 ∙ sym above) (inner_is_common n.rect rect rp (tree.areas c n at_c) lies in_parent))
 
   c_not_p : c ≢ p
   c_not_p e =
@@ -185,13 +146,13 @@ module _ (nodes : List TreeNode) (tree : IsTree nodes) (c p : ℕ) (n first seco
   own rect (Events es) h = h
   own rect (References ts) h = record { tiled = h.tiled; meet = h.meet; inside = h.inside; below = All-weaker (RefersTo nodes n.level) (RefersTo after n.level) (λ r refers_r. still_refers n.level r (λ e. absurd (let o = (of_node n.level r refers_r e).0 in omega arith)) refers_r) ts h.below }
 
-  kept : (q level : ℕ) (rect : Area) (content : Content) → IsAt nodes q (record { level = level; rect = rect; content = content; packed = None }) → q ≢ p → HasContent nodes level rect content → HasContent after level rect content
-  kept q level rect (Events es) at_q other h = h
-  kept q level rect (References ts) at_q other h = record {
+  kept : (q level : ℕ) (rect : Area) (content : Content) (pk : Option (List ℕ)) → IsAt nodes q (record { level = level; rect = rect; content = content; packed = pk }) → q ≢ p → HasContent nodes level rect content → HasContent after level rect content
+  kept q level rect (Events es) pk at_q other h = h
+  kept q level rect (References ts) pk at_q other h = record {
     tiled = h.tiled;
     meet = h.meet;
     inside = h.inside;
-    below = λ k d lt. still_refers level (get_or ts k d) (one_parent q level rect ts at_q other (get_or ts k d) (h.below k d lt) (h.inside k d lt)) (h.below k d lt);
+    below = λ k d lt. still_refers level (get_or ts k d) (one_parent q level rect ts pk at_q other (get_or ts k d) (h.below k d lt) (h.inside k d lt)) (h.below k d lt);
   }
 
   module _ (tiled : Tiles rp rs') (meet : AllMeet rp rs') (inside : AreCurrentIn rp rs') (replaced : Replaced n.rect (record { rect = first.rect; child = c } ∷ record { rect = second.rect; child = length nodes } ∷ []) rs rs') where
@@ -245,13 +206,10 @@ module _ (nodes : List TreeNode) (tree : IsTree nodes) (c p : ℕ) (n first seco
     -- ---- rectangles
 
     a_in : IsInside first.rect n.rect
-    a_in = first_in n.rect first.rect second.rect split.halves
+    a_in = (halves_inside n.rect first.rect second.rect split.halves).0
 
     b_in : IsInside second.rect n.rect
-    b_in = second_in n.rect first.rect second.rect split.halves
-
-    itself : (a : Area) → IsInside a a
-    itself a key instant h = h
+    b_in = (halves_inside n.rect first.rect second.rect split.halves).1
 
     -- each node but the second half was there, of its level and round it
     record WasRound (j : ℕ) (q : TreeNode) : Type 0 where
@@ -265,9 +223,9 @@ module _ (nodes : List TreeNode) (tree : IsTree nodes) (c p : ℕ) (n first seco
 
     round_by : (j : ℕ) (q : TreeNode) → Where j q → Round j q
     round_by j q (inl e) = inl e
-    round_by j q (inr (inl e)) = inr (record { before = parent; there = ap (slice_get nodes) e.0 ∙ at_p; level = ap (λ (q : TreeNode). q.level) e.1; round = subst (λ (q : TreeNode). IsInside q.rect rp) (sym e.1) (itself rp) })
+    round_by j q (inr (inl e)) = inr (record { before = parent; there = ap (slice_get nodes) e.0 ∙ at_p; level = ap (λ (q : TreeNode). q.level) e.1; round = subst (λ (q : TreeNode). IsInside q.rect rp) (sym e.1) (inside_itself rp) })
     round_by j q (inr (inr (inl e))) = inr (record { before = n; there = ap (slice_get nodes) e.0 ∙ at_c; level = ap (λ (q : TreeNode). q.level) e.1 ∙ split.first_level; round = subst (λ (q : TreeNode). IsInside q.rect n.rect) (sym e.1) a_in })
-    round_by j q (inr (inr (inr h))) = inr (record { before = q; there = h.1.1; level = refl; round = itself q.rect })
+    round_by j q (inr (inr (inr h))) = inr (record { before = q; there = h.1.1; level = refl; round = inside_itself q.rect })
 
     round_is : (j : ℕ) (q : TreeNode) → IsAt after j q → Round j q
     round_is j q here = round_by j q (where_is j q here)
@@ -275,20 +233,20 @@ module _ (nodes : List TreeNode) (tree : IsTree nodes) (c p : ℕ) (n first seco
     -- what meets the second half was the node, and now is the first half, which does not
     meets_second : (j : ℕ) (q : TreeNode) → IsAt after j q → WasRound j q → q.level ≡ n.level → Common second.rect q.rect → ⊥
     meets_second j q here w level meet =
-        let old : Common n.rect w.before.rect = turned w.before.rect n.rect (common_in q.rect w.before.rect n.rect w.round (turned n.rect q.rect (common_in second.rect n.rect q.rect b_in meet))) in
+        let old : Common n.rect w.before.rect = common_either_way w.before.rect n.rect (common_to_outer q.rect w.before.rect n.rect w.round (common_either_way n.rect q.rect (common_to_outer second.rect n.rect q.rect b_in meet))) in
         let at : c ≡ j = tree.apart c j n w.before at_c w.there (sym level ∙ w.level) old in
         let same : q ≡ first = one_at after j q first here (ap (slice_get after) (sym at) ∙ at_first) in
-        none_in_both n.rect first.rect second.rect split.halves meet.key meet.instant (subst (λ (q : TreeNode). has_point q.rect meet.key meet.instant ≡ true) same meet.in_second) meet.in_first
+        halves_apart n.rect first.rect second.rect split.halves (common_either_way second.rect first.rect (subst (λ (q : TreeNode). Common second.rect q.rect) same meet))
 
     apart_by : (j k : ℕ) (q r : TreeNode) → IsAt after j q → IsAt after k r → q.level ≡ r.level → Common q.rect r.rect → Round j q → Round k r → j ≡ k
     apart_by j k q r at_j at_k level meet (inl e) (inl f) = e.0 ∙ sym f.0
     apart_by j k q r at_j at_k level meet (inl e) (inr w) =
         absurd (meets_second k r at_k w (sym level ∙ ap (λ (q : TreeNode). q.level) e.1 ∙ split.second_level) (subst (λ (q : TreeNode). Common q.rect r.rect) e.1 meet))
     apart_by j k q r at_j at_k level meet (inr w) (inl e) =
-        absurd (meets_second j q at_j w (level ∙ ap (λ (q : TreeNode). q.level) e.1 ∙ split.second_level) (subst (λ (r : TreeNode). Common r.rect q.rect) e.1 (turned q.rect r.rect meet)))
+        absurd (meets_second j q at_j w (level ∙ ap (λ (q : TreeNode). q.level) e.1 ∙ split.second_level) (subst (λ (r : TreeNode). Common r.rect q.rect) e.1 (common_either_way q.rect r.rect meet)))
     apart_by j k q r at_j at_k level meet (inr w) (inr v) =
         tree.apart j k w.before v.before w.there v.there (sym w.level ∙ level ∙ v.level)
-        (common_in q.rect w.before.rect v.before.rect w.round (turned v.before.rect q.rect (common_in r.rect v.before.rect q.rect v.round (turned q.rect r.rect meet))))
+        (common_to_outer q.rect w.before.rect v.before.rect w.round (common_either_way v.before.rect q.rect (common_to_outer r.rect v.before.rect q.rect v.round (common_either_way q.rect r.rect meet))))
 
     area_by : (j : ℕ) (q : TreeNode) → Where j q → IsArea q.rect
     area_by j q (inl e) = subst (λ (q : TreeNode). IsArea q.rect) (sym e.1) split.second_area
@@ -300,7 +258,7 @@ module _ (nodes : List TreeNode) (tree : IsTree nodes) (c p : ℕ) (n first seco
     has_by j q (inl e) = subst (λ (q : TreeNode). HasContent after q.level q.rect q.content) (sym e.1) (subst (λ l. HasContent after l second.rect second.content) (sym split.second_level) (own second.rect second.content split.second_has))
     has_by j q (inr (inl e)) = subst (λ (q : TreeNode). HasContent after q.level q.rect q.content) (sym e.1) parent_index
     has_by j q (inr (inr (inl e))) = subst (λ (q : TreeNode). HasContent after q.level q.rect q.content) (sym e.1) (subst (λ l. HasContent after l first.rect first.content) (sym split.first_level) (own first.rect first.content split.first_has))
-    has_by j q (inr (inr (inr h))) = kept j q.level q.rect q.content h.1.1 h.1.0 (tree.contents j q h.1.1)
+    has_by j q (inr (inr (inr h))) = kept j q.level q.rect q.content q.packed h.1.1 h.1.0 (tree.contents j q h.1.1)
 
     level_by : (j : ℕ) (q : TreeNode) → Round j q → q.level ≤ tree.root.root.level
     level_by j q (inl e) = let le : n.level ≤ tree.root.root.level = tree.levels c n at_c in let is : q.level ≡ n.level = ap (λ (q : TreeNode). q.level) e.1 ∙ split.second_level in omega arith
@@ -344,7 +302,7 @@ module _ (nodes : List TreeNode) (tree : IsTree nodes) (c p : ℕ) (n first seco
     above = parent';
     above_there = at_parent;
     as_before = λ q at_q. let same = one_at nodes p parent q at_p at_q in
-        (ap (λ (q : TreeNode). q.level) same, (ap (λ (q : TreeNode). q.rect) same, more ∙ ap (λ (q : TreeNode). length (references_of q.content) + 1) same));
+        record { level = ap (λ (q : TreeNode). q.level) same; rect = ap (λ (q : TreeNode). q.rect) same; index = tt; more = more ∙ ap (λ (q : TreeNode). length (references_of q.content) + 1) same };
   }
     where
       more : length rs' ≡ length rs + 1

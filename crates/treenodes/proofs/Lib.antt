@@ -20,3 +20,8 @@ pub mod EventTaken
 pub mod LawsOneChild
 pub mod RootAlone
 pub mod RootRaised
+pub mod HalvesTree
+pub mod HalvesParents
+pub mod HalvesKept
+pub mod SplitData
+pub mod SplitIndex

@@ -1,11 +1,12 @@
 -- One data node of the whole rectangle is a tree.
 use Rattle.std.proofs.Common.{◌≡◌, ℕ, zero, suc, ◌+◌, ◌<◌, ◌≤◌, List, [], ◌∷◌, length, Option, Some, None, refl, sym, ap, subst, ◌∙◌, arith}
 use Rattle.std.specs.Prelude.{slice_get}
+use Rattle.std.proofs.lemmas.List.Elements.{All-nil, All-cons}
 use Rattle.values.specs.Event.{Event}
 use Rattle.values.specs.Events.{event_cmp}
 use Rattle.eventlist.proofs.PlaceOrder.{sorted_none}
 use Rattle.keyrange.specs.Rect.{IsArea}
-use Rattle.treenodes.specs.Node.{TreeNode, Content, Events, IsAt, data_node}
+use Rattle.treenodes.specs.Node.{TreeNode, Content, Events, IsAt, data_node, count_of}
 use Rattle.treenodes.specs.Tree.{IsTree, whole, HasContent}
 use Rattle.treenodes.specs.Map.{HoldsMap, IsCut, EndsBy, changes}
 use Rattle.treenodes.specs.Sound.{IsSound}
@@ -36,7 +37,7 @@ one_holds = record {
 }
 
 pub one_sound : (nodes : List TreeNode) → nodes ≡ root ∷ [] → IsSound nodes 0
-one_sound nodes is = subst (λ s. IsSound s 0) (sym is) (record { tree = one_tree; holds = one_holds; last_is = refl })
+one_sound nodes is = subst (λ s. IsSound s 0) (sym is) (record { tree = one_tree; holds = one_holds; last_is = refl; small = All-cons (λ n. count_of n.content ≤ 64) root [] (omega arith) (All-nil (λ n. count_of n.content ≤ 64)) })
 
 pub none_yet : (nodes : List TreeNode) → nodes ≡ root ∷ [] → changes nodes ≡ []
 none_yet nodes is = ap changes is

@@ -12,8 +12,9 @@ use Rattle.treenodes.specs.Node.{Content, Events, References, TreeNode, IsAt}
 use Rattle.treenodes.specs.Tree.{RefersTo, IsIndex, HasContent, HasRoot, AreApart, IsTree}
 use Rattle.treenodes.specs.Map.{HoldsMap, IsCut, EndsBy, latest}
 use Rattle.treenodes.specs.Lookup.{IsParent}
+use Rattle.treenodes.specs.Root.{root_over}
 use Rattle.treenodes.proofs.NodeNumbers.{at_set, set_other, set_same, at_push, push_old, push_new, one_at, same_or_not}
-use Rattle.treenodes.proofs.HalvesTree.{turned}
+use Rattle.keyrange.proofs.RectInside.{common_either_way}
 
 module _ (nodes : List TreeNode) (tree : IsTree nodes) (root : TreeNode) (at_root : IsAt nodes 0 root) (rs : List (Reference ℕ)) where
   abbrev pub top : TreeNode
@@ -104,7 +105,7 @@ module _ (nodes : List TreeNode) (tree : IsTree nodes) (root : TreeNode) (at_roo
     apart_by : (j k : ℕ) (q r : TreeNode) → q.level ≡ r.level → Common q.rect r.rect → Where j q → Where k r → j ≡ k
     apart_by j k q r level meets (inl e) w = e.0 ∙ sym (alone_old k r (sym level ∙ ap (λ (q : TreeNode). q.level) e.1) (subst (λ (q : TreeNode). Common q.rect r.rect) e.1 meets) w)
     apart_by j k q r level meets (inr (inl e)) w = e.0 ∙ sym (alone_top k r (sym level ∙ ap (λ (q : TreeNode). q.level) e.1) w)
-    apart_by j k q r level meets (inr (inr h)) (inl e) = alone_old j q (level ∙ ap (λ (q : TreeNode). q.level) e.1) (subst (λ (r : TreeNode). Common r.rect q.rect) e.1 (turned q.rect r.rect meets)) (inr (inr h)) ∙ sym e.0
+    apart_by j k q r level meets (inr (inr h)) (inl e) = alone_old j q (level ∙ ap (λ (q : TreeNode). q.level) e.1) (subst (λ (r : TreeNode). Common r.rect q.rect) e.1 (common_either_way q.rect r.rect meets)) (inr (inr h)) ∙ sym e.0
     apart_by j k q r level meets (inr (inr h)) (inr (inl e)) = alone_top j q (level ∙ ap (λ (q : TreeNode). q.level) e.1) (inr (inr h)) ∙ sym e.0
     apart_by j k q r level meets (inr (inr h)) (inr (inr g)) = tree.apart j k q r h.1 g.1 level meets
 
@@ -122,7 +123,7 @@ module _ (nodes : List TreeNode) (tree : IsTree nodes) (root : TreeNode) (at_roo
     }
 
     pub raised_parent : IsParent raised 0 (length nodes)
-    raised_parent = record { level = root.level + 1; rect = root.rect; references = rs; there = at_top; refers = named rs are }
+    raised_parent = record { node = top; there = at_top; refers = named rs are }
       where
         named : (ts : List (Reference ℕ)) → ts ≡ record { rect = root.rect; child = length nodes } ∷ [] → Any (λ (r : Reference ℕ). r.child ≡ length nodes) ts
         named ts e = subst (Any (λ (r : Reference ℕ). r.child ≡ length nodes)) (sym e) (0, record { rect = root.rect; child = length nodes }, omega arith, refl, refl)
@@ -142,6 +143,13 @@ module _ (nodes : List TreeNode) (tree : IsTree nodes) (root : TreeNode) (at_roo
     raised_holds = record { ordered = holds.ordered; instants = holds.instants; cuts = λ j q here. cut_by j q (where_is j q here); ended = λ j q here. ends_by j q (where_is j q here) }
 
 -- ---- over the code's terms
+
+pub record IsRaised (nodes result : List TreeNode) : Type 0 where
+  pub tree : IsTree result
+  pub parent : IsParent result 0 (length nodes)
+  pub holds : (m : List Event) → HoldsMap nodes m → HoldsMap result m
+  pub exactly : (r : TreeNode) → IsAt nodes 0 r → result ≡ set nodes 0 (root_over r (length nodes)) ++ r ∷ []
+
 module _ (nodes : List TreeNode) (tree : IsTree nodes) (root : TreeNode) (at_root : IsAt nodes 0 root) (lower : Area) (number : ℕ) (rs : List (Reference ℕ)) (rect_is : lower ≡ root.rect) (number_is : number ≡ length nodes)
     (are : rs ≡ record { rect = lower; child = number } ∷ []) (tiled : Tiles lower rs) (inside : All (λ r. IsInside r.rect lower) rs) (meet : (outer : Area) → IsInside lower outer → AllMeet outer rs) (l : ℕ) (area : Area) (items : List (Reference ℕ)) (made : TreeNode) (result : List TreeNode)
     (level_is : l ≡ root.level) (area_is : area ≡ root.rect) (items_are : items ≡ rs) (made_is : made ≡ record { level = l + 1; rect = area; content = References items; packed = None }) (result_is : result ≡ set nodes 0 made ++ root ∷ []) where
@@ -151,11 +159,19 @@ module _ (nodes : List TreeNode) (tree : IsTree nodes) (root : TreeNode) (at_roo
   are_so : rs ≡ record { rect = root.rect; child = length nodes } ∷ []
   are_so = are ∙ (λ t. record { rect = rect_is t; child = number_is t } ∷ [])
 
-  pub raised_is_tree : IsTree result
-  raised_is_tree = subst IsTree (sym same) (raised_tree nodes tree root at_root rs are_so (subst (λ a. Tiles a rs) rect_is tiled) (subst (λ a. All (λ r. IsInside r.rect a) rs) rect_is inside) (meet root.rect (λ key instant h. subst (λ a. has_point a key instant ≡ true) rect_is h)))
+  new_tree : IsTree result
+  new_tree = subst IsTree (sym same) (raised_tree nodes tree root at_root rs are_so (subst (λ a. Tiles a rs) rect_is tiled) (subst (λ a. All (λ r. IsInside r.rect a) rs) rect_is inside) (meet root.rect (λ key instant h. subst (λ a. has_point a key instant ≡ true) rect_is h)))
 
-  pub raised_has_parent : IsParent result 0 (length nodes)
-  raised_has_parent = subst (λ s. IsParent s 0 (length nodes)) (sym same) (raised_parent nodes tree root at_root rs are_so (subst (λ a. Tiles a rs) rect_is tiled) (subst (λ a. All (λ r. IsInside r.rect a) rs) rect_is inside) (meet root.rect (λ key instant h. subst (λ a. has_point a key instant ≡ true) rect_is h)))
+  new_parent : IsParent result 0 (length nodes)
+  new_parent = subst (λ s. IsParent s 0 (length nodes)) (sym same) (raised_parent nodes tree root at_root rs are_so (subst (λ a. Tiles a rs) rect_is tiled) (subst (λ a. All (λ r. IsInside r.rect a) rs) rect_is inside) (meet root.rect (λ key instant h. subst (λ a. has_point a key instant ≡ true) rect_is h)))
 
-  pub raised_holds_map : (m : List Event) → HoldsMap nodes m → HoldsMap result m
-  raised_holds_map m holds = subst (λ s. HoldsMap s m) (sym same) (raised_holds nodes tree root at_root rs m holds)
+  new_holds : (m : List Event) → HoldsMap nodes m → HoldsMap result m
+  new_holds m holds = subst (λ s. HoldsMap s m) (sym same) (raised_holds nodes tree root at_root rs m holds)
+
+  exactly : (r : TreeNode) → IsAt nodes 0 r → result ≡ set nodes 0 (root_over r (length nodes)) ++ r ∷ []
+  exactly r at =
+      same ∙ ap (λ ts. set nodes 0 (record { level = root.level + 1; rect = root.rect; content = References ts; packed = None }) ++ root ∷ []) are_so
+      ∙ ap (λ q. set nodes 0 (root_over q (length nodes)) ++ q ∷ []) (one_at nodes 0 root r at_root at)
+
+  pub is_raised : IsRaised nodes result
+  is_raised = record { tree = new_tree; parent = new_parent; holds = new_holds; exactly = exactly }

@@ -1,0 +1,62 @@
+use Rattle.std.proofs.Common.{◌≡◌, ◌++◌, ◌∷◌, [], set, refl, sym, ap, ◌∙◌}
+use Rattle.std.specs.Prelude.{IfOk, None}
+use Rattle.keyrange.specs.Rect.{Area}
+use Rattle.treenodes.specs.Node.{TreeNode, References, seen}
+use Rattle.treenodes.specs.Tree.{IsTree}
+use Rattle.treenodes.specs.Map.{HoldsMap}
+use Rattle.treenodes.specs.Split.{Halved}
+use Rattle.treenodes.proofs.HalvesParents.{parent_within, below_within, is_index, halves_of, has_whole, HasHalves, has_halves, given, weaker}
+use Rattle.treenodes.proofs.halves.with_halves.Goals as goal
+
+pub at-slot-requires : goal.at-slot-requires
+at-slot-requires c = below_within c.args.nodes c.requires.tree c.args.parent c.args.number c.requires.parent
+
+pub at-above-requires : goal.at-above-requires
+at-above-requires c = parent_within c.args.nodes c.requires.tree c.args.parent c.args.number c.requires.parent
+
+pub index-requires : goal.index-requires
+index-requires c = is_index c.args.nodes c.requires.tree c.args.parent c.args.number c.requires.parent _ c.at-above.ensures
+
+pub with_references-requires-clause-halves : goal.with_references-requires-clause-halves
+with_references-requires-clause-halves c =
+    let slot = c.at-slot.result.now in
+    halves_of c.args.nodes c.requires.tree c.args.parent c.args.number c.requires.parent slot c.at-above.result.now c.at-slot.ensures c.at-above.ensures c.index.result.now c.index.ensures c.args.first c.args.second
+    (c.requires.split slot c.at-slot.ensures) c.rect-3.result.now c.in_ok-copy.field-0 c.in_ok-copy-2.field-0
+    (c.rect-3.ensures.rect ∙ sym (ap (λ (q : TreeNode). q.rect) c.child.ensures)) (c.in_ok-copy.ensures.ok ∙ c.rect.ensures.rect) (c.in_ok-copy-2.ensures.ok ∙ c.rect-2.ensures.rect)
+
+pub with_references-requires-clause-there : goal.with_references-requires-clause-there
+with_references-requires-clause-there c =
+    let slot = c.at-slot.result.now in
+    has_whole c.args.nodes c.requires.tree c.args.parent c.args.number c.requires.parent slot c.at-above.result.now c.at-slot.ensures c.at-above.ensures c.index.result.now c.index.ensures c.args.first c.args.second
+    (c.requires.split slot c.at-slot.ensures) c.rect-3.result.now c.in_ok-copy.field-0 c.in_ok-copy-2.field-0
+    (c.rect-3.ensures.rect ∙ sym (ap (λ (q : TreeNode). q.rect) c.child.ensures)) (c.in_ok-copy.ensures.ok ∙ c.rect.ensures.rect) (c.in_ok-copy-2.ensures.ok ∙ c.rect-2.ensures.rect)
+
+pub placed-requires-clause-number : goal.placed-requires-clause-number
+placed-requires-clause-number c = below_within c.args.nodes c.requires.tree c.args.parent c.args.number c.requires.parent
+
+pub placed-requires-clause-parent : goal.placed-requires-clause-parent
+placed-requires-clause-parent c = parent_within c.args.nodes c.requires.tree c.args.parent c.args.number c.requires.parent
+
+facts : (c : goal.After-placed) → IfOk c.placed.result (HasHalves c.args.nodes c.args.parent c.args.number c.args.first c.args.second)
+facts c =
+    let slot = c.at-slot.result.now in
+    let node = c.in_ok-node.node in
+    given c.placed.result _ (HasHalves c.args.nodes c.args.parent c.args.number c.args.first c.args.second) c.placed.ensures.ok
+    (has_halves c.args.nodes c.requires.tree c.args.parent c.args.number c.requires.parent slot c.at-above.result.now c.at-slot.ensures c.at-above.ensures c.index.result.now c.index.ensures c.args.first c.args.second
+    (c.requires.split slot c.at-slot.ensures) c.rect-3.result.now c.in_ok-copy.field-0 c.in_ok-copy-2.field-0
+    (c.rect-3.ensures.rect ∙ sym (ap (λ (q : TreeNode). q.rect) c.child.ensures)) (c.in_ok-copy.ensures.ok ∙ c.rect.ensures.rect) (c.in_ok-copy-2.ensures.ok ∙ c.rect-2.ensures.rect)
+    c.len.result c.len.ensures node.references.items c.in_ok-node.ensures.replaced c.in_ok-node.ensures.tiled c.in_ok-node.ensures.current c.in_ok-node.ensures.meet
+    c.in_ok-low.low c.in_ok-middle.middle c.in_ok-high.high
+    (c.in_ok-low.ensures.ok ∙ ap (λ l. seen l c.args.first) c.level-level.ensures)
+    (c.in_ok-middle.ensures.ok ∙ (λ t. record { level = c.level.ensures t; rect = c.in_ok-node.ensures.rect t; content = References node.references.items; packed = None }))
+    (c.in_ok-high.ensures.ok ∙ ap (λ l. seen l c.args.second) c.level-level.ensures))
+
+pub returns-clause-tree : goal.returns-clause-tree
+returns-clause-tree c = weaker c.placed.result (HasHalves c.args.nodes c.args.parent c.args.number c.args.first c.args.second) IsTree (λ s h. h.tree) (facts c)
+
+pub returns-clause-holds : goal.returns-clause-holds
+returns-clause-holds c = λ m n holds at cuts. weaker c.placed.result (HasHalves c.args.nodes c.args.parent c.args.number c.args.first c.args.second) (λ s. HoldsMap s m) (λ s h. h.holds m n holds at cuts) (facts c)
+
+pub returns-clause-halved : goal.returns-clause-halved
+returns-clause-halved c = λ n at. weaker c.placed.result (HasHalves c.args.nodes c.args.parent c.args.number c.args.first c.args.second)
+    (λ s. Halved c.args.nodes s c.args.parent c.args.number (seen n.level c.args.first) (seen n.level c.args.second)) (λ s h. h.halved n at) (facts c)
