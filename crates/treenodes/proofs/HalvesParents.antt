@@ -6,7 +6,7 @@ use Rattle.std.specs.List.{Any}
 use Rattle.std.specs.declared.result.Result.{Result}
 use Rattle.std.specs.declared.result.Result.TheVariants.{Ok, Err}
 use Rattle.std.proofs.lemmas.Option.{slice_get_within}
-use Rattle.keyrange.specs.Rect.{Area, IsInside}
+use Rattle.keyrange.specs.Rect.{Area, IsInside, IsArea}
 use Rattle.indexnode.specs.declared.reference.Reference.{Reference}
 use Rattle.indexnode.specs.Replacement.{HasRect, Replaced}
 use Rattle.treenodes.specs.Node.{Content, Events, References, TreeNode, IsIndexNode, IsAt, seen, rect_of, references_of}
@@ -89,7 +89,7 @@ module _ (nodes : List TreeNode) (tree : IsTree nodes) (p c : ℕ) (h : IsParent
     pub has_whole : HasRect whole x.references.items
     has_whole = subst (HasRect whole) (sym references_are) (subst (λ a. HasRect a (references_of h.node.content)) (sym whole_is) (has_rect nodes tree p c h slot at_c))
 
-    module _ (n : ℕ) (n_is : n ≡ length nodes) (rs' : List (Reference ℕ)) (replaced : Replaced whole (record { rect = lo; child = c } ∷ record { rect = hi; child = n } ∷ []) x.references.items rs')
+    module _ (area_first : IsArea (rect_of first)) (area_second : IsArea (rect_of second)) (n : ℕ) (n_is : n ≡ length nodes) (rs' : List (Reference ℕ)) (replaced : Replaced whole (record { rect = lo; child = c } ∷ record { rect = hi; child = n } ∷ []) x.references.items rs')
         (tiled : Tiles x.rect x.references.items → Tiles x.rect rs') (current : whole.time.to ≡ None → AreCurrentIn x.rect x.references.items → AreCurrentIn x.rect rs') (meet : IsInside whole x.rect → AllMeet x.rect x.references.items → AllMeet x.rect rs') where
       index : IsIndex nodes top.level x.rect x.references.items
       index = tree.contents p _ at_p
@@ -107,7 +107,7 @@ module _ (nodes : List TreeNode) (tree : IsTree nodes) (p c : ℕ) (h : IsParent
       split_nodes = set (set nodes c (seen slot.level first)) p (record { level = top.level; rect = x.rect; content = References rs'; packed = None }) ++ seen slot.level second ∷ []
 
       tree_after : IsTree split_nodes
-      tree_after = split_tree nodes tree c p slot (seen slot.level first) (seen slot.level second) at_c split top.level x.rect x.references.items rs' at_p names_it
+      tree_after = split_tree nodes tree c p slot (seen slot.level first) (seen slot.level second) at_c split top.level x.rect x.references.items rs' at_p names_it area_first area_second
           (tiled index.tiled) (meet lies index.meet) (current (ap (λ (a : Area). a.time.to) whole_is ∙ split.current) index.inside) placed_as
 
       holds_after : (m : List Event) (n : TreeNode) → HoldsMap nodes m → IsAt nodes c n → HoldCuts m (seen n.level first) (seen n.level second) → HoldsMap split_nodes m

@@ -155,7 +155,7 @@ module _ (nodes : List TreeNode) (tree : IsTree nodes) (c p : ℕ) (n first seco
     below = λ k d lt. still_refers level (get_or ts k d) (one_parent q level rect ts pk at_q other (get_or ts k d) (h.below k d lt) (h.inside k d lt)) (h.below k d lt);
   }
 
-  module _ (tiled : Tiles rp rs') (meet : AllMeet rp rs') (inside : AreCurrentIn rp rs') (replaced : Replaced n.rect (record { rect = first.rect; child = c } ∷ record { rect = second.rect; child = length nodes } ∷ []) rs rs') where
+  module _ (area_first : IsArea first.rect) (area_second : IsArea second.rect) (tiled : Tiles rp rs') (meet : AllMeet rp rs') (inside : AreCurrentIn rp rs') (replaced : Replaced n.rect (record { rect = first.rect; child = c } ∷ record { rect = second.rect; child = length nodes } ∷ []) rs rs') where
     abbrev one : Reference ℕ
     one = record { rect = first.rect; child = c }
 
@@ -249,9 +249,9 @@ module _ (nodes : List TreeNode) (tree : IsTree nodes) (c p : ℕ) (n first seco
         (common_to_outer q.rect w.before.rect v.before.rect w.round (common_either_way v.before.rect q.rect (common_to_outer r.rect v.before.rect q.rect v.round (common_either_way q.rect r.rect meet))))
 
     area_by : (j : ℕ) (q : TreeNode) → Where j q → IsArea q.rect
-    area_by j q (inl e) = subst (λ (q : TreeNode). IsArea q.rect) (sym e.1) split.second_area
+    area_by j q (inl e) = subst (λ (q : TreeNode). IsArea q.rect) (sym e.1) area_second
     area_by j q (inr (inl e)) = subst (λ (q : TreeNode). IsArea q.rect) (sym e.1) (tree.areas p parent at_p)
-    area_by j q (inr (inr (inl e))) = subst (λ (q : TreeNode). IsArea q.rect) (sym e.1) split.first_area
+    area_by j q (inr (inr (inl e))) = subst (λ (q : TreeNode). IsArea q.rect) (sym e.1) area_first
     area_by j q (inr (inr (inr h))) = tree.areas j q h.1.1
 
     has_by : (j : ℕ) (q : TreeNode) → Where j q → HasContent after q.level q.rect q.content

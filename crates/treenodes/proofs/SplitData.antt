@@ -1,29 +1,40 @@
 -- Data nodes that are split.
 use Rattle.std.proofs.Common.{◌≡◌, ℕ, ◌≤◌, Bool, true, false, List, Option, Some, None, refl, sym, ap, subst, ◌∙◌, inl, inr, if◌then◌else◌}
-use Rattle.std.specs.Prelude.{slice_get}
+use Rattle.std.specs.Prelude.{slice_get, IsTrue}
 use Rattle.values.specs.Event.{Event}
-use Rattle.keyrange.specs.Rect.{Area, IsArea}
+use Rattle.keyrange.specs.Rect.{Area}
 use Rattle.keyrange.specs.Cut.{is_key_inside, is_time_inside, halves_by_key, halves_by_time, AreHalves}
 use Rattle.datanode.specs.Node.{Node, IsCutOf}
 use Rattle.treenodes.specs.declared.node.Child.TheVariants.{Data, Index}
-use Rattle.treenodes.specs.Node.{TreeNode, Content, Events, seen, IsAt, data_node}
+use Rattle.treenodes.specs.Node.{TreeNode, Content, Events, seen, IsAt, data_node, events_of}
 use Rattle.treenodes.specs.Tree.{IsTree}
 use Rattle.treenodes.specs.Map.{HoldsMap, EndsBy, latest}
-use Rattle.treenodes.specs.Split.{AreSplit, HoldCuts}
+use Rattle.treenodes.specs.Split.{AreSplit, HoldCuts, CanSplitKey, CanSplitTime, Halved, part}
+use Rattle.datanode.specs.Cut.{cut}
+use Rattle.datanode.proofs.CutMembers.{some_is}
 use Rattle.treenodes.proofs.NodeNumbers.{one_at}
 
 module _ (nodes : List TreeNode) (number : ℕ) (node a b : Node) (at : IsAt nodes number (data_node node)) where
-  pub split_data : node.rect.time.to ≡ None → AreHalves node.rect a.rect b.rect → IsArea a.rect → IsArea b.rect → (n : TreeNode) → IsAt nodes number n → AreSplit nodes n (seen n.level (Data a)) (seen n.level (Data b))
-  split_data current halves area_a area_b n here = subst (λ (n : TreeNode). AreSplit nodes n (seen n.level (Data a)) (seen n.level (Data b))) (one_at nodes number (data_node node) n at here) (record {
+  pub split_data : node.rect.time.to ≡ None → AreHalves node.rect a.rect b.rect → (n : TreeNode) → IsAt nodes number n → AreSplit nodes n (seen n.level (Data a)) (seen n.level (Data b))
+  split_data current halves n here = subst (λ (n : TreeNode). AreSplit nodes n (seen n.level (Data a)) (seen n.level (Data b))) (one_at nodes number (data_node node) n at here) (record {
     current = current;
     first_level = refl;
     second_level = refl;
     halves = halves;
-    first_area = area_a;
-    second_area = area_b;
     first_has = refl;
     second_has = refl;
   })
+
+  -- what is asked of the node
+  pub key_in : (key : List ℕ) → CanSplitKey nodes number key → (node.rect.time.to ≡ None) × IsTrue (is_key_inside node.rect key)
+  key_in key can =
+      let same = one_at nodes number can.leaf.node (data_node node) can.leaf.there at in
+      (subst (λ (q : TreeNode). q.rect.time.to ≡ None) same can.current, subst (λ (q : TreeNode). is_key_inside q.rect key ≡ true) same can.inside)
+
+  pub time_in : (instant : ℕ) → CanSplitTime nodes number instant → (node.rect.time.to ≡ None) × IsTrue (is_time_inside node.rect instant)
+  time_in instant can =
+      let same = one_at nodes number can.leaf.node (data_node node) can.leaf.there at in
+      (subst (λ (q : TreeNode). q.rect.time.to ≡ None) same can.current, subst (λ (q : TreeNode). is_time_inside q.rect instant ≡ true) same can.inside)
 
   -- both halves hold the map's cuts
   pub halves_hold : (m : List Event) → IsCutOf a m → IsCutOf b m → EndsBy (latest m) (Events a.events) a.rect.time.to → EndsBy (latest m) (Events b.events) b.rect.time.to → HoldCuts m (data_node a) (data_node b)
@@ -36,6 +47,23 @@ no_end es l (Some t) e = absurd (cc)
 pub this_end : (es : List Event) (l t : ℕ) (to : Option ℕ) → to ≡ Some t → t ≤ l → EndsBy l (Events es) to
 this_end es l t None e h = absurd (cc)
 this_end es l t (Some u) e h = let same : u ≡ t = cc in subst (λ x. x ≤ l) (sym same) h
+
+-- ---- halves are parts
+
+same_node : (n p : Node) → data_node n ≡ data_node p → n ≡ p
+same_node n p e = λ t. record { rect = (e t).rect; events = events_of (e t).content }
+
+module _ (nodes : List TreeNode) (number : ℕ) (node a b : Node) (at : IsAt nodes number (data_node node)) (halves : Area → Option (Area × Area)) (are : halves node.rect ≡ Some (a.rect, b.rect)) (is_a : a.events ≡ cut a.rect node.events) (is_b : b.events ≡ cut b.rect node.events) where
+  pub are_parts : (n : Node) (h : Area × Area) → IsAt nodes number (data_node n) → halves n.rect ≡ Some h → (data_node a ≡ part n h.0) × (data_node b ≡ part n h.1)
+  are_parts n h here made =
+      let same : node ≡ n = same_node node n (one_at nodes number (data_node node) (data_node n) at here) in
+      let rects : (a.rect, b.rect) ≡ h = some_is (a.rect, b.rect) h (sym are ∙ ap (λ (p : Node). halves p.rect) same ∙ made) in (
+        (λ t. data_node (record { rect = a.rect; events = is_a t })) ∙ (λ t. part (same t) (rects t).0),
+        (λ t. data_node (record { rect = b.rect; events = is_b t })) ∙ (λ t. part (same t) (rects t).1),
+      )
+
+pub alike : (nodes s : List TreeNode) (parent number : ℕ) (a b a' b' : TreeNode) → a ≡ a' → b ≡ b' → Halved nodes s parent number a b → Halved nodes s parent number a' b'
+alike nodes s parent number a b a' b' p q h = subst (λ x. Halved nodes s parent number x b') p (subst (Halved nodes s parent number a) q h)
 
 -- ---- what halves end at
 

@@ -1,7 +1,7 @@
 -- A node that two halves take the place of.
 use Rattle.std.specs.Prelude.{◌≡◌, ◌≢◌, ℕ, ◌+◌, List, None, IsTrue, length, filter}
 use Rattle.values.specs.Event.{Event}
-use Rattle.keyrange.specs.Rect.{Area, IsArea}
+use Rattle.keyrange.specs.Rect.{Area}
 use Rattle.keyrange.specs.Cut.{AreHalves, is_key_inside, is_time_inside}
 use Rattle.datanode.specs.Node.{Node}
 use Rattle.datanode.specs.Cut.{cut}
@@ -48,8 +48,6 @@ pub record AreSplit (nodes : List TreeNode) (n first second : TreeNode) : Type 0
   pub first_level : first.level ≡ n.level
   pub second_level : second.level ≡ n.level
   pub halves : AreHalves n.rect first.rect second.rect
-  pub first_area : IsArea first.rect
-  pub second_area : IsArea second.rect
   pub first_has : HasContent nodes n.level first.rect first.content
   pub second_has : HasContent nodes n.level second.rect second.content
 

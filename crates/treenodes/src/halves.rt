@@ -37,7 +37,7 @@ fn placed(
 
 /// The nodes with two halves in the place of one: the first has its number, the second a new one, and both stand below
 /// its parent.
-pub fn with_halves(
+pub(crate) fn with_halves(
     alloc: Global,
     nodes: Slots<Slot>,
     parent: usize,

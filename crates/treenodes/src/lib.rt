@@ -12,7 +12,6 @@ mod split;
 mod tests;
 
 pub use event::with_event;
-pub use halves::with_halves;
 pub use laws::{maps_are_read_off, meeting_references_are_one};
 pub use lookup::{data_at, leaf_at, way};
 pub use node::{Child, Slot};

@@ -1,6 +1,6 @@
-use Rattle.std.proofs.Common.{◌≡◌, ◌++◌, ◌∷◌, [], set, refl, sym, ap, ◌∙◌}
+use Rattle.std.proofs.Common.{◌≡◌, ◌++◌, ◌∷◌, [], set, refl, sym, ap, subst, ◌∙◌}
 use Rattle.std.specs.Prelude.{IfOk, None}
-use Rattle.keyrange.specs.Rect.{Area}
+use Rattle.keyrange.specs.Rect.{IsArea}
 use Rattle.treenodes.specs.Node.{TreeNode, References, seen}
 use Rattle.treenodes.specs.Tree.{IsTree}
 use Rattle.treenodes.specs.Map.{HoldsMap}
@@ -45,6 +45,7 @@ facts c =
     (has_halves c.args.nodes c.requires.tree c.args.parent c.args.number c.requires.parent slot c.at-above.result.now c.at-slot.ensures c.at-above.ensures c.index.result.now c.index.ensures c.args.first c.args.second
     (c.requires.split slot c.at-slot.ensures) c.rect-3.result.now c.in_ok-copy.field-0 c.in_ok-copy-2.field-0
     (c.rect-3.ensures.rect ∙ sym (ap (λ (q : TreeNode). q.rect) c.child.ensures)) (c.in_ok-copy.ensures.ok ∙ c.rect.ensures.rect) (c.in_ok-copy-2.ensures.ok ∙ c.rect-2.ensures.rect)
+    (subst IsArea c.rect.ensures.rect c.rect.ensures.area) (subst IsArea c.rect-2.ensures.rect c.rect-2.ensures.area)
     c.len.result c.len.ensures node.references.items c.in_ok-node.ensures.replaced c.in_ok-node.ensures.tiled c.in_ok-node.ensures.current c.in_ok-node.ensures.meet
     c.in_ok-low.low c.in_ok-middle.middle c.in_ok-high.high
     (c.in_ok-low.ensures.ok ∙ ap (λ l. seen l c.args.first) c.level-level.ensures)
