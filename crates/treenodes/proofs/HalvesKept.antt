@@ -19,7 +19,7 @@ parent_kept before after parent number first second halved j i not_number not_pa
 pub one_above : (nodes : List TreeNode) → IsTree nodes → (j i : ℕ) → IsParent nodes j i → (p q : TreeNode) → IsAt nodes j p → IsAt nodes i q → p.level ≡ q.level + 1
 one_above nodes tree j i h p q at_j at_i =
     let r = refers nodes tree j i h in
-    let above : p.level ≡ h.level = ap (λ (n : TreeNode). n.level) (one_at nodes j p _ at_j h.there) in
+    let above : p.level ≡ h.node.level = ap (λ (n : TreeNode). n.level) (one_at nodes j p _ at_j h.there) in
     let below : r.node.level ≡ q.level = ap (λ (n : TreeNode). n.level) (one_at nodes i r.node q (below_there nodes tree j i h) at_i) in
-    let up : h.level ≡ r.node.level + 1 = r.below in
+    let up : h.node.level ≡ r.node.level + 1 = r.below in
     omega arith

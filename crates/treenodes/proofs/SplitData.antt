@@ -1,6 +1,11 @@
 -- Data nodes that are split.
 use Rattle.std.proofs.Common.{◌≡◌, ℕ, ◌≤◌, Bool, true, false, List, Option, Some, None, refl, sym, ap, subst, ◌∙◌, inl, inr, if◌then◌else◌}
-use Rattle.std.specs.Prelude.{slice_get, IsTrue}
+use Rattle.std.specs.Prelude.{slice_get, IsTrue, is_none, nat_lt, nat_le, ◌&&◌}
+use Rattle.std.specs.Bool.{Decides}
+use Rattle.std.proofs.lemmas.Bool.Decides.{Decides-and, Decides-like}
+use Rattle.values.specs.Commits.{max_instant}
+use Rattle.keyrange.specs.Range.{is_early}
+use Rattle.treenodes.specs.Lookup.{IsData}
 use Rattle.values.specs.Event.{Event}
 use Rattle.keyrange.specs.Rect.{Area}
 use Rattle.keyrange.specs.Cut.{is_key_inside, is_time_inside, halves_by_key, halves_by_time, AreHalves}
@@ -47,6 +52,41 @@ no_end es l (Some t) e = absurd (cc)
 pub this_end : (es : List Event) (l t : ℕ) (to : Option ℕ) → to ≡ Some t → t ≤ l → EndsBy l (Events es) to
 this_end es l t None e h = absurd (cc)
 this_end es l t (Some u) e h = let same : u ≡ t = cc in subst (λ x. x ≤ l) (sym same) h
+
+-- ---- the tests
+
+none_decides : (to : Option ℕ) → Decides (is_none to) (to ≡ None)
+none_decides None = ((λ h. refl), (λ h. refl))
+none_decides (Some t) = ((λ h. absurd (some_not h)), (λ h. absurd (not_none t h)))
+  where
+    some_not : false ≡ true → ⊥
+    some_not h = cc
+
+    not_none : (t : ℕ) → ◌≡◌ {A = Option ℕ} (Some t) None → ⊥
+    not_none t h = cc
+
+endless_inside : (from instant : ℕ) (to : Option ℕ) (u : Bool) → to ≡ None → (nat_lt from instant && (is_early instant to && u)) ≡ (nat_lt from instant && u)
+endless_inside from instant to u h = ap (λ o. nat_lt from instant && (is_early instant o && u)) h
+
+module _ (nodes : List TreeNode) (number : ℕ) (node : Node) (at : IsAt nodes number (data_node node)) (leaf : IsData nodes number) where
+  back : data_node node ≡ leaf.node
+  back = one_at nodes number (data_node node) leaf.node at leaf.there
+
+  pub key_test : (key : List ℕ) → Decides (is_none node.rect.time.to && is_key_inside node.rect key) (CanSplitKey nodes number key)
+  key_test key = Decides-like (is_none node.rect.time.to && is_key_inside node.rect key)
+      (λ p. record { leaf = leaf; current = subst (λ (q : TreeNode). q.rect.time.to ≡ None) back p.0; inside = subst (λ (q : TreeNode). is_key_inside q.rect key ≡ true) back p.1 })
+      (λ can. key_in nodes number node node node at key can)
+      (Decides-and (is_none node.rect.time.to) (is_key_inside node.rect key) (none_decides node.rect.time.to) ((λ h. h), (λ h. h)))
+
+  pub time_test : (instant : ℕ) → Decides (is_none node.rect.time.to && (nat_lt node.rect.time.from instant && nat_le instant max_instant)) (CanSplitTime nodes number instant)
+  time_test instant = Decides-like (is_none node.rect.time.to && (nat_lt node.rect.time.from instant && nat_le instant max_instant))
+      (λ p. record {
+        leaf = leaf;
+        current = subst (λ (q : TreeNode). q.rect.time.to ≡ None) back p.0;
+        inside = subst (λ (q : TreeNode). is_time_inside q.rect instant ≡ true) back (endless_inside node.rect.time.from instant node.rect.time.to (nat_le instant max_instant) p.0 ∙ p.1);
+      })
+      (λ can. let k = time_in nodes number node node node at instant can in (k.0, sym (endless_inside node.rect.time.from instant node.rect.time.to (nat_le instant max_instant) k.0) ∙ k.1))
+      (Decides-and (is_none node.rect.time.to) (nat_lt node.rect.time.from instant && nat_le instant max_instant) (none_decides node.rect.time.to) ((λ h. h), (λ h. h)))
 
 -- ---- halves are parts
 

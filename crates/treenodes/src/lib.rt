@@ -16,4 +16,7 @@ pub use laws::{maps_are_read_off, meeting_references_are_one};
 pub use lookup::{data_at, leaf_at, way};
 pub use node::{Child, Slot};
 pub use root::{leaf_alone, raised, whole};
-pub use split::{with_index_keys_split, with_index_time_split, with_keys_split, with_time_split};
+pub use split::{
+    can_split_key, can_split_time, with_index_keys_split, with_index_time_split, with_keys_split,
+    with_time_split,
+};

@@ -1,25 +1,57 @@
 //! Current nodes that are split.
-ghost use Rattle.std.specs.Prelude.{◌≡◌, ◌≤◌, List, Some, IfOk, filter};
+ghost use Rattle.std.specs.Prelude.{◌≡◌, ◌↔◌, ◌≤◌, List, Some, IfOk, IsTrue, filter, is_none, nat_le, nat_lt, ◌&&◌};
+ghost use Rattle.values.specs.Commits.{max_instant};
 ghost use Rattle.values.specs.Event.{Event as Change};
 ghost use Rattle.values.specs.Memory.{OnlyMemory};
 ghost use Rattle.keyrange.specs.Rect.{Area};
-ghost use Rattle.keyrange.specs.Cut.{halves_by_key, halves_by_time};
+ghost use Rattle.keyrange.specs.Cut.{is_key_inside, halves_by_key, halves_by_time};
 ghost use Rattle.datanode.specs.Node.{Node};
 ghost use Rattle.indexnode.specs.Split.{reaches_below, reaches_up, starts_before, ends_after};
 ghost use Rattle.treenodes.specs.Node.{TreeNode, IsAt, data_node};
 ghost use Rattle.treenodes.specs.Tree.{IsTree};
 ghost use Rattle.treenodes.specs.Map.{HoldsMap, latest};
-ghost use Rattle.treenodes.specs.Lookup.{IsParent};
+ghost use Rattle.treenodes.specs.Lookup.{IsData, IsParent};
 ghost use Rattle.treenodes.specs.Split.{CanSplitKey, CanSplitTime, CanSplitIndexKey, CanSplitIndexTime, Halved, part, part_of};
 
 use crate::halves::with_halves;
 use crate::lookup::data_at;
 use crate::node::{Child, Slot};
+use keyrange::{Rect, TimeRange, is_before_end, is_below};
 use keysplit::split_key;
 use slots::Slots;
 use std::alloc::Global;
 use timesplit::split_time;
-use values::{Instant, KeyBytes, Mem};
+use values::{Instant, KeyBytes, LAST, Mem};
+
+fn is_key_splittable(rect: &Rect, key: &KeyBytes) -> bool
+    ensures { result ≡ (is_none rect.now.time.to && is_key_inside rect.now key.now) }
+{
+    let keys = rect.keys();
+    rect.time().to.is_none() && is_below(&keys.lo, key) && is_before_end(key, &keys.hi)
+}
+
+fn is_time_splittable(time: TimeRange, instant: Instant) -> bool
+    ensures { result
+        ≡ (is_none time.to && (nat_lt time.from instant && nat_le instant max_instant)) }
+{
+    time.to.is_none() && time.from < instant && instant <= LAST
+}
+
+/// Whether a data node can be split at a key: it is current, and the key is strictly inside.
+pub fn can_split_key(nodes: &Slots<Slot>, number: usize, key: &KeyBytes) -> bool
+    requires { IsData nodes.now number }
+    ensures { IsTrue result ↔ CanSplitKey nodes.now number key.now }
+{
+    is_key_splittable(data_at(nodes, number).rect(), key)
+}
+
+/// Whether a data node can be split at an instant: it is current, and the instant is after its start.
+pub fn can_split_time(nodes: &Slots<Slot>, number: usize, instant: Instant) -> bool
+    requires { IsData nodes.now number }
+    ensures { IsTrue result ↔ CanSplitTime nodes.now number instant }
+{
+    is_time_splittable(data_at(nodes, number).rect().time(), instant)
+}
 
 /// The nodes with a current data node split at a key.
 pub fn with_keys_split(
