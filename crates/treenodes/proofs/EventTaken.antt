@@ -1,17 +1,16 @@
 -- An event that the current data node takes: the tree holds the map with it.
-use Rattle.std.proofs.Common.{◌≡◌, ◌≢◌, ℕ, zero, suc, ◌+◌, ◌<◌, ◌≤◌, Bool, true, false, List, [], ◌∷◌, length, get_or, set, Option, Some, None, refl, sym, ap, subst, ◌∙◌, ◌⊎◌, inl, inr, arith}
-use Rattle.std.specs.Prelude.{IsTrue, slice_get, nat_le, All, max, IfOk}
-use Rattle.std.specs.List.{AllByRecursion}
-use Rattle.std.proofs.lemmas.Bool.{and_parts, and_from, leb-true, le-leb, ltb-true, lt-ltb, cases_lt}
+use Rattle.std.proofs.Common.{◌≡◌, ◌≢◌, ℕ, ◌<◌, ◌≤◌, Bool, true, false, List, set, Option, Some, None, refl, sym, ap, subst, ◌∙◌, ◌⊎◌, inl, inr, arith}
+use Rattle.std.specs.Prelude.{nat_le}
+use Rattle.std.proofs.lemmas.Bool.{and_parts, and_from, leb-true, le-leb, ltb-true, cases_lt}
 use Rattle.std.proofs.lemmas.List.Elements.{All-filter, All-from_recursion, recursion_from_All}
 use Rattle.values.specs.Event.{Event}
 use Rattle.values.specs.Commits.{max_instant}
-use Rattle.values.specs.Events.{event_cmp, put_event}
+use Rattle.values.specs.Events.{put_event}
 use Rattle.keyrange.specs.Rect.{Area, has_point, Common, IsArea}
-use Rattle.keyrange.specs.Range.{is_key_in, is_time_in, is_early, is_before_end}
+use Rattle.keyrange.specs.Range.{is_key_in, is_early, is_before_end}
 use Rattle.eventlist.proofs.PutPlaced.{sorted_put, all_put}
-use Rattle.datanode.specs.Cut.{IsMap, in_cut, cut}
-use Rattle.datanode.specs.Node.{Node, IsNode, IsLast, IsCutOf, Accepts}
+use Rattle.datanode.specs.Cut.{in_cut, cut}
+use Rattle.datanode.specs.Node.{Node, IsNode, IsLast}
 use Rattle.datanode.specs.Laws.{IsElsewhere}
 use Rattle.datanode.proofs.LawsElsewhere.{cut_stays}
 use Rattle.datanode.proofs.CutParts.{map_of_cut, whole_of_cut}

@@ -1,10 +1,7 @@
 -- What a split leaves: parents above it, and so the way down to it.
-use Rattle.std.proofs.Common.{◌≡◌, ◌≢◌, ℕ, ◌+◌, ◌<◌, ◌≤◌, List, get_or, Option, Some, None, refl, sym, ap, subst, ◌∙◌, arith}
-use Rattle.std.specs.Prelude.{slice_get}
-use Rattle.keyrange.specs.Rect.{Area}
-use Rattle.indexnode.specs.declared.reference.Reference.{Reference}
-use Rattle.treenodes.specs.Node.{TreeNode, References, IsAt}
-use Rattle.treenodes.specs.Tree.{RefersTo, IsIndex, IsTree}
+use Rattle.std.proofs.Common.{◌≡◌, ◌≢◌, ℕ, ◌+◌, List, ap, arith}
+use Rattle.treenodes.specs.Node.{TreeNode, IsAt}
+use Rattle.treenodes.specs.Tree.{IsTree}
 use Rattle.treenodes.specs.Lookup.{IsParent}
 use Rattle.treenodes.specs.Split.{Halved}
 use Rattle.treenodes.proofs.NodeNumbers.{one_at}

@@ -1,5 +1,5 @@
 -- A parent and the node below it.
-use Rattle.std.proofs.Common.{◌≡◌, ℕ, ◌+◌, ◌<◌, List, [], ◌∷◌, ◌++◌, length, set, get_or, Option, Some, None, refl, sym, ap, subst, ◌∙◌, arith}
+use Rattle.std.proofs.Common.{◌≡◌, ℕ, ◌<◌, List, [], ◌∷◌, ◌++◌, length, set, Some, None, refl, sym, ap, subst, ◌∙◌, arith}
 use Rattle.std.specs.Prelude.{slice_get, IfOk, All}
 use Rattle.std.proofs.lemmas.List.Elements.{All-nil}
 use Rattle.std.specs.List.{Any}
@@ -17,11 +17,11 @@ use Rattle.indexnode.specs.declared.node.IndexNode.{IndexNode}
 use Rattle.indexnode.specs.Node.{Tiles, AllMeet}
 use Rattle.indexnode.specs.Split.{AreCurrentIn}
 use Rattle.treenodes.specs.declared.node.Child.{Child}
-use Rattle.treenodes.specs.declared.node.Child.TheVariants.{Data, Index}
+use Rattle.treenodes.specs.declared.node.Child.TheVariants.{Index}
 use Rattle.treenodes.specs.Map.{HoldsMap}
 use Rattle.keyrange.specs.Cut.{AreHalves}
 use Rattle.treenodes.specs.Split.{AreSplit, HoldCuts, Halved}
-use Rattle.treenodes.proofs.HalvesTree.{after, in_parent, split_tree, split_holds, halved}
+use Rattle.treenodes.proofs.HalvesTree.{in_parent, split_tree, split_holds, halved}
 use Rattle.treenodes.proofs.NodeNumbers.{one_at}
 
 -- what holds of the value that a call gives

@@ -1,25 +1,20 @@
 -- A tree stays one where a current node is split: one half takes its slot, the other a new one, and the parent refers to both.
-use Rattle.std.proofs.Common.{◌≡◌, ◌≢◌, ℕ, zero, suc, ◌+◌, ◌<◌, ◌≤◌, Bool, true, false, cond, List, [], ◌∷◌, ◌++◌, length, get_or, set, Option, Some, None, refl, sym, ap, subst, ◌∙◌, ◌⊎◌, inl, inr, arith, length-set, length-append}
-use Rattle.std.specs.Prelude.{IsTrue, slice_get, All, ◌&&◌, not, nat_le, nat_lt, is_none}
+use Rattle.std.proofs.Common.{◌≡◌, ◌≢◌, ℕ, suc, ◌+◌, ◌≤◌, Bool, true, false, cond, List, [], ◌∷◌, ◌++◌, length, get_or, set, Option, None, refl, sym, ap, subst, ◌∙◌, ◌⊎◌, inl, inr, arith, length-set, length-append}
+use Rattle.std.specs.Prelude.{IsTrue, slice_get, All, is_none}
 use Rattle.std.specs.List.{filter, Any}
-use Rattle.std.proofs.lemmas.Bool.{and_parts, and_from, leb-true}
-use Rattle.std.proofs.lemmas.Option.{slice_get_within}
-use Rattle.std.proofs.lemmas.List.Elements.{All-weaker, All-append, All-nil, All-cons, All-head, All-tail, filter-append}
+use Rattle.std.proofs.lemmas.Bool.{and_from}
+use Rattle.std.proofs.lemmas.List.Elements.{All-weaker, All-append, All-nil, All-cons, filter-append}
 use Rattle.values.specs.Event.{Event}
-use Rattle.values.specs.Commits.{max_instant}
 use Rattle.keyrange.specs.Rect.{Area, has_point, Common, IsArea, IsInside}
-use Rattle.keyrange.specs.Range.{is_before_end, is_below}
-use Rattle.keyrange.specs.Cut.{PartsKeys, PartsTime, AreHalves}
 use Rattle.keyrange.proofs.RectInside.{first_key_in, first_instant_in, inside_itself, halves_inside, halves_apart, common_to_outer, common_either_way, inner_is_common}
 use Rattle.indexnode.specs.declared.reference.Reference.{Reference}
-use Rattle.indexnode.specs.Node.{Tiles, AllMeet, at_point}
+use Rattle.indexnode.specs.Node.{Tiles, AllMeet}
 use Rattle.indexnode.specs.Split.{is_current, AreCurrentIn}
 use Rattle.indexnode.specs.Replacement.{Replaced}
 use Rattle.indexnode.proofs.ReplacementPlace.{fronts, backs}
 use Rattle.treenodes.specs.Node.{Content, Events, References, TreeNode, IsAt, references_of}
-use Rattle.treenodes.specs.Tree.{RefersTo, IsIndex, HasContent, HasRoot, AreApart, IsTree}
+use Rattle.treenodes.specs.Tree.{RefersTo, IsIndex, HasContent, HasRoot, IsTree}
 use Rattle.treenodes.specs.Map.{HoldsMap, IsCut, EndsBy, latest}
-use Rattle.treenodes.specs.Lookup.{IsParent}
 use Rattle.treenodes.specs.Split.{AreSplit, HoldCuts, Halved}
 use Rattle.treenodes.proofs.NodeNumbers.{at_set, set_other, set_same, at_push, push_old, push_new, one_at, same_or_not}
 

@@ -1,10 +1,8 @@
 -- References of one level that have a point in common are to one node.
-use Rattle.std.proofs.Common.{◌≡◌, ℕ, ◌+◌, List, refl, sym, ap, subst, ◌∙◌, arith}
+use Rattle.std.proofs.Common.{◌≡◌, ◌+◌, sym, ap, subst, ◌∙◌, arith}
 use Rattle.std.specs.Prelude.{slice_get}
-use Rattle.keyrange.specs.Rect.{Area, Common}
-use Rattle.indexnode.specs.declared.reference.Reference.{Reference}
-use Rattle.treenodes.specs.Node.{TreeNode, IsAt}
-use Rattle.treenodes.specs.Tree.{RefersTo, IsTree}
+use Rattle.keyrange.specs.Rect.{Common}
+use Rattle.treenodes.specs.Node.{TreeNode}
 use Rattle.treenodes.specs.Laws.{MeetingReferencesAreOne}
 use Rattle.treenodes.proofs.NodeNumbers.{one_at}
 

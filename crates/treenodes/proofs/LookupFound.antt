@@ -1,14 +1,13 @@
 -- Each point from 1 on has a data node.
-use Rattle.std.proofs.Common.{◌≡◌, ℕ, zero, suc, ◌+◌, ◌<◌, ◌≤◌, List, [], ◌∷◌, length, get_or, cond, Bool, true, false, Option, Some, None, refl, sym, ap, subst, ◌∙◌, arith}
-use Rattle.std.specs.Prelude.{IsTrue, slice_get, All, Contains}
+use Rattle.std.proofs.Common.{◌≡◌, ℕ, zero, suc, ◌+◌, ◌<◌, ◌≤◌, List, [], ◌∷◌, length, cond, Bool, true, false, Option, refl, sym, subst, arith}
+use Rattle.std.specs.Prelude.{Contains}
 use Rattle.std.specs.List.{filter}
 use Rattle.std.proofs.lemmas.List.Elements.{All-contains}
-use Rattle.values.specs.Event.{Event}
 use Rattle.keyrange.specs.Rect.{Area, has_point}
 use Rattle.indexnode.specs.declared.reference.Reference.{Reference}
 use Rattle.indexnode.specs.Node.{Tiles, at_point}
 use Rattle.treenodes.specs.Node.{Content, Events, References, TreeNode, IsAt}
-use Rattle.treenodes.specs.Tree.{RefersTo, IsIndex, HasContent, whole, IsTree}
+use Rattle.treenodes.specs.Tree.{RefersTo, IsIndex, IsTree}
 use Rattle.treenodes.specs.Lookup.{IsLeafAt}
 use Rattle.treenodes.proofs.LookupSteps.{whole_holds}
 

@@ -1,6 +1,6 @@
 -- What a data node that is looked at holds of the map.
-use Rattle.std.proofs.Common.{◌≡◌, ℕ, true, List, Some, sym, ap, subst, ◌∙◌}
-use Rattle.std.specs.Prelude.{IsTrue, slice_get}
+use Rattle.std.proofs.Common.{◌≡◌, ℕ, true, List, subst}
+use Rattle.std.specs.Prelude.{IsTrue}
 use Rattle.values.specs.Event.{Event}
 use Rattle.keyrange.specs.Rect.{has_point}
 use Rattle.datanode.specs.Node.{Node, IsCutOf}

@@ -1,21 +1,17 @@
 -- The way from the root down to the data node at a point.
-use Rattle.std.proofs.Common.{◌≡◌, ℕ, zero, suc, ◌+◌, ◌<◌, ◌≤◌, List, [], ◌∷◌, length, get_or, Bool, true, false, Option, Some, None, refl, sym, ap, subst, ◌∙◌, arith}
-use Rattle.std.specs.Prelude.{IsTrue, slice_get, All, Contains, not, ◌&&◌}
-use Rattle.std.specs.List.{filter}
+use Rattle.std.proofs.Common.{◌≡◌, ℕ, ◌+◌, ◌<◌, ◌≤◌, List, [], ◌∷◌, length, true, Some, None, refl, sym, ap, subst, ◌∙◌, arith}
+use Rattle.std.specs.Prelude.{slice_get, Contains}
 use Rattle.std.proofs.lemmas.Bool.{le-leb}
-use Rattle.std.proofs.lemmas.Option.{slice_get_within}
 use Rattle.std.proofs.lemmas.List.Elements.{All-contains}
-use Rattle.values.specs.Event.{Event}
 use Rattle.keyrange.specs.Rect.{Area, has_point}
 use Rattle.keyrange.proofs.RectMeeting.{both}
 use Rattle.indexnode.specs.declared.reference.Reference.{Reference}
-use Rattle.indexnode.specs.Node.{Tiles, at_point}
 use Rattle.indexnode.specs.declared.node.IndexNode.{IndexNode}
 use Rattle.datanode.specs.Node.{Node}
 use Rattle.treenodes.specs.declared.node.Child.{Child}
 use Rattle.treenodes.specs.declared.node.Child.TheVariants.{Data, Index}
-use Rattle.treenodes.specs.Node.{seen, Content, Events, References, TreeNode, IsAt, data_node}
-use Rattle.treenodes.specs.Tree.{RefersTo, IsIndex, HasContent, whole, IsTree}
+use Rattle.treenodes.specs.Node.{seen, References, TreeNode, IsAt, data_node}
+use Rattle.treenodes.specs.Tree.{RefersTo, IsIndex, whole, IsTree}
 use Rattle.treenodes.specs.Lookup.{IsLeafAt}
 
 pub record WalkedTo (nodes : List TreeNode) (key : List ℕ) (instant number visits : ℕ) : Type 0 where

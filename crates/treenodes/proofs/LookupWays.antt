@@ -1,20 +1,19 @@
 -- A way from the root down.
-use Rattle.std.proofs.Common.{◌≡◌, ℕ, zero, suc, ◌+◌, ◌-◌, ◌<◌, ◌≤◌, List, [], ◌∷◌, ◌++◌, length, get_or, Option, Some, None, refl, sym, ap, subst, ◌∙◌, ◌⊎◌, inl, inr, arith, length-append, true}
-use Rattle.std.specs.Prelude.{slice_get, Contains, IsTrue}
+use Rattle.std.proofs.Common.{◌≡◌, ℕ, zero, suc, ◌+◌, ◌-◌, ◌<◌, ◌≤◌, List, [], ◌∷◌, ◌++◌, length, get_or, Some, refl, sym, ap, subst, ◌∙◌, ◌⊎◌, inl, inr, arith, length-append, true}
+use Rattle.std.specs.Prelude.{slice_get, Contains}
 use Rattle.std.specs.List.{Any}
 use Rattle.std.proofs.lemmas.Bool.{cases_lt}
 use Rattle.std.proofs.lemmas.Option.{slice_get_within, get_or_from_slice_get}
-use Rattle.keyrange.specs.Rect.{Area, has_point}
+use Rattle.keyrange.specs.Rect.{has_point}
 use Rattle.indexnode.specs.declared.reference.Reference.{Reference}
 use Rattle.indexnode.specs.declared.node.IndexNode.{IndexNode}
-use Rattle.datanode.specs.Node.{Node}
 use Rattle.treenodes.specs.declared.node.Child.{Child}
-use Rattle.treenodes.specs.declared.node.Child.TheVariants.{Data, Index}
-use Rattle.treenodes.specs.Node.{TreeNode, References, seen, IsAt}
+use Rattle.treenodes.specs.declared.node.Child.TheVariants.{Index}
+use Rattle.treenodes.specs.Node.{TreeNode, seen}
 use Rattle.treenodes.specs.Tree.{IsTree}
 use Rattle.treenodes.specs.Lookup.{IsLeafAt, IsParent, IsWay, IsWayTo}
-use Rattle.treenodes.proofs.NodeNumbers.{push_old, push_new}
-use Rattle.treenodes.proofs.LookupSteps.{WalkedTo, start, step_down, leaf_found, shown_at}
+use Rattle.treenodes.proofs.NodeNumbers.{push_new}
+use Rattle.treenodes.proofs.LookupSteps.{WalkedTo, start, step_down, shown_at}
 
 -- the way so far
 pub record WayTo (nodes : List TreeNode) (key : List ℕ) (instant number : ℕ) (way : List ℕ) : Type 0 where

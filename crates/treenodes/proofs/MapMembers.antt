@@ -1,11 +1,11 @@
 -- Lists in order that have the same members are the same.
-use Rattle.std.proofs.Common.{◌≡◌, ℕ, List, [], ◌∷◌, refl, sym, ap, subst, ◌∙◌, ◌⊎◌, inl, inr, arith}
+use Rattle.std.proofs.Common.{◌≡◌, List, [], ◌∷◌, refl, sym, subst, ◌∙◌, ◌⊎◌, inl, inr}
 use Rattle.std.specs.Ordering.{match_ordering}
 use Rattle.std.specs.declared.cmp.Ordering.{Ordering}
 use Rattle.std.specs.declared.cmp.Ordering.TheVariants.{Less, Equal, Greater}
 use Rattle.values.specs.Event.{Event}
 use Rattle.values.specs.Events.{event_cmp, put_event}
-use Rattle.eventlist.proofs.PlaceOrder.{sorted_head, sorted_tail, sorted_none}
+use Rattle.eventlist.proofs.PlaceOrder.{sorted_tail}
 use Rattle.eventlist.proofs.PutPlaced.{sorted_put}
 use Rattle.datanode.specs.Cut.{IsMap}
 use Rattle.datanode.proofs.CutMembers.{In}

@@ -1,21 +1,19 @@
 -- The map that a tree holds is what its data nodes' events give.
-use Rattle.std.proofs.Common.{◌≡◌, ℕ, zero, suc, ◌<◌, ◌≤◌, Bool, true, false, List, [], ◌∷◌, length, Option, Some, None, refl, sym, ap, subst, ◌∙◌, ◌⊎◌, inl, inr, arith}
+use Rattle.std.proofs.Common.{◌≡◌, ℕ, zero, suc, ◌≤◌, true, List, [], ◌∷◌, Some, refl, sym, subst, inl, inr}
 use Rattle.std.specs.Prelude.{slice_get}
 use Rattle.std.specs.declared.cmp.Ordering.TheVariants.{Equal}
 use Rattle.values.specs.Event.{Event}
 use Rattle.values.specs.Events.{event_cmp}
 use Rattle.eventlist.proofs.PlaceOrder.{sorted_none}
 use Rattle.keyrange.specs.Rect.{Area, has_point}
-use Rattle.keyrange.specs.Range.{is_key_in}
 use Rattle.datanode.specs.Cut.{IsMap, in_cut, cut}
 use Rattle.datanode.proofs.CutMembers.{In, In-filter, In-from_filter}
 use Rattle.datanode.proofs.CutOrder.{one_event, In_place}
-use Rattle.datanode.proofs.CutLaws.{in_cut_decides, IsInCut}
+use Rattle.datanode.proofs.CutLaws.{in_cut_decides}
 use Rattle.datanode.proofs.NodePut.{point_of, event_equal}
-use Rattle.treenodes.specs.Node.{Content, Events, References, TreeNode, IsAt, IsDataNode, data_node, events_of}
+use Rattle.treenodes.specs.Node.{Content, Events, References, TreeNode, IsDataNode, events_of}
 use Rattle.treenodes.specs.Tree.{IsTree}
-use Rattle.treenodes.specs.Map.{HoldsMap, IsCut, changes, put_all}
-use Rattle.treenodes.specs.Lookup.{IsLeafAt}
+use Rattle.treenodes.specs.Map.{HoldsMap, IsCut, changes}
 use Rattle.treenodes.proofs.LookupFound.{leaf_of}
 use Rattle.treenodes.proofs.MapMembers.{same_members, sorted_all, In-from_all, In-all}
 

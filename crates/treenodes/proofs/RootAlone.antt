@@ -1,12 +1,10 @@
 -- One data node of the whole rectangle is a tree.
-use Rattle.std.proofs.Common.{◌≡◌, ℕ, zero, suc, ◌+◌, ◌<◌, ◌≤◌, List, [], ◌∷◌, length, Option, Some, None, refl, sym, ap, subst, ◌∙◌, arith}
-use Rattle.std.specs.Prelude.{slice_get}
+use Rattle.std.proofs.Common.{◌≡◌, ℕ, zero, suc, ◌≤◌, List, [], ◌∷◌, refl, sym, ap, subst, ◌∙◌, arith}
 use Rattle.std.proofs.lemmas.List.Elements.{All-nil, All-cons}
-use Rattle.values.specs.Event.{Event}
 use Rattle.values.specs.Events.{event_cmp}
 use Rattle.eventlist.proofs.PlaceOrder.{sorted_none}
 use Rattle.keyrange.specs.Rect.{IsArea}
-use Rattle.treenodes.specs.Node.{TreeNode, Content, Events, IsAt, data_node, count_of}
+use Rattle.treenodes.specs.Node.{TreeNode, IsAt, data_node, count_of}
 use Rattle.treenodes.specs.Tree.{IsTree, whole, HasContent}
 use Rattle.treenodes.specs.Map.{HoldsMap, IsCut, EndsBy, changes}
 use Rattle.treenodes.specs.Sound.{IsSound}

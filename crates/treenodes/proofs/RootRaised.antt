@@ -1,5 +1,5 @@
 -- A tree stays one where a new root stands over the old one.
-use Rattle.std.proofs.Common.{true, ◌≡◌, ◌≢◌, ℕ, zero, suc, ◌+◌, ◌<◌, ◌≤◌, List, [], ◌∷◌, ◌++◌, length, get_or, set, Option, Some, None, refl, sym, ap, subst, ◌∙◌, ◌⊎◌, inl, inr, arith, length-set, length-append}
+use Rattle.std.proofs.Common.{true, ◌≡◌, ◌≢◌, ℕ, ◌+◌, ◌≤◌, List, [], ◌∷◌, ◌++◌, length, set, None, refl, sym, ap, subst, ◌∙◌, ◌⊎◌, inl, inr, arith, length-set, length-append}
 use Rattle.std.specs.Prelude.{IsTrue, slice_get, All}
 use Rattle.std.proofs.lemmas.List.Elements.{All-weaker, All-nil, All-cons}
 use Rattle.std.specs.List.{Any}
@@ -7,13 +7,13 @@ use Rattle.values.specs.Event.{Event}
 use Rattle.keyrange.specs.Rect.{Area, has_point, Common, IsArea, IsInside}
 use Rattle.indexnode.specs.declared.reference.Reference.{Reference}
 use Rattle.indexnode.specs.Node.{Tiles, AllMeet}
-use Rattle.indexnode.specs.Split.{is_current, AreCurrentIn}
+use Rattle.indexnode.specs.Split.{is_current}
 use Rattle.treenodes.specs.Node.{Content, Events, References, TreeNode, IsAt}
-use Rattle.treenodes.specs.Tree.{RefersTo, IsIndex, HasContent, HasRoot, AreApart, IsTree}
+use Rattle.treenodes.specs.Tree.{RefersTo, IsIndex, HasContent, HasRoot, IsTree}
 use Rattle.treenodes.specs.Map.{HoldsMap, IsCut, EndsBy, latest}
 use Rattle.treenodes.specs.Lookup.{IsParent}
 use Rattle.treenodes.specs.Root.{root_over}
-use Rattle.treenodes.proofs.NodeNumbers.{at_set, set_other, set_same, at_push, push_old, push_new, one_at, same_or_not}
+use Rattle.treenodes.proofs.NodeNumbers.{at_set, set_other, set_same, at_push, push_old, push_new, one_at}
 use Rattle.keyrange.proofs.RectInside.{common_either_way}
 
 module _ (nodes : List TreeNode) (tree : IsTree nodes) (root : TreeNode) (at_root : IsAt nodes 0 root) (rs : List (Reference ℕ)) where

@@ -1,6 +1,6 @@
 -- Data nodes that are split.
-use Rattle.std.proofs.Common.{◌≡◌, ℕ, ◌≤◌, Bool, true, false, List, Option, Some, None, refl, sym, ap, subst, ◌∙◌, inl, inr, if◌then◌else◌}
-use Rattle.std.specs.Prelude.{slice_get, IsTrue, is_none, nat_lt, nat_le, ◌&&◌}
+use Rattle.std.proofs.Common.{◌≡◌, ℕ, ◌≤◌, Bool, true, false, List, Option, Some, None, refl, sym, ap, subst, ◌∙◌, if◌then◌else◌}
+use Rattle.std.specs.Prelude.{IsTrue, is_none, nat_lt, nat_le, ◌&&◌}
 use Rattle.std.specs.Bool.{Decides}
 use Rattle.std.proofs.lemmas.Bool.Decides.{Decides-and, Decides-like}
 use Rattle.values.specs.Commits.{max_instant}
@@ -10,10 +10,9 @@ use Rattle.values.specs.Event.{Event}
 use Rattle.keyrange.specs.Rect.{Area}
 use Rattle.keyrange.specs.Cut.{is_key_inside, is_time_inside, halves_by_key, halves_by_time, AreHalves}
 use Rattle.datanode.specs.Node.{Node, IsCutOf}
-use Rattle.treenodes.specs.declared.node.Child.TheVariants.{Data, Index}
-use Rattle.treenodes.specs.Node.{TreeNode, Content, Events, seen, IsAt, data_node, events_of}
-use Rattle.treenodes.specs.Tree.{IsTree}
-use Rattle.treenodes.specs.Map.{HoldsMap, EndsBy, latest}
+use Rattle.treenodes.specs.declared.node.Child.TheVariants.{Data}
+use Rattle.treenodes.specs.Node.{TreeNode, Events, seen, IsAt, data_node, events_of}
+use Rattle.treenodes.specs.Map.{EndsBy, latest}
 use Rattle.treenodes.specs.Split.{AreSplit, HoldCuts, CanSplitKey, CanSplitTime, Halved, part}
 use Rattle.datanode.specs.Cut.{cut}
 use Rattle.datanode.proofs.CutMembers.{some_is}

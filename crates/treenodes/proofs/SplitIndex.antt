@@ -1,19 +1,17 @@
 -- Index nodes that are split.
-use Rattle.std.proofs.Common.{◌≡◌, ℕ, ◌<◌, Bool, List, Option, Some, None, true, length, refl, sym, ap, subst, ◌∙◌}
-use Rattle.std.specs.Prelude.{slice_get, All, IsTrue}
+use Rattle.std.proofs.Common.{◌≡◌, ℕ, Bool, List, Option, Some, None, true, refl, sym, ap, subst, ◌∙◌}
+use Rattle.std.specs.Prelude.{All, IsTrue}
 use Rattle.std.specs.List.{filter}
 use Rattle.std.proofs.lemmas.List.Elements.{All-filter}
 use Rattle.values.specs.Event.{Event}
-use Rattle.keyrange.specs.Rect.{Area, IsArea}
+use Rattle.keyrange.specs.Rect.{Area}
 use Rattle.keyrange.specs.Cut.{is_key_inside, is_time_inside, AreHalves}
-use Rattle.indexnode.specs.declared.reference.Reference.{Reference}
 use Rattle.indexnode.specs.declared.node.IndexNode.{IndexNode}
 use Rattle.indexnode.specs.Node.{Tiles, AllMeet}
 use Rattle.indexnode.specs.Split.{AreCurrentIn, IsBeforeCurrent, IsUncrossed}
-use Rattle.treenodes.specs.declared.node.Child.TheVariants.{Data, Index}
+use Rattle.treenodes.specs.declared.node.Child.TheVariants.{Index}
 use Rattle.treenodes.specs.Node.{TreeNode, References, IsAt, seen, references_of}
 use Rattle.treenodes.specs.Tree.{RefersTo, IsIndex, IsTree}
-use Rattle.treenodes.specs.Map.{HoldsMap}
 use Rattle.treenodes.specs.Split.{AreSplit, HoldCuts, CanSplitIndexTime, CanSplitIndexKey, part_of}
 use Rattle.datanode.proofs.CutMembers.{some_is}
 use Rattle.treenodes.proofs.NodeNumbers.{one_at}

@@ -1,12 +1,11 @@
 -- A tree stays one where a data node takes the place of another of the same level and rectangle.
-use Rattle.std.proofs.Common.{◌≡◌, ◌≢◌, ℕ, zero, suc, ◌+◌, ◌<◌, ◌≤◌, List, [], ◌∷◌, length, set, Option, Some, None, refl, sym, ap, subst, ◌∙◌, ◌⊎◌, inl, inr, arith, length-set}
-use Rattle.std.specs.Prelude.{slice_get, All}
+use Rattle.std.proofs.Common.{◌≡◌, ◌≢◌, ℕ, ◌+◌, ◌≤◌, List, set, refl, sym, ap, subst, ◌∙◌, ◌⊎◌, inl, inr, arith, length-set}
+use Rattle.std.specs.Prelude.{slice_get}
 use Rattle.std.proofs.lemmas.List.Elements.{All-weaker}
-use Rattle.values.specs.Event.{Event}
 use Rattle.keyrange.specs.Rect.{Area, Common, IsArea}
 use Rattle.indexnode.specs.declared.reference.Reference.{Reference}
 use Rattle.treenodes.specs.Node.{Content, Events, References, TreeNode, IsAt}
-use Rattle.treenodes.specs.Tree.{RefersTo, IsIndex, HasContent, HasRoot, AreApart, IsTree}
+use Rattle.treenodes.specs.Tree.{RefersTo, HasContent, HasRoot, IsTree}
 use Rattle.treenodes.proofs.NodeNumbers.{at_set, set_other, set_same, one_at, same_or_not}
 
 module _ (nodes : List TreeNode) (i : ℕ) (old new : TreeNode) (at : IsAt nodes i old) (level_same : new.level ≡ old.level) (same : new.rect ≡ old.rect) (has : (ns : List TreeNode) → HasContent ns new.level new.rect new.content) where

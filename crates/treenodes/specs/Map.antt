@@ -6,7 +6,6 @@ use Rattle.values.specs.Events.{put_event}
 use Rattle.keyrange.specs.Rect.{Area}
 use Rattle.datanode.specs.Cut.{IsMap, cut}
 use Rattle.datanode.specs.Node.{IsLast}
-use Rattle.indexnode.specs.declared.reference.Reference.{Reference}
 use Rattle.treenodes.specs.Node.{Content, Events, References, TreeNode, IsAt, events_of}
 
 -- each instant is one from 1 to the last

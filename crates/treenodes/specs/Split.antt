@@ -1,5 +1,5 @@
 -- A node that two halves take the place of.
-use Rattle.std.specs.Prelude.{◌≡◌, ◌≢◌, ℕ, ◌+◌, List, None, IsTrue, length, filter}
+use Rattle.std.specs.Prelude.{◌≡◌, ◌≢◌, ℕ, ◌+◌, List, None, IsTrue, length}
 use Rattle.values.specs.Event.{Event}
 use Rattle.keyrange.specs.Rect.{Area}
 use Rattle.keyrange.specs.Cut.{AreHalves, is_key_inside, is_time_inside}
@@ -7,7 +7,7 @@ use Rattle.datanode.specs.Node.{Node}
 use Rattle.datanode.specs.Cut.{cut}
 use Rattle.indexnode.specs.declared.reference.Reference.{Reference}
 use Rattle.indexnode.specs.Split.{IsBeforeCurrent, IsUncrossed}
-use Rattle.treenodes.specs.Node.{TreeNode, Content, References, IsAt, IsIndexNode, data_node, references_of}
+use Rattle.treenodes.specs.Node.{TreeNode, References, IsAt, IsIndexNode, data_node, references_of}
 use Rattle.treenodes.specs.Tree.{HasContent}
 use Rattle.treenodes.specs.Lookup.{IsData}
 use Rattle.treenodes.specs.Map.{IsCut, EndsBy, latest}

@@ -1,6 +1,5 @@
 -- What makes numbered nodes a tree.
 use Rattle.std.specs.Prelude.{◌≡◌, ℕ, ◌+◌, ◌<◌, ◌≤◌, List, [], None, length, All}
-use Rattle.values.specs.Event.{Event}
 use Rattle.keyrange.specs.Rect.{Area, Common, IsArea}
 use Rattle.indexnode.specs.declared.reference.Reference.{Reference}
 use Rattle.indexnode.specs.Node.{Tiles, AllMeet}

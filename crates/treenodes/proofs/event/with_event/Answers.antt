@@ -1,11 +1,10 @@
-use Rattle.std.proofs.Common.{◌≡◌, ◌<◌, length, set, get_or, sym, ap, ◌∙◌, subst}
+use Rattle.std.proofs.Common.{◌≡◌, set, sym, ap, ◌∙◌, subst}
 use Rattle.std.proofs.lemmas.Option.{slice_get_within, get_or_from_slice_get}
 use Rattle.values.specs.Events.{put_event}
 use Rattle.treenodes.specs.Node.{TreeNode}
 use Rattle.treenodes.specs.Tree.{IsTree}
 use Rattle.treenodes.specs.Map.{HoldsMap, changes}
 use Rattle.treenodes.specs.Event.{Takes, with_put}
-use Rattle.treenodes.proofs.NodeNumbers.{one_at}
 use Rattle.treenodes.proofs.EventTaken.{takes_next, tree_next, holds_next}
 use Rattle.treenodes.proofs.event.with_event.Goals as goal
 

@@ -1,4 +1,4 @@
-use Rattle.std.proofs.Common.{◌≡◌, ◌++◌, ◌∷◌, [], set, refl, sym, ap, subst, ◌∙◌}
+use Rattle.std.proofs.Common.{sym, ap, subst, ◌∙◌}
 use Rattle.std.specs.Prelude.{IfOk, None}
 use Rattle.keyrange.specs.Rect.{IsArea}
 use Rattle.treenodes.specs.Node.{TreeNode, References, seen}

@@ -1,5 +1,3 @@
-use Rattle.std.proofs.Common.{◌≡◌, ℕ, ◌+◌, ◌<◌, ◌≤◌, length, Some, sym, ap, ◌∙◌, arith}
-use Rattle.std.specs.Prelude.{slice_get}
 use Rattle.std.proofs.lemmas.Option.{slice_get_within}
 use Rattle.treenodes.proofs.LookupSteps.{start, inside_index, index_of, step_down, leaf_found, all_visited}
 use Rattle.treenodes.proofs.lookup.leaf_at.Goals as goal

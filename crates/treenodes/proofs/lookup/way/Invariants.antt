@@ -1,4 +1,4 @@
-use Rattle.std.proofs.Common.{◌-◌, length, vec_len}
+use Rattle.std.proofs.Common.{◌-◌, length}
 use Rattle.treenodes.proofs.LookupWays.{WayTo}
 use Rattle.treenodes.proofs.lookup.way.Given as goal
 

@@ -1,6 +1,6 @@
 use Rattle.std.proofs.Common.{◌≡◌, [], ◌∷◌, ◌++◌, ap, ◌∙◌}
 use Rattle.keyrange.specs.Rect.{Area}
-use Rattle.treenodes.specs.Node.{TreeNode, data_node}
+use Rattle.treenodes.specs.Node.{data_node}
 use Rattle.treenodes.proofs.RootAlone.{root, one_sound, none_yet}
 use Rattle.treenodes.proofs.root.leaf_alone.Goals as goal
 

@@ -1,4 +1,3 @@
-use Rattle.std.proofs.Common.{◌≡◌}
 use Rattle.std.specs.Arc.{arc_value}
 use Rattle.treenodes.proofs.NodePut.{put_shown, put_copied}
 use Rattle.treenodes.proofs.node.SlotUpdateEvent.update.Goals as goal
