@@ -1,0 +1,101 @@
+-- Each point from the first instant on has a node of each level.
+use Rattle.std.proofs.Common.{◌≡◌, ℕ, zero, suc, ◌+◌, ◌-◌, ◌<◌, ◌≤◌, List, [], ◌∷◌, length, cond, Bool, true, false, Option, Some, None, refl, sym, ap, subst, ◌∙◌, arith}
+use Rattle.std.specs.Prelude.{IsTrue, All, Contains}
+use Rattle.std.specs.List.{filter}
+use Rattle.std.proofs.lemmas.Bool.{le-leb, and_from}
+use Rattle.std.proofs.lemmas.List.Elements.{All-contains}
+use Rattle.values.specs.Event.{Event}
+use Rattle.keyrange.specs.Rect.{Area, has_point, IsArea, Common}
+use Rattle.keyrange.proofs.RectInside.{first_key_in, first_instant_in, inside_itself, inner_is_common}
+use Rattle.indexnode.specs.declared.reference.Reference.{Reference}
+use Rattle.indexnode.specs.Node.{Tiles, at_point}
+use Rattle.treenodes.specs.Node.{Content, Events, References, TreeNode, IsAt, events_of}
+use Rattle.treenodes.specs.Tree.{RefersTo, IsIndex, HasContent, whole, IsTree}
+
+-- ---- one that passes, where some do
+
+pub record Passing {X : Type 0} (p : X → Bool) (xs : List X) : Type 0 where
+  pub one : X
+  pub among : Contains xs one
+  pub passes : p one ≡ true
+
+pub passing : {X : Type 0} (p : X → Bool) (xs : List X) → 1 ≤ length (filter p xs) → Passing p xs
+passing p [] h = absurd (omega arith)
+passing {X} p (x ∷ xs) h = by (p x) refl (passing p xs)
+  where
+    by : (b : Bool) → p x ≡ b → (1 ≤ length (filter p xs) → Passing p xs) → Passing p (x ∷ xs)
+    by true is rest = record { one = x; among = (0, omega arith, refl); passes = is }
+    by false is rest =
+        let fewer : 1 ≤ length (filter p xs) = subst (λ b. 1 ≤ length (cond b (x ∷ filter p xs) (filter p xs))) is h in
+        let r = rest fewer in
+        let bound : r.among.0 < length xs = r.among.1 in
+        record { one = r.one; among = (suc r.among.0, omega arith, r.among.2); passes = r.passes }
+
+pub reference_at : (rect : Area) (rs : List (Reference ℕ)) (key : List ℕ) (instant : ℕ) → Tiles rect rs → has_point rect key instant ≡ true → Passing (λ r. has_point r.rect key instant) rs
+reference_at rect rs key instant tiles h =
+    let one : length (at_point key instant rs) ≡ 1 = tiles.once key instant h in
+    passing (λ r. has_point r.rect key instant) rs (omega (arith, one))
+
+pub whole_holds : (key : List ℕ) (instant : ℕ) → 1 ≤ instant → has_point whole key instant ≡ true
+whole_holds [] instant h = and_from _ _ refl (and_from _ _ (le-leb 1 instant h) refl)
+whole_holds (k ∷ ks) instant h = and_from _ _ refl (and_from _ _ (le-leb 1 instant h) refl)
+
+-- ---- a node of a level that has a point
+
+pub record NodeAt (nodes : List TreeNode) (key : List ℕ) (instant level : ℕ) : Type 0 where
+  pub number : ℕ
+  pub node : TreeNode
+  pub there : IsAt nodes number node
+  pub of_level : node.level ≡ level
+  pub holds : has_point node.rect key instant ≡ true
+
+minus : (l k more : ℕ) → l ≡ k + 1 → k - more ≡ l - suc more
+minus l k more e = omega arith
+
+back : (r l : ℕ) → l ≤ r → r - (r - l) ≡ l
+back r l le = omega arith
+
+module _ (nodes : List TreeNode) (tree : IsTree nodes) (key : List ℕ) (instant : ℕ) where
+  -- `more` levels down from a node
+  down : (more number level : ℕ) (rect : Area) (content : Content) (pk : Option (List ℕ)) → more ≤ level → IsAt nodes number (record { level = level; rect = rect; content = content; packed = pk }) → has_point rect key instant ≡ true → NodeAt nodes key instant (level - more)
+  down zero number level rect content pk le at holds = record { number = number; node = record { level = level; rect = rect; content = content; packed = pk }; there = at; of_level = omega arith; holds = holds }
+  down (suc more) number level rect (Events es) pk le at holds = absurd (let is_zero : level ≡ 0 = tree.contents number _ at in omega arith)
+  down (suc more) number level rect (References rs) pk le at holds =
+      let index : IsIndex nodes level rect rs = tree.contents number _ at in
+      let r = reference_at rect rs key instant index.tiled holds in
+      let refers : RefersTo nodes level r.one = All-contains (RefersTo nodes level) rs r.one index.below r.among in
+      let under : level ≡ refers.node.level + 1 = refers.below in
+      let found = down more r.one.child refers.node.level refers.node.rect refers.node.content refers.node.packed (omega arith) refers.there (subst (λ a. has_point a key instant ≡ true) refers.same r.passes) in
+      record { number = found.number; node = found.node; there = found.there; of_level = found.of_level ∙ minus level refers.node.level more under; holds = found.holds }
+
+  pub at_level : (level : ℕ) → level ≤ tree.root.root.level → 1 ≤ instant → NodeAt nodes key instant level
+  at_level level le first =
+      let root = tree.root.root in
+      let found = down (root.level - level) 0 root.level root.rect root.content root.packed (omega arith) tree.root.first (subst (λ a. has_point a key instant ≡ true) (sym tree.root.covers) (whole_holds key instant first)) in
+      record { number = found.number; node = found.node; there = found.there; of_level = found.of_level ∙ back root.level level le; holds = found.holds }
+
+-- ---- what a level says of what a node holds
+
+abbrev pub IsIndexed : Content → Type 0
+IsIndexed (Events es) = ⊥
+IsIndexed (References rs) = Unit {0}
+
+abbrev pub IsListed : Content → Type 0
+IsListed (Events es) = Unit {0}
+IsListed (References rs) = ⊥
+
+module _ (nodes : List TreeNode) (tree : IsTree nodes) where
+  -- above the data nodes there are index nodes
+  pub is_indexed : (number level more : ℕ) (rect : Area) (content : Content) (pk : Option (List ℕ)) → IsAt nodes number (record { level = level; rect = rect; content = content; packed = pk }) → level ≡ more + 1 → IsIndexed content
+  is_indexed number level more rect (Events es) pk at up = absurd (let is_zero : level ≡ 0 = tree.contents number _ at in omega arith)
+  is_indexed number level more rect (References rs) pk at up = tt
+
+  -- a node of level 0 has no references, since it would have one at its first point
+  pub is_listed : (number level : ℕ) (rect : Area) (content : Content) (pk : Option (List ℕ)) → IsAt nodes number (record { level = level; rect = rect; content = content; packed = pk }) → level ≡ 0 → IsListed content
+  is_listed number level rect (Events es) pk at down = tt
+  is_listed number level rect (References rs) pk at down =
+      let index : IsIndex nodes level rect rs = tree.contents number _ at in
+      let area : IsArea rect = tree.areas number _ at in
+      let r = reference_at rect rs rect.keys.lo rect.time.from index.tiled (and_from _ _ (first_key_in rect area) (first_instant_in rect area)) in
+      let refers : RefersTo nodes level r.one = All-contains (RefersTo nodes level) rs r.one index.below r.among in
+      absurd (let under : level ≡ refers.node.level + 1 = refers.below in omega arith)

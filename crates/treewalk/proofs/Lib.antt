@@ -1,0 +1,2 @@
+pub mod LevelNodes
+pub mod LevelSteps

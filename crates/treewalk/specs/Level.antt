@@ -1,0 +1,41 @@
+-- Which nodes of a level have a point of a rectangle.
+use Rattle.std.specs.Prelude.{◌≡◌, ℕ, ◌<◌, List, All, Contains}
+use Rattle.std.specs.List.Sorted.{IsStrictlyIncreasing}
+use Rattle.keyrange.specs.Rect.{Area, Common}
+use Rattle.treenodes.specs.Node.{Content, Events, References, TreeNode, IsAt, IsIndexNode}
+
+-- the number of a node of the level that has a point of the rectangle
+pub record MeetsAt (nodes : List TreeNode) (level : ℕ) (area : Area) (number : ℕ) : Type 0 where
+  pub node : TreeNode
+  pub there : IsAt nodes number node
+  pub of_level : node.level ≡ level
+  pub common : Common node.rect area
+
+-- the numbers of all nodes of the level that have a point of the rectangle, each once and in order
+pub record AreMeeting (nodes : List TreeNode) (level : ℕ) (area : Area) (numbers : List ℕ)
+    : Type 0 where
+  pub ordered : IsStrictlyIncreasing numbers
+  pub each : All (MeetsAt nodes level area) numbers
+  pub whole : (number : ℕ) → MeetsAt nodes level area number → Contains numbers number
+
+-- the root is above the level
+abbrev pub IsBelowRoot : List TreeNode → ℕ → Type 0
+IsBelowRoot nodes level = (root : TreeNode) → IsAt nodes 0 root → level < root.level
+
+-- each is the number of an index node
+abbrev pub AreIndexes : List TreeNode → List ℕ → Type 0
+AreIndexes nodes numbers =
+    All (λ number. (n : TreeNode) × (IsAt nodes number n × IsIndexNode n.content)) numbers
+
+abbrev pub IsDataNode : Content → Type 0
+IsDataNode (Events es) = Unit {0}
+IsDataNode (References rs) = ⊥
+
+-- the number of a data node
+pub record IsLeaf (nodes : List TreeNode) (number : ℕ) : Type 0 where
+  pub node : TreeNode
+  pub there : IsAt nodes number node
+  pub data_node : IsDataNode node.content
+
+abbrev pub AreLeaves : List TreeNode → List ℕ → Type 0
+AreLeaves nodes numbers = All (IsLeaf nodes) numbers

@@ -1,0 +1,3 @@
+pub mod Level
+pub mod Gather
+pub mod Shape

@@ -1,0 +1,82 @@
+//! A walk from the root down, level by level.
+ghost use Rattle.std.specs.Prelude.{◌≡◌, ◌↔◌, ◌++◌, ◌+◌, ℕ, List, All, Contains, IfOk, OnOk, map, filter};
+ghost use Rattle.std.specs.List.Sorted.{IsStrictlyIncreasing};
+ghost use Rattle.values.specs.Memory.{OnlyMemory};
+ghost use Rattle.keyrange.specs.Rect.{Area, Common};
+ghost use Rattle.indexnode.specs.Node.{meet, MeetsWhereCommon};
+ghost use Rattle.treenodes.specs.Tree.{IsTree};
+ghost use Rattle.treewalk.specs.Level.{AreMeeting, AreIndexes, IsBelowRoot};
+
+use indexnode::IndexNode;
+use keyrange::Rect;
+use slots::Slots;
+use std::alloc::Global;
+use treenodes::Slot;
+use values::Mem;
+
+/// Adds the numbers of the children that meet a rectangle.
+fn add_meeting(
+    alloc: Global,
+    node: &IndexNode<usize>,
+    rect: &Rect,
+    numbers: &mut Vec<usize>,
+) -> Mem<()>
+    ensures ok { OnOk result (numbers.new.items
+        ≡ numbers.old.items
+        ++ map (λ r. r.child) (filter (λ r. meet r.rect rect.now) node.now.references.items)) }
+    ensures common { OnOk result (All (MeetsWhereCommon rect.now) node.now.references.items) }
+    ensures err { OnlyMemory result }
+{
+    let found = node.meeting(alloc, rect)?;
+    for reference in &found {
+        numbers.push(reference.child)?;
+    }
+    Ok(())
+}
+
+/// Puts numbers in order, each once.
+fn sort_numbers(numbers: &mut Vec<usize>)
+    ensures ordered { IsStrictlyIncreasing numbers.new.items }
+    ensures same { (n : ℕ) → Contains numbers.new.items n ↔ Contains numbers.old.items n }
+{
+    numbers.sort_unstable();
+    numbers.dedup();
+}
+
+/// The numbers of the children of some index nodes that meet a rectangle, each once and in order.
+fn level_below(
+    alloc: Global,
+    nodes: &Slots<Slot>,
+    numbers: &[usize],
+    rect: &Rect,
+) -> Mem<Vec<usize>>
+    requires tree { IsTree nodes.now }
+    requires indexes { AreIndexes nodes.now numbers.now }
+    ensures ok { (level : ℕ) → IsBelowRoot nodes.now level
+        → AreMeeting nodes.now (level + 1) rect.now numbers.now
+        → IfOk result (λ v. AreMeeting nodes.now level rect.now v.items) }
+    ensures err { OnlyMemory result }
+{
+    let mut next = Vec::new(alloc);
+    for number in numbers {
+        add_meeting(alloc, nodes.at(*number).index(), rect, &mut next)?;
+    }
+    sort_numbers(&mut next);
+    Ok(next)
+}
+
+/// The numbers of the data nodes that have a point of a rectangle, each once and in order.
+pub fn leaves_in(alloc: Global, nodes: &Slots<Slot>, rect: &Rect) -> Mem<Vec<usize>>
+    requires { IsTree nodes.now }
+    ensures ok { IfOk result (λ v. AreMeeting nodes.now 0 rect.now v.items) }
+    ensures err { OnlyMemory result }
+{
+    let mut numbers = Vec::new(alloc);
+    numbers.push(0)?;
+    let mut level = nodes.at(0).level();
+    while level > 0 {
+        numbers = level_below(alloc, nodes, &numbers, rect)?;
+        level -= 1;
+    }
+    Ok(numbers)
+}

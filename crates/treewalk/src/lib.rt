@@ -1,0 +1,15 @@
+//! What is read off the nodes of a tree.
+#![tactic(auto)]
+
+mod gather;
+mod last_change;
+mod level;
+mod listing;
+mod shape;
+#[cfg(test)]
+mod tests;
+
+pub use last_change::changed_since;
+pub use level::leaves_in;
+pub use listing::{events, standing};
+pub use shape::{NodeShape, Shape, tree_shape};
