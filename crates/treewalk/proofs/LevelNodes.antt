@@ -9,8 +9,9 @@ use Rattle.keyrange.specs.Rect.{Area, has_point, IsArea, Common}
 use Rattle.keyrange.proofs.RectInside.{first_key_in, first_instant_in, inside_itself, inner_is_common}
 use Rattle.indexnode.specs.declared.reference.Reference.{Reference}
 use Rattle.indexnode.specs.Node.{Tiles, at_point}
-use Rattle.treenodes.specs.Node.{Content, Events, References, TreeNode, IsAt, events_of}
+use Rattle.treenodes.specs.Node.{Content, Events, References, TreeNode, IsAt, IsIndexNode}
 use Rattle.treenodes.specs.Tree.{RefersTo, IsIndex, HasContent, whole, IsTree}
+use Rattle.treewalk.specs.Level.{IsDataNode}
 
 -- ---- one that passes, where some do
 
@@ -76,22 +77,14 @@ module _ (nodes : List TreeNode) (tree : IsTree nodes) (key : List ℕ) (instant
 
 -- ---- what a level says of what a node holds
 
-abbrev pub IsIndexed : Content → Type 0
-IsIndexed (Events es) = ⊥
-IsIndexed (References rs) = Unit {0}
-
-abbrev pub IsListed : Content → Type 0
-IsListed (Events es) = Unit {0}
-IsListed (References rs) = ⊥
-
 module _ (nodes : List TreeNode) (tree : IsTree nodes) where
   -- above the data nodes there are index nodes
-  pub is_indexed : (number level more : ℕ) (rect : Area) (content : Content) (pk : Option (List ℕ)) → IsAt nodes number (record { level = level; rect = rect; content = content; packed = pk }) → level ≡ more + 1 → IsIndexed content
+  pub is_indexed : (number level more : ℕ) (rect : Area) (content : Content) (pk : Option (List ℕ)) → IsAt nodes number (record { level = level; rect = rect; content = content; packed = pk }) → level ≡ more + 1 → IsIndexNode content
   is_indexed number level more rect (Events es) pk at up = absurd (let is_zero : level ≡ 0 = tree.contents number _ at in omega arith)
   is_indexed number level more rect (References rs) pk at up = tt
 
   -- a node of level 0 has no references, since it would have one at its first point
-  pub is_listed : (number level : ℕ) (rect : Area) (content : Content) (pk : Option (List ℕ)) → IsAt nodes number (record { level = level; rect = rect; content = content; packed = pk }) → level ≡ 0 → IsListed content
+  pub is_listed : (number level : ℕ) (rect : Area) (content : Content) (pk : Option (List ℕ)) → IsAt nodes number (record { level = level; rect = rect; content = content; packed = pk }) → level ≡ 0 → IsDataNode content
   is_listed number level rect (Events es) pk at down = tt
   is_listed number level rect (References rs) pk at down =
       let index : IsIndex nodes level rect rs = tree.contents number _ at in

@@ -1,9 +1,8 @@
 //! A walk from the root down, level by level.
-ghost use Rattle.std.specs.Prelude.{◌≡◌, ◌↔◌, ◌++◌, ◌+◌, ℕ, List, All, Contains, IfOk, OnOk, map, filter};
+ghost use Rattle.std.specs.Prelude.{◌≡◌, ◌↔◌, ◌++◌, ◌+◌, ℕ, Contains, IfOk, OnOk, map, filter};
 ghost use Rattle.std.specs.List.Sorted.{IsStrictlyIncreasing};
 ghost use Rattle.values.specs.Memory.{OnlyMemory};
-ghost use Rattle.keyrange.specs.Rect.{Area, Common};
-ghost use Rattle.indexnode.specs.Node.{meet, MeetsWhereCommon};
+ghost use Rattle.indexnode.specs.Node.{meet};
 ghost use Rattle.treenodes.specs.Tree.{IsTree};
 ghost use Rattle.treewalk.specs.Level.{AreMeeting, AreIndexes, IsBelowRoot};
 
@@ -24,7 +23,6 @@ fn add_meeting(
     ensures ok { OnOk result (numbers.new.items
         ≡ numbers.old.items
         ++ map (λ r. r.child) (filter (λ r. meet r.rect rect.now) node.now.references.items)) }
-    ensures common { OnOk result (All (MeetsWhereCommon rect.now) node.now.references.items) }
     ensures err { OnlyMemory result }
 {
     let found = node.meeting(alloc, rect)?;
@@ -57,6 +55,8 @@ fn level_below(
         → IfOk result (λ v. AreMeeting nodes.now level rect.now v.items) }
     ensures err { OnlyMemory result }
 {
+    // Who reads the time knows that the ranges are not empty.
+    let _time = rect.time();
     let mut next = Vec::new(alloc);
     for number in numbers {
         add_meeting(alloc, nodes.at(*number).index(), rect, &mut next)?;
@@ -71,6 +71,8 @@ pub fn leaves_in(alloc: Global, nodes: &Slots<Slot>, rect: &Rect) -> Mem<Vec<usi
     ensures ok { IfOk result (λ v. AreMeeting nodes.now 0 rect.now v.items) }
     ensures err { OnlyMemory result }
 {
+    // Who reads the time knows that the ranges are not empty.
+    let _time = rect.time();
     let mut numbers = Vec::new(alloc);
     numbers.push(0)?;
     let mut level = nodes.at(0).level();
