@@ -5,3 +5,5 @@ pub mod LevelChildren
 pub mod MapMembers
 pub mod StandingCut
 pub mod GatherArea
+pub mod GatherLeaves
+pub mod ListingRead

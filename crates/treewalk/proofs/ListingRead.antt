@@ -1,0 +1,149 @@
+-- What was gathered of the leaves, put in order, is what is asked of the map.
+use Rattle.std.proofs.Common.{◌≡◌, ℕ, ◌<◌, ◌≤◌, Bool, true, false, List, [], Option, Some, None, refl, sym, ap, subst, ◌∙◌, inl, inr, arith, nat_le, min}
+use Rattle.std.specs.Prelude.{Contains, ◌&&◌, IsTrue}
+use Rattle.std.specs.List.{filter, flat_map}
+use Rattle.std.proofs.lemmas.Bool.{and_parts, and_from, leb-true}
+use Rattle.std.proofs.lemmas.Bool.Decides.{Decides-like, same_from_decides}
+use Rattle.values.specs.Event.{Event}
+use Rattle.values.specs.Commits.{max_instant}
+use Rattle.keyrange.specs.declared.range.KeyRange.{KeyRange}
+use Rattle.keyrange.specs.Range.{is_key_in, is_time_in}
+use Rattle.keyrange.specs.Rect.{Area, has_point, Common}
+use Rattle.eventlist.specs.Listing.{events_in, stands_at, standing}
+use Rattle.eventlist.specs.Sort.{HasTie}
+use Rattle.datanode.specs.Cut.{IsMap, in_cut, cut}
+use Rattle.datanode.proofs.CutMembers.{In, In-filter, In-from_filter, filter_alike}
+use Rattle.datanode.proofs.CutOrder.{In_place}
+use Rattle.datanode.proofs.CutLaws.{IsOvertaken, IsTimeIn, in_cut_decides, time_decides}
+use Rattle.datanode.proofs.NodePut.{point_of}
+use Rattle.treenodes.specs.Node.{TreeNode}
+use Rattle.treenodes.specs.Tree.{IsTree}
+use Rattle.treenodes.specs.Map.{HoldsMap}
+use Rattle.treewalk.specs.Level.{AreMeeting}
+use Rattle.treewalk.specs.Gather.{instants, area_between, asked, asked_of_all, AreGathered}
+use Rattle.treewalk.specs.declared.gather.Query.{Query}
+use Rattle.treewalk.specs.declared.gather.Query.TheVariants.{Between, At}
+use Rattle.treewalk.proofs.MapMembers.{sorted_out}
+use Rattle.treewalk.proofs.GatherArea.{Asked, area_of, asked_area, asked_point, area_is, at_instant}
+use Rattle.treewalk.proofs.GatherLeaves.{IsShownAt, all_sound, all_whole}
+use Rattle.treewalk.proofs.StandingCut.{Stands, stands_decides, to_cut, from_cut}
+
+-- what a rectangle holds of the map whose point it has
+held : (r : Area) (m : List Event) (x : Event) → In x m → has_point r x.key x.at ≡ true → In x (cut r m)
+held r m x i h = let p = point_of r x h in In-filter (in_cut r m) m x i ((in_cut_decides r m x).1 (p.keys, inl (p.start, p.end)))
+
+-- an event that passes is at a point in question, and a leaf that has the point shows it
+pub record IsSeen (query : Query) (range : KeyRange) (m : List Event) (e : Event) : Type 0 where
+  pub area : area_between range (instants query).0 (instants query).1 ≡ Some (area_of range (instants query).0 (instants query).1)
+  pub shown : IsShownAt (area_of range (instants query).0 (instants query).1) m (asked query range) e
+
+module _ (nodes : List TreeNode) (tree : IsTree nodes) (m : List Event) (holds : HoldsMap nodes m) (query : Query) (range : KeyRange) (p : Event → Bool)
+    (sound : (r : Area) → Common r (area_of range (instants query).0 (instants query).1) → (e : Event) → In e (asked query range (cut r m)) → In e m × (p e ≡ true))
+    (seen : (e : Event) → In e m → p e ≡ true → IsSeen query range m e) where
+  listed_by : (o : Option Area) → area_between range (instants query).0 (instants query).1 ≡ o → (found es : List Event) → AreGathered query range nodes found → IsMap es
+      → ((e : Event) → Contains es e → Contains found e) → ((e : Event) → Contains found e → HasTie e es) → es ≡ filter p m
+  listed_by None is found es are sorted from kept =
+      sorted_out m p holds.ordered found es sorted from kept
+      (λ e i. absurd (subst (In e) (are.none is) i))
+      (λ e i passes. (let none : None ≡ Some (area_of range (instants query).0 (instants query).1) = sym is ∙ (seen e i passes).area in cc))
+  listed_by (Some area) is found es are sorted from kept =
+      let some = are.some area is in
+      let one : area ≡ area_of range (instants query).0 (instants query).1 = area_is range (instants query).0 (instants query).1 area is in
+      let meeting = subst (λ a. AreMeeting nodes 0 a some.0) one some.1 in
+      sorted_out m p holds.ordered found es sorted from kept
+      (λ e i. all_sound nodes tree m holds (area_of range (instants query).0 (instants query).1) some.0 meeting (asked query range) (λ x. In x m × (p x ≡ true)) sound e (subst (In e) some.2 i))
+      (λ e i passes. subst (In e) (sym some.2) (all_whole nodes tree m holds (area_of range (instants query).0 (instants query).1) some.0 meeting (asked query range) e (seen e i passes).shown))
+
+  listed : (found es : List Event) → AreGathered query range nodes found → IsMap es
+      → ((e : Event) → Contains es e → Contains found e) → ((e : Event) → Contains found e → HasTie e es) → es ≡ filter p m
+  listed = listed_by (area_between range (instants query).0 (instants query).1) refl
+
+module _ (nodes : List TreeNode) (tree : IsTree nodes) (m : List Event) (holds : HoldsMap nodes m) where
+  in_time : (x : Event) → In x m → (1 ≤ x.at) × (x.at ≤ max_instant)
+  in_time x i = let r = In_place x x m i in subst (λ (y : Event). (1 ≤ y.at) × (y.at ≤ max_instant)) r.2 (holds.instants r.0 x r.1)
+
+  module _ (range : KeyRange) (from to : ℕ) (found es : List Event) (are : AreGathered (Between from to) range nodes found) (sorted : IsMap es)
+      (out : (e : Event) → Contains es e → Contains found e) (kept : (e : Event) → Contains found e → HasTie e es) where
+    abbrev passes : Event → Bool
+    passes e = is_key_in range e.key && (nat_le from e.at && nat_le e.at to)
+
+    between : (e : Event) → In e m → passes e ≡ true → Asked range from to e.key e.at
+    between e i h =
+        let time = and_parts (nat_le from e.at) _ (and_parts (is_key_in range e.key) _ h).1 in
+        record { in_range = (and_parts _ _ h).0; started = leb-true from e.at time.0; not_ended = leb-true e.at to time.1; is_first = (in_time e i).0; is_last = (in_time e i).1 }
+
+    pub events_listed : es ≡ events_in m range from to
+    events_listed = listed nodes tree m holds (Between from to) range passes
+        (λ r common e i. (let k = In-from_filter passes (cut r m) e i in ((In-from_filter (in_cut r m) m e k.0).0, k.1)))
+        (λ e i h. (let b = between e i h in record {
+          area = asked_area range from to e.key e.at b;
+          shown = record {
+            instant = e.at;
+            is_first = (in_time e i).0;
+            is_last = (in_time e i).1;
+            inside = asked_point range from to e.key e.at b;
+            shown = λ r point. In-filter passes (cut r m) e (held r m e i point) h;
+          };
+        }))
+        found es are sorted out kept
+
+  module _ (range : KeyRange) (instant : ℕ) (found es : List Event) (are : AreGathered (At (min instant max_instant)) range nodes found) (sorted : IsMap es)
+      (out : (e : Event) → Contains es e → Contains found e) (kept : (e : Event) → Contains found e → HasTie e es) where
+    abbrev t : ℕ
+    t = min instant max_instant
+
+    upto : min instant max_instant ≤ max_instant
+    upto = omega arith
+
+    abbrev shows : List Event → Event → Bool
+    shows xs e = is_key_in range e.key && stands_at xs t e
+
+    time_of : (r : Area) (key : List ℕ) (u : ℕ) → has_point r key u ≡ true → IsTimeIn r u
+    time_of r key u h = (time_decides r u).0 (and_parts (is_key_in r.keys key) _ h).1
+
+    stood : (e : Event) → In e m → shows m e ≡ true → Asked range t t e.key t
+    stood e i h =
+        let s = (stands_decides m t e).0 (and_parts (is_key_in range e.key) _ h).1 in
+        let until : e.at ≤ min instant max_instant = s.until in
+        let first = (in_time e i).0 in
+        record { in_range = (and_parts _ _ h).0; started = omega arith; not_ended = omega arith; is_first = omega arith; is_last = upto }
+
+    stands_sound : (r : Area) → Common r (area_of range t t) → (e : Event) → In e (asked (At t) range (cut r m)) → In e m × (shows m e ≡ true)
+    stands_sound r common e i =
+        let k = In-from_filter (shows (cut r m)) (cut r m) e i in
+        let h = In-from_filter (in_cut r m) m e k.0 in
+        let now : common.instant ≡ t = at_instant range t common.key common.instant upto common.is_last common.in_second in
+        let time = subst (IsTimeIn r) now (time_of r common.key common.instant common.in_first) in
+        let parts = and_parts (is_key_in range e.key) _ k.1 in
+        (h.0, and_from _ _ parts.0 ((stands_decides m t e).1 (from_cut r m t time e ((in_cut_decides r m e).0 h.1) ((stands_decides (cut r m) t e).0 parts.1))))
+
+    stands_shown : (e : Event) → In e m → shows m e ≡ true → (r : Area) → has_point r e.key t ≡ true → In e (asked (At t) range (cut r m))
+    stands_shown e i h r point =
+        let parts = and_parts (is_key_in range e.key) _ h in
+        let c = to_cut r m t (time_of r e.key t point) e (and_parts _ _ point).0 ((stands_decides m t e).0 parts.1) in
+        In-filter (shows (cut r m)) (cut r m) e (In-filter (in_cut r m) m e i ((in_cut_decides r m e).1 c.0)) (and_from _ _ parts.0 ((stands_decides (cut r m) t e).1 c.1))
+
+    -- after the last instant all is as it is then
+    as_then : filter (shows m) m ≡ standing m (is_key_in range) instant
+    as_then = filter_alike (shows m) (λ e. is_key_in range e.key && stands_at m instant e) m (λ e i. ap (λ b. is_key_in range e.key && b)
+        (same_from_decides _ _ (stands_decides m t e) (Decides-like _ (sooner e i) (later e) (stands_decides m instant e))))
+      where
+        sooner : (e : Event) → In e m → Stands m instant e → Stands m (min instant max_instant) e
+        sooner e i s =
+            let a = s.until in
+            let b = (in_time e i).1 in
+            record { until = omega arith; row = s.row; last = λ o. s.last (o.0, o.1, (let c : o.0.at ≤ min instant max_instant = o.2.until in record { of_key = o.2.of_key; after = o.2.after; until = omega arith })) }
+
+        later : (e : Event) → Stands m (min instant max_instant) e → Stands m instant e
+        later e s =
+            let a : e.at ≤ min instant max_instant = s.until in
+            record { until = omega arith; row = s.row; last = λ o. s.last (o.0, o.1, (let c : o.0.at ≤ instant = o.2.until in let d = (in_time o.0 o.1).1 in record { of_key = o.2.of_key; after = o.2.after; until = omega arith })) }
+
+    pub standing_listed : es ≡ standing m (is_key_in range) instant
+    standing_listed = listed nodes tree m holds (At t) range (shows m) stands_sound
+        (λ e i h. (let b = stood e i h in record {
+          area = asked_area range t t e.key t b;
+          shown = record { instant = t; is_first = b.is_first; is_last = upto; inside = asked_point range t t e.key t b; shown = stands_shown e i h };
+        }))
+        found es are sorted out kept
+        ∙ as_then
