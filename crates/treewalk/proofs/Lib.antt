@@ -7,3 +7,4 @@ pub mod StandingCut
 pub mod GatherArea
 pub mod GatherLeaves
 pub mod ListingRead
+pub mod ChangeLast
