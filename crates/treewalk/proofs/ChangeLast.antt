@@ -13,6 +13,10 @@ use Rattle.keyrange.specs.Range.{is_key_in}
 use Rattle.eventlist.specs.Place.{last_event}
 use Rattle.eventlist.proofs.PlaceOrder.{same_bytes, is_own, is_lower}
 use Rattle.datanode.specs.Cut.{IsMap, in_cut, cut}
+use Rattle.datanode.specs.Node.{Node}
+use Rattle.treenodes.specs.Node.{TreeNode, IsAt, data_node}
+use Rattle.treenodes.specs.Lookup.{IsLeafAt}
+use Rattle.treenodes.specs.Map.{HoldsMap}
 use Rattle.datanode.proofs.CutMembers.{In, In-filter, In-from_filter}
 use Rattle.datanode.proofs.CutLaws.{IsTimeIn, IsInCut, in_cut_decides, time_decides, ends_earlier}
 use Rattle.datanode.proofs.LawsLast.{last_such, IsLastSuch, is_last_such, none_such, found_such, none_passes, later_is_above}
@@ -99,3 +103,26 @@ module _ (r : Area) (m : List Event) (map : IsMap m) (key : List ℕ) (instant :
             let lt : start < x.at = ltb-true start x.at p.1 in
             let le : e.at ≤ start = not_above start e.at above in
             none_later x i (same_bytes key x.key p.0) (omega arith)))))
+
+-- the leaf at a point
+pub record Shows (m : List Event) (key : List ℕ) (instant : ℕ) (n : Node) : Type 0 where
+  pub events_are : n.events ≡ cut n.rect m
+  pub holds : has_point n.rect key instant ≡ true
+
+pub leaf_shows : (nodes : List TreeNode) (m : List Event) (key : List ℕ) (instant number : ℕ) (n : Node) → HoldsMap nodes m → IsLeafAt nodes key instant number → IsAt nodes number (data_node n) → Shows m key instant n
+leaf_shows nodes m key instant number n holds leaf at = record {
+  events_are = holds.cuts number (data_node n) at;
+  holds = (let same : data_node leaf.node ≡ data_node n = cc (leaf.there) in subst (λ (p : TreeNode). has_point p.rect key instant ≡ true) same leaf.holds);
+}
+
+-- ---- as the code goes
+
+module _ (nodes : List TreeNode) (m : List Event) (holds : HoldsMap nodes m) (key : List ℕ) (instant number : ℕ) (n : Node) (leaf : IsLeafAt nodes key instant number) (at : IsAt nodes number (data_node n)) (until : AreUntil m key instant) where
+  shows : Shows m key instant n
+  shows = leaf_shows nodes m key instant number n holds leaf at
+
+  pub changed : (start : ℕ) (e : Event) (o : Option Event) → o ≡ last_event n.events key → o ≡ Some e → (if nat_lt start e.at then Some e.at else None) ≡ event_since m start key
+  changed start e o last is = since_last n.rect m holds.ordered key instant until shows.holds e (sym is ∙ last ∙ ap (λ es. last_event es key) shows.events_are) start
+
+  pub earlier : (o : Option Event) → o ≡ last_event n.events key → o ≡ None → AreUntil m key (n.rect.time.from - 1)
+  earlier o last is = none_in n.rect m holds.ordered key instant until shows.holds (sym is ∙ last ∙ ap (λ es. last_event es key) shows.events_are)

@@ -59,7 +59,7 @@ module _ (nodes : List TreeNode) (tree : IsTree nodes) (m : List Event) (holds :
   listed = listed_by (area_between range (instants query).0 (instants query).1) refl
 
 module _ (nodes : List TreeNode) (tree : IsTree nodes) (m : List Event) (holds : HoldsMap nodes m) where
-  in_time : (x : Event) → In x m → (1 ≤ x.at) × (x.at ≤ max_instant)
+  pub in_time : (x : Event) → In x m → (1 ≤ x.at) × (x.at ≤ max_instant)
   in_time x i = let r = In_place x x m i in subst (λ (y : Event). (1 ≤ y.at) × (y.at ≤ max_instant)) r.2 (holds.instants r.0 x r.1)
 
   module _ (range : KeyRange) (from to : ℕ) (found es : List Event) (are : AreGathered (Between from to) range nodes found) (sorted : IsMap es)

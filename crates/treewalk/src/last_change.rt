@@ -1,5 +1,5 @@
 //! When a key was last changed.
-ghost use Rattle.std.specs.Prelude.{◌≡◌, List};
+ghost use Rattle.std.specs.Prelude.{◌≡◌, List, Some, None, nat_lt, if◌then◌else◌};
 ghost use Rattle.values.specs.Event.{Event as Change};
 ghost use Rattle.values.specs.Events.{event_since};
 ghost use Rattle.treenodes.specs.Tree.{IsTree};
@@ -28,6 +28,8 @@ pub fn changed_since(nodes: &Slots<Slot>, key: &KeyBytes, start: Instant) -> Opt
 }
 
 /// An instant, where it is above another.
-fn above(start: Instant, instant: Instant) -> Option<Instant> {
+fn above(start: Instant, instant: Instant) -> Option<Instant>
+    ensures { result ≡ (if nat_lt start instant then Some instant else None) }
+{
     if start < instant { Some(instant) } else { None }
 }
