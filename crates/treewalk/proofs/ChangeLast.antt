@@ -17,6 +17,7 @@ use Rattle.datanode.specs.Node.{Node}
 use Rattle.treenodes.specs.Node.{TreeNode, IsAt, data_node}
 use Rattle.treenodes.specs.Lookup.{IsLeafAt}
 use Rattle.treenodes.specs.Map.{HoldsMap}
+use Rattle.treenodes.proofs.LookupNodes.{point_in}
 use Rattle.datanode.proofs.CutMembers.{In, In-filter, In-from_filter}
 use Rattle.datanode.proofs.CutLaws.{IsTimeIn, IsInCut, in_cut_decides, time_decides, ends_earlier}
 use Rattle.datanode.proofs.LawsLast.{last_such, IsLastSuch, is_last_such, none_such, found_such, none_passes, later_is_above}
@@ -112,7 +113,7 @@ pub record Shows (m : List Event) (key : List ℕ) (instant : ℕ) (n : Node) : 
 pub leaf_shows : (nodes : List TreeNode) (m : List Event) (key : List ℕ) (instant number : ℕ) (n : Node) → HoldsMap nodes m → IsLeafAt nodes key instant number → IsAt nodes number (data_node n) → Shows m key instant n
 leaf_shows nodes m key instant number n holds leaf at = record {
   events_are = holds.cuts number (data_node n) at;
-  holds = (let same : data_node leaf.node ≡ data_node n = cc (leaf.there) in subst (λ (p : TreeNode). has_point p.rect key instant ≡ true) same leaf.holds);
+  holds = point_in nodes key instant number (data_node n) leaf at;
 }
 
 -- ---- as the code goes

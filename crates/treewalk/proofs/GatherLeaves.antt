@@ -12,10 +12,10 @@ use Rattle.keyrange.specs.declared.range.KeyRange.{KeyRange}
 use Rattle.keyrange.specs.Rect.{Area, has_point, Common, IsArea}
 use Rattle.datanode.specs.Cut.{cut}
 use Rattle.datanode.proofs.CutMembers.{In}
-use Rattle.treenodes.specs.Node.{Content, Events, References, TreeNode, IsAt, events_of}
+use Rattle.treenodes.specs.Node.{Content, Events, References, TreeNode, IsAt, IsDataNode, events_of}
 use Rattle.treenodes.specs.Tree.{IsTree}
 use Rattle.treenodes.specs.Map.{HoldsMap, IsCut}
-use Rattle.treewalk.specs.Level.{MeetsAt, AreMeeting, IsDataNode, IsLeaf, AreLeaves}
+use Rattle.treewalk.specs.Level.{MeetsAt, AreMeeting, AreLeaves}
 use Rattle.treewalk.specs.Gather.{events_at, asked, asked_of_all}
 use Rattle.treewalk.specs.declared.gather.Query.{Query}
 use Rattle.treewalk.proofs.ListMembers.{contained, member, In-flat_map, In-from_flat_map}
@@ -27,7 +27,7 @@ module _ (nodes : List TreeNode) (tree : IsTree nodes) where
   pub are_leaves : (area : Area) (numbers : List ℕ) → AreMeeting nodes 0 area numbers → AreLeaves nodes numbers
   are_leaves area numbers are k d lt =
       let m : MeetsAt nodes 0 area (get_or numbers k d) = are.each k d lt in
-      record { node = m.node; there = m.there; data_node = is_listed nodes tree (get_or numbers k d) m.node.level m.node.rect m.node.content m.node.packed m.there m.of_level }
+      record { node = m.node; there = m.there; bottom = m.of_level; is_data = is_listed nodes tree (get_or numbers k d) m.node.level m.node.rect m.node.content m.node.packed m.there m.of_level }
 
   events_are : (number : ℕ) (n : TreeNode) → IsAt nodes number n → events_at nodes number ≡ events_of n.content
   events_are number n at = ap (λ (o : Option TreeNode). elim o [ None ↦ [] | Some n ↦ events_of n.content ]) at

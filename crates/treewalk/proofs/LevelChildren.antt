@@ -17,6 +17,7 @@ use Rattle.treenodes.specs.Tree.{RefersTo, IsIndex, IsTree}
 use Rattle.datanode.proofs.CutMembers.{In, In-filter, In-from_filter}
 use Rattle.treewalk.specs.Level.{AreIndexes, AreMeeting, MeetsAt}
 use Rattle.treewalk.proofs.ListMembers.{contained, member, In-flat_map, In-from_flat_map, In-map, In-from_map}
+use Rattle.treenodes.proofs.NodeNumbers.{one_at}
 use Rattle.treewalk.proofs.LevelNodes.{is_indexed}
 use Rattle.treewalk.proofs.LevelSteps.{AreChildren}
 
@@ -80,9 +81,6 @@ module _ (nodes : List TreeNode) (tree : IsTree nodes) (area : Area) (is_area : 
   }
 
 -- ---- the numbers of index nodes
-
-pub one_at : (nodes : List TreeNode) (p : ℕ) (n q : TreeNode) → IsAt nodes p n → IsAt nodes p q → n ≡ q
-one_at nodes p n q h k = cc
 
 pub index_there : (nodes : List TreeNode) (numbers : List ℕ) (k : ℕ) → AreIndexes nodes numbers → k < length numbers → get_or numbers k 0 < length nodes
 index_there nodes numbers k h lt = let n = h k 0 lt in slice_get_within nodes (get_or numbers k 0) n.0 n.1.0

@@ -9,37 +9,10 @@ use Rattle.keyrange.specs.Rect.{Area, has_point, IsArea, Common}
 use Rattle.keyrange.proofs.RectInside.{first_key_in, first_instant_in, inside_itself, inner_is_common}
 use Rattle.indexnode.specs.declared.reference.Reference.{Reference}
 use Rattle.indexnode.specs.Node.{Tiles, at_point}
-use Rattle.treenodes.specs.Node.{Content, Events, References, TreeNode, IsAt, IsIndexNode}
+use Rattle.treenodes.specs.Node.{Content, Events, References, TreeNode, IsAt, IsDataNode, IsIndexNode}
 use Rattle.treenodes.specs.Tree.{RefersTo, IsIndex, HasContent, whole, IsTree}
-use Rattle.treewalk.specs.Level.{IsDataNode}
-
--- ---- one that passes, where some do
-
-pub record Passing {X : Type 0} (p : X → Bool) (xs : List X) : Type 0 where
-  pub one : X
-  pub among : Contains xs one
-  pub passes : p one ≡ true
-
-pub passing : {X : Type 0} (p : X → Bool) (xs : List X) → 1 ≤ length (filter p xs) → Passing p xs
-passing p [] h = absurd (omega arith)
-passing {X} p (x ∷ xs) h = by (p x) refl (passing p xs)
-  where
-    by : (b : Bool) → p x ≡ b → (1 ≤ length (filter p xs) → Passing p xs) → Passing p (x ∷ xs)
-    by true is rest = record { one = x; among = (0, omega arith, refl); passes = is }
-    by false is rest =
-        let fewer : 1 ≤ length (filter p xs) = subst (λ b. 1 ≤ length (cond b (x ∷ filter p xs) (filter p xs))) is h in
-        let r = rest fewer in
-        let bound : r.among.0 < length xs = r.among.1 in
-        record { one = r.one; among = (suc r.among.0, omega arith, r.among.2); passes = r.passes }
-
-pub reference_at : (rect : Area) (rs : List (Reference ℕ)) (key : List ℕ) (instant : ℕ) → Tiles rect rs → has_point rect key instant ≡ true → Passing (λ r. has_point r.rect key instant) rs
-reference_at rect rs key instant tiles h =
-    let one : length (at_point key instant rs) ≡ 1 = tiles.once key instant h in
-    passing (λ r. has_point r.rect key instant) rs (omega (arith, one))
-
-pub whole_holds : (key : List ℕ) (instant : ℕ) → 1 ≤ instant → has_point whole key instant ≡ true
-whole_holds [] instant h = and_from _ _ refl (and_from _ _ (le-leb 1 instant h) refl)
-whole_holds (k ∷ ks) instant h = and_from _ _ refl (and_from _ _ (le-leb 1 instant h) refl)
+use Rattle.treenodes.proofs.LookupFound.{reference_at}
+use Rattle.treenodes.proofs.LookupSteps.{whole_holds}
 
 -- ---- a node of a level that has a point
 

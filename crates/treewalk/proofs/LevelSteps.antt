@@ -10,7 +10,10 @@ use Rattle.indexnode.specs.declared.reference.Reference.{Reference}
 use Rattle.treenodes.specs.Node.{Content, Events, References, TreeNode, IsAt, references_of}
 use Rattle.treenodes.specs.Tree.{RefersTo, IsIndex, HasContent, whole, IsTree}
 use Rattle.treewalk.specs.Level.{MeetsAt, AreMeeting}
-use Rattle.treewalk.proofs.LevelNodes.{NodeAt, at_level, reference_at, whole_holds}
+use Rattle.treenodes.proofs.LookupFound.{reference_at}
+use Rattle.treenodes.proofs.LookupSteps.{whole_holds}
+use Rattle.treenodes.proofs.NodeNumbers.{one_at}
+use Rattle.treewalk.proofs.LevelNodes.{NodeAt, at_level}
 
 -- what is listed of a level: the children of its numbers that have a point of the rectangle
 pub record AreChildren (nodes : List TreeNode) (area : Area) (numbers next : List ℕ) : Type 0 where
@@ -73,11 +76,8 @@ module _ (nodes : List TreeNode) (tree : IsTree nodes) (area : Area) where
       below i c =
           let o = children.only i c in
           let up : MeetsAt nodes (level + 1) area o.0 = All-contains (MeetsAt nodes (level + 1) area) numbers o.0 above.each o.3 in
-          let same : o.1 ≡ up.node = one_node nodes o.0 o.1 up.node o.4 up.there in
+          let same : o.1 ≡ up.node = one_at nodes o.0 o.1 up.node o.4 up.there in
           child_meets o.0 i o.1.level o.1.rect o.1.content o.1.packed o.2 o.4 (ap (λ (n : TreeNode). n.level) same ∙ up.of_level) o.5 o.6 o.7
-        where
-          one_node : (nodes : List TreeNode) (p : ℕ) (n q : TreeNode) → IsAt nodes p n → IsAt nodes p q → n ≡ q
-          one_node nodes p n q h k = cc
 
       reached : (i : ℕ) → MeetsAt nodes level area i → Contains next i
       reached i m = by up.number up.node.level up.node.rect up.node.content up.node.packed up.there up.of_level up.holds

@@ -2,7 +2,7 @@ pub mod ListMembers
 pub mod LevelNodes
 pub mod LevelSteps
 pub mod LevelChildren
-pub mod MapMembers
+pub mod GatherSorted
 pub mod StandingCut
 pub mod GatherArea
 pub mod GatherLeaves

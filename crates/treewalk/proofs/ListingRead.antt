@@ -15,7 +15,6 @@ use Rattle.datanode.specs.Cut.{IsMap, in_cut, cut}
 use Rattle.datanode.proofs.CutMembers.{In, In-filter, In-from_filter, filter_alike}
 use Rattle.datanode.proofs.CutOrder.{In_place}
 use Rattle.datanode.proofs.CutLaws.{IsOvertaken, IsTimeIn, in_cut_decides, time_decides}
-use Rattle.datanode.proofs.NodePut.{point_of}
 use Rattle.treenodes.specs.Node.{TreeNode}
 use Rattle.treenodes.specs.Tree.{IsTree}
 use Rattle.treenodes.specs.Map.{HoldsMap}
@@ -23,14 +22,11 @@ use Rattle.treewalk.specs.Level.{AreMeeting}
 use Rattle.treewalk.specs.Gather.{instants, area_between, asked, asked_of_all, AreGathered}
 use Rattle.treewalk.specs.declared.gather.Query.{Query}
 use Rattle.treewalk.specs.declared.gather.Query.TheVariants.{Between, At}
-use Rattle.treewalk.proofs.MapMembers.{sorted_out}
+use Rattle.treenodes.proofs.MapRead.{held}
+use Rattle.treewalk.proofs.GatherSorted.{sorted_out}
 use Rattle.treewalk.proofs.GatherArea.{Asked, area_of, asked_area, asked_point, area_is, at_instant}
 use Rattle.treewalk.proofs.GatherLeaves.{IsShownAt, all_sound, all_whole}
 use Rattle.treewalk.proofs.StandingCut.{Stands, stands_decides, to_cut, from_cut}
-
--- what a rectangle holds of the map whose point it has
-held : (r : Area) (m : List Event) (x : Event) → In x m → has_point r x.key x.at ≡ true → In x (cut r m)
-held r m x i h = let p = point_of r x h in In-filter (in_cut r m) m x i ((in_cut_decides r m x).1 (p.keys, inl (p.start, p.end)))
 
 -- an event that passes is at a point in question, and a leaf that has the point shows it
 pub record IsSeen (query : Query) (range : KeyRange) (m : List Event) (e : Event) : Type 0 where

@@ -2,7 +2,8 @@
 use Rattle.std.specs.Prelude.{◌≡◌, ℕ, ◌<◌, List, All, Contains}
 use Rattle.std.specs.List.Sorted.{IsStrictlyIncreasing}
 use Rattle.keyrange.specs.Rect.{Area, Common}
-use Rattle.treenodes.specs.Node.{Content, Events, References, TreeNode, IsAt, IsIndexNode}
+use Rattle.treenodes.specs.Node.{TreeNode, IsAt, IsIndexNode}
+use Rattle.treenodes.specs.Lookup.{IsData}
 
 -- the number of a node of the level that has a point of the rectangle
 pub record MeetsAt (nodes : List TreeNode) (level : ℕ) (area : Area) (number : ℕ) : Type 0 where
@@ -27,15 +28,6 @@ abbrev pub AreIndexes : List TreeNode → List ℕ → Type 0
 AreIndexes nodes numbers =
     All (λ number. (n : TreeNode) × (IsAt nodes number n × IsIndexNode n.content)) numbers
 
-abbrev pub IsDataNode : Content → Type 0
-IsDataNode (Events es) = Unit {0}
-IsDataNode (References rs) = ⊥
-
--- the number of a data node
-pub record IsLeaf (nodes : List TreeNode) (number : ℕ) : Type 0 where
-  pub node : TreeNode
-  pub there : IsAt nodes number node
-  pub data_node : IsDataNode node.content
-
+-- each is the number of a data node
 abbrev pub AreLeaves : List TreeNode → List ℕ → Type 0
-AreLeaves nodes numbers = All (IsLeaf nodes) numbers
+AreLeaves nodes numbers = All (IsData nodes) numbers

@@ -2,8 +2,8 @@
 ghost use Rattle.std.specs.Prelude.{◌≡◌, IfOk};
 ghost use Rattle.values.specs.Memory.{OnlyMemory};
 ghost use Rattle.treenodes.specs.Tree.{IsTree};
-ghost use Rattle.treewalk.specs.Gather.{instants, area_between, asked, asked_of_all, events_at, AreGathered};
-ghost use Rattle.treewalk.specs.Level.{AreLeaves, IsLeaf};
+ghost use Rattle.treewalk.specs.Gather.{instants, area_between, asked, asked_of_all, AreGathered};
+ghost use Rattle.treewalk.specs.Level.{AreLeaves};
 
 use crate::level::leaves_in;
 use datanode::DataNode;
@@ -11,7 +11,7 @@ use eventlist::standing;
 use keyrange::{KeyRange, Rect, TimeRange};
 use slots::Slots;
 use std::alloc::Global;
-use treenodes::{Child, Slot};
+use treenodes::{Slot, data_at};
 use values::{Instant, LAST, Mem, SharedEvent};
 
 /// What is asked of the events of a range of keys.
@@ -81,7 +81,7 @@ fn gathered_of(
 {
     let mut found = Vec::new(alloc);
     for number in numbers {
-        let mut more = asked_of(alloc, leaf(nodes, *number), range, query)?;
+        let mut more = asked_of(alloc, data_at(nodes, *number), range, query)?;
         found.append(&mut more)?;
     }
     Ok(found)
@@ -95,16 +95,5 @@ fn asked_of(alloc: Global, node: &DataNode, range: &KeyRange, query: Query) -> M
     match query {
         Query::Between(from, to) => node.events_in(alloc, range, from, to),
         Query::At(instant) => standing(alloc, node.events(), range, instant),
-    }
-}
-
-/// The data node of a number.
-fn leaf(nodes: &Slots<Slot>, number: usize) -> &DataNode
-    requires { IsLeaf nodes.now number }
-    ensures { events_at nodes.now number ≡ result.now.events }
-{
-    match nodes.at(number).child() {
-        Child::Data(node) => node,
-        Child::Index(_) => unreachable!(),
     }
 }

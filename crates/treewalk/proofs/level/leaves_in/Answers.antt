@@ -2,7 +2,8 @@ use Rattle.std.proofs.Common.{◌≡◌, ℕ, ◌+◌, ◌-◌, ◌<◌, ◌≤�
 use Rattle.keyrange.specs.Rect.{Area}
 use Rattle.treenodes.specs.Node.{TreeNode, IsAt}
 use Rattle.treewalk.specs.Level.{AreMeeting, IsBelowRoot}
-use Rattle.treewalk.proofs.LevelChildren.{are_indexes, one_at}
+use Rattle.treenodes.proofs.NodeNumbers.{one_at}
+use Rattle.treewalk.proofs.LevelChildren.{are_indexes}
 use Rattle.treewalk.proofs.LevelSteps.{from_root}
 use Rattle.treewalk.proofs.level.leaves_in.Goals as goal
 

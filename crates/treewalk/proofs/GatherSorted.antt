@@ -1,4 +1,4 @@
--- Lists of events in order that have the same members are the same.
+-- What was found, put in order.
 use Rattle.std.proofs.Common.{◌≡◌, ℕ, Bool, true, List, [], ◌∷◌, refl, sym, ap, subst, ◌∙◌, inl, inr}
 use Rattle.std.specs.Prelude.{Contains}
 use Rattle.std.specs.List.{filter}
@@ -15,27 +15,8 @@ use Rattle.datanode.proofs.CutMembers.{In, In-filter, In-from_filter}
 use Rattle.datanode.proofs.CutOrder.{head_below, one_event}
 use Rattle.datanode.proofs.LawsLast.{not_below_itself, not_below_back}
 use Rattle.datanode.proofs.NodePut.{event_equal}
+use Rattle.treenodes.proofs.MapMembers.{same_members}
 use Rattle.treewalk.proofs.ListMembers.{contained, member}
-
-same_heads : (x y : Event) (xs ys : List Event) → IsMap (x ∷ xs) → IsMap (y ∷ ys) → In x (y ∷ ys) → In y (x ∷ xs) → x ≡ y
-same_heads x y xs ys mx my (inl e) j = sym e
-same_heads x y xs ys mx my (inr i) (inl e) = e
-same_heads x y xs ys mx my (inr i) (inr j) = absurd (not_below_back x y (head_below x xs mx y j) (head_below y ys my x i))
-
-rest_in : (x y : Event) (xs ys : List Event) → IsMap (x ∷ xs) → x ≡ y → ((z : Event) → In z (x ∷ xs) → In z (y ∷ ys)) → (z : Event) → In z xs → In z ys
-rest_in x y xs ys mx same all z i = elim (all z (inr i)) [
-  | inl e ↦ absurd (not_below_itself x z (same ∙ e) (head_below x xs mx z i))
-  | inr j ↦ j
-]
-
-pub same_members : (xs ys : List Event) → IsMap xs → IsMap ys → ((z : Event) → In z xs → In z ys) → ((z : Event) → In z ys → In z xs) → xs ≡ ys
-same_members [] [] mx my to from = refl
-same_members [] (y ∷ ys) mx my to from = absurd (from y (inl refl))
-same_members (x ∷ xs) [] mx my to from = absurd (to x (inl refl))
-same_members (x ∷ xs) (y ∷ ys) mx my to from =
-    let same = same_heads x y xs ys mx my (to x (inl refl)) (from y (inl refl)) in
-    let tails : xs ≡ ys = same_members xs ys (sorted_tail event_cmp x xs mx) (sorted_tail event_cmp y ys my) (rest_in x y xs ys mx same to) (rest_in y x ys xs my (sym same) from) in
-    (λ i. same i ∷ tails i)
 
 equal_of : (o : Ordering) → is_eq o ≡ true → o ≡ Equal
 equal_of Less h = cc
