@@ -8,3 +8,4 @@ pub mod GatherArea
 pub mod GatherLeaves
 pub mod ListingRead
 pub mod ChangeLast
+pub mod ShapeOrder
