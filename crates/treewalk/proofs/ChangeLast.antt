@@ -1,13 +1,11 @@
 -- When a key was last changed, as a node at the key shows it.
-use Rattle.std.proofs.Common.{◌≡◌, ℕ, ◌+◌, ◌-◌, ◌<◌, ◌≤◌, Bool, true, false, List, [], ◌∷◌, Option, Some, None, refl, sym, ap, subst, ◌∙◌, inl, inr, arith, if◌then◌else◌, nat_lt}
-use Rattle.std.specs.Prelude.{◌&&◌, IsTrue}
-use Rattle.std.specs.declared.cmp.Ordering.TheVariants.{Less}
-use Rattle.std.proofs.lemmas.Bool.{and_parts, and_from, cases_lt, ltb-true, lt-ltb}
+use Rattle.std.proofs.Common.{◌≡◌, ℕ, ◌-◌, ◌<◌, ◌≤◌, Bool, true, false, List, [], ◌∷◌, Option, Some, None, refl, sym, ap, subst, ◌∙◌, inl, inr, arith, if◌then◌else◌, nat_lt}
+use Rattle.std.specs.Prelude.{◌&&◌}
+use Rattle.std.proofs.lemmas.Bool.{and_parts, and_from, cases_lt, ltb-true}
 use Rattle.std.proofs.lemmas.Bool.Decides.{nat_tests}
 use Rattle.std.proofs.lemmas.List.Kept.{IsStrictlySortedBy-filter}
 use Rattle.values.specs.Event.{Event}
 use Rattle.values.specs.Events.{is_bytes, event_cmp, later, event_since}
-use Rattle.values.specs.Commits.{max_instant}
 use Rattle.keyrange.specs.Rect.{Area, has_point}
 use Rattle.keyrange.specs.Range.{is_key_in}
 use Rattle.eventlist.specs.Place.{last_event}
@@ -19,7 +17,7 @@ use Rattle.treenodes.specs.Lookup.{IsLeafAt}
 use Rattle.treenodes.specs.Map.{HoldsMap}
 use Rattle.treenodes.proofs.LookupNodes.{point_in}
 use Rattle.datanode.proofs.CutMembers.{In, In-filter, In-from_filter}
-use Rattle.datanode.proofs.CutLaws.{IsTimeIn, IsInCut, in_cut_decides, time_decides, ends_earlier}
+use Rattle.datanode.proofs.CutLaws.{IsTimeIn, in_cut_decides, time_decides, ends_earlier}
 use Rattle.datanode.proofs.LawsLast.{last_such, IsLastSuch, is_last_such, none_such, found_such, none_passes, later_is_above}
 
 last_is : (es : List Event) (key : List ℕ) → last_event es key ≡ last_such (λ e. is_bytes key e.key) es

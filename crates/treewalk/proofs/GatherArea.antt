@@ -1,11 +1,10 @@
 -- The rectangle of a range of keys and of the instants from one to another.
-use Rattle.std.proofs.Common.{◌≡◌, ℕ, ◌+◌, ◌<◌, ◌≤◌, Bool, true, false, List, Option, Some, None, refl, sym, ap, subst, ◌∙◌, ◌⊎◌, inl, inr, arith, if◌then◌else◌, nat_lt, nat_le, max}
-use Rattle.std.specs.Prelude.{◌&&◌, IsTrue, not}
-use Rattle.std.proofs.lemmas.Bool.{and_parts, and_from, le-leb, lt-ltb, leb-true, ltb-true, cases_lt}
+use Rattle.std.proofs.Common.{◌≡◌, ℕ, ◌+◌, ◌<◌, ◌≤◌, Bool, true, false, List, Option, Some, None, refl, sym, ap, ◌∙◌, arith, if◌then◌else◌, nat_lt, nat_le, max}
+use Rattle.std.specs.Prelude.{not}
+use Rattle.std.proofs.lemmas.Bool.{and_parts, and_from, le-leb, lt-ltb, leb-true, ltb-true}
 use Rattle.std.proofs.lemmas.Bool.Decides.{nat_tests}
 use Rattle.values.specs.Commits.{max_instant}
 use Rattle.keyrange.specs.declared.range.KeyRange.{KeyRange}
-use Rattle.keyrange.specs.declared.range.TimeRange.{TimeRange}
 use Rattle.keyrange.specs.Range.{is_key_in, is_time_in, is_early, is_below, is_before_end}
 use Rattle.keyrange.specs.Rect.{Area, is_area, has_point, is_instant_end}
 use Rattle.keyrange.proofs.RangeOrder.{above}

@@ -1,23 +1,17 @@
 -- What is asked of all leaves in question is what is asked of the map.
-use Rattle.std.proofs.Common.{◌≡◌, ℕ, ◌+◌, ◌<◌, ◌≤◌, Bool, true, false, List, [], ◌∷◌, length, get_or, take, ◌++◌, Option, Some, None, refl, sym, ap, subst, ◌∙◌, ◌⊎◌, inl, inr, arith}
-use Rattle.std.specs.Prelude.{All, Contains, slice_get, IsTrue}
-use Rattle.std.specs.List.{flat_map, filter}
-use Rattle.std.proofs.lemmas.List.{take_more, append-nil, take_all}
+use Rattle.std.proofs.Common.{◌≡◌, ℕ, ◌≤◌, true, List, [], get_or, Option, Some, None, sym, ap, subst, ◌∙◌, arith}
+use Rattle.std.specs.List.{flat_map}
 use Rattle.std.proofs.lemmas.List.Elements.{All-contains}
-use Rattle.std.proofs.lemmas.Grind.{flat_map-append}
-use Rattle.std.proofs.lemmas.Option.{slice_get_within}
 use Rattle.values.specs.Event.{Event}
 use Rattle.values.specs.Commits.{max_instant}
-use Rattle.keyrange.specs.declared.range.KeyRange.{KeyRange}
-use Rattle.keyrange.specs.Rect.{Area, has_point, Common, IsArea}
+use Rattle.keyrange.specs.Rect.{Area, has_point, Common}
 use Rattle.datanode.specs.Cut.{cut}
 use Rattle.datanode.proofs.CutMembers.{In}
 use Rattle.treenodes.specs.Node.{Content, Events, References, TreeNode, IsAt, IsDataNode, events_of}
 use Rattle.treenodes.specs.Tree.{IsTree}
 use Rattle.treenodes.specs.Map.{HoldsMap, IsCut}
 use Rattle.treewalk.specs.Level.{MeetsAt, AreMeeting, AreLeaves}
-use Rattle.treewalk.specs.Gather.{events_at, asked, asked_of_all}
-use Rattle.treewalk.specs.declared.gather.Query.{Query}
+use Rattle.treewalk.specs.Gather.{events_at}
 use Rattle.treewalk.proofs.ListMembers.{contained, member, In-flat_map, In-from_flat_map}
 use Rattle.treewalk.proofs.LevelNodes.{NodeAt, at_level, is_listed}
 

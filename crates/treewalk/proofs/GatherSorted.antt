@@ -1,19 +1,17 @@
 -- What was found, put in order.
-use Rattle.std.proofs.Common.{◌≡◌, ℕ, Bool, true, List, [], ◌∷◌, refl, sym, ap, subst, ◌∙◌, inl, inr}
+use Rattle.std.proofs.Common.{◌≡◌, Bool, true, List, refl, sym, subst}
 use Rattle.std.specs.Prelude.{Contains}
 use Rattle.std.specs.List.{filter}
-use Rattle.std.specs.Ordering.{eq_by_cmp, is_eq}
+use Rattle.std.specs.Ordering.{is_eq}
 use Rattle.std.specs.declared.cmp.Ordering.{Ordering}
 use Rattle.std.specs.declared.cmp.Ordering.TheVariants.{Less, Equal, Greater}
 use Rattle.std.proofs.lemmas.List.Kept.{IsStrictlySortedBy-filter}
 use Rattle.values.specs.Event.{Event}
 use Rattle.values.specs.Events.{event_cmp}
 use Rattle.eventlist.specs.Sort.{HasTie}
-use Rattle.eventlist.proofs.PlaceOrder.{sorted_tail}
 use Rattle.datanode.specs.Cut.{IsMap}
 use Rattle.datanode.proofs.CutMembers.{In, In-filter, In-from_filter}
-use Rattle.datanode.proofs.CutOrder.{head_below, one_event}
-use Rattle.datanode.proofs.LawsLast.{not_below_itself, not_below_back}
+use Rattle.datanode.proofs.CutOrder.{one_event}
 use Rattle.datanode.proofs.NodePut.{event_equal}
 use Rattle.treenodes.proofs.MapMembers.{same_members}
 use Rattle.treewalk.proofs.ListMembers.{contained, member}

@@ -1,16 +1,11 @@
 -- Each point from the first instant on has a node of each level.
-use Rattle.std.proofs.Common.{◌≡◌, ℕ, zero, suc, ◌+◌, ◌-◌, ◌<◌, ◌≤◌, List, [], ◌∷◌, length, cond, Bool, true, false, Option, Some, None, refl, sym, ap, subst, ◌∙◌, arith}
-use Rattle.std.specs.Prelude.{IsTrue, All, Contains}
-use Rattle.std.specs.List.{filter}
-use Rattle.std.proofs.lemmas.Bool.{le-leb, and_from}
+use Rattle.std.proofs.Common.{◌≡◌, ℕ, zero, suc, ◌+◌, ◌-◌, ◌≤◌, List, true, Option, sym, subst, ◌∙◌, arith}
+use Rattle.std.proofs.lemmas.Bool.{and_from}
 use Rattle.std.proofs.lemmas.List.Elements.{All-contains}
-use Rattle.values.specs.Event.{Event}
-use Rattle.keyrange.specs.Rect.{Area, has_point, IsArea, Common}
-use Rattle.keyrange.proofs.RectInside.{first_key_in, first_instant_in, inside_itself, inner_is_common}
-use Rattle.indexnode.specs.declared.reference.Reference.{Reference}
-use Rattle.indexnode.specs.Node.{Tiles, at_point}
+use Rattle.keyrange.specs.Rect.{Area, has_point, IsArea}
+use Rattle.keyrange.proofs.RectInside.{first_key_in, first_instant_in}
 use Rattle.treenodes.specs.Node.{Content, Events, References, TreeNode, IsAt, IsDataNode, IsIndexNode}
-use Rattle.treenodes.specs.Tree.{RefersTo, IsIndex, HasContent, whole, IsTree}
+use Rattle.treenodes.specs.Tree.{RefersTo, IsIndex, IsTree}
 use Rattle.treenodes.proofs.LookupFound.{reference_at}
 use Rattle.treenodes.proofs.LookupSteps.{whole_holds}
 

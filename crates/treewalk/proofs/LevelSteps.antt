@@ -1,14 +1,13 @@
 -- From a level to the next: the children that meet a rectangle are all nodes there that do.
-use Rattle.std.proofs.Common.{◌≡◌, ℕ, zero, suc, ◌+◌, ◌<◌, ◌≤◌, List, [], ◌∷◌, ◌++◌, length, get_or, map, cond, Bool, true, false, Option, Some, None, refl, sym, ap, subst, ◌∙◌, ◌⊎◌, inl, inr, arith}
-use Rattle.std.specs.Prelude.{IsTrue, All, Contains, slice_get}
-use Rattle.std.specs.List.{filter, flat_map}
+use Rattle.std.proofs.Common.{◌≡◌, ℕ, zero, suc, ◌+◌, ◌<◌, ◌≤◌, List, [], ◌∷◌, length, get_or, true, Option, refl, sym, ap, subst, ◌∙◌, arith}
+use Rattle.std.specs.Prelude.{All, Contains}
 use Rattle.std.specs.List.Sorted.{IsStrictlyIncreasing}
-use Rattle.std.proofs.lemmas.List.Elements.{All-contains, Contains-append_left, Contains-append_right, Contains-append_cases}
+use Rattle.std.proofs.lemmas.List.Elements.{All-contains}
 use Rattle.keyrange.specs.Rect.{Area, has_point, IsArea, Common}
 use Rattle.keyrange.proofs.RectInside.{inside_itself, inner_is_common}
 use Rattle.indexnode.specs.declared.reference.Reference.{Reference}
 use Rattle.treenodes.specs.Node.{Content, Events, References, TreeNode, IsAt, references_of}
-use Rattle.treenodes.specs.Tree.{RefersTo, IsIndex, HasContent, whole, IsTree}
+use Rattle.treenodes.specs.Tree.{RefersTo, IsIndex, IsTree}
 use Rattle.treewalk.specs.Level.{MeetsAt, AreMeeting}
 use Rattle.treenodes.proofs.LookupFound.{reference_at}
 use Rattle.treenodes.proofs.LookupSteps.{whole_holds}

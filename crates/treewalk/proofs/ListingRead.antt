@@ -1,25 +1,25 @@
 -- What was gathered of the leaves, put in order, is what is asked of the map.
-use Rattle.std.proofs.Common.{◌≡◌, ℕ, ◌<◌, ◌≤◌, Bool, true, false, List, [], Option, Some, None, refl, sym, ap, subst, ◌∙◌, inl, inr, arith, nat_le, min}
-use Rattle.std.specs.Prelude.{Contains, ◌&&◌, IsTrue}
-use Rattle.std.specs.List.{filter, flat_map}
+use Rattle.std.proofs.Common.{◌≡◌, ℕ, ◌≤◌, Bool, true, List, Option, Some, None, refl, sym, ap, subst, ◌∙◌, arith, nat_le, min}
+use Rattle.std.specs.Prelude.{Contains, ◌&&◌}
+use Rattle.std.specs.List.{filter}
 use Rattle.std.proofs.lemmas.Bool.{and_parts, and_from, leb-true}
 use Rattle.std.proofs.lemmas.Bool.Decides.{Decides-like, same_from_decides}
 use Rattle.values.specs.Event.{Event}
 use Rattle.values.specs.Commits.{max_instant}
 use Rattle.keyrange.specs.declared.range.KeyRange.{KeyRange}
-use Rattle.keyrange.specs.Range.{is_key_in, is_time_in}
+use Rattle.keyrange.specs.Range.{is_key_in}
 use Rattle.keyrange.specs.Rect.{Area, has_point, Common}
 use Rattle.eventlist.specs.Listing.{events_in, stands_at, standing}
 use Rattle.eventlist.specs.Sort.{HasTie}
 use Rattle.datanode.specs.Cut.{IsMap, in_cut, cut}
 use Rattle.datanode.proofs.CutMembers.{In, In-filter, In-from_filter, filter_alike}
 use Rattle.datanode.proofs.CutOrder.{In_place}
-use Rattle.datanode.proofs.CutLaws.{IsOvertaken, IsTimeIn, in_cut_decides, time_decides}
+use Rattle.datanode.proofs.CutLaws.{IsTimeIn, in_cut_decides, time_decides}
 use Rattle.treenodes.specs.Node.{TreeNode}
 use Rattle.treenodes.specs.Tree.{IsTree}
 use Rattle.treenodes.specs.Map.{HoldsMap}
 use Rattle.treewalk.specs.Level.{AreMeeting}
-use Rattle.treewalk.specs.Gather.{instants, area_between, asked, asked_of_all, AreGathered}
+use Rattle.treewalk.specs.Gather.{instants, area_between, asked, AreGathered}
 use Rattle.treewalk.specs.declared.gather.Query.{Query}
 use Rattle.treewalk.specs.declared.gather.Query.TheVariants.{Between, At}
 use Rattle.treenodes.proofs.MapRead.{held}

@@ -1,7 +1,7 @@
 -- The nodes of a tree in order: no two tie.
-use Rattle.std.proofs.Common.{◌≡◌, ℕ, zero, suc, ◌+◌, ◌<◌, ◌≤◌, List, [], ◌∷◌, ◌++◌, length, get_or, take, map, cond, Bool, true, false, Option, Some, None, refl, sym, ap, subst, ◌∙◌, inl, inr, arith}
+use Rattle.std.proofs.Common.{◌≡◌, ℕ, suc, ◌+◌, ◌<◌, List, [], ◌∷◌, ◌++◌, length, get_or, take, map, cond, Bool, true, false, Some, refl, sym, ap, subst, ◌∙◌, arith}
 use Rattle.std.specs.Prelude.{slice_get}
-use Rattle.std.specs.List.{IsDistinct, AllByRecursion, dedup, dedup_from}
+use Rattle.std.specs.List.{IsDistinct, dedup, dedup_from}
 use Rattle.std.specs.List.Sorted.{IsStrictlySortedBy, IsSorted, IsSortedBy, IsPermutation}
 use denote.Param.Members.{Mut}
 use Rattle.std.specs.Borrow.{Bor}
@@ -17,11 +17,11 @@ use Rattle.std.specs.declared.cmp.Ordering.TheVariants.{Less, Equal, Greater}
 use Rattle.std.proofs.lemmas.Bool.{and_from, false_from_ne_true, leb-true}
 use Rattle.std.proofs.lemmas.List.{take_more, map-append}
 use Rattle.std.proofs.lemmas.List.Kept.{IsStrictlySortedBy-dedup}
-use Rattle.std.proofs.lemmas.Map.Keys.{IsDistinct-IsPermutation, IsDistinct-cons, IsDistinct-head, IsDistinct-tail}
+use Rattle.std.proofs.lemmas.Map.Keys.{IsDistinct-IsPermutation, IsDistinct-head, IsDistinct-tail}
 use Rattle.std.proofs.lemmas.Option.{slice_get-get_or, get_or_from_slice_get, slice_get_within}
 use Rattle.values.specs.Events.{bytes_cmp}
 use Rattle.values.specs.Commits.{max_instant}
-use Rattle.keyrange.specs.Rect.{Area, has_point, IsArea, Common}
+use Rattle.keyrange.specs.Rect.{has_point, IsArea, Common}
 use Rattle.keyrange.proofs.RectInside.{first_key_in, first_instant_in, facts_of}
 use Rattle.eventlist.proofs.PlaceOrder.{bytes_exact}
 use Rattle.datanode.proofs.CutMembers.{In}

@@ -1,7 +1,6 @@
 -- A row that stands at an instant stands in the cut of a rectangle at that instant.
-use Rattle.std.proofs.Common.{◌≡◌, ℕ, ◌<◌, ◌≤◌, Bool, true, List, refl, sym, ap, ◌∙◌, ◌⊎◌, inl, inr, arith}
+use Rattle.std.proofs.Common.{◌≡◌, ℕ, ◌<◌, ◌≤◌, true, List, sym, ap, ◌∙◌, ◌⊎◌, inl, inr, arith}
 use Rattle.std.specs.Prelude.{is_some}
-use Rattle.std.specs.List.{list_any}
 use Rattle.std.specs.Bool.{Decides}
 use Rattle.std.proofs.lemmas.Bool.{cases_lt}
 use Rattle.std.proofs.lemmas.Bool.Decides.{Decides-and, Decides-not}
@@ -9,9 +8,8 @@ use Rattle.values.specs.Event.{Event}
 use Rattle.keyrange.specs.Rect.{Area}
 use Rattle.keyrange.specs.Range.{is_key_in}
 use Rattle.eventlist.specs.Listing.{stands_at}
-use Rattle.eventlist.proofs.OvertakingNext.{Overtakes}
 use Rattle.datanode.specs.Cut.{in_cut, cut}
-use Rattle.datanode.proofs.CutMembers.{In, In-filter, In-from_filter}
+use Rattle.datanode.proofs.CutMembers.{In-filter, In-from_filter}
 use Rattle.datanode.proofs.CutLaws.{IsOvertaken, IsTimeIn, IsInCut, Decides-leb, itself, overtaken_decides, in_cut_decides, ends_earlier}
 
 -- e's row stands at the instant

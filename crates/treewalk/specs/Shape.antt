@@ -1,5 +1,5 @@
 -- A tree's shape.
-use Rattle.std.specs.Prelude.{ℕ, List, is_some, map}
+use Rattle.std.specs.Prelude.{List, is_some, map}
 use Rattle.std.specs.Ordering.{nat_cmp, ordering_then}
 use Rattle.std.specs.declared.cmp.Ordering.{Ordering}
 use Rattle.std.specs.List.Sorted.{IsStrictlySortedBy, IsPermutation}

@@ -52,7 +52,7 @@ pub fn standing(
     ensures err { OnlyMemory result }
 {
     // No event is after the last instant.
-    let mut found = gathered(alloc, nodes, range, Query::At(instant.min(LAST)))?;
-    sort_events(&mut found)?;
-    Ok(found)
+    let mut rows = gathered(alloc, nodes, range, Query::At(instant.min(LAST)))?;
+    sort_events(&mut rows)?;
+    Ok(rows)
 }

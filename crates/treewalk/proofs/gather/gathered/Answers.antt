@@ -1,4 +1,4 @@
-use Rattle.std.proofs.Common.{◌≡◌, List, ℕ, sym, subst}
+use Rattle.std.proofs.Common.{sym, subst}
 use Rattle.treewalk.specs.Level.{AreLeaves}
 use Rattle.treewalk.proofs.GatherLeaves.{are_leaves}
 use Rattle.treewalk.proofs.gather.gathered.Goals as goal

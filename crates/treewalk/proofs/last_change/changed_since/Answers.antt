@@ -1,4 +1,4 @@
-use Rattle.std.proofs.Common.{◌≡◌, ◌≤◌, ◌-◌, ℕ, Some, None, ap, subst, sym, ◌∙◌, nat_lt, if◌then◌else◌}
+use Rattle.std.proofs.Common.{◌≡◌, ◌≤◌, ◌-◌, Some, None, ap, subst, sym, ◌∙◌, nat_lt, if◌then◌else◌}
 use Rattle.std.specs.Option.{option_copied}
 use Rattle.keyrange.specs.Rect.{Area}
 use Rattle.keyrange.specs.declared.range.TimeRange.{TimeRange}

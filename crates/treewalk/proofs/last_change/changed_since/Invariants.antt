@@ -1,4 +1,4 @@
-use Rattle.std.proofs.Common.{◌≡◌, ℕ, List}
+use Rattle.std.proofs.Common.{List}
 use Rattle.values.specs.Event.{Event}
 use Rattle.treenodes.specs.Map.{HoldsMap}
 use Rattle.treewalk.proofs.ChangeLast.{AreUntil}

@@ -1,4 +1,4 @@
-use Rattle.std.proofs.Common.{◌≡◌, ℕ, map, ap, ◌∙◌}
+use Rattle.std.proofs.Common.{ℕ, map, ap, ◌∙◌}
 use Rattle.std.specs.List.{filter}
 use Rattle.std.specs.Borrow.{Bor}
 use Rattle.indexnode.specs.declared.reference.Reference.{Reference}

@@ -1,7 +1,7 @@
 use Rattle.std.proofs.Common.{◌≡◌, ℕ, ◌+◌, ◌-◌, ◌<◌, ◌≤◌, [], ◌∷◌, ◌++◌, List, subst, sym, ap, ◌∙◌, arith}
 use Rattle.keyrange.specs.Rect.{Area}
 use Rattle.treenodes.specs.Node.{TreeNode, IsAt}
-use Rattle.treewalk.specs.Level.{AreMeeting, IsBelowRoot}
+use Rattle.treewalk.specs.Level.{AreMeeting}
 use Rattle.treenodes.proofs.NodeNumbers.{one_at}
 use Rattle.treewalk.proofs.LevelChildren.{are_indexes}
 use Rattle.treewalk.proofs.LevelSteps.{from_root}

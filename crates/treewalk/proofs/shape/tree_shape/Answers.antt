@@ -1,4 +1,4 @@
-use Rattle.std.proofs.Common.{rules, ◌≡◌, List, map, subst}
+use Rattle.std.proofs.Common.{rules, List, subst}
 use Rattle.std.specs.List.Sorted.{IsPermutation}
 use Rattle.treewalk.specs.declared.shape.NodeShape.{NodeShape}
 use Rattle.treewalk.proofs.ShapeOrder.{shape_is, sorted_by}
