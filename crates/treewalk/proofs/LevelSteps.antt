@@ -51,8 +51,13 @@ module _ (nodes : List TreeNode) (tree : IsTree nodes) (area : Area) where
 
       root_only : (i : ℕ) → MeetsAt nodes tree.root.root.level area i → 0 ≡ i
       root_only i m = tree.apart 0 i tree.root.root m.node tree.root.first m.there (sym m.of_level) (record {
-        key = m.common.key; instant = m.common.instant; is_first = m.common.is_first; is_last = m.common.is_last;
-        in_first = root_has m.common.key m.common.instant m.common.is_first; in_second = m.common.in_first })
+        key = m.common.key;
+        instant = m.common.instant;
+        is_first = m.common.is_first;
+        is_last = m.common.is_last;
+        in_first = root_has m.common.key m.common.instant m.common.is_first;
+        in_second = m.common.in_first;
+      })
 
   -- one level down
   pub level_down : (level : ℕ) (numbers next : List ℕ) → level < tree.root.root.level → AreMeeting nodes (level + 1) area numbers → IsStrictlyIncreasing next → AreChildren nodes area numbers next → AreMeeting nodes level area next

@@ -26,11 +26,14 @@ stands_decides m t e =
 
 module _ (r : Area) (m : List Event) (t : ℕ) (time : IsTimeIn r t) (e : Event) where
   pub to_cut : is_key_in r.keys e.key ≡ true → Stands m t e → IsInCut r m e × Stands (cut r m) t e
-  to_cut key s = ((key, by (cases_lt e.at r.time.from)), record {
-    until = s.until;
-    row = s.row;
-    last = λ o. s.last (o.0, (In-from_filter (in_cut r m) m o.0 o.1).0, o.2);
-  })
+  to_cut key s = (
+    (key, by (cases_lt e.at r.time.from)),
+    record {
+      until = s.until;
+      row = s.row;
+      last = λ o. s.last (o.0, (In-from_filter (in_cut r m) m o.0 o.1).0, o.2);
+    },
+  )
     where
       by : (e.at < r.time.from) ⊎ (r.time.from ≤ e.at) → IsTimeIn r e.at ⊎ ((e.at < r.time.from) × ((is_some e.row ≡ true) × (IsOvertaken m e r.time.from → ⊥)))
       by (inl early) = inr (early, (s.row, λ o. s.last (o.0, o.1, (let a : o.0.at ≤ r.time.from = o.2.until in let b : r.time.from ≤ t = time.0 in record { of_key = o.2.of_key; after = o.2.after; until = omega arith }))))

@@ -18,7 +18,7 @@ shape_cmp s t =
     ordering_then
     (nat_cmp t.level s.level)
     (ordering_then (nat_cmp s.rect.time.from t.rect.time.from)
-      (bytes_cmp s.rect.keys.lo t.rect.keys.lo))
+    (bytes_cmp s.rect.keys.lo t.rect.keys.lo))
 
 -- exactly the nodes, each once, in order
 pub record IsShapeOf (nodes : List TreeNode) (shape : List NodeShape) : Type 0 where

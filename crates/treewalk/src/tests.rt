@@ -163,7 +163,11 @@ fn a_deletion_in_an_earlier_leaf_is_a_change(rt: HostRuntime) -> Result<(), Fail
         (3, 0, None),
     ] {
         let key = key(&rt, alloc, number)?;
-        assert_eq!(rt; changed_since(&nodes, &key, since), found, "key {number} since {since}");
+        assert_eq!(rt;
+            changed_since(&nodes, &key, since),
+            found,
+            "key {number} since {since}"
+        );
     }
     Ok(())
 }
@@ -195,7 +199,10 @@ fn a_shape_lists_the_root_first_then_leaves_by_time(rt: HostRuntime) -> Result<(
     let shape = tree_shape(alloc, &nodes)?;
     assert_eq!(rt; shape.nodes.len(), 3);
     for (place, level, from, count) in [(0, 1, 1, 2), (1, 0, 1, 3), (2, 0, 250, 1)] {
-        assert!(rt; is_shown(&shape, place, level, from, count), "at place {place}");
+        assert!(rt;
+            is_shown(&shape, place, level, from, count),
+            "at place {place}"
+        );
     }
     Ok(())
 }

@@ -32,6 +32,6 @@ lower level top h k = omega arith
 pub loop-level-preserved : goal.loop-level-preserved
 loop-level-preserved c = record {
   upto = λ root at. (let le = c.loop-level.invariant.upto root at in omega arith);
-  meeting = c.in_ok-numbers.ensures.ok (c.loop-level.level - 1) (λ root at. lower c.loop-level.level root.level c.loop-level-test.true (c.loop-level.invariant.upto root at)) 
+  meeting = c.in_ok-numbers.ensures.ok (c.loop-level.level - 1) (λ root at. lower c.loop-level.level root.level c.loop-level-test.true (c.loop-level.invariant.upto root at))
       (up_again c.args.nodes.now c.args.rect.now c.loop-level.level c.loop-level.numbers.items c.deref.result.now c.loop-level-test.true c.deref.ensures.value c.loop-level.invariant.meeting);
 }
