@@ -1,10 +1,8 @@
 //! What is read off a tree of two leaves.
-ghost use Rattle.std.specs.Prelude.{◌≡◌, ◌<◌, ◌≤◌, IsTrue, IfOk, None};
+ghost use Rattle.std.specs.Prelude.{◌≡◌, ◌<◌, ◌≤◌, IfOk};
 ghost use Rattle.values.specs.Commits.{max_instant};
-ghost use Rattle.keyrange.specs.Cut.{is_time_inside};
 ghost use Rattle.treenodes.specs.Tree.{IsTree};
 ghost use Rattle.treenodes.specs.Map.{HoldsMap, changes, latest};
-ghost use Rattle.treenodes.specs.Split.{CanSplitTime};
 
 use crate::{Shape, changed_since, events, leaves_in, standing, tree_shape};
 use keyrange::{KeyRange, Rect, TimeRange};
@@ -12,7 +10,9 @@ use slots::Slots;
 use std::alloc::{AllocError, Global};
 use std::process::Abort;
 use std::test::Fail;
-use treenodes::{Child, Slot, leaf_alone, leaf_at, raised, whole, with_event, with_time_split};
+use treenodes::{
+    Slot, can_split_time, leaf_alone, leaf_at, raised, whole, with_event, with_time_split,
+};
 use values::{Event, Instant, KeyBytes, LAST, Mem, Row, Value};
 
 fn key(rt: &impl Abort, alloc: Global, number: u8) -> Result<KeyBytes, AllocError> {
@@ -52,27 +52,6 @@ fn grown(nodes: Slots<Slot>, event: Event) -> Mem<Slots<Slot>>
     with_event(nodes, number, event)
 }
 
-/// Whether a data node has no end, and the instant strictly inside.
-fn can_split(nodes: &Slots<Slot>, number: usize, instant: Instant) -> bool
-    requires { IsTree nodes.now }
-    ensures { IsTrue result → CanSplitTime nodes.now number instant }
-{
-    match nodes.get(number) {
-        None => false,
-        Some(slot) => match slot.child() {
-            Child::Data(node) => has_inside(node.rect(), instant),
-            Child::Index(_) => false,
-        },
-    }
-}
-
-fn has_inside(rect: &Rect, instant: Instant) -> bool
-    ensures { IsTrue result → (rect.now.time.to ≡ None) × IsTrue (is_time_inside rect.now instant) }
-{
-    let time = rect.time();
-    time.to.is_none() && time.from < instant && instant <= LAST
-}
-
 /// A leaf's halves at an instant below a new root.
 fn halved(alloc: Global, nodes: Slots<Slot>, instant: Instant) -> Mem<Slots<Slot>>
     requires { IsTree nodes }
@@ -80,8 +59,9 @@ fn halved(alloc: Global, nodes: Slots<Slot>, instant: Instant) -> Mem<Slots<Slot
 {
     let number = nodes.len();
     let nodes = raised(alloc, nodes)?;
-    if can_split(&nodes, number, instant) {
-        with_time_split(alloc, nodes, 0, number, instant)
+    let (leaf, _visits) = leaf_at(&nodes, &KeyBytes::least(alloc), LAST);
+    if leaf == number && can_split_time(&nodes, leaf, instant) {
+        with_time_split(alloc, nodes, 0, leaf, instant)
     } else {
         Ok(nodes)
     }
