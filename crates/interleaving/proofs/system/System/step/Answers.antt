@@ -11,14 +11,14 @@ pub returns-in-Some-clause-answers : goal.returns-in-Some-clause-answers
 returns-in-Some-clause-answers c = λ h stands other.
     let w = world c.args.self.now in
     let same = ap (λ (s : SystemState). s.schema) c.self.view_is in
-    (stepped w w c.args.step (Refused c.in-Some.refusal) (refused_turn w c.args.step c.in-Some.refusal (c.in-Some.ensures ∙ ap (λ (s : Schema). misfit s c.args.step) same))).answers h stands
+    (stepped w w c.args.step (Refused c.in-Some.refusal) (refused_turn w c.args.step c.in-Some.refusal (c.in-Some.ensures.why ∙ ap (λ (s : Schema). misfit s c.args.step) same))).answers h stands
 
 pub returns-clause-answers : goal.returns-clause-answers
 returns-clause-answers c =
     answers (world c.args.self.now) (world c.step_in.new.self) c.args.step c.step_in.result
-    (c.in_default.ensures ∙ ap (λ (s : Schema). misfit s c.args.step) (ap (λ (s : SystemState). s.schema) c.self.view_is)) c.step_in.ensures.answered (λ out. ap world (c.step_in.ensures.out out))
+    (c.in_default.ensures.why ∙ ap (λ (s : Schema). misfit s c.args.step) (ap (λ (s : SystemState). s.schema) c.self.view_is)) c.step_in.ensures.answered (λ out. ap world (c.step_in.ensures.out out))
 
 pub returns-clause-schema : goal.returns-clause-schema
 returns-clause-schema c =
     same_schema (world c.args.self.now) (world c.step_in.new.self) c.args.step c.step_in.result
-    (c.in_default.ensures ∙ ap (λ (s : Schema). misfit s c.args.step) (ap (λ (s : SystemState). s.schema) c.self.view_is)) c.step_in.ensures.answered (λ out. ap world (c.step_in.ensures.out out))
+    (c.in_default.ensures.why ∙ ap (λ (s : Schema). misfit s c.args.step) (ap (λ (s : SystemState). s.schema) c.self.view_is)) c.step_in.ensures.answered (λ out. ap world (c.step_in.ensures.out out))
