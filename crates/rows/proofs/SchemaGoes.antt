@@ -1,8 +1,7 @@
 -- The bytes before a fault of syntax can go on to a schema.
-use Rattle.std.proofs.Common.{◌≡◌, ◌⊎◌, ◌≤◌, ◌-◌, ℕ, Bool, true, false, List, [], ◌∷◌, ◌++◌, ◌||◌, Option, Some, None, Ok, Err, inl, inr, length, take, refl, ap, sym, ◌∙◌, subst, arith, if◌then◌else◌, suc, zero, nat_lt}
+use Rattle.std.proofs.Common.{◌≡◌, ◌⊎◌, ◌-◌, ℕ, Bool, true, false, List, [], ◌∷◌, ◌++◌, ◌||◌, Option, Some, None, Ok, Err, inl, inr, length, refl, ap, sym, ◌∙◌, subst, if◌then◌else◌, suc, zero}
 use Rattle.std.specs.Prelude.{Result, codes, not}
-use Rattle.std.proofs.lemmas.List.{length-append, append_assoc, take_at}
-use Rattle.std.proofs.lemmas.Bool.Decides.{nat_tests}
+use Rattle.std.proofs.lemmas.List.{append_assoc}
 use Rattle.values.specs.Names.{same_name}
 use Rattle.values.specs.declared.table.ColumnType.{ColumnType}
 use Rattle.values.specs.declared.table.ColumnType.TheVariants.{Int, Text, Varchar, Boolean}
@@ -15,20 +14,20 @@ use Rattle.rows.specs.declared.declaration.Entry.TheVariants.{User, Generated, P
 use Rattle.rows.specs.declared.declaration.Declaration.{Declaration}
 use Rattle.tokens.specs.Token as tokens
 use Rattle.tokens.specs.Token.{After, Read}
-use Rattle.tokens.proofs.Follows.{Spelling, Follows, IsClean, front_follows, Moved, Moves}
-use Rattle.tokens.proofs.Going.{Usual, Goes, Reads, ReadsAfter, Then, Next, By, Last, usual_then, usual_next, usual_weaker, usual_by, usual_last, reads_then, reads_weaker, reads_whether, reads_past, after_then, reads_by, reads_last, nothing}
-use Rattle.rows.specs.SchemaToken.{next, symbol_at, is_word_at, after_word, word_at, name_at, digits_at}
+use Rattle.tokens.proofs.Follows.{Spelling, Follows, front_follows, Moves, is_plain_word, same_front}
+use Rattle.tokens.proofs.Going.{Usual, Reads, ReadsAfter, Then, Next, By, Last, usual_then, usual_next, usual_weaker, usual_by, usual_last, reads_then, reads_weaker, reads_whether, reads_past, after_then, reads_by, reads_last, nothing}
+use Rattle.rows.specs.SchemaToken.{symbol_at, is_word_at, after_word, word_at, name_at, digits_at}
 use Rattle.rows.specs.Declaration.{prepend, list_at, names_at, size_at, is_whole_number_at, varchar_at, type_at, not_null_at, primary_key_at, mark_at, is_mark_at, marks_upto, marks_at, user_at, precision_at, maybe_not_null_at, side_at, row_side_at, generated_at, two_names_at, period_at, key_at, column_at, entry_at, entries_at, body_at, versioning_at, create_at, is_end_at, more_at, creates_upto, creates_at}
 use Rattle.values.specs.Tables.{Schema}
 use Rattle.rows.specs.declared.schema_reading.SchemaFault.{SchemaFault}
 use Rattle.rows.specs.declared.schema_reading.SchemaFault.TheVariants.{Syntax}
-use Rattle.rows.specs.SchemaTable.{longest_text, read_schema}
+use Rattle.rows.specs.SchemaTable.{read_schema}
 use Rattle.rows.specs.SchemaGrammarLaws.{FrontsGoOn}
 use Rattle.rows.specs.SchemaGrammar.{Says, ◌>>=◌, just, ◌or◌, Symbol, Word, Name, Digits, Listed, Many, Size, TypeName, NotNullWords, PrimaryKeyWords, MarkWords, UserEntry, Precision, MaybeNotNull, RowSide, GeneratedAsRow, GeneratedEntry, TwoNames, PeriodEntry, KeyEntry, ColumnEntry, EntryText, Body, Versioning, CreateText, IsEnd, SchemaText}
 use Rattle.rows.proofs.SchemaSpelled.{word_next}
 use Rattle.rows.proofs.SchemaSays.{end_says}
 use Rattle.rows.proofs.SchemaReads.{short, no_syntax, read_as}
-use Rattle.rows.proofs.SchemaGoing.{symbol_moves, word_moves, name_moves, digits_move, UsualToken, usual_of, symbol_usual, word_usual, name_usual, digits_usual, is_plain_word, symbol_reads, word_reads, name_reads, digits_reads}
+use Rattle.rows.proofs.SchemaGoing.{symbol_moves, word_moves, name_moves, digits_move, usual_of, symbol_usual, word_usual, name_usual, digits_usual, symbol_reads, word_reads, name_reads, digits_reads}
 
 -- ---- how pieces are put together
 
@@ -702,11 +701,6 @@ creates_reads (suc n) bytes = reads_weaker _ (reads_then (create_at bytes) _ cre
     at_end d m others false is = by_semicolon d m others (symbol_at 59 m) (semicolon_reads m)
 
 -- ---- where a fault is
-
-same_front : (front before at rest : List ℕ) → before ++ rest ≡ front ++ at → length (before ++ rest) - length at ≡ length before → front ≡ before
-same_front front before at rest same counted =
-    let long : length front ≡ length before = omega (arith, counted, ap length same, length-append front at, length-append before rest) in
-    sym (take_at front at (length front) refl) ∙ ap (take (length front)) (sym same) ∙ ap (λ (n : ℕ). take n (before ++ rest)) long ∙ take_at before rest (length before) refl
 
 number : ℕ → Result Schema SchemaFault → ℕ
 number n (Err (Syntax k)) = k

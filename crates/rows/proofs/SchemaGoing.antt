@@ -1,5 +1,5 @@
 -- Tokens of a schema that other bytes follow, and tokens that are missing.
-use Rattle.std.proofs.Common.{◌≡◌, ◌⊎◌, ◌≤◌, ℕ, Bool, true, false, List, [], ◌∷◌, ◌++◌, ◌&&◌, ◌==◌, Ok, Err, inl, inr, length, refl, ap, sym, ◌∙◌, subst, arith, if◌then◌else◌}
+use Rattle.std.proofs.Common.{◌≡◌, ◌≤◌, ℕ, Bool, true, false, List, [], ◌∷◌, ◌++◌, ◌==◌, Ok, Err, inr, length, refl, ap, sym, ◌∙◌, subst, arith, if◌then◌else◌}
 use Rattle.std.specs.Prelude.{codes}
 use Rattle.std.specs.Char.{is_ascii_digit}
 use Rattle.std.specs.List.{prefix_len}
@@ -10,14 +10,14 @@ use Rattle.values.specs.Names.{same_name}
 use Rattle.tokens.specs.Token.{After, Read, front_while, skip_while}
 use Rattle.tokens.specs.Token.{symbol_at as symbol_after}
 use Rattle.tokens.specs.Word.{is_name_byte}
-use Rattle.tokens.specs.Word.{is_word_at as is_word_after, after_word as rest_of_word, word_at as word_after}
+use Rattle.tokens.specs.Word.{word_at as word_after}
 use Rattle.tokens.specs.Name.{reserved_words, is_reserved, is_name}
 use Rattle.tokens.specs.Name.{name_at as name_after}
 use Rattle.tokens.specs.Run.{AllBytes, Ends}
-use Rattle.tokens.proofs.Follows.{Spelling, Follows, IsClean, ends_so, Moved, Moves}
+use Rattle.tokens.proofs.Follows.{Spelling, IsClean, ends_so, Moved, Moves, all_from, all_test, is_plain_word}
 use Rattle.tokens.proofs.Going.{Usual, Goes, Reads, ReadsAfter}
 use Rattle.rows.specs.SchemaToken.{is_separator, next, symbol_at, is_word_at, after_word, word_at, name_at, number_from, digits_at}
-use Rattle.rows.specs.SchemaGrammar.{is_on_the_line, Piece, blank, comment, last_comment, Gap, BeginsToken, IsNext, Symbol, Letters, Word, Name, Digits}
+use Rattle.rows.specs.SchemaGrammar.{Piece, blank, comment, last_comment, Gap, BeginsToken, IsNext, Symbol, Letters, Word, Name, Digits}
 use Rattle.rows.proofs.SchemaSpelled.{next_is, symbol_says, word_says, name_says, digits_says}
 
 -- ---- gaps
@@ -187,20 +187,8 @@ symbol_usual symbol separates hyphen = record {
   holds = λ bytes tail n clean. record { next = n };
 }
 
-abbrev pub all_test : (ℕ → Bool) → List ℕ → Bool
-all_test p [] = true
-all_test p (b ∷ bytes) = p b && all_test p bytes
-
-all_from : (p : ℕ → Bool) (bytes : List ℕ) → all_test p bytes ≡ true → AllBytes p bytes
-all_from p [] is = tt
-all_from p (b ∷ bytes) is = let both = and_parts (p b) (all_test p bytes) is in (both.0, all_from p bytes both.1)
-
 letters_hold : (b : ℕ) (others bytes tail : List ℕ) → AllBytes is_name_byte (b ∷ others) → IsNext bytes ((b ∷ others) ++ tail) → IsClean tail → Letters (b ∷ others) bytes tail
 letters_hold b others bytes tail all n clean = record { next = n; are_letters = all; as_many = ends_so is_name_byte refl refl [] tail clean tt }
-
--- a word as the grammar writes it
-abbrev pub is_plain_word : List ℕ → Bool
-is_plain_word word = all_test is_name_byte word && same_name word word
 
 pub word_usual : (b : ℕ) (others : List ℕ) → is_plain_word (b ∷ others) ≡ true → UsualToken (Word (b ∷ others))
 word_usual b others is =

@@ -1,5 +1,5 @@
 -- A token that is missing: reading stops at it, and its usual spelling goes on from there.
-use Rattle.std.proofs.Common.{◌≡◌, ℕ, List, [], ◌∷◌, ◌++◌, Ok, Err, inl, refl}
+use Rattle.std.proofs.Common.{ℕ, List, [], ◌∷◌, ◌++◌, Ok, Err, inl, refl}
 use Rattle.tokens.specs.Token.{After, Read}
 use Rattle.tokens.proofs.Follows.{IsClean}
 use Rattle.tokens.proofs.Going.{Usual, Goes, Reads, ReadsAfter}

@@ -1,7 +1,6 @@
 -- The bytes before a fault of syntax can go on to a line.
-use Rattle.std.proofs.Common.{◌≡◌, ◌⊎◌, ◌≤◌, ℕ, Bool, true, false, List, [], ◌∷◌, ◌++◌, Ok, Err, inl, inr, length, take, refl, ap, sym, ◌∙◌, subst, arith}
+use Rattle.std.proofs.Common.{◌≡◌, ℕ, Bool, true, false, List, [], ◌∷◌, ◌++◌, Ok, Err, inl, length, refl, ap, sym, subst, arith}
 use Rattle.std.specs.Prelude.{Result, ◌-◌, ◌^◌, if◌then◌else◌, codes}
-use Rattle.std.proofs.lemmas.List.{length-append, take_at}
 use Rattle.values.specs.Tables.{Schema}
 use Rattle.values.specs.declared.refusal.Refusal.{Refusal}
 use Rattle.values.specs.declared.refusal.Refusal.TheVariants.{Syntax}
@@ -10,7 +9,6 @@ use Rattle.statement.specs.declared.line.Line.{Line}
 use Rattle.statement.specs.declared.line.Line.TheVariants.{Nothing}
 use Rattle.statement.specs.declared.line.Written.{Written}
 use Rattle.statement.specs.declared.line.Written.TheVariants.{Clock, Session}
-use Rattle.statement.specs.declared.statement.Statement.{Statement}
 use Rattle.statement.specs.Token.{next, symbol_at, word_at, end_at, after_semicolon}
 use Rattle.statement.specs.Literal.{digits_at}
 use Rattle.statement.specs.Statement.{instant_at, statement_at}
@@ -20,11 +18,11 @@ use Rattle.statement.specs.GoingOn.{FrontsGoOn}
 use Rattle.statement.proofs.Gaps.{blanks_before}
 use Rattle.statement.proofs.Meanings.{never_syntax}
 use Rattle.statement.proofs.SoundLines.{semicolon_sound}
-use Rattle.tokens.proofs.Follows.{Moved, Moves}
+use Rattle.tokens.proofs.Follows.{Moves, same_front}
 use Rattle.statement.proofs.Moves.{both_move, either_moves, empty_moves, blanks_move, word_moves, symbol_moves, digits_move, instant_moves, statement_moves}
-use Rattle.tokens.proofs.Going.{Usual, Goes, Reads, ReadsAfter, Then, Next, Last, usual_then, usual_next, usual_last, reads_then, reads_weaker, reads_past, after_then, reads_last, nothing}
+use Rattle.tokens.proofs.Going.{Usual, Reads, ReadsAfter, Then, Next, Last, usual_then, usual_next, usual_last, reads_then, reads_weaker, reads_past, after_then, reads_last, nothing}
 use Rattle.statement.proofs.Going.{usual_of}
-use Rattle.statement.proofs.GoingTokens.{symbol_usual, symbol_reads, word_usual, word_reads, digits_usual, digits_reads, instant_usual, instant_reads}
+use Rattle.statement.proofs.GoingTokens.{symbol_usual, symbol_reads, word_reads, digits_reads, instant_usual, instant_reads}
 use Rattle.statement.proofs.GoingStatements.{statement_usual, statement_reads}
 
 -- ---- the end of a line
@@ -143,11 +141,6 @@ module _ (schema : Schema) where
       by_test false = clock_reads bytes
 
   -- ---- where a fault is
-
-  same_front : (front before at rest : List ℕ) → before ++ rest ≡ front ++ at → length (before ++ rest) - length at ≡ length before → front ≡ before
-  same_front front before at rest same counted =
-      let long : length front ≡ length before = omega (arith, counted, ap length same, length-append front at, length-append before rest) in
-      sym (take_at front at (length front) refl) ∙ ap (take (length front)) (sym same) ∙ ap (λ (n : ℕ). take n (before ++ rest)) long ∙ take_at before rest (length before) refl
 
   abbrev answered : ℕ → List ℕ → Read Written → Result Line Refusal
   answered reading bytes r = elim r [ Err at ↦ Err (Syntax (length bytes - length at)) | Ok x ↦ meaning_of schema reading x.0 ]

@@ -1,14 +1,14 @@
 -- Reading stops in a list, and the bytes before it can go on to one.
-use Rattle.std.proofs.Common.{◌≡◌, ℕ, Bool, true, false, List, [], ◌∷◌, ◌++◌, Ok, Err, refl, ap, sym, ◌∙◌, subst}
+use Rattle.std.proofs.Common.{◌≡◌, ℕ, List, [], ◌∷◌, ◌++◌, refl, sym, ◌∙◌, subst}
 use Rattle.std.proofs.lemmas.List.{append-nil, append_assoc}
-use Rattle.tokens.specs.Token.{After, Read, ◌>>=◌}
+use Rattle.tokens.specs.Token.{After, Read}
 use Rattle.statement.specs.Token.{symbol_at}
 use Rattle.statement.specs.List.{more_at, list_at, enclosed_at}
 use Rattle.statement.specs.Literal.{literal_at, row_at, rows_at}
-use Rattle.statement.specs.Grammar.{Piece, ◌⋯◌, Empty, Symbol, Literal, Listed, Enclosed, IsRow}
+use Rattle.statement.specs.Grammar.{Piece, Symbol, Literal, Listed, Enclosed, IsRow}
 use Rattle.statement.proofs.SoundLists.{More, joined}
 use Rattle.tokens.proofs.Follows.{Moves}
-use Rattle.statement.proofs.Moves.{both_move, empty_moves, symbol_moves, list_moves, literal_moves, row_moves}
+use Rattle.statement.proofs.Moves.{symbol_moves, list_moves, literal_moves, row_moves}
 use Rattle.tokens.proofs.Going.{Usual, Reads, ReadsAfter, Then, Next, usual_then, usual_weaker, usual_next, reads_then, reads_read, reads_weaker, reads_either, after_then, Last, usual_last, reads_last, nothing}
 use Rattle.statement.proofs.Going.{usual_of}
 use Rattle.statement.proofs.GoingTokens.{symbol_usual, symbol_reads, literal_usual, literal_reads}

@@ -1,6 +1,6 @@
 -- Reading stops in a statement, and the bytes before it can go on to one.
-use Rattle.std.proofs.Common.{◌≡◌, ◌⊎◌, ℕ, Bool, true, false, List, [], ◌∷◌, ◌++◌, Ok, Err, Some, None, inl, inr, refl, ap, sym, ◌∙◌, subst}
-use Rattle.std.specs.Prelude.{Option, if◌then◌else◌, codes}
+use Rattle.std.proofs.Common.{◌≡◌, ℕ, List, [], Some, None, inl, inr, refl, sym, subst}
+use Rattle.std.specs.Prelude.{Option, codes}
 use Rattle.values.specs.Tables.{Schema}
 use Rattle.values.specs.declared.query.Comparison.{Comparison}
 use Rattle.values.specs.declared.query.Form.{Form}
@@ -9,21 +9,19 @@ use Rattle.values.specs.declared.query.Keys.{Keys}
 use Rattle.values.specs.declared.query.Operator.{Operator}
 use Rattle.values.specs.declared.query.Set.{Set}
 use Rattle.values.specs.declared.value.Value.{Value}
-use Rattle.values.specs.Log.{Row}
 use Rattle.statement.specs.declared.statement.Statement.{Statement}
 use Rattle.statement.specs.declared.statement.Statement.TheVariants.{Begin, Insert, Update, Delete, Select, Commit, Rollback}
-use Rattle.statement.specs.Token.{symbol_at, word_at, after_optional_word}
+use Rattle.statement.specs.Token.{symbol_at, word_at}
 use Rattle.statement.specs.Literal.{literal_at, rows_at}
 use Rattle.statement.specs.Condition.{table_name_at, column_name_at, operator_at, set_at, comparison_at, sets_at, comparisons_at, columns_at, keys_at}
 use Rattle.statement.specs.Statement.{instant_at, as_of_at, form_at, start_at, listed_at, insert_at, update_at, delete_at, select_at, data_at, statement_at}
-use Rattle.statement.specs.Grammar.{Piece, ◌⋯◌, ◌∣◌, Empty, Symbol, Word, Literal, Listed, IsRow, IsOperator, IsInstant, IsForm, IsTable, IsColumn, IsSet, IsComparison, IsColumnList, IsWhere, IsStatement}
+use Rattle.statement.specs.Grammar.{Piece, ◌∣◌, Empty, Symbol, Word, Literal, Listed, IsRow, IsOperator, IsInstant, IsForm, IsTable, IsColumn, IsSet, IsComparison, IsColumnList, IsWhere, IsStatement}
 use Rattle.statement.proofs.SoundLines.{work_sound, where_of, table_at_keys}
-use Rattle.tokens.proofs.Follows.{Moves}
-use Rattle.statement.proofs.Moves.{both_move, empty_moves, word_moves, symbol_moves, literal_moves, operator_moves, list_moves, enclosed_moves, form_moves, table_moves, column_moves, set_moves, comparison_moves, column_list_moves}
-use Rattle.tokens.proofs.Going.{Usual, Goes, Reads, Then, Next, By, Last, usual_then, usual_next, usual_weaker, usual_by, usual_last, reads_then, reads_weaker, reads_either, reads_whether, after_then, after_read, reads_by, reads_last, nothing}
+use Rattle.statement.proofs.Moves.{word_moves, symbol_moves, operator_moves, list_moves, form_moves, table_moves, column_moves, set_moves, comparison_moves, column_list_moves}
+use Rattle.tokens.proofs.Going.{Usual, Reads, Then, Next, By, Last, usual_then, usual_next, usual_weaker, usual_by, reads_then, reads_weaker, reads_either, reads_whether, after_then, after_read, reads_by, reads_last, nothing}
 use Rattle.statement.proofs.Going.{usual_of}
 use Rattle.statement.proofs.GoingTokens.{symbol_usual, symbol_reads, word_usual, word_reads, table_usual, table_reads, column_usual, column_reads, instant_usual, instant_reads, literal_usual, literal_reads, operator_usual, operator_reads}
-use Rattle.statement.proofs.GoingLists.{list_reads, list_usual, enclosed_reads, enclosed_usual, rows_reads, rows_usual}
+use Rattle.statement.proofs.GoingLists.{list_reads, list_usual, enclosed_reads, rows_reads, rows_usual}
 
 -- ---- AS OF
 

@@ -1,36 +1,32 @@
 -- Reading stops at a token, and the bytes before it can go on to one: tokens and literals.
-use Rattle.std.proofs.Common.{◌≡◌, ℕ, ◌≤◌, Bool, true, false, List, [], ◌∷◌, ◌++◌, ◌&&◌, Ok, Err, Some, None, refl, pos, neg_ℤ, arith, drop, length}
-use Rattle.std.specs.Prelude.{ℤ, Option, ◌==◌, ◌-◌, ◌^◌, nat_lt, if◌then◌else◌, codes}
-use Rattle.std.specs.Option.{option_map}
+use Rattle.std.proofs.Common.{◌≡◌, ℕ, ◌≤◌, Bool, true, false, List, [], ◌∷◌, ◌++◌, Ok, Err, Some, None, refl, arith, drop}
+use Rattle.std.specs.Prelude.{ℤ, Option, ◌==◌, ◌-◌, if◌then◌else◌, codes}
 use Rattle.std.specs.Char.{is_ascii_digit}
 use Rattle.std.specs.Str.{is_utf8}
 use Rattle.std.proofs.lemmas.Bool.{and_parts}
 use Rattle.values.specs.Names.{same_name}
 use Rattle.values.specs.Commits.{max_instant}
 use Rattle.values.specs.Tables.{Schema}
-use Rattle.values.specs.declared.value.Value.{Value}
 use Rattle.values.specs.declared.value.Value.TheVariants.{Int, Text, Null}
-use Rattle.values.specs.declared.query.Operator.{Operator}
 use Rattle.values.specs.declared.query.Operator.TheVariants.{Equal, Below, AtMost, Above, AtLeast}
 use Rattle.tokens.specs.Token.{After, Read, ◌>>=◌, front_while, skip_while}
 use Rattle.tokens.specs.Token.{symbol_at as symbol_after}
-use Rattle.tokens.specs.Run.{AllBytes}
 use Rattle.tokens.specs.Word.{is_name_byte}
 use Rattle.tokens.specs.Word.{is_word_at as is_word_after, after_word as rest_of_word, word_at as word_after}
 use Rattle.tokens.specs.Name.{reserved_words, is_reserved, is_name}
 use Rattle.tokens.specs.Name.{name_at as name_after}
-use Rattle.statement.specs.Token.{next, symbol_at, word_at, name_at, end_at}
+use Rattle.statement.specs.Token.{next, symbol_at, word_at, name_at}
 use Rattle.statement.specs.Literal.{digits_here, digits_at, begins_with, above_nought, below_nought, number_at, quoted, text_of, text_at, constant_at, begins_number, literal_at}
 use Rattle.statement.specs.Condition.{table_of, column_of, table_name_at, column_name_at, or_equal, operator_of, operator_at}
 use Rattle.statement.specs.Statement.{instant_at}
-use Rattle.statement.specs.Grammar.{Piece, ◌⋯◌, Blanks, Symbol, Word, Name, Digits, Literal, IsOperator, IsInstant, IsTable, IsColumn}
+use Rattle.statement.specs.Grammar.{◌⋯◌, Blanks, Symbol, Word, Name, Digits, Literal, IsOperator, IsInstant, IsTable, IsColumn}
 use Rattle.statement.proofs.Gaps.{blanks_before, blanks_join}
 use Rattle.statement.proofs.Sound.{symbol_sound, word_sound, name_sound}
 use Rattle.statement.proofs.SoundLiterals.{digits_sound, literal_sound}
 use Rattle.statement.proofs.SoundLists.{operator_sound}
-use Rattle.tokens.proofs.Follows.{Follows, IsClean, ends_so}
+use Rattle.tokens.proofs.Follows.{ends_so, all_from, all_test, is_plain_word}
 use Rattle.tokens.proofs.Going.{Reads, ReadsAfter, reads_map}
-use Rattle.statement.proofs.Going.{UsualToken, AtNext, AfterNext, token_goes, token_reads, token_reads_after}
+use Rattle.statement.proofs.Going.{UsualToken, AtNext, AfterNext, token_reads, token_reads_after}
 
 -- ---- symbols and words
 
@@ -51,18 +47,6 @@ symbol_next symbol bytes = at_token (next bytes) (blanks_before bytes)
 
 pub symbol_reads : (symbol : ℕ) (bytes : List ℕ) → ReadsAfter (Symbol symbol) bytes (symbol_at symbol bytes)
 symbol_reads symbol bytes = token_reads_after (symbol_usual symbol) _ (symbol_sound symbol bytes) (symbol_next symbol bytes)
-
-abbrev pub all_test : (ℕ → Bool) → List ℕ → Bool
-all_test p [] = true
-all_test p (b ∷ bytes) = p b && all_test p bytes
-
-all_from : (p : ℕ → Bool) (bytes : List ℕ) → all_test p bytes ≡ true → AllBytes p bytes
-all_from p [] is = tt
-all_from p (b ∷ bytes) is = let both = and_parts (p b) (all_test p bytes) is in (both.0, all_from p bytes both.1)
-
--- a word as the grammar writes it
-abbrev pub is_plain_word : List ℕ → Bool
-is_plain_word word = all_test is_name_byte word && same_name word word
 
 pub word_usual : (word : List ℕ) → is_plain_word word ≡ true → UsualToken {A = Unit {0}} (λ _. Word word)
 word_usual word is =

@@ -1,11 +1,10 @@
 -- A piece of a line is one still where other bytes follow it that end it as well.
-use Rattle.std.proofs.Common.{◌≡◌, ◌⊎◌, ℕ, ◌<◌, Bool, true, false, List, [], ◌∷◌, ◌++◌, ◌==◌, inl, inr, refl, ap, sym, ◌∙◌, subst}
+use Rattle.std.proofs.Common.{◌≡◌, ℕ, Bool, true, false, List, [], ◌∷◌, ◌++◌, ◌==◌, inl, inr, refl, ap, sym, ◌∙◌, subst}
 use Rattle.std.specs.Prelude.{Option, Some, None, codes}
 use Rattle.std.specs.Char.{is_ascii_digit}
 use Rattle.std.proofs.lemmas.List.{append_assoc}
 use Rattle.values.specs.Commits.{max_instant}
 use Rattle.values.specs.Tables.{Schema}
-use Rattle.values.specs.Names.{same_name}
 use Rattle.values.specs.declared.value.Value.{Value}
 use Rattle.values.specs.declared.value.Value.TheVariants.{Int, Text, Bool as Truth, Null}
 use Rattle.values.specs.declared.query.Form.{Form}
@@ -19,9 +18,7 @@ use Rattle.statement.specs.declared.statement.Statement.{Statement}
 use Rattle.statement.specs.declared.statement.Statement.TheVariants.{Begin, Insert, Update, Delete, Select, Commit, Rollback}
 use Rattle.tokens.specs.Run.{Ends, Run}
 use Rattle.tokens.specs.Word.{is_name_byte}
-use Rattle.tokens.specs.Name.{is_name}
-use Rattle.statement.specs.Condition.{table_of, column_of}
-use Rattle.tokens.proofs.Follows.{Follows, IsClean, front_follows, ends_so, Moved, Moves}
+use Rattle.tokens.proofs.Follows.{Follows, front_follows, ends_so, Moves}
 use Rattle.statement.specs.Grammar.{Piece, ◌⋯◌, ◌∣◌, Empty, Blanks, Exactly, Symbol, Word, Name, Digits, Number, doubled, is_quote, Quoted, Literal, Listed, Enclosed, IsRow, IsOperator, IsInstant, IsForm, IsTable, IsColumn, IsSet, IsComparison, IsColumnList, IsWhere, IsStatement}
 
 pub both_move : {P Q : Piece} → Moves P → Moves Q → Moves (P ⋯ Q)

@@ -1,6 +1,10 @@
 -- A spelling is one still where other bytes follow it that end it as well.
-use Rattle.std.proofs.Common.{◌≡◌, ◌⊎◌, ℕ, Bool, true, false, List, [], ◌∷◌, ◌++◌, inl, inr, refl, ap, ◌∙◌}
-use Rattle.tokens.specs.Run.{Ends}
+use Rattle.std.proofs.Common.{◌≡◌, ◌⊎◌, ◌-◌, ℕ, Bool, true, false, List, [], ◌∷◌, ◌++◌, ◌&&◌, inl, inr, length, take, refl, ap, sym, ◌∙◌, arith}
+use Rattle.std.proofs.lemmas.Bool.{and_parts}
+use Rattle.std.proofs.lemmas.List.{length-append, take_at}
+use Rattle.values.specs.Names.{same_name}
+use Rattle.tokens.specs.Run.{AllBytes, Ends}
+use Rattle.tokens.specs.Word.{is_name_byte}
 
 -- the bytes from a front on, and those after it
 abbrev pub Spelling : Type 1
@@ -46,3 +50,24 @@ pub record Moved (P : Spelling) (bytes rest : List ℕ) : Type 0 where
 
 abbrev pub Moves : Spelling → Type 0
 Moves P = (bytes rest : List ℕ) → P bytes rest → Moved P bytes rest
+
+-- ---- words as the grammars write them
+
+abbrev pub all_test : (ℕ → Bool) → List ℕ → Bool
+all_test p [] = true
+all_test p (b ∷ bytes) = p b && all_test p bytes
+
+pub all_from : (p : ℕ → Bool) (bytes : List ℕ) → all_test p bytes ≡ true → AllBytes p bytes
+all_from p [] is = tt
+all_from p (b ∷ bytes) is = let both = and_parts (p b) (all_test p bytes) is in (both.0, all_from p bytes both.1)
+
+abbrev pub is_plain_word : List ℕ → Bool
+is_plain_word word = all_test is_name_byte word && same_name word word
+
+-- ---- where a fault is
+
+-- what comes before the fault is told by how many bytes come after it
+pub same_front : (front before at rest : List ℕ) → before ++ rest ≡ front ++ at → length (before ++ rest) - length at ≡ length before → front ≡ before
+same_front front before at rest same counted =
+    let long : length front ≡ length before = omega (arith, counted, ap length same, length-append front at, length-append before rest) in
+    sym (take_at front at (length front) refl) ∙ ap (take (length front)) (sym same) ∙ ap (λ (n : ℕ). take n (before ++ rest)) long ∙ take_at before rest (length before) refl

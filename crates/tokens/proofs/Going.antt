@@ -1,5 +1,5 @@
 -- What was read can be gone on with: how the parts of a reading that stopped make the whole.
-use Rattle.std.proofs.Common.{◌≡◌, ℕ, Bool, true, false, List, [], ◌∷◌, ◌++◌, Ok, Err, refl, ap, sym, ◌∙◌, subst}
+use Rattle.std.proofs.Common.{◌≡◌, ℕ, List, [], ◌++◌, Ok, Err, refl, ap, sym, ◌∙◌, subst}
 use Rattle.std.proofs.lemmas.List.{append_assoc}
 use Rattle.tokens.specs.Token.{After, Read, ◌>>=◌}
 use Rattle.tokens.proofs.Follows.{Spelling, Follows, IsClean, clean_follows, front_follows, Moved, Moves}
