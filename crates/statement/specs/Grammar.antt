@@ -58,7 +58,7 @@ Symbol symbol = Blanks ⋯ Exactly (symbol ∷ [])
 abbrev pub Word : List ℕ → Piece
 Word word =
     Blanks ⋯ (λ bytes rest. (written : List ℕ)
-        × (Run is_name_byte written bytes rest × (same_name word written ≡ true)))
+    × (Run is_name_byte written bytes rest × (same_name word written ≡ true)))
 
 abbrev pub Name : List ℕ → Piece
 Name name = Blanks ⋯ (λ bytes rest. Run is_name_byte name bytes rest × (is_name name ≡ true))
@@ -74,7 +74,7 @@ pub record Digits (most n : ℕ) (bytes rest : List ℕ) : Type 0 where
 abbrev pub Number : ℤ → Piece
 Number z = (λ bytes rest. (n : ℕ) × ((z ≡ pos n) × Digits (2 ^ 63 - 1) n bytes rest))
     ∣ (λ bytes rest. (n : ℕ)
-        × ((z ≡ neg_ℤ (pos n)) × (Exactly (45 ∷ []) ⋯ Digits (2 ^ 63) n) bytes rest))
+    × ((z ≡ neg_ℤ (pos n)) × (Exactly (45 ∷ []) ⋯ Digits (2 ^ 63) n) bytes rest))
 
 -- between its quotes a text has each of its own quotes twice
 abbrev pub doubled : List ℕ → List ℕ

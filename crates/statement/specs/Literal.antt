@@ -25,7 +25,7 @@ unfoldable pub digits_here : ℕ → List ℕ → Option (ℕ × List ℕ)
 digits_here most bytes =
     if digit_count bytes == 0 then None
     else option_map (λ number. (number, drop (digit_count bytes) bytes))
-        (value_within most (take (digit_count bytes) bytes))
+    (value_within most (take (digit_count bytes) bytes))
 
 unfoldable pub digits_at : ℕ → List ℕ → Read ℕ
 digits_at most bytes =
