@@ -84,5 +84,9 @@ part n r = data_node (record { rect = r; events = cut r n.events })
 
 -- an index node of a rectangle, with some of its references
 abbrev pub part_of : TreeNode → Area → (List (Reference ℕ) → List (Reference ℕ)) → TreeNode
-part_of n r kept =
-    record { level = n.level; rect = r; content = References (kept (references_of n.content)); packed = None }
+part_of n r kept = record {
+  level = n.level;
+  rect = r;
+  content = References (kept (references_of n.content));
+  packed = None;
+}
