@@ -1,13 +1,12 @@
 -- One data node of the whole rectangle is a tree.
 use Rattle.std.proofs.Common.{◌≡◌, ℕ, zero, suc, ◌≤◌, List, [], ◌∷◌, refl, sym, ap, subst, ◌∙◌, arith}
-use Rattle.std.proofs.lemmas.List.Elements.{All-nil, All-cons}
 use Rattle.values.specs.Events.{event_cmp}
 use Rattle.eventlist.proofs.PlaceOrder.{sorted_none}
 use Rattle.keyrange.specs.Rect.{IsArea}
 use Rattle.treenodes.specs.Node.{TreeNode, IsAt, data_node, count_of}
 use Rattle.treenodes.specs.Tree.{IsTree, whole, HasContent}
 use Rattle.treenodes.specs.Map.{HoldsMap, IsCut, EndsBy, changes}
-use Rattle.treenodes.specs.Sound.{IsSound}
+use Rattle.treenodes.specs.Sound.{IsSound, AreWithinCapacity, capacity}
 
 abbrev pub root : TreeNode
 root = data_node (record { rect = whole; events = [] })
@@ -34,8 +33,11 @@ one_holds = record {
   ended = λ i n h. subst (λ (n : TreeNode). EndsBy 0 n.content n.rect.time.to) (one i n h).1 tt;
 }
 
+one_small : AreWithinCapacity (root ∷ [])
+one_small i n h = subst (λ (n : TreeNode). count_of n.content ≤ capacity) (one i n h).1 (omega arith)
+
 pub one_sound : (nodes : List TreeNode) → nodes ≡ root ∷ [] → IsSound nodes 0
-one_sound nodes is = subst (λ s. IsSound s 0) (sym is) (record { tree = one_tree; holds = one_holds; last_is = refl; small = All-cons (λ n. count_of n.content ≤ 64) root [] (omega arith) (All-nil (λ n. count_of n.content ≤ 64)) })
+one_sound nodes is = subst (λ s. IsSound s 0) (sym is) (record { kept = record { tree = one_tree; holds = one_holds; small = one_small }; last_is = refl })
 
 pub none_yet : (nodes : List TreeNode) → nodes ≡ root ∷ [] → changes nodes ≡ []
 none_yet nodes is = ap changes is

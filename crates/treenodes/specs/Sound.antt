@@ -1,6 +1,7 @@
 -- A tree that holds the map that is read off it, in nodes that are not too large.
-use Rattle.std.specs.Prelude.{◌≡◌, ℕ, ◌≤◌, List, All}
-use Rattle.treenodes.specs.Node.{TreeNode, count_of}
+use Rattle.std.specs.Prelude.{◌≡◌, ℕ, ◌≤◌, List}
+use Rattle.values.specs.Event.{Event}
+use Rattle.treenodes.specs.Node.{TreeNode, IsAt, count_of}
 use Rattle.treenodes.specs.Tree.{IsTree}
 use Rattle.treenodes.specs.Map.{HoldsMap, changes, latest}
 
@@ -9,11 +10,16 @@ abbrev pub capacity : ℕ
 capacity = 64
 
 abbrev pub AreWithinCapacity : List TreeNode → Type 0
-AreWithinCapacity nodes = All (λ n. count_of n.content ≤ capacity) nodes
+AreWithinCapacity nodes =
+    (number : ℕ) (n : TreeNode) → IsAt nodes number n → count_of n.content ≤ capacity
 
--- a tree that holds its changes, the latest of them at the instant
-pub record IsSound (nodes : List TreeNode) (last : ℕ) : Type 0 where
+-- a tree of nodes within capacity that holds the map
+pub record IsTreeOf (nodes : List TreeNode) (m : List Event) : Type 0 where
   pub tree : IsTree nodes
-  pub holds : HoldsMap nodes (changes nodes)
-  pub last_is : last ≡ latest (changes nodes)
+  pub holds : HoldsMap nodes m
   pub small : AreWithinCapacity nodes
+
+-- that holds its changes, the latest of them at the instant
+pub record IsSound (nodes : List TreeNode) (last : ℕ) : Type 0 where
+  pub kept : IsTreeOf nodes (changes nodes)
+  pub last_is : last ≡ latest (changes nodes)

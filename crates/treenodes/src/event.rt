@@ -6,7 +6,7 @@ ghost use Rattle.treenodes.specs.Node.{TreeNode, IsAt};
 ghost use Rattle.treenodes.specs.Tree.{IsTree};
 ghost use Rattle.treenodes.specs.Map.{HoldsMap, IsNext, changes};
 ghost use Rattle.treenodes.specs.Lookup.{IsLeafAt};
-ghost use Rattle.treenodes.specs.Event.{with_put};
+ghost use Rattle.treenodes.specs.Event.{Takes, with_put};
 
 use crate::node::Slot;
 use slots::Slots;
@@ -22,6 +22,7 @@ pub fn with_event(mut nodes: Slots<Slot>, number: usize, event: Event) -> Mem<Sl
     ensures holds { IfOk result (λ s. HoldsMap s (put_event event (changes nodes))) }
     ensures taken { (n : TreeNode) → IsAt nodes number n
         → IfOk result (λ s. s ≡ slice_set nodes number (with_put n event)) }
+    ensures accepted { (n : TreeNode) → IsAt nodes number n → IfOk result (λ _. Takes n event) }
     ensures err { OnlyMemory result }
 {
     nodes.update(number, event)?;

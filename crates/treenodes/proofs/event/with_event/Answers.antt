@@ -5,6 +5,7 @@ use Rattle.treenodes.specs.Node.{TreeNode}
 use Rattle.treenodes.specs.Tree.{IsTree}
 use Rattle.treenodes.specs.Map.{HoldsMap, changes}
 use Rattle.treenodes.specs.Event.{Takes, with_put}
+use Rattle.treenodes.proofs.NodeNumbers.{one_at}
 use Rattle.treenodes.proofs.EventTaken.{takes_next, tree_next, holds_next}
 use Rattle.treenodes.proofs.event.with_event.Goals as goal
 
@@ -34,3 +35,9 @@ returns-clause-holds c =
 pub returns-clause-taken : goal.returns-clause-taken
 returns-clause-taken c = λ n at.
     c.in_ok-update.ensures.ok n ∙ ap (λ (q : TreeNode). set c.args.nodes c.args.number (with_put q c.args.event)) (get_or_from_slice_get c.args.nodes c.args.number n n at)
+
+pub returns-clause-accepted : goal.returns-clause-accepted
+returns-clause-accepted c = λ n at.
+    let leaf = c.requires.leaf.leaf in
+    subst (λ (n : TreeNode). Takes n c.args.event) (one_at c.args.nodes c.args.number leaf.node n leaf.there at)
+    (takes_next c.args.nodes (changes c.args.nodes) c.requires.tree c.requires.holds c.args.event c.requires.next c.args.number c.requires.leaf)
