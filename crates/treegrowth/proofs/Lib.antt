@@ -1,0 +1,12 @@
+pub mod PointOneKey
+pub mod PointFits
+pub mod GrowthParents
+pub mod GrowthHalved
+pub mod GrowthRaised
+pub mod LeavesKept
+pub mod IndexCurrent
+pub mod IndexSplit
+pub mod LeafHalves
+pub mod CommitTaken
+pub mod CommitDue
+pub mod SplitSteps

@@ -1,0 +1,73 @@
+use Rattle.std.proofs.Common.{◌-◌, get_or, subst}
+use Rattle.std.proofs.lemmas.List.{get_or_default}
+use Rattle.treenodes.specs.Node.{IsAt, data_node}
+use Rattle.treenodes.proofs.HalvesParents.{weaker}
+use Rattle.treegrowth.specs.Growth.{AreOthersSmall, IsGrownIndex}
+use Rattle.treegrowth.specs.Leaves.{HaveSameLeaves, IsLeafSplit}
+use Rattle.treegrowth.proofs.GrowthHalved.{positive, way_kept, parent_on_way}
+use Rattle.treegrowth.proofs.LeafHalves.{areas, are, first as lower, second as upper, leaf_others, leaf_parent, leaf_leaves}
+use Rattle.treegrowth.proofs.LeavesKept.{split_then}
+use Rattle.treegrowth.proofs.leaf.with_leaf_split.Goals as goal
+
+pub relieved-requires-clause-way : goal.relieved-requires-clause-way
+relieved-requires-clause-way c =
+    let nodes = c.args.nodes in
+    let next = c.in_ok-nodes.nodes in
+    let way = c.args.way.now in
+    let point = c.args.point.now in
+    let some = positive c.args.depth c.if-depth-eq0.false in
+    let parent = get_or way (c.args.depth - 1) 0 in
+    let number = get_or way c.args.depth 0 in
+    let h = c.requires.splittable 0 in
+    let above = parent_on_way nodes next way c.args.depth c.requires.tree c.requires.way some 0 in
+    let halved = c.in_ok-nodes.ensures.halved h.node (areas nodes number point h) h.there (are nodes number point h) in
+    let down = way_kept nodes next way c.args.depth c.requires.tree c.requires.way some 0 (lower nodes number point h) (upper nodes number point h) halved in
+    down
+
+pub relieved-requires-clause-others : goal.relieved-requires-clause-others
+relieved-requires-clause-others c = λ d.
+    let nodes = c.args.nodes in
+    let next = c.in_ok-nodes.nodes in
+    let way = c.args.way.now in
+    let point = c.args.point.now in
+    let some = positive c.args.depth c.if-depth-eq0.false in
+    let parent = get_or way (c.args.depth - 1) 0 in
+    let number = get_or way c.args.depth 0 in
+    let h = c.requires.splittable 0 in
+    let above = parent_on_way nodes next way c.args.depth c.requires.tree c.requires.way some 0 in
+    let halved = c.in_ok-nodes.ensures.halved h.node (areas nodes number point h) h.there (are nodes number point h) in
+    let down = way_kept nodes next way c.args.depth c.requires.tree c.requires.way some 0 (lower nodes number point h) (upper nodes number point h) halved in
+    subst (AreOthersSmall next) (get_or_default way (c.args.depth - 1) 0 d down.within) (leaf_others nodes number point h next parent c.requires.tree above halved)
+
+pub relieved-requires-clause-grown : goal.relieved-requires-clause-grown
+relieved-requires-clause-grown c = λ d.
+    let nodes = c.args.nodes in
+    let next = c.in_ok-nodes.nodes in
+    let way = c.args.way.now in
+    let point = c.args.point.now in
+    let some = positive c.args.depth c.if-depth-eq0.false in
+    let parent = get_or way (c.args.depth - 1) 0 in
+    let number = get_or way c.args.depth 0 in
+    let h = c.requires.splittable 0 in
+    let above = parent_on_way nodes next way c.args.depth c.requires.tree c.requires.way some 0 in
+    let halved = c.in_ok-nodes.ensures.halved h.node (areas nodes number point h) h.there (are nodes number point h) in
+    let down = way_kept nodes next way c.args.depth c.requires.tree c.requires.way some 0 (lower nodes number point h) (upper nodes number point h) halved in
+    subst (IsGrownIndex next) (get_or_default way (c.args.depth - 1) 0 d down.within) (leaf_parent nodes number point h next parent c.requires.tree above halved)
+
+pub returns-clause-leaves : goal.returns-clause-leaves
+returns-clause-leaves c = λ d n pair at made.
+    let nodes = c.args.nodes in
+    let next = c.in_ok-nodes.nodes in
+    let way = c.args.way.now in
+    let point = c.args.point.now in
+    let some = positive c.args.depth c.if-depth-eq0.false in
+    let parent = get_or way (c.args.depth - 1) 0 in
+    let number = get_or way c.args.depth 0 in
+    let h = c.requires.splittable 0 in
+    let above = parent_on_way nodes next way c.args.depth c.requires.tree c.requires.way some 0 in
+    let halved = c.in_ok-nodes.ensures.halved h.node (areas nodes number point h) h.there (are nodes number point h) in
+    let down = way_kept nodes next way c.args.depth c.requires.tree c.requires.way some 0 (lower nodes number point h) (upper nodes number point h) halved in
+    let there = subst (λ i. IsAt nodes i (data_node n)) (get_or_default way c.args.depth d 0 c.requires.way.within) at in
+    weaker c.relieved.result (HaveSameLeaves next) (λ s. IsLeafSplit nodes s n.rect pair)
+    (λ s same. split_then nodes next s n.rect pair (leaf_leaves nodes number point h next parent c.requires.tree above halved n pair there made) same)
+    c.relieved.ensures.leaves

@@ -1,0 +1,4 @@
+pub mod Point
+pub mod Growth
+pub mod Commit
+pub mod Leaves

@@ -1,0 +1,13 @@
+//! A tree that takes a commit's events, and whose nodes are split.
+#![tactic(auto)]
+
+mod commit;
+mod leaf;
+mod point;
+mod relief;
+mod split;
+#[cfg(test)]
+mod tests;
+
+pub use commit::with_commit;
+pub use split::{key_split, time_split};
