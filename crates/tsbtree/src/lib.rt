@@ -1,0 +1,11 @@
+//! The tree of all changes, and views of it.
+#![tactic(auto)]
+
+mod same;
+#[cfg(test)]
+mod tests;
+mod tree;
+mod view;
+
+pub use tree::Tree;
+pub use view::View;

@@ -1,0 +1,1 @@
+//! Trees that grow, and views that stay.

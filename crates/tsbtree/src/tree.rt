@@ -1,0 +1,114 @@
+//! What was committed, as it grows.
+ghost use Rattle.std.specs.Prelude.{◌≡◌, ◌≤◌, ◌<◌, IfOk, OnOk, OnErr};
+ghost use Rattle.values.specs.Commits.{max_instant};
+ghost use Rattle.values.specs.Memory.{OnlyMemory};
+ghost use Rattle.keyrange.specs.Cut.{halves_by_key};
+ghost use Rattle.treegrowth.specs.Commit.{IsCommit};
+ghost use Rattle.treegrowth.specs.Leaves.{halves_upto};
+ghost use Rattle.tsbtree.specs.View.{last, IsEmpty};
+ghost use Rattle.tsbtree.specs.Growth.{Adds, HoldsSame, IsSplitAt};
+
+use crate::view::View;
+use std::alloc::Global;
+use std::marker::Model;
+use treegrowth::{key_split, time_split, with_commit};
+use treenodes::leaf_alone;
+use values::{Event, Instant, KeyBytes, Mem};
+
+/// The tree of all changes. A change makes new nodes aside and puts them in place at once, so views stay as they are.
+#[derive(Drop)]
+pub struct Tree {
+    alloc: Global,
+    view: View,
+}
+
+impl Model for Tree {
+    ghost use Rattle.tsbtree.specs.View.{TreeState};
+
+    ghost Value = { TreeState };
+
+    ghost view = { λ t. t.view };
+}
+
+impl Tree {
+    /// The tree before the first commit: one data node, without events.
+    pub fn new(alloc: Global) -> Mem<Tree>
+        ensures ok { IfOk result IsEmpty }
+        ensures err { OnlyMemory result }
+    {
+        let view = View::of(leaf_alone(alloc)?, 0);
+        Ok(Tree { alloc, view })
+    }
+
+    /// What was committed until now, to be read.
+    pub fn current(&self) -> &View
+        ensures { result.now ≡ self.now }
+    {
+        &self.view
+    }
+
+    /// What was committed until now, to be kept while the tree grows.
+    pub fn view(&self) -> Mem<View>
+        ensures ok { IfOk result (λ v. v ≡ self.now) }
+        ensures err { OnlyMemory result }
+    {
+        self.view.share()
+    }
+
+    /// Adds the events of a commit at an instant after all others: by key, one for each key. Without events, or where
+    /// memory runs out, nothing has changed.
+    pub fn apply(&mut self, instant: Instant, changes: Vec<Event>) -> Mem<()>
+        requires later { last self.old < instant }
+        requires in_range { instant ≤ max_instant }
+        requires commit { IsCommit instant changes.items }
+        ensures ok { OnOk result (Adds instant changes.items self.old self.new) }
+        ensures err { OnErr result (self.new ≡ self.old) }
+        ensures memory { OnlyMemory result }
+    {
+        if changes.is_empty() {
+            return Ok(());
+        }
+        let nodes = self.view.nodes().share()?;
+        let nodes = with_commit(self.alloc, nodes, self.view.last(), instant, changes)?;
+        self.view = View::of(nodes, instant);
+        Ok(())
+    }
+
+    /// Splits the current data node of a key there. False where the node begins at the key; then, and where memory runs
+    /// out, nothing has changed.
+    pub fn key_split(&mut self, key: &KeyBytes) -> Mem<bool>
+        ensures same { HoldsSame self.old self.new }
+        ensures split { IfOk result (
+            IsSplitAt key.now (λ r. halves_by_key r key.now) self.old self.new) }
+        ensures err { OnErr result (self.new ≡ self.old) }
+        ensures memory { OnlyMemory result }
+    {
+        let last = self.view.last();
+        match key_split(self.alloc, self.view.nodes(), last, key)? {
+            None => Ok(false),
+            Some(nodes) => {
+                self.view = View::of(nodes, last);
+                Ok(true)
+            }
+        }
+    }
+
+    /// Splits the current data node of a key at an instant. False where the instant is not after the node's start, or
+    /// after the last commit; then, and where memory runs out, nothing has changed.
+    pub fn time_split(&mut self, key: &KeyBytes, instant: Instant) -> Mem<bool>
+        ensures same { HoldsSame self.old self.new }
+        ensures split { IfOk result (
+            IsSplitAt key.now (λ r. halves_upto (last self.old) r instant) self.old self.new) }
+        ensures err { OnErr result (self.new ≡ self.old) }
+        ensures memory { OnlyMemory result }
+    {
+        let last = self.view.last();
+        match time_split(self.alloc, self.view.nodes(), last, key, instant)? {
+            None => Ok(false),
+            Some(nodes) => {
+                self.view = View::of(nodes, last);
+                Ok(true)
+            }
+        }
+    }
+}

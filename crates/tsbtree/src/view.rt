@@ -1,0 +1,162 @@
+//! What was committed until an instant.
+ghost use Rattle.std.specs.Prelude.{◌≡◌, ◌↔◌, ◌≤◌, All, IfOk, IsTrue, option_copied};
+ghost use Rattle.std.specs.List.Sorted.{IsStrictlySortedBy};
+ghost use Rattle.values.specs.Commits.{max_instant};
+ghost use Rattle.values.specs.Events.{event_cmp, row_until, event_since};
+ghost use Rattle.values.specs.Memory.{OnlyMemory};
+ghost use Rattle.keyrange.specs.Range.{is_key_in};
+ghost use Rattle.eventlist.specs.Listing.{events_in, standing};
+ghost use Rattle.treenodes.specs.Sound.{IsSound};
+ghost use Rattle.treewalk.specs.Shape.{IsShapeOf};
+ghost use Rattle.tsbtree.specs.View.{events, last, visits, IsState};
+ghost use Rattle.tsbtree.specs.Leaf.{IsLeafOf};
+
+use crate::same::are_same;
+use datanode::DataNode;
+use keyrange::KeyRange;
+use slots::Slots;
+use std::alloc::{AllocError, Global};
+use std::marker::Model;
+use treenodes::{Slot, data_at, leaf_at};
+use treewalk::{Shape, changed_since, events, standing, tree_shape};
+use values::{Instant, KeyBytes, Mem, Row, SharedEvent};
+
+/// The nodes of a tree as they were at one time. A view never changes; what it holds is shared with the tree.
+#[derive(Drop)]
+pub struct View {
+    nodes: Slots<Slot>,
+    last: Instant,
+}
+
+impl Model for View {
+    ghost use Rattle.tsbtree.specs.View.{TreeState, IsState};
+
+    ghost Value = { TreeState };
+
+    ghost view = { λ v. record { nodes = v.nodes; latest = v.last } };
+
+    ghost invariant = { λ v. IsState v.nodes v.last };
+}
+
+impl View {
+    pub(crate) fn of(nodes: Slots<Slot>, last: Instant) -> View
+        requires { IsState nodes last }
+        ensures { result ≡ record { nodes = nodes; latest = last } }
+    {
+        View { nodes, last }
+    }
+
+    pub(crate) fn nodes(&self) -> &Slots<Slot>
+        ensures are { result.now ≡ self.now.nodes }
+        ensures sound { IsSound result.now (last self.now) }
+    {
+        &self.nodes
+    }
+
+    /// The instant of the last commit, 0 where there is none.
+    pub fn last(&self) -> Instant
+        ensures last { result ≡ last self.now }
+        ensures in_range { result ≤ max_instant }
+        ensures upto { All (λ e. e.at ≤ result) (events self.now) }
+        ensures ordered { IsStrictlySortedBy event_cmp (events self.now) }
+    {
+        self.last
+    }
+
+    /// The same view, of which no node is copied.
+    pub fn share(&self) -> Mem<View>
+        ensures ok { IfOk result (λ v. v ≡ self.now) }
+        ensures err { OnlyMemory result }
+    {
+        Ok(View {
+            nodes: self.nodes.share()?,
+            last: self.last,
+        })
+    }
+
+    /// Whether two views hold equal nodes at the same numbers.
+    pub fn same(&self, other: &View) -> bool
+        ensures { IsTrue result ↔ (self.now ≡ other.now) }
+    {
+        are_same(&self.nodes, &other.nodes)
+    }
+
+    /// A key's row at an instant, which is that of its last event at the instant or before it; and how many nodes were
+    /// visited.
+    pub fn get(&self, key: &KeyBytes, instant: Instant) -> Mem<(Option<Row>, usize)>
+        ensures row { IfOk result (λ found. found.0 ≡ row_until (events self.now) key.now instant) }
+        ensures visits { IfOk result (λ found. found.1 ≡ visits self.now instant) }
+        ensures err { OnlyMemory result }
+    {
+        if instant == 0 {
+            return Ok((None, 0));
+        }
+        let (number, visits) = leaf_at(&self.nodes, key, instant);
+        let row = copy_of(data_at(&self.nodes, number).at(key, instant))?;
+        Ok((row, visits))
+    }
+
+    /// The instant of a key's last event above `start`, if there is one.
+    pub fn changed_since(&self, key: &KeyBytes, start: Instant) -> Option<Instant>
+        ensures { result ≡ event_since (events self.now) start key.now }
+    {
+        changed_since(&self.nodes, key, start)
+    }
+
+    /// The events of a range of keys, from an instant to another and with it, by key and then by instant.
+    pub fn events(
+        &self,
+        alloc: Global,
+        range: &KeyRange,
+        from: Instant,
+        to: Instant,
+    ) -> Mem<Vec<SharedEvent>>
+        ensures ok { IfOk result (λ v. v.items ≡ events_in (events self.now) range.now from to) }
+        ensures sorted { IfOk result (λ v. IsStrictlySortedBy event_cmp v.items) }
+        ensures err { OnlyMemory result }
+    {
+        events(alloc, &self.nodes, range, from, to)
+    }
+
+    /// By key: of each key of a range the event that shows its row at an instant, where it has one.
+    pub fn standing(
+        &self,
+        alloc: Global,
+        range: &KeyRange,
+        instant: Instant,
+    ) -> Mem<Vec<SharedEvent>>
+        ensures ok { IfOk result (λ v. v.items
+            ≡ standing (events self.now) (is_key_in range.now) instant) }
+        ensures sorted { IfOk result (λ v. IsStrictlySortedBy event_cmp v.items) }
+        ensures ordered { IsStrictlySortedBy event_cmp (events self.now) }
+        ensures err { OnlyMemory result }
+    {
+        standing(alloc, &self.nodes, range, instant)
+    }
+
+    /// Each node once: its level, its rectangle, and how much it holds.
+    pub fn shape(&self, alloc: Global) -> Mem<Shape>
+        ensures ok { IfOk result (λ s. IsShapeOf self.now.nodes s.nodes.items) }
+        ensures err { OnlyMemory result }
+    {
+        tree_shape(alloc, &self.nodes)
+    }
+
+    /// The data node whose rectangle has the point of a key and an instant.
+    pub fn leaf(&self, key: &KeyBytes, instant: Instant) -> &DataNode
+        requires { 1 ≤ instant }
+        ensures { IsLeafOf self.now key.now instant result.now }
+    {
+        let (number, _visits) = leaf_at(&self.nodes, key, instant);
+        data_at(&self.nodes, number)
+    }
+}
+
+fn copy_of(row: Option<&Row>) -> Result<Option<Row>, AllocError>
+    ensures { IfOk result (λ r. r ≡ option_copied row.entry) }
+{
+    match row {
+        None => Ok(None),
+        Some(row) => Ok(Some(row.clone()?)),
+    }
+}
