@@ -7,27 +7,48 @@ use indexnode::{IndexNode, Reference};
 use keyrange::Rect;
 use slots::Slots;
 use treenodes::{Child, Slot};
-use values::{Event, Row, SharedEvent};
+use values::{Event, Row, SharedEvent, Value};
 
-/// Whether two lists hold equal nodes at the same numbers.
-pub(crate) fn are_same(first: &Slots<Slot>, second: &Slots<Slot>) -> bool
+/// What can be compared as a whole.
+pub(crate) trait Same {
+    fn is_same(&self, other: &Self) -> bool
+        ensures { IsTrue result ↔ (self.now ≡ other.now) };
+}
+
+/// Whether two lists have equal items at the same places.
+fn are_same<T: Same>(first: &[T], second: &[T]) -> bool
     ensures { IsTrue result ↔ (first.now ≡ second.now) }
 {
     if first.len() != second.len() {
         return false;
     }
-    for number in 0..first.len() {
-        if !is_same_node(first.at(number), second.at(number)) {
+    for (place, one) in first.iter().enumerate() {
+        if !one.is_same(&second[place]) {
             return false;
         }
     }
     true
 }
 
-fn is_same_node(first: &Slot, second: &Slot) -> bool
-    ensures { IsTrue result ↔ (first.now ≡ second.now) }
-{
-    first.level() == second.level() && is_same_child(first.child(), second.child())
+/// Nodes at the same numbers.
+impl Same for Slots<Slot> {
+    fn is_same(&self, other: &Slots<Slot>) -> bool {
+        if self.len() != other.len() {
+            return false;
+        }
+        for number in 0..self.len() {
+            if !self.at(number).is_same(other.at(number)) {
+                return false;
+            }
+        }
+        true
+    }
+}
+
+impl Same for Slot {
+    fn is_same(&self, other: &Slot) -> bool {
+        self.level() == other.level() && is_same_child(self.child(), other.child())
+    }
 }
 
 fn is_same_child(first: &Child, second: &Child) -> bool
@@ -36,16 +57,10 @@ fn is_same_child(first: &Child, second: &Child) -> bool
         × (content_of first.now ≡ content_of second.now)) }
 {
     match (first, second) {
-        (Child::Data(one), Child::Data(other)) => is_same_data(one, other),
+        (Child::Data(one), Child::Data(other)) => one.is_same(other),
         (Child::Index(one), Child::Index(other)) => is_same_index(one, other),
         _ => false,
     }
-}
-
-fn is_same_data(first: &DataNode, second: &DataNode) -> bool
-    ensures { IsTrue result ↔ (first.now ≡ second.now) }
-{
-    is_same_rect(first.rect(), second.rect()) && are_same_events(first.events(), second.events())
 }
 
 fn is_same_index(first: &IndexNode<usize>, second: &IndexNode<usize>) -> bool
@@ -53,36 +68,31 @@ fn is_same_index(first: &IndexNode<usize>, second: &IndexNode<usize>) -> bool
         ↔ ((first.now.rect ≡ second.now.rect)
         × (first.now.references.items ≡ second.now.references.items)) }
 {
-    is_same_rect(first.rect(), second.rect())
-        && are_same_references(first.references(), second.references())
+    first.rect().is_same(second.rect()) && are_same(first.references(), second.references())
 }
 
-fn are_same_events(first: &[SharedEvent], second: &[SharedEvent]) -> bool
-    ensures { IsTrue result ↔ (first.now ≡ second.now) }
-{
-    if first.len() != second.len() {
-        return false;
+impl Same for DataNode {
+    fn is_same(&self, other: &DataNode) -> bool {
+        self.rect().is_same(other.rect()) && are_same(self.events(), other.events())
     }
-    for (place, one) in first.iter().enumerate() {
-        if !is_same_event(one.event(), second[place].event()) {
-            return false;
-        }
-    }
-    true
 }
 
-fn are_same_references(first: &[Reference<usize>], second: &[Reference<usize>]) -> bool
-    ensures { IsTrue result ↔ (first.now ≡ second.now) }
-{
-    if first.len() != second.len() {
-        return false;
+impl Same for Reference<usize> {
+    fn is_same(&self, other: &Reference<usize>) -> bool {
+        self.rect.is_same(&other.rect) && self.child == other.child
     }
-    for (place, one) in first.iter().enumerate() {
-        if !is_same_reference(one, &second[place]) {
-            return false;
-        }
+}
+
+impl Same for Rect {
+    fn is_same(&self, other: &Rect) -> bool {
+        self.keys() == other.keys() && self.time() == other.time()
     }
-    true
+}
+
+impl Same for SharedEvent {
+    fn is_same(&self, other: &SharedEvent) -> bool {
+        is_same_event(self.event(), other.event())
+    }
 }
 
 fn is_same_event(first: &Event, second: &Event) -> bool
@@ -94,23 +104,17 @@ fn is_same_event(first: &Event, second: &Event) -> bool
 }
 
 fn is_same_row(first: Option<&Row>, second: Option<&Row>) -> bool
-    ensures { IsTrue result ↔ (option_copied first ≡ option_copied second) }
+    ensures { IsTrue result ↔ (option_copied first.entry ≡ option_copied second.entry) }
 {
     match (first, second) {
         (None, None) => true,
-        (Some(one), Some(other)) => one.values() == other.values(),
+        (Some(one), Some(other)) => are_same(one.values(), other.values()),
         _ => false,
     }
 }
 
-fn is_same_reference(first: &Reference<usize>, second: &Reference<usize>) -> bool
-    ensures { IsTrue result ↔ (first.now ≡ second.now) }
-{
-    is_same_rect(&first.rect, &second.rect) && first.child == second.child
-}
-
-fn is_same_rect(first: &Rect, second: &Rect) -> bool
-    ensures { IsTrue result ↔ (first.now ≡ second.now) }
-{
-    first.keys() == second.keys() && first.time() == second.time()
+impl Same for Value {
+    fn is_same(&self, other: &Value) -> bool {
+        self == other
+    }
 }

@@ -11,7 +11,7 @@ ghost use Rattle.treewalk.specs.Shape.{IsShapeOf};
 ghost use Rattle.tsbtree.specs.View.{events, last, visits, IsState};
 ghost use Rattle.tsbtree.specs.Leaf.{IsLeafOf};
 
-use crate::same::are_same;
+use crate::same::Same;
 use datanode::DataNode;
 use keyrange::KeyRange;
 use slots::Slots;
@@ -78,7 +78,7 @@ impl View {
     pub fn same(&self, other: &View) -> bool
         ensures { IsTrue result ↔ (self.now ≡ other.now) }
     {
-        are_same(&self.nodes, &other.nodes)
+        self.nodes.is_same(&other.nodes)
     }
 
     /// A key's row at an instant, which is that of its last event at the instant or before it; and how many nodes were
@@ -88,11 +88,12 @@ impl View {
         ensures visits { IfOk result (λ found. found.1 ≡ visits self.now instant) }
         ensures err { OnlyMemory result }
     {
+        let nodes = self.nodes();
         if instant == 0 {
             return Ok((None, 0));
         }
-        let (number, visits) = leaf_at(&self.nodes, key, instant);
-        let row = copy_of(data_at(&self.nodes, number).at(key, instant))?;
+        let (number, visits) = leaf_at(nodes, key, instant);
+        let row = copy_of(data_at(nodes, number).at(key, instant))?;
         Ok((row, visits))
     }
 
