@@ -24,14 +24,16 @@ module _ (nodes : List TreeNode) (last : ℕ) (sound : IsSound nodes last) (with
       let l = leaf_of nodes sound.kept.tree key max_instant (omega arith) in
       let leaf = l.1.leaf in
       let point = and_parts (is_key_in leaf.node.rect.keys key) _ l.1.holds in
-      let upto : latest (changes nodes) ≤ max_instant = subst (λ t. t ≤ max_instant) sound.last_is within in
-      (leaf.node, record {
-        number = l.0;
-        there = leaf.there;
-        bottom = leaf.bottom;
-        current = endless leaf.node.content leaf.node.rect.time.to (latest (changes nodes)) upto leaf.is_data (sound.kept.holds.ended l.0 leaf.node leaf.there) (and_parts (nat_le leaf.node.rect.time.from max_instant) _ point.1).1;
-        has = point.0;
-      })
+      let upto : latest (changes nodes) ≤ max_instant = subst (λ t. t ≤ max_instant) sound.last_is within in (
+        leaf.node,
+        record {
+          number = l.0;
+          there = leaf.there;
+          bottom = leaf.bottom;
+          current = endless leaf.node.content leaf.node.rect.time.to (latest (changes nodes)) upto leaf.is_data (sound.kept.holds.ended l.0 leaf.node leaf.there) (and_parts (nat_le leaf.node.rect.time.from max_instant) _ point.1).1;
+          has = point.0;
+        },
+      )
 
 module _ (old : TreeState) (nodes : List TreeNode) (last : ℕ) (are : nodes ≡ old.nodes) (is : last ≡ old.latest) (sound : IsSound nodes last) (within : last ≤ max_instant)
     (key : List ℕ) (halves : ℕ → Area → Option (Area × Area)) (answer : Option (List TreeNode)) where
