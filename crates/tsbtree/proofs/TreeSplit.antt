@@ -1,5 +1,5 @@
 -- The current data node of a key, and its split.
-use Rattle.std.proofs.Common.{◌≡◌, ℕ, ◌<◌, ◌≤◌, true, false, List, Option, Some, None, refl, sym, ap, subst, ◌∙◌, arith, nat_le}
+use Rattle.std.proofs.Common.{◌≡◌, ℕ, ◌<◌, ◌≤◌, Bool, true, false, List, Option, Some, None, refl, sym, ap, subst, ◌∙◌, arith, nat_le}
 use Rattle.std.specs.Prelude.{MatchOption}
 use Rattle.std.proofs.lemmas.Bool.{and_parts, ltb-true}
 use Rattle.values.specs.Commits.{max_instant}
@@ -47,8 +47,19 @@ module _ (old : TreeState) (nodes : List TreeNode) (last : ℕ) (are : nodes ≡
     of_old : Answers old.nodes old.latest answer
     of_old = subst (λ t. Answers old.nodes t answer) is (subst (λ ns. Answers ns last answer) are told)
 
-    pub not_split : answer ≡ None → IsSplitAt key (halves old.latest) old old false
+    not_split : answer ≡ None → IsSplitAt key (halves old.latest) old old false
     not_split none = record { leaf = leaf.0; current = leaf.1; split = (subst (Answers old.nodes old.latest) none of_old leaf.0 leaf.1, refl) }
 
-    pub is_split : (s : List TreeNode) → answer ≡ Some s → IsSplitAt key (halves old.latest) old (record { nodes = s; latest = last }) true
+    is_split : (s : List TreeNode) → answer ≡ Some s → IsSplitAt key (halves old.latest) old (record { nodes = s; latest = last }) true
     is_split s some = record { leaf = leaf.0; current = leaf.1; split = subst (Answers old.nodes old.latest) some of_old leaf.0 leaf.1 }
+
+    -- what is put in place, and what is answered
+    abbrev IsPut : Option (List TreeNode) → TreeState → Bool → Type 0
+    IsPut o new done = MatchOption o ((done ≡ false) × (new ≡ old)) (λ s. (done ≡ true) × (new ≡ record { nodes = s; latest = last }))
+
+    by_answer : (o : Option (List TreeNode)) → answer ≡ o → (new : TreeState) (done : Bool) → IsPut o new done → IsSplitAt key (halves old.latest) old new done
+    by_answer None none new done put = subst (λ s. IsSplitAt key (halves old.latest) old s done) (sym put.1) (subst (λ b. IsSplitAt key (halves old.latest) old old b) (sym put.0) (not_split none))
+    by_answer (Some s) some new done put = subst (λ t. IsSplitAt key (halves old.latest) old t done) (sym put.1) (subst (λ b. IsSplitAt key (halves old.latest) old (record { nodes = s; latest = last }) b) (sym put.0) (is_split s some))
+
+    pub split_done : (new : TreeState) (done : Bool) → IsPut answer new done → IsSplitAt key (halves old.latest) old new done
+    split_done = by_answer answer refl

@@ -1,18 +1,19 @@
 //! What was committed, as it grows.
-ghost use Rattle.std.specs.Prelude.{◌≡◌, ◌≤◌, ◌<◌, IfOk, OnOk, OnErr};
+ghost use Rattle.std.specs.Prelude.{◌≡◌, ◌≤◌, ◌<◌, IfOk, IfSome, MatchOption, OnOk, OnErr, true, false};
 ghost use Rattle.values.specs.Commits.{max_instant};
 ghost use Rattle.values.specs.Memory.{OnlyMemory};
 ghost use Rattle.keyrange.specs.Cut.{halves_by_key};
 ghost use Rattle.treegrowth.specs.Commit.{IsCommit};
 ghost use Rattle.treegrowth.specs.Leaves.{halves_upto};
-ghost use Rattle.tsbtree.specs.View.{last, IsEmpty};
+ghost use Rattle.tsbtree.specs.View.{last, IsEmpty, IsState};
 ghost use Rattle.tsbtree.specs.Growth.{Adds, HoldsSame, IsSplitAt};
 
 use crate::view::View;
+use slots::Slots;
 use std::alloc::Global;
 use std::marker::Model;
 use treegrowth::{key_split, time_split, with_commit};
-use treenodes::leaf_alone;
+use treenodes::{Slot, leaf_alone};
 use values::{Event, Instant, KeyBytes, Mem};
 
 /// The tree of all changes. A change makes new nodes aside and puts them in place at once, so views stay as they are.
@@ -84,13 +85,8 @@ impl Tree {
         ensures memory { OnlyMemory result }
     {
         let last = self.view.last();
-        match key_split(self.alloc, self.view.nodes(), last, key)? {
-            None => Ok(false),
-            Some(nodes) => {
-                self.view = View::of(nodes, last);
-                Ok(true)
-            }
-        }
+        let nodes = key_split(self.alloc, self.view.nodes(), last, key)?;
+        Ok(self.put(nodes, last))
     }
 
     /// Splits the current data node of a key at an instant. False where the instant is not after the node's start, or
@@ -103,11 +99,22 @@ impl Tree {
         ensures memory { OnlyMemory result }
     {
         let last = self.view.last();
-        match time_split(self.alloc, self.view.nodes(), last, key, instant)? {
-            None => Ok(false),
+        let nodes = time_split(self.alloc, self.view.nodes(), last, key, instant)?;
+        Ok(self.put(nodes, last))
+    }
+
+    /// Puts nodes in place, where there are some, and tells whether there are.
+    fn put(&mut self, nodes: Option<Slots<Slot>>, last: Instant) -> bool
+        requires { IfSome nodes (λ s. IsState s last) }
+        ensures { MatchOption nodes
+            ((result ≡ false) × (self.new ≡ self.old))
+            (λ s. (result ≡ true) × (self.new ≡ record { nodes = s; latest = last })) }
+    {
+        match nodes {
+            None => false,
             Some(nodes) => {
                 self.view = View::of(nodes, last);
-                Ok(true)
+                true
             }
         }
     }

@@ -1,18 +1,12 @@
-use Rattle.std.proofs.Common.{true, sym, subst, ◌∙◌, ap}
+use Rattle.std.proofs.Common.{sym, subst, ◌∙◌, ap}
 use Rattle.keyrange.specs.Cut.{halves_by_key}
 use Rattle.treenodes.specs.Sound.{IsSound}
 use Rattle.tsbtree.specs.View.{TreeState}
-use Rattle.tsbtree.specs.Growth.{IsSplitAt}
-use Rattle.tsbtree.proofs.TreeSplit.{not_split, is_split}
+use Rattle.tsbtree.proofs.TreeSplit.{split_done}
 use Rattle.tsbtree.proofs.tree.Tree.key_split.Goals as goal
 
-pub returns-in-None-clause-split : goal.returns-in-None-clause-split
-returns-in-None-clause-split c =
-    not_split c.args.self.now c.nodes.result.now c.last-last.result (c.nodes.ensures.are ∙ ap (λ (s : TreeState). s.nodes) c.self.view_is) (c.last-last.ensures.last ∙ ap (λ (s : TreeState). s.latest) c.self.view_is)
-    (subst (IsSound c.nodes.result.now) (sym c.last-last.ensures.last) c.nodes.ensures.sound) c.last-last.ensures.in_range c.args.key.now (λ _ r. halves_by_key r c.args.key.now) c.in_ok-key_split.field-0 c.in_ok-key_split.ensures.split c.in-None.is
-
-pub returns-in-Some-clause-split : goal.returns-in-Some-clause-split
-returns-in-Some-clause-split c =
-    subst (λ s. IsSplitAt c.args.key.now (λ r. halves_by_key r c.args.key.now) c.args.self.now s true) (sym c.of.ensures)
-    (is_split c.args.self.now c.nodes.result.now c.last-last.result (c.nodes.ensures.are ∙ ap (λ (s : TreeState). s.nodes) c.self.view_is) (c.last-last.ensures.last ∙ ap (λ (s : TreeState). s.latest) c.self.view_is)
-    (subst (IsSound c.nodes.result.now) (sym c.last-last.ensures.last) c.nodes.ensures.sound) c.last-last.ensures.in_range c.args.key.now (λ _ r. halves_by_key r c.args.key.now) c.in_ok-key_split.field-0 c.in_ok-key_split.ensures.split c.in-Some.nodes c.in-Some.is)
+pub returns-clause-split : goal.returns-clause-split
+returns-clause-split c =
+    split_done c.args.self.now c.nodes.result.now c.last-last.result (c.nodes.ensures.are ∙ ap (λ (s : TreeState). s.nodes) c.self.view_is) (c.last-last.ensures.last ∙ ap (λ (s : TreeState). s.latest) c.self.view_is)
+    (subst (IsSound c.nodes.result.now) (sym c.last-last.ensures.last) c.nodes.ensures.sound) c.last-last.ensures.in_range c.args.key.now (λ _ r. halves_by_key r c.args.key.now) c.in_ok-nodes.nodes c.in_ok-nodes.ensures.split
+    c.put.new.self c.put.result c.put.ensures
