@@ -150,18 +150,34 @@ type Line = (usize, u8, u8, Instant, Option<Instant>, usize);
 
 fn is_line(shape: &Shape, place: usize, line: Line) -> bool {
     let (depth, lo, hi, from, to, count) = line;
-    let height = shape.nodes.first().map_or(0, |root| root.level);
-    shape.nodes.get(place).is_some_and(|node| {
-        let keys = node.rect.keys();
-        let time = node.rect.time();
-        height - depth == node.level
-            && last_byte(&keys.lo) == lo
-            && keys.hi.as_ref().map_or(0, |end| last_byte(end)) == hi
-            && time.from == from
-            && time.to == to
-            && node.count == count
-            && !node.packed
-    })
+    match shape.nodes.get(place) {
+        None => false,
+        Some(node) => {
+            let time = node.rect.time();
+            height(shape).checked_sub(depth) == Some(node.level)
+                && last_byte(&node.rect.keys().lo) == lo
+                && end_byte(&node.rect.keys().hi) == hi
+                && time.from == from
+                && time.to == to
+                && node.count == count
+                && !node.packed
+        }
+    }
+}
+
+/// The root's level.
+fn height(shape: &Shape) -> usize {
+    match shape.nodes.first() {
+        None => 0,
+        Some(root) => root.level,
+    }
+}
+
+fn end_byte(end: &Option<KeyBytes>) -> u8 {
+    match end {
+        None => 0,
+        Some(key) => last_byte(key),
+    }
 }
 
 /// Whether the shape of a view begins with some lines.
