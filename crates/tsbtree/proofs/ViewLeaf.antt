@@ -1,5 +1,5 @@
 -- What a view shows: nothing before the first instant, and the data node at a point.
-use Rattle.std.proofs.Common.{◌≡◌, ℕ, zero, suc, ◌<◌, ◌≤◌, Bool, true, false, List, [], ◌∷◌, length, get_or, Option, Some, None, refl, sym, ap, subst, ◌∙◌, arith, nat_le, if◌then◌else◌}
+use Rattle.std.proofs.Common.{◌≡◌, ℕ, zero, suc, ◌<◌, ◌≤◌, Bool, true, false, List, [], ◌∷◌, length, get_or, Some, None, refl, sym, ap, subst, ◌∙◌, arith, nat_le, if◌then◌else◌}
 use Rattle.std.specs.Prelude.{◌&&◌, All, option_and_then}
 use Rattle.values.specs.Event.{Event}
 use Rattle.values.specs.Events.{is_bytes, later, event_until, row_until}

@@ -1,4 +1,3 @@
-use Rattle.std.proofs.Common.{◌≡◌, length}
 use Rattle.tsbtree.proofs.SameLists.{AreSame}
 use Rattle.tsbtree.proofs.same.are_same.Given as goal
 

@@ -1,4 +1,4 @@
-use Rattle.std.proofs.Common.{◌≡◌, ◌≤◌, get_or, subst, sym}
+use Rattle.std.proofs.Common.{subst}
 use Rattle.treenodes.specs.Sound.{IsSound}
 use Rattle.tsbtree.specs.View.{TreeState}
 use Rattle.tsbtree.proofs.ViewLeaf.{none_after}
