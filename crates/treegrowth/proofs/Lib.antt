@@ -10,3 +10,4 @@ pub mod LeafHalves
 pub mod CommitTaken
 pub mod CommitDue
 pub mod SplitSteps
+pub mod CommitFew

@@ -26,7 +26,8 @@ fn event(rt: &impl Abort, alloc: Global, number: u8, at: Instant) -> Mem<Event>
 fn one_row(rt: &impl Abort, alloc: Global) -> Mem<Slots<Slot>>
     ensures { IfOk result (λ s. IsSound s 100) }
 {
-    let events = vec![in alloc; event(rt, alloc, 5, 100)?]?;
+    let mut events = Vec::new(alloc);
+    events.push(event(rt, alloc, 5, 100)?)?;
     with_commit(alloc, leaf_alone(alloc)?, 0, 100, events)
 }
 

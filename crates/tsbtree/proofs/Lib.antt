@@ -1,4 +1,3 @@
 pub mod SameLists
 pub mod ViewLeaf
 pub mod TreeSplit
-pub mod TestsCommit

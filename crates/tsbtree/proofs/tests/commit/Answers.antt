@@ -1,5 +1,5 @@
 use Rattle.std.proofs.Common.{[], ◌∷◌, ◌++◌, ap, sym, ◌∙◌}
-use Rattle.tsbtree.proofs.TestsCommit.{one_commit}
+use Rattle.treegrowth.proofs.CommitFew.{one_commit}
 use Rattle.tsbtree.proofs.tests.commit.Goals as goal
 
 pub apply-requires-clause-commit : goal.apply-requires-clause-commit

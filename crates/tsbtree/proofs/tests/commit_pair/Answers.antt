@@ -1,5 +1,5 @@
 use Rattle.std.proofs.Common.{[], ◌∷◌, ◌++◌, ap, sym, ◌∙◌, rules}
-use Rattle.tsbtree.proofs.TestsCommit.{two_commit}
+use Rattle.treegrowth.proofs.CommitFew.{two_commit}
 use Rattle.tsbtree.proofs.tests.commit_pair.Goals as goal
 
 pub apply-requires-clause-commit : goal.apply-requires-clause-commit

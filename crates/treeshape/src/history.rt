@@ -1,0 +1,119 @@
+//! A history, line by line: commits of one event, and splits.
+use std::alloc::Global;
+use std::io;
+use thiserror::Error;
+use tsbtree::Tree;
+use values::{Event, Instant, KeyBytes, LAST, Mem, Refusal, Row, Value};
+
+/// Why no shape is printed.
+#[derive(Debug, Drop, Error)]
+pub enum HistoryFault {
+    #[error("no history: line {0}")]
+    Line(usize),
+    #[error("memory")]
+    Memory,
+    #[error("{0}")]
+    Stream(io::Error),
+}
+
+impl From<Refusal> for HistoryFault {
+    fn from(_refusal: Refusal) -> HistoryFault {
+        HistoryFault::Memory
+    }
+}
+
+impl From<io::Error> for HistoryFault {
+    fn from(error: io::Error) -> HistoryFault {
+        HistoryFault::Stream(error)
+    }
+}
+
+/// A line of a history. A key is a number, and its bytes are eight, the greatest first.
+enum Step {
+    /// A key has a row from an instant on.
+    Put(u64, Instant),
+    /// A key's row is deleted at an instant.
+    Delete(u64, Instant),
+    /// The current data node of a key is split there.
+    Key(u64),
+    /// The current data node of a key is split at an instant.
+    Time(u64, Instant),
+}
+
+/// The tree that a history leaves.
+pub fn tree_after(alloc: Global, text: &str) -> Result<Tree, HistoryFault> {
+    let mut tree = Tree::new(alloc)?;
+    for (line, number) in text.lines().zip(1..usize::MAX) {
+        let Some(step) = step_of(line) else {
+            return Err(HistoryFault::Line(number));
+        };
+        if !take(alloc, &mut tree, step)? {
+            return Err(HistoryFault::Line(number));
+        }
+    }
+    Ok(tree)
+}
+
+/// The step that a line names.
+fn step_of(line: &str) -> Option<Step> {
+    let mut words = line.split(' ');
+    let name = words.next()?;
+    let key = words.next()?.parse::<u64>().ok()?;
+    let instant = match words.next() {
+        Some(word) => Some(word.parse::<u64>().ok()?),
+        None => None,
+    };
+    match (name, instant) {
+        ("put", Some(instant)) => Some(Step::Put(key, instant)),
+        ("delete", Some(instant)) => Some(Step::Delete(key, instant)),
+        ("key", None) => Some(Step::Key(key)),
+        ("time", Some(instant)) => Some(Step::Time(key, instant)),
+        _ => None,
+    }
+}
+
+/// Takes a step; false where a commit is not after the last one. A split that the rules do not allow does nothing.
+fn take(alloc: Global, tree: &mut Tree, step: Step) -> Mem<bool> {
+    match step {
+        Step::Put(key, instant) => {
+            let row = Row::new(vec![in alloc; Value::Int(1)]?);
+            commit(alloc, tree, key, instant, row)
+        }
+        Step::Delete(key, instant) => commit(alloc, tree, key, instant, None),
+        Step::Key(key) => {
+            tree.key_split(&key_bytes(alloc, key)?)?;
+            Ok(true)
+        }
+        Step::Time(key, instant) => {
+            tree.time_split(&key_bytes(alloc, key)?, instant)?;
+            Ok(true)
+        }
+    }
+}
+
+fn commit(
+    alloc: Global,
+    tree: &mut Tree,
+    key: u64,
+    instant: Instant,
+    row: Option<Row>,
+) -> Mem<bool> {
+    let Some(event) = Event::new(key_bytes(alloc, key)?, instant, row) else {
+        return Ok(false);
+    };
+    if instant <= tree.current().last() || instant > LAST {
+        return Ok(false);
+    }
+    let mut changes = Vec::new(alloc);
+    changes.push(event)?;
+    tree.apply(instant, changes)?;
+    Ok(true)
+}
+
+fn key_bytes(alloc: Global, key: u64) -> Mem<KeyBytes> {
+    let bytes = Vec::from_array(alloc, key.to_be_bytes())?;
+    match KeyBytes::new(bytes) {
+        Some(key) => Ok(key),
+        None => unreachable!(),
+    }
+}
