@@ -101,12 +101,13 @@ fn commit(
     let Some(event) = Event::new(key_bytes(alloc, key)?, instant, row) else {
         return Ok(false);
     };
-    if instant <= tree.current().last() || instant > LAST {
+    let at = event.at();
+    if at <= tree.current().last() || at > LAST {
         return Ok(false);
     }
     let mut changes = Vec::new(alloc);
     changes.push(event)?;
-    tree.apply(instant, changes)?;
+    tree.apply(at, changes)?;
     Ok(true)
 }
 
