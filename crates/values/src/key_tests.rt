@@ -26,11 +26,33 @@ fn name_key(alloc: Global, name: &str, number: i64) -> Mem<Key>
     requires { length name.now ≤ 200 }
     ensures { IfOk result IsShortKey }
 {
-    let name = Value::Text(Chars::copy_of(alloc, name)?);
+    let mut parts = Vec::new(alloc);
+    parts.push(Value::Text(Chars::copy_of(alloc, name)?))?;
+    parts.push(Value::Int(number))?;
     Ok(Key {
         table: 1,
-        parts: Values::new(vec![in alloc; name, Value::Int(number)]?),
+        parts: Values::new(parts),
     })
+}
+
+/// Whether a number's key has these bytes.
+fn has_bytes(alloc: Global, number: i64, bytes: &[u8]) -> Mem<bool> {
+    let key = number_key(alloc, number)?;
+    Ok(key_bytes(alloc, &key)?.bytes() == bytes)
+}
+
+fn name_bytes(alloc: Global, name: &str, number: i64) -> Mem<KeyBytes>
+    requires { length name.now ≤ 200 }
+{
+    let key = name_key(alloc, name, number)?;
+    Ok(key_bytes(alloc, &key)?)
+}
+
+/// Whether the key of a name and a number has these bytes.
+fn name_has_bytes(alloc: Global, name: &str, number: i64, bytes: &[u8]) -> Mem<bool>
+    requires { length name.now ≤ 200 }
+{
+    Ok(name_bytes(alloc, name, number)?.bytes() == bytes)
 }
 
 #[test]
@@ -43,34 +65,45 @@ fn whole_numbers_keep_their_order_in_bytes(rt: HostRuntime) -> Result<(), Fail> 
         (i64::MAX, *b"\x01\xff\xff\xff\xff\xff\xff\xff\xff"),
     ];
     for (number, bytes) in rising {
-        let key = number_key(rt.alloc(), number)?;
-        assert_eq!(rt;
-            key_bytes(rt.alloc(), &key)?.bytes(),
-            bytes.as_slice(),
-            "at {number}"
-        );
+        let are_its_bytes = has_bytes(rt.alloc(), number, bytes.as_slice())?;
+        assert!(rt; are_its_bytes, "at {number}");
     }
     Ok(())
 }
 
 #[test]
 fn a_text_ends_before_the_next_column(rt: HostRuntime) -> Result<(), Fail> {
-    let lower = key_bytes(rt.alloc(), &name_key(rt.alloc(), "a", -1)?)?;
-    let upper = key_bytes(rt.alloc(), &name_key(rt.alloc(), "a", 2)?)?;
-    let longer = key_bytes(rt.alloc(), &name_key(rt.alloc(), "a\0", -9)?)?;
-    assert_eq!(rt;
-        lower.bytes(),
-        b"\x01\x61\x00\x00\x7f\xff\xff\xff\xff\xff\xff\xff".as_slice()
-    );
-    assert_eq!(rt;
-        upper.bytes(),
-        b"\x01\x61\x00\x00\x80\x00\x00\x00\x00\x00\x00\x02".as_slice()
-    );
-    assert_eq!(rt;
-        longer.bytes(),
-        b"\x01\x61\x00\xff\x00\x00\x7f\xff\xff\xff\xff\xff\xff\xf7".as_slice()
-    );
-    assert!(rt; lower < upper && upper < longer && lower.copy()? == lower);
+    let lower = b"\x01\x61\x00\x00\x7f\xff\xff\xff\xff\xff\xff\xff".as_slice();
+    let upper = b"\x01\x61\x00\x00\x80\x00\x00\x00\x00\x00\x00\x02".as_slice();
+    let longer = b"\x01\x61\x00\xff\x00\x00\x7f\xff\xff\xff\xff\xff\xff\xf7".as_slice();
+    assert!(rt; name_has_bytes(rt.alloc(), "a", -1, lower)?);
+    assert!(rt; name_has_bytes(rt.alloc(), "a", 2, upper)?);
+    assert!(rt; name_has_bytes(rt.alloc(), "a\0", -9, longer)?);
+    Ok(())
+}
+
+/// Whether the first key's bytes are below the second's.
+fn is_below(alloc: Global, lower: (&str, i64), upper: (&str, i64)) -> Mem<bool>
+    requires lower { length lower.0.now ≤ 200 }
+    requires upper { length upper.0.now ≤ 200 }
+{
+    let lower = name_bytes(alloc, lower.0, lower.1)?;
+    let upper = name_bytes(alloc, upper.0, upper.1)?;
+    Ok(lower < upper)
+}
+
+fn is_copied(alloc: Global, name: &str, number: i64) -> Mem<bool>
+    requires { length name.now ≤ 200 }
+{
+    let key = name_bytes(alloc, name, number)?;
+    Ok(key.copy()? == key)
+}
+
+#[test]
+fn bytes_of_names_and_numbers_keep_their_order(rt: HostRuntime) -> Result<(), Fail> {
+    assert!(rt; is_below(rt.alloc(), ("a", -1), ("a", 2))?);
+    assert!(rt; is_below(rt.alloc(), ("a", 2), ("a\0", -9))?);
+    assert!(rt; is_copied(rt.alloc(), "a", -1)?);
     Ok(())
 }
 
@@ -91,18 +124,28 @@ fn column(alloc: Global, name: &str, of: ColumnType) -> Mem<Column> {
     })
 }
 
+fn columns(alloc: Global) -> Mem<Vec<Column>> {
+    let mut columns = Vec::new(alloc);
+    columns.push(column(alloc, "a", ColumnType::Varchar(2))?)?;
+    columns.push(column(alloc, "b", ColumnType::Boolean)?)?;
+    Ok(columns)
+}
+
 /// Table 1 of a text of two characters and a truth, both of them its key.
 fn table(alloc: Global) -> Mem<Table> {
-    let text = column(alloc, "a", ColumnType::Varchar(2))?;
-    let truth = column(alloc, "b", ColumnType::Boolean)?;
-    Ok(Table {
-        number: 1,
-        name: Chars::copy_of(alloc, "t")?,
-        columns: Sequence::new(vec![in alloc; text, truth]?),
-        key: Sequence::new(vec![in alloc; 1, 2]?),
-        row_start: Chars::copy_of(alloc, "s")?,
-        row_end: Chars::copy_of(alloc, "e")?,
-    })
+    let mut table = Table::sample(alloc)?;
+    table.columns = Sequence::new(columns(alloc)?);
+    table.key = Sequence::new(vec![in alloc; 1, 2]?);
+    Ok(table)
+}
+
+/// Whether a key is read from the bytes; none where they are too many for a key.
+fn is_read(alloc: Global, table: &Table, bytes: &[u8]) -> Mem<Option<bool>> {
+    let copy = Vec::from_slice(alloc, bytes)?;
+    match KeyBytes::new(copy) {
+        Some(bytes) => Ok(Some(read_key(alloc, table, &bytes)?.is_some())),
+        None => Ok(None),
+    }
 }
 
 #[test]
@@ -121,28 +164,35 @@ fn a_key_is_read_from_its_own_bytes_alone(rt: HostRuntime) -> Result<(), Fail> {
         (b"", false),
     ];
     for (i, (bytes, stands)) in cases.into_iter().enumerate() {
-        let copy = Vec::from_slice(rt.alloc(), bytes)?;
-        let bytes = KeyBytes::new(copy).expect(&rt, "they are few");
-        let key = read_key(rt.alloc(), &table, &bytes)?;
-        assert_eq!(rt; key.is_some(), stands, "at {i}");
+        assert_eq!(rt; is_read(rt.alloc(), &table, bytes)?, Some(stands), "at {i}");
     }
     Ok(())
 }
 
-#[test]
-fn keys_match_where_they_meet_the_comparison(rt: HostRuntime) -> Result<(), Fail> {
-    let table = Table::sample(rt.alloc())?;
+/// The keys of table 1 that are below 2.
+fn below_2(alloc: Global) -> Mem<Keys> {
     let below = Comparison {
         column: 1,
         operator: Operator::Below,
         value: Value::Int(2),
     };
-    let some = Keys::of_comparison(rt.alloc(), 1, below)?;
+    Keys::of_comparison(alloc, 1, below)
+}
+
+/// Whether the key of a number of the sample table is one of the keys.
+fn is_matched(alloc: Global, keys: &Keys, number: i64) -> Mem<bool> {
+    let table = Table::sample(alloc)?;
+    let key = number_key(alloc, number)?;
+    Ok(keys.matches(&table, &key))
+}
+
+#[test]
+fn keys_match_where_they_meet_the_comparison(rt: HostRuntime) -> Result<(), Fail> {
+    let some = below_2(rt.alloc())?;
+    assert!(rt; is_matched(rt.alloc(), &some, 1)?);
+    assert!(rt; !is_matched(rt.alloc(), &some, 2)?);
     let all = Keys::all(rt.alloc(), 1);
-    for (number, is_below) in [(1, true), (2, false)] {
-        let key = number_key(rt.alloc(), number)?;
-        assert_eq!(rt; some.matches(&table, &key), is_below, "at {number}");
-        assert!(rt; all.matches(&table, &key), "at {number}");
-    }
+    assert!(rt; is_matched(rt.alloc(), &all, 1)?);
+    assert!(rt; is_matched(rt.alloc(), &all, 2)?);
     Ok(())
 }

@@ -1,4 +1,5 @@
 use crate::chars::Chars;
+use crate::refusal::Mem;
 use crate::row::Row;
 use crate::row_encoding::{read_row, row_bytes};
 use crate::value::Value;
@@ -19,32 +20,63 @@ fn a_row_is_its_width_and_its_tagged_values(rt: HostRuntime) -> Result<(), Fail>
     Ok(())
 }
 
+/// How many bytes are read as a row of this number and this name.
+fn length_read(alloc: Global, bytes: &[u8], number: i64, name: &str) -> Mem<Option<usize>> {
+    let Some((row, length)) = read_row(alloc, bytes)? else {
+        return Ok(None);
+    };
+    let mut values = Vec::new(alloc);
+    values.push(Value::Int(number))?;
+    values.push(text(alloc, name)?)?;
+    let is_same = row.values() == values.as_slice();
+    Ok(is_same.then_some(length))
+}
+
 #[test]
 fn a_row_is_read_from_the_front(rt: HostRuntime) -> Result<(), Fail> {
     let bytes = b"\x02\x01\x00\x00\x00\x00\x00\x00\x00\x01\x02\x00\x03Ann and more";
-    let read = read_row(rt.alloc(), bytes)?;
-    let (row, length) = read.expect(&rt, "a row stands there");
-    let ann = vec![in rt.alloc(); Value::Int(1), text(rt.alloc(), "Ann")?]?;
-    assert_eq!(rt; length, 16);
-    assert!(rt; row.values() == ann.as_slice());
+    assert_eq!(rt; length_read(rt.alloc(), bytes, 1, "Ann")?, Some(16));
     Ok(())
+}
+
+/// Whether so many NULLs are a row.
+fn is_row_of(alloc: Global, width: usize) -> Result<bool, AllocError> {
+    let mut values = Vec::new(alloc);
+    for _ in 0..width {
+        values.push(Value::Null)?;
+    }
+    Ok(Row::new(values).is_some())
+}
+
+/// Whether a text is a row.
+fn is_row(alloc: Global, line: &str) -> Result<bool, AllocError> {
+    let mut values = Vec::new(alloc);
+    values.push(text(alloc, line)?)?;
+    Ok(Row::new(values).is_some())
 }
 
 #[test]
 fn a_row_has_1_to_16_values_on_one_line(rt: HostRuntime) -> Result<(), Fail> {
-    assert!(rt; Row::new(Vec::new(rt.alloc())).is_none());
-    for (width, stands) in [(1, true), (16, true), (17, false)] {
-        let mut values = Vec::new(rt.alloc());
-        for _ in 0..width {
-            values.push(Value::Null)?;
-        }
-        assert_eq!(rt; Row::new(values).is_some(), stands, "of {width} values");
+    for (width, stands) in [(0, false), (1, true), (16, true), (17, false)] {
+        assert_eq!(rt; is_row_of(rt.alloc(), width)?, stands, "of {width} values");
     }
     for (line, stands) in [("one", true), ("one\nmore", false), ("one\r", false)] {
-        let values = vec![in rt.alloc(); text(rt.alloc(), line)?]?;
-        assert_eq!(rt; Row::new(values).is_some(), stands);
+        assert_eq!(rt; is_row(rt.alloc(), line)?, stands);
     }
     Ok(())
+}
+
+fn is_read(alloc: Global, bytes: &[u8]) -> Mem<bool> {
+    Ok(read_row(alloc, bytes)?.is_some())
+}
+
+/// Whether a row of one text of so many letters is read, with the two bytes of its length before it.
+fn is_text_read(alloc: Global, length: [u8; 2], letters: usize) -> Mem<bool> {
+    let mut bytes = vec![in alloc; 1u8, 2, length[0], length[1]]?;
+    for _ in 0..letters {
+        bytes.push(b'x')?;
+    }
+    is_read(alloc, &bytes)
 }
 
 #[test]
@@ -64,18 +96,9 @@ fn other_bytes_are_no_row(rt: HostRuntime) -> Result<(), Fail> {
         b"\x02\x03",
     ];
     for bytes in others {
-        assert!(rt; read_row(rt.alloc(), bytes)?.is_none());
+        assert!(rt; !is_read(rt.alloc(), bytes)?);
     }
-    for (length, stands) in [(1000, true), (1001, false)] {
-        let mut bytes = vec![in rt.alloc(); 1u8, 2, 3, (length - 768) as u8]?;
-        for _ in 0..length {
-            bytes.push(b'x')?;
-        }
-        assert_eq!(rt;
-            read_row(rt.alloc(), &bytes)?.is_some(),
-            stands,
-            "at {length}"
-        );
-    }
+    assert!(rt; is_text_read(rt.alloc(), [3, 232], 1000)?);
+    assert!(rt; !is_text_read(rt.alloc(), [3, 233], 1001)?);
     Ok(())
 }
