@@ -3,7 +3,7 @@ use std::alloc::Global;
 use std::io;
 use thiserror::Error;
 use tsbtree::Tree;
-use values::{Event, Instant, KeyBytes, LAST, Mem, Refusal, Row, Value};
+use values::{Event, Instant, Key, KeyBytes, LAST, Mem, Refusal, Row, Value, Values, key_bytes};
 
 /// Why no shape is printed.
 #[derive(Debug, Drop, Error)]
@@ -28,16 +28,16 @@ impl From<io::Error> for HistoryFault {
     }
 }
 
-/// A line of a history. A key is a number, and its bytes are eight, the greatest first.
+/// A line of a history. A key is a number: the key of a row of the first table.
 enum Step {
     /// A key has a row from an instant on.
-    Put(u64, Instant),
+    Put(i64, Instant),
     /// A key's row is deleted at an instant.
-    Delete(u64, Instant),
+    Delete(i64, Instant),
     /// The current data node of a key is split there.
-    Key(u64),
+    Key(i64),
     /// The current data node of a key is split at an instant.
-    Time(u64, Instant),
+    Time(i64, Instant),
 }
 
 /// The tree that a history leaves.
@@ -58,7 +58,7 @@ pub fn tree_after(alloc: Global, text: &str) -> Result<Tree, HistoryFault> {
 fn step_of(line: &str) -> Option<Step> {
     let mut words = line.split(' ');
     let name = words.next()?;
-    let key = words.next()?.parse::<u64>().ok()?;
+    let key = words.next()?.parse::<i64>().ok()?;
     let instant = match words.next() {
         Some(word) => Some(word.parse::<u64>().ok()?),
         None => None,
@@ -81,11 +81,11 @@ fn take(alloc: Global, tree: &mut Tree, step: Step) -> Mem<bool> {
         }
         Step::Delete(key, instant) => commit(alloc, tree, key, instant, None),
         Step::Key(key) => {
-            tree.key_split(&key_bytes(alloc, key)?)?;
+            tree.key_split(&bytes_of(alloc, key)?)?;
             Ok(true)
         }
         Step::Time(key, instant) => {
-            tree.time_split(&key_bytes(alloc, key)?, instant)?;
+            tree.time_split(&bytes_of(alloc, key)?, instant)?;
             Ok(true)
         }
     }
@@ -94,11 +94,11 @@ fn take(alloc: Global, tree: &mut Tree, step: Step) -> Mem<bool> {
 fn commit(
     alloc: Global,
     tree: &mut Tree,
-    key: u64,
+    key: i64,
     instant: Instant,
     row: Option<Row>,
 ) -> Mem<bool> {
-    let Some(event) = Event::new(key_bytes(alloc, key)?, instant, row) else {
+    let Some(event) = Event::new(bytes_of(alloc, key)?, instant, row) else {
         return Ok(false);
     };
     let at = event.at();
@@ -111,10 +111,12 @@ fn commit(
     Ok(true)
 }
 
-fn key_bytes(alloc: Global, key: u64) -> Mem<KeyBytes> {
-    let bytes = Vec::from_array(alloc, key.to_be_bytes())?;
-    match KeyBytes::new(bytes) {
-        Some(key) => Ok(key),
-        None => unreachable!(),
-    }
+fn bytes_of(alloc: Global, number: i64) -> Mem<KeyBytes> {
+    let mut parts = Vec::new(alloc);
+    parts.push(Value::Int(number))?;
+    let key = Key {
+        table: 1,
+        parts: Values::new(parts),
+    };
+    key_bytes(alloc, &key)
 }
