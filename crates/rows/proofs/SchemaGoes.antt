@@ -1,5 +1,5 @@
 -- The bytes before a fault of syntax can go on to a schema.
-use Rattle.std.proofs.Common.{◌≡◌, ◌⊎◌, ◌-◌, ℕ, Bool, true, false, List, [], ◌∷◌, ◌++◌, ◌||◌, Option, Some, None, Ok, Err, inl, inr, length, refl, ap, sym, ◌∙◌, subst, if◌then◌else◌, suc, zero}
+use Rattle.std.proofs.Common.{◌≡◌, ◌⊎◌, ℕ, Bool, true, false, List, [], ◌∷◌, ◌++◌, ◌||◌, Option, Some, None, Ok, Err, inl, inr, length, refl, ap, sym, ◌∙◌, subst, if◌then◌else◌, suc, zero}
 use Rattle.std.specs.Prelude.{Result, codes, not}
 use Rattle.std.proofs.lemmas.List.{append_assoc}
 use Rattle.values.specs.Names.{same_name}

@@ -21,7 +21,7 @@ other : (a b : ℕ) → (a ≡ b → ⊥) → (a == b) ≡ false
 other a b h = grind (arith, nat_tests)
 
 -- a token that begins is not passed over
-at_token : (at : List ℕ) → BeginsToken at → next at ≡ at
+pub at_token : (at : List ℕ) → BeginsToken at → next at ≡ at
 at_token [] h = refl
 at_token (b ∷ []) h = ap (λ s. if s then [] else if (b == 45) && false then [] else b ∷ []) h ∙ alone (b == 45)
   where

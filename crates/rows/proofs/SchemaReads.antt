@@ -8,11 +8,12 @@ use Rattle.values.specs.declared.table.Table.{Table}
 use Rattle.rows.specs.declared.declaration.Declaration.{Declaration}
 use Rattle.rows.specs.declared.schema_reading.SchemaFault.{SchemaFault}
 use Rattle.rows.specs.declared.schema_reading.SchemaFault.TheVariants.{Syntax, BadTable}
+use Rattle.tokens.specs.Place.{TokenAt}
 use Rattle.tokens.specs.Token.{Read}
 use Rattle.rows.specs.Declaration.{creates_at}
 use Rattle.rows.specs.SchemaTable.{next_table, tables_from, read_schema}
-use Rattle.rows.specs.SchemaGrammar.{SchemaText}
-use Rattle.rows.specs.SchemaGrammarLaws.{HasSyntaxFault, OfTheGrammar, SaysNothing, TheGrammarIsRead, TextsSayOneThing, OnlyTheGrammarIsRead, TokenAt, FaultsAreAtTokens}
+use Rattle.rows.specs.SchemaGrammar.{BeginsToken}
+use Rattle.rows.specs.SchemaGrammarLaws.{HasSyntaxFault, OfTheGrammar, SaysNothing, TheGrammarIsRead, TextsSayOneThing, OnlyTheGrammarIsRead, FaultsAreAtTokens}
 use Rattle.rows.specs.GoodTablesLaws.{GoodTextsAreRead, SaysSchema, OnlySchemasAreRead}
 use Rattle.rows.proofs.SchemaSays.{of_the_grammar}
 use Rattle.rows.proofs.SchemaWhole.{text_read}
@@ -106,7 +107,7 @@ at_tokens text n h e = by_reading (creates_at text) refl (sym (ap (λ t. if t th
     told : (at front : List ℕ) → length text ≡ length (front ++ at) → length text - length at ≡ n → n ≡ length front
     told at front whole e = omega (arith, whole, e, length-append front at)
 
-    by_reading : (r : Read (List Declaration)) → creates_at text ≡ r → read_as text r ≡ Err (Syntax n) → TokenAt text n
+    by_reading : (r : Read (List Declaration)) → creates_at text ≡ r → read_as text r ≡ Err (Syntax n) → TokenAt BeginsToken text n
     by_reading (Ok ds) at e = absurd (no_syntax ds.0 [] n e)
     by_reading (Err at) is e =
         let p = (creates_stop text).stopped at is in

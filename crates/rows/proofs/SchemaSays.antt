@@ -109,7 +109,7 @@ primary_key_says x bytes rest e =
     let a = over_to (word_at (codes "PRIMARY") bytes) _ rest e in
     (a.value, (a.after, (word_says (codes "PRIMARY") a.value bytes a.after a.first, word_says (codes "KEY") x a.after rest a.second)))
 
-mark_says : (m : Mark) (bytes rest : List ℕ) → mark_at bytes ≡ Ok (m, rest) → MarkWords m bytes rest
+pub mark_says : (m : Mark) (bytes rest : List ℕ) → mark_at bytes ≡ Ok (m, rest) → MarkWords m bytes rest
 unfolding mark_at
 mark_says m bytes rest e = elim (either (is_word_at (codes "NOT") bytes) _ _ _ e) [
   | inl w ↦ let a = over (not_null_at bytes) _ m rest w.1 in inl (a.value, (a.after, (not_null_says a.value bytes a.after a.first, same_read NotNull m a.after rest a.second)))

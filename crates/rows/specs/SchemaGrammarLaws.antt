@@ -1,9 +1,10 @@
 -- What is read of the texts of the grammar.
-use Rattle.std.specs.Prelude.{◌≡◌, ℕ, ◌<◌, ◌≤◌, List, [], ◌++◌, ◌⊎◌, ◌↔◌, Result, Ok, Err, length}
+use Rattle.std.specs.Prelude.{◌≡◌, ℕ, ◌<◌, ◌≤◌, List, [], ◌∷◌, ◌++◌, ◌⊎◌, ◌↔◌, Result, Ok, Err, length}
 use Rattle.values.specs.Tables.{Schema}
 use Rattle.rows.specs.declared.schema_reading.SchemaFault.{SchemaFault}
 use Rattle.rows.specs.declared.schema_reading.SchemaFault.TheVariants.{Syntax}
 use Rattle.rows.specs.declared.declaration.Declaration.{Declaration}
+use Rattle.tokens.specs.Place.{TokenAt, IsToken}
 use Rattle.rows.specs.SchemaTable.{longest_text, tables_from, read_schema}
 use Rattle.rows.specs.SchemaToken.{symbol_at, word_at, name_at, digits_at}
 use Rattle.rows.specs.SchemaGrammar.{BeginsToken, Symbol, Word, Name, Digits, SchemaText}
@@ -55,19 +56,11 @@ OnlyTheGrammarIsRead =
     → HasSyntaxFault (read_schema text)
     ↔ ((longest_text < length text) ⊎ SaysNothing text)
 
--- at the byte a token begins, or the text ends
-pub record TokenAt (text : List ℕ) (n : ℕ) : Type 0 where
-  pub before : List ℕ
-  pub from : List ℕ
-  pub place : text ≡ before ++ from
-  pub counted : n ≡ length before
-  pub begins : BeginsToken from
-
 -- a fault of syntax in a text that is short enough is told at a token or at the end
 abbrev pub FaultsAreAtTokens : Type 0
 FaultsAreAtTokens =
     (text : List ℕ) (n : ℕ) → length text ≤ longest_text → read_schema text ≡ Err (Syntax n)
-    → TokenAt text n
+    → TokenAt BeginsToken text n
 
 -- in a text that is short enough the bytes before a fault of syntax can go on to a text of the grammar
 abbrev pub FrontsGoOn : Type 0
@@ -75,3 +68,18 @@ FrontsGoOn =
     (before rest : List ℕ) → length (before ++ rest) ≤ longest_text
     → read_schema (before ++ rest) ≡ Err (Syntax (length before))
     → (more : List ℕ) × ((declarations : List Declaration) × SchemaText declarations (before ++ more))
+
+-- a token by its first byte and the others, before the rest: it is whole, and no gap comes first
+pub record Stands (first : ℕ) (others rest : List ℕ) : Type 0 where
+  pub token : IsToken first others rest
+  pub begins : BeginsToken (first ∷ (others ++ rest))
+
+-- with the token at a fault of syntax, in a text that is short enough, no bytes after it make a text
+-- of the grammar of it and the bytes before it
+abbrev pub FaultsAreFinal : Type 0
+FaultsAreFinal =
+    (before : List ℕ) (first : ℕ) (others rest : List ℕ) → Stands first others rest
+    → length (before ++ first ∷ (others ++ rest)) ≤ longest_text
+    → read_schema (before ++ first ∷ (others ++ rest)) ≡ Err (Syntax (length before))
+    → (other : List ℕ) → Stands first others other
+    → SaysNothing (before ++ first ∷ (others ++ other))

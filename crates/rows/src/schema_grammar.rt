@@ -1,5 +1,5 @@
 //! Laws of the grammar of schemas, which knows nothing of reading.
-ghost use Rattle.rows.specs.SchemaGrammarLaws.{WhatIsReadIsOfTheGrammar, TokensAreRead, TheGrammarIsRead, TextsSayOneThing, OnlyTheGrammarIsRead, FaultsAreAtTokens, FrontsGoOn};
+ghost use Rattle.rows.specs.SchemaGrammarLaws.{WhatIsReadIsOfTheGrammar, TokensAreRead, TheGrammarIsRead, TextsSayOneThing, OnlyTheGrammarIsRead, FaultsAreAtTokens, FrontsGoOn, FaultsAreFinal};
 
 /// Where the reading of a schema finds no fault of syntax, the text is of the grammar.
 pub fn schemas_are_of_the_grammar()
@@ -8,12 +8,17 @@ pub fn schemas_are_of_the_grammar()
 {}
 
 /// Every text of the grammar of at most 65,536 bytes is read, as the one thing that it says; a fault of syntax is found
-/// in all others and in no such text. It is reported where a token begins or the text ends, and the bytes before it can
-/// go on to a text of the grammar.
+/// in all others and in no such text. It is reported where a token begins or the text ends.
 pub fn the_grammar_is_read()
     ensures read { TheGrammarIsRead }
     ensures one_thing { TextsSayOneThing }
     ensures only { OnlyTheGrammarIsRead }
     ensures at_tokens { FaultsAreAtTokens }
+{}
+
+/// Where a fault of syntax is reported, the bytes before it can go on to a text of the grammar. With the token at the
+/// fault they cannot.
+pub fn faults_are_final()
     ensures goes_on { FrontsGoOn }
+    ensures no_more { FaultsAreFinal }
 {}

@@ -1,4 +1,5 @@
 pub mod Name
+pub mod Place
 pub mod Run
 pub mod Token
 pub mod Word

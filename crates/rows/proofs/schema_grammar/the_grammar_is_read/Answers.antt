@@ -1,6 +1,5 @@
-use Rattle.rows.proofs.SchemaGoes as goes
 use Rattle.rows.proofs.SchemaReads as reads
 use Rattle.rows.proofs.schema_grammar.the_grammar_is_read.Goals as goal
 
 pub returns : goal.returns
-returns c = record { read = reads.read; one_thing = reads.one_thing; only = reads.only; at_tokens = reads.at_tokens; goes_on = goes.fronts_go_on }
+returns c = record { read = reads.read; one_thing = reads.one_thing; only = reads.only; at_tokens = reads.at_tokens }
