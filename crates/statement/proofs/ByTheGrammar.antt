@@ -8,12 +8,13 @@ use Rattle.values.specs.declared.refusal.Refusal.TheVariants.{Syntax}
 use Rattle.statement.specs.declared.line.Line.{Line}
 use Rattle.statement.specs.declared.line.Line.TheVariants.{Nothing}
 use Rattle.statement.specs.declared.line.Written.{Written}
+use Rattle.tokens.specs.Place.{TokenAt}
 use Rattle.tokens.specs.Token.{Read}
 use Rattle.statement.specs.Token.{is_blank, next}
 use Rattle.statement.specs.Line.{is_nothing, written_at, meaning_of, body_says}
 use Rattle.tokens.specs.Run.{Ends}
 use Rattle.statement.specs.Grammar.{Blanks, IsNothing, IsLine}
-use Rattle.statement.specs.GrammarLaws.{LinesAreRead, LinesSayOneThing, NothingIsRead, IsRefused, OnlyLinesAreRead, TokenAt, FaultsAreAtTokens}
+use Rattle.statement.specs.GrammarLaws.{LinesAreRead, LinesSayOneThing, NothingIsRead, IsRefused, OnlyLinesAreRead, FaultsAreAtTokens}
 use Rattle.statement.proofs.Gaps.{blanks_before, next_is}
 use Rattle.statement.proofs.Sound.{same_byte}
 use Rattle.std.proofs.lemmas.List.{length-append}
@@ -96,12 +97,12 @@ module _ (schema : Schema) where
       told : (at front : List ℕ) → length bytes ≡ length (front ++ at) → length bytes - length at ≡ byte → byte ≡ length front
       told at front whole e = omega (arith, whole, e, length-append front at)
 
-      by_read : (r : Read Written) → written_at schema bytes ≡ r → answered reading bytes r ≡ Err (Syntax byte) → TokenAt bytes byte
+      by_read : (r : Read Written) → written_at schema bytes ≡ r → answered reading bytes r ≡ Err (Syntax byte) → TokenAt (Ends is_blank) bytes byte
       by_read (Ok x) at e = absurd (never_syntax schema reading x.0 byte e)
       by_read (Err at) at_is e =
           let r = stopped_at (written_stops schema bytes) at_is in
           record { before = r.ended.front; from = at; place = r.ended.place; counted = told at r.ended.front (ap length r.ended.place) (ap number e); begins = r.begins }
 
-      by_test : (t : Bool) → (if t then Ok Nothing else answered reading bytes (written_at schema bytes)) ≡ Err (Syntax byte) → TokenAt bytes byte
+      by_test : (t : Bool) → (if t then Ok Nothing else answered reading bytes (written_at schema bytes)) ≡ Err (Syntax byte) → TokenAt (Ends is_blank) bytes byte
       by_test true e = let no : ◌≡◌ {A = Result Line Refusal} (Ok Nothing) (Err (Syntax byte)) = e in cc
       by_test false e = by_read (written_at schema bytes) refl e

@@ -1,6 +1,6 @@
 -- Reading stops at a token, and the bytes before it can go on to one: tokens and literals.
 use Rattle.std.proofs.Common.{◌≡◌, ℕ, ◌≤◌, Bool, true, false, List, [], ◌∷◌, ◌++◌, Ok, Err, Some, None, refl, arith, drop}
-use Rattle.std.specs.Prelude.{ℤ, Option, ◌==◌, ◌-◌, if◌then◌else◌, codes}
+use Rattle.std.specs.Prelude.{ℤ, Option, ◌==◌, if◌then◌else◌, codes}
 use Rattle.std.specs.Char.{is_ascii_digit}
 use Rattle.std.specs.Str.{is_utf8}
 use Rattle.std.proofs.lemmas.Bool.{and_parts}

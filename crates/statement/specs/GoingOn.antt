@@ -1,23 +1,20 @@
 -- What a line cannot go on with, and what it can.
-use Rattle.std.specs.Prelude.{◌≡◌, ℕ, List, [], ◌∷◌, ◌++◌, ◌⊎◌, true, false, Err, length}
+use Rattle.std.specs.Prelude.{◌≡◌, ℕ, List, ◌∷◌, ◌++◌, false, Err, length}
 use Rattle.values.specs.Tables.{Schema}
 use Rattle.values.specs.declared.refusal.Refusal.TheVariants.{Syntax}
-use Rattle.tokens.specs.Run.{AllBytes, Ends}
-use Rattle.tokens.specs.Word.{is_name_byte}
+use Rattle.tokens.specs.Place.{IsToken}
 use Rattle.statement.specs.declared.line.Written.{Written}
 use Rattle.statement.specs.Token.{is_blank}
 use Rattle.statement.specs.Line.{body_says}
 use Rattle.statement.specs.Grammar.{IsLine}
 
--- a token by its first byte and the others, before the rest: letters, digits and underscores, as
--- many as come, or one other byte, which is no blank, no minus and no quote
+-- a token by its first byte and the others, before the rest; the first is no blank, no minus and no
+-- quote
 pub record Plain (first : ℕ) (others rest : List ℕ) : Type 0 where
   pub no_blank : is_blank first ≡ false
   pub no_minus : first ≡ 45 → ⊥
   pub no_quote : first ≡ 39 → ⊥
-  pub run :
-      ((is_name_byte first ≡ true) × (AllBytes is_name_byte others × Ends is_name_byte rest))
-      ⊎ ((is_name_byte first ≡ false) × (others ≡ []))
+  pub token : IsToken first others rest
 
 -- where a fault of syntax is reported at such a token, no bytes after the token make a line of the
 -- grammar of it and the bytes before it

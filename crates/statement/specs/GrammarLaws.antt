@@ -7,6 +7,7 @@ use Rattle.values.specs.Tables.{Schema}
 use Rattle.values.specs.declared.refusal.Refusal.TheVariants.{Syntax}
 use Rattle.statement.specs.declared.line.Line.TheVariants.{Nothing}
 use Rattle.statement.specs.declared.line.Written.{Written}
+use Rattle.tokens.specs.Place.{TokenAt}
 use Rattle.tokens.specs.Run.{Ends}
 use Rattle.statement.specs.Token.{is_blank}
 use Rattle.statement.specs.Line.{before_feed, body_of, meaning_of, body_says}
@@ -47,19 +48,11 @@ module _ (schema : Schema) where
       → IsNothing bytes
       ⊎ (((written : Written) × IsLine schema written bytes) ⊎ IsRefused reading bytes)
 
--- at the byte a token begins, or the bytes end
-pub record TokenAt (bytes : List ℕ) (byte : ℕ) : Type 0 where
-  pub before : List ℕ
-  pub from : List ℕ
-  pub place : bytes ≡ before ++ from
-  pub counted : byte ≡ length before
-  pub begins : Ends is_blank from
-
 -- a fault of syntax is reported where a token begins, or at the line's end
 abbrev pub FaultsAreAtTokens : Schema → Type 0
 FaultsAreAtTokens schema =
     (reading : ℕ) (bytes : List ℕ) (byte : ℕ) → body_says schema reading bytes ≡ Err (Syntax byte)
-    → TokenAt bytes byte
+    → TokenAt (Ends is_blank) bytes byte
 
 -- the bytes do not end with this one
 abbrev pub EndsOtherwise : ℕ → List ℕ → Type 0

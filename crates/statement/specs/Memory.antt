@@ -1,5 +1,5 @@
 -- Where memory can run out, and which lines take none to be read.
-use Rattle.std.specs.Prelude.{◌≡◌, ℕ, ◌^◌, ◌-◌, ◌||◌, List, Bool, true, false, Result, Ok, Err, IsTrue, IfErr, codes}
+use Rattle.std.specs.Prelude.{◌≡◌, ℕ, ◌^◌, ◌-◌, ◌||◌, List, Bool, true, false, Result, Ok, Err, codes}
 use Rattle.std.specs.Result.{is_ok}
 use Rattle.std.specs.Borrow.{Bor}
 use Rattle.values.specs.declared.refusal.Refusal.{Refusal}

@@ -24,10 +24,10 @@ module _ (p : ℕ → Bool) (b : ℕ) (bs : List ℕ) where
   front_none : p b ≡ false → front_while p (b ∷ bs) ≡ []
   front_none is = ap (λ t. take (cond t (1 + prefix_len p bs) 0) (b ∷ bs)) is
 
-  skip_more : p b ≡ true → skip_while p (b ∷ bs) ≡ skip_while p bs
+  pub skip_more : p b ≡ true → skip_while p (b ∷ bs) ≡ skip_while p bs
   skip_more is = ap (λ t. drop (cond t (1 + prefix_len p bs) 0) (b ∷ bs)) is ∙ ap (λ (n : ℕ). drop n (b ∷ bs)) (one_more (prefix_len p bs))
 
-  skip_none : p b ≡ false → skip_while p (b ∷ bs) ≡ b ∷ bs
+  pub skip_none : p b ≡ false → skip_while p (b ∷ bs) ≡ b ∷ bs
   skip_none is = ap (λ t. drop (cond t (1 + prefix_len p bs) 0) (b ∷ bs)) is
 
 pub skip_within : (p : ℕ → Bool) (bs : List ℕ) → length (skip_while p bs) ≤ length bs
@@ -93,18 +93,18 @@ module _ (w : Texts) where
   TokenSame (Err a) (Ok n) = ⊥
   TokenSame (Err a) (Err c) = Unit {0}
 
-  pub record Tokens (r u : After) : Type 0 where
+  pub record SameToken (r u : After) : Type 0 where
     pub it : TokenSame r u
 
   -- a token of both texts, or what comes after the one at which they part
   pub record GoodToken (R : List ℕ → After) : Type 0 where
     pub leaves : (bytes : List ℕ) → WithinAfter w bytes (R bytes)
-    pub alike : (a c : List ℕ) → Near w (w.next a) (w.next c) → Tokens (R a) (R c)
+    pub alike : (a c : List ℕ) → Near w (w.next a) (w.next c) → SameToken (R a) (R c)
 
   pub good_by : (R : List ℕ → After) → GoodToken R → GoodAfter w R
   good_by R g = record { leaves = g.leaves; alike = λ a c near. elim (w.reaches a c near) [ inl here ↦ of_token (R a) (R c) (g.alike a c here) | inr less ↦ behind (R a) (R c) less (g.leaves a) ] }
     where
-      of_token : (r u : After) → Tokens r u → SameAfter w r u
+      of_token : (r u : After) → SameToken r u → SameAfter w r u
       of_token (Ok m) (Ok n) s = record { it = s.it }
       of_token (Ok m) (Err c) s = absurd s.it
       of_token (Err a) (Ok n) s = absurd s.it
@@ -121,7 +121,7 @@ module _ (w : Texts) where
       → ((m n : List ℕ) → Near w m n ⊎ IsPast w m → R a ≡ Ok m → R c ≡ Ok n → Same w (f (Ok m)) (g (Ok n))) → ((x y : List ℕ) → Same w (f (Err x)) (g (Err y))) → Same w (f (R a)) (g (R c))
   same_by R k a c near f g i both neither = elim (w.reaches a c near) [ inl here ↦ by_token (R a) (R c) refl refl (k.alike a c here) | inr less ↦ past w _ _ less i ]
     where
-      by_token : (r u : After) → R a ≡ r → R c ≡ u → Tokens r u → Same w (f r) (g u)
+      by_token : (r u : After) → R a ≡ r → R c ≡ u → SameToken r u → Same w (f r) (g u)
       by_token (Ok m) (Ok n) d e s = both m n s.it d e
       by_token (Ok m) (Err y) d e s = absurd s.it
       by_token (Err x) (Ok n) d e s = absurd s.it
@@ -164,15 +164,15 @@ module _ (w : Texts) where
       by_test true = record { it = left_of w bytes ds (omega (arith, h)) }
       by_test false = record { it = h }
 
-  symbol_same : (symbol : ℕ) (q : List ℕ) → Tokens (symbol_of symbol (q ++ w.first ∷ w.rest)) (symbol_of symbol (q ++ w.first ∷ w.other))
+  symbol_same : (symbol : ℕ) (q : List ℕ) → SameToken (symbol_of symbol (q ++ w.first ∷ w.rest)) (symbol_of symbol (q ++ w.first ∷ w.other))
   symbol_same symbol [] = by_test (w.first == symbol)
     where
-      by_test : (u : Bool) → Tokens (if u then Ok w.rest else Err (w.first ∷ w.rest)) (if u then Ok w.other else Err (w.first ∷ w.other))
+      by_test : (u : Bool) → SameToken (if u then Ok w.rest else Err (w.first ∷ w.rest)) (if u then Ok w.other else Err (w.first ∷ w.other))
       by_test true = record { it = inr (w.shorter w.rest) }
       by_test false = record { it = tt }
   symbol_same symbol (d ∷ q) = by_test (d == symbol)
     where
-      by_test : (u : Bool) → Tokens (if u then Ok (q ++ w.first ∷ w.rest) else Err (d ∷ (q ++ w.first ∷ w.rest))) (if u then Ok (q ++ w.first ∷ w.other) else Err (d ∷ (q ++ w.first ∷ w.other)))
+      by_test : (u : Bool) → SameToken (if u then Ok (q ++ w.first ∷ w.rest) else Err (d ∷ (q ++ w.first ∷ w.rest))) (if u then Ok (q ++ w.first ∷ w.other) else Err (d ∷ (q ++ w.first ∷ w.other)))
       by_test true = record { it = inl (record { front = q; left = refl; right = refl }) }
       by_test false = record { it = tt }
 
@@ -181,8 +181,8 @@ module _ (w : Texts) where
   good_symbol symbol = record {
     leaves = λ bytes. symbol_leaves symbol bytes (w.next bytes) (omega arith);
     alike = λ a c n.
-        subst (λ x. Tokens (symbol_of symbol x) (symbol_of symbol (w.next c))) (sym n.left)
-        (subst (λ x. Tokens (symbol_of symbol (n.front ++ w.first ∷ w.rest)) (symbol_of symbol x)) (sym n.right) (symbol_same symbol n.front));
+        subst (λ x. SameToken (symbol_of symbol x) (symbol_of symbol (w.next c))) (sym n.left)
+        (subst (λ x. SameToken (symbol_of symbol (n.front ++ w.first ∷ w.rest)) (symbol_of symbol x)) (sym n.right) (symbol_same symbol n.front));
   }
 
   -- ---- words and names
@@ -205,7 +205,7 @@ module _ (w : Texts) where
       leaves bytes false = record { it = omega arith }
 
       by_tests : (a c : List ℕ) → Near w (skip_while is_name_byte a) (skip_while is_name_byte c) ⊎ IsPast w (skip_while is_name_byte a) → (u v : Bool) → u ≡ v
-          → Tokens (if u then Ok (skip_while is_name_byte a) else Err a) (if v then Ok (skip_while is_name_byte c) else Err c)
+          → SameToken (if u then Ok (skip_while is_name_byte a) else Err a) (if v then Ok (skip_while is_name_byte c) else Err c)
       by_tests a c left true true e = record { it = left }
       by_tests a c left false false e = record { it = tt }
       by_tests a c left true false e = cc
