@@ -15,9 +15,7 @@ mod schema_token;
 pub use good_tables::good_tables_are_made;
 pub use sample::sample_is_a_schema;
 pub use schema::Schema;
-pub use schema_grammar::{
-    faults_are_final, schemas_are_of_the_grammar, the_grammar_is_read,
-};
+pub use schema_grammar::{faults_are_final, schemas_are_of_the_grammar, the_grammar_is_read};
 pub use schema_reading::{SAMPLE, SchemaFault};
 pub use values::{
     Chars, Column, ColumnNumber, ColumnType, Comparison, Event, Form, Instant, Key, KeyBytes, Keys,

@@ -4,7 +4,7 @@ use rows::Schema;
 use std::alloc::{AllocError, Global};
 use std::process::Abort;
 use std::test::Fail;
-use values::{Chars, Form, Operator, Refusal, Value};
+use values::{Comparison, Form, Instant, Keys, Operator, Refusal, Row, Rows, Value};
 
 /// Lines, and the byte of the first token that cannot stand.
 static WRONG_TOKENS: [(&str, usize); 183] = [
@@ -329,10 +329,6 @@ static KINDS: [(&str, &str); 26] = [
     ),
 ];
 
-fn chars(alloc: Global, text: &str) -> Result<Chars, AllocError> {
-    Ok(Chars::new(String::from_str(alloc, text)?))
-}
-
 const SCHEMA: &str = "CREATE TABLE emp (
   no INT PRIMARY KEY, name TEXT,
   s TIMESTAMP GENERATED ALWAYS AS ROW START, e TIMESTAMP GENERATED ALWAYS AS ROW END,
@@ -350,54 +346,117 @@ fn schema(rt: &impl Abort, alloc: Global) -> Schema {
     Schema::read(alloc, SCHEMA.as_bytes()).expect(rt, "it is a schema")
 }
 
-#[test]
-fn a_line_outside_the_grammar_names_its_first_wrong_byte(rt: HostRuntime) -> Result<(), Fail> {
-    let alloc = rt.alloc();
-    let schema = schema(&rt, alloc);
-    for (line, byte) in &WRONG_TOKENS {
-        let refusal = read_line(alloc, line.as_bytes(), &schema, 0).err();
-        assert_eq!(rt; refusal, Some(Refusal::Syntax(*byte)), "{line}");
+/// What a line says, in short.
+fn kind_of(line: &Line) -> &'static str {
+    match line {
+        Line::Nothing => "nothing",
+        Line::Clock(0) => "clock 0",
+        Line::Clock(_) => "clock",
+        Line::Step(Step::Begin(_)) => "begin",
+        Line::Step(Step::Insert(..)) => "insert",
+        Line::Step(Step::Update(..)) => "update",
+        Line::Step(Step::Delete(..)) => "delete",
+        Line::Step(Step::Select(_, Form::Plain, _)) => "select",
+        Line::Step(Step::Select(..)) => "select at an instant",
+        Line::Step(Step::Commit(1, 0)) => "commit at 0",
+        Line::Step(Step::Commit(1, 7)) => "commit at 7",
+        Line::Step(Step::Rollback(_)) => "rollback",
+        Line::Step(_) => "another",
     }
-    for (line, byte) in &WRONG_BYTES {
-        let refusal = read_line(alloc, line, &schema, 0).err();
-        assert_eq!(rt; refusal, Some(Refusal::Syntax(*byte)), "{line:?}");
+}
+
+/// The same of bytes, which may be refused.
+fn kind_at(alloc: Global, line: &[u8], schema: &Schema, reading: Instant) -> &'static str {
+    match read_line(alloc, line, schema, reading) {
+        Ok(line) => kind_of(&line),
+        Err(_) => "refused",
     }
-    Ok(())
+}
+
+/// Whether a line is refused so.
+fn is_refused(alloc: Global, line: &[u8], schema: &Schema, refusal: Refusal) -> bool {
+    match read_line(alloc, line, schema, 0) {
+        Ok(_) => false,
+        Err(answer) => answer == refusal,
+    }
 }
 
 #[test]
-fn a_line_that_does_not_fit_names_the_first_reason(rt: HostRuntime) -> Result<(), Fail> {
+fn a_line_outside_the_grammar_names_its_first_wrong_byte(rt: HostRuntime) {
+    let alloc = rt.alloc();
+    let schema = schema(&rt, alloc);
+    for (line, byte) in &WRONG_TOKENS {
+        let refused = is_refused(alloc, line.as_bytes(), &schema, Refusal::Syntax(*byte));
+        assert!(rt; refused, "{line}");
+    }
+    for (line, byte) in &WRONG_BYTES {
+        let refused = is_refused(alloc, line, &schema, Refusal::Syntax(*byte));
+        assert!(rt; refused, "{line:?}");
+    }
+}
+
+#[test]
+fn a_line_that_does_not_fit_names_the_first_reason(rt: HostRuntime) {
     let alloc = rt.alloc();
     let schema = schema(&rt, alloc);
     for line in &NO_SESSION {
-        let refusal = read_line(alloc, line.as_bytes(), &schema, 0).err();
-        assert_eq!(rt; refusal, Some(Refusal::NoSession), "{line}");
+        let refused = is_refused(alloc, line.as_bytes(), &schema, Refusal::NoSession);
+        assert!(rt; refused, "{line}");
     }
     for line in &NO_TABLE {
-        let refusal = read_line(alloc, line.as_bytes(), &schema, 0).err();
-        assert_eq!(rt; refusal, Some(Refusal::NoTable), "{line}");
+        let refused = is_refused(alloc, line.as_bytes(), &schema, Refusal::NoTable);
+        assert!(rt; refused, "{line}");
     }
     for (line, column) in &BAD_ROW {
-        let refusal = read_line(alloc, line.as_bytes(), &schema, 0).err();
-        assert_eq!(rt; refusal, Some(Refusal::BadRow(*column)), "{line}");
+        let refused = is_refused(alloc, line.as_bytes(), &schema, Refusal::BadRow(*column));
+        assert!(rt; refused, "{line}");
     }
-    Ok(())
+}
+
+/// A comparison with a text of so many bytes.
+fn compared(alloc: Global, bytes: usize) -> Result<String, AllocError> {
+    let text = "k".repeat(alloc, bytes)?;
+    format!(in alloc; "1: SELECT * FROM t WHERE k < '{text}'")
+}
+
+/// A row with a text of so many bytes in its key.
+fn inserted(alloc: Global, bytes: usize) -> Result<String, AllocError> {
+    let text = "k".repeat(alloc, bytes)?;
+    format!(in alloc; "1: INSERT INTO t VALUES ('{text}', 1, TRUE)")
+}
+
+/// Whether a line is read if its key fits, and else refused for the first column.
+fn key_is_told(alloc: Global, line: &[u8], schema: &Schema, fits: bool) -> bool {
+    if fits {
+        kind_at(alloc, line, schema, 0) != "refused"
+    } else {
+        is_refused(alloc, line, schema, Refusal::BadRow(1))
+    }
 }
 
 #[test]
 fn a_text_of_a_key_has_200_bytes_at_most(rt: HostRuntime) -> Result<(), Fail> {
     let alloc = rt.alloc();
     let schema = schema(&rt, alloc);
-    for (bytes, refusal) in [(200, None), (201, Some(Refusal::BadRow(1)))] {
-        let text = "k".repeat(alloc, bytes)?;
-        let compared = format!(in alloc; "1: SELECT * FROM t WHERE k < '{text}'")?;
-        let answer = read_line(alloc, compared.as_bytes(), &schema, 0).err();
-        assert_eq!(rt; answer, refusal, "{bytes}");
-        let inserted = format!(in alloc; "1: INSERT INTO t VALUES ('{text}', 1, TRUE)")?;
-        let answer = read_line(alloc, inserted.as_bytes(), &schema, 0).err();
-        assert_eq!(rt; answer, refusal, "{bytes}");
+    for (bytes, fits) in [(200, true), (201, false)] {
+        let line = compared(alloc, bytes)?;
+        assert!(rt;
+            key_is_told(alloc, line.as_bytes(), &schema, fits),
+            "{bytes}"
+        );
+        let line = inserted(alloc, bytes)?;
+        assert!(rt;
+            key_is_told(alloc, line.as_bytes(), &schema, fits),
+            "{bytes}"
+        );
     }
     Ok(())
+}
+
+/// A COMMIT after so many blanks.
+fn late_commit(alloc: Global, blanks: usize, end: &str) -> Result<String, AllocError> {
+    let blank = " ".repeat(alloc, blanks)?;
+    format!(in alloc; "1:{blank}COMMIT{end}")
 }
 
 #[test]
@@ -412,99 +471,110 @@ fn a_line_has_8192_bytes_at_most(rt: HostRuntime) -> Result<(), Fail> {
         (8185, "\n", true),
         (8185, "", true),
     ] {
-        let blank = " ".repeat(alloc, blanks)?;
-        let line = format!(in alloc; "1:{blank}COMMIT{end}")?;
-        match read_line(alloc, line.as_bytes(), &schema, 0) {
-            Ok(Line::Step(Step::Commit(1, 0))) => assert!(rt; !too_long, "{blanks}"),
-            answer => {
-                assert_eq!(rt; answer.err(), Some(Refusal::LineTooLong));
-                assert!(rt; too_long, "{blanks}");
-            }
-        }
+        let line = late_commit(alloc, blanks, end)?;
+        let line = line.as_bytes();
+        let is_read = kind_at(alloc, line, &schema, 0) == "commit at 0";
+        assert!(rt; is_read != too_long, "{blanks}");
+        assert!(rt;
+            is_refused(alloc, line, &schema, Refusal::LineTooLong) == too_long,
+            "{blanks}"
+        );
     }
     Ok(())
 }
 
-/// What a line says, in short.
-fn kind_of(line: &Line) -> &'static str {
-    match line {
-        Line::Nothing => "nothing",
-        Line::Clock(0) => "clock 0",
-        Line::Clock(_) => "clock",
-        Line::Step(Step::Begin(_)) => "begin",
-        Line::Step(Step::Insert(..)) => "insert",
-        Line::Step(Step::Update(..)) => "update",
-        Line::Step(Step::Delete(..)) => "delete",
-        Line::Step(Step::Select(_, Form::Plain, _)) => "select",
-        Line::Step(Step::Select(..)) => "select at an instant",
-        Line::Step(Step::Commit(_, 7)) => "commit at 7",
-        Line::Step(Step::Rollback(_)) => "rollback",
-        Line::Step(_) => "another",
-    }
-}
-
 #[test]
-fn lines_are_read_in_any_case_and_with_any_blanks(rt: HostRuntime) -> Result<(), Fail> {
+fn lines_are_read_in_any_case_and_with_any_blanks(rt: HostRuntime) {
     let alloc = rt.alloc();
     let schema = schema(&rt, alloc);
     for (line, kind) in &KINDS {
-        let read = read_line(alloc, line.as_bytes(), &schema, 7).ok();
-        assert_eq!(rt; read.as_ref().map(kind_of), Some(*kind), "{line}");
+        assert!(rt;
+            kind_at(alloc, line.as_bytes(), &schema, 7) == *kind,
+            "{line}"
+        );
     }
-    Ok(())
+}
+
+/// The rows of an INSERT, with its session and table.
+fn rows_of(alloc: Global, line: &[u8], schema: &Schema) -> Option<(u8, u8, Rows)> {
+    match read_line(alloc, line, schema, 0) {
+        Ok(Line::Step(Step::Insert(session, table, rows))) => Some((session, table, rows)),
+        _ => None,
+    }
+}
+
+fn has_values(row: &Row, text: &str, number: i64) -> bool {
+    match row.values() {
+        [Value::Text(first), Value::Int(second), Value::Null] => {
+            first.text() == text && *second == number
+        }
+        _ => false,
+    }
 }
 
 #[test]
-fn a_row_has_its_values_in_the_order_of_the_table(rt: HostRuntime) -> Result<(), Fail> {
+fn a_row_has_its_values_in_the_order_of_the_table(rt: HostRuntime) {
     let alloc = rt.alloc();
     let schema = schema(&rt, alloc);
     let line = "1: INSERT INTO t (n, k) VALUES (-9223372036854775808, ''''), (-0, 'O''Hara')";
-    let Ok(Line::Step(Step::Insert(1, 2, rows))) = read_line(alloc, line.as_bytes(), &schema, 0)
-    else {
-        return Err("no INSERT")?;
-    };
-    assert_eq!(rt; rows.items().len(), 2);
+    let (session, table, rows) = rows_of(alloc, line.as_bytes(), &schema).expect(
+        &rt,
+        "it is an INSERT",
+    );
+    assert!(rt; session == 1 && table == 2 && rows.items().len() == 2);
     for (row, (text, number)) in rows.items().iter().zip([("'", i64::MIN), ("O'Hara", 0)]) {
-        let values = [
-            Value::Text(chars(alloc, text)?),
-            Value::Int(number),
-            Value::Null,
-        ];
-        assert_eq!(rt; row.values(), values.as_slice());
+        assert!(rt; has_values(row, text, number), "{text}");
     }
-    Ok(())
+}
+
+/// The keys of a SELECT of the session 64.
+fn keys_of(alloc: Global, line: &[u8], schema: &Schema) -> Option<Keys> {
+    match read_line(alloc, line, schema, 0) {
+        Ok(Line::Step(Step::Select(64, Form::Plain, keys))) => Some(keys),
+        _ => None,
+    }
+}
+
+fn has_number(comparison: &Comparison, operator: Operator, number: i64) -> bool {
+    comparison.column == 2
+        && comparison.operator == operator
+        && comparison.value == Value::Int(number)
+}
+
+fn has_text(comparison: &Comparison, text: &str) -> bool {
+    match &comparison.value {
+        Value::Text(value) => {
+            comparison.column == 1 && comparison.operator == Operator::Equal && value.text() == text
+        }
+        _ => false,
+    }
 }
 
 #[test]
-fn comparisons_keep_their_operators(rt: HostRuntime) -> Result<(), Fail> {
+fn comparisons_keep_their_operators(rt: HostRuntime) {
     let alloc = rt.alloc();
     let schema = schema(&rt, alloc);
     let line = "64: SELECT * FROM t WHERE n=1 AND n<2 AND n<=3 AND n>4 AND n>=5 AND K = 'a'";
-    let Ok(Line::Step(Step::Select(64, Form::Plain, keys))) = read_line(
-        alloc,
-        line.as_bytes(),
-        &schema,
-        0,
-    ) else {
-        return Err("no SELECT")?;
-    };
+    let keys = keys_of(alloc, line.as_bytes(), &schema).expect(&rt, "it is a SELECT");
     let operators = [
-        (2, Operator::Equal, Value::Int(1)),
-        (2, Operator::Below, Value::Int(2)),
-        (2, Operator::AtMost, Value::Int(3)),
-        (2, Operator::Above, Value::Int(4)),
-        (2, Operator::AtLeast, Value::Int(5)),
-        (1, Operator::Equal, Value::Text(chars(alloc, "a")?)),
+        (Operator::Equal, 1),
+        (Operator::Below, 2),
+        (Operator::AtMost, 3),
+        (Operator::Above, 4),
+        (Operator::AtLeast, 5),
     ];
+    let comparisons = keys.comparisons.items();
     assert_eq!(rt; keys.table, 2);
-    assert_eq!(rt; keys.comparisons.items().len(), 6);
-    for (comparison, (column, operator, value)) in keys.comparisons.items().iter().zip(operators) {
-        assert_eq!(rt; comparison.column, column);
-        assert_eq!(rt; comparison.operator, operator);
-        assert_eq!(rt; comparison.value, value);
+    assert_eq!(rt; comparisons.len(), 6);
+    for (comparison, (operator, number)) in comparisons.iter().zip(operators) {
+        assert!(rt; has_number(comparison, operator, number), "{number}");
     }
-    Ok(())
+    assert!(rt; has_text(&comparisons[5], "a"));
 }
+
+const REST: &str =
+    "s TIMESTAMP GENERATED ALWAYS AS ROW START, e TIMESTAMP GENERATED ALWAYS AS ROW END, \
+    PERIOD FOR SYSTEM_TIME (s, e), PRIMARY KEY (c1)) WITH SYSTEM VERSIONING; ";
 
 /// Sixteen tables of sixteen columns each.
 fn widest_schema(alloc: Global) -> Result<String, AllocError> {
@@ -516,9 +586,7 @@ fn widest_schema(alloc: Global) -> Result<String, AllocError> {
             let column = format!(in alloc; "c{column} INT, ")?;
             text.push_str(&column)?;
         }
-        text.push_str("s TIMESTAMP GENERATED ALWAYS AS ROW START, ")?;
-        text.push_str("e TIMESTAMP GENERATED ALWAYS AS ROW END, ")?;
-        text.push_str("PERIOD FOR SYSTEM_TIME (s, e), PRIMARY KEY (c1)) WITH SYSTEM VERSIONING; ")?;
+        text.push_str(REST)?;
     }
     Ok(text)
 }
@@ -542,11 +610,11 @@ fn a_long_insert_into_a_wide_schema_is_never_out_of_memory(rt: HostRuntime) -> R
     let schema = Schema::read(alloc, text.as_bytes()).expect(&rt, "it is a schema");
     assert_eq!(rt; schema.tables().len(), 16);
     let line = longest_insert(alloc, 101)?;
-    let Ok(Line::Step(Step::Insert(64, 16, rows))) = read_line(alloc, line.as_bytes(), &schema, 0)
-    else {
-        return Err("no INSERT")?;
-    };
-    assert_eq!(rt; rows.items().len(), 101);
+    let (session, table, rows) = rows_of(alloc, line.as_bytes(), &schema).expect(
+        &rt,
+        "it is an INSERT",
+    );
+    assert!(rt; session == 64 && table == 16 && rows.items().len() == 101);
     Ok(())
 }
 
@@ -556,7 +624,7 @@ fn a_line_without_a_step_is_never_out_of_memory(rt: HostRuntime) {
     let schema = schema(&rt, alloc);
     for line in ["clock: 0", "CLOCK:0\n", "", "-- a comment\n"] {
         assert!(rt;
-            read_line(alloc, line.as_bytes(), &schema, 0).is_ok(),
+            kind_at(alloc, line.as_bytes(), &schema, 0) != "refused",
             "{line}"
         );
     }
