@@ -1,21 +1,33 @@
 -- What a run of the program leaves, by its words, its standard input and its standard output.
-use Rattle.std.specs.Prelude.{◌≡◌, ◌≢◌, ◌⊎◌, ℕ, List, [], Option, Some, None, Ok, codes}
+use Rattle.std.specs.Prelude.{◌≡◌, ◌≢◌, ◌⊎◌, ℕ, List, [], Option, Some, None, Ok, Err, codes}
 use Rattle.std.specs.Io.KnownBytes.{Keeps}
 use Rattle.clap.specs.Words.{Text}
 use Rattle.rows.specs.Sample.{sample}
 use Rattle.rows.specs.SchemaTable.{read_schema}
 use Rattle.rows.specs.declared.schema.Schema.{Schema}
+use Rattle.rows.specs.declared.schema_reading.SchemaFault.TheVariants as schema
 use Rattle.statement.specs.Line.{line_says}
 use Rattle.scripts.specs.Script.{IsIdle}
 use Rattle.scripts.specs.Transcript.{IsTranscript, IsCut, IsStopped}
 use Rattle.tsvd.specs.declared.fault.Fault.{Fault}
-use Rattle.tsvd.specs.declared.fault.Fault.TheVariants.{Read, Write}
+use Rattle.tsvd.specs.declared.fault.Fault.TheVariants.{SchemaSyntax, BadTable, SchemaMemory, Read, Write}
 use Rattle.tsvd.specs.Words.{faults, text_of}
 
 -- the sample schema, or where a file is named the schema of some text
 abbrev pub IsSchemaOf : Option Text → Schema → Type 0
 IsSchemaOf None schema = schema ≡ sample
 IsSchemaOf (Some file) schema = (text : List ℕ) × (read_schema text ≡ Ok schema)
+
+-- why there is no such schema: memory ran out; or where a file is named it could not be read, or some
+-- text has this fault
+abbrev pub IsOfSchema : Option Text → Fault → Type 0
+IsOfSchema file SchemaMemory = Unit {0}
+IsOfSchema (Some file) Read = Unit {0}
+IsOfSchema (Some file) (SchemaSyntax at) =
+    (text : List ℕ) × (read_schema text ≡ Err (schema.Syntax at))
+IsOfSchema (Some file) (BadTable number) =
+    (text : List ℕ) × (read_schema text ≡ Err (schema.BadTable number))
+IsOfSchema file fault = ⊥
 
 -- a script was run to its end: standard input, or where a file is named some text, and nothing of
 -- standard input was read

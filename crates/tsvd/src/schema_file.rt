@@ -1,8 +1,9 @@
 //! The schema that the words ask for.
-ghost use Rattle.std.specs.Prelude.{◌≡◌, ℕ, List, IfOk, IfErr, Ok, false, option_map};
+ghost use Rattle.std.specs.Prelude.{◌≡◌, ℕ, List, IfOk, IfErr, Some, Ok, false, option_map};
+ghost use Rattle.clap.specs.Words.{Text};
 ghost use Rattle.rows.specs.SchemaTable.{read_schema};
 ghost use Rattle.tsvd.specs.Fault.{is_of_words};
-ghost use Rattle.tsvd.specs.Program.{IsSchemaOf};
+ghost use Rattle.tsvd.specs.Program.{IsSchemaOf, IsOfSchema};
 
 use crate::fault::{Fault, schema_fault};
 use rows::Schema;
@@ -19,6 +20,8 @@ pub fn schema_of<R: AllocGlobal + Files>(rt: &R, file: Option<&str>) -> Result<S
     ensures ok { IfOk result (λ schema.
         IsSchemaOf (option_map (λ text. text.now) file.entry) schema) }
     ensures err { IfErr result (λ fault. is_of_words fault ≡ false) }
+    ensures why { IfErr result (λ fault.
+        IsOfSchema (option_map (λ text. text.now) file.entry) fault) }
 {
     match file {
         Some(path) => read_file(rt, path),
@@ -33,6 +36,7 @@ pub fn schema_of<R: AllocGlobal + Files>(rt: &R, file: Option<&str>) -> Result<S
 fn read_file<R: AllocGlobal + Files>(rt: &R, path: &str) -> Result<Schema, Fault>
     ensures ok { IfOk result (λ schema. (text : List ℕ) × (read_schema text ≡ Ok schema)) }
     ensures err { IfErr result (λ fault. is_of_words fault ≡ false) }
+    ensures why { IfErr result (λ fault. IsOfSchema (Some path.now) fault) }
 {
     let text = match read_front(rt, path) {
         Ok(text) => text,
@@ -52,7 +56,8 @@ fn read_front<R: AllocGlobal + Files>(rt: &R, path: &str) -> io::Result<Vec<u8>>
 }
 
 fn file_fault(error: &io::Error) -> Fault
-    ensures { is_of_words result ≡ false }
+    ensures other { is_of_words result ≡ false }
+    ensures why { (file : Text) → IsOfSchema (Some file) result }
 {
     match error.kind() {
         ErrorKind::OutOfMemory => Fault::SchemaMemory,
