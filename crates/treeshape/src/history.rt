@@ -1,6 +1,7 @@
 //! A history, line by line: commits of one event, and splits.
 use std::alloc::Global;
 use std::io;
+use std::io::Write;
 use thiserror::Error;
 use tsbtree::Tree;
 use values::{Event, Instant, Key, KeyBytes, LAST, Mem, Refusal, Row, Value, Values, key_bytes};
@@ -38,16 +39,18 @@ enum Step {
     Key(i64),
     /// The current data node of a key is split at an instant.
     Time(i64, Instant),
+    /// A key's row at an instant is looked up.
+    Get(i64, Instant),
 }
 
-/// The tree that a history leaves.
-pub fn tree_after(alloc: Global, text: &str) -> Result<Tree, HistoryFault> {
+/// The tree that a history leaves. Each look-up is told in a line: whether there is a row, and how many nodes it visited.
+pub fn tree_after<W: Write>(alloc: Global, text: &str, out: &mut W) -> Result<Tree, HistoryFault> {
     let mut tree = Tree::new(alloc)?;
     for (line, number) in text.lines().zip(1..usize::MAX) {
         let Some(step) = step_of(line) else {
             return Err(HistoryFault::Line(number));
         };
-        if !take(alloc, &mut tree, step)? {
+        if !take(alloc, &mut tree, step, out)? {
             return Err(HistoryFault::Line(number));
         }
     }
@@ -68,24 +71,36 @@ fn step_of(line: &str) -> Option<Step> {
         ("delete", Some(instant)) => Some(Step::Delete(key, instant)),
         ("key", None) => Some(Step::Key(key)),
         ("time", Some(instant)) => Some(Step::Time(key, instant)),
+        ("get", Some(instant)) => Some(Step::Get(key, instant)),
         _ => None,
     }
 }
 
 /// Takes a step; false where a commit is not after the last one. A split that the rules do not allow does nothing.
-fn take(alloc: Global, tree: &mut Tree, step: Step) -> Mem<bool> {
+fn take<W: Write>(
+    alloc: Global,
+    tree: &mut Tree,
+    step: Step,
+    out: &mut W,
+) -> Result<bool, HistoryFault> {
     match step {
         Step::Put(key, instant) => {
-            let row = Row::new(vec![in alloc; Value::Int(1)]?);
-            commit(alloc, tree, key, instant, row)
+            let row = row(alloc)?;
+            Ok(commit(alloc, tree, key, instant, row)?)
         }
-        Step::Delete(key, instant) => commit(alloc, tree, key, instant, None),
+        Step::Delete(key, instant) => Ok(commit(alloc, tree, key, instant, None)?),
         Step::Key(key) => {
             tree.key_split(&bytes_of(alloc, key)?)?;
             Ok(true)
         }
         Step::Time(key, instant) => {
             tree.time_split(&bytes_of(alloc, key)?, instant)?;
+            Ok(true)
+        }
+        Step::Get(key, instant) => {
+            let (row, visits) = tree.current().get(&bytes_of(alloc, key)?, instant)?;
+            let found = if row.is_some() { "row" } else { "none" };
+            writeln!(out, "get {key} {instant} {found} {visits}")?;
             Ok(true)
         }
     }
@@ -109,6 +124,11 @@ fn commit(
     changes.push(event)?;
     tree.apply(at, changes)?;
     Ok(true)
+}
+
+/// A row of one number.
+fn row(alloc: Global) -> Mem<Option<Row>> {
+    Ok(Row::new(vec![in alloc; Value::Int(1)]?))
 }
 
 fn bytes_of(alloc: Global, number: i64) -> Mem<KeyBytes> {

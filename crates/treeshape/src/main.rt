@@ -24,8 +24,8 @@ fn main(rt: HostRuntime) -> ExitCode {
 fn run(rt: &HostRuntime) -> Result<(), HistoryFault> {
     let mut text = String::new(rt.alloc());
     rt.stdin().read_to_string(&mut text)?;
-    let tree = tree_after(rt.alloc(), &text)?;
     let mut out = BufWriter::new(rt.alloc(), rt.stdout())?;
+    let tree = tree_after(rt.alloc(), &text, &mut out)?;
     print_shape(rt.alloc(), &tree, &mut out)?;
     Ok(())
 }
