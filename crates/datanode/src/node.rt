@@ -145,7 +145,9 @@ impl DataNode {
         ensures ok { IfOk result (λ n. n ≡ self.now) }
         ensures err { OnlyMemory result }
     {
-        self.part(self.rect.copy()?)
+        let rect = self.rect.copy()?;
+        let events = shares_of(self.alloc, &self.events)?;
+        Ok(node_of(self.alloc, rect, events))
     }
 
     /// The node of a rectangle inside this one, of which no event is copied.
@@ -177,6 +179,18 @@ fn node_of(alloc: Global, rect: Rect, events: Vec<SharedEvent>) -> DataNode
         rect,
         events,
     }
+}
+
+/// The same events, of which none is copied.
+fn shares_of(alloc: Global, events: &[SharedEvent]) -> Mem<Vec<SharedEvent>>
+    ensures ok { IfOk result (λ v. v.items ≡ events.now) }
+    ensures err { OnlyMemory result }
+{
+    let mut shares = Vec::with_capacity(alloc, events.len())?;
+    for event in events {
+        shares.push(event.share()?)?;
+    }
+    Ok(shares)
 }
 
 /// Puts an event in its place, or in that of the carried event of its key.
