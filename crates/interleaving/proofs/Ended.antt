@@ -24,7 +24,8 @@ use Rattle.values.proofs.Latest.{Upto, latest, point}
 use Rattle.values.proofs.Sorted.{sorted_from}
 use Rattle.values.proofs.Upto.{late_put}
 use Rattle.eventlist.proofs.PutPlaced.{all_put}
-use Rattle.staging.specs.View.{Committed, events, last, Holds, Adds}
+use Rattle.tsbtree.specs.View.{TreeState, events, last}
+use Rattle.staging.specs.View.{Holds, Adds}
 use Rattle.staging.specs.Own.{rows_seen, net_over}
 use Rattle.transaction.specs.TransactionState.{TransactionState}
 use Rattle.histories.specs.declared.step.Reply.{Reply}
@@ -92,7 +93,7 @@ more_upto : (n t : ℕ) (es : List Event) → n ≤ t → AllByRecursion (λ e. 
 more_upto n t [] le h = tt
 more_upto n t (e ∷ es) le h = (let first : e.at ≤ n = h.0 in omega arith, more_upto n t es le h.1)
 
-module _ (schema : Schema) (engine new : Committed) (held : Holds schema engine (changes_in schema (events engine))) (net : Net) (instant : ℕ)
+module _ (schema : Schema) (engine new : TreeState) (held : Holds schema engine (changes_in schema (events engine))) (net : Net) (instant : ℕ)
     (adds : Adds instant net engine new) (holds : Holds schema new (add_net instant (changes_in schema (events engine)) net)) where
   abbrev old : Changes
   old = changes_in schema (events engine)
@@ -114,21 +115,21 @@ module _ (schema : Schema) (engine new : Committed) (held : Holds schema engine 
     keys = h.keys;
   }
 
-all_open : (schema : Schema) (engine new : Committed) (sessions : List (Option TransactionState)) → ((o : Option TransactionState) → IsOpen schema engine o → IsOpen schema new o) → AllByRecursion (IsOpen schema engine) sessions → AllByRecursion (IsOpen schema new) sessions
+all_open : (schema : Schema) (engine new : TreeState) (sessions : List (Option TransactionState)) → ((o : Option TransactionState) → IsOpen schema engine o → IsOpen schema new o) → AllByRecursion (IsOpen schema engine) sessions → AllByRecursion (IsOpen schema new) sessions
 all_open schema engine new [] f h = tt
 all_open schema engine new (o ∷ sessions) f h = (f o h.0, all_open schema engine new sessions f h.1)
 
 -- ---- how a transaction ends
 
 -- what the engine is left as, where a commit answers so
-pub record IsEnded (engine new : Committed) (net : Net) (r : Result (Option ℕ) Refusal) : Type 0 where
+pub record IsEnded (engine new : TreeState) (net : Net) (r : Result (Option ℕ) Refusal) : Type 0 where
   pub committed : IfOk r (λ end. IfSome end (λ instant. Adds instant net engine new))
   pub holds : IfOk r (λ end. IfSome end (λ instant. (schema : Schema) (m : Changes) → Holds schema engine m → AreKeysIn schema net → Holds schema new (add_net instant m net)))
   pub late : IfOk r (λ end. IfSome end (λ instant. last engine < instant))
   pub nothing : IfOk r (λ end. IfNone end (new ≡ engine))
   pub refused : OnErr r (new ≡ engine)
 
-module _ (schema : Schema) (engine new : Committed) (sessions : List (Option TransactionState)) (net : Net) (keys : AreKeysIn schema net) (s : IsSystem schema engine sessions) where
+module _ (schema : Schema) (engine new : TreeState) (sessions : List (Option TransactionState)) (net : Net) (keys : AreKeysIn schema net) (s : IsSystem schema engine sessions) where
   ended_none : new ≡ engine → IsSystem schema new sessions
   ended_none is = subst (λ e. IsSystem schema e sessions) (sym is) s
 
@@ -158,7 +159,7 @@ abbrev pub end_reply : Result (Option ℕ) Refusal → Reply
 end_reply (Ok instant) = Commits instant
 end_reply (Err refusal) = Refused refusal
 
-module _ (schema : Schema) (engine new : Committed) (sessions : List (Option TransactionState)) (net : Net) (keys : AreKeysIn schema net) (held : Holds schema engine (changes_in schema (events engine))) (i : ℕ) where
+module _ (schema : Schema) (engine new : TreeState) (sessions : List (Option TransactionState)) (net : Net) (keys : AreKeysIn schema net) (held : Holds schema engine (changes_in schema (events engine))) (i : ℕ) where
   abbrev closed : List (Option TransactionState)
   closed = set sessions i None
 
@@ -178,7 +179,7 @@ module _ (schema : Schema) (engine new : Committed) (sessions : List (Option Tra
 abbrev by_commit : World → ℕ → ℕ → Option OpenTransaction → Turn
 by_commit w i reading o = elim o [ None ↦ (Refused NoTransaction, w) | Some s ↦ end_turn w i (net_in w.changes s) (outcome w.changes w.latest s.start (net_in w.changes s) reading) ]
 
-pub committed : (schema : Schema) (engine new : Committed) (sessions : List (Option TransactionState)) (w : World) (i start reading : ℕ) (b : TransactionState) (net : Net) (r : Result (Option ℕ) Refusal)
+pub committed : (schema : Schema) (engine new : TreeState) (sessions : List (Option TransactionState)) (w : World) (i start reading : ℕ) (b : TransactionState) (net : Net) (r : Result (Option ℕ) Refusal)
     → world_of schema engine sessions ≡ w → IsSystem schema engine sessions → IsFound schema engine sessions i b → start ≡ (last b.view)
     → ((schema : Schema) (m : Changes) → Holds schema b.view m → AreKeysIn schema b.writes → net ≡ net_over m b.writes) → AreKeysIn schema net
     → ((schema : Schema) (m : Changes) → Holds schema engine m → AreKeysIn schema net → r ≢ Err Memory → r ≡ outcome m (last engine) start net reading)

@@ -7,6 +7,7 @@ use Rattle.std.proofs.Math.ListN.{get_or-map}
 use Rattle.std.specs.List.{cons_option}
 use Rattle.std.specs.Option.{option_map, option_and_then}
 use Rattle.std.specs.Map.{keys_of}
+use Rattle.std.specs.List.Sorted.{IsStrictlySortedBy}
 use Rattle.values.specs.Event.{Event}
 use Rattle.values.specs.declared.key.Key.{Key}
 use Rattle.values.specs.declared.key.Point.{Point}
@@ -19,7 +20,8 @@ use Rattle.values.specs.KeyEncoding.{bytes_of_key}
 use Rattle.values.specs.KeyReading.{key_from}
 use Rattle.values.specs.Events.{events_of, event_of, IsKeyOfAny, IsKeyIn, AreChangesIn}
 use Rattle.values.proofs.KeyReads.{key_back}
-use Rattle.staging.specs.View.{Committed, events, last, IsEmpty, Holds}
+use Rattle.tsbtree.specs.View.{TreeState, events, last, IsEmpty}
+use Rattle.staging.specs.View.{Holds}
 use Rattle.eventlist.proofs.PlaceOrder.{sorted_none}
 use Rattle.values.specs.Log.{point_cmp}
 use Rattle.histories.specs.declared.step.Reply.TheVariants.{Begun as Begins, RolledBack, Refused}
@@ -47,14 +49,14 @@ module _ (schema : Schema) where
 
 -- ---- sessions
 
-pub session_is : (schema : Schema) (engine : Committed) (sessions : List (Option TransactionState)) (i : ℕ) → open_at (world_of schema engine sessions) i ≡ option_map (open_of schema) (get_or sessions i None)
+pub session_is : (schema : Schema) (engine : TreeState) (sessions : List (Option TransactionState)) (i : ℕ) → open_at (world_of schema engine sessions) i ≡ option_map (open_of schema) (get_or sessions i None)
 session_is schema engine sessions i = get_or-map (option_map (open_of schema)) sessions i None
 
-pub put_is : (schema : Schema) (engine : Committed) (sessions : List (Option TransactionState)) (i : ℕ) (o : Option TransactionState)
+pub put_is : (schema : Schema) (engine : TreeState) (sessions : List (Option TransactionState)) (i : ℕ) (o : Option TransactionState)
     → world_of schema engine (set sessions i o) ≡ put (world_of schema engine sessions) i (option_map (open_of schema) o)
 put_is schema engine sessions i o = ap (λ ss. record { schema = schema; changes = changes_in schema (events engine); latest = (last engine); sessions = ss }) (map-set (option_map (open_of schema)) sessions i o)
 
-pub with_session : (schema : Schema) (engine : Committed) (sessions : List (Option TransactionState)) (i : ℕ) (o : Option TransactionState) → IsOpen schema engine o → IsSystem schema engine sessions → IsSystem schema engine (set sessions i o)
+pub with_session : (schema : Schema) (engine : TreeState) (sessions : List (Option TransactionState)) (i : ℕ) (o : Option TransactionState) → IsOpen schema engine o → IsSystem schema engine sessions → IsSystem schema engine (set sessions i o)
 with_session schema engine sessions i o h s = record {
   wide = length-set sessions i o ∙ s.wide;
   held = s.held;
@@ -62,11 +64,11 @@ with_session schema engine sessions i o h s = record {
   each_open = All-set (IsOpen schema engine) sessions i o h s.each_open;
 }
 
-pub begun_at : (schema : Schema) (engine : Committed) (sessions : List (Option TransactionState)) (i : ℕ) → i ≤ 64 → IsSystem schema engine sessions → IsOpen schema engine (get_or sessions i None)
+pub begun_at : (schema : Schema) (engine : TreeState) (sessions : List (Option TransactionState)) (i : ℕ) → i ≤ 64 → IsSystem schema engine sessions → IsOpen schema engine (get_or sessions i None)
 begun_at schema engine sessions i small s = All-get_or (IsOpen schema engine) sessions i None (let wide : length sessions ≡ 65 = s.wide in omega arith) s.each_open
 
 -- what a session has, read in place
-pub place_is : (schema : Schema) (engine : Committed) (sessions : List (Option TransactionState)) (i : ℕ) (o : Option TransactionState) → IsSystem schema engine sessions → i ≤ 64 → o ≡ get_or sessions i o → o ≡ get_or sessions i None
+pub place_is : (schema : Schema) (engine : TreeState) (sessions : List (Option TransactionState)) (i : ℕ) (o : Option TransactionState) → IsSystem schema engine sessions → i ≤ 64 → o ≡ get_or sessions i o → o ≡ get_or sessions i None
 place_is schema engine sessions i o s small at = get_or_read_under sessions i 65 o None at (omega arith) (sym s.wide)
 
 pub none_of : (o : Option TransactionState) → is_some o ≡ false → o ≡ None
@@ -74,7 +76,7 @@ none_of None h = refl
 none_of (Some b) h = cc
 
 -- whether a transaction is open
-pub open_is : (schema : Schema) (engine : Committed) (sessions : List (Option TransactionState)) (w : World) (i : ℕ) (o : Option TransactionState) → world_of schema engine sessions ≡ w → IsSystem schema engine sessions → i ≤ 64 → o ≡ get_or sessions i o
+pub open_is : (schema : Schema) (engine : TreeState) (sessions : List (Option TransactionState)) (w : World) (i : ℕ) (o : Option TransactionState) → world_of schema engine sessions ≡ w → IsSystem schema engine sessions → i ≤ 64 → o ≡ get_or sessions i o
     → is_some (open_at w i) ≡ is_some o
 open_is schema engine sessions w i o is s small at =
     ap (λ w. is_some (open_at w i)) (sym is)
@@ -87,32 +89,27 @@ open_is schema engine sessions w i o is s small at =
 
 -- ---- a system in which nothing was committed
 
-abbrev nothing : Committed
-nothing = record { kept = []; latest = 0 }
-
-nothing_held : (schema : Schema) → Holds schema nothing []
-nothing_held schema = record { events_are = refl; keys = All-nil (λ (p : Point). IsKeyIn schema p.key); in_order = sorted_none point_cmp }
-
-is_nothing : (engine : Committed) → IsEmpty engine → engine ≡ nothing
-is_nothing engine h = λ i. record { kept = h.no_event i; latest = h.no_commit i }
-
-pub new_system : (schema : Schema) (engine : Committed) (sessions : List (Option TransactionState)) → IsEmpty engine → sessions ≡ replicate {A = Option TransactionState} 65 None → IsSystem schema engine sessions
+pub new_system : (schema : Schema) (engine : TreeState) (sessions : List (Option TransactionState)) → IsEmpty engine → sessions ≡ replicate {A = Option TransactionState} 65 None → IsSystem schema engine sessions
 new_system schema engine sessions is none =
-    subst (λ e. IsSystem schema e sessions) (sym (is_nothing engine is)) (subst (IsSystem schema nothing) (sym none) (record {
+    subst (IsSystem schema engine) (sym none) (record {
       wide = length-replicate {A = Option TransactionState} 65 None;
-      held = nothing_held schema;
-      upto = All-nil (λ (e : Event). e.at ≤ 0);
-      each_open = All-replicate (IsOpen schema nothing) 65 None tt;
-    }))
+      held = record {
+        events_are = is.no_event ∙ sym (ap (λ es. events_of (changes_in schema es)) is.no_event);
+        keys = subst (λ es. AreChangesIn schema (changes_in schema es)) (sym is.no_event) (All-nil (λ (p : Point). IsKeyIn schema p.key));
+        in_order = subst (λ es. IsStrictlySortedBy point_cmp (keys_of (changes_in schema es))) (sym is.no_event) (sorted_none point_cmp);
+      };
+      upto = subst (All (λ (e : Event). e.at ≤ last engine)) (sym is.no_event) (All-nil (λ (e : Event). e.at ≤ last engine));
+      each_open = All-replicate (IsOpen schema engine) 65 None tt;
+    })
 
-pub new_stands : (schema : Schema) (engine : Committed) (sessions : List (Option TransactionState)) → IsEmpty engine → sessions ≡ replicate {A = Option TransactionState} 65 None → WorldStands (world_of schema engine sessions) []
+pub new_stands : (schema : Schema) (engine : TreeState) (sessions : List (Option TransactionState)) → IsEmpty engine → sessions ≡ replicate {A = Option TransactionState} 65 None → WorldStands (world_of schema engine sessions) []
 new_stands schema engine sessions is none =
-    subst (λ e. WorldStands (world_of schema e sessions) []) (sym (is_nothing engine is)) (subst (λ ss. WorldStands (world_of schema nothing ss) []) (sym none) (record {
+    subst (λ ss. WorldStands (world_of schema engine ss) []) (sym none) (record {
       wide = length-map (replicate {A = Option TransactionState} 65 None) (option_map (open_of schema)) ∙ length-replicate {A = Option TransactionState} 65 None;
-      changes_are = refl;
-      latest_is = refl;
-      sessions_are = λ i small. session_is schema nothing (replicate {A = Option TransactionState} 65 None) i ∙ ap (option_map (open_of schema)) (get_or-replicate {A = Option TransactionState} 65 i None None (omega arith));
-    }))
+      changes_are = ap (changes_in schema) is.no_event;
+      latest_is = is.no_commit;
+      sessions_are = λ i small. session_is schema engine (replicate {A = Option TransactionState} 65 None) i ∙ ap (option_map (open_of schema)) (get_or-replicate {A = Option TransactionState} 65 i None None (omega arith));
+    })
 
 -- ---- BEGIN and ROLLBACK
 
@@ -125,7 +122,7 @@ begun_by w i (Some s) = refl
 begun_by w i None = refl
 
 -- a transaction that sees all and wrote nothing
-pub began : (schema : Schema) (engine : Committed) (sessions : List (Option TransactionState)) (w : World) (i start : ℕ) (b : TransactionState) → world_of schema engine sessions ≡ w → start ≡ (last b.view) → get_or sessions i None ≡ None → b.view ≡ engine → b.writes ≡ []
+pub began : (schema : Schema) (engine : TreeState) (sessions : List (Option TransactionState)) (w : World) (i start : ℕ) (b : TransactionState) → world_of schema engine sessions ≡ w → start ≡ (last b.view) → get_or sessions i None ≡ None → b.view ≡ engine → b.writes ≡ []
     → ◌≡◌ {A = Turn} (Begins start, world_of schema engine (set sessions i (Some b))) (begin_turn w i)
 began schema engine sessions w i start b is starts at seen wrote =
     (λ j. (Begins (starts j), put_is schema engine sessions i (Some b) j))
@@ -141,7 +138,7 @@ rolled_by : (w : World) (i : ℕ) (o : Option OpenTransaction) → elim o [ None
 rolled_by w i (Some s) = refl
 rolled_by w i None = refl
 
-pub rolled : (schema : Schema) (engine : Committed) (sessions : List (Option TransactionState)) (w : World) (i : ℕ) → world_of schema engine sessions ≡ w → (o : Option TransactionState) → o ≡ get_or sessions i None → is_some o ≡ true
+pub rolled : (schema : Schema) (engine : TreeState) (sessions : List (Option TransactionState)) (w : World) (i : ℕ) → world_of schema engine sessions ≡ w → (o : Option TransactionState) → o ≡ get_or sessions i None → is_some o ≡ true
     → ◌≡◌ {A = Turn} (RolledBack, world_of schema engine (set sessions i None)) (rollback_turn w i)
 rolled schema engine sessions w i is o at some =
     (λ j. (RolledBack, put_is schema engine sessions i None j))
@@ -160,11 +157,11 @@ all_upto (c ∷ cs) last h =
     ap (λ b. cond b (c ∷ changes_upto cs last) (changes_upto cs last)) {y = true} (let le : c.0.instant ≤ last = All-head (λ (e : Event). e.at ≤ last) (event_of c) (events_of cs) h in grind (arith, nat_tests))
     ∙ ap (λ m. c ∷ m) (all_upto cs last (All-tail (λ (e : Event). e.at ≤ last) (event_of c) (events_of cs) h))
 
-pub upto_now : (schema : Schema) (engine : Committed) (sessions : List (Option TransactionState)) → IsSystem schema engine sessions → changes_upto (changes_in schema (events engine)) (last engine) ≡ changes_in schema (events engine)
+pub upto_now : (schema : Schema) (engine : TreeState) (sessions : List (Option TransactionState)) → IsSystem schema engine sessions → changes_upto (changes_in schema (events engine)) (last engine) ≡ changes_in schema (events engine)
 upto_now schema engine sessions s = all_upto (changes_in schema (events engine)) (last engine) (subst (All (λ (e : Event). e.at ≤ (last engine))) s.held.events_are s.upto)
 
 -- a transaction that begins is one of the system's
-pub began_is : (schema : Schema) (engine : Committed) (sessions : List (Option TransactionState)) (b : TransactionState) → IsSystem schema engine sessions → b.view ≡ engine → b.writes ≡ [] → IsOpenIn schema engine b
+pub began_is : (schema : Schema) (engine : TreeState) (sessions : List (Option TransactionState)) (b : TransactionState) → IsSystem schema engine sessions → b.view ≡ engine → b.writes ≡ [] → IsOpenIn schema engine b
 began_is schema engine sessions b s seen wrote =
     subst (IsOpenIn schema engine) (sym (λ j. record { view = seen j; writes = wrote j })) (record {
       early = omega arith;

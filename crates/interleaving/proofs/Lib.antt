@@ -1,3 +1,4 @@
+pub mod AfterSplit
 pub mod Ended
 pub mod Keeps
 pub mod Listed

@@ -11,7 +11,8 @@ use Rattle.values.specs.Tables.{Schema, IsTable, table_at}
 use Rattle.values.specs.Log.{Changes, State, Net, Row}
 use Rattle.values.specs.Laws.{changes_upto}
 use Rattle.values.specs.Versions.{answer, matches}
-use Rattle.staging.specs.View.{Committed, events, last, Holds}
+use Rattle.tsbtree.specs.View.{TreeState, events, last}
+use Rattle.staging.specs.View.{Holds}
 use Rattle.staging.specs.Own.{WhenRead}
 use Rattle.histories.specs.declared.step.Reply.{Reply}
 use Rattle.histories.specs.declared.step.Reply.TheVariants.{Refused, Shown}
@@ -44,7 +45,7 @@ of_turn w m table (Between x y) keys part = λ i. as_listing (Between x y) (answ
 abbrev by_select : World → Form → Keys → Option OpenTransaction → Option Table → Reply
 by_select w form keys s t = elim t [ None ↦ Refused NoTable | Some table ↦ Shown (listing w s form table keys) ]
 
-module _ (schema : Schema) (engine : Committed) (sessions : List (Option TransactionState)) (w : World) (i : ℕ) (table : Table) (form : Form) (keys : Keys) (is : world_of schema engine sessions ≡ w) (there : Some table ≡ table_at schema keys.table) (good : IsTable keys.table table) where
+module _ (schema : Schema) (engine : TreeState) (sessions : List (Option TransactionState)) (w : World) (i : ℕ) (table : Table) (form : Form) (keys : Keys) (is : world_of schema engine sessions ≡ w) (there : Some table ≡ table_at schema keys.table) (good : IsTable keys.table table) where
   -- what a session shows with a transaction open
   pub shows_in : (o : Option TransactionState) (b : TransactionState) (l : Listing) → IsSystem schema engine sessions → i ≤ 64 → o ≡ get_or sessions i o → o ≡ Some b
       → WhenRead table b.view b.writes (λ schema m. keys.table ≡ table.number → l ≡ listing_in m b.writes table form keys) → Shown l ≡ select_reply w i form keys
@@ -57,7 +58,7 @@ module _ (schema : Schema) (engine : Committed) (sessions : List (Option Transac
       ∙ ap (λ w. select_reply w i form keys) is
 
   -- and with none
-  pub shows_now : (o : Option TransactionState) (view : Committed) (l : Listing) → IsSystem schema engine sessions → i ≤ 64 → o ≡ get_or sessions i o → o ≡ None → view ≡ engine
+  pub shows_now : (o : Option TransactionState) (view : TreeState) (l : Listing) → IsSystem schema engine sessions → i ≤ 64 → o ≡ get_or sessions i o → o ≡ None → view ≡ engine
       → WhenShown view table keys (λ m. l ≡ as_listing form (answer m table form keys)) → Shown l ≡ select_reply w i form keys
   shows_now o view l s small at none sees did =
       let here : None ≡ get_or sessions i None = sym none ∙ place_is schema engine sessions i o s small at in

@@ -1,5 +1,5 @@
 -- What a system keeps, and what contracts see of it.
-use Rattle.std.specs.Prelude.{◌≡◌, ℕ, ◌≤◌, ◌+◌, List, [], ◌∷◌, Option, Some, None, option_and_then, map, length, All}
+use Rattle.std.specs.Prelude.{◌≡◌, ℕ, ◌≤◌, ◌+◌, List, [], ◌∷◌, Option, Some, None, option_and_then, map, length, All, Bool}
 use Rattle.std.specs.List.{filter_map}
 use Rattle.std.specs.Map.{keys_of}
 use Rattle.std.specs.Option.{option_map}
@@ -9,11 +9,18 @@ use Rattle.values.specs.declared.key.Point.{Point}
 use Rattle.values.specs.Tables.{Schema, table_at}
 use Rattle.values.specs.Log.{Changes, Row}
 use Rattle.values.specs.Laws.{changes_upto}
+use Rattle.values.specs.KeyEncoding.{bytes_of_key}
 use Rattle.values.specs.KeyReading.{key_from}
 use Rattle.values.specs.Events.{AreKeysIn}
-use Rattle.staging.specs.View.{Committed, events, last, Holds}
+use Rattle.tsbtree.specs.View.{TreeState, events, last}
+use Rattle.staging.specs.View.{Holds}
 use Rattle.staging.specs.Own.{rows_seen}
+use Rattle.validation.specs.declared.cut.Cut.{Cut}
+use Rattle.validation.specs.declared.cut.Cut.TheVariants.{Key as KeyCut, Time as TimeCut}
+use Rattle.validation.specs.Split.{IsSplit}
 use Rattle.transaction.specs.TransactionState.{TransactionState}
+use Rattle.histories.specs.declared.step.Step.{Step}
+use Rattle.histories.specs.declared.step.Step.TheVariants.{SplitKey, SplitTime}
 use Rattle.histories.specs.Misfit.{max_session}
 use Rattle.histories.specs.History.{History}
 use Rattle.histories.specs.World.{OpenTransaction, World}
@@ -37,7 +44,7 @@ changes_in schema es = filter_map (change_in schema) es
 -- their sessions' numbers, from 0
 pub record SystemState : Type 0 where
   pub schema : Schema
-  pub engine : Committed
+  pub engine : TreeState
   pub sessions : List (Option TransactionState)
 
 -- an open transaction, by what it sees
@@ -48,7 +55,7 @@ open_of schema t = record {
   written = keys_of t.writes;
 }
 
-abbrev pub world_of : Schema → Committed → List (Option TransactionState) → World
+abbrev pub world_of : Schema → TreeState → List (Option TransactionState) → World
 world_of schema engine sessions = record {
   schema = schema;
   changes = changes_in schema (events engine);
@@ -65,21 +72,33 @@ abbrev pub Stands : SystemState → History → Type 0
 Stands s h = WorldStands (world s) h
 
 -- an open transaction sees what was committed until its start, and wrote keys of the schema
-pub record IsOpenIn (schema : Schema) (engine : Committed) (t : TransactionState) : Type 0 where
+pub record IsOpenIn (schema : Schema) (engine : TreeState) (t : TransactionState) : Type 0 where
   pub early : last t.view ≤ last engine
   pub held : Holds schema t.view (changes_in schema (events t.view))
   pub part : changes_in schema (events t.view)
       ≡ changes_upto (changes_in schema (events engine)) (last t.view)
   pub keys : AreKeysIn schema t.writes
 
-abbrev pub IsOpen : Schema → Committed → Option TransactionState → Type 0
+abbrev pub IsOpen : Schema → TreeState → Option TransactionState → Type 0
 IsOpen schema engine None = Unit {0}
 IsOpen schema engine (Some t) = IsOpenIn schema engine t
 
 -- what is true of every system: its changes are the events', and none is later than its last instant
-pub record IsSystem (schema : Schema) (engine : Committed)
+pub record IsSystem (schema : Schema) (engine : TreeState)
     (sessions : List (Option TransactionState)) : Type 0 where
   pub wide : length sessions ≡ max_session + 1
   pub held : Holds schema engine (changes_in schema (events engine))
   pub upto : All (λ e. e.at ≤ last engine) (events engine)
   pub each_open : All (IsOpen schema engine) sessions
+
+-- a node is split, or nothing has changed, by what was done
+pub record WasSplit (cut : Cut) (old new : TreeState) : Type 0 where
+  pub done : Bool
+  pub split : IsSplit cut old new done
+
+-- what a step that is answered done makes of the tree
+abbrev pub IsSplitStep : Step → SystemState → SystemState → Type 0
+IsSplitStep (SplitKey key) old new = WasSplit (KeyCut (bytes_of_key key)) old.engine new.engine
+IsSplitStep (SplitTime key instant) old new =
+    WasSplit (TimeCut (bytes_of_key key) instant) old.engine new.engine
+IsSplitStep step old new = Unit {0}

@@ -5,6 +5,7 @@ mod begin;
 mod commit;
 mod run;
 mod select;
+mod split;
 mod step;
 mod system;
 mod write;

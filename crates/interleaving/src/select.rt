@@ -23,7 +23,7 @@ impl System {
         };
         let listing = match &self.sessions[session as usize] {
             Some(transaction) => transaction.select(self.alloc, form, table, keys)?,
-            None => listing_of(self.alloc, &self.engine.begin()?, form, table, keys)?,
+            None => listing_of(self.alloc, self.engine.tree().current(), form, table, keys)?,
         };
         Ok(Reply::Shown(listing))
     }

@@ -2,7 +2,7 @@
 ghost use Rattle.std.specs.Prelude.{◌≡◌, ◌≢◌, ◌∷◌, None, true, false, IfOk, IfErr};
 ghost use Rattle.histories.specs.Misfit.{misfit};
 ghost use Rattle.histories.specs.Turn.{turn_in};
-ghost use Rattle.interleaving.specs.SystemState.{world};
+ghost use Rattle.interleaving.specs.SystemState.{world, IsSplitStep};
 ghost use Rattle.histories.specs.Memory.{is_out_of_memory, takes_no_memory};
 
 use crate::system::System;
@@ -13,13 +13,15 @@ impl System {
     ghost use Rattle.histories.specs.History.{History, reply};
     ghost use Rattle.interleaving.specs.SystemState.{Stands};
 
-    /// Takes a step. Where memory runs out nothing has changed, and the step may be taken again.
+    /// Takes a step. Where memory runs out nothing has changed, and the step may be taken again. A split that is done
+    /// puts the halves of the current data node of its key in the node's place, where its cut lies inside.
     pub fn step(&mut self, step: Step) -> Reply
         ensures answers { (h : History) → Stands self.old h → result ≢ Reply.Refused Refusal.Memory
             → (result ≡ reply self.old.schema h step) × Stands self.new (step ∷ h) }
         ensures out_of_memory { (h : History) → Stands self.old h
             → result ≡ Reply.Refused Refusal.Memory → Stands self.new h }
         ensures schema { self.new.schema ≡ self.old.schema }
+        ensures split { result ≡ Reply.Done → IsSplitStep step self.old self.new }
         ensures no_memory { takes_no_memory (world self.old) step ≡ true
             → is_out_of_memory result ≡ false }
     {
@@ -35,6 +37,7 @@ impl System {
         ensures answered { is_out_of_memory result ≡ false
             → (result, world self.new) ≡ turn_in (world self.old) step.now }
         ensures out { is_out_of_memory result ≡ true → self.new ≡ self.old }
+        ensures split { result ≡ Reply.Done → IsSplitStep step.now self.old self.new }
         ensures no_memory { takes_no_memory (world self.old) step.now ≡ true
             → is_out_of_memory result ≡ false }
     {
@@ -46,7 +49,9 @@ impl System {
             Step::Select(session, form, keys) => reply_of(self.select(*session, *form, keys)),
             Step::Commit(session, reading) => self.commit(*session, *reading),
             Step::Rollback(session) => self.rollback(*session),
-            Step::SplitKey(_) | Step::SplitTime(_, _) | Step::Migrate => Reply::Done,
+            Step::SplitKey(key) => self.split_key(key),
+            Step::SplitTime(key, instant) => self.split_time(key, *instant),
+            Step::Migrate => Reply::Done,
         }
     }
 }

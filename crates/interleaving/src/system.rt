@@ -6,6 +6,8 @@ use rows::{Mem, Schema};
 use std::alloc::Global;
 use std::marker::Model;
 use transaction::OpenTransaction;
+use treewalk::Shape;
+use tsbtree::Tree;
 use validation::Engine;
 
 /// How many sessions there are: they are numbered from 0.
@@ -33,7 +35,10 @@ impl Model for System {
 
 impl System {
     ghost use Rattle.std.specs.Prelude.{[]};
-    ghost use Rattle.interleaving.specs.SystemState.{Stands};
+    ghost use Rattle.values.specs.Events.{events_of};
+    ghost use Rattle.treewalk.specs.Shape.{IsShapeOf};
+    ghost use Rattle.tsbtree.specs.View.{events, last, IsState};
+    ghost use Rattle.interleaving.specs.SystemState.{Stands, world};
 
     /// A store in which nothing was committed.
     pub fn new(alloc: Global, schema: Schema) -> Mem<System>
@@ -52,6 +57,22 @@ impl System {
             engine,
             sessions,
         })
+    }
+
+    /// The tree of what was committed. It holds the changes that contracts see, and nothing else.
+    pub fn tree(&self) -> &Tree
+        ensures is { result.now ≡ self.now.engine }
+        ensures holds { events result.now ≡ events_of (world self.now).changes }
+    {
+        self.engine.tree()
+    }
+
+    /// Each node of the tree once: its level, its rectangle, and how much it holds.
+    pub fn shape(&self) -> Mem<Shape>
+        ensures ok { IfOk result (λ s. IsShapeOf self.now.engine.nodes s.nodes.items) }
+        ensures memory { OnlyMemory result }
+    {
+        self.engine.tree().current().shape(self.alloc)
     }
 
     /// The tables.

@@ -4,10 +4,8 @@ use Rattle.std.specs.Prelude.{is_none}
 use Rattle.std.proofs.lemmas.Bool.Decides.{nat_tests}
 use Rattle.std.proofs.lemmas.List.{length-map}
 use Rattle.std.proofs.lemmas.List.Elements.{All-from_recursion, recursion_from_All, All-weaker}
-use Rattle.std.specs.Ordering.{match_ordering}
-use Rattle.std.specs.declared.cmp.Ordering.TheVariants.{Less, Equal, Greater}
 use Rattle.std.specs.Option.{option_map}
-use Rattle.std.specs.BTreeMap.{insert_entry, is_at}
+use Rattle.std.specs.BTreeMap.{is_at}
 use Rattle.std.specs.Map.{keys_of, remove_entry}
 use Rattle.std.specs.FinMap.{is_sorted}
 use Rattle.std.specs.List.{AllByRecursion, list_any, cons_option}
@@ -25,7 +23,7 @@ use Rattle.values.specs.Log.{State, Net, Row, Changes, row_at, set_row, apply_ne
 use Rattle.values.specs.Tables.{Schema, IsTable}
 use Rattle.values.specs.Fit.{rows_fault, row_fault, key_fault, comparisons_fault, sets_fault, first_of}
 use Rattle.values.specs.Faults.{no_fault}
-use Rattle.values.specs.Writes.{Own, Written, write_keys, insert_into, update_in, delete_from, key_of, insert_rows, insert_all, duplicate, duplicate_from, update_rows, delete_rows, matching_keys, set_all}
+use Rattle.values.specs.Writes.{Own, Written, write_keys, key_of, insert_rows, insert_all, duplicate, duplicate_from, update_rows, delete_rows, matching_keys, set_all}
 use Rattle.values.specs.Versions.{matches}
 use Rattle.values.specs.KeyEncoding.{IsShortKey}
 use Rattle.values.specs.RowEncoding.{IsHeld}
@@ -34,7 +32,7 @@ use Rattle.values.specs.KeyReading.{IsKeyOf, key_from, whole_key, parts_from, is
 use Rattle.values.specs.Events.{event_cmp, events_of, IsKeyIn, AreKeysIn}
 use Rattle.values.proofs.KeyLengths.{fitting_keys_are_short, first_none}
 use Rattle.values.proofs.RowKeys.{fitting_key, keys_are_short}
-use Rattle.staging.specs.View.{events, Committed}
+use Rattle.tsbtree.specs.View.{events, TreeState}
 use Rattle.staging.specs.Own.{Reads, rows_seen, own, write_if_fits, checked_insert, of_table, checked_update, checked_delete}
 use Rattle.staging.specs.Staged.{put_all, put_answer, insertions, updates, deletions, sees, first_seen, row_taken, rows_in}
 use Rattle.staging.proofs.Entries.{sorted_from, sorted_apply, apply-updates, apply-deletions}
@@ -100,7 +98,7 @@ duplicates schema es t s w (k ∷ ks) earlier h same =
     λ i. cond (same k h.0 i || list_any (is_key k) earlier) (Some k) (duplicates schema es t s w ks (earlier ++ k ∷ []) h.1 same i)
 
 -- the first key that is seen is the first duplicate
-pub duplicate_is : (schema : Schema) (table : Table) (view : Committed) (t : ℕ) (m : Changes) (w : Net) (rows : List Row) (keys : List Key) → Reads schema table view w m → IsStrictlySortedBy event_cmp (events view) → All (λ e. e.at ≤ t) (events view)
+pub duplicate_is : (schema : Schema) (table : Table) (view : TreeState) (t : ℕ) (m : Changes) (w : Net) (rows : List Row) (keys : List Key) → Reads schema table view w m → IsStrictlySortedBy event_cmp (events view) → All (λ e. e.at ≤ t) (events view)
     → IsStrictlySortedBy key_cmp (keys_of w) → keys ≡ map (key_of table) rows → All (IsKeyOf table) keys → first_seen (sees (events view) t w) [] keys ≡ duplicate table rows (rows_seen m w)
 duplicate_is schema table view t m w rows keys reads sorted upto ordered same own =
     ap (λ es. first_seen (sees es t w) [] keys) reads.held.events_are
@@ -173,7 +171,7 @@ module _ (P : Key → Type 0) where
   deleted_entries es h = All-from_recursion (λ c. P c.0) (deletions es) (deleted_all es (recursion_from_All (λ e. P e.0) es h))
 
 -- the keys of the rows that are seen are of the schema
-pub seen_keys : (schema : Schema) (table : Table) (view : Committed) (t : ℕ) (m : Changes) (w : Net) (p : Key × Row → Bool) → Reads schema table view w m → IsStrictlySortedBy event_cmp (events view) → All (λ e. e.at ≤ t) (events view)
+pub seen_keys : (schema : Schema) (table : Table) (view : TreeState) (t : ℕ) (m : Changes) (w : Net) (p : Key × Row → Bool) → Reads schema table view w m → IsStrictlySortedBy event_cmp (events view) → All (λ e. e.at ≤ t) (events view)
     → All (λ e. IsKeyIn schema e.0) (filter p (rows_seen m w))
 seen_keys schema table view t m w p reads sorted upto =
     All-from_recursion (λ e. IsKeyIn schema e.0) (filter p (rows_seen m w))

@@ -29,7 +29,8 @@ use Rattle.values.specs.Events.{bytes_cmp, is_bytes, event_cmp, event_of, events
 use Rattle.values.proofs.Orders.{key_cmp_total, first, second}
 use Rattle.values.proofs.States.{row_at-set_row, sorted_set_row}
 use Rattle.values.proofs.KeyOrder.{byte_order_is_key_order}
-use Rattle.staging.specs.View.{events, Committed, Holds}
+use Rattle.tsbtree.specs.View.{events, TreeState}
+use Rattle.staging.specs.View.{Holds}
 use Rattle.staging.specs.Own.{rows_seen, net_over}
 use Rattle.staging.specs.Staged.{sees, net_in}
 use Rattle.eventlist.proofs.PlaceOrder.{sorted_tail}
@@ -72,7 +73,7 @@ pub record AreSeen (schema : Schema) (t : ℕ) (m : Changes) : Type 0 where
   pub upto : AllByRecursion (λ c. c.0.instant ≤ t) m
   pub sorted : IsStrictlySortedBy event_cmp (events_of m)
 
-pub are_seen : (schema : Schema) (view : Committed) (t : ℕ) (m : Changes) → Holds schema view m → IsStrictlySortedBy event_cmp (events view) → All (λ e. e.at ≤ t) (events view) → AreSeen schema t m
+pub are_seen : (schema : Schema) (view : TreeState) (t : ℕ) (m : Changes) → Holds schema view m → IsStrictlySortedBy event_cmp (events view) → All (λ e. e.at ≤ t) (events view) → AreSeen schema t m
 are_seen schema view t m held sorted upto = record {
   keys = keyed m held.keys;
   upto = timed m (subst (All (λ e. e.at ≤ t)) held.events_are upto);

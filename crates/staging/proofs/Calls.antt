@@ -24,7 +24,8 @@ use Rattle.values.specs.Events.{event_cmp, AreKeysIn}
 use Rattle.keyrange.specs.Range.{is_key_in}
 use Rattle.eventlist.specs.Listing.{standing}
 use Rattle.staging.proofs.KeyTable.{is_of_table}
-use Rattle.staging.specs.View.{events, range_of_table, Committed, Holds}
+use Rattle.tsbtree.specs.View.{events, TreeState}
+use Rattle.staging.specs.View.{range_of_table, Holds}
 use Rattle.staging.specs.Own.{Reads, rows_seen, own, net_over}
 use Rattle.staging.specs.Staged.{put_all, put_answer, rows_in, net_in}
 use Rattle.staging.proofs.TableRange.{in_range, narrowed}
@@ -34,14 +35,14 @@ use Rattle.staging.proofs.Seen.{rows_are}
 
 -- ---- what is read of a view
 
-pub rows_of_view : (schema : Schema) (table : Table) (keys : Keys) (view : Committed) (t : ℕ) (m : Changes) (w : Net) → Reads schema table view w m → keys.table ≡ table.number → IsStrictlySortedBy event_cmp (events view) → All (λ e. e.at ≤ t) (events view)
+pub rows_of_view : (schema : Schema) (table : Table) (keys : Keys) (view : TreeState) (t : ℕ) (m : Changes) (w : Net) → Reads schema table view w m → keys.table ≡ table.number → IsStrictlySortedBy event_cmp (events view) → All (λ e. e.at ≤ t) (events view)
     → IsStrictlySortedBy key_cmp (keys_of w) → rows_in table keys (standing (events view) (is_key_in (range_of_table table.number)) t) w ≡ filter (λ e. matches table keys e.0) (rows_seen m w)
 rows_of_view schema table keys view t m w reads same sorted upto ordered =
     ap (λ es. apply_net (insert_all [] es) (filter (λ c. matches table keys c.0) w)) (narrowed table keys (is_key_in (range_of_table table.number)) (in_range table.number) t (events view) (events view))
     ∙ ap (λ es. rows_in table keys (standing es (is_of_table table.number) t) w) reads.held.events_are
     ∙ rows_are schema table keys t m w reads.is_table same (are_seen schema view t m reads.held sorted upto) (sorted_from w ordered)
 
-pub net_of_view : (schema : Schema) (view : Committed) (t : ℕ) (m : Changes) (w : Net) → Holds schema view m → AreKeysIn schema w → IsStrictlySortedBy event_cmp (events view) → All (λ e. e.at ≤ t) (events view) → IsStrictlySortedBy key_cmp (keys_of w)
+pub net_of_view : (schema : Schema) (view : TreeState) (t : ℕ) (m : Changes) (w : Net) → Holds schema view m → AreKeysIn schema w → IsStrictlySortedBy event_cmp (events view) → All (λ e. e.at ≤ t) (events view) → IsStrictlySortedBy key_cmp (keys_of w)
     → net_in (events view) t w ≡ net_over m w
 net_of_view schema view t m w held keys sorted upto ordered =
     ap (λ es. net_in es t w) held.events_are ∙ net_is schema t m w (are_seen schema view t m held sorted upto) (sorted_from w ordered) keys

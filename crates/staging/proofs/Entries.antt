@@ -1,6 +1,6 @@
 -- Rows and writes as finite maps: what a key has after changes, one after the other.
 use Rattle.std.proofs.Common.{◌≡◌, Bool, true, false, cond, T, List, [], ◌∷◌, ◌++◌, Option, Some, None, refl, sym, ap, subst, ◌∙◌, not, map, filter, if◌then◌else◌, append_assoc, append-nil}
-use Rattle.std.specs.Ordering.{is_eq, is_lt, match_ordering, ordering_reverse}
+use Rattle.std.specs.Ordering.{is_eq, is_lt, match_ordering}
 use Rattle.std.specs.declared.cmp.Ordering.{Ordering}
 use Rattle.std.specs.declared.cmp.Ordering.TheVariants.{Less, Equal, Greater}
 use Rattle.std.specs.Option.{option_map}
@@ -9,7 +9,6 @@ use Rattle.std.specs.BTreeSet.{insert_key}
 use Rattle.std.specs.Map.{lookup, keys_of}
 use Rattle.std.specs.FinMap.{is_sorted}
 use Rattle.std.specs.FinMap.Entries.{below_all, is_sorted-where_key}
-use Rattle.std.specs.List.{AllByRecursion}
 use Rattle.std.specs.List.Sorted.{IsStrictlySortedBy}
 use Rattle.values.specs.declared.key.Key.{Key}
 use Rattle.values.specs.declared.query.Set.{Set}

@@ -3,8 +3,7 @@ pub mod Bridge
 pub mod Calls
 pub mod Entries
 pub mod KeyTable
-pub mod Placed
+pub mod NetEvents
 pub mod Seen
-pub mod Sorted
 pub mod StoredSets
 pub mod TableRange

@@ -1,5 +1,5 @@
 -- The range of a table's keys has them all, and what else it has is of no row of the table.
-use Rattle.std.proofs.Common.{◌≡◌, ℕ, ◌+◌, ◌<◌, Bool, true, false, cond, ◌&&◌, List, [], ◌∷◌, Option, Some, None, refl, sym, ap, subst, ◌∙◌, arith, map, filter, filter_map, nat_lt, if◌then◌else◌, ◌==◌, not}
+use Rattle.std.proofs.Common.{◌≡◌, ℕ, ◌+◌, ◌<◌, Bool, true, false, cond, ◌&&◌, List, [], ◌∷◌, Option, Some, None, refl, sym, ap, subst, ◌∙◌, arith, filter, filter_map, if◌then◌else◌, ◌==◌, not}
 use Rattle.std.proofs.lemmas.Bool.Decides.{nat_tests}
 use Rattle.std.specs.Option.{option_map}
 use Rattle.std.specs.List.{cons_option}
@@ -15,7 +15,7 @@ use Rattle.values.specs.Log.{Row}
 use Rattle.values.specs.Versions.{matches}
 use Rattle.values.specs.KeyReading.{key_from, whole_key, parts_from}
 use Rattle.keyrange.specs.Range.{is_below, is_before_end, is_key_in}
-use Rattle.eventlist.specs.Listing.{standing, stands_at}
+use Rattle.eventlist.specs.Listing.{stands_at}
 use Rattle.staging.proofs.KeyTable.{is_of_table}
 use Rattle.staging.specs.View.{range_of_table}
 use Rattle.staging.specs.Staged.{row_taken}

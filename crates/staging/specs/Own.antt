@@ -10,7 +10,8 @@ use Rattle.values.specs.Log.{Changes, State, Net, Row, apply_net, rows_after}
 use Rattle.values.specs.Fit.{rows_fault, comparisons_fault, sets_fault, first_of}
 use Rattle.values.specs.Writes.{Own, Written, insert_into, update_in, delete_from, net_of}
 use Rattle.values.specs.Events.{AreKeysIn}
-use Rattle.staging.specs.View.{Committed, Holds}
+use Rattle.tsbtree.specs.View.{TreeState}
+use Rattle.staging.specs.View.{Holds}
 
 -- what stands after the changes, with a transaction's own writes over it: each key that it wrote has a row, or none
 abbrev pub rows_seen : Changes → Net → State
@@ -24,14 +25,14 @@ abbrev pub net_over : Changes → Net → Net
 net_over m writes = net_of (rows_after [] m) (rows_seen m writes) (map (λ w. w.0) writes)
 
 -- the view shows the changes, whose keys are of the schema as the written ones are, and the table is one of its tables
-pub record Reads (schema : Schema) (table : Table) (view : Committed) (writes : Net) (m : Changes)
+pub record Reads (schema : Schema) (table : Table) (view : TreeState) (writes : Net) (m : Changes)
     : Type 0 where
   pub held : Holds schema view m
   pub keys : AreKeysIn schema writes
   pub is_table : table_at schema table.number ≡ Some table
 
 -- of every schema and all changes of which that is so
-abbrev pub WhenRead : Table → Committed → Net → (Schema → Changes → Type 0) → Type 0
+abbrev pub WhenRead : Table → TreeState → Net → (Schema → Changes → Type 0) → Type 0
 WhenRead table view writes P =
     (schema : Schema) (m : Changes) → Reads schema table view writes m → P schema m
 

@@ -6,9 +6,9 @@ ghost use Rattle.staging.specs.Own.{WhenRead, IsAnswered, own, checked_delete};
 ghost use Rattle.staging.specs.Staged.{deletions};
 
 use crate::staged::Staged;
-use crate::view::View;
 use std::alloc::{AllocError, Global};
 use std::collections::BTreeMap;
+use tsbtree::View;
 use values::{Key, Keys, Refusal, Row, Table};
 
 impl Staged {

@@ -10,8 +10,8 @@ ghost use Rattle.staging.specs.Own.{WhenRead, IsAnswered, own, checked_insert};
 ghost use Rattle.staging.specs.Staged.{insertions};
 
 use crate::staged::Staged;
-use crate::view::View;
 use std::alloc::{AllocError, Global};
+use tsbtree::View;
 use values::{Key, Mem, Refusal, Row, Table};
 
 impl Staged {

@@ -5,15 +5,11 @@ mod delete;
 mod insert;
 mod net;
 mod staged;
-mod store;
 mod table_range;
 #[cfg(test)]
 mod tests;
 mod update;
-mod view;
 
 pub use net::Net;
 pub use staged::Staged;
-pub use store::EventStore;
 pub use table_range::range_of_table;
-pub use view::View;

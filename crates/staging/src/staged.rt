@@ -14,16 +14,17 @@ ghost use Rattle.values.specs.KeyEncoding.{IsShortKey, bytes_of_key};
 ghost use Rattle.values.specs.Events.{AreKeysIn, row_until};
 ghost use Rattle.keyrange.specs.Range.{is_key_in};
 ghost use Rattle.eventlist.specs.Listing.{standing};
-ghost use Rattle.staging.specs.View.{events, range_of_table, Holds};
+ghost use Rattle.tsbtree.specs.View.{events};
+ghost use Rattle.staging.specs.View.{range_of_table, Holds};
 ghost use Rattle.staging.specs.Own.{WhenRead, rows_seen, net_over};
 ghost use Rattle.staging.specs.Staged.{put_all, put_answer, sees, first_seen, row_taken, rows_in, net_in};
 
 use crate::net::Net;
 use crate::table_range::range_of_table;
-use crate::view::View;
 use std::alloc::{AllocError, Global};
 use std::collections::BTreeMap;
 use std::marker::Model;
+use tsbtree::View;
 use values::{
     Event, Instant, Key, Keys, Mem, Refusal, Row, SharedEvent, Table, key_bytes, read_key,
 };
@@ -272,7 +273,7 @@ fn has_row(alloc: Global, view: &View, instant: Instant, key: &Key) -> Mem<bool>
     ensures err { OnlyMemory result }
 {
     let bytes = key_bytes(alloc, key)?;
-    let row = view.get(&bytes, instant)?;
+    let (row, _visits) = view.get(&bytes, instant)?;
     Ok(row.is_some())
 }
 

@@ -1,17 +1,13 @@
 //! Transactions over what was committed before.
-ghost use Rattle.std.specs.Prelude.{◌≡◌, ◌<◌, ◌≤◌, IfOk, OnOk};
-ghost use Rattle.values.specs.KeyEncoding.{IsShortKey};
+ghost use Rattle.std.specs.Prelude.{◌≤◌};
 ghost use Rattle.values.specs.Tables.{IsTable};
-ghost use Rattle.staging.specs.View.{last};
 
-use crate::{EventStore, Staged, View, range_of_table};
-use keyrange::KeyRange;
+use crate::{Net, Staged, range_of_table};
 use std::alloc::{AllocError, Global};
-use std::process::Abort;
 use std::test::Fail;
+use tsbtree::{Tree, View};
 use values::{
-    Chars, Comparison, Instant, Key, KeyBytes, Keys, Mem, Operator, Refusal, Row, Set, Table,
-    Value, Values, key_bytes,
+    Chars, Comparison, Instant, Key, Keys, Mem, Operator, Refusal, Row, Set, Table, Value, Values,
 };
 
 fn text(alloc: Global, text: &str) -> Mem<Value> {
@@ -25,18 +21,11 @@ fn emp(alloc: Global, number: i64, name: &str) -> Mem<Row> {
     Row::new(values).ok_or(Refusal::BadRow(2))
 }
 
-fn key(alloc: Global, number: i64) -> Result<Key, AllocError>
-    ensures { IfOk result IsShortKey }
-{
+fn key(alloc: Global, number: i64) -> Result<Key, AllocError> {
     Ok(Key {
         table: 1,
         parts: Values::new(vec![in alloc; Value::Int(number)]?),
     })
-}
-
-fn bytes(alloc: Global, number: i64) -> Mem<KeyBytes> {
-    let key = key(alloc, number)?;
-    Ok(key_bytes(alloc, &key)?)
 }
 
 /// The keys of `emp` that compare so with a number.
@@ -72,151 +61,80 @@ fn insert_emp(
     staged.insert(view, table, &rows)
 }
 
+/// Puts net changes into a tree, at an instant after its last.
+fn commit(alloc: Global, tree: &mut Tree, at: Instant, net: Net) -> Mem<()>
+    requires { at ≤ 1000 }
+{
+    if tree.current().last() >= at {
+        return Err(Refusal::ClockEnd);
+    }
+    let events = net.into_events(alloc, at)?;
+    tree.apply(at, events)
+}
+
 /// Inserts an employee in a transaction of its own, and commits it.
 fn record(
     alloc: Global,
     table: &Table,
-    store: &mut EventStore,
+    tree: &mut Tree,
     at: Instant,
     number: i64,
     name: &str,
 ) -> Mem<()>
     requires table { IsTable table.now.number table.now }
-    requires later { last store.old < at }
     requires in_range { at ≤ 1000 }
-    ensures { OnOk result (last store.new ≡ at) }
 {
     let mut staged = Staged::new(alloc)?;
-    if let Err(refusal) = insert_emp(alloc, table, store.current(), &mut staged, number, name) {
+    if let Err(refusal) = insert_emp(alloc, table, tree.current(), &mut staged, number, name) {
         return Err(refusal);
     }
-    let net = staged.net(store.current())?;
-    Ok(store.apply(at, net)?)
+    let net = staged.net(tree.current())?;
+    commit(alloc, tree, at, net)
 }
 
-/// A store of one employee, Ann with the number 1 from 100 on.
-fn ann(alloc: Global) -> Mem<EventStore>
-    ensures { IfOk result (λ s. last s ≡ 100) }
-{
-    let mut store = EventStore::new(alloc)?;
-    record(alloc, &Table::sample(alloc)?, &mut store, 100, 1, "Ann")?;
-    Ok(store)
+/// One employee, Ann with the number 1 from 100 on.
+fn ann(alloc: Global) -> Mem<Tree> {
+    let mut tree = Tree::new(alloc)?;
+    record(alloc, &Table::sample(alloc)?, &mut tree, 100, 1, "Ann")?;
+    Ok(tree)
 }
 
-/// Ann, and Bea with the number 2 from 200 on.
-fn two(alloc: Global) -> Mem<EventStore> {
-    let mut store = ann(alloc)?;
-    record(alloc, &Table::sample(alloc)?, &mut store, 200, 2, "Bea")?;
-    Ok(store)
-}
-
-/// Whether a number has a row at an instant, where Ann alone was committed.
-fn has_row(alloc: Global, number: i64, instant: Instant) -> Mem<bool> {
-    let store = ann(alloc)?;
-    let key = bytes(alloc, number)?;
-    Ok(store.current().get(&key, instant)?.is_some())
-}
-
-/// Ann's last change above an instant.
-fn last_change(alloc: Global, start: Instant) -> Mem<Option<Instant>> {
-    let store = ann(alloc)?;
-    let key = bytes(alloc, 1)?;
-    Ok(store.current().changed_since(&key, start)?)
-}
-
-/// The employees from 1 on and below 2.
-fn first_employee(alloc: Global) -> Mem<KeyRange> {
-    let lo = bytes(alloc, 1)?;
-    let hi = bytes(alloc, 2)?;
-    Ok(KeyRange { lo, hi: Some(hi) })
-}
-
-/// How many events the first employee has, of Ann's and Bea's.
-fn events(alloc: Global, from: Instant, to: Instant) -> Mem<usize> {
-    let range = first_employee(alloc)?;
-    let store = two(alloc)?;
-    Ok(store.current().events(alloc, &range, from, to)?.len())
-}
-
-fn count_standing(alloc: Global, view: &View, table: u8, instant: Instant) -> Mem<usize> {
+/// How many rows of a table stand at an instant, where Ann was committed.
+fn count_standing(alloc: Global, table: u8, instant: Instant) -> Mem<usize> {
+    let tree = ann(alloc)?;
     let range = range_of_table(alloc, table)?;
-    Ok(view.standing(alloc, &range, instant)?.len())
-}
-
-/// How many rows of a table stand at an instant, of Ann's and Bea's.
-fn standing_of_two(alloc: Global, table: u8, instant: Instant) -> Mem<usize> {
-    let store = two(alloc)?;
-    count_standing(alloc, store.current(), table, instant)
-}
-
-/// A store's last instant once Bea was committed, that of a view shared before, and how many rows stand in the view.
-fn shared_before_bea(alloc: Global) -> Mem<(Instant, Instant, usize)> {
-    let mut store = ann(alloc)?;
-    let kept = store.current().share()?;
-    record(alloc, &Table::sample(alloc)?, &mut store, 200, 2, "Bea")?;
-    let count = count_standing(alloc, &kept, 1, 300)?;
-    Ok((store.current().last(), kept.last(), count))
+    Ok(tree.current().standing(alloc, &range, instant)?.len())
 }
 
 #[test]
-fn a_view_has_the_row_from_its_instant_on(rt: HostRuntime) -> Result<(), Fail> {
-    let alloc = rt.alloc();
-    assert_eq!(rt; ann(alloc)?.current().last(), 100);
-    assert!(rt; !has_row(alloc, 1, 99)?);
-    assert!(rt; has_row(alloc, 1, 100)?);
-    assert!(rt; !has_row(alloc, 2, 100)?);
+fn a_commit_puts_the_rows_of_its_table_at_its_instant(rt: HostRuntime) -> Result<(), Fail> {
+    assert_eq!(rt; count_standing(rt.alloc(), 1, 99)?, 0);
+    assert_eq!(rt; count_standing(rt.alloc(), 1, 100)?, 1);
+    assert_eq!(rt; count_standing(rt.alloc(), 2, 100)?, 0);
     Ok(())
 }
 
-#[test]
-fn a_key_was_changed_at_its_last_instant(rt: HostRuntime) -> Result<(), Fail> {
-    assert_eq!(rt; last_change(rt.alloc(), 99)?, Some(100));
-    assert_eq!(rt; last_change(rt.alloc(), 100)?, None);
-    Ok(())
-}
-
-#[test]
-fn a_view_lists_the_events_of_a_range(rt: HostRuntime) -> Result<(), Fail> {
-    assert_eq!(rt; events(rt.alloc(), 0, 300)?, 1);
-    assert_eq!(rt; events(rt.alloc(), 101, 300)?, 0);
-    Ok(())
-}
-
-#[test]
-fn a_view_lists_the_rows_that_stand(rt: HostRuntime) -> Result<(), Fail> {
-    assert_eq!(rt; standing_of_two(rt.alloc(), 1, 200)?, 2);
-    assert_eq!(rt; standing_of_two(rt.alloc(), 1, 199)?, 1);
-    assert_eq!(rt; standing_of_two(rt.alloc(), 2, 200)?, 0);
-    Ok(())
-}
-
-#[test]
-fn a_shared_view_stays(rt: HostRuntime) -> Result<(), Fail> {
-    assert_eq!(rt; shared_before_bea(rt.alloc())?, (200, 100, 1));
-    Ok(())
-}
-
-/// A transaction over a store.
+/// A transaction over a tree.
 #[derive(Drop)]
 struct Desk {
     alloc: Global,
-    store: EventStore,
+    tree: Tree,
     staged: Staged,
 }
 
-fn desk_over(alloc: Global, store: EventStore) -> Mem<Desk> {
+fn desk_over(alloc: Global, tree: Tree) -> Mem<Desk> {
     let staged = Staged::new(alloc)?;
     Ok(Desk {
         alloc,
-        store,
+        tree,
         staged,
     })
 }
 
 /// A transaction over Ann.
 fn desk_of_ann(alloc: Global) -> Mem<Desk> {
-    let store = ann(alloc)?;
-    desk_over(alloc, store)
+    let tree = ann(alloc)?;
+    desk_over(alloc, tree)
 }
 
 impl Desk {
@@ -224,7 +142,7 @@ impl Desk {
         insert_emp(
             self.alloc,
             &Table::sample(self.alloc)?,
-            self.store.current(),
+            self.tree.current(),
             &mut self.staged,
             number,
             name,
@@ -234,7 +152,7 @@ impl Desk {
     fn delete(&mut self, number: i64) -> Mem<usize> {
         let table = Table::sample(self.alloc)?;
         let keys = by(self.alloc, Operator::Equal, number)?;
-        self.staged.delete(self.store.current(), &table, &keys)
+        self.staged.delete(self.tree.current(), &table, &keys)
     }
 
     /// Sets the name of all employees.
@@ -243,21 +161,20 @@ impl Desk {
         let mut sets = Vec::new(self.alloc);
         sets.push(set_name(self.alloc, name)?)?;
         let all = Keys::all(self.alloc, 1);
-        self.staged
-            .update(self.store.current(), &table, &all, &sets)
+        self.staged.update(self.tree.current(), &table, &all, &sets)
     }
 
     /// How many rows the transaction sees.
     fn count_rows(&self) -> Mem<usize> {
         let table = Table::sample(self.alloc)?;
         let all = Keys::all(self.alloc, 1);
-        let found = self.staged.rows(self.store.current(), &table, &all)?;
+        let found = self.staged.rows(self.tree.current(), &table, &all)?;
         Ok(found.len())
     }
 
     /// How many net changes the transaction has.
     fn count_changes(&self) -> Mem<usize> {
-        Ok(self.staged.net(self.store.current())?.changes().len())
+        Ok(self.staged.net(self.tree.current())?.changes().len())
     }
 
     /// Whether an insertion is refused for this.
@@ -331,13 +248,13 @@ impl Desk {
     fn insert_many(&mut self, count: i64) -> Mem<usize> {
         let table = Table::sample(self.alloc)?;
         let rows = many(self.alloc, count)?;
-        self.staged.insert(self.store.current(), &table, &rows)
+        self.staged.insert(self.tree.current(), &table, &rows)
     }
 }
 
 #[test]
 fn a_transaction_writes_1000_keys_at_most(rt: HostRuntime) -> Result<(), Fail> {
-    let mut desk = desk_over(rt.alloc(), EventStore::new(rt.alloc())?)?;
+    let mut desk = desk_over(rt.alloc(), Tree::new(rt.alloc())?)?;
     assert_eq!(rt; desk.insert_many(1000)?, 1000);
     assert!(rt; desk.is_full(1000));
     Ok(())
@@ -348,14 +265,14 @@ impl Desk {
     fn refuses_other_table(&mut self) -> Mem<bool> {
         let table = Table::sample(self.alloc)?;
         let other = Keys::all(self.alloc, 2);
-        let answer = self.staged.delete(self.store.current(), &table, &other);
+        let answer = self.staged.delete(self.tree.current(), &table, &other);
         Ok(answer == Err(Refusal::NoTable))
     }
 }
 
 #[test]
 fn keys_of_another_table_are_refused(rt: HostRuntime) -> Result<(), Fail> {
-    let mut desk = desk_over(rt.alloc(), EventStore::new(rt.alloc())?)?;
+    let mut desk = desk_over(rt.alloc(), Tree::new(rt.alloc())?)?;
     assert!(rt; desk.refuses_other_table()?);
     Ok(())
 }

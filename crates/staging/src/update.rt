@@ -8,9 +8,9 @@ ghost use Rattle.staging.specs.Own.{WhenRead, IsAnswered, own, checked_update};
 ghost use Rattle.staging.specs.Staged.{updates};
 
 use crate::staged::Staged;
-use crate::view::View;
 use std::alloc::{AllocError, Global};
 use std::collections::BTreeMap;
+use tsbtree::View;
 use values::{Key, Keys, Refusal, Row, Set, Table};
 
 impl Staged {

@@ -22,7 +22,8 @@ use Rattle.eventlist.specs.Listing.{stands_at, standing}
 use Rattle.eventlist.specs.Overtaking.{is_overtaken}
 use Rattle.eventlist.proofs.PlaceOrder.{sorted_head, sorted_tail, same_bytes, is_lower}
 use Rattle.eventlist.proofs.OvertakingNext.{not_earlier, stands_before, stands_is}
-use Rattle.staging.specs.View.{Committed, events, range_of_table}
+use Rattle.tsbtree.specs.View.{TreeState, events}
+use Rattle.staging.specs.View.{range_of_table}
 use Rattle.systime_query.specs.Selection.{WhenShown, next_of, is_taken, shown_of, selected_by}
 use Rattle.systime_query.specs.Standing.{row_shown}
 use Rattle.systime_query.proofs.Instants.{now_shown}
@@ -115,7 +116,7 @@ module _ (table : Table) (keys : Keys) (t : ℕ) where
 
 -- ---- what a view shows at an instant
 
-module _ (view : Committed) (table : Table) (keys : Keys) (rows : List Row) (found : List Event) where
+module _ (view : TreeState) (table : Table) (keys : Keys) (rows : List Row) (found : List Event) where
   -- the rows are those of the events that a call listed of the table's range
   pub record AreOfStanding (range : KeyRange) (t : ℕ) : Type 0 where
     pub sorted : IsStrictlySortedBy event_cmp (events view)

@@ -34,7 +34,8 @@ use Rattle.keyrange.specs.declared.range.KeyRange.{KeyRange}
 use Rattle.keyrange.specs.Range.{is_key_in}
 use Rattle.eventlist.specs.Listing.{events_in}
 use Rattle.staging.proofs.KeyTable.{is_of_table}
-use Rattle.staging.specs.View.{Committed, events, range_of_table, Holds}
+use Rattle.tsbtree.specs.View.{TreeState, events}
+use Rattle.staging.specs.View.{range_of_table, Holds}
 use Rattle.staging.proofs.TableRange.{in_range}
 use Rattle.systime_query.proofs.Instants.{range_alone, other_table, now_shown}
 use Rattle.systime_query.specs.Selection.{WhenShown, next_of, is_taken, shown_of, selected_by}
@@ -223,7 +224,7 @@ range_events table last (e ∷ es) h = one (range_events table last es h.1)
         (λ i. cond (is_key_in (range_of_table table.number) e.key && (early e.at i && late e.at h.0 i)) (e ∷ rest i) (rest i))
         ∙ ap (λ b. cond b (e ∷ of_range table es) (of_range table es)) (alone (is_key_in (range_of_table table.number) e.key))
 
-module _ (view : Committed) (table : Table) (keys : Keys) where
+module _ (view : TreeState) (table : Table) (keys : Keys) where
   pub others : (key : List ℕ) → is_key_in (range_of_table table.number) key ≡ false → is_taken table keys key ≡ false
   others key out = other_table table Plain keys key (by (is_of_table table.number key) refl)
     where

@@ -9,7 +9,8 @@ use Rattle.values.specs.declared.query.Shown.{Shown}
 use Rattle.values.specs.Log.{Changes}
 use Rattle.values.specs.Tables.{Schema, table_at}
 use Rattle.values.specs.Versions.{selects, matches}
-use Rattle.staging.specs.View.{Committed, Holds}
+use Rattle.tsbtree.specs.View.{TreeState}
+use Rattle.staging.specs.View.{Holds}
 use Rattle.values.specs.KeyReading.{key_from}
 use Rattle.values.specs.Events.{is_bytes}
 
@@ -45,7 +46,7 @@ instant_of None = None
 instant_of (Some e) = Some e.at
 
 -- of all changes that the view shows, where the table is one of the schema's and the keys are its own
-abbrev pub WhenShown : Committed → Table → Keys → (Changes → Type 0) → Type 0
+abbrev pub WhenShown : TreeState → Table → Keys → (Changes → Type 0) → Type 0
 WhenShown view table keys P =
     (schema : Schema) (m : Changes)
     → Holds schema view m → table_at schema table.number ≡ Some table

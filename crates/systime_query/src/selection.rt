@@ -6,8 +6,9 @@ ghost use Rattle.systime_query.specs.Selection.{WhenShown, next_of, selected_by}
 
 use crate::period::{is_same, shown_of};
 use crate::snapshot::selected_at;
-use staging::{View, range_of_table};
+use staging::range_of_table;
 use std::alloc::Global;
+use tsbtree::View;
 use values::{Event, Form, Instant, Keys, Mem, SharedEvent, Shown, Table};
 
 /// The versions of a table's rows that a query selects, with their periods, by key and then by start. The keys are of that table.

@@ -8,8 +8,9 @@ ghost use Rattle.systime_query.specs.Selection.{WhenShown};
 ghost use Rattle.systime_query.specs.Standing.{row_shown};
 
 use crate::period::is_taken;
-use staging::{View, range_of_table};
+use staging::range_of_table;
 use std::alloc::Global;
+use tsbtree::View;
 use values::{Event, Instant, Keys, Mem, Row, SharedEvent, Table};
 
 /// By key: the rows of a table that a query as of an instant shows. The keys are of that table.

@@ -1,12 +1,12 @@
 //! Two employees over time.
-ghost use Rattle.std.specs.Prelude.{◌≡◌, ◌<◌, ◌≤◌, IfOk, OnOk};
+ghost use Rattle.std.specs.Prelude.{◌≤◌};
 ghost use Rattle.values.specs.Tables.{IsTable};
-ghost use Rattle.staging.specs.View.{last};
 
 use crate::{answer, current_rows, rows_at};
-use staging::{EventStore, Staged};
+use staging::{Net, Staged};
 use std::alloc::Global;
 use std::test::Fail;
+use tsbtree::Tree;
 use values::{
     Chars, Comparison, Form, Instant, Keys, Mem, Operator, Refusal, Row, Set, Shown, Table, Value,
 };
@@ -30,33 +30,40 @@ fn employee(alloc: Global, number: i64, name: &str) -> Mem<Row> {
     Row::new(values).ok_or(Refusal::BadRow(2))
 }
 
+/// Puts net changes into a tree, at an instant after its last.
+fn commit(alloc: Global, tree: &mut Tree, at: Instant, net: Net) -> Mem<()>
+    requires { at ≤ 1000 }
+{
+    if tree.current().last() >= at {
+        return Err(Refusal::ClockEnd);
+    }
+    let events = net.into_events(alloc, at)?;
+    tree.apply(at, events)
+}
+
 /// Inserts an employee, and commits it at an instant.
 fn hire(
     alloc: Global,
     table: &Table,
-    store: &mut EventStore,
+    tree: &mut Tree,
     at: Instant,
     number: i64,
     name: &str,
 ) -> Result<(), Fail>
     requires table { IsTable table.now.number table.now }
-    requires later { last store.old < at }
     requires in_range { at ≤ 1000 }
-    ensures { OnOk result (last store.new ≡ at) }
 {
     let mut staged = Staged::new(alloc)?;
     let row = employee(alloc, number, name)?;
-    staged.insert(store.current(), table, vec![in alloc; row]?.as_slice())?;
-    let net = staged.net(store.current())?;
-    store.apply(at, net)?;
+    staged.insert(tree.current(), table, vec![in alloc; row]?.as_slice())?;
+    let net = staged.net(tree.current())?;
+    commit(alloc, tree, at, net)?;
     Ok(())
 }
 
 /// Calls the employee with the number 1 Bea from 200 on.
-fn rename(alloc: Global, table: &Table, store: &mut EventStore) -> Result<(), Fail>
-    requires table { IsTable table.now.number table.now }
-    requires later { last store.old < 200 }
-    ensures { OnOk result (last store.new ≡ 200) }
+fn rename(alloc: Global, table: &Table, tree: &mut Tree) -> Result<(), Fail>
+    requires { IsTable table.now.number table.now }
 {
     let mut staged = Staged::new(alloc)?;
     let set = Set {
@@ -65,34 +72,33 @@ fn rename(alloc: Global, table: &Table, store: &mut EventStore) -> Result<(), Fa
     };
     let one = by(alloc, Operator::Equal, 1)?;
     staged.update(
-        store.current(),
+        tree.current(),
         table,
         &one,
         vec![in alloc; set]?.as_slice(),
     )?;
-    let net = staged.net(store.current())?;
-    store.apply(200, net)?;
+    let net = staged.net(tree.current())?;
+    commit(alloc, tree, 200, net)?;
     Ok(())
 }
 
 /// Ann comes at 100 as number 1, and is Bea from 200 on.
-fn ann_then_bea(alloc: Global, table: &Table) -> Result<EventStore, Fail>
+fn ann_then_bea(alloc: Global, table: &Table) -> Result<Tree, Fail>
     requires { IsTable table.now.number table.now }
-    ensures { IfOk result (λ s. last s ≡ 200) }
 {
-    let mut store = EventStore::new(alloc)?;
-    hire(alloc, table, &mut store, 100, 1, "Ann")?;
-    rename(alloc, table, &mut store)?;
-    Ok(store)
+    let mut tree = Tree::new(alloc)?;
+    hire(alloc, table, &mut tree, 100, 1, "Ann")?;
+    rename(alloc, table, &mut tree)?;
+    Ok(tree)
 }
 
 /// The periods of what a query shows.
 fn periods(alloc: Global, form: Form) -> Result<Vec<(Instant, Option<Instant>)>, Fail> {
     let table = &Table::sample(alloc)?;
-    let store = ann_then_bea(alloc, table)?;
+    let tree = ann_then_bea(alloc, table)?;
     let shown: Vec<Shown> = answer(
         alloc,
-        store.current(),
+        tree.current(),
         table,
         form,
         &by(alloc, Operator::AtMost, 1)?,
@@ -130,19 +136,19 @@ fn a_version_is_closed_at_its_start_and_open_at_its_end(rt: HostRuntime) -> Resu
 }
 
 /// Cid comes at 300 as number 2.
-fn two(alloc: Global, table: &Table) -> Result<EventStore, Fail>
+fn two(alloc: Global, table: &Table) -> Result<Tree, Fail>
     requires { IsTable table.now.number table.now }
 {
-    let mut store = ann_then_bea(alloc, table)?;
-    hire(alloc, table, &mut store, 300, 2, "Cid")?;
-    Ok(store)
+    let mut tree = ann_then_bea(alloc, table)?;
+    hire(alloc, table, &mut tree, 300, 2, "Cid")?;
+    Ok(tree)
 }
 
 #[test]
 fn each_key_shows_one_version_at_an_instant(rt: HostRuntime) -> Result<(), Fail> {
     let alloc = rt.alloc();
     let table = &Table::sample(alloc)?;
-    let store = two(alloc, table)?;
+    let tree = two(alloc, table)?;
     let keys = by(alloc, Operator::AtLeast, 1)?;
     let cases = [
         (Form::Plain, 2),
@@ -153,7 +159,7 @@ fn each_key_shows_one_version_at_an_instant(rt: HostRuntime) -> Result<(), Fail>
     ];
     for (form, count) in cases {
         assert_eq!(rt;
-            answer(alloc, store.current(), table, form, &keys)?.len(),
+            answer(alloc, tree.current(), table, form, &keys)?.len(),
             count
         );
     }
@@ -164,14 +170,14 @@ fn each_key_shows_one_version_at_an_instant(rt: HostRuntime) -> Result<(), Fail>
 fn rows_at_an_instant_are_those_that_stand(rt: HostRuntime) -> Result<(), Fail> {
     let alloc = rt.alloc();
     let table = &Table::sample(alloc)?;
-    let store = two(alloc, table)?;
+    let tree = two(alloc, table)?;
     let keys = by(alloc, Operator::AtLeast, 1)?;
     for (at, count) in [(99, 0), (100, 1), (299, 1), (300, 2)] {
-        let rows = rows_at(alloc, store.current(), table, at, &keys)?;
+        let rows = rows_at(alloc, tree.current(), table, at, &keys)?;
         assert_eq!(rt; rows.len(), count, "at {at}");
     }
     assert_eq!(rt;
-        current_rows(alloc, store.current(), table, &keys)?.len(),
+        current_rows(alloc, tree.current(), table, &keys)?.len(),
         2
     );
     Ok(())

@@ -3,12 +3,14 @@ ghost use Rattle.values.specs.Log.{Changes};
 ghost use Rattle.values.specs.Memory.{OnlyMemory};
 ghost use Rattle.values.specs.Tables.{Schema};
 ghost use Rattle.values.specs.Events.{AreKeysIn};
-ghost use Rattle.staging.specs.View.{last, Holds};
+ghost use Rattle.tsbtree.specs.View.{last};
+ghost use Rattle.staging.specs.View.{Holds};
 ghost use Rattle.staging.specs.Own.{net_over};
 
-use staging::{Net, Staged, View};
+use staging::{Net, Staged};
 use std::alloc::Global;
 use std::marker::Model;
+use tsbtree::View;
 use values::{Instant, Mem};
 
 /// What a transaction sees of what was committed, and its own writes, which nobody else sees.

@@ -8,7 +8,7 @@ ghost use Rattle.transaction.specs.Listing.{as_listing, listing_in};
 
 use crate::open_transaction::OpenTransaction;
 use histories::Listing;
-use staging::View;
+use tsbtree::View;
 use std::alloc::Global;
 use std::collections::BTreeMap;
 use systime_query::{answer, current_rows, rows_at};

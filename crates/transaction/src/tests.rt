@@ -1,9 +1,9 @@
 //! A transaction that reads what it wrote.
 use crate::{OpenTransaction, listing_of};
 use histories::Listing;
-use staging::EventStore;
 use std::alloc::Global;
 use std::test::Fail;
+use tsbtree::Tree;
 use values::{Chars, Form, Keys, Mem, Refusal, Row, Set, Table, Value};
 
 fn text(alloc: Global, name: &str) -> Mem<Value> {
@@ -24,8 +24,8 @@ fn count(listing: &Listing) -> usize {
 
 /// A transaction that has inserted an employee, over nothing committed.
 fn with_ann(alloc: Global) -> Mem<OpenTransaction> {
-    let store = EventStore::new(alloc)?;
-    let mut transaction = OpenTransaction::begin(alloc, store.current().share()?)?;
+    let tree = Tree::new(alloc)?;
+    let mut transaction = OpenTransaction::begin(alloc, tree.view()?)?;
     let rows = vec![in alloc; employee(alloc, 1, "Ann")?]?;
     transaction.insert(&Table::sample(alloc)?, &rows)?;
     Ok(transaction)
@@ -40,11 +40,11 @@ fn count_shown(alloc: Global, form: Form) -> Mem<usize> {
 
 /// How many rows a query shows outside any transaction.
 fn shown_outside(alloc: Global) -> Mem<usize> {
-    let store = EventStore::new(alloc)?;
+    let tree = Tree::new(alloc)?;
     let table = Table::sample(alloc)?;
     let listing = listing_of(
         alloc,
-        store.current(),
+        tree.current(),
         Form::Plain,
         &table,
         &Keys::all(alloc, 1),

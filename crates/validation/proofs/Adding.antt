@@ -15,7 +15,8 @@ use Rattle.values.proofs.Maps.{sorted_insert}
 use Rattle.values.proofs.Latest.{point}
 use Rattle.values.proofs.Sorted.{is_less, sorted_from}
 use Rattle.values.proofs.EventKeys.{put_net_is, add_net_in}
-use Rattle.staging.specs.View.{Committed, events, Holds, Adds}
+use Rattle.tsbtree.specs.View.{TreeState, events}
+use Rattle.staging.specs.View.{Holds, Adds}
 
 module _ {K X : Type 0} (R : K → K → Ordering) where
   below_to : (k : K) (es : List (K × X)) → T (below_all R k es) → AllByRecursion (λ y. R k y ≡ Less) (keys_of es)
@@ -31,7 +32,7 @@ sorted_net : (net : Net) (i : ℕ) (m : Changes) → T (is_sorted point_cmp m) �
 sorted_net [] i m h = h
 sorted_net (c ∷ net) i m h = sorted_net net i _ (sorted_insert point_cmp_total m (point c.0 i) c.1 h)
 
-pub added_holds : (instant : ℕ) (net : Net) (old new : Committed) → Adds instant net old new → (schema : Schema) (m : Changes) → Holds schema old m → AreKeysIn schema net → Holds schema new (add_net instant m net)
+pub added_holds : (instant : ℕ) (net : Net) (old new : TreeState) → Adds instant net old new → (schema : Schema) (m : Changes) → Holds schema old m → AreKeysIn schema net → Holds schema new (add_net instant m net)
 added_holds instant net old new adds schema m held keys = record {
   events_are = adds.events_are ∙ ap (put_net instant net) held.events_are ∙ put_net_is schema net instant m keys held.keys;
   keys = add_net_in schema net instant m keys held.keys;

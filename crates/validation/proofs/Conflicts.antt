@@ -10,7 +10,8 @@ use Rattle.values.specs.declared.refusal.Refusal.TheVariants.{Conflict, ClockEnd
 use Rattle.values.specs.Commits.{changed_since, conflicts, conflicts_by, outcome, outcome_by, max_instant}
 use Rattle.values.specs.Events.{events_of, IsKeyIn, AreChangesIn, AreKeysIn}
 use Rattle.values.proofs.EventKeys.{since_is}
-use Rattle.staging.specs.View.{Committed, events, last, Holds}
+use Rattle.tsbtree.specs.View.{TreeState, events, last}
+use Rattle.staging.specs.View.{Holds}
 use Rattle.validation.specs.Outcome.{changed_in}
 
 -- how a transaction that changes something ends, by the keys that were changed since
@@ -34,7 +35,7 @@ module _ (schema : Schema) where
   outcome_is m latest start (c ∷ net) reading ins h = ap (by_won latest reading) (won_is m start (c ∷ net) ins h)
 
 -- what is said of events, said of the changes that they hold
-pub said_of_changes : (schema : Schema) (m : Changes) (c : Committed) (start : ℕ) (net : Net) (reading : ℕ) (r : Result (Option ℕ) Refusal)
+pub said_of_changes : (schema : Schema) (m : Changes) (c : TreeState) (start : ℕ) (net : Net) (reading : ℕ) (r : Result (Option ℕ) Refusal)
     → (r ≢ Err Memory → r ≡ outcome_by (changed_in (events c) start) (last c) net reading) → Holds schema c m → AreKeysIn schema net → r ≢ Err Memory → r ≡ outcome m (last c) start net reading
 said_of_changes schema m c start net reading r is held keys remembers =
     is remembers ∙ ap (λ es. outcome_by (changed_in es start) (last c) net reading) held.events_are ∙ outcome_is schema m (last c) start net reading held.keys keys

@@ -1,37 +1,42 @@
 //! The committed transactions and the clock.
-ghost use Rattle.std.specs.Prelude.{◌≡◌, ◌≢◌, ◌≤◌, ◌<◌, Result, Err, IfOk, IfSome, IfNone, OnErr};
+ghost use Rattle.std.specs.Prelude.{◌≡◌, ◌≢◌, ◌≤◌, ◌<◌, Result, Err, IfOk, IfSome, IfNone, OnOk, OnErr, length};
 ghost use Rattle.std.specs.List.{slice_get};
 ghost use Rattle.values.specs.Log.{Changes, Net, add_net};
 ghost use Rattle.values.specs.Tables.{Schema};
 ghost use Rattle.values.specs.Commits.{outcome, outcome_by, conflicts_by, max_instant};
 ghost use Rattle.values.specs.Events.{AreKeysIn};
 ghost use Rattle.values.specs.Memory.{OnlyMemory};
-ghost use Rattle.staging.specs.View.{events, last, IsEmpty, Holds, Adds};
+ghost use Rattle.tsbtree.specs.View.{events, last, IsEmpty};
+ghost use Rattle.staging.specs.View.{Holds, Adds};
+ghost use Rattle.tsbtree.specs.Growth.{HoldsSame};
 ghost use Rattle.validation.specs.Outcome.{changed_in};
+ghost use Rattle.validation.specs.Split.{IsSplit};
 
+use crate::cut::Cut;
 use commitclock::Clock;
-use staging::{EventStore, Net, View};
+use staging::Net;
 use std::alloc::Global;
 use std::marker::Model;
+use tsbtree::{Tree, View};
 use values::{Instant, Key, Mem, Refusal, key_bytes};
 
-/// What was committed, and the clock that gives commits their instants.
+/// The tree of what was committed, and the clock that gives commits their instants.
 #[derive(Drop)]
 pub struct Engine {
     alloc: Global,
-    store: EventStore,
+    tree: Tree,
     clock: Clock,
 }
 
 impl Model for Engine {
     ghost use Rattle.std.specs.Prelude.{◌≡◌};
-    ghost use Rattle.staging.specs.View.{Committed, last};
+    ghost use Rattle.tsbtree.specs.View.{TreeState, last};
 
-    ghost Value = { Committed };
+    ghost Value = { TreeState };
 
-    ghost view = { λ e. e.store };
+    ghost view = { λ e. e.tree };
 
-    ghost invariant = { λ e. e.clock ≡ last e.store };
+    ghost invariant = { λ e. e.clock ≡ last e.tree };
 }
 
 impl Engine {
@@ -42,7 +47,7 @@ impl Engine {
     {
         Ok(Engine {
             alloc,
-            store: EventStore::new(alloc)?,
+            tree: Tree::new(alloc)?,
             clock: Clock::new(),
         })
     }
@@ -54,12 +59,19 @@ impl Engine {
         self.clock.last()
     }
 
+    /// The tree that holds what was committed.
+    pub fn tree(&self) -> &Tree
+        ensures { result.now ≡ self.now }
+    {
+        &self.tree
+    }
+
     /// What a transaction that begins now sees: all that was committed, whatever is committed later.
     pub fn begin(&self) -> Mem<View>
         ensures ok { IfOk result (λ v. v ≡ self.now) }
         ensures err { OnlyMemory result }
     {
-        self.store.current().share()
+        self.tree.view()
     }
 
     /// Ends a transaction of this start with these net changes, by this reading of the clock, and answers its instant, none where it changed nothing.
@@ -85,16 +97,42 @@ impl Engine {
         ensures refused { OnErr result (self.new ≡ self.old) }
     {
         match self.outcome(start, &net, reading) {
-            Ok(Some(instant)) => match self.store.apply(instant, net) {
-                Ok(()) => {
-                    self.clock.advance(instant);
-                    Ok(Some(instant))
-                }
+            Ok(Some(instant)) => match self.add(instant, net) {
+                Ok(()) => Ok(Some(instant)),
                 Err(refusal) => Err(refusal),
             },
             Ok(None) => Ok(None),
             Err(refusal) => Err(refusal),
         }
+    }
+
+    /// Splits the current data node of a key, where its cut lies inside the node; else, and where memory runs out,
+    /// nothing has changed.
+    pub fn split(&mut self, cut: &Cut) -> Mem<bool>
+        ensures same { HoldsSame self.old self.new }
+        ensures split { IfOk result (IsSplit cut.now self.old self.new) }
+        ensures err { OnErr result (self.new ≡ self.old) }
+        ensures memory { OnlyMemory result }
+    {
+        match cut {
+            Cut::Key(key) => self.tree.key_split(key),
+            Cut::Time(key, instant) => self.tree.time_split(key, *instant),
+        }
+    }
+
+    /// Adds net changes at an instant after the last.
+    fn add(&mut self, instant: Instant, net: Net) -> Mem<()>
+        requires later { last self.old < instant }
+        requires in_range { instant ≤ max_instant }
+        requires some { 0 < length net }
+        ensures ok { OnOk result (Adds instant net self.old self.new) }
+        ensures err { OnErr result (self.new ≡ self.old) }
+        ensures memory { OnlyMemory result }
+    {
+        let events = net.into_events(self.alloc, instant)?;
+        self.tree.apply(instant, events)?;
+        self.clock.advance(instant);
+        Ok(())
     }
 
     /// How a transaction ends.
@@ -109,11 +147,12 @@ impl Engine {
             ≡ outcome_by (changed_in (events self.now) start) (last self.now) net.now reading }
         ensures later { IfOk result (λ end. IfSome end (λ instant. last self.now < instant)) }
         ensures in_range { IfOk result (λ end. IfSome end (λ instant. instant ≤ max_instant)) }
+        ensures some { IfOk result (λ end. IfSome end (λ _. 0 < length net.now)) }
     {
         if net.changes().is_empty() {
             return Ok(None);
         }
-        match first_conflict(self.alloc, self.store.current(), start, net) {
+        match first_conflict(self.alloc, self.tree.current(), start, net) {
             Ok(Some((key, instant))) => Err(Refusal::Conflict(key, instant)),
             Ok(None) => match self.clock.next(reading) {
                 Ok(instant) => Ok(Some(instant)),
@@ -137,7 +176,7 @@ fn first_conflict(
 {
     for (key, _row) in net.changes() {
         let bytes = key_bytes(alloc, key)?;
-        if let Some(instant) = view.changed_since(&bytes, start)? {
+        if let Some(instant) = view.changed_since(&bytes, start) {
             return Ok(Some((key.copy()?, instant)));
         }
     }

@@ -1,8 +1,10 @@
 //! What was committed, and how a transaction ends: the first committer wins.
 #![tactic(auto)]
 
+mod cut;
 mod engine;
 #[cfg(test)]
 mod tests;
 
+pub use cut::Cut;
 pub use engine::Engine;

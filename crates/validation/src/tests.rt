@@ -1,9 +1,10 @@
 //! Transactions that overlap.
 
 use crate::Engine;
-use staging::{Net, Staged, View};
+use staging::{Net, Staged};
 use std::alloc::{AllocError, Global};
 use std::test::Fail;
+use tsbtree::View;
 use values::{Chars, Instant, Key, Mem, Refusal, Row, Table, Value, Values};
 
 fn employee(alloc: Global, number: i64, name: &str) -> Mem<Row> {

@@ -1,7 +1,7 @@
 use Rattle.std.proofs.Common.{◌≡◌, ◌++◌, All}
 use Rattle.values.specs.KeyEncoding.{IsShortKey}
 use Rattle.staging.specs.Staged.{net_in}
-use Rattle.staging.specs.View.{events}
+use Rattle.tsbtree.specs.View.{events}
 use Rattle.staging.proofs.staged.net_of.Given as goal
 
 abbrev pub invariant-loop-key : goal.invariant-loop-key

@@ -1,6 +1,5 @@
 use Rattle.std.proofs.Common.{◌≡◌, ap, sym, subst, ◌∙◌}
 use Rattle.std.proofs.lemmas.List.{drop_all}
-use Rattle.values.specs.Log.{Row}
 use Rattle.values.specs.Writes.{set_all}
 use Rattle.values.specs.RowEncoding.{IsStoredRow}
 use Rattle.staging.proofs.StoredSets.{set_row_stored}

@@ -1,6 +1,6 @@
 use Rattle.std.proofs.Common.{◌≡◌, drop}
 use Rattle.values.specs.Commits.{conflicts_by}
-use Rattle.staging.specs.View.{events}
+use Rattle.tsbtree.specs.View.{events}
 use Rattle.validation.specs.Outcome.{changed_in}
 use Rattle.validation.proofs.engine.first_conflict.Given as goal
 

@@ -2,7 +2,7 @@ use Rattle.std.proofs.Common.{◌∙◌, ap}
 use Rattle.interleaving.specs.SystemState.{world}
 use Rattle.interleaving.proofs.Listed.{shows_in, shows_now}
 use Rattle.interleaving.proofs.system.System.select.Goals as goal
-use Rattle.interleaving.proofs.system.System.select.Goals.{in-Some-index+in_ok-listing-in-Some-index, in-None+in_ok-begin-in-None+in_ok-listing-in-None}
+use Rattle.interleaving.proofs.system.System.select.Goals.{in-Some-index+in_ok-listing-in-Some-index, in-None+in_ok-listing-in-None}
 
 pub returns-clause-ok : goal.returns-clause-ok
 returns-clause-ok c =
@@ -11,8 +11,8 @@ returns-clause-ok c =
           shows_in c.self.inside.schema c.self.inside.engine c.self.inside.sessions.items (world c.args.self.now) c.args.session c.in-Some.table.now c.args.form c.args.keys.now (ap world c.self.view_is) c.in-Some.ensures.is c.in-Some.ensures.good
           c.index.result.now w.in-Some-index.transaction c.match-index.listing c.self.invariant c.requires c.index.ensures w.in-Some-index.is
           (λ schema m reads same. w.listing-is ∙ w.in_ok-listing-in-Some-index.ensures.ok schema m reads same)
-      | in-None+in_ok-begin-in-None+in_ok-listing-in-None w ↦
+      | in-None+in_ok-listing-in-None w ↦
           shows_now c.self.inside.schema c.self.inside.engine c.self.inside.sessions.items (world c.args.self.now) c.args.session c.in-Some.table.now c.args.form c.args.keys.now (ap world c.self.view_is) c.in-Some.ensures.is c.in-Some.ensures.good
-          c.index.result.now w.in_ok-begin-in-None.field-0 c.match-index.listing c.self.invariant c.requires c.index.ensures w.in-None.is w.in_ok-begin-in-None.ensures.ok
+          c.index.result.now w.current.result.now c.match-index.listing c.self.invariant c.requires c.index.ensures w.in-None.is (w.current.ensures ∙ w.tree.ensures)
           (λ schema m holds there same. w.listing-is ∙ w.in_ok-listing-in-None.ensures.ok schema m holds there same)
     ]

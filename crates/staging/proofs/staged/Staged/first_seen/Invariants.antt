@@ -1,6 +1,6 @@
 use Rattle.std.proofs.Common.{◌≡◌, [], take, drop}
 use Rattle.staging.specs.Staged.{sees, first_seen}
-use Rattle.staging.specs.View.{events}
+use Rattle.tsbtree.specs.View.{events}
 use Rattle.staging.proofs.staged.Staged.first_seen.Given as goal
 
 abbrev pub invariant-loop-i : goal.invariant-loop-i

@@ -1,4 +1,4 @@
-use Rattle.std.proofs.Common.{All, Option, ◌||◌, is_some, sym, ap, subst, ◌∙◌}
+use Rattle.std.proofs.Common.{Option, ◌||◌, is_some, sym, ap, subst, ◌∙◌}
 use Rattle.std.specs.Map.{keys_of}
 use Rattle.std.specs.List.Sorted.{IsStrictlySortedBy}
 use Rattle.values.specs.Order.{key_cmp}
@@ -8,7 +8,7 @@ use Rattle.staging.specs.Net.{IsNet}
 use Rattle.values.specs.KeyEncoding.{IsShortKey, bytes_of_key}
 use Rattle.values.specs.Events.{IsKeyIn, AreKeysIn, row_until}
 use Rattle.staging.specs.Staged.{net_in}
-use Rattle.staging.specs.View.{events}
+use Rattle.tsbtree.specs.View.{events}
 use Rattle.staging.proofs.Calls.{net_of_view, kept_entries, kept_keys, kept_ordered}
 use Rattle.staging.proofs.staged.Staged.net.Goals as goal
 

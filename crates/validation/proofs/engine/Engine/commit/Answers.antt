@@ -1,7 +1,8 @@
 use Rattle.std.proofs.Common.{◌≡◌, ◌≢◌, subst, Ok, Err}
 use Rattle.values.specs.declared.refusal.Refusal.TheVariants.{Memory}
 use Rattle.values.specs.Commits.{outcome_by}
-use Rattle.staging.specs.View.{Committed, Adds, events, last}
+use Rattle.tsbtree.specs.View.{TreeState, events, last}
+use Rattle.staging.specs.View.{Adds}
 use Rattle.validation.specs.Outcome.{changed_in}
 use Rattle.validation.proofs.Adding.{added_holds}
 use Rattle.validation.proofs.Conflicts.{said_of_changes}
@@ -18,5 +19,4 @@ returns-in-Err-clause-outcome c = λ schema m held keys remembers.
 
 pub returns-in-Ok-clause-holds : goal.returns-in-Ok-clause-holds
 returns-in-Ok-clause-holds c =
-    let adds = subst (λ (v : Committed). Adds c.in-Ok-Some.instant c.args.net v c.apply.new.self) c.self.view_is c.in-Ok.ensures.ok in
-    added_holds c.in-Ok-Some.instant c.args.net c.args.self.now c.apply.new.self adds
+    added_holds c.in-Ok-Some.instant c.args.net c.args.self.now c.add.new.self c.in-Ok.ensures.ok

@@ -1,0 +1,72 @@
+//! SPLIT: a node of the tree is split, which no reply shows.
+ghost use Rattle.std.specs.Prelude.{◌≡◌, IfOk, None, true, false};
+ghost use Rattle.values.specs.KeyEncoding.{bytes_of_key};
+ghost use Rattle.values.specs.Memory.{OnlyMemory};
+ghost use Rattle.histories.specs.Memory.{is_out_of_memory};
+ghost use Rattle.histories.specs.Misfit.{key_misfit};
+ghost use Rattle.interleaving.specs.SystemState.{world, WasSplit};
+
+use crate::system::System;
+use histories::Reply;
+use rows::{Instant, Key, KeyBytes, Mem, Refusal, Schema, key_bytes};
+use std::alloc::Global;
+use validation::Cut;
+use values::fitting_keys_have_bytes;
+
+impl System {
+    /// Splits the current data node of a key there.
+    pub(crate) fn split_key(&mut self, key: &Key) -> Reply
+        requires { key_misfit self.old.schema key.now ≡ None }
+        ensures done { is_out_of_memory result ≡ false → result ≡ Reply.Done }
+        ensures same { world self.new ≡ world self.old }
+        ensures out { is_out_of_memory result ≡ true → self.new ≡ self.old }
+        ensures split { result ≡ Reply.Done
+            → WasSplit (Cut.Key (bytes_of_key key.now)) self.old.engine self.new.engine }
+    {
+        match fitting_key_bytes(self.alloc, &self.schema, key) {
+            Ok(bytes) => self.split(&Cut::Key(bytes)),
+            Err(refusal) => Reply::Refused(refusal),
+        }
+    }
+
+    /// Splits the current data node of a key at an instant.
+    pub(crate) fn split_time(&mut self, key: &Key, instant: Instant) -> Reply
+        requires { key_misfit self.old.schema key.now ≡ None }
+        ensures done { is_out_of_memory result ≡ false → result ≡ Reply.Done }
+        ensures same { world self.new ≡ world self.old }
+        ensures out { is_out_of_memory result ≡ true → self.new ≡ self.old }
+        ensures split { result ≡ Reply.Done
+            → WasSplit (Cut.Time (bytes_of_key key.now) instant) self.old.engine self.new.engine }
+    {
+        match fitting_key_bytes(self.alloc, &self.schema, key) {
+            Ok(bytes) => self.split(&Cut::Time(bytes, instant)),
+            Err(refusal) => Reply::Refused(refusal),
+        }
+    }
+
+    /// Splits the current data node of a key where a cut says, if it lies inside.
+    fn split(&mut self, cut: &Cut) -> Reply
+        ensures done { is_out_of_memory result ≡ false → result ≡ Reply.Done }
+        ensures same { world self.new ≡ world self.old }
+        ensures out { is_out_of_memory result ≡ true → self.new ≡ self.old }
+        ensures split { result ≡ Reply.Done → WasSplit cut.now self.old.engine self.new.engine }
+    {
+        match self.engine.split(cut) {
+            Ok(_done) => Reply::Done,
+            Err(refusal) => Reply::Refused(refusal),
+        }
+    }
+}
+
+/// The bytes of a key that fits its table.
+fn fitting_key_bytes(alloc: Global, schema: &Schema, key: &Key) -> Mem<KeyBytes>
+    requires { key_misfit schema.now key.now ≡ None }
+    ensures ok { IfOk result (λ bytes. bytes ≡ bytes_of_key key.now) }
+    ensures err { OnlyMemory result }
+{
+    fitting_keys_have_bytes();
+    match schema.table_at(key.table) {
+        Some(_) => key_bytes(alloc, key),
+        None => unreachable!(),
+    }
+}
