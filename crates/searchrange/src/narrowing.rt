@@ -1,0 +1,156 @@
+//! Comparisons on the leading key columns narrow the range of a table's keys; see README.md.
+ghost use Rattle.std.specs.Prelude.{◌≡◌, ◌++◌, IfOk, OnOk, All, option_copied, position, ◌==◌};
+ghost use Rattle.values.specs.KeyEncodingLaws.{IsStorable};
+ghost use Rattle.values.specs.Memory.{OnlyMemory};
+ghost use Rattle.searchrange.specs.SearchRange.{range_of_table, from_bytes, before_bytes, after_prefix, upto_prefix, narrowed, is_equality, is_at, narrowed_at, equal_at, narrowed_from, can_narrow, search_range, Covers, IsWithin};
+
+use crate::part::push_part;
+use crate::prefix::next_prefix;
+use crate::table_range::range_of_table;
+use keyrange::{KeyRange, is_before_end, is_below};
+use std::alloc::{AllocError, Global};
+use values::{Comparison, KeyBytes, Keys, Mem, Operator, Table, Value};
+
+/// The range of the table's keys, narrowed by the comparisons on its leading key columns.
+///
+/// A column that is to be equal to a value leaves the keys that begin with it, and the next column
+/// narrows these; the first that is not is the last that narrows. Where the table refuses a
+/// comparison, or the keys are of another table, the range is the table's. Each key of the table
+/// that meets all comparisons is in the range; others may be.
+pub fn search_range(alloc: Global, table: &Table, keys: &Keys) -> Mem<KeyRange>
+    ensures ok { IfOk result (λ range. range ≡ search_range table.now keys.now) }
+    ensures err { OnlyMemory result }
+{
+    let range = range_of_table(alloc, table.number)?;
+    if can_narrow(table, keys) {
+        Ok(narrowed(alloc, table, keys.comparisons.items(), range)?)
+    } else {
+        Ok(range)
+    }
+}
+
+fn can_narrow(table: &Table, keys: &Keys) -> bool
+    ensures { result ≡ can_narrow table.now keys.now }
+{
+    keys.table == table.number && table.check_comparisons(keys.comparisons.items()).is_ok()
+}
+
+/// The range narrowed by the comparisons on leading key columns.
+fn narrowed(
+    alloc: Global,
+    table: &Table,
+    comparisons: &[Comparison],
+    range: KeyRange,
+) -> Result<KeyRange, AllocError>
+    ensures { IfOk result (λ r. r ≡ narrowed_from table.now comparisons.now 0 (table.now.number ∷ []) table.now.key range) }
+{
+    let mut prefix = vec![in alloc; table.number]?;
+    let mut range = range;
+    for place in 0..table.key.items().len() {
+        range = narrowed_at(alloc, table, place, prefix.as_slice(), comparisons, range)?;
+        match equal_at(table, place, comparisons) {
+            None => return Ok(range),
+            Some(value) => push_part(&mut prefix, value)?,
+        }
+    }
+    Ok(range)
+}
+
+/// The value that the column at a place is to be equal to.
+fn equal_at<'a>(table: &Table, place: usize, comparisons: &'a [Comparison]) -> Option<&'a Value>
+    ensures { option_copied result ≡ equal_at table.now place comparisons.now }
+{
+    for comparison in comparisons {
+        if is_at(table, place, comparison) && comparison.operator == Operator::Equal {
+            return Some(&comparison.value);
+        }
+    }
+    None
+}
+
+/// Whether the column compared is the key's column at a place.
+fn is_at(table: &Table, place: usize, comparison: &Comparison) -> bool
+    ensures { result ≡ is_at table.now place comparison.now }
+{
+    let column = comparison.column;
+    table.key.items().iter().position(|part| *part == column) == Some(place)
+}
+
+/// The range narrowed by the comparisons at a place, behind a prefix.
+fn narrowed_at(
+    alloc: Global,
+    table: &Table,
+    place: usize,
+    prefix: &[u8],
+    comparisons: &[Comparison],
+    range: KeyRange,
+) -> Result<KeyRange, AllocError>
+    ensures { IfOk result (λ r. r ≡ narrowed_at table.now place prefix.now comparisons.now range) }
+{
+    let mut range = range;
+    for comparison in comparisons {
+        if is_at(table, place, comparison) {
+            let mut bytes = Vec::from_slice(alloc, prefix)?;
+            push_part(&mut bytes, &comparison.value)?;
+            range = narrowed_by(alloc, comparison.operator, bytes, range)?;
+        }
+    }
+    Ok(range)
+}
+
+/// The range narrowed by one comparison with the value that these bytes end with.
+fn narrowed_by(
+    alloc: Global,
+    operator: Operator,
+    bytes: Vec<u8>,
+    range: KeyRange,
+) -> Result<KeyRange, AllocError>
+    ensures { IfOk result (λ r. r ≡ narrowed operator bytes.items range) }
+{
+    match operator {
+        Operator::Equal => {
+            let next = next_prefix(alloc, bytes.as_slice())?;
+            Ok(before_end(next, from_bytes(bytes, range)))
+        }
+        Operator::Below => Ok(before_bytes(bytes, range)),
+        Operator::AtMost => Ok(before_end(next_prefix(alloc, bytes.as_slice())?, range)),
+        Operator::Above => match next_prefix(alloc, bytes.as_slice())? {
+            None => Ok(from_bytes(bytes, range)),
+            Some(next) => Ok(from_bytes(next, range)),
+        },
+        Operator::AtLeast => Ok(from_bytes(bytes, range)),
+    }
+}
+
+/// The range before an end, where there is one.
+fn before_end(end: Option<Vec<u8>>, range: KeyRange) -> KeyRange
+    ensures { result ≡ elim end [ None ↦ range | Some bytes ↦ before_bytes bytes.items range ] }
+{
+    match end {
+        None => range,
+        Some(end) => before_bytes(end, range),
+    }
+}
+
+/// The range from these bytes on.
+fn from_bytes(bytes: Vec<u8>, range: KeyRange) -> KeyRange
+    ensures { result ≡ from_bytes bytes.items range }
+{
+    match KeyBytes::new(bytes) {
+        Some(lo) if is_below(&range.lo, &lo) => KeyRange { lo, hi: range.hi },
+        _ => range,
+    }
+}
+
+/// The range before these bytes.
+fn before_bytes(bytes: Vec<u8>, range: KeyRange) -> KeyRange
+    ensures { result ≡ before_bytes bytes.items range }
+{
+    match KeyBytes::new(bytes) {
+        Some(hi) if is_before_end(&hi, &range.hi) => KeyRange {
+            lo: range.lo,
+            hi: Some(hi),
+        },
+        _ => range,
+    }
+}
