@@ -1,6 +1,5 @@
 -- The range of key bytes that holds each key of a search condition: comparisons on the leading key columns narrow it.
 use Rattle.std.specs.Prelude.{◌≡◌, ℕ, ◌+◌, List, [], ◌∷◌, ◌++◌, Option, Some, None, Bool, true, false, ◌&&◌, ◌==◌, nat_le, length, is_none, position, if◌then◌else◌}
-use Rattle.std.specs.Option.{unwrap_or}
 use Rattle.values.specs.declared.table.Table.{Table}
 use Rattle.values.specs.declared.key.Key.{Key}
 use Rattle.values.specs.declared.value.Value.{Value}

@@ -1,5 +1,5 @@
 //! Comparisons on the leading key columns narrow the range of a table's keys; see README.md.
-ghost use Rattle.std.specs.Prelude.{◌≡◌, ◌++◌, IfOk, OnOk, All, option_copied, position, ◌==◌};
+ghost use Rattle.std.specs.Prelude.{◌≡◌, IfOk, All, Option, option_copied, position, ◌==◌, [], ◌∷◌, Some, None};
 ghost use Rattle.values.specs.KeyEncodingLaws.{IsStorable};
 ghost use Rattle.values.specs.Memory.{OnlyMemory};
 ghost use Rattle.searchrange.specs.SearchRange.{range_of_table, from_bytes, before_bytes, after_prefix, upto_prefix, narrowed, is_equality, is_at, narrowed_at, equal_at, narrowed_from, can_narrow, search_range, Covers, IsWithin};
@@ -9,7 +9,7 @@ use crate::prefix::next_prefix;
 use crate::table_range::range_of_table;
 use keyrange::{KeyRange, is_before_end, is_below};
 use std::alloc::{AllocError, Global};
-use values::{Comparison, KeyBytes, Keys, Mem, Operator, Table, Value};
+use values::{ColumnNumber, Comparison, KeyBytes, Keys, Mem, Operator, Table, Value};
 
 /// The range of the table's keys, narrowed by the comparisons on its leading key columns.
 ///
@@ -72,8 +72,17 @@ fn equal_at<'a>(table: &Table, place: usize, comparisons: &'a [Comparison]) -> O
 fn is_at(table: &Table, place: usize, comparison: &Comparison) -> bool
     ensures { result ≡ is_at table.now place comparison.now }
 {
-    let column = comparison.column;
-    table.key.items().iter().position(|part| *part == column) == Some(place)
+    match place_of(table, comparison.column) {
+        None => false,
+        Some(found) => found == place,
+    }
+}
+
+/// A column's place in the key.
+fn place_of(table: &Table, column: ColumnNumber) -> Option<usize>
+    ensures { result ≡ position (λ k. k == column) table.now.key }
+{
+    table.key.items().iter().position(|part| *part == column)
 }
 
 /// The range narrowed by the comparisons at a place, behind a prefix.
