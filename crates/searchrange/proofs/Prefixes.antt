@@ -80,7 +80,7 @@ none_above (c ∷ cs) (x ∷ xs) e h g = by_rest (next_prefix cs) refl e (λ at.
     by_rest (Some m) at n rest = cc
     by_rest None at n rest = by_byte (c == 255) refl n (rest at)
 
-not_below_none : (xs : List ℕ) → is_below xs [] ≡ false
+pub not_below_none : (xs : List ℕ) → is_below xs [] ≡ false
 not_below_none [] = refl
 not_below_none (x ∷ xs) = refl
 

@@ -19,6 +19,34 @@ use values::{ColumnNumber, Comparison, KeyBytes, Keys, Mem, Operator, Table, Val
 /// that meets all comparisons is in the range; others may be.
 pub fn search_range(alloc: Global, table: &Table, keys: &Keys) -> Mem<KeyRange>
     ensures ok { IfOk result (λ range. range ≡ search_range table.now keys.now) }
+    ensures covers { IfOk result (λ range. Covers table.now keys.now range) }
+    ensures within { IfOk result (λ range. IsWithin range (range_of_table table.now.number)) }
+    ensures err { OnlyMemory result }
+{
+    let _number = table.number;
+    read_values(keys.comparisons.items());
+    range_of_keys(alloc, table, keys)
+}
+
+/// Reads each value: a number that was read is one of 64 bits.
+fn read_values(comparisons: &[Comparison])
+    ensures { All (λ c. IsStorable c.value) comparisons.now }
+{
+    for comparison in comparisons {
+        read_value(&comparison.value);
+    }
+}
+
+fn read_value(value: &Value)
+    ensures { IsStorable value.now }
+{
+    if let Value::Int(number) = value {
+        let _number = *number;
+    }
+}
+
+fn range_of_keys(alloc: Global, table: &Table, keys: &Keys) -> Mem<KeyRange>
+    ensures ok { IfOk result (λ range. range ≡ search_range table.now keys.now) }
     ensures err { OnlyMemory result }
 {
     let range = range_of_table(alloc, table.number)?;
