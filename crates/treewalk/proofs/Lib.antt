@@ -8,4 +8,6 @@ pub mod GatherArea
 pub mod GatherLeaves
 pub mod ListingRead
 pub mod ChangeLast
+pub mod ChangeNext
+pub mod ChangePlaced
 pub mod ShapeOrder

@@ -1,3 +1,4 @@
 pub mod Level
 pub mod Gather
 pub mod Shape
+pub mod NextChange

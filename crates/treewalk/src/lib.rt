@@ -1,6 +1,7 @@
 //! What is read off the nodes of a tree.
 #![tactic(auto)]
 
+mod change_after;
 mod gather;
 mod last_change;
 mod level;
@@ -9,6 +10,7 @@ mod shape;
 #[cfg(test)]
 mod tests;
 
+pub use change_after::next_change;
 pub use last_change::changed_since;
 pub use level::leaves_in;
 pub use listing::{events, standing};

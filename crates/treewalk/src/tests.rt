@@ -4,7 +4,7 @@ ghost use Rattle.values.specs.Commits.{max_instant};
 ghost use Rattle.treenodes.specs.Tree.{IsTree};
 ghost use Rattle.treenodes.specs.Map.{HoldsMap, changes, latest};
 
-use crate::{Shape, changed_since, events, leaves_in, standing, tree_shape};
+use crate::{Shape, changed_since, events, leaves_in, next_change, standing, tree_shape};
 use keyrange::{KeyRange, Rect, TimeRange};
 use slots::Slots;
 use std::alloc::{AllocError, Global};
@@ -147,6 +147,31 @@ fn a_deletion_in_an_earlier_leaf_is_a_change(rt: HostRuntime) -> Result<(), Fail
             changed_since(&nodes, &key, since),
             found,
             "key {number} since {since}"
+        );
+    }
+    Ok(())
+}
+
+#[test]
+fn a_version_ends_at_the_next_change(rt: HostRuntime) -> Result<(), Fail> {
+    let alloc = rt.alloc();
+    let nodes = some(&rt, alloc)?;
+    for (number, after, found) in [
+        (1, 0, Some(100)),
+        (1, 99, Some(100)),
+        (1, 100, Some(200)),
+        (1, 200, None),
+        (2, 149, Some(150)),
+        (2, 150, None),
+        (3, 0, None),
+        (1, LAST, None),
+        (1, u64::MAX, None),
+    ] {
+        let key = key(&rt, alloc, number)?;
+        assert_eq!(rt;
+            next_change(&nodes, &key, after),
+            found,
+            "key {number} after {after}"
         );
     }
     Ok(())

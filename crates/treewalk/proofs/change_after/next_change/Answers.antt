@@ -1,0 +1,36 @@
+use Rattle.std.proofs.Common.{◌+◌, sym, ap, ◌∙◌, arith}
+use Rattle.keyrange.specs.Rect.{Area}
+use Rattle.keyrange.specs.declared.range.TimeRange.{TimeRange}
+use Rattle.treewalk.specs.NextChange.{event_after}
+use Rattle.treewalk.proofs.ChangeNext.{next_leaf, ends_above, here, nowhere, later_on, none_late}
+use Rattle.treewalk.proofs.ListingRead.{in_time}
+use Rattle.treewalk.proofs.change_after.next_change.Goals as goal
+
+pub returns-then-after-ge-LAST : goal.returns-then-after-ge-LAST
+returns-then-after-ge-LAST c m holds = none_late m c.args.key.now c.args.after 999999999999999999 (λ x i. (in_time c.args.nodes.now c.requires m holds x i).1) c.if-after-ge-LAST.true
+
+pub returns-then-is_some : goal.returns-then-is_some
+returns-then-is_some c m holds =
+    here m holds.ordered c.args.key.now c.args.after c.leaf-node.result.now
+    (next_leaf m c.args.key.now c.args.after c.leaf-node.result.now c.leaf-node.ensures.point (c.leaf-node.ensures.cut m holds))
+    c.first_above-found.result (c.first_above-found.ensures ∙ ap (λ es. event_after es c.args.after c.args.key.now) c.events.ensures.are)
+    (sym c.is_some.ensures ∙ c.if-is_some.true)
+
+pub returns-in-None : goal.returns-in-None
+returns-in-None c m holds =
+    let to = ap (λ (t : TimeRange). t.to) c.time.ensures.time ∙ ap (λ (r : Area). r.time.to) c.rect.ensures.rect in
+    nowhere m holds.ordered c.args.key.now c.args.after c.leaf-node.result.now
+    (next_leaf m c.args.key.now c.args.after c.leaf-node.result.now c.leaf-node.ensures.point (c.leaf-node.ensures.cut m holds))
+    c.first_above-found.result (c.first_above-found.ensures ∙ ap (λ es. event_after es c.args.after c.args.key.now) c.events.ensures.are)
+    (sym c.is_some.ensures ∙ c.if-is_some.false) (sym to ∙ c.in-None.is)
+
+pub returns-in-Some : goal.returns-in-Some
+returns-in-Some c m holds =
+    let to = ap (λ (t : TimeRange). t.to) c.time.ensures.time ∙ ap (λ (r : Area). r.time.to) c.rect.ensures.rect in
+    let ends = sym to ∙ c.in-Some.is in
+    let lt = ends_above c.leaf-node.result.now.rect c.args.key.now (c.args.after + 1) c.in-Some.end c.leaf-node.ensures.point ends in
+    c.later_change.ensures m holds
+    ∙ later_on m holds.ordered c.args.key.now c.args.after c.leaf-node.result.now
+    (next_leaf m c.args.key.now c.args.after c.leaf-node.result.now c.leaf-node.ensures.point (c.leaf-node.ensures.cut m holds))
+    c.first_above-found.result (c.first_above-found.ensures ∙ ap (λ es. event_after es c.args.after c.args.key.now) c.events.ensures.are)
+    c.in-Some.end (sym c.is_some.ensures ∙ c.if-is_some.false) ends (omega (arith, lt))
