@@ -62,9 +62,13 @@ impl System {
     /// The tree of what was committed. It holds the changes that contracts see, and nothing else.
     pub fn tree(&self) -> &Tree
         ensures is { result.now ≡ self.now.engine }
+        ensures sound { IsState result.now.nodes (last result.now) }
         ensures holds { events result.now ≡ events_of (world self.now).changes }
     {
-        self.engine.tree()
+        let tree = self.engine.tree();
+        // Who reads a tree knows that it is sound.
+        let _view = tree.current();
+        tree
     }
 
     /// Each node of the tree once: its level, its rectangle, and how much it holds.

@@ -20,26 +20,30 @@ use Rattle.values.specs.Log.{Net, Row, Changes, apply_net, rows_after}
 use Rattle.values.specs.Tables.{Schema}
 use Rattle.values.specs.Writes.{Written, write_keys, most_written, insert_all, add_keys}
 use Rattle.values.specs.Versions.{matches}
-use Rattle.values.specs.Events.{event_cmp, AreKeysIn}
+use Rattle.values.specs.Events.{event_cmp, events_of, AreKeysIn}
 use Rattle.keyrange.specs.Range.{is_key_in}
 use Rattle.eventlist.specs.Listing.{standing}
 use Rattle.staging.proofs.KeyTable.{is_of_table}
 use Rattle.tsbtree.specs.View.{events, TreeState}
-use Rattle.staging.specs.View.{range_of_table, Holds}
+use Rattle.staging.specs.View.{Holds}
 use Rattle.staging.specs.Own.{Reads, rows_seen, own, net_over}
 use Rattle.staging.specs.Staged.{put_all, put_answer, rows_in, net_in}
-use Rattle.staging.proofs.TableRange.{in_range, narrowed}
+use Rattle.staging.proofs.Narrowed.{narrowed, others, out_of_range}
+use Rattle.searchrange.specs.SearchRange.{search_range, Covers}
 use Rattle.staging.proofs.Entries.{sorted_from, apply-put_all, keys_put_all}
 use Rattle.staging.proofs.Bridge.{are_seen, sorted_base, net_is}
 use Rattle.staging.proofs.Seen.{rows_are}
 
 -- ---- what is read of a view
 
-pub rows_of_view : (schema : Schema) (table : Table) (keys : Keys) (view : TreeState) (t : ℕ) (m : Changes) (w : Net) → Reads schema table view w m → keys.table ≡ table.number → IsStrictlySortedBy event_cmp (events view) → All (λ e. e.at ≤ t) (events view)
-    → IsStrictlySortedBy key_cmp (keys_of w) → rows_in table keys (standing (events view) (is_key_in (range_of_table table.number)) t) w ≡ filter (λ e. matches table keys e.0) (rows_seen m w)
-rows_of_view schema table keys view t m w reads same sorted upto ordered =
-    ap (λ es. apply_net (insert_all [] es) (filter (λ c. matches table keys c.0) w)) (narrowed table keys (is_key_in (range_of_table table.number)) (in_range table.number) t (events view) (events view))
-    ∙ ap (λ es. rows_in table keys (standing es (is_of_table table.number) t) w) reads.held.events_are
+pub rows_of_view : (schema : Schema) (table : Table) (keys : Keys) (view : TreeState) (t : ℕ) (m : Changes) (w : Net) → Reads schema table view w m → keys.table ≡ table.number → Covers table keys (search_range table keys)
+    → IsStrictlySortedBy event_cmp (events view) → All (λ e. e.at ≤ t) (events view) → IsStrictlySortedBy key_cmp (keys_of w)
+    → rows_in table keys (standing (events view) (is_key_in (search_range table keys)) t) w ≡ filter (λ e. matches table keys e.0) (rows_seen m w)
+rows_of_view schema table keys view t m w reads same covers sorted upto ordered =
+    ap (λ es. rows_in table keys (standing es (is_key_in (search_range table keys)) t) w) reads.held.events_are
+    ∙ ap (λ es. apply_net (insert_all [] es) (filter (λ c. matches table keys c.0) w))
+    (narrowed table keys (is_key_in (search_range table keys)) t (events_of m) (events_of m) (out_of_range schema table keys (search_range table keys) covers reads.is_table m reads.held.keys)
+    ∙ sym (narrowed table keys (is_of_table table.number) t (events_of m) (events_of m) (others table keys (events_of m))))
     ∙ rows_are schema table keys t m w reads.is_table same (are_seen schema view t m reads.held sorted upto) (sorted_from w ordered)
 
 pub net_of_view : (schema : Schema) (view : TreeState) (t : ℕ) (m : Changes) (w : Net) → Holds schema view m → AreKeysIn schema w → IsStrictlySortedBy event_cmp (events view) → All (λ e. e.at ≤ t) (events view) → IsStrictlySortedBy key_cmp (keys_of w)

@@ -3,7 +3,7 @@ pub mod Bridge
 pub mod Calls
 pub mod Entries
 pub mod KeyTable
+pub mod Narrowed
 pub mod NetEvents
 pub mod Seen
 pub mod StoredSets
-pub mod TableRange

@@ -15,12 +15,13 @@ ghost use Rattle.values.specs.Events.{AreKeysIn, row_until};
 ghost use Rattle.keyrange.specs.Range.{is_key_in};
 ghost use Rattle.eventlist.specs.Listing.{standing};
 ghost use Rattle.tsbtree.specs.View.{events};
-ghost use Rattle.staging.specs.View.{range_of_table, Holds};
+ghost use Rattle.searchrange.specs.SearchRange.{search_range, Covers};
+ghost use Rattle.staging.specs.View.{Holds};
 ghost use Rattle.staging.specs.Own.{WhenRead, rows_seen, net_over};
 ghost use Rattle.staging.specs.Staged.{put_all, put_answer, sees, first_seen, row_taken, rows_in, net_in};
 
 use crate::net::Net;
-use crate::table_range::range_of_table;
+use searchrange::search_range;
 use std::alloc::{AllocError, Global};
 use std::collections::BTreeMap;
 use std::marker::Model;
@@ -96,14 +97,16 @@ impl Staged {
     ) -> Mem<BTreeMap<Key, Row>>
         ensures ok { IfOk result (λ found. found.entries
             ≡ rows_in table.now keys.now
-            (standing (events view.now) (is_key_in (range_of_table table.now.number)) last)
+            (standing (events view.now) (is_key_in (search_range table.now keys.now)) last)
             self.now) }
+        ensures covers { OnOk result
+            (Covers table.now keys.now (search_range table.now keys.now)) }
         ensures err { OnlyMemory result }
         ensures ordered { OnOk result (IsStrictlySortedBy key_cmp (keys_of self.now)) }
         ensures short { IsTable table.now.number table.now
             → IfOk result (λ found. All (λ e. IsShortKey e.0) found.entries) }
     {
-        let range = range_of_table(self.alloc, table.number)?;
+        let range = search_range(self.alloc, table, keys)?;
         let standing = view.standing(self.alloc, &range, last)?;
         let mut found = rows_taken(self.alloc, table, keys, &standing)?;
         put_taken(table, keys, &self.writes, &mut found)?;

@@ -43,9 +43,10 @@ impl Tree {
 
     /// What was committed until now, to be read.
     pub fn current(&self) -> &View
-        ensures { result.now ≡ self.now }
+        ensures is { result.now ≡ self.now }
+        ensures sound { IsState result.now.nodes (last result.now) }
     {
-        &self.view
+        self.view.sound()
     }
 
     /// What was committed until now, to be kept while the tree grows.

@@ -20,7 +20,7 @@ returns-clause-answers c = λ schema m reads ok.
     no_fault_is (comparisons_fault c.args.table.now c.args.keys.now.comparisons) (sym c.in_default.is ∙ c.check_comparisons.ensures ∙ ap (λ l. no_fault (comparisons_fault c.args.table.now l)) c.items.ensures) in
     let found : c.in_ok-found.found.entries ≡ filter (λ e. matches c.args.table.now c.args.keys.now e.0) (rows_seen m c.args.self.now) =
     c.in_ok-found.ensures.ok
-    ∙ rows_of_view schema c.args.table.now c.args.keys.now c.args.view.now c.last.result m c.args.self.now reads same c.last.ensures.ordered c.last.ensures.upto c.in_ok-found.ensures.ordered in
+    ∙ rows_of_view schema c.args.table.now c.args.keys.now c.args.view.now c.last.result m c.args.self.now reads same c.in_ok-found.ensures.covers c.last.ensures.ordered c.last.ensures.upto c.in_ok-found.ensures.ordered in
     delete_done c.args.table.now c.args.keys.now m c.args.self.now c.put.new.self c.put.result c.in_ok-changes.changes.items c.in_ok-found.found.entries same no_comparison found c.in_ok-changes.ensures
     (sorted_from c.args.self.now c.put.ensures.ordered) (c.put.ensures.answer ok) c.put.ensures.ok c.put.ensures.err
 
@@ -29,7 +29,7 @@ returns-clause-keys c = λ schema m reads.
     let same : c.args.keys.now.table ≡ c.args.table.now.number = c.if-keys-table.false in
     let found : c.in_ok-found.found.entries ≡ filter (λ e. matches c.args.table.now c.args.keys.now e.0) (rows_seen m c.args.self.now) =
     c.in_ok-found.ensures.ok
-    ∙ rows_of_view schema c.args.table.now c.args.keys.now c.args.view.now c.last.result m c.args.self.now reads same c.last.ensures.ordered c.last.ensures.upto c.in_ok-found.ensures.ordered in
+    ∙ rows_of_view schema c.args.table.now c.args.keys.now c.args.view.now c.last.result m c.args.self.now reads same c.in_ok-found.ensures.covers c.last.ensures.ordered c.last.ensures.upto c.in_ok-found.ensures.ordered in
     keys_after schema c.in_ok-changes.changes.items c.args.self.now c.put.new.self c.put.result c.put.ensures.ok c.put.ensures.err reads.keys
     (subst (All (λ w. IsKeyIn schema w.0)) (sym c.in_ok-changes.ensures)
     (deleted_entries (IsKeyIn schema) c.in_ok-found.found.entries
