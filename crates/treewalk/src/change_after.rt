@@ -15,7 +15,8 @@ use slots::Slots;
 use treenodes::{Slot, data_at, leaf_at};
 use values::{Instant, KeyBytes, LAST, SharedEvent};
 
-/// The least instant above `after` that changes a key, if there is one. From the last instant on there is none.
+/// The least instant above `after` that changes a key, if there is one. From the last instant on there is none. It takes
+/// no memory.
 pub fn next_change(nodes: &Slots<Slot>, key: &KeyBytes, after: Instant) -> Option<Instant>
     requires { IsTree nodes.now }
     ensures { (m : List Change) → HoldsMap nodes.now m → result ≡ event_after m after key.now }
@@ -34,8 +35,8 @@ pub fn next_change(nodes: &Slots<Slot>, key: &KeyBytes, after: Instant) -> Optio
     }
 }
 
-/// The same, where the next change is rather in a later leaf. A leaf that holds an event of the key from before `after`
-/// shows that nothing happened in between. One without tells nothing: a deletion is not carried.
+/// The same, where the next change is rather in a later leaf. A leaf that holds an event of the key from `after` or
+/// before it shows that nothing happened until the leaf's start. One without tells nothing: a deletion is not carried.
 fn later_change(nodes: &Slots<Slot>, key: &KeyBytes, after: Instant) -> Option<Instant>
     requires { IsTree nodes.now }
     ensures { (m : List Change) → HoldsMap nodes.now m → result ≡ event_after m after key.now }
@@ -47,8 +48,8 @@ fn later_change(nodes: &Slots<Slot>, key: &KeyBytes, after: Instant) -> Option<I
     change_before(nodes, key, after, current.rect().time().from - 1)
 }
 
-/// The same, where no later leaf than that at `bound` is asked. Each step goes as far as all those before it; one that
-/// goes too far, or comes to a leaf that tells nothing, moves the bound.
+/// The same, where the leaves up to `bound` are tried by steps. Each goes as far as all those before it; one that goes
+/// too far, or comes to a leaf that tells nothing, moves the bound. What is left is walked.
 fn change_before(
     nodes: &Slots<Slot>,
     key: &KeyBytes,
