@@ -255,6 +255,29 @@ fn changes_are_found_over_a_split(rt: HostRuntime) -> Result<(), Fail> {
 }
 
 #[test]
+fn the_next_change_is_found_over_splits(rt: HostRuntime) -> Result<(), Fail> {
+    let alloc = rt.alloc();
+    let mut tree = few_changes(&rt, alloc)?;
+    for instant in [120, 140, 160, 180, 200] {
+        assert!(rt; tree.time_split(&key(&rt, alloc, 1)?, instant)?, "at {instant}");
+    }
+    let view = tree.current();
+    for (number, after, at) in [
+        (1, 0, Some(100)),
+        (1, 100, Some(200)),
+        (1, 119, Some(200)),
+        (1, 200, None),
+        (2, 99, Some(100)),
+        (2, 100, None),
+        (3, 0, None),
+    ] {
+        let next = view.next_change(&key(&rt, alloc, number)?, after);
+        assert_eq!(rt; next, at, "key {number} after {after}");
+    }
+    Ok(())
+}
+
+#[test]
 fn a_split_is_done_where_the_point_is_inside(rt: HostRuntime) -> Result<(), Fail> {
     let alloc = rt.alloc();
     let mut tree = few_changes(&rt, alloc)?;

@@ -7,6 +7,7 @@ ghost use Rattle.values.specs.Memory.{OnlyMemory};
 ghost use Rattle.keyrange.specs.Range.{is_key_in};
 ghost use Rattle.eventlist.specs.Listing.{events_in, standing};
 ghost use Rattle.treenodes.specs.Sound.{IsSound};
+ghost use Rattle.treewalk.specs.NextChange.{event_after};
 ghost use Rattle.treewalk.specs.Shape.{IsShapeOf};
 ghost use Rattle.tsbtree.specs.View.{events, last, visits, IsState};
 ghost use Rattle.tsbtree.specs.Leaf.{IsLeafOf};
@@ -18,7 +19,7 @@ use slots::Slots;
 use std::alloc::{AllocError, Global};
 use std::marker::Model;
 use treenodes::{Slot, data_at, leaf_at};
-use treewalk::{Shape, changed_since, events, standing, tree_shape};
+use treewalk::{Shape, changed_since, events, next_change, standing, tree_shape};
 use values::{Instant, KeyBytes, Mem, Row, SharedEvent};
 
 /// The nodes of a tree as they were at one time. A view never changes; what it holds is shared with the tree.
@@ -112,6 +113,14 @@ impl View {
         ensures { result ≡ event_since (events self.now) start key.now }
     {
         changed_since(&self.nodes, key, start)
+    }
+
+    /// The instant of a key's first event above `after`, if there is one: there ends what stands at `after`. It takes no
+    /// memory.
+    pub fn next_change(&self, key: &KeyBytes, after: Instant) -> Option<Instant>
+        ensures { result ≡ event_after (events self.now) after key.now }
+    {
+        next_change(&self.nodes, key, after)
     }
 
     /// The events of a range of keys, from an instant to another and with it, by key and then by instant.
