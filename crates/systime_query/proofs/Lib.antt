@@ -1,3 +1,6 @@
-pub mod Instants
+pub mod Answered
+pub mod ShownEvents
 pub mod Stands
 pub mod Versioned
+pub mod WindowListed
+pub mod Windows

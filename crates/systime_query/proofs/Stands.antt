@@ -23,11 +23,11 @@ use Rattle.eventlist.specs.Overtaking.{is_overtaken}
 use Rattle.eventlist.proofs.PlaceOrder.{sorted_head, sorted_tail, same_bytes, is_lower}
 use Rattle.eventlist.proofs.OvertakingNext.{not_earlier, stands_before, stands_is}
 use Rattle.tsbtree.specs.View.{TreeState, events}
-use Rattle.staging.specs.View.{range_of_table}
+use Rattle.searchrange.specs.SearchRange.{Covers}
 use Rattle.systime_query.specs.Selection.{WhenShown, next_of, is_taken, shown_of, selected_by}
 use Rattle.systime_query.specs.Standing.{row_shown}
-use Rattle.systime_query.proofs.Instants.{now_shown}
-use Rattle.systime_query.proofs.Versioned.{others, view_selected}
+use Rattle.systime_query.proofs.ShownEvents.{now_shown}
+use Rattle.systime_query.proofs.Versioned.{none_out, view_selected}
 
 -- ---- an event, and those behind it
 
@@ -38,7 +38,7 @@ later_ones t e es (d ∷ ds) h =
     λ i. cond (nat_le d.at t && (is_some d.row && not (not_earlier e d t h.0 i || list_any (overtakes d t) es))) (d ∷ later_ones t e es ds h.1 i) (later_ones t e es ds h.1 i)
 
 -- the next event shows when a version ends
-ends : (t : ℕ) (e : Event) (es : List Event) → AllByRecursion (λ d. event_cmp e d ≡ Less) es → not (is_overtaken e t (slice_get es 0)) ≡ ends_after (next_of e es) t
+pub ends : (t : ℕ) (e : Event) (es : List Event) → AllByRecursion (λ d. event_cmp e d ≡ Less) es → not (is_overtaken e t (slice_get es 0)) ≡ ends_after (next_of e es) t
 unfolding overtakes
 ends t e [] h = refl
 ends t e (d ∷ ds) h = by (is_bytes e.key d.key) refl
@@ -100,41 +100,41 @@ module _ (table : Table) (keys : Keys) (t : ℕ) where
       ∙ sym (kept e (filter (stands_at es t) es) (stands_at (e ∷ es) t e))
       ∙ ap (λ fs. filter_map (row_shown table keys) (cond (stands_at (e ∷ es) t e) (e ∷ fs) fs)) (sym (later_ones t e es es (sorted_head event_cmp e es sorted)))
 
-  -- events of other keys show nothing
-  narrowed : (p : List ℕ → Bool) → ((key : List ℕ) → p key ≡ false → is_taken table keys key ≡ false) → (es ds : List Event)
+  -- events that the query does not take show nothing
+  narrowed : (p : List ℕ → Bool) → (es ds : List Event) → AllByRecursion (λ e. p e.key ≡ false → is_taken table keys e.key ≡ false) ds
       → filter_map (row_shown table keys) (filter (λ e. p e.key && stands_at es t e) ds) ≡ filter_map (row_shown table keys) (filter (stands_at es t) ds)
-  narrowed p out es [] = refl
-  narrowed p out es (e ∷ ds) =
+  narrowed p es [] out = refl
+  narrowed p es (e ∷ ds) out =
       kept e (filter (λ e. p e.key && stands_at es t e) ds) (p e.key && stands_at es t e)
-      ∙ (λ i. cons_option (one (p e.key) (stands_at es t e) refl i) (narrowed p out es ds i))
+      ∙ (λ i. cons_option (one (p e.key) (stands_at es t e) refl i) (narrowed p es ds out.1 i))
       ∙ sym (kept e (filter (stands_at es t) ds) (stands_at es t e))
     where
       one : (b s : Bool) → p e.key ≡ b → cond (b && s) (row_shown table keys e) None ≡ cond s (row_shown table keys e) None
       one true s is = refl
-      one false true is = sym (ap (λ k. cond k e.row None) (out e.key is))
+      one false true is = sym (ap (λ k. cond k e.row None) (out.0 is))
       one false false is = refl
 
 -- ---- what a view shows at an instant
 
 module _ (view : TreeState) (table : Table) (keys : Keys) (rows : List Row) (found : List Event) where
-  -- the rows are those of the events that a call listed of the table's range
+  -- the rows are those of the events that a call listed of a search range
   pub record AreOfStanding (range : KeyRange) (t : ℕ) : Type 0 where
     pub sorted : IsStrictlySortedBy event_cmp (events view)
     pub rows_are : rows ≡ filter_map (row_shown table keys) found
     pub stand : found ≡ standing (events view) (is_key_in range) t
-    pub range_is : range ≡ range_of_table table.number
+    pub covers : Covers table keys range
 
-  selected : (range : KeyRange) (t : ℕ) → AreOfStanding range t → rows ≡ map (λ s. s.row) (selected_by table (AsOf t) keys (events view))
-  selected range t h =
-      h.rows_are ∙ ap (filter_map (row_shown table keys)) (h.stand ∙ ap (λ r. standing (events view) (is_key_in r) t) h.range_is)
-      ∙ narrowed table keys t (is_key_in (range_of_table table.number)) (others view table keys) (events view) (events view)
+  selected : (range : KeyRange) (t : ℕ) → AreOfStanding range t → AllByRecursion (λ e. is_key_in range e.key ≡ false → is_taken table keys e.key ≡ false) (events view) → rows ≡ map (λ s. s.row) (selected_by table (AsOf t) keys (events view))
+  selected range t h out =
+      h.rows_are ∙ ap (filter_map (row_shown table keys)) h.stand
+      ∙ narrowed table keys t (is_key_in range) (events view) (events view) out
       ∙ sym (selected_stand table keys t (events view) h.sorted)
 
   pub shown_at : (range : KeyRange) (t : ℕ) → AreOfStanding range t → WhenShown view table keys (λ m. rows ≡ shown_rows m table (AsOf t) keys)
   shown_at range t h = λ schema m held is_table same.
-      selected range t h ∙ ap (map (λ s. s.row)) (view_selected view table keys (AsOf t) schema m held is_table same)
+      selected range t h (none_out view table keys range h.covers schema m held is_table) ∙ ap (map (λ s. s.row)) (view_selected view table keys (AsOf t) schema m held is_table same)
 
   pub shown_now : (range : KeyRange) (last : ℕ) → AreOfStanding range last → All (λ e. e.at ≤ last) (events view) → WhenShown view table keys (λ m. rows ≡ shown_rows m table Plain keys)
   shown_now range last h upto = λ schema m held is_table same.
-      selected range last h
+      selected range last h (none_out view table keys range h.covers schema m held is_table)
       ∙ ap (map (λ s. s.row)) (now_shown table last keys (events view) (recursion_from_All (λ (e : Event). e.at ≤ last) (events view) upto) ∙ view_selected view table keys Plain schema m held is_table same)

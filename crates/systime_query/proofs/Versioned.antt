@@ -35,9 +35,10 @@ use Rattle.keyrange.specs.Range.{is_key_in}
 use Rattle.eventlist.specs.Listing.{events_in}
 use Rattle.staging.proofs.KeyTable.{is_of_table}
 use Rattle.tsbtree.specs.View.{TreeState, events}
-use Rattle.staging.specs.View.{range_of_table, Holds}
-use Rattle.staging.proofs.TableRange.{in_range}
-use Rattle.systime_query.proofs.Instants.{range_alone, other_table, now_shown}
+use Rattle.staging.specs.View.{Holds}
+use Rattle.searchrange.specs.SearchRange.{Covers}
+use Rattle.staging.proofs.Narrowed.{IsOut, out_of_range}
+use Rattle.systime_query.proofs.ShownEvents.{out_taken}
 use Rattle.systime_query.specs.Selection.{WhenShown, next_of, is_taken, shown_of, selected_by}
 
 -- ---- the next change of a key stands right behind it
@@ -201,61 +202,19 @@ module _ (schema : Schema) (table : Table) (form : Form) (keys : Keys) (is_table
 
 -- ---- what a view shows
 
-abbrev of_range : Table → List Event → List Event
-of_range table es = filter (λ e. is_key_in (range_of_table table.number) e.key) es
-
--- of the range of a table's keys all events until the last instant are all
-pub range_events : (table : Table) (last : ℕ) (es : List Event) → AllByRecursion (λ e. e.at ≤ last) es → events_in es (range_of_table table.number) 0 last ≡ of_range table es
-range_events table last [] h = refl
-range_events table last (e ∷ es) h = one (range_events table last es h.1)
-  where
-    alone : (b : Bool) → (b && true) ≡ b
-    alone true = refl
-    alone false = refl
-
-    early : (n : ℕ) → nat_le 0 n ≡ true
-    early n = grind (arith, nat_tests)
-
-    late : (n : ℕ) → n ≤ last → nat_le n last ≡ true
-    late n h = grind (arith, nat_tests)
-
-    one : events_in es (range_of_table table.number) 0 last ≡ of_range table es → events_in (e ∷ es) (range_of_table table.number) 0 last ≡ of_range table (e ∷ es)
-    one rest =
-        (λ i. cond (is_key_in (range_of_table table.number) e.key && (early e.at i && late e.at h.0 i)) (e ∷ rest i) (rest i))
-        ∙ ap (λ b. cond b (e ∷ of_range table es) (of_range table es)) (alone (is_key_in (range_of_table table.number) e.key))
-
 module _ (view : TreeState) (table : Table) (keys : Keys) where
-  pub others : (key : List ℕ) → is_key_in (range_of_table table.number) key ≡ false → is_taken table keys key ≡ false
-  others key out = other_table table Plain keys key (by (is_of_table table.number key) refl)
-    where
-      by : (b : Bool) → is_of_table table.number key ≡ b → b ≡ false
-      by false is = refl
-      by true is = sym (in_range table.number key is) ∙ out
-
   pub view_selected : (form : Form) (schema : Schema) (m : Changes) → Holds schema view m → table_at schema table.number ≡ Some table → keys.table ≡ table.number
       → selected_by table form keys (events view) ≡ answer m table form keys
   view_selected form schema m held is_table same =
       ap (selected_by table form keys) held.events_are ∙ selected_is schema table form keys is_table same m held.keys (sorted_from point_cmp m held.in_order)
 
-  pub answered : {A : Type 0} (items : A → List Shown) (found : List Event) (form : Form) (r : Result A Refusal)
-      → IsStrictlySortedBy event_cmp (events view) → found ≡ of_range table (events view) → IfOk r (λ v. items v ≡ selected_by table form keys found)
-      → IfOk r (λ v. WhenShown view table keys (λ m. items v ≡ answer m table form keys))
-  answered items found form (Err e) sorted are is = tt
-  answered items found form (Ok v) sorted are is = λ schema m held is_table same.
-      is ∙ ap (selected_by table form keys) are
-      ∙ sym (range_alone table form keys (is_key_in (range_of_table table.number)) others (events view) sorted)
-      ∙ view_selected form schema m held is_table same
+  each_out : (range : KeyRange) (es : List Event) → AllByRecursion (λ e. is_key_in range e.key ≡ false → IsOut table keys e.key) es → AllByRecursion (λ e. is_key_in range e.key ≡ false → is_taken table keys e.key ≡ false) es
+  each_out range [] h = tt
+  each_out range (e ∷ es) h = (λ out. out_taken table keys e.key (h.0 out), each_out range es h.1)
 
-  pub now_answered : {A : Type 0} (items : A → List Shown) (found : List Event) (last : ℕ) (r : Result A Refusal)
-      → All (λ e. e.at ≤ last) (events view) → found ≡ of_range table (events view) → IfOk r (λ v. items v ≡ selected_by table (AsOf last) keys found)
-      → IfOk r (λ v. items v ≡ selected_by table Plain keys found)
-  now_answered items found last (Err e) upto are is = tt
-  now_answered items found last (Ok v) upto are is =
-      is ∙ now_shown table last keys found
-      (recursion_from_All (λ (e : Event). e.at ≤ last) found (subst (All (λ (e : Event). e.at ≤ last)) (sym are) (All-filter (λ e. is_key_in (range_of_table table.number) e.key) (λ (e : Event). e.at ≤ last) (events view) upto)))
-
-  -- what a call listed of the range
-  pub listed : (range : KeyRange) (last : ℕ) (slice found : List Event) → All (λ e. e.at ≤ last) (events view) → slice ≡ found → found ≡ events_in (events view) range 0 last → range ≡ range_of_table table.number
-      → slice ≡ of_range table (events view)
-  listed range last slice found upto same is range_is =
-      same ∙ is ∙ ap (λ r. events_in (events view) r 0 last) range_is ∙ range_events table last (events view) (recursion_from_All (λ (e : Event). e.at ≤ last) (events view) upto)
+  -- events out of the search range show nothing
+  pub none_out : (range : KeyRange) → Covers table keys range → (schema : Schema) (m : Changes) → Holds schema view m → table_at schema table.number ≡ Some table
+      → AllByRecursion (λ e. is_key_in range e.key ≡ false → is_taken table keys e.key ≡ false) (events view)
+  none_out range covers schema m held is_table =
+      subst (AllByRecursion (λ e. is_key_in range e.key ≡ false → is_taken table keys e.key ≡ false)) (sym held.events_are)
+      (each_out range (events_of m) (out_of_range schema table keys range covers is_table m held.keys))

@@ -1,2 +1,3 @@
 pub mod Selection
 pub mod Standing
+pub mod Window

@@ -41,10 +41,6 @@ selected_by table form keys [] = []
 selected_by table form keys (e ∷ es) =
     cons_option (shown_of table form keys e (next_of e es)) (selected_by table form keys es)
 
-abbrev pub instant_of : Option Event → Option ℕ
-instant_of None = None
-instant_of (Some e) = Some e.at
-
 -- of all changes that the view shows, where the table is one of the schema's and the keys are its own
 abbrev pub WhenShown : TreeState → Table → Keys → (Changes → Type 0) → Type 0
 WhenShown view table keys P =

@@ -3,10 +3,10 @@
 
 mod period;
 mod selection;
-mod snapshot;
 mod standing;
 #[cfg(test)]
 mod tests;
+mod window;
 
 pub use selection::answer;
 pub use standing::{current_rows, rows_at};

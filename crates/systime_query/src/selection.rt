@@ -1,15 +1,15 @@
 //! The versions that a query selects.
-ghost use Rattle.std.specs.Prelude.{◌≡◌, ◌++◌, [], None, IfOk, Some};
+ghost use Rattle.std.specs.Prelude.{◌≡◌, ◌≤◌, IfOk};
 ghost use Rattle.values.specs.Versions.{answer};
 ghost use Rattle.values.specs.Memory.{OnlyMemory};
-ghost use Rattle.systime_query.specs.Selection.{WhenShown, next_of, selected_by};
+ghost use Rattle.systime_query.specs.Selection.{WhenShown};
+ghost use Rattle.systime_query.specs.Window.{IsWindow};
 
-use crate::period::{is_same, shown_of};
-use crate::snapshot::selected_at;
-use staging::range_of_table;
+use crate::window::{shown_in, window_events};
+use searchrange::search_range;
 use std::alloc::Global;
 use tsbtree::View;
-use values::{Event, Form, Instant, Keys, Mem, SharedEvent, Shown, Table};
+use values::{Form, Instant, Keys, Mem, Shown, Table};
 
 /// The versions of a table's rows that a query selects, with their periods, by key and then by start. The keys are of that table.
 /// An end after the view's last instant is none.
@@ -18,52 +18,53 @@ pub fn answer(alloc: Global, view: &View, table: &Table, form: Form, keys: &Keys
         v.items ≡ answer m table.now form keys.now)) }
     ensures err { OnlyMemory result }
 {
-    let range = range_of_table(alloc, table.number)?;
-    let last = view.last();
-    let events = view.events(alloc, &range, 0, last)?;
     match form {
-        Form::Plain => selected_at(alloc, &events, last, table, keys),
-        Form::AsOf(instant) => selected_at(alloc, &events, instant, table, keys),
-        Form::FromTo(_, _) | Form::Between(_, _) => select(alloc, &events, table, form, keys),
+        Form::Plain => current(alloc, view, table, keys),
+        Form::AsOf(instant) => within(alloc, view, table, form, keys, instant, instant),
+        Form::FromTo(from, to) => {
+            if from < to {
+                within(alloc, view, table, form, keys, from, to - 1)
+            } else {
+                Ok(Vec::new(alloc))
+            }
+        }
+        Form::Between(from, to) => {
+            if from <= to {
+                within(alloc, view, table, form, keys, from, to)
+            } else {
+                Ok(Vec::new(alloc))
+            }
+        }
     }
 }
 
-/// The versions that a query selects, of events in order.
-fn select(
+/// The versions that have not ended: those as of the last commit.
+fn current(alloc: Global, view: &View, table: &Table, keys: &Keys) -> Mem<Vec<Shown>>
+    ensures ok { IfOk result (λ v. WhenShown view.now table.now keys.now (λ m.
+        v.items ≡ answer m table.now Form.Plain keys.now)) }
+    ensures err { OnlyMemory result }
+{
+    let last = view.last();
+    within(alloc, view, table, Form::AsOf(last), keys, last, last)
+}
+
+/// The versions that a query selects which asks of the instants from one to another, and with it.
+fn within(
     alloc: Global,
-    events: &[SharedEvent],
+    view: &View,
     table: &Table,
     form: Form,
     keys: &Keys,
+    first: Instant,
+    last: Instant,
 ) -> Mem<Vec<Shown>>
-    ensures ok { IfOk result (λ v. v.items ≡ selected_by table.now form keys.now events.now) }
+    requires window { IsWindow form first last }
+    requires order { first ≤ last }
+    ensures ok { IfOk result (λ v. WhenShown view.now table.now keys.now (λ m.
+        v.items ≡ answer m table.now form keys.now)) }
     ensures err { OnlyMemory result }
 {
-    let mut shown = Vec::new(alloc);
-    let mut rest = events;
-    while let [event, behind @ ..] = rest {
-        rest = behind;
-        let event = event.event();
-        if let Some(version) = shown_of(alloc, event, next_of(event, behind), table, form, keys)? {
-            shown.push(version)?;
-        }
-    }
-    Ok(shown)
-}
-
-/// The instant of the first of the events, where it is of the same key.
-fn next_of(event: &Event, behind: &[SharedEvent]) -> Option<Instant>
-    ensures { result ≡ next_of event.now behind.now }
-{
-    match behind {
-        [next, ..] => {
-            let next = next.event();
-            if is_same(event.key(), next.key()) {
-                Some(next.at())
-            } else {
-                None
-            }
-        }
-        [] => None,
-    }
+    let range = search_range(alloc, table, keys)?;
+    let found = window_events(alloc, view, &range, first, last)?;
+    shown_in(alloc, view, &found, last, table, form, keys)
 }

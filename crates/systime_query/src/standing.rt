@@ -8,7 +8,7 @@ ghost use Rattle.systime_query.specs.Selection.{WhenShown};
 ghost use Rattle.systime_query.specs.Standing.{row_shown};
 
 use crate::period::is_taken;
-use staging::range_of_table;
+use searchrange::search_range;
 use std::alloc::Global;
 use tsbtree::View;
 use values::{Event, Instant, Keys, Mem, Row, SharedEvent, Table};
@@ -25,7 +25,7 @@ pub fn rows_at(
         v.items ≡ shown_rows m table.now (AsOf instant) keys.now)) }
     ensures err { OnlyMemory result }
 {
-    let range = range_of_table(alloc, table.number)?;
+    let range = search_range(alloc, table, keys)?;
     let standing = view.standing(alloc, &range, instant)?;
     Ok(rows_shown(alloc, &standing, table, keys)?)
 }
@@ -37,7 +37,7 @@ pub fn current_rows(alloc: Global, view: &View, table: &Table, keys: &Keys) -> M
     ensures err { OnlyMemory result }
 {
     let last = view.last();
-    let range = range_of_table(alloc, table.number)?;
+    let range = search_range(alloc, table, keys)?;
     let standing = view.standing(alloc, &range, last)?;
     Ok(rows_shown(alloc, &standing, table, keys)?)
 }

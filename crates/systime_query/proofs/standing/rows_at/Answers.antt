@@ -8,5 +8,5 @@ returns-clause-ok c =
       sorted = c.in_ok-standing.ensures.ordered;
       rows_are = c.in_ok-rows_shown.ensures.ok;
       stand = c.deref.ensures.value ∙ c.in_ok-standing.ensures.ok;
-      range_is = c.in_ok-range.ensures.ok;
+      covers = c.in_ok-range.ensures.covers;
     })

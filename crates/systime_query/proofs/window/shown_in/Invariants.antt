@@ -1,0 +1,10 @@
+use Rattle.std.proofs.Common.{◌≡◌, ◌++◌, length}
+use Rattle.tsbtree.specs.View.{events}
+use Rattle.systime_query.specs.Window.{shown_in}
+use Rattle.systime_query.proofs.window.shown_in.Given as goal
+
+abbrev pub decreases-loop-rest : goal.decreases-loop-rest
+decreases-loop-rest l = length l.rest
+
+abbrev pub invariant-loop-rest : goal.invariant-loop-rest
+invariant-loop-rest l = l.shown.items ++ shown_in (events l.view) l.last l.table l.form l.keys l.rest ≡ shown_in (events l.view) l.last l.table l.form l.keys l.found

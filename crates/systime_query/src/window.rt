@@ -1,0 +1,95 @@
+//! The events that a form asks of, and the versions that they begin.
+ghost use Rattle.std.specs.Prelude.{◌≡◌, ◌≤◌, ◌&&◌, IfOk, filter};
+ghost use Rattle.std.specs.List.Sorted.{IsStrictlySortedBy};
+ghost use Rattle.values.specs.Events.{event_cmp};
+ghost use Rattle.values.specs.Memory.{OnlyMemory};
+ghost use Rattle.keyrange.specs.Range.{is_key_in};
+ghost use Rattle.tsbtree.specs.View.{events};
+ghost use Rattle.systime_query.specs.Selection.{next_of};
+ghost use Rattle.systime_query.specs.Window.{is_in_window, end_of, shown_in};
+
+use crate::period::{is_same, shown_of};
+use eventlist::sort_events;
+use keyrange::KeyRange;
+use std::alloc::Global;
+use tsbtree::View;
+use values::{Event, Form, Instant, Keys, Mem, SharedEvent, Shown, Table};
+
+/// The events of a range of keys whose rows stand at the first instant, and those after it up to the last, by key and
+/// then by instant.
+pub(crate) fn window_events(
+    alloc: Global,
+    view: &View,
+    range: &KeyRange,
+    first: Instant,
+    last: Instant,
+) -> Mem<Vec<SharedEvent>>
+    requires { first ≤ last }
+    ensures ok { IfOk result (λ v. v.items
+        ≡ filter (λ e. is_in_window (events view.now) first last e && is_key_in range.now e.key)
+        (events view.now)) }
+    ensures ordered { IfOk result (λ _. IsStrictlySortedBy event_cmp (events view.now)) }
+    ensures err { OnlyMemory result }
+{
+    let mut found = view.standing(alloc, range, first)?;
+    if first < last {
+        let mut later = view.events(alloc, range, first + 1, last)?;
+        found.append(&mut later)?;
+    }
+    sort_events(&mut found)?;
+    Ok(found)
+}
+
+/// The versions that a query selects, of events in a window that ends with an instant.
+pub(crate) fn shown_in(
+    alloc: Global,
+    view: &View,
+    found: &[SharedEvent],
+    last: Instant,
+    table: &Table,
+    form: Form,
+    keys: &Keys,
+) -> Mem<Vec<Shown>>
+    ensures ok { IfOk result (λ v. v.items
+        ≡ shown_in (events view.now) last table.now form keys.now found.now) }
+    ensures err { OnlyMemory result }
+{
+    let mut shown = Vec::new(alloc);
+    let mut rest = found;
+    while let [event, behind @ ..] = rest {
+        rest = behind;
+        let event = event.event();
+        let end = end_of(view, last, event, behind);
+        if let Some(version) = shown_of(alloc, event, end, table, form, keys)? {
+            shown.push(version)?;
+        }
+    }
+    Ok(shown)
+}
+
+/// When the version of an event ends: at the event behind it, or else at its key's first change after the last instant.
+fn end_of(view: &View, last: Instant, event: &Event, behind: &[SharedEvent]) -> Option<Instant>
+    ensures { result ≡ end_of (events view.now) last event.now behind.now }
+{
+    match next_of(event, behind) {
+        Some(next) => Some(next),
+        None => view.next_change(event.key(), last),
+    }
+}
+
+/// The instant of the first of the events, where it is of the same key.
+fn next_of(event: &Event, behind: &[SharedEvent]) -> Option<Instant>
+    ensures { result ≡ next_of event.now behind.now }
+{
+    match behind {
+        [next, ..] => {
+            let next = next.event();
+            if is_same(event.key(), next.key()) {
+                Some(next.at())
+            } else {
+                None
+            }
+        }
+        [] => None,
+    }
+}
