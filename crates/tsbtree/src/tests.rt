@@ -259,7 +259,10 @@ fn the_next_change_is_found_over_splits(rt: HostRuntime) -> Result<(), Fail> {
     let alloc = rt.alloc();
     let mut tree = few_changes(&rt, alloc)?;
     for instant in [120, 140, 160, 180, 200] {
-        assert!(rt; tree.time_split(&key(&rt, alloc, 1)?, instant)?, "at {instant}");
+        assert!(rt;
+            tree.time_split(&key(&rt, alloc, 1)?, instant)?,
+            "at {instant}"
+        );
     }
     let view = tree.current();
     for (number, after, at) in [
