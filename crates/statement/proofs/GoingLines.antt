@@ -2,28 +2,30 @@
 use Rattle.std.proofs.Common.{◌≡◌, ℕ, Bool, true, false, List, [], ◌∷◌, ◌++◌, Ok, Err, inl, length, refl, ap, sym, subst, arith}
 use Rattle.std.specs.Prelude.{Result, ◌-◌, ◌^◌, if◌then◌else◌, codes}
 use Rattle.values.specs.Tables.{Schema}
+use Rattle.values.specs.declared.key.Key.{Key}
 use Rattle.values.specs.declared.refusal.Refusal.{Refusal}
 use Rattle.values.specs.declared.refusal.Refusal.TheVariants.{Syntax}
 use Rattle.tokens.specs.Token.{Read, ◌>>=◌}
 use Rattle.statement.specs.declared.line.Line.{Line}
 use Rattle.statement.specs.declared.line.Line.TheVariants.{Nothing}
 use Rattle.statement.specs.declared.line.Written.{Written}
-use Rattle.statement.specs.declared.line.Written.TheVariants.{Clock, Session}
+use Rattle.statement.specs.declared.line.Written.TheVariants.{Clock, SplitKey, SplitTime, Migrate, Session}
 use Rattle.statement.specs.Token.{next, symbol_at, word_at, end_at, after_semicolon}
 use Rattle.statement.specs.Literal.{digits_at}
 use Rattle.statement.specs.Statement.{instant_at, statement_at}
-use Rattle.statement.specs.Line.{begins_digit, is_nothing, clock_at, session_at, written_at, meaning_of, body_says}
-use Rattle.statement.specs.Grammar.{Piece, ◌⋯◌, ◌∣◌, Empty, Blanks, Symbol, Word, Digits, IsInstant, IsStatement, IsLine}
+use Rattle.statement.specs.Line.{begins_digit, is_nothing, clock_at, migrate_at, session_at, service_at, written_at, meaning_of, body_says}
+use Rattle.statement.specs.Split.{key_at, split_key_at, split_time_at, kind_at, split_at}
+use Rattle.statement.specs.Grammar.{Piece, ◌⋯◌, ◌∣◌, Empty, Blanks, Symbol, Word, Digits, IsInstant, IsStatement, IsKey, IsLine}
 use Rattle.statement.specs.GoingOn.{FrontsGoOn}
 use Rattle.statement.proofs.Gaps.{blanks_before}
 use Rattle.statement.proofs.Meanings.{never_syntax}
 use Rattle.statement.proofs.SoundLines.{semicolon_sound}
 use Rattle.tokens.proofs.Follows.{Moves, same_front}
-use Rattle.statement.proofs.Moves.{both_move, either_moves, empty_moves, blanks_move, word_moves, symbol_moves, digits_move, instant_moves, statement_moves}
-use Rattle.tokens.proofs.Going.{Usual, Reads, ReadsAfter, Then, Next, Last, usual_then, usual_next, usual_last, reads_then, reads_weaker, reads_past, after_then, reads_last, nothing}
+use Rattle.statement.proofs.Moves.{both_move, either_moves, empty_moves, blanks_move, word_moves, symbol_moves, digits_move, instant_moves, key_moves, statement_moves}
+use Rattle.tokens.proofs.Going.{Usual, Reads, ReadsAfter, Then, Next, Last, usual_then, usual_next, usual_last, usual_weaker, reads_then, reads_weaker, reads_past, reads_either, after_then, after_read, reads_last, nothing}
 use Rattle.statement.proofs.Going.{usual_of}
-use Rattle.statement.proofs.GoingTokens.{symbol_usual, symbol_reads, word_reads, digits_reads, instant_usual, instant_reads}
-use Rattle.statement.proofs.GoingStatements.{statement_usual, statement_reads}
+use Rattle.statement.proofs.GoingTokens.{symbol_usual, symbol_reads, word_usual, word_reads, digits_reads, instant_usual, instant_reads}
+use Rattle.statement.proofs.GoingStatements.{key_usual, key_reads, statement_usual, statement_reads}
 
 -- ---- the end of a line
 
@@ -69,11 +71,17 @@ module _ (schema : Schema) where
   -- the bytes before the rest are a line, which says this
   LinePiece : Written → Piece
   LinePiece (Clock instant) = Word (codes "CLOCK") ⋯ Symbol 58 ⋯ IsInstant instant ⋯ Blanks
+  LinePiece (SplitKey key) = Word (codes "SPLIT") ⋯ Symbol 58 ⋯ Word (codes "KEY") ⋯ IsKey schema key ⋯ Blanks
+  LinePiece (SplitTime key instant) = Word (codes "SPLIT") ⋯ Symbol 58 ⋯ Word (codes "TIME") ⋯ IsKey schema key ⋯ Word (codes "AT") ⋯ IsInstant instant ⋯ Blanks
+  LinePiece Migrate = Word (codes "MIGRATE") ⋯ Symbol 58 ⋯ Blanks
   LinePiece (Session session statement) = (Blanks ⋯ Digits (2 ^ 63 - 1) session) ⋯ Symbol 58 ⋯ IsStatement schema statement ⋯ (Empty ∣ Symbol 59) ⋯ Blanks
 
   line_of : (w : Written) (bytes : List ℕ) → LinePiece w bytes [] → IsLine schema w bytes
   unfolding LinePiece
   line_of (Clock instant) bytes is = is
+  line_of (SplitKey key) bytes is = is
+  line_of (SplitTime key instant) bytes is = is
+  line_of Migrate bytes is = is
   line_of (Session session statement) bytes is = is
 
   ClockInstant : Written → Piece
@@ -97,6 +105,113 @@ module _ (schema : Schema) where
       after_then (symbol_at 58 a) _ (symbol_moves 58) clock_instant_usual (symbol_reads 58 a) (λ b.
       reads_then (instant_at b) _ instant_moves (λ instant. usual_last (Clock instant) end_usual) (instant_reads b) (λ instant c.
       reads_last (Clock instant) (end_at c) (end_reads c))))) clock_of
+
+  -- what splits a key, after the word for it
+  SplitsKey : Written → Piece
+  SplitsKey = Then (IsKey schema) (λ key. Last (SplitKey key) Blanks)
+
+  splits_key_usual : Usual SplitsKey
+  unfolding SplitsKey
+  splits_key_usual = usual_then (key_usual schema) (λ key. usual_last (SplitKey key) end_usual)
+
+  split_key_reads : (bytes : List ℕ) → Reads SplitsKey bytes (split_key_at schema bytes)
+  unfolding split_key_at SplitsKey
+  split_key_reads bytes =
+      reads_then (key_at schema bytes) _ (key_moves schema) (λ key. usual_last (SplitKey key) end_usual) (key_reads schema bytes) (λ key a.
+      reads_last (SplitKey key) (end_at a) (end_reads a))
+
+  TimeInstant : Key → Written → Piece
+  TimeInstant key = Then IsInstant (λ instant. Last (SplitTime key instant) Blanks)
+
+  time_instant_usual : (key : Key) → Usual (TimeInstant key)
+  unfolding TimeInstant
+  time_instant_usual key = usual_then (usual_of instant_usual) (λ instant. usual_last (SplitTime key instant) end_usual)
+
+  TimeRest : Key → Written → Piece
+  TimeRest key = Next (Word (codes "AT")) (TimeInstant key)
+
+  time_rest_usual : (key : Key) → Usual (TimeRest key)
+  unfolding TimeRest
+  time_rest_usual key = usual_next (usual_of (word_usual (codes "AT") refl)) (time_instant_usual key)
+
+  SplitsTime : Written → Piece
+  SplitsTime = Then (IsKey schema) TimeRest
+
+  splits_time_usual : Usual SplitsTime
+  unfolding SplitsTime
+  splits_time_usual = usual_then (key_usual schema) time_rest_usual
+
+  split_time_reads : (bytes : List ℕ) → Reads SplitsTime bytes (split_time_at schema bytes)
+  unfolding split_time_at SplitsTime TimeRest TimeInstant
+  split_time_reads bytes =
+      reads_then (key_at schema bytes) _ (key_moves schema) time_rest_usual (key_reads schema bytes) (λ key a.
+      after_then (word_at (codes "AT") a) _ (word_moves (codes "AT")) (time_instant_usual key) (word_reads (codes "AT") refl a) (λ b.
+      reads_then (instant_at b) _ instant_moves (λ instant. usual_last (SplitTime key instant) end_usual) (instant_reads b) (λ instant c.
+      reads_last (SplitTime key instant) (end_at c) (end_reads c))))
+
+  -- what stands after SPLIT and the colon
+  Kind : Written → Piece
+  Kind (Clock instant) = λ bytes rest. ⊥
+  Kind (SplitKey key) = Word (codes "KEY") ⋯ IsKey schema key ⋯ Blanks
+  Kind (SplitTime key instant) = Word (codes "TIME") ⋯ IsKey schema key ⋯ Word (codes "AT") ⋯ IsInstant instant ⋯ Blanks
+  Kind Migrate = λ bytes rest. ⊥
+  Kind (Session session statement) = λ bytes rest. ⊥
+
+  split_key_of : (w : Written) (bytes rest : List ℕ) → Next (Word (codes "KEY")) SplitsKey w bytes rest → Kind w bytes rest
+  unfolding SplitsKey Kind
+  split_key_of w bytes rest n =
+      let t = n.second in
+      subst (λ (w : Written). Kind w bytes rest) (sym (t.second).0) (n.between, (n.first, (t.between, (t.first, (t.second).1))))
+
+  split_time_of : (w : Written) (bytes rest : List ℕ) → Next (Word (codes "TIME")) SplitsTime w bytes rest → Kind w bytes rest
+  unfolding SplitsTime TimeRest TimeInstant Kind
+  split_time_of w bytes rest n =
+      let t = n.second in
+      let a = t.second in
+      let i = a.second in
+      subst (λ (w : Written). Kind w bytes rest) (sym (i.second).0)
+      (n.between, (n.first, (t.between, (t.first, (a.between, (a.first, (i.between, (i.first, (i.second).1))))))))
+
+  kind_usual : Usual Kind
+  kind_usual = usual_weaker (λ w. w) (usual_next (usual_of (word_usual (codes "KEY") refl)) splits_key_usual) split_key_of
+
+  kind_reads : (bytes : List ℕ) → Reads Kind bytes (kind_at schema bytes)
+  unfolding kind_at
+  kind_reads bytes =
+      reads_either (word_at (codes "KEY") bytes) _ _ (word_moves (codes "KEY")) (word_reads (codes "KEY") refl bytes) split_key_of split_key_reads (λ _ _.
+      reads_weaker _ (after_read (word_at (codes "TIME") bytes) (split_time_at schema) (word_moves (codes "TIME")) splits_time_usual (word_reads (codes "TIME") refl bytes) split_time_reads) split_time_of)
+
+  split_opened : (w : Written) (bytes a b rest : List ℕ) → Word (codes "SPLIT") bytes a → Symbol 58 a b → Kind w b rest → LinePiece w bytes rest
+  unfolding Kind LinePiece
+  split_opened (Clock instant) bytes a b rest word colon is = absurd is
+  split_opened (SplitKey key) bytes a b rest word colon is = (a, (word, (b, (colon, is))))
+  split_opened (SplitTime key instant) bytes a b rest word colon is = (a, (word, (b, (colon, is))))
+  split_opened Migrate bytes a b rest word colon is = absurd is
+  split_opened (Session session statement) bytes a b rest word colon is = absurd is
+
+  split_of : (w : Written) (bytes rest : List ℕ) → Next (Word (codes "SPLIT")) (Next (Symbol 58) Kind) w bytes rest → LinePiece w bytes rest
+  split_of w bytes rest n = let a = n.second in split_opened w bytes n.between a.between rest n.first a.first a.second
+
+  split_reads : (bytes : List ℕ) → Reads (Next (Symbol 58) Kind) bytes (split_at schema bytes)
+  unfolding split_at
+  split_reads bytes = after_then (symbol_at 58 bytes) (kind_at schema) (symbol_moves 58) kind_usual (symbol_reads 58 bytes) kind_reads
+
+  migrate_of : (w : Written) (bytes rest : List ℕ) → Next (Word (codes "MIGRATE")) (Next (Symbol 58) (Last Migrate Blanks)) w bytes rest → LinePiece w bytes rest
+  unfolding LinePiece
+  migrate_of w bytes rest n =
+      let a = n.second in
+      subst (λ (w : Written). LinePiece w bytes rest) (sym (a.second).0) (n.between, (n.first, (a.between, (a.first, (a.second).1))))
+
+  migrate_reads : (bytes : List ℕ) → Reads (Next (Symbol 58) (Last Migrate Blanks)) bytes (migrate_at bytes)
+  unfolding migrate_at
+  migrate_reads bytes =
+      after_then (symbol_at 58 bytes) _ (symbol_moves 58) (usual_last Migrate end_usual) (symbol_reads 58 bytes) (λ a. reads_last Migrate (end_at a) (end_reads a))
+
+  service_reads : (bytes : List ℕ) → Reads LinePiece bytes (service_at schema bytes)
+  unfolding service_at
+  service_reads bytes =
+      reads_either (word_at (codes "SPLIT") bytes) _ _ (word_moves (codes "SPLIT")) (word_reads (codes "SPLIT") refl bytes) split_of split_reads (λ _ _.
+      reads_either (word_at (codes "MIGRATE") bytes) _ _ (word_moves (codes "MIGRATE")) (word_reads (codes "MIGRATE") refl bytes) migrate_of migrate_reads (λ _ _. clock_reads bytes))
 
   SessionStatement : ℕ → Written → Piece
   SessionStatement session = Then (IsStatement schema) (λ statement. Closed (Session session statement))
@@ -136,9 +251,9 @@ module _ (schema : Schema) where
   unfolding written_at
   written_reads bytes = by_test (begins_digit (next bytes))
     where
-      by_test : (t : Bool) → Reads LinePiece bytes (if t then session_at schema bytes else clock_at bytes)
+      by_test : (t : Bool) → Reads LinePiece bytes (if t then session_at schema bytes else service_at schema bytes)
       by_test true = session_reads bytes
-      by_test false = clock_reads bytes
+      by_test false = service_reads bytes
 
   -- ---- where a fault is
 

@@ -83,7 +83,7 @@ pub row_reads : (bytes : List ℕ) → Reads IsRow bytes (row_at bytes)
 unfolding row_at
 row_reads bytes = enclosed_reads Literal literal_at literal_moves (usual_of literal_usual) literal_reads bytes
 
-row_usual : Usual IsRow
+pub row_usual : Usual IsRow
 row_usual = enclosed_usual Literal literal_at literal_moves (usual_of literal_usual) literal_reads
 
 pub rows_reads : (bytes : List ℕ) → Reads (Listed (Symbol 44) IsRow) bytes (rows_at bytes)

@@ -1,62 +1,154 @@
 -- Reading stops in a statement, and the bytes before it can go on to one.
-use Rattle.std.proofs.Common.{◌≡◌, ℕ, List, [], Some, None, inl, inr, refl, sym, subst}
+use Rattle.std.proofs.Common.{◌≡◌, ℕ, true, List, [], Some, None, inl, inr, refl, sym, subst}
 use Rattle.std.specs.Prelude.{Option, codes}
 use Rattle.values.specs.Tables.{Schema}
 use Rattle.values.specs.declared.query.Comparison.{Comparison}
 use Rattle.values.specs.declared.query.Form.{Form}
-use Rattle.values.specs.declared.query.Form.TheVariants.{Plain, AsOf}
+use Rattle.values.specs.declared.query.Form.TheVariants.{Plain, AsOf, FromTo, Between}
 use Rattle.values.specs.declared.query.Keys.{Keys}
 use Rattle.values.specs.declared.query.Operator.{Operator}
 use Rattle.values.specs.declared.query.Set.{Set}
 use Rattle.values.specs.declared.value.Value.{Value}
+use Rattle.values.specs.declared.key.Key.{Key}
+use Rattle.values.specs.Log.{Row}
 use Rattle.statement.specs.declared.statement.Statement.{Statement}
 use Rattle.statement.specs.declared.statement.Statement.TheVariants.{Begin, Insert, Update, Delete, Select, Commit, Rollback}
 use Rattle.statement.specs.Token.{symbol_at, word_at}
-use Rattle.statement.specs.Literal.{literal_at, rows_at}
+use Rattle.statement.specs.Literal.{literal_at, row_at, rows_at}
 use Rattle.statement.specs.Condition.{table_name_at, column_name_at, operator_at, set_at, comparison_at, sets_at, comparisons_at, columns_at, keys_at}
-use Rattle.statement.specs.Statement.{instant_at, as_of_at, form_at, start_at, listed_at, insert_at, update_at, delete_at, select_at, data_at, statement_at}
-use Rattle.statement.specs.Grammar.{Piece, ◌∣◌, Empty, Symbol, Word, Literal, Listed, IsRow, IsOperator, IsInstant, IsForm, IsTable, IsColumn, IsSet, IsComparison, IsColumnList, IsWhere, IsStatement}
+use Rattle.statement.specs.Statement.{instant_at, as_of_at, period_at, between_at, selection_at, system_time_at, form_at, start_at, listed_at, insert_at, update_at, delete_at, select_at, data_at, statement_at}
+use Rattle.statement.specs.Grammar.{Piece, ◌⋯◌, ◌∣◌, Empty, Symbol, Word, Literal, Listed, IsRow, IsOperator, IsInstant, IsForm, IsTable, IsColumn, IsSet, IsComparison, IsColumnList, IsWhere, IsStatement, IsKey}
+use Rattle.statement.specs.Split.{key_at}
 use Rattle.statement.proofs.SoundLines.{work_sound, where_of, table_at_keys}
-use Rattle.statement.proofs.Moves.{word_moves, symbol_moves, operator_moves, list_moves, form_moves, table_moves, column_moves, set_moves, comparison_moves, column_list_moves}
+use Rattle.statement.proofs.Moves.{word_moves, symbol_moves, operator_moves, instant_moves, list_moves, form_moves, table_moves, column_moves, set_moves, comparison_moves, column_list_moves}
 use Rattle.tokens.proofs.Going.{Usual, Reads, Then, Next, By, Last, usual_then, usual_next, usual_weaker, usual_by, reads_then, reads_weaker, reads_either, reads_whether, after_then, after_read, reads_by, reads_last, nothing}
 use Rattle.statement.proofs.Going.{usual_of}
 use Rattle.statement.proofs.GoingTokens.{symbol_usual, symbol_reads, word_usual, word_reads, table_usual, table_reads, column_usual, column_reads, instant_usual, instant_reads, literal_usual, literal_reads, operator_usual, operator_reads}
-use Rattle.statement.proofs.GoingLists.{list_reads, list_usual, enclosed_reads, rows_reads, rows_usual}
+use Rattle.statement.proofs.GoingLists.{list_reads, list_usual, enclosed_reads, row_reads, row_usual, rows_reads, rows_usual}
+use Rattle.tokens.proofs.Follows.{is_plain_word}
 
--- ---- AS OF
+-- ---- FOR SYSTEM_TIME
 
 AsOfRest : Form → Piece
-AsOfRest = Next (Word (codes "SYSTEM_TIME")) (Next (Word (codes "AS")) (Next (Word (codes "OF")) (By AsOf IsInstant)))
+AsOfRest = Next (Word (codes "OF")) (By AsOf IsInstant)
 
-form_of : (form : Form) (bytes rest : List ℕ) → Next (Word (codes "FOR")) AsOfRest form bytes rest → IsForm form bytes rest
+as_of_usual : Usual AsOfRest
 unfolding AsOfRest
-form_of form bytes rest n =
-    let a = n.second in
-    let b = a.second in
-    let c = b.second in
-    let d = c.second in
-    subst (λ (f : Form). IsForm f bytes rest) (sym d.1.0) (n.between, (n.first, (a.between, (a.first, (b.between, (b.first, (c.between, (c.first, d.1.1))))))))
+as_of_usual = usual_next (usual_of (word_usual (codes "OF") refl)) (usual_by AsOf (usual_of instant_usual))
 
 as_of_reads : (bytes : List ℕ) → Reads AsOfRest bytes (as_of_at bytes)
 unfolding AsOfRest as_of_at
-as_of_reads bytes =
-    let last : Usual (By AsOf IsInstant) = usual_by AsOf (usual_of instant_usual) in
-    let of : Usual (Next (Word (codes "OF")) (By AsOf IsInstant)) = usual_next (usual_of (word_usual (codes "OF") refl)) last in
-    let as_of : Usual (Next (Word (codes "AS")) (Next (Word (codes "OF")) (By AsOf IsInstant))) = usual_next (usual_of (word_usual (codes "AS") refl)) of in
-    after_then _ _ (word_moves (codes "SYSTEM_TIME")) as_of (word_reads (codes "SYSTEM_TIME") refl bytes) (λ a.
-    after_then _ _ (word_moves (codes "AS")) of (word_reads (codes "AS") refl a) (λ b.
-    after_then _ _ (word_moves (codes "OF")) last (word_reads (codes "OF") refl b) (λ c.
-    reads_by AsOf (instant_at c) (instant_reads c))))
+as_of_reads bytes = after_then (word_at (codes "OF") bytes) _ (word_moves (codes "OF")) (usual_by AsOf (usual_of instant_usual)) (word_reads (codes "OF") refl bytes) (λ a. reads_by AsOf (instant_at a) (instant_reads a))
+
+PeriodEnd : List ℕ → (ℕ → ℕ → Form) → ℕ → Form → Piece
+PeriodEnd word form start = Next (Word word) (By (form start) IsInstant)
+
+Period : List ℕ → (ℕ → ℕ → Form) → Form → Piece
+Period word form = Then IsInstant (PeriodEnd word form)
+
+period_end_usual : (word : List ℕ) → is_plain_word word ≡ true → (form : ℕ → ℕ → Form) (start : ℕ) → Usual (PeriodEnd word form start)
+unfolding PeriodEnd
+period_end_usual word plain form start = usual_next (usual_of (word_usual word plain)) (usual_by (form start) (usual_of instant_usual))
+
+period_usual : (word : List ℕ) → is_plain_word word ≡ true → (form : ℕ → ℕ → Form) → Usual (Period word form)
+unfolding Period
+period_usual word plain form = usual_then (usual_of instant_usual) (period_end_usual word plain form)
+
+period_reads : (word : List ℕ) → is_plain_word word ≡ true → (form : ℕ → ℕ → Form) (bytes : List ℕ) → Reads (Period word form) bytes (period_at word form bytes)
+unfolding Period PeriodEnd period_at
+period_reads word plain form bytes =
+    reads_then (instant_at bytes) _ instant_moves (period_end_usual word plain form) (instant_reads bytes) (λ start a.
+    after_then (word_at word a) _ (word_moves word) (usual_by (form start) (usual_of instant_usual)) (word_reads word plain a) (λ b.
+    reads_by (form start) (instant_at b) (instant_reads b)))
+
+-- what stands after SYSTEM_TIME
+Selection : Form → Piece
+Selection Plain = λ bytes rest. ⊥
+Selection (AsOf instant) = Word (codes "AS") ⋯ Word (codes "OF") ⋯ IsInstant instant
+Selection (FromTo start end) = Word (codes "FROM") ⋯ IsInstant start ⋯ Word (codes "TO") ⋯ IsInstant end
+Selection (Between start end) = Word (codes "BETWEEN") ⋯ IsInstant start ⋯ Word (codes "AND") ⋯ IsInstant end
+
+as_of_of : (form : Form) (bytes rest : List ℕ) → Next (Word (codes "AS")) AsOfRest form bytes rest → Selection form bytes rest
+unfolding AsOfRest Selection
+as_of_of form bytes rest n =
+    let a = n.second in
+    let d = a.second in
+    subst (λ (f : Form). Selection f bytes rest) (sym d.1.0) (n.between, (n.first, (a.between, (a.first, d.1.1))))
+
+from_to_of : (form : Form) (bytes rest : List ℕ) → Next (Word (codes "FROM")) (Period (codes "TO") FromTo) form bytes rest → Selection form bytes rest
+unfolding Period PeriodEnd Selection
+from_to_of form bytes rest n =
+    let t = n.second in
+    let a = t.second in
+    let d = a.second in
+    subst (λ (f : Form). Selection f bytes rest) (sym d.1.0) (n.between, (n.first, (t.between, (t.first, (a.between, (a.first, d.1.1))))))
+
+between_of : (form : Form) (bytes rest : List ℕ) → Next (Word (codes "BETWEEN")) (Period (codes "AND") Between) form bytes rest → Selection form bytes rest
+unfolding Period PeriodEnd Selection
+between_of form bytes rest n =
+    let t = n.second in
+    let a = t.second in
+    let d = a.second in
+    subst (λ (f : Form). Selection f bytes rest) (sym d.1.0) (n.between, (n.first, (t.between, (t.first, (a.between, (a.first, d.1.1))))))
+
+selection_usual : Usual Selection
+selection_usual = usual_weaker (λ f. f) (usual_next (usual_of (word_usual (codes "AS") refl)) as_of_usual) as_of_of
+
+selection_reads : (bytes : List ℕ) → Reads Selection bytes (selection_at bytes)
+unfolding selection_at
+selection_reads bytes =
+    reads_either (word_at (codes "AS") bytes) _ _ (word_moves (codes "AS")) (word_reads (codes "AS") refl bytes) as_of_of as_of_reads (λ _ _.
+    reads_either (word_at (codes "FROM") bytes) _ _ (word_moves (codes "FROM")) (word_reads (codes "FROM") refl bytes) from_to_of (period_reads (codes "TO") refl FromTo) (λ _ _.
+    reads_weaker _ (after_read (word_at (codes "BETWEEN") bytes) between_at (word_moves (codes "BETWEEN")) (period_usual (codes "AND") refl Between) (word_reads (codes "BETWEEN") refl bytes) (period_reads (codes "AND") refl Between)) between_of))
+
+form_opened : (form : Form) (bytes a b rest : List ℕ) → Word (codes "FOR") bytes a → Word (codes "SYSTEM_TIME") a b → Selection form b rest → IsForm form bytes rest
+unfolding Selection
+form_opened Plain bytes a b rest one two is = absurd is
+form_opened (AsOf instant) bytes a b rest one two is = (a, (one, (b, (two, is))))
+form_opened (FromTo start end) bytes a b rest one two is = (a, (one, (b, (two, is))))
+form_opened (Between start end) bytes a b rest one two is = (a, (one, (b, (two, is))))
+
+form_of : (form : Form) (bytes rest : List ℕ) → Next (Word (codes "FOR")) (Next (Word (codes "SYSTEM_TIME")) Selection) form bytes rest → IsForm form bytes rest
+form_of form bytes rest n = let a = n.second in form_opened form bytes n.between a.between rest n.first a.first a.second
+
+system_time_reads : (bytes : List ℕ) → Reads (Next (Word (codes "SYSTEM_TIME")) Selection) bytes (system_time_at bytes)
+unfolding system_time_at
+system_time_reads bytes = after_then (word_at (codes "SYSTEM_TIME") bytes) selection_at (word_moves (codes "SYSTEM_TIME")) selection_usual (word_reads (codes "SYSTEM_TIME") refl bytes) selection_reads
 
 form_reads : (bytes : List ℕ) → Reads IsForm bytes (form_at bytes)
 unfolding form_at
 form_reads bytes =
-    reads_either (word_at (codes "FOR") bytes) _ _ (word_moves (codes "FOR")) (word_reads (codes "FOR") refl bytes) form_of as_of_reads (λ at c. record { it = refl })
+    reads_either (word_at (codes "FOR") bytes) _ _ (word_moves (codes "FOR")) (word_reads (codes "FOR") refl bytes) form_of system_time_reads (λ at c. record { it = refl })
 
 form_usual : Usual IsForm
 form_usual = nothing Plain (λ tail. refl)
 
 module _ (schema : Schema) where
+  -- ---- a key
+
+  keyed : ℕ → Row → Key
+  keyed table parts = record { table = table; parts = parts }
+
+  KeyParts : ℕ → Key → Piece
+  KeyParts table = By (keyed table) IsRow
+
+  key_of : (key : Key) (bytes rest : List ℕ) → Then (IsTable schema) KeyParts key bytes rest → IsKey schema key bytes rest
+  unfolding KeyParts keyed
+  key_of key bytes rest t = let b = t.second in subst (λ (k : Key). IsKey schema k bytes rest) (sym b.1.0) (t.between, (t.first, b.1.1))
+
+  key_parts_usual : (table : ℕ) → Usual (KeyParts table)
+  unfolding KeyParts
+  key_parts_usual table = usual_by (keyed table) row_usual
+
+  pub key_reads : (bytes : List ℕ) → Reads (IsKey schema) bytes (key_at schema bytes)
+  unfolding key_at KeyParts keyed
+  key_reads bytes =
+      reads_weaker _ (reads_then (table_name_at schema bytes) _ (table_moves schema) key_parts_usual (table_reads schema bytes) (λ table a.
+      reads_by (keyed table) (row_at a) (row_reads a))) key_of
+
+  pub key_usual : Usual (IsKey schema)
+  key_usual = usual_weaker (λ k. k) (usual_then (usual_of (table_usual schema)) key_parts_usual) key_of
+
   module _ (table : ℕ) where
     -- ---- SET and WHERE
 

@@ -8,12 +8,12 @@ use Rattle.values.specs.Log.{Row}
 use Rattle.values.specs.declared.refusal.Refusal.{Refusal}
 use Rattle.values.specs.declared.refusal.Refusal.TheVariants.{Syntax, NoTable, BadRow, NoSession}
 use Rattle.histories.specs.declared.step.Step.{Step}
-use Rattle.histories.specs.declared.step.Step.TheVariants.{Begin as Begins, Insert as Inserts, Update as Updates, Delete as Deletes, Select as Selects, Commit as Commits, Rollback as RollsBack}
+use Rattle.histories.specs.declared.step.Step.TheVariants.{Begin as Begins, Insert as Inserts, Update as Updates, Delete as Deletes, Select as Selects, Commit as Commits, Rollback as RollsBack, SplitKey as SplitsKey, SplitTime as SplitsTime}
 use Rattle.histories.specs.Misfit.{max_session, misfit, misfit_of, no_session, bad_row}
 use Rattle.tokens.specs.Token.{◌>>=◌}
 use Rattle.statement.specs.declared.line.Line.{Line}
 use Rattle.statement.specs.declared.line.Written.{Written}
-use Rattle.statement.specs.declared.line.Written.TheVariants.{Clock, Session}
+use Rattle.statement.specs.declared.line.Written.TheVariants.{Clock, SplitKey, SplitTime, Migrate, Session}
 use Rattle.statement.specs.declared.statement.Statement.{Statement}
 use Rattle.statement.specs.declared.statement.Statement.TheVariants.{Begin, Insert, Update, Delete, Select, Commit, Rollback}
 use Rattle.statement.specs.Meaning.{is_good_list, row_values, row_in, fitting_row, fitting_rows, fitting_step, insert_step, session_step, step_of}
@@ -128,6 +128,9 @@ module _ (schema : Schema) where
   written_says : (reading : ℕ) (written : Written) → Says (meaning_of schema reading written)
   unfolding meaning_of
   written_says reading (Clock instant) = record { it = tt }
+  written_says reading (SplitKey key) = then_says _ _ (step_says (SplitsKey key) (table_misses 0 key.table _)) (λ step. record { it = tt })
+  written_says reading (SplitTime key instant) = then_says _ _ (step_says (SplitsTime key instant) (table_misses 0 key.table _)) (λ step. record { it = tt })
+  written_says reading Migrate = record { it = tt }
   written_says reading (Session session statement) = then_says _ _ (step_of_says reading session statement) (λ step. record { it = tt })
 
   -- a line of the grammar is never refused for its syntax

@@ -13,13 +13,14 @@ use Rattle.values.specs.declared.query.Operator.{Operator}
 use Rattle.values.specs.declared.query.Operator.TheVariants.{Equal, Below, AtMost, Above, AtLeast}
 use Rattle.values.specs.declared.query.Comparison.{Comparison}
 use Rattle.values.specs.declared.query.Set.{Set}
+use Rattle.values.specs.declared.key.Key.{Key}
 use Rattle.values.specs.Log.{Row}
 use Rattle.statement.specs.declared.statement.Statement.{Statement}
 use Rattle.statement.specs.declared.statement.Statement.TheVariants.{Begin, Insert, Update, Delete, Select, Commit, Rollback}
 use Rattle.tokens.specs.Run.{Ends, Run}
 use Rattle.tokens.specs.Word.{is_name_byte}
 use Rattle.tokens.proofs.Follows.{Follows, front_follows, ends_so, Moves}
-use Rattle.statement.specs.Grammar.{Piece, ◌⋯◌, ◌∣◌, Empty, Blanks, Exactly, Symbol, Word, Name, Digits, Number, doubled, is_quote, Quoted, Literal, Listed, Enclosed, IsRow, IsOperator, IsInstant, IsForm, IsTable, IsColumn, IsSet, IsComparison, IsColumnList, IsWhere, IsStatement}
+use Rattle.statement.specs.Grammar.{Piece, ◌⋯◌, ◌∣◌, Empty, Blanks, Exactly, Symbol, Word, Name, Digits, Number, doubled, is_quote, Quoted, Literal, Listed, Enclosed, IsRow, IsOperator, IsInstant, IsForm, IsTable, IsColumn, IsSet, IsComparison, IsColumnList, IsWhere, IsStatement, IsKey}
 
 pub both_move : {P Q : Piece} → Moves P → Moves Q → Moves (P ⋯ Q)
 both_move {P} {Q} p q bytes rest is =
@@ -127,12 +128,16 @@ operator_moves AtLeast = both_move blanks_move (text_moves (62 ∷ 61 ∷ []))
 pub instant_moves : (n : ℕ) → Moves (IsInstant n)
 instant_moves n = both_move blanks_move (digits_move max_instant n)
 
+period_moves : (first second : List ℕ) (start end : ℕ) → Moves (Word (codes "FOR") ⋯ Word (codes "SYSTEM_TIME") ⋯ Word first ⋯ IsInstant start ⋯ Word second ⋯ IsInstant end)
+period_moves first second start end =
+    both_move (word_moves (codes "FOR")) (both_move (word_moves (codes "SYSTEM_TIME")) (both_move (word_moves first) (both_move (instant_moves start) (both_move (word_moves second) (instant_moves end)))))
+
 pub form_moves : (form : Form) → Moves (IsForm form)
 form_moves Plain = empty_moves
 form_moves (AsOf instant) =
     both_move (word_moves (codes "FOR")) (both_move (word_moves (codes "SYSTEM_TIME")) (both_move (word_moves (codes "AS")) (both_move (word_moves (codes "OF")) (instant_moves instant))))
-form_moves (FromTo from to) = λ bytes rest is. absurd is
-form_moves (Between from to) = λ bytes rest is. absurd is
+form_moves (FromTo start end) = period_moves (codes "FROM") (codes "TO") start end
+form_moves (Between start end) = period_moves (codes "BETWEEN") (codes "AND") start end
 
 module _ (schema : Schema) where
   pub table_moves : (number : ℕ) → Moves (IsTable schema number)
@@ -142,6 +147,9 @@ module _ (schema : Schema) where
   pub column_moves : (table number : ℕ) → Moves (IsColumn schema table number)
   column_moves table number bytes rest is =
       let a = name_moves is.0 bytes rest is.1.0 in record { taken = a.taken; place = a.place; stays = λ other follows. (is.0, (a.stays other follows, is.1.1)) }
+
+  pub key_moves : (key : Key) → Moves (IsKey schema key)
+  key_moves key = both_move (table_moves key.table) (row_moves key.parts)
 
   module _ (table : ℕ) where
     pub set_moves : (set : Set) → Moves (IsSet schema table set)

@@ -6,12 +6,13 @@ use Rattle.std.specs.Str.{is_utf8}
 use Rattle.std.proofs.lemmas.List.{length-append}
 use Rattle.values.specs.Commits.{max_instant}
 use Rattle.values.specs.Tables.{Schema}
-use Rattle.values.specs.declared.query.Form.TheVariants.{Plain, AsOf}
+use Rattle.values.specs.declared.query.Form.{Form}
+use Rattle.values.specs.declared.query.Form.TheVariants.{Plain, AsOf, FromTo, Between}
 use Rattle.values.specs.declared.query.Operator.{Operator}
 use Rattle.values.specs.declared.query.Operator.TheVariants.{Equal, Below, AtMost, Above, AtLeast}
 use Rattle.values.specs.declared.value.Value.{Value}
 use Rattle.values.specs.declared.value.Value.TheVariants.{Int, Text, Bool as Truth, Null}
-use Rattle.statement.specs.declared.line.Written.TheVariants.{Clock, Session}
+use Rattle.statement.specs.declared.line.Written.TheVariants.{Clock, SplitKey, SplitTime, Migrate, Session}
 use Rattle.statement.specs.declared.statement.Statement.{Statement}
 use Rattle.statement.specs.declared.statement.Statement.TheVariants.{Begin, Commit, Rollback}
 use Rattle.tokens.specs.Token.{After, Read, ◌>>=◌}
@@ -20,8 +21,9 @@ use Rattle.statement.specs.Token.{next, symbol_at, word_at, name_at, end_at, aft
 use Rattle.statement.specs.List.{list_at, enclosed_at}
 use Rattle.statement.specs.Literal.{digits_here, digits_at, begins_with, above_nought, below_nought, number_at, quoted_from, quoted, text_of, text_at, constant_at, begins_number, literal_at, row_at, rows_at}
 use Rattle.statement.specs.Condition.{table_of, column_of, table_name_at, column_name_at, or_equal, operator_of, operator_at, set_at, comparison_at, sets_at, comparisons_at, columns_at, keys_at}
-use Rattle.statement.specs.Statement.{instant_at, as_of_at, form_at, start_at, listed_at, insert_at, update_at, delete_at, select_at, data_at, statement_at}
-use Rattle.statement.specs.Line.{begins_digit, clock_at, session_at, written_at}
+use Rattle.statement.specs.Statement.{instant_at, as_of_at, period_at, selection_at, system_time_at, form_at, start_at, listed_at, insert_at, update_at, delete_at, select_at, data_at, statement_at}
+use Rattle.statement.specs.Line.{begins_digit, clock_at, migrate_at, session_at, service_at, written_at}
+use Rattle.statement.specs.Split.{key_at, split_key_at, split_time_at, kind_at, split_at}
 use Rattle.statement.proofs.Holds.{Leaves}
 use Rattle.statement.proofs.Sound.{symbol_sound, word_sound}
 use Rattle.statement.proofs.Lengths.{symbol_takes, word_takes}
@@ -292,14 +294,30 @@ module _ (first : ℕ) (rest other : List ℕ) (t : Tokens first rest other) (no
   as_of_fine : Fine as_of_at
   unfolding as_of_at
   as_of_fine =
-      after (word_at (codes "SYSTEM_TIME")) _ (word (codes "SYSTEM_TIME"))
-      (after (word_at (codes "AS")) _ (word (codes "AS"))
-      (after (word_at (codes "OF")) _ (word (codes "OF"))
-      (reads instant_at _ instant_fine (λ n. ok (AsOf n)))))
+      after (word_at (codes "OF")) _ (word (codes "OF"))
+      (reads instant_at _ instant_fine (λ n. ok (AsOf n)))
+
+  period_fine : (v : List ℕ) (form : ℕ → ℕ → Form) → Fine (period_at v form)
+  unfolding period_at
+  period_fine v form =
+      reads instant_at _ instant_fine (λ from.
+      after (word_at v) _ (word v)
+      (reads instant_at _ instant_fine (λ to. ok (form from to))))
+
+  selection_fine : Fine selection_at
+  unfolding selection_at
+  selection_fine =
+      by_word (codes "AS") as_of_at _ as_of_fine
+      (by_word (codes "FROM") (period_at (codes "TO") FromTo) _ (period_fine (codes "TO") FromTo)
+      (last_word (codes "BETWEEN") (period_at (codes "AND") Between) (period_fine (codes "AND") Between)))
+
+  system_time_fine : Fine system_time_at
+  unfolding system_time_at
+  system_time_fine = after (word_at (codes "SYSTEM_TIME")) selection_at (word (codes "SYSTEM_TIME")) selection_fine
 
   form_fine : Fine form_at
   unfolding form_at
-  form_fine = by_word (codes "FOR") as_of_at _ as_of_fine (ok Plain)
+  form_fine = by_word (codes "FOR") system_time_at _ system_time_fine (ok Plain)
 
   module _ (schema : Schema) where
     table_fine : Fine (table_name_at schema)
@@ -414,7 +432,39 @@ module _ (first : ℕ) (rest other : List ℕ) (t : Tokens first rest other) (no
         (reads instant_at _ instant_fine (λ instant.
         after end_at (λ rest. Ok (Clock instant, rest)) end (ok _))))
 
+    migrate_fine : Fine migrate_at
+    unfolding migrate_at
+    migrate_fine = after (symbol_at 58) _ (symbol 58) (after end_at (λ rest. Ok (Migrate, rest)) end (ok Migrate))
+
+    key_fine : Fine (key_at schema)
+    unfolding key_at
+    key_fine = reads (table_name_at schema) _ table_fine (λ table. reads row_at _ row_fine (λ parts. ok _))
+
+    split_key_fine : Fine (split_key_at schema)
+    unfolding split_key_at
+    split_key_fine = reads (key_at schema) _ key_fine (λ key. after end_at (λ rest. Ok (SplitKey key, rest)) end (ok _))
+
+    split_time_fine : Fine (split_time_at schema)
+    unfolding split_time_at
+    split_time_fine =
+        reads (key_at schema) _ key_fine (λ key.
+        after (word_at (codes "AT")) _ (word (codes "AT"))
+        (reads instant_at _ instant_fine (λ instant.
+        after end_at (λ rest. Ok (SplitTime key instant, rest)) end (ok _))))
+
+    kind_fine : Fine (kind_at schema)
+    unfolding kind_at
+    kind_fine = by_word (codes "KEY") (split_key_at schema) _ split_key_fine (last_word (codes "TIME") (split_time_at schema) split_time_fine)
+
+    split_fine : Fine (split_at schema)
+    unfolding split_at
+    split_fine = after (symbol_at 58) (kind_at schema) (symbol 58) kind_fine
+
+    service_fine : Fine (service_at schema)
+    unfolding service_at
+    service_fine = by_word (codes "SPLIT") (split_at schema) _ split_fine (by_word (codes "MIGRATE") migrate_at clock_at migrate_fine clock_fine)
+
     pub written_fine : Fine (written_at schema)
     unfolding written_at
     written_fine =
-        good_if w (λ bytes. begins_digit (next bytes)) (session_at schema) clock_at (record { tells = λ a c r. inl (first_same begins_digit (λ d q more. refl) (reach_next first rest other t r)) }) session_fine clock_fine
+        good_if w (λ bytes. begins_digit (next bytes)) (session_at schema) (service_at schema) (record { tells = λ a c r. inl (first_same begins_digit (λ d q more. refl) (reach_next first rest other t r)) }) session_fine service_fine

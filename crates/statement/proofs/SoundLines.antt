@@ -4,19 +4,20 @@ use Rattle.std.specs.Prelude.{◌-◌, ◌^◌, if◌then◌else◌, codes}
 use Rattle.values.specs.Tables.{Schema}
 use Rattle.values.specs.declared.query.Comparison.{Comparison}
 use Rattle.values.specs.declared.query.Keys.{Keys}
-use Rattle.statement.specs.declared.line.Written.TheVariants.{Clock, Session}
+use Rattle.statement.specs.declared.line.Written.TheVariants.{Clock, SplitKey, SplitTime, Migrate, Session}
 use Rattle.statement.specs.declared.statement.Statement.TheVariants.{Begin, Insert, Update, Delete, Select, Commit, Rollback}
 use Rattle.tokens.specs.Token.{After}
 use Rattle.statement.specs.Token.{next, symbol_at, end_at, after_semicolon}
 use Rattle.statement.specs.Token.{word_at, after_optional_word}
 use Rattle.statement.specs.Condition.{keys_at}
 use Rattle.statement.specs.Statement.{start_at, listed_at, insert_at, update_at, delete_at, select_at, data_at, statement_at}
-use Rattle.statement.specs.Line.{begins_digit, clock_at, session_at, written_at}
-use Rattle.statement.specs.Grammar.{◌∣◌, Empty, Blanks, Symbol, Word, Listed, IsTable, IsSet, IsComparison, IsColumnList, IsWhere, IsStatement, IsLine}
+use Rattle.statement.specs.Line.{begins_digit, clock_at, migrate_at, session_at, service_at, written_at}
+use Rattle.statement.specs.Split.{key_at, split_key_at, split_time_at, kind_at, split_at}
+use Rattle.statement.specs.Grammar.{◌∣◌, Empty, Blanks, Symbol, Word, Listed, IsTable, IsSet, IsComparison, IsColumnList, IsWhere, IsStatement, IsKey, IsLine}
 use Rattle.statement.proofs.Gaps.{blanks_before}
 use Rattle.statement.proofs.Sound.{symbol_sound, word_sound}
 use Rattle.statement.proofs.SoundLiterals.{digits_sound}
-use Rattle.statement.proofs.SoundLists.{rows_sound, instant_sound, form_sound, table_sound, sets_sound, comparisons_sound, columns_sound}
+use Rattle.statement.proofs.SoundLists.{row_sound, rows_sound, instant_sound, form_sound, table_sound, sets_sound, comparisons_sound, columns_sound}
 use Rattle.statement.proofs.Holds.{Holds, Leaves, holds, holds_then, leaves_then, leaves_either}
 
 optional_sound : {P : List ℕ → Type 0} (bytes : List ℕ) (r : After) → Leaves r P → (bytes ≡ elim r [ Ok rest ↦ rest | Err at ↦ bytes ]) ⊎ P (elim r [ Ok rest ↦ rest | Err at ↦ bytes ])
@@ -134,10 +135,50 @@ module _ (schema : Schema) where
       holds_then _ _ (instant_sound b) (λ instant c number.
       leaves_then _ _ (end_sound c) (λ rest blank. holds (Clock instant) rest (a, (word, (b, (colon, (c, (number, blank))))))))))
 
+  key_sound : (bytes : List ℕ) → Holds (key_at schema bytes) (λ key rest. IsKey schema key bytes rest)
+  unfolding key_at
+  key_sound bytes = holds_then _ _ (table_sound schema bytes) (λ table a named. holds_then _ _ (row_sound a) (λ parts rest are. holds _ rest (a, (named, are))))
+
+  split_key_sound : (start a b bytes : List ℕ) → Word (codes "SPLIT") start a → Symbol 58 a b → Word (codes "KEY") b bytes → Holds (split_key_at schema bytes) (λ written rest. IsLine schema written start)
+  unfolding split_key_at
+  split_key_sound start a b bytes word colon kind =
+      holds_then _ _ (key_sound bytes) (λ key c is.
+      leaves_then _ _ (end_sound c) (λ rest blank. holds (SplitKey key) rest (a, (word, (b, (colon, (bytes, (kind, (c, (is, blank))))))))))
+
+  split_time_sound : (start a b bytes : List ℕ) → Word (codes "SPLIT") start a → Symbol 58 a b → Word (codes "TIME") b bytes → Holds (split_time_at schema bytes) (λ written rest. IsLine schema written start)
+  unfolding split_time_at
+  split_time_sound start a b bytes word colon kind =
+      holds_then _ _ (key_sound bytes) (λ key c is.
+      leaves_then _ _ (word_sound (codes "AT") c) (λ d second.
+      holds_then _ _ (instant_sound d) (λ instant e number.
+      leaves_then _ _ (end_sound e) (λ rest blank.
+      holds (SplitTime key instant) rest (a, (word, (b, (colon, (bytes, (kind, (c, (is, (d, (second, (e, (number, blank))))))))))))))))
+
+  kind_sound : (start a bytes : List ℕ) → Word (codes "SPLIT") start a → Symbol 58 a bytes → Holds (kind_at schema bytes) (λ written rest. IsLine schema written start)
+  unfolding kind_at
+  kind_sound start a bytes word colon =
+      leaves_either _ _ _ (word_sound (codes "KEY") bytes) (λ rest kind. split_key_sound start a bytes rest word colon kind) (λ _.
+      leaves_either _ _ _ (word_sound (codes "TIME") bytes) (λ rest kind. split_time_sound start a bytes rest word colon kind) (λ at. record { it = tt }))
+
+  split_sound : (start bytes : List ℕ) → Word (codes "SPLIT") start bytes → Holds (split_at schema bytes) (λ written rest. IsLine schema written start)
+  unfolding split_at
+  split_sound start bytes word = leaves_then _ _ (symbol_sound 58 bytes) (λ rest colon. kind_sound start bytes rest word colon)
+
+  migrate_sound : (start bytes : List ℕ) → Word (codes "MIGRATE") start bytes → Holds (migrate_at bytes) (λ written rest. IsLine schema written start)
+  unfolding migrate_at
+  migrate_sound start bytes word =
+      leaves_then _ _ (symbol_sound 58 bytes) (λ b colon. leaves_then _ _ (end_sound b) (λ rest blank. holds Migrate rest (bytes, (word, (b, (colon, blank))))))
+
+  service_sound : (bytes : List ℕ) → Holds (service_at schema bytes) (λ written rest. IsLine schema written bytes)
+  unfolding service_at
+  service_sound bytes =
+      leaves_either _ _ _ (word_sound (codes "SPLIT") bytes) (λ rest word. split_sound bytes rest word) (λ _.
+      leaves_either _ _ _ (word_sound (codes "MIGRATE") bytes) (λ rest word. migrate_sound bytes rest word) (λ _. clock_sound bytes))
+
   pub written_sound : (bytes : List ℕ) → Holds (written_at schema bytes) (λ written rest. IsLine schema written bytes)
   unfolding written_at
   written_sound bytes = by_test (begins_digit (next bytes))
     where
-      by_test : (t : Bool) → Holds (if t then session_at schema bytes else clock_at bytes) (λ written rest. IsLine schema written bytes)
+      by_test : (t : Bool) → Holds (if t then session_at schema bytes else service_at schema bytes) (λ written rest. IsLine schema written bytes)
       by_test true = session_sound bytes
-      by_test false = clock_sound bytes
+      by_test false = service_sound bytes

@@ -4,7 +4,8 @@ use Rattle.std.specs.Prelude.{◌==◌, if◌then◌else◌, codes}
 use Rattle.std.proofs.lemmas.List.{append-nil, append_assoc}
 use Rattle.values.specs.Commits.{max_instant}
 use Rattle.values.specs.Tables.{Schema}
-use Rattle.values.specs.declared.query.Form.TheVariants.{Plain, AsOf}
+use Rattle.values.specs.declared.query.Form.{Form}
+use Rattle.values.specs.declared.query.Form.TheVariants.{Plain, AsOf, FromTo, Between}
 use Rattle.values.specs.declared.query.Operator.{Operator}
 use Rattle.values.specs.declared.query.Operator.TheVariants.{Equal, Below, AtMost, Above, AtLeast}
 use Rattle.tokens.specs.Token.{After, Read}
@@ -13,7 +14,7 @@ use Rattle.statement.specs.List.{more_at, list_at, enclosed_at}
 use Rattle.statement.specs.Token.{word_at}
 use Rattle.statement.specs.Literal.{literal_at, row_at, rows_at}
 use Rattle.statement.specs.Condition.{table_of, column_of, table_name_at, column_name_at, or_equal, operator_of, operator_at, set_at, comparison_at, sets_at, comparisons_at, columns_at}
-use Rattle.statement.specs.Statement.{instant_at, as_of_at, form_at}
+use Rattle.statement.specs.Statement.{instant_at, as_of_at, period_at, selection_at, system_time_at, form_at}
 use Rattle.statement.specs.Grammar.{Piece, ◌⋯◌, Empty, Blanks, Symbol, Word, Literal, Listed, Enclosed, IsRow, IsOperator, IsInstant, IsForm, IsTable, IsColumn, IsSet, IsComparison}
 use Rattle.tokens.specs.Run.{Ends}
 use Rattle.statement.proofs.Gaps.{blanks_before}
@@ -107,17 +108,34 @@ pub instant_sound : (bytes : List ℕ) → Holds (instant_at bytes) (λ n rest. 
 unfolding instant_at
 instant_sound bytes = digits_sound max_instant bytes
 
-as_of_sound : (bytes start : List ℕ) → Word (codes "FOR") start bytes → Holds (as_of_at bytes) (λ form rest. IsForm form start rest)
+as_of_sound : (start a b bytes : List ℕ) → Word (codes "FOR") start a → Word (codes "SYSTEM_TIME") a b → Word (codes "AS") b bytes → Holds (as_of_at bytes) (λ form rest. IsForm form start rest)
 unfolding as_of_at
-as_of_sound bytes start for =
-    leaves_then _ _ (word_sound (codes "SYSTEM_TIME") bytes) (λ a one.
-    leaves_then _ _ (word_sound (codes "AS") a) (λ b two.
-    leaves_then _ _ (word_sound (codes "OF") b) (λ c three.
-    holds_then _ _ (instant_sound c) (λ n rest four. holds (AsOf n) rest (bytes, (for, (a, (one, (b, (two, (c, (three, four))))))))))))
+as_of_sound start a b bytes one two three =
+    leaves_then _ _ (word_sound (codes "OF") bytes) (λ c four.
+    holds_then _ _ (instant_sound c) (λ n rest five. holds (AsOf n) rest (a, (one, (b, (two, (bytes, (three, (c, (four, five))))))))))
+
+period_sound : (word : List ℕ) (form : ℕ → ℕ → Form) (P : Form → List ℕ → Type 0) (bytes : List ℕ)
+    → ((start end : ℕ) (rest : List ℕ) → (IsInstant start ⋯ Word word ⋯ IsInstant end) bytes rest → P (form start end) rest) → Holds (period_at word form bytes) P
+unfolding period_at
+period_sound word form P bytes made =
+    holds_then _ _ (instant_sound bytes) (λ start a one.
+    leaves_then _ _ (word_sound word a) (λ b two.
+    holds_then _ _ (instant_sound b) (λ end rest three. holds (form start end) rest (made start end rest (a, (one, (b, (two, three))))))))
+
+selection_sound : (start a bytes : List ℕ) → Word (codes "FOR") start a → Word (codes "SYSTEM_TIME") a bytes → Holds (selection_at bytes) (λ form rest. IsForm form start rest)
+unfolding selection_at
+selection_sound start a bytes one two =
+    leaves_either _ _ _ (word_sound (codes "AS") bytes) (λ m three. as_of_sound start a bytes m one two three) (λ _.
+    leaves_either _ _ _ (word_sound (codes "FROM") bytes) (λ m three. period_sound (codes "TO") FromTo (λ form rest. IsForm form start rest) m (λ _ _ rest is. (a, (one, (bytes, (two, (m, (three, is)))))))) (λ _.
+    leaves_either _ _ _ (word_sound (codes "BETWEEN") bytes) (λ m three. period_sound (codes "AND") Between (λ form rest. IsForm form start rest) m (λ _ _ rest is. (a, (one, (bytes, (two, (m, (three, is)))))))) (λ at. record { it = tt })))
+
+system_time_sound : (start bytes : List ℕ) → Word (codes "FOR") start bytes → Holds (system_time_at bytes) (λ form rest. IsForm form start rest)
+unfolding system_time_at
+system_time_sound start bytes one = leaves_then _ _ (word_sound (codes "SYSTEM_TIME") bytes) (λ b two. selection_sound start bytes b one two)
 
 pub form_sound : (bytes : List ℕ) → Holds (form_at bytes) (λ form rest. IsForm form bytes rest)
 unfolding form_at
-form_sound bytes = leaves_either _ _ _ (word_sound (codes "FOR") bytes) (λ rest for. as_of_sound rest bytes for) (λ _. holds Plain bytes refl)
+form_sound bytes = leaves_either _ _ _ (word_sound (codes "FOR") bytes) (λ rest for. system_time_sound bytes rest for) (λ _. holds Plain bytes refl)
 
 module _ (schema : Schema) where
   pub table_sound : (bytes : List ℕ) → Holds (table_name_at schema bytes) (λ number rest. IsTable schema number bytes rest)

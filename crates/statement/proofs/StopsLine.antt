@@ -8,7 +8,8 @@ use Rattle.std.specs.Str.Parse.{digits_value}
 use Rattle.values.specs.Names.{same_name}
 use Rattle.values.specs.Commits.{max_instant}
 use Rattle.values.specs.Tables.{Schema}
-use Rattle.values.specs.declared.query.Form.TheVariants.{Plain, AsOf}
+use Rattle.values.specs.declared.query.Form.{Form}
+use Rattle.values.specs.declared.query.Form.TheVariants.{Plain, AsOf, FromTo, Between}
 use Rattle.values.specs.declared.query.Operator.{Operator}
 use Rattle.values.specs.declared.query.Operator.TheVariants.{Equal, Below, AtMost, Above, AtLeast}
 use Rattle.values.specs.declared.value.Value.TheVariants.{Int, Text, Bool as Truth, Null}
@@ -23,8 +24,10 @@ use Rattle.statement.specs.Token.{next, symbol_at, word_at, name_at, end_at, aft
 use Rattle.statement.specs.List.{more_at, list_at, enclosed_at}
 use Rattle.statement.specs.Literal.{digit_count, digits_here, digits_at, begins_with, above_nought, below_nought, number_at, quoted_from, quoted, text_of, text_at, constant_at, begins_number, literal_at, row_at, rows_at}
 use Rattle.statement.specs.Condition.{table_of, column_of, table_name_at, column_name_at, or_equal, operator_of, operator_at, set_at, comparison_at, sets_at, comparisons_at, columns_at, keys_at}
-use Rattle.statement.specs.Statement.{instant_at, as_of_at, form_at, start_at, listed_at, insert_at, update_at, delete_at, select_at, data_at, statement_at}
-use Rattle.statement.specs.Line.{begins_digit, clock_at, session_at, written_at}
+use Rattle.statement.specs.Statement.{instant_at, as_of_at, period_at, selection_at, system_time_at, form_at, start_at, listed_at, insert_at, update_at, delete_at, select_at, data_at, statement_at}
+use Rattle.statement.specs.Line.{begins_digit, clock_at, migrate_at, session_at, service_at, written_at}
+use Rattle.statement.specs.Split.{key_at, split_key_at, split_time_at, kind_at, split_at}
+use Rattle.statement.specs.declared.line.Written.TheVariants.{Migrate}
 use Rattle.statement.proofs.Stopping.{EndsWith, whole, behind, through, next_left, skip_left, Refusal, Stops, Leads, Finds, reads_on, stops_next, wider, then_stops, read_stops, after_stops, either_stops, refused, optional_left, found_stops, finds_mapped}
 use Rattle.statement.proofs.Gaps.{next_ends}
 
@@ -218,14 +221,30 @@ instant_stops bytes = digits_stop max_instant bytes
 pub as_of_stops : (bytes : List ℕ) → Stops bytes (as_of_at bytes)
 unfolding as_of_at
 as_of_stops bytes =
-    after_stops _ _ (word_stops (codes "SYSTEM_TIME") bytes) (λ a.
-    after_stops _ _ (word_stops (codes "AS") a) (λ b.
-    after_stops _ _ (word_stops (codes "OF") b) (λ c.
-    then_stops _ _ (instant_stops c) (λ n rest. reads_on (AsOf n) (whole rest)))))
+    after_stops _ _ (word_stops (codes "OF") bytes) (λ a.
+    then_stops _ _ (instant_stops a) (λ n rest. reads_on (AsOf n) (whole rest)))
+
+pub period_stops : (word : List ℕ) (form : ℕ → ℕ → Form) (bytes : List ℕ) → Stops bytes (period_at word form bytes)
+unfolding period_at
+period_stops word form bytes =
+    then_stops _ _ (instant_stops bytes) (λ start a.
+    after_stops _ _ (word_stops word a) (λ b.
+    then_stops _ _ (instant_stops b) (λ end rest. reads_on (form start end) (whole rest))))
+
+pub selection_stops : (bytes : List ℕ) → Stops bytes (selection_at bytes)
+unfolding selection_at
+selection_stops bytes =
+    either_stops _ _ _ (word_stops (codes "AS") bytes) as_of_stops (λ _ _.
+    either_stops _ _ _ (word_stops (codes "FROM") bytes) (period_stops (codes "TO") FromTo) (λ _ _.
+    either_stops _ _ _ (word_stops (codes "BETWEEN") bytes) (period_stops (codes "AND") Between) (λ at r. refused r)))
+
+pub system_time_stops : (bytes : List ℕ) → Stops bytes (system_time_at bytes)
+unfolding system_time_at
+system_time_stops bytes = after_stops _ _ (word_stops (codes "SYSTEM_TIME") bytes) selection_stops
 
 pub form_stops : (bytes : List ℕ) → Stops bytes (form_at bytes)
 unfolding form_at
-form_stops bytes = either_stops _ _ _ (word_stops (codes "FOR") bytes) (λ rest. as_of_stops rest) (λ _ _. reads_on Plain (whole bytes))
+form_stops bytes = either_stops _ _ _ (word_stops (codes "FOR") bytes) system_time_stops (λ _ _. reads_on Plain (whole bytes))
 
 module _ (schema : Schema) where
   pub table_stops : (bytes : List ℕ) → Stops bytes (table_name_at schema bytes)
@@ -345,10 +364,46 @@ module _ (schema : Schema) where
       then_stops _ _ (instant_stops b) (λ instant c.
       after_stops _ _ (end_stops c) (λ rest. reads_on _ (whole rest)))))
 
+  pub migrate_stops : (bytes : List ℕ) → Stops bytes (migrate_at bytes)
+  unfolding migrate_at
+  migrate_stops bytes = after_stops _ _ (symbol_stops 58 bytes) (λ a. after_stops _ _ (end_stops a) (λ rest. reads_on Migrate (whole rest)))
+
+  pub key_stops : (bytes : List ℕ) → Stops bytes (key_at schema bytes)
+  unfolding key_at
+  key_stops bytes = then_stops _ _ (table_stops bytes) (λ table a. then_stops _ _ (row_stops a) (λ parts rest. reads_on _ (whole rest)))
+
+  pub split_key_stops : (bytes : List ℕ) → Stops bytes (split_key_at schema bytes)
+  unfolding split_key_at
+  split_key_stops bytes = then_stops _ _ (key_stops bytes) (λ key a. after_stops _ _ (end_stops a) (λ rest. reads_on _ (whole rest)))
+
+  pub split_time_stops : (bytes : List ℕ) → Stops bytes (split_time_at schema bytes)
+  unfolding split_time_at
+  split_time_stops bytes =
+      then_stops _ _ (key_stops bytes) (λ key a.
+      after_stops _ _ (word_stops (codes "AT") a) (λ b.
+      then_stops _ _ (instant_stops b) (λ instant c.
+      after_stops _ _ (end_stops c) (λ rest. reads_on _ (whole rest)))))
+
+  pub kind_stops : (bytes : List ℕ) → Stops bytes (kind_at schema bytes)
+  unfolding kind_at
+  kind_stops bytes =
+      either_stops _ _ _ (word_stops (codes "KEY") bytes) split_key_stops (λ _ _.
+      either_stops _ _ _ (word_stops (codes "TIME") bytes) split_time_stops (λ at r. refused r))
+
+  pub split_stops : (bytes : List ℕ) → Stops bytes (split_at schema bytes)
+  unfolding split_at
+  split_stops bytes = after_stops _ _ (symbol_stops 58 bytes) kind_stops
+
+  pub service_stops : (bytes : List ℕ) → Stops bytes (service_at schema bytes)
+  unfolding service_at
+  service_stops bytes =
+      either_stops _ _ _ (word_stops (codes "SPLIT") bytes) split_stops (λ _ _.
+      either_stops _ _ _ (word_stops (codes "MIGRATE") bytes) migrate_stops (λ _ _. clock_stops bytes))
+
   pub written_stops : (bytes : List ℕ) → Stops bytes (written_at schema bytes)
   unfolding written_at
   written_stops bytes = by_test (begins_digit (next bytes))
     where
-      by_test : (t : Bool) → Stops bytes (if t then session_at schema bytes else clock_at bytes)
+      by_test : (t : Bool) → Stops bytes (if t then session_at schema bytes else service_at schema bytes)
       by_test true = session_stops bytes
-      by_test false = clock_stops bytes
+      by_test false = service_stops bytes

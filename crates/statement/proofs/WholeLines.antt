@@ -1,24 +1,27 @@
 -- What is of the grammar is read: lines.
-use Rattle.std.proofs.Common.{◌≡◌, ◌<◌, ℕ, false, List, [], ◌∷◌, length, Ok, Err, inl, inr, refl, ap, ◌∙◌, arith, lit<}
+use Rattle.std.proofs.Common.{◌≡◌, ◌<◌, ◌≤◌, ℕ, false, List, [], ◌∷◌, length, Ok, Err, inl, inr, refl, ap, ◌∙◌, arith, lit<, lit≤}
 use Rattle.std.specs.Prelude.{◌==◌, ◌&&◌, ◌-◌, ◌^◌, if◌then◌else◌, codes}
+use Rattle.std.specs.Char.{to_ascii_lowercase}
 use Rattle.values.specs.Tables.{Schema}
+use Rattle.values.specs.declared.key.Key.{Key}
 use Rattle.values.specs.Names.{same_name}
 use Rattle.statement.specs.declared.line.Written.{Written}
-use Rattle.statement.specs.declared.line.Written.TheVariants.{Clock, Session}
+use Rattle.statement.specs.declared.line.Written.TheVariants.{Clock, SplitKey, SplitTime, Migrate, Session}
 use Rattle.statement.specs.declared.statement.Statement.{Statement}
 use Rattle.statement.specs.declared.statement.Statement.TheVariants.{Begin, Insert, Update, Delete, Select, Commit, Rollback}
 use Rattle.tokens.specs.Token.{After, Read}
 use Rattle.statement.specs.Token.{next, end_at, after_semicolon}
 use Rattle.statement.specs.Token.{word_at, after_optional_word}
 use Rattle.statement.specs.Statement.{start_at, insert_at, update_at, delete_at, select_at, data_at, statement_at}
-use Rattle.statement.specs.Line.{is_nothing, begins_digit, clock_at, session_at, written_at}
-use Rattle.statement.specs.Grammar.{◌⋯◌, ◌∣◌, Empty, Blanks, Symbol, Word, Digits, IsStatement, IsLine}
+use Rattle.statement.specs.Line.{is_nothing, begins_digit, clock_at, migrate_at, session_at, service_at, written_at}
+use Rattle.statement.specs.Split.{split_key_at, split_time_at, kind_at, split_at}
+use Rattle.statement.specs.Grammar.{◌⋯◌, ◌∣◌, Empty, Blanks, Symbol, Word, Digits, IsStatement, IsInstant, IsKey, IsLine}
 use Rattle.statement.proofs.Gaps.{next_is}
 use Rattle.statement.proofs.Whole.{word_whole, symbol_whole, next_symbol, next_run, other_word_refused, symbol_refused, symbol_refused_at_end, word_refused, word_refused_at_end}
 use Rattle.tokens.proofs.Words.{some_written}
 use Rattle.statement.proofs.WholeLiterals.{Lettered, letter_of, letter_is_no_digit, letter_is_no_minus, FirstDigit, first_digit, digits_not_blank, digit_is_no_other, digits_whole}
 use Rattle.statement.proofs.WholeLists.{ok_then}
-use Rattle.statement.proofs.WholeStatements.{Closing, instant_whole, work_whole, insert_whole, update_whole, delete_whole, select_whole}
+use Rattle.statement.proofs.WholeStatements.{Closing, instant_whole, key_whole, work_whole, insert_whole, update_whole, delete_whole, select_whole}
 
 -- the end of a line closes its statement
 closing_at_end : (rest : List ℕ) → next rest ≡ [] → Closing rest
@@ -142,19 +145,25 @@ module _ (schema : Schema) where
       let f = first_digit is.1.1 in
       record { first = f.first; others = f.others; spelled = next_is is.1.0 (digits_not_blank f) ∙ f.spelled; digit = f.digit }
 
-  clock_first : (bytes rest : List ℕ) → Word (codes "CLOCK") bytes rest → Lettered 67 (next bytes)
-  clock_first bytes rest is =
+  word_first : (letter : ℕ) (letters bytes rest : List ℕ) → Word (letter ∷ letters) bytes rest → Lettered letter (next bytes)
+  word_first letter letters bytes rest is =
       let at = is.0 in
       let written = is.1.1.0 in
       let run = is.1.1.1.0 in
       let same = is.1.1.1.1 in
-      let l = letter_of 67 (codes "LOCK") written at rest same run.spelled in
-      record { first = l.first; others = l.others; spelled = next_run bytes at is.1.0 run (some_written (codes "CLOCK") written (lit< tt) same) ∙ l.spelled; same = l.same }
+      let l = letter_of letter letters written at rest same run.spelled in
+      record { first = l.first; others = l.others; spelled = next_run bytes at is.1.0 run (some_written (letter ∷ letters) written (omega arith) same) ∙ l.spelled; same = l.same }
+
+  word_begins : (letter : ℕ) (letters bytes rest : List ℕ) → 97 ≤ to_ascii_lowercase letter → Word (letter ∷ letters) bytes rest → Begins bytes
+  word_begins letter letters bytes rest low is =
+      let l = word_first letter letters bytes rest is in
+      record { first = l.first; others = l.others; here = l.spelled; no_minus = letter_is_no_minus l.first (omega (arith, l.same, low)) }
 
   line_begins : (written : Written) (bytes : List ℕ) → IsLine schema written bytes → Begins bytes
-  line_begins (Clock instant) bytes is =
-      let l = clock_first bytes is.0 is.1.0 in
-      record { first = l.first; others = l.others; here = l.spelled; no_minus = letter_is_no_minus l.first (omega (arith, l.same)) }
+  line_begins (Clock instant) bytes is = word_begins 67 (codes "LOCK") bytes is.0 (lit≤ tt) is.1.0
+  line_begins (SplitKey key) bytes is = word_begins 83 (codes "PLIT") bytes is.0 (lit≤ tt) is.1.0
+  line_begins (SplitTime key instant) bytes is = word_begins 83 (codes "PLIT") bytes is.0 (lit≤ tt) is.1.0
+  line_begins Migrate bytes is = word_begins 77 (codes "IGRATE") bytes is.0 (lit≤ tt) is.1.0
   line_begins (Session session statement) bytes is =
       let f = number_first session bytes is.0 is.1.0 in
       record { first = f.first; others = f.others; here = f.spelled; no_minus = digit_is_no_other f.first 45 (lit< tt) f.digit }
@@ -191,13 +200,98 @@ module _ (schema : Schema) where
       (ok_then _ _ (instant_whole instant b c is.1.1.1.1.1.0)
       (ok_then _ _ (end_whole c is.1.1.1.1.1.1) refl)))
 
+  split_key_whole : (key : Key) (bytes rest : List ℕ) → IsKey schema key bytes rest → Blanks rest [] → split_key_at schema bytes ≡ Ok (SplitKey key, [])
+  unfolding split_key_at
+  split_key_whole key bytes rest is blanks =
+      ok_then _ _ (key_whole schema key bytes rest is)
+      (ok_then _ _ (end_whole rest blanks) refl)
+
+  split_time_whole : (key : Key) (instant : ℕ) (bytes : List ℕ) → (IsKey schema key ⋯ Word (codes "AT") ⋯ IsInstant instant ⋯ Blanks) bytes [] → split_time_at schema bytes ≡ Ok (SplitTime key instant, [])
+  unfolding split_time_at
+  split_time_whole key instant bytes is =
+      let a = is.0 in
+      let b = is.1.1.0 in
+      let c = is.1.1.1.1.0 in
+      ok_then _ _ (key_whole schema key bytes a is.1.0)
+      (ok_then _ _ (word_whole (codes "AT") (lit< tt) a b is.1.1.1.0)
+      (ok_then _ _ (instant_whole instant b c is.1.1.1.1.1.0)
+      (ok_then _ _ (end_whole c is.1.1.1.1.1.1) refl)))
+
+  migrate_whole : (bytes : List ℕ) → (Symbol 58 ⋯ Blanks) bytes [] → migrate_at bytes ≡ Ok (Migrate, [])
+  unfolding migrate_at
+  migrate_whole bytes is =
+      ok_then _ _ (symbol_whole 58 refl bytes is.0 is.1.0)
+      (ok_then _ _ (end_whole is.0 is.1.1) refl)
+
+  abbrev on_time : After → Read Written
+  on_time r = elim r [ Ok rest ↦ split_time_at schema rest | Err at ↦ Err at ]
+
+  abbrev on_key : List ℕ → After → Read Written
+  on_key bytes r = elim r [ Ok rest ↦ split_key_at schema rest | Err _ ↦ on_time (word_at (codes "TIME") bytes) ]
+
+  key_reached : (bytes rest : List ℕ) → Word (codes "KEY") bytes rest → kind_at schema bytes ≡ split_key_at schema rest
+  unfolding kind_at
+  key_reached bytes rest is = ap (on_key bytes) (word_whole (codes "KEY") (lit< tt) bytes rest is)
+
+  time_reached : (bytes rest : List ℕ) → Word (codes "TIME") bytes rest → kind_at schema bytes ≡ split_time_at schema rest
+  unfolding kind_at
+  time_reached bytes rest is =
+      ap (on_key bytes) (other_word_refused (codes "KEY") (codes "TIME") refl (lit< tt) bytes rest is).is
+      ∙ ap on_time (word_whole (codes "TIME") (lit< tt) bytes rest is)
+
+  abbrev on_migrate : List ℕ → After → Read Written
+  on_migrate bytes r = elim r [ Ok rest ↦ migrate_at rest | Err _ ↦ clock_at bytes ]
+
+  abbrev on_split : List ℕ → After → Read Written
+  on_split bytes r = elim r [ Ok rest ↦ split_at schema rest | Err _ ↦ on_migrate bytes (word_at (codes "MIGRATE") bytes) ]
+
+  split_reached : (bytes a b : List ℕ) → Word (codes "SPLIT") bytes a → Symbol 58 a b → service_at schema bytes ≡ kind_at schema b
+  unfolding service_at split_at
+  split_reached bytes a b word colon =
+      ap (on_split bytes) (word_whole (codes "SPLIT") (lit< tt) bytes a word) ∙ ok_then _ _ (symbol_whole 58 refl a b colon) refl
+
+  migrate_reached : (bytes rest : List ℕ) → Word (codes "MIGRATE") bytes rest → service_at schema bytes ≡ migrate_at rest
+  unfolding service_at
+  migrate_reached bytes rest is =
+      ap (on_split bytes) (other_word_refused (codes "SPLIT") (codes "MIGRATE") refl (lit< tt) bytes rest is).is
+      ∙ ap (on_migrate bytes) (word_whole (codes "MIGRATE") (lit< tt) bytes rest is)
+
+  clock_reached : (bytes rest : List ℕ) → Word (codes "CLOCK") bytes rest → service_at schema bytes ≡ clock_at bytes
+  unfolding service_at
+  clock_reached bytes rest is =
+      ap (on_split bytes) (other_word_refused (codes "SPLIT") (codes "CLOCK") refl (lit< tt) bytes rest is).is
+      ∙ ap (on_migrate bytes) (other_word_refused (codes "MIGRATE") (codes "CLOCK") refl (lit< tt) bytes rest is).is
+
+  -- a line that begins with a letter
+  service_reached : (letter : ℕ) (letters bytes rest : List ℕ) → 97 ≤ to_ascii_lowercase letter → Word (letter ∷ letters) bytes rest → written_at schema bytes ≡ service_at schema bytes
+  unfolding written_at
+  service_reached letter letters bytes rest low is =
+      let l = word_first letter letters bytes rest is in
+      ap (λ t. if t then session_at schema bytes else service_at schema bytes) (ap begins_digit l.spelled ∙ letter_is_no_digit l.first (omega (arith, l.same, low)))
+
   pub line_whole : (written : Written) (bytes : List ℕ) → IsLine schema written bytes → written_at schema bytes ≡ Ok (written, [])
   unfolding written_at
-  line_whole (Clock instant) bytes is =
-      let l = clock_first bytes is.0 is.1.0 in
-      ap (λ t. if t then session_at schema bytes else clock_at bytes) (ap begins_digit l.spelled ∙ letter_is_no_digit l.first (omega (arith, l.same)))
-      ∙ clock_whole instant bytes is
+  line_whole (Clock instant) bytes is = service_reached 67 (codes "LOCK") bytes is.0 (lit≤ tt) is.1.0 ∙ clock_reached bytes is.0 is.1.0 ∙ clock_whole instant bytes is
+  line_whole (SplitKey key) bytes is =
+      let a = is.0 in
+      let b = is.1.1.0 in
+      let c = is.1.1.1.1.0 in
+      let d = is.1.1.1.1.1.1.0 in
+      service_reached 83 (codes "PLIT") bytes a (lit≤ tt) is.1.0
+      ∙ split_reached bytes a b is.1.0 is.1.1.1.0
+      ∙ key_reached b c is.1.1.1.1.1.0
+      ∙ split_key_whole key c d is.1.1.1.1.1.1.1.0 is.1.1.1.1.1.1.1.1
+  line_whole (SplitTime key instant) bytes is =
+      let a = is.0 in
+      let b = is.1.1.0 in
+      let c = is.1.1.1.1.0 in
+      service_reached 83 (codes "PLIT") bytes a (lit≤ tt) is.1.0
+      ∙ split_reached bytes a b is.1.0 is.1.1.1.0
+      ∙ time_reached b c is.1.1.1.1.1.0
+      ∙ split_time_whole key instant c is.1.1.1.1.1.1
+  line_whole Migrate bytes is =
+      service_reached 77 (codes "IGRATE") bytes is.0 (lit≤ tt) is.1.0 ∙ migrate_reached bytes is.0 is.1.0 ∙ migrate_whole is.0 is.1.1
   line_whole (Session session statement) bytes is =
       let f = number_first session bytes is.0 is.1.0 in
-      ap (λ t. if t then session_at schema bytes else clock_at bytes) (ap begins_digit f.spelled ∙ f.digit)
+      ap (λ t. if t then session_at schema bytes else service_at schema bytes) (ap begins_digit f.spelled ∙ f.digit)
       ∙ session_whole session statement bytes is

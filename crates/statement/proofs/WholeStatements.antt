@@ -10,6 +10,7 @@ use Rattle.values.specs.declared.query.Keys.{Keys}
 use Rattle.values.specs.declared.query.Operator.{Operator}
 use Rattle.values.specs.declared.query.Operator.TheVariants.{Equal, Below, AtMost, Above, AtLeast}
 use Rattle.values.specs.declared.query.Set.{Set}
+use Rattle.values.specs.declared.key.Key.{Key}
 use Rattle.values.specs.Log.{Row}
 use Rattle.statement.specs.declared.statement.Statement.TheVariants.{Insert, Update, Delete, Select}
 use Rattle.tokens.specs.Token.{After, Read, ◌>>=◌}
@@ -17,8 +18,9 @@ use Rattle.statement.specs.Token.{symbol_at}
 use Rattle.statement.specs.Token.{word_at, after_optional_word}
 use Rattle.statement.specs.Literal.{literal_at, row_at, rows_at}
 use Rattle.statement.specs.Condition.{table_name_at, column_name_at, or_equal, operator_of, operator_at, set_at, comparison_at, sets_at, comparisons_at, columns_at, keys_at}
-use Rattle.statement.specs.Statement.{instant_at, as_of_at, form_at, listed_at, insert_at, update_at, delete_at, select_at}
-use Rattle.statement.specs.Grammar.{◌⋯◌, ◌∣◌, Empty, Symbol, Word, Literal, Listed, Enclosed, IsRow, IsOperator, IsInstant, IsForm, IsTable, IsColumn, IsSet, IsComparison, IsColumnList, IsWhere}
+use Rattle.statement.specs.Statement.{instant_at, as_of_at, period_at, from_to_at, between_at, selection_at, system_time_at, form_at, listed_at, insert_at, update_at, delete_at, select_at}
+use Rattle.statement.specs.Grammar.{◌⋯◌, ◌∣◌, Empty, Symbol, Word, Literal, Listed, Enclosed, IsRow, IsOperator, IsInstant, IsForm, IsTable, IsColumn, IsSet, IsComparison, IsColumnList, IsWhere, IsKey}
+use Rattle.statement.specs.Split.{key_at}
 use Rattle.tokens.specs.Run.{Ends}
 use Rattle.tokens.proofs.Words.{Refused}
 use Rattle.statement.proofs.Whole.{word_whole, name_whole, symbol_whole, next_symbol, begun, symbol_refused_at_word, other_word_refused}
@@ -57,23 +59,62 @@ pub instant_whole : (n : ℕ) (bytes rest : List ℕ) → IsInstant n bytes rest
 unfolding instant_at
 instant_whole n bytes rest is = digits_whole max_instant n bytes rest is
 
-as_of_whole : (instant : ℕ) (bytes rest : List ℕ) → (Word (codes "SYSTEM_TIME") ⋯ Word (codes "AS") ⋯ Word (codes "OF") ⋯ IsInstant instant) bytes rest → as_of_at bytes ≡ Ok (AsOf instant, rest)
+as_of_whole : (instant : ℕ) (bytes rest : List ℕ) → (Word (codes "OF") ⋯ IsInstant instant) bytes rest → as_of_at bytes ≡ Ok (AsOf instant, rest)
 unfolding as_of_at
 as_of_whole instant bytes rest is =
-    ok_then _ _ (word_whole (codes "SYSTEM_TIME") (lit< tt) bytes is.0 is.1.0)
-    (ok_then _ _ (word_whole (codes "AS") (lit< tt) is.0 is.1.1.0 is.1.1.1.0)
-    (ok_then _ _ (word_whole (codes "OF") (lit< tt) is.1.1.0 is.1.1.1.1.0 is.1.1.1.1.1.0)
-    (ok_then _ _ (instant_whole instant is.1.1.1.1.0 rest is.1.1.1.1.1.1) refl)))
+    ok_then _ _ (word_whole (codes "OF") (lit< tt) bytes is.0 is.1.0)
+    (ok_then _ _ (instant_whole instant is.0 rest is.1.1) refl)
+
+period_whole : (word : List ℕ) → 0 < length word → (form : ℕ → ℕ → Form) (start end : ℕ) (bytes rest : List ℕ) → (IsInstant start ⋯ Word word ⋯ IsInstant end) bytes rest
+    → period_at word form bytes ≡ Ok (form start end, rest)
+unfolding period_at
+period_whole word some form start end bytes rest is =
+    ok_then _ _ (instant_whole start bytes is.0 is.1.0)
+    (ok_then _ _ (word_whole word some is.0 is.1.1.0 is.1.1.1.0)
+    (ok_then _ _ (instant_whole end is.1.1.0 rest is.1.1.1.1) refl))
+
+abbrev on_between : After → Read Form
+on_between r = elim r [ Ok rest ↦ between_at rest | Err at ↦ Err at ]
+
+abbrev on_from : List ℕ → After → Read Form
+on_from bytes r = elim r [ Ok rest ↦ from_to_at rest | Err _ ↦ on_between (word_at (codes "BETWEEN") bytes) ]
+
+abbrev on_as : List ℕ → After → Read Form
+on_as bytes r = elim r [ Ok rest ↦ as_of_at rest | Err _ ↦ on_from bytes (word_at (codes "FROM") bytes) ]
+
+as_of_selected : (instant : ℕ) (bytes rest : List ℕ) → (Word (codes "AS") ⋯ Word (codes "OF") ⋯ IsInstant instant) bytes rest → selection_at bytes ≡ Ok (AsOf instant, rest)
+unfolding selection_at
+as_of_selected instant bytes rest is = ap (on_as bytes) (word_whole (codes "AS") (lit< tt) bytes is.0 is.1.0) ∙ as_of_whole instant is.0 rest is.1.1
+
+from_to_selected : (start end : ℕ) (bytes rest : List ℕ) → (Word (codes "FROM") ⋯ IsInstant start ⋯ Word (codes "TO") ⋯ IsInstant end) bytes rest → selection_at bytes ≡ Ok (FromTo start end, rest)
+unfolding selection_at
+from_to_selected start end bytes rest is =
+    ap (on_as bytes) (other_word_refused (codes "AS") (codes "FROM") refl (lit< tt) bytes is.0 is.1.0).is
+    ∙ ap (on_from bytes) (word_whole (codes "FROM") (lit< tt) bytes is.0 is.1.0)
+    ∙ period_whole (codes "TO") (lit< tt) FromTo start end is.0 rest is.1.1
+
+between_selected : (start end : ℕ) (bytes rest : List ℕ) → (Word (codes "BETWEEN") ⋯ IsInstant start ⋯ Word (codes "AND") ⋯ IsInstant end) bytes rest → selection_at bytes ≡ Ok (Between start end, rest)
+unfolding selection_at
+between_selected start end bytes rest is =
+    ap (on_as bytes) (other_word_refused (codes "AS") (codes "BETWEEN") refl (lit< tt) bytes is.0 is.1.0).is
+    ∙ ap (on_from bytes) (other_word_refused (codes "FROM") (codes "BETWEEN") refl (lit< tt) bytes is.0 is.1.0).is
+    ∙ ap on_between (word_whole (codes "BETWEEN") (lit< tt) bytes is.0 is.1.0)
+    ∙ period_whole (codes "AND") (lit< tt) Between start end is.0 rest is.1.1
 
 abbrev on_for : List ℕ → After → Read Form
-on_for bytes r = elim r [ Err _ ↦ Ok (Plain, bytes) | Ok rest ↦ as_of_at rest ]
+on_for bytes r = elim r [ Err _ ↦ Ok (Plain, bytes) | Ok rest ↦ system_time_at rest ]
+
+-- after FOR SYSTEM_TIME
+form_opened : (form : Form) (bytes a b rest : List ℕ) → Word (codes "FOR") bytes a → Word (codes "SYSTEM_TIME") a b → selection_at b ≡ Ok (form, rest) → form_at bytes ≡ Ok (form, rest)
+unfolding form_at system_time_at
+form_opened form bytes a b rest one two selected = ap (on_for bytes) (word_whole (codes "FOR") (lit< tt) bytes a one) ∙ ok_then _ _ (word_whole (codes "SYSTEM_TIME") (lit< tt) a b two) selected
 
 form_whole : (form : Form) (bytes rest : List ℕ) → IsForm form bytes rest → Refused (word_at (codes "FOR") rest) → form_at bytes ≡ Ok (form, rest)
 unfolding form_at
 form_whole Plain bytes rest is none = ap (on_for bytes) (ap (word_at (codes "FOR")) is ∙ none.is) ∙ ap (λ (l : List ℕ). Ok (Plain, l)) is
-form_whole (AsOf instant) bytes rest is none = ap (on_for bytes) (word_whole (codes "FOR") (lit< tt) bytes is.0 is.1.0) ∙ as_of_whole instant is.0 rest is.1.1
-form_whole (FromTo from to) bytes rest is none = absurd is
-form_whole (Between from to) bytes rest is none = absurd is
+form_whole (AsOf instant) bytes rest is none = form_opened (AsOf instant) bytes is.0 is.1.1.0 rest is.1.0 is.1.1.1.0 (as_of_selected instant is.1.1.0 rest is.1.1.1.1)
+form_whole (FromTo start end) bytes rest is none = form_opened (FromTo start end) bytes is.0 is.1.1.0 rest is.1.0 is.1.1.1.0 (from_to_selected start end is.1.1.0 rest is.1.1.1.1)
+form_whole (Between start end) bytes rest is none = form_opened (Between start end) bytes is.0 is.1.1.0 rest is.1.0 is.1.1.1.0 (between_selected start end is.1.1.0 rest is.1.1.1.1)
 
 pub work_whole : (bytes rest : List ℕ) → (Empty ∣ Word (codes "WORK")) bytes rest → Closing rest → after_optional_word (codes "WORK") bytes ≡ rest
 work_whole bytes rest (inl is) closing =
@@ -84,6 +125,12 @@ module _ (schema : Schema) where
   table_whole : (number : ℕ) (bytes rest : List ℕ) → IsTable schema number bytes rest → table_name_at schema bytes ≡ Ok (number, rest)
   unfolding table_name_at
   table_whole number bytes rest is = ok_then _ _ (name_whole is.0 bytes rest is.1.0) (ap (λ (n : ℕ). Ok (n, rest)) is.1.1)
+
+  pub key_whole : (key : Key) (bytes rest : List ℕ) → IsKey schema key bytes rest → key_at schema bytes ≡ Ok (key, rest)
+  unfolding key_at
+  key_whole key bytes rest is =
+      ok_then _ _ (table_whole key.table bytes is.0 is.1.0)
+      (ok_then _ _ (row_whole key.parts is.0 rest is.1.1) refl)
 
   module _ (table : ℕ) where
     column_whole : (number : ℕ) (bytes rest : List ℕ) → IsColumn schema table number bytes rest → column_name_at schema table bytes ≡ Ok (number, rest)

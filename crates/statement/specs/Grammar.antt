@@ -12,11 +12,12 @@ use Rattle.values.specs.declared.query.Form.TheVariants.{Plain, AsOf, FromTo, Be
 use Rattle.values.specs.declared.query.Operator.{Operator}
 use Rattle.values.specs.declared.query.Operator.TheVariants.{Equal, Below, AtMost, Above, AtLeast}
 use Rattle.values.specs.declared.query.Set.{Set}
+use Rattle.values.specs.declared.key.Key.{Key}
 use Rattle.values.specs.Log.{Row}
 use Rattle.values.specs.Names.{same_name}
 use Rattle.values.specs.Commits.{max_instant}
 use Rattle.statement.specs.declared.line.Written.{Written}
-use Rattle.statement.specs.declared.line.Written.TheVariants.{Clock, Session}
+use Rattle.statement.specs.declared.line.Written.TheVariants.{Clock, SplitKey, SplitTime, Migrate, Session}
 use Rattle.statement.specs.declared.statement.Statement.{Statement}
 use Rattle.statement.specs.declared.statement.Statement.TheVariants.{Begin, Insert, Update, Delete, Select, Commit, Rollback}
 use Rattle.tokens.specs.Run.{AllBytes, Ends, Run}
@@ -123,8 +124,12 @@ IsForm Plain = Empty
 IsForm (AsOf instant) =
     Word (codes "FOR") ⋯ Word (codes "SYSTEM_TIME") ⋯ Word (codes "AS") ⋯ Word (codes "OF")
     ⋯ IsInstant instant
-IsForm (FromTo from to) = λ bytes rest. ⊥
-IsForm (Between from to) = λ bytes rest. ⊥
+IsForm (FromTo start end) =
+    Word (codes "FOR") ⋯ Word (codes "SYSTEM_TIME") ⋯ Word (codes "FROM") ⋯ IsInstant start
+    ⋯ Word (codes "TO") ⋯ IsInstant end
+IsForm (Between start end) =
+    Word (codes "FOR") ⋯ Word (codes "SYSTEM_TIME") ⋯ Word (codes "BETWEEN") ⋯ IsInstant start
+    ⋯ Word (codes "AND") ⋯ IsInstant end
 
 module _ (schema : Schema) where
   -- a name, which stands for the table that has it, or for none
@@ -170,10 +175,20 @@ module _ (schema : Schema) where
       Word (codes "SELECT") ⋯ Symbol 42 ⋯ Word (codes "FROM") ⋯ IsTable keys.table ⋯ IsForm form
       ⋯ IsWhere keys.table keys.comparisons
 
+  -- a table, and values for its key
+  abbrev pub IsKey : Key → Piece
+  IsKey key = IsTable key.table ⋯ IsRow key.parts
+
   -- a line up to its end
   abbrev pub IsLine : Written → List ℕ → Type 0
   IsLine (Clock instant) bytes =
       (Word (codes "CLOCK") ⋯ Symbol 58 ⋯ IsInstant instant ⋯ Blanks) bytes []
+  IsLine (SplitKey key) bytes =
+      (Word (codes "SPLIT") ⋯ Symbol 58 ⋯ Word (codes "KEY") ⋯ IsKey key ⋯ Blanks) bytes []
+  IsLine (SplitTime key instant) bytes =
+      (Word (codes "SPLIT") ⋯ Symbol 58 ⋯ Word (codes "TIME") ⋯ IsKey key ⋯ Word (codes "AT")
+      ⋯ IsInstant instant ⋯ Blanks) bytes []
+  IsLine Migrate bytes = (Word (codes "MIGRATE") ⋯ Symbol 58 ⋯ Blanks) bytes []
   IsLine (Session session statement) bytes =
       ((Blanks ⋯ Digits (2 ^ 63 - 1) session) ⋯ Symbol 58 ⋯ IsStatement statement
       ⋯ (Empty ∣ Symbol 59) ⋯ Blanks) bytes []

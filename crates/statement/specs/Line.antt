@@ -2,17 +2,20 @@
 use Rattle.std.specs.Prelude.{ℕ, ◌-◌, ◌^◌, List, [], ◌∷◌, ◌==◌, ◌&&◌, nat_lt, Bool, true, false, Result, Ok, Err, slice_index, length, take, codes, if◌then◌else◌}
 use Rattle.std.specs.Char.{is_ascii_digit}
 use Rattle.values.specs.Tables.{Schema}
+use Rattle.histories.specs.declared.step.Step.{Step}
+use Rattle.histories.specs.declared.step.Step.TheVariants.{SplitKey as SplitsKey, SplitTime as SplitsTime, Migrate as Migrates}
 use Rattle.values.specs.declared.refusal.Refusal.{Refusal}
 use Rattle.values.specs.declared.refusal.Refusal.TheVariants.{Syntax, LineTooLong}
 use Rattle.statement.specs.declared.line.Line.{Line}
 use Rattle.statement.specs.declared.line.Line.TheVariants.{Nothing, Clock, Step as IsStep}
 use Rattle.statement.specs.declared.line.Written.{Written}
-use Rattle.statement.specs.declared.line.Written.TheVariants.{Clock as SetsClock, Session}
+use Rattle.statement.specs.declared.line.Written.TheVariants.{Clock as SetsClock, SplitKey, SplitTime, Migrate, Session}
 use Rattle.tokens.specs.Token.{Read, ◌>>=◌}
 use Rattle.statement.specs.Token.{next, symbol_at, word_at, end_at, after_semicolon}
 use Rattle.statement.specs.Literal.{digits_at}
 use Rattle.statement.specs.Statement.{instant_at, statement_at}
-use Rattle.statement.specs.Meaning.{step_of}
+use Rattle.statement.specs.Meaning.{fitting_step, step_of}
+use Rattle.statement.specs.Split.{split_at}
 
 -- the bytes without the last, where that is this one
 abbrev pub without_last : ℕ → List ℕ → List ℕ
@@ -47,6 +50,16 @@ clock_at bytes = do
   rest ← end_at instant.1
   Ok (SetsClock instant.0, rest)
 
+unfoldable pub migrate_at : List ℕ → Read Written
+migrate_at bytes = do
+  rest ← symbol_at 58 bytes
+  rest ← end_at rest
+  Ok (Migrate, rest)
+
+-- what asks for a step, if it fits
+abbrev pub asked : Result Step Refusal → Result Line Refusal
+asked step = step >>= λ fits. Ok (IsStep fits)
+
 -- the bytes that a line may have before its line feed
 abbrev pub longest_line : ℕ
 longest_line = 8192
@@ -60,13 +73,27 @@ module _ (schema : Schema) where
     rest ← end_at (after_semicolon statement.1)
     Ok (Session session.0 statement.0, rest)
 
+  -- a line of no session, by its first word
+  unfoldable pub service_at : List ℕ → Read Written
+  service_at bytes = elim (word_at (codes "SPLIT") bytes) [
+    | Ok rest ↦ split_at schema rest
+    | Err _ ↦ elim (word_at (codes "MIGRATE") bytes) [
+      | Ok rest ↦ migrate_at rest
+      | Err _ ↦ clock_at bytes
+    ]
+  ]
+
   unfoldable pub written_at : List ℕ → Read Written
-  written_at bytes = if begins_digit (next bytes) then session_at bytes else clock_at bytes
+  written_at bytes = if begins_digit (next bytes) then session_at bytes else service_at bytes
 
   unfoldable pub meaning_of : ℕ → Written → Result Line Refusal
   meaning_of reading (SetsClock instant) = Ok (Clock instant)
+  meaning_of reading (SplitKey key) = asked (fitting_step schema (SplitsKey key))
+  meaning_of reading (SplitTime key instant) =
+      asked (fitting_step schema (SplitsTime key instant))
+  meaning_of reading Migrate = Ok (IsStep Migrates)
   meaning_of reading (Session session statement) =
-      step_of schema reading session statement >>= λ step. Ok (IsStep step)
+      asked (step_of schema reading session statement)
 
   -- what the bytes of a line's tokens say
   unfoldable pub body_says : ℕ → List ℕ → Result Line Refusal

@@ -9,7 +9,7 @@ use Rattle.tokens.specs.declared.token.Stop.TheVariants.{At, Memory as OutOfMemo
 use Rattle.statement.specs.declared.statement.Statement.{Statement}
 use Rattle.statement.specs.declared.statement.Statement.TheVariants.{Insert}
 use Rattle.statement.specs.declared.line.Written.{Written}
-use Rattle.statement.specs.declared.line.Written.TheVariants.{Clock, Session}
+use Rattle.statement.specs.declared.line.Written.TheVariants.{Clock, SplitKey, SplitTime, Migrate, Session}
 use Rattle.statement.specs.Token.{symbol_at, word_at}
 use Rattle.statement.specs.Literal.{digits_at}
 use Rattle.statement.specs.Line.{body_of}
@@ -33,9 +33,18 @@ asks_for_rows bytes = elim (digits_at (2 ^ 63 - 1) bytes) [
   | Ok session ↦ elim (symbol_at 58 session.1) [ Err _ ↦ false | Ok rest ↦ is_on_rows rest ]
 ]
 
--- reading the line takes memory: only what is said of rows does
+-- a split, which names a key
+abbrev pub asks_to_split : List ℕ → Bool
+asks_to_split bytes =
+    elim (word_at (codes "SPLIT") bytes) [ Err _ ↦ false | Ok rest ↦ is_ok (symbol_at 58 rest) ]
+
+-- what is said of rows, and of a key
+abbrev pub asks_for_values : List ℕ → Bool
+asks_for_values bytes = asks_for_rows bytes || asks_to_split bytes
+
+-- reading the line takes memory: only where values may stand does it
 abbrev pub takes_memory : List ℕ → Bool
-takes_memory line = asks_for_rows (body_of line)
+takes_memory line = asks_for_values (body_of line)
 
 -- the rows of an INSERT are put in the table's order, which takes memory once more
 abbrev pub is_insert : Statement → Bool
@@ -44,6 +53,9 @@ is_insert _ = false
 
 abbrev pub inserts : Written → Bool
 inserts (Clock _) = false
+inserts (SplitKey _) = false
+inserts (SplitTime _ _) = false
+inserts Migrate = false
 inserts (Session _ statement) = is_insert statement
 
 -- memory ran out, or can still run out over what was read

@@ -4,7 +4,7 @@ use Rattle.std.specs.Prelude.{ℕ, List, Option, Some, None, Ok, Err, codes}
 use Rattle.values.specs.Tables.{Schema}
 use Rattle.values.specs.Commits.{max_instant}
 use Rattle.values.specs.declared.query.Form.{Form}
-use Rattle.values.specs.declared.query.Form.TheVariants.{Plain, AsOf}
+use Rattle.values.specs.declared.query.Form.TheVariants.{Plain, AsOf, FromTo, Between}
 use Rattle.statement.specs.declared.statement.Statement.{Statement}
 use Rattle.statement.specs.declared.statement.Statement.TheVariants.{Begin, Insert, Update, Delete, Select, Commit, Rollback}
 use Rattle.tokens.specs.Token.{Read, ◌>>=◌}
@@ -18,16 +18,46 @@ instant_at bytes = digits_at max_instant bytes
 
 unfoldable pub as_of_at : List ℕ → Read Form
 as_of_at bytes = do
-  rest ← word_at (codes "SYSTEM_TIME") bytes
-  rest ← word_at (codes "AS") rest
-  rest ← word_at (codes "OF") rest
+  rest ← word_at (codes "OF") bytes
   instant ← instant_at rest
   Ok (AsOf instant.0, instant.1)
+
+-- two instants with a word between them
+unfoldable pub period_at : List ℕ → (ℕ → ℕ → Form) → List ℕ → Read Form
+period_at word form bytes = do
+  start ← instant_at bytes
+  rest ← word_at word start.1
+  end ← instant_at rest
+  Ok (form start.0 end.0, end.1)
+
+abbrev pub from_to_at : List ℕ → Read Form
+from_to_at bytes = period_at (codes "TO") FromTo bytes
+
+abbrev pub between_at : List ℕ → Read Form
+between_at bytes = period_at (codes "AND") Between bytes
+
+-- by the word after SYSTEM_TIME
+unfoldable pub selection_at : List ℕ → Read Form
+selection_at bytes = elim (word_at (codes "AS") bytes) [
+  | Ok rest ↦ as_of_at rest
+  | Err _ ↦ elim (word_at (codes "FROM") bytes) [
+    | Ok rest ↦ from_to_at rest
+    | Err _ ↦ elim (word_at (codes "BETWEEN") bytes) [
+      | Ok rest ↦ between_at rest
+      | Err at ↦ Err at
+    ]
+  ]
+]
+
+unfoldable pub system_time_at : List ℕ → Read Form
+system_time_at bytes = do
+  rest ← word_at (codes "SYSTEM_TIME") bytes
+  selection_at rest
 
 -- which versions a SELECT asks for
 unfoldable pub form_at : List ℕ → Read Form
 form_at bytes =
-    elim (word_at (codes "FOR") bytes) [ Err _ ↦ Ok (Plain, bytes) | Ok rest ↦ as_of_at rest ]
+    elim (word_at (codes "FOR") bytes) [ Err _ ↦ Ok (Plain, bytes) | Ok rest ↦ system_time_at rest ]
 
 unfoldable pub start_at : List ℕ → Read Statement
 start_at bytes = do

@@ -10,6 +10,7 @@ mod list;
 mod literal;
 mod meaning;
 mod print;
+mod split;
 mod statement;
 mod token;
 mod writer;

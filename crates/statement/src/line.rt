@@ -1,17 +1,18 @@
 ghost use Rattle.std.specs.Prelude.{◌≡◌, IsTrue, IfOk, true, false, Err};
 ghost use Rattle.tokens.specs.Token.{Makes, Gives};
-ghost use Rattle.statement.specs.Memory.{UnlessMemory, can_run_out, inserts, asks_for_rows, takes_memory};
-ghost use Rattle.statement.specs.Line.{without_last, before_feed, body_of, is_nothing, begins_digit, clock_at, session_at, written_at, meaning_of, body_says, line_says};
+ghost use Rattle.statement.specs.Memory.{UnlessMemory, can_run_out, inserts, asks_for_rows, asks_to_split, asks_for_values, takes_memory};
+ghost use Rattle.statement.specs.Line.{without_last, before_feed, body_of, is_nothing, begins_digit, clock_at, migrate_at, session_at, service_at, written_at, asked, meaning_of, body_says, line_says};
 
 use crate::literal::digits_at;
-use crate::meaning::step_of;
+use crate::meaning::{fitting_step, step_of};
+use crate::split::split_at;
 use crate::statement::{Statement, instant_at, statement_at};
 use crate::token::{Blanks, after_semicolon, end_at};
 use histories::Step;
 use rows::Schema;
 use std::alloc::Global;
 use tokens::{Made, Read, Separators, Stop, symbol_at, word_at};
-use values::{Instant, Refusal};
+use values::{Instant, Key, Refusal};
 
 /// The bytes that a line may have before its line feed.
 const LINE: usize = 8192;
@@ -33,6 +34,11 @@ pub enum Line {
 #[derive(Drop)]
 pub enum Written {
     Clock(Instant),
+    /// A split at a key, whose table is 0 where there is none.
+    SplitKey(Key),
+    /// A split in time, of what stands at such a key.
+    SplitTime(Key, Instant),
+    Migrate,
     /// A session's number, which is of the grammar even where there is no such session, and its statement.
     Session(u64, Statement),
 }
@@ -97,6 +103,31 @@ fn clock_at(bytes: &[u8]) -> Read<'_, Written>
     Ok((Written::Clock(instant), rest))
 }
 
+#[tactic(auto, unfolding(crate::specs::Line::migrate_at))]
+fn migrate_at(bytes: &[u8]) -> Read<'_, Written>
+    ensures gives { Gives result (migrate_at bytes.now) }
+    ensures migrates { IfOk result (λ x. inserts x.0 ≡ false) }
+{
+    let rest = symbol_at::<Blanks>(b':', bytes)?;
+    let rest = end_at(rest)?;
+    Ok((Written::Migrate, rest))
+}
+
+/// A line of no session, by its first word.
+#[tactic(auto, unfolding(crate::specs::Line::service_at))]
+fn service_at<'a>(alloc: Global, schema: &Schema, bytes: &'a [u8]) -> Made<'a, Written>
+    ensures makes { Makes result (service_at schema.now bytes.now) }
+    ensures memory { IsTrue (can_run_out inserts result) → asks_to_split bytes.now ≡ true }
+{
+    if let Ok(rest) = word_at::<Blanks>(b"SPLIT", bytes) {
+        return split_at(alloc, schema, rest);
+    }
+    if let Ok(rest) = word_at::<Blanks>(b"MIGRATE", bytes) {
+        return Ok(migrate_at(rest)?);
+    }
+    Ok(clock_at(bytes)?)
+}
+
 #[tactic(auto, unfolding(crate::specs::Line::session_at))]
 fn session_at<'a>(alloc: Global, schema: &Schema, bytes: &'a [u8]) -> Made<'a, Written>
     ensures makes { Makes result (session_at schema.now bytes.now) }
@@ -112,12 +143,22 @@ fn session_at<'a>(alloc: Global, schema: &Schema, bytes: &'a [u8]) -> Made<'a, W
 #[tactic(auto, unfolding(crate::specs::Line::written_at))]
 fn written_at<'a>(alloc: Global, schema: &Schema, bytes: &'a [u8]) -> Made<'a, Written>
     ensures makes { Makes result (written_at schema.now bytes.now) }
-    ensures memory { IsTrue (can_run_out inserts result) → asks_for_rows bytes.now ≡ true }
+    ensures memory { IsTrue (can_run_out inserts result) → asks_for_values bytes.now ≡ true }
 {
     if begins_digit(Blanks::next(bytes)) {
         session_at(alloc, schema, bytes)
     } else {
-        Ok(clock_at(bytes)?)
+        service_at(alloc, schema, bytes)
+    }
+}
+
+/// A line that asks for a step, or why the step does not fit.
+fn asked(step: Result<Step, Refusal>) -> Result<Line, Refusal>
+    ensures { result ≡ asked step }
+{
+    match step {
+        Ok(step) => Ok(Line::Step(step)),
+        Err(refusal) => Err(refusal),
     }
 }
 
@@ -133,11 +174,13 @@ fn meaning_of(
 {
     match written {
         Written::Clock(instant) => Ok(Line::Clock(instant)),
+        Written::SplitKey(key) => asked(fitting_step(schema, Step::SplitKey(key))),
+        Written::SplitTime(key, instant) => {
+            asked(fitting_step(schema, Step::SplitTime(key, instant)))
+        }
+        Written::Migrate => Ok(Line::Step(Step::Migrate)),
         Written::Session(session, statement) => {
-            match step_of(alloc, schema, reading, session, statement) {
-                Ok(step) => Ok(Line::Step(step)),
-                Err(refusal) => Err(refusal),
-            }
+            asked(step_of(alloc, schema, reading, session, statement))
         }
     }
 }
@@ -150,7 +193,7 @@ fn body_says(
     reading: Instant,
 ) -> Result<Line, Refusal>
     ensures unless { UnlessMemory result (body_says schema.now reading bytes.now) }
-    ensures memory { result ≡ Err Refusal.Memory → asks_for_rows bytes.now ≡ true }
+    ensures memory { result ≡ Err Refusal.Memory → asks_for_values bytes.now ≡ true }
 {
     if is_nothing(Blanks::next(bytes)) {
         return Ok(Line::Nothing);

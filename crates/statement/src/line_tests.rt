@@ -4,10 +4,10 @@ use rows::Schema;
 use std::alloc::{AllocError, Global};
 use std::process::Abort;
 use std::test::Fail;
-use values::{Comparison, Form, Instant, Keys, Operator, Refusal, Row, Rows, Value};
+use values::{Comparison, Form, Instant, Key, Keys, Operator, Refusal, Row, Rows, Value};
 
 /// Lines, and the byte of the first token that cannot stand.
-static WRONG_TOKENS: [(&str, usize); 183] = [
+static WRONG_TOKENS: [(&str, usize); 234] = [
     ("- no comment", 0),
     ("-1: BEGIN", 0),
     ("+1: BEGIN", 0),
@@ -190,13 +190,8 @@ static WRONG_TOKENS: [(&str, usize); 183] = [
     ("1: BEGIN WORK", 9),
     ("1: BEGIN TRANSACTION", 9),
     ("1: INSERT INTO emp VALUES (1, 'Ann", 30),
-    ("SPLIT: KEY emp (1)", 0),
-    ("migrate:", 0),
-    ("1: SELECT * FROM emp FOR SYSTEM_TIME FROM 1 TO 2", 37),
-    ("1: SELECT * FROM emp FOR SYSTEM_TIME BETWEEN 1 AND 2", 37),
     ("1: ALTER TABLE emp ADD COLUMN x INT", 3),
     ("1: SELECT * FROM emp WHERE no = 99999999999999999999", 32),
-    ("SPLIT: TIME emp (1) AT 5", 0),
     (
         "1: UPDATE emp FOR PORTION OF valid FROM 1 TO 2 SET name = 'x'",
         14,
@@ -206,6 +201,74 @@ static WRONG_TOKENS: [(&str, usize); 183] = [
     ("1: SELECT * FROM overlaps", 17),
     ("1: DELETE FROM t WHERE n=1ANDn>0", 26),
     ("1: INSERT INTO t (k, key) VALUES ('a', 1)", 21),
+    ("1: SELECT * FROM emp FOR SYSTEM_TIME FROM", 41),
+    ("1: SELECT * FROM emp FOR SYSTEM_TIME FROM x TO 2", 42),
+    ("1: SELECT * FROM emp FOR SYSTEM_TIME FROM 1", 43),
+    ("1: SELECT * FROM emp FOR SYSTEM_TIME FROM 1 2", 44),
+    ("1: SELECT * FROM emp FOR SYSTEM_TIME FROM 1 AND 2", 44),
+    ("1: SELECT * FROM emp FOR SYSTEM_TIME FROM 1 TO", 46),
+    ("1: SELECT * FROM emp FOR SYSTEM_TIME FROM 1 TO NULL", 47),
+    (
+        "1: SELECT * FROM emp FOR SYSTEM_TIME FROM 1000000000000000000 TO 2",
+        42,
+    ),
+    (
+        "1: SELECT * FROM emp FOR SYSTEM_TIME FROM 1 TO 1000000000000000000",
+        47,
+    ),
+    ("1: SELECT * FROM emp FOR SYSTEM_TIME FROM 1 TO 2 3", 49),
+    ("1: SELECT * FROM emp FOR SYSTEM_TIME BETWEEN", 44),
+    ("1: SELECT * FROM emp FOR SYSTEM_TIME BETWEEN AND 2", 45),
+    ("1: SELECT * FROM emp FOR SYSTEM_TIME BETWEEN 1", 46),
+    ("1: SELECT * FROM emp FOR SYSTEM_TIME BETWEEN 1 TO 2", 47),
+    ("1: SELECT * FROM emp FOR SYSTEM_TIME BETWEEN 1 AND", 50),
+    ("1: SELECT * FROM emp FOR SYSTEM_TIME BETWEEN 1 AND -2", 51),
+    (
+        "1: SELECT * FROM emp FOR SYSTEM_TIME BETWEEN 1000000000000000000 AND 2",
+        45,
+    ),
+    (
+        "1: SELECT * FROM emp FOR SYSTEM_TIME BETWEEN 1 AND 2 AND 3",
+        53,
+    ),
+    ("SPLIT", 5),
+    ("SPLITS: KEY emp (1)", 0),
+    ("SPLIT KEY emp (1)", 6),
+    ("SPLIT:", 6),
+    ("SPLIT: emp (1)", 7),
+    ("SPLIT: BOTH emp (1)", 7),
+    ("SPLIT: KEY", 10),
+    ("SPLIT: KEY (1)", 11),
+    ("SPLIT: KEY key (1)", 11),
+    ("SPLIT: KEY emp", 14),
+    ("SPLIT: KEY emp 1", 15),
+    ("SPLIT: KEY emp (", 16),
+    ("SPLIT: KEY emp ()", 16),
+    ("SPLIT: KEY emp (no)", 16),
+    ("SPLIT: KEY emp ('a)", 16),
+    ("SPLIT: KEY emp (1", 17),
+    ("SPLIT: KEY emp (1 2)", 18),
+    ("SPLIT: KEY emp (1,", 18),
+    ("SPLIT: KEY nosuch (1", 20),
+    ("SPLIT: KEY emp (1);", 18),
+    ("SPLIT: KEY emp (1), (2)", 18),
+    ("SPLIT: KEY emp (1) AT 5", 19),
+    ("SPLIT: KEY emp (1) --", 19),
+    ("SPLIT: TIME", 11),
+    ("SPLIT: TIME emp AT 5", 16),
+    ("SPLIT: TIME emp (1)", 19),
+    ("SPLIT: TIME emp (1) 5", 20),
+    ("SPLIT: TIME emp (1) AT", 22),
+    ("SPLIT: TIME emp (1) AT x", 23),
+    ("SPLIT: TIME emp (1) AT 1000000000000000000", 23),
+    ("SPLIT: TIME emp (1) AT 5;", 24),
+    ("SPLIT: TIME emp (1) AT 5 6", 25),
+    ("MIGRATE", 7),
+    ("MIGRATE 1", 8),
+    ("MIGRATE:;", 8),
+    ("MIGRATE: 1", 9),
+    ("1: MIGRATE:", 3),
+    ("1: SPLIT: KEY emp (1)", 3),
 ];
 
 static WRONG_BYTES: [(&[u8], usize); 28] = [
@@ -249,15 +312,17 @@ static NO_SESSION: [&str; 5] = [
 ];
 
 /// Lines of tables that there are not.
-static NO_TABLE: [&str; 4] = [
+static NO_TABLE: [&str; 6] = [
     "1: SELECT * FROM dept",
     "1: SELECT * FROM nosuch WHERE x = 1",
     "1: INSERT INTO nosuch (x) VALUES (1, 2)",
     "1: UPDATE dept SET x = 1",
+    "SPLIT: KEY dept (1)",
+    "SPLIT: TIME nosuch (NULL, 2) AT 0",
 ];
 
 /// Lines that do not fit their table, and the column that is answered.
-static BAD_ROW: [(&str, usize); 24] = [
+static BAD_ROW: [(&str, usize); 30] = [
     ("1: INSERT INTO emp VALUES ('x', 'Ann')", 1),
     ("1: INSERT INTO emp VALUES (1)", 0),
     ("1: INSERT INTO emp VALUES (1, 5), (TRUE, 5)", 2),
@@ -282,10 +347,16 @@ static BAD_ROW: [(&str, usize); 24] = [
     ("1: UPDATE emp SET name = 'a', NAME = 5", 0),
     ("1: UPDATE emp SET name = 5 WHERE x = 1", 2),
     ("1: UPDATE emp SET name = 'a' WHERE x = 1", 0),
+    ("SPLIT: KEY emp (1, 2)", 0),
+    ("SPLIT: TIME t ('a') AT 5", 0),
+    ("SPLIT: KEY emp ('a')", 1),
+    ("SPLIT: KEY emp (NULL)", 1),
+    ("SPLIT: TIME t ('a', TRUE) AT 0", 2),
+    ("SPLIT: TIME r (1, 'x') AT 0", 2),
 ];
 
 /// Lines, and what they say in short.
-static KINDS: [(&str, &str); 26] = [
+static KINDS: [(&str, &str); 36] = [
     ("", "nothing"),
     ("\n", "nothing"),
     (" \t \r\n", "nothing"),
@@ -327,6 +398,28 @@ static KINDS: [(&str, &str); 26] = [
         "1: SELECT * FROM emp FOR SYSTEM_TIME AS OF 999999999999999999WHERE no=1",
         "select at an instant",
     ),
+    (
+        "1: SELECT * FROM emp FOR SYSTEM_TIME FROM 0 TO 999999999999999999 WHERE no = 1",
+        "select from 0",
+    ),
+    (
+        "1: select*from emp for system_time\tfrom 0to 0;",
+        "select from 0",
+    ),
+    (
+        "1: SELECT * FROM emp FOR SYSTEM_TIME BETWEEN 7 AND 0007",
+        "select between 7 and 7",
+    ),
+    ("SPLIT: KEY emp (1)", "split of keys"),
+    ("\tsplit:Key eMp(-5) \r\n", "split of keys"),
+    (" Split : KEY r ( 'a' , 1 )", "split of keys"),
+    ("SPLIT: TIME emp (1) AT 0", "split in time"),
+    (
+        "split:time t('a',1)at 999999999999999999\n",
+        "split in time",
+    ),
+    ("MIGRATE:", "migration"),
+    (" migrate :\t\r\n", "migration"),
 ];
 
 const SCHEMA: &str = "CREATE TABLE emp (
@@ -339,9 +432,14 @@ CREATE TABLE t (
   s TIMESTAMP GENERATED ALWAYS AS ROW START, e TIMESTAMP GENERATED ALWAYS AS ROW END,
   PERIOD FOR SYSTEM_TIME (s, e)
 ) WITH SYSTEM VERSIONING;
+CREATE TABLE r (
+  n INT, k TEXT, PRIMARY KEY (k, n),
+  s TIMESTAMP GENERATED ALWAYS AS ROW START, e TIMESTAMP GENERATED ALWAYS AS ROW END,
+  PERIOD FOR SYSTEM_TIME (s, e)
+) WITH SYSTEM VERSIONING;
 ";
 
-/// The tables `emp (no INT, name TEXT)` with the key `no`, and `t (k TEXT, n INT, f BOOLEAN)` with the key `k, n`.
+/// The tables `emp (no INT, name TEXT)` with the key `no`, and `t (k TEXT, n INT, f BOOLEAN)` and `r (n INT, k TEXT)` with the key `k, n`.
 fn schema(rt: &impl Abort, alloc: Global) -> Schema {
     Schema::read(alloc, SCHEMA.as_bytes()).expect(rt, "it is a schema")
 }
@@ -357,10 +455,15 @@ fn kind_of(line: &Line) -> &'static str {
         Line::Step(Step::Update(..)) => "update",
         Line::Step(Step::Delete(..)) => "delete",
         Line::Step(Step::Select(_, Form::Plain, _)) => "select",
-        Line::Step(Step::Select(..)) => "select at an instant",
+        Line::Step(Step::Select(_, Form::AsOf(_), _)) => "select at an instant",
+        Line::Step(Step::Select(_, Form::FromTo(0, _), _)) => "select from 0",
+        Line::Step(Step::Select(_, Form::Between(7, 7), _)) => "select between 7 and 7",
         Line::Step(Step::Commit(1, 0)) => "commit at 0",
         Line::Step(Step::Commit(1, 7)) => "commit at 7",
         Line::Step(Step::Rollback(_)) => "rollback",
+        Line::Step(Step::SplitKey(_)) => "split of keys",
+        Line::Step(Step::SplitTime(..)) => "split in time",
+        Line::Step(Step::Migrate) => "migration",
         Line::Step(_) => "another",
     }
 }
@@ -570,6 +673,71 @@ fn comparisons_keep_their_operators(rt: HostRuntime) {
         assert!(rt; has_number(comparison, operator, number), "{number}");
     }
     assert!(rt; has_text(&comparisons[5], "a"));
+}
+
+/// Whether a key has a text and a number.
+fn has_parts(key: &Key, table: u8, text: &str, number: i64) -> bool {
+    match key.parts.items() {
+        [Value::Text(first), Value::Int(second)] => {
+            key.table == table && first.text() == text && *second == number
+        }
+        _ => false,
+    }
+}
+
+/// Whether a line splits the table `t` or `r` at a text and a number, in time at 12 or not.
+fn splits(alloc: Global, line: &str, schema: &Schema, table: u8, in_time: bool) -> bool {
+    match read_line(alloc, line.as_bytes(), schema, 0) {
+        Ok(Line::Step(Step::SplitKey(key))) => !in_time && has_parts(&key, table, "a'b", -7),
+        Ok(Line::Step(Step::SplitTime(key, 12))) => in_time && has_parts(&key, table, "a'b", -7),
+        _ => false,
+    }
+}
+
+#[test]
+fn a_split_keeps_its_key_and_its_instant(rt: HostRuntime) {
+    let alloc = rt.alloc();
+    let schema = schema(&rt, alloc);
+    let line = "SPLIT: KEY r ('a''b', -7)";
+    assert!(rt; splits(alloc, line, &schema, 3, false), "{line}");
+    let line = "SPLIT: TIME t ('a''b', -7) AT 12";
+    assert!(rt; splits(alloc, line, &schema, 2, true), "{line}");
+}
+
+/// Whether a line shows what a form selects of all rows of `emp`.
+fn selects(alloc: Global, line: &str, schema: &Schema, form: Form) -> bool {
+    match read_line(alloc, line.as_bytes(), schema, 0) {
+        Ok(Line::Step(Step::Select(1, read, keys))) => {
+            read == form && keys.table == 1 && keys.comparisons.items().is_empty()
+        }
+        _ => false,
+    }
+}
+
+#[test]
+fn a_period_keeps_its_instants_in_their_order(rt: HostRuntime) {
+    let alloc = rt.alloc();
+    let schema = schema(&rt, alloc);
+    for (line, form) in [
+        (
+            "1: SELECT * FROM emp FOR SYSTEM_TIME FROM 3 TO 5",
+            Form::FromTo(3, 5),
+        ),
+        (
+            "1: SELECT * FROM emp FOR SYSTEM_TIME BETWEEN 3 AND 5",
+            Form::Between(3, 5),
+        ),
+        (
+            "1: SELECT * FROM emp FOR SYSTEM_TIME BETWEEN 5 AND 0",
+            Form::Between(5, 0),
+        ),
+        (
+            "1: SELECT * FROM emp FOR SYSTEM_TIME AS OF 0",
+            Form::AsOf(0),
+        ),
+    ] {
+        assert!(rt; selects(alloc, line, &schema, form), "{line}");
+    }
 }
 
 const REST: &str =

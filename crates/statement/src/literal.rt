@@ -189,7 +189,7 @@ impl Item for Literals {
 
 /// A row's values, in the order in which they stand.
 #[tactic(auto, unfolding(crate::specs::Literal::row_at))]
-fn row_at(alloc: Global, bytes: &[u8]) -> Made<'_, Values>
+pub fn row_at(alloc: Global, bytes: &[u8]) -> Made<'_, Values>
     ensures { Makes result (row_at bytes.now) }
 {
     let (values, rest) = enclosed_at(&Literals, alloc, bytes)?;

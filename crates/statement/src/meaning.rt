@@ -153,7 +153,7 @@ fn fitting_rows(
 }
 
 /// A step, if it fits the schema.
-fn fitting_step(schema: &Schema, step: Step) -> Result<Step, Refusal>
+pub fn fitting_step(schema: &Schema, step: Step) -> Result<Step, Refusal>
     ensures { result ≡ fitting_step schema.now step }
 {
     match step.misfit(schema) {

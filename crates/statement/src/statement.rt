@@ -1,7 +1,7 @@
 ghost use Rattle.std.specs.Prelude.{◌≡◌, IsTrue, IfOk, true, false};
 ghost use Rattle.tokens.specs.Token.{Gives, Makes};
 ghost use Rattle.statement.specs.Memory.{can_run_out, is_insert, is_on_rows};
-ghost use Rattle.statement.specs.Statement.{instant_at, as_of_at, form_at, start_at, listed_at, insert_at, update_at, delete_at, select_at, data_at, statement_at};
+ghost use Rattle.statement.specs.Statement.{instant_at, as_of_at, from_to_at, between_at, selection_at, system_time_at, form_at, start_at, listed_at, insert_at, update_at, delete_at, select_at, data_at, statement_at};
 
 use crate::condition::{columns_at, keys_at, sets_at, table_name_at};
 use crate::literal::{WrittenRows, digits_at, rows_at};
@@ -40,20 +40,63 @@ fn form_at(bytes: &[u8]) -> Read<'_, Form>
     ensures { Gives result (form_at bytes.now) }
 {
     match word_at::<Blanks>(b"FOR", bytes) {
-        Ok(rest) => as_of_at(rest),
+        Ok(rest) => system_time_at(rest),
         Err(_) => Ok((Form::Plain, bytes)),
     }
+}
+
+#[tactic(auto, unfolding(crate::specs::Statement::system_time_at))]
+fn system_time_at(bytes: &[u8]) -> Read<'_, Form>
+    ensures { Gives result (system_time_at bytes.now) }
+{
+    let rest = word_at::<Blanks>(b"SYSTEM_TIME", bytes)?;
+    selection_at(rest)
+}
+
+/// An instant or a period, by the word after SYSTEM_TIME.
+#[tactic(auto, unfolding(crate::specs::Statement::selection_at))]
+fn selection_at(bytes: &[u8]) -> Read<'_, Form>
+    ensures { Gives result (selection_at bytes.now) }
+{
+    if let Ok(rest) = word_at::<Blanks>(b"AS", bytes) {
+        return as_of_at(rest);
+    }
+    if let Ok(rest) = word_at::<Blanks>(b"FROM", bytes) {
+        return from_to_at(rest);
+    }
+    let rest = word_at::<Blanks>(b"BETWEEN", bytes)?;
+    between_at(rest)
 }
 
 #[tactic(auto, unfolding(crate::specs::Statement::as_of_at))]
 fn as_of_at(bytes: &[u8]) -> Read<'_, Form>
     ensures { Gives result (as_of_at bytes.now) }
 {
-    let rest = word_at::<Blanks>(b"SYSTEM_TIME", bytes)?;
-    let rest = word_at::<Blanks>(b"AS", rest)?;
-    let rest = word_at::<Blanks>(b"OF", rest)?;
+    let rest = word_at::<Blanks>(b"OF", bytes)?;
     let (instant, rest) = instant_at(rest)?;
     Ok((Form::AsOf(instant), rest))
+}
+
+/// From an instant up to another, which is left out.
+#[tactic(auto, unfolding(crate::specs::Statement::period_at))]
+fn from_to_at(bytes: &[u8]) -> Read<'_, Form>
+    ensures { Gives result (from_to_at bytes.now) }
+{
+    let (start, rest) = instant_at(bytes)?;
+    let rest = word_at::<Blanks>(b"TO", rest)?;
+    let (end, rest) = instant_at(rest)?;
+    Ok((Form::FromTo(start, end), rest))
+}
+
+/// From an instant up to another, which is of the period.
+#[tactic(auto, unfolding(crate::specs::Statement::period_at))]
+fn between_at(bytes: &[u8]) -> Read<'_, Form>
+    ensures { Gives result (between_at bytes.now) }
+{
+    let (start, rest) = instant_at(bytes)?;
+    let rest = word_at::<Blanks>(b"AND", rest)?;
+    let (end, rest) = instant_at(rest)?;
+    Ok((Form::Between(start, end), rest))
 }
 
 /// A column list, where one stands.
