@@ -75,21 +75,23 @@ as_of_of form bytes rest n =
     let d = a.second in
     subst (λ (f : Form). Selection f bytes rest) (sym d.1.0) (n.between, (n.first, (a.between, (a.first, d.1.1))))
 
-from_to_of : (form : Form) (bytes rest : List ℕ) → Next (Word (codes "FROM")) (Period (codes "TO") FromTo) form bytes rest → Selection form bytes rest
-unfolding Period PeriodEnd Selection
-from_to_of form bytes rest n =
+period_of : (word : List ℕ) (make : ℕ → ℕ → Form) (P : Piece)
+    → ((start end : ℕ) (bytes rest : List ℕ) → (P ⋯ IsInstant start ⋯ Word word ⋯ IsInstant end) bytes rest → Selection (make start end) bytes rest)
+    → (form : Form) (bytes rest : List ℕ) → Next P (Period word make) form bytes rest → Selection form bytes rest
+unfolding Period PeriodEnd
+period_of word make P made form bytes rest n =
     let t = n.second in
     let a = t.second in
     let d = a.second in
-    subst (λ (f : Form). Selection f bytes rest) (sym d.1.0) (n.between, (n.first, (t.between, (t.first, (a.between, (a.first, d.1.1))))))
+    subst (λ (f : Form). Selection f bytes rest) (sym d.1.0) (made t.value d.0 bytes rest (n.between, (n.first, (t.between, (t.first, (a.between, (a.first, d.1.1)))))))
+
+from_to_of : (form : Form) (bytes rest : List ℕ) → Next (Word (codes "FROM")) (Period (codes "TO") FromTo) form bytes rest → Selection form bytes rest
+unfolding Selection
+from_to_of = period_of (codes "TO") FromTo (Word (codes "FROM")) (λ start end bytes rest is. is)
 
 between_of : (form : Form) (bytes rest : List ℕ) → Next (Word (codes "BETWEEN")) (Period (codes "AND") Between) form bytes rest → Selection form bytes rest
-unfolding Period PeriodEnd Selection
-between_of form bytes rest n =
-    let t = n.second in
-    let a = t.second in
-    let d = a.second in
-    subst (λ (f : Form). Selection f bytes rest) (sym d.1.0) (n.between, (n.first, (t.between, (t.first, (a.between, (a.first, d.1.1))))))
+unfolding Selection
+between_of = period_of (codes "AND") Between (Word (codes "BETWEEN")) (λ start end bytes rest is. is)
 
 selection_usual : Usual Selection
 selection_usual = usual_weaker (λ f. f) (usual_next (usual_of (word_usual (codes "AS") refl)) as_of_usual) as_of_of
