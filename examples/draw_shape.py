@@ -1,7 +1,7 @@
 #!/usr/bin/env python3
-"""Draws the data nodes of a shape: time from left to right, keys from bottom to top.
+"""Draws the data nodes of a shape, which stands behind the replies to a script: time from left to right, keys from bottom to top.
 
-    treeshape < tree.history | draw_shape.py > tree.svg
+    treeshape < tree.script | draw_shape.py > tree.svg
 """
 
 import sys
@@ -56,7 +56,7 @@ def draw(nodes):
 
 
 def main():
-    nodes = [Node(line) for line in sys.stdin]
+    nodes = [Node(line) for line in sys.stdin if line.endswith((" loose\n", " packed\n"))]
     bottom = max(node.level for node in nodes)
     for line in draw([node for node in nodes if node.level == bottom]):
         print(line)

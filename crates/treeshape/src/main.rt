@@ -1,12 +1,14 @@
-//! The program `treeshape`: the shape of the tree that a history leaves.
+//! The program `treeshape`: the replies to a script, and the shape of the tree that it leaves.
 #![tactic(auto)]
 
-mod history;
+mod fault;
 mod print;
 
-use crate::history::{HistoryFault, tree_after};
+use crate::fault::ShapeFault;
 use crate::print::print_shape;
-use std::io::{BufWriter, Read, Write};
+use rows::Schema;
+use scripts::run_script;
+use std::io::{BufWriter, Write};
 use std::process::ExitCode;
 
 fn main(rt: HostRuntime) -> ExitCode {
@@ -20,12 +22,10 @@ fn main(rt: HostRuntime) -> ExitCode {
     }
 }
 
-/// Reads a history from standard input, and prints the shape of the tree that it leaves.
-fn run(rt: &HostRuntime) -> Result<(), HistoryFault> {
-    let mut text = String::new(rt.alloc());
-    rt.stdin().read_to_string(&mut text)?;
+/// Runs the script of standard input over the sample schema, and prints the shape of its tree behind its replies.
+fn run(rt: &HostRuntime) -> Result<(), ShapeFault> {
     let mut out = BufWriter::new(rt.alloc(), rt.stdout())?;
-    let tree = tree_after(rt.alloc(), &text, &mut out)?;
-    print_shape(rt.alloc(), &tree, &mut out)?;
-    Ok(())
+    let schema = Schema::sample(rt.alloc())?;
+    let system = run_script(rt.alloc(), &mut rt.stdin(), &mut out, schema)?;
+    print_shape(&system.shape()?, &mut out)
 }

@@ -1,15 +1,12 @@
 //! A shape as text.
-use crate::history::HistoryFault;
-use std::alloc::Global;
+use crate::fault::ShapeFault;
 use std::io::Write;
-use treewalk::NodeShape;
-use tsbtree::Tree;
+use treewalk::{NodeShape, Shape};
 use values::{Instant, KeyBytes};
 
 /// Writes a line for each node: its level from the root, its lower and its upper key in hexadecimal, the start and the end
 /// of its time, how much it holds, and whether it is packed. A dash stands for the empty lower key, and for no end.
-pub fn print_shape<W: Write>(alloc: Global, tree: &Tree, out: &mut W) -> Result<(), HistoryFault> {
-    let shape = tree.current().shape(alloc)?;
+pub fn print_shape<W: Write>(shape: &Shape, out: &mut W) -> Result<(), ShapeFault> {
     let Some(root) = shape.nodes.first() else {
         return Ok(());
     };
@@ -20,7 +17,7 @@ pub fn print_shape<W: Write>(alloc: Global, tree: &Tree, out: &mut W) -> Result<
     Ok(())
 }
 
-fn print_node<W: Write>(top: usize, node: &NodeShape, out: &mut W) -> Result<(), HistoryFault> {
+fn print_node<W: Write>(top: usize, node: &NodeShape, out: &mut W) -> Result<(), ShapeFault> {
     let keys = node.rect.keys();
     let time = node.rect.time();
     write!(out, "{} ", top.saturating_sub(node.level))?;
@@ -33,7 +30,7 @@ fn print_node<W: Write>(top: usize, node: &NodeShape, out: &mut W) -> Result<(),
     Ok(())
 }
 
-fn print_key<W: Write>(key: Option<&KeyBytes>, out: &mut W) -> Result<(), HistoryFault> {
+fn print_key<W: Write>(key: Option<&KeyBytes>, out: &mut W) -> Result<(), ShapeFault> {
     let bytes: &[u8] = match key {
         Some(key) => key.bytes(),
         None => &[],
@@ -48,7 +45,7 @@ fn print_key<W: Write>(key: Option<&KeyBytes>, out: &mut W) -> Result<(), Histor
     Ok(())
 }
 
-fn print_end<W: Write>(end: Option<Instant>, out: &mut W) -> Result<(), HistoryFault> {
+fn print_end<W: Write>(end: Option<Instant>, out: &mut W) -> Result<(), ShapeFault> {
     match end {
         Some(end) => write!(out, "{end} ")?,
         None => write!(out, "- ")?,
