@@ -12,7 +12,7 @@ use Rattle.keyrange.specs.declared.range.KeyRange.{KeyRange}
 use Rattle.keyrange.specs.Range.{is_below, is_before_end, is_key_in}
 use Rattle.keyrange.proofs.RangeOrder.{is_less}
 use Rattle.searchrange.specs.SearchRange.{next_prefix, is_bound, from_bytes, before_bytes, after_prefix, upto_prefix, narrowed}
-use Rattle.searchrange.proofs.Prefixes.{bytes_cmp, AreBytes, AreAbove, begins_below, past, not_below_none}
+use Rattle.searchrange.proofs.Prefixes.{bytes_cmp, AreBytes, AreAbove, begins_below, none_above, past, not_below_none}
 
 pub joined : (low high : Bool) → low ≡ false → high ≡ true → (not low && high) ≡ true
 joined low high d e = ap (λ t. not t && high) d ∙ e
@@ -42,12 +42,12 @@ module _ (range : KeyRange) (b : List ℕ) (inside : is_key_in range b ≡ true)
       by true = joined (is_below b range.lo) (is_below b bytes) low e
       by false = inside
 
-  pub in_after : (bytes : List ℕ) → is_below b bytes ≡ false → IfSome (next_prefix bytes) (λ n. is_below b n ≡ false) → is_key_in (after_prefix bytes range) b ≡ true
-  in_after bytes e h = by (next_prefix bytes) h
+  pub in_after : (bytes : List ℕ) → AreBytes b → AreAbove b bytes → is_key_in (after_prefix bytes range) b ≡ true
+  in_after bytes h above = by (next_prefix bytes) refl (past bytes b h above)
     where
-      by : (o : Option (List ℕ)) → IfSome o (λ n. is_below b n ≡ false) → is_key_in (elim o [ None ↦ from_bytes bytes range | Some next ↦ from_bytes next range ]) b ≡ true
-      by None h = in_from bytes e
-      by (Some n) h = in_from n h
+      by : (o : Option (List ℕ)) → next_prefix bytes ≡ o → IfSome o (λ n. is_below b n ≡ false) → is_key_in (elim o [ None ↦ before_bytes [] range | Some next ↦ from_bytes next range ]) b ≡ true
+      by None e k = absurd (none_above bytes b e h above)
+      by (Some n) e k = in_from n k
 
   pub in_upto : (bytes : List ℕ) → IfSome (next_prefix bytes) (λ n. is_below b n ≡ true) → is_key_in (upto_prefix bytes range) b ≡ true
   in_upto bytes h = by (next_prefix bytes) h
@@ -95,7 +95,7 @@ in_narrowed_by IsEqual o Equal b e rest range t h c k = in_upto (from_bytes e ra
 in_narrowed_by Below o Less b e rest range t h c k = in_before range b k e (ap is_lt (less o b e rest h t))
 in_narrowed_by AtMost o Less b e rest range t h c k = in_upto range b k e (less_high o b e rest h t)
 in_narrowed_by AtMost o Equal b e rest range t h c k = in_upto range b k e (tied_high o b e rest h t)
-in_narrowed_by Above o Greater b e rest range t h c k = in_after range b k e (greater_low o b e rest h t) (past e b h.are_bytes (above o b e rest h t))
+in_narrowed_by Above o Greater b e rest range t h c k = in_after range b k e h.are_bytes (above o b e rest h t)
 in_narrowed_by AtLeast o Equal b e rest range t h c k = in_from range b k e (tied_low o b e rest h t)
 in_narrowed_by AtLeast o Greater b e rest range t h c k = in_from range b k e (greater_low o b e rest h t)
 in_narrowed_by IsEqual o Less b e rest range t h c k = cc

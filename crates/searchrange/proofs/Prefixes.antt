@@ -62,7 +62,7 @@ abbrev pub AreAbove : List ℕ → List ℕ → Type 0
 AreAbove b e = (ys : List ℕ) → bytes_cmp b (e ++ ys) ≡ Greater
 
 -- none are above all that begin with bytes of 255
-none_above : (cs xs : List ℕ) → next_prefix cs ≡ None → AreBytes xs → AreAbove xs cs → ⊥
+pub none_above : (cs xs : List ℕ) → next_prefix cs ≡ None → AreBytes xs → AreAbove xs cs → ⊥
 none_above [] xs e h g = let one : bytes_cmp xs xs ≡ Equal = tied_itself nat_list_cmp_total xs in let other : bytes_cmp xs xs ≡ Greater = g xs in cc
 none_above (c ∷ cs) [] e h g = let first = g [] in cc
 none_above (c ∷ cs) (x ∷ xs) e h g = by_rest (next_prefix cs) refl e (λ at. none_above cs xs at (All-tail (λ b. b < 256) x xs h))

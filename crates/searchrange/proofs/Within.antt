@@ -50,8 +50,8 @@ before_within bytes range key h = by (is_bound bytes) (is_before_end bytes range
 after_within : (bytes : List ℕ) (range : KeyRange) → IsWithin (after_prefix bytes range) range
 after_within bytes range = by (next_prefix bytes)
   where
-    by : (o : Option (List ℕ)) → IsWithin (elim o [ None ↦ from_bytes bytes range | Some next ↦ from_bytes next range ]) range
-    by None = from_within bytes range
+    by : (o : Option (List ℕ)) → IsWithin (elim o [ None ↦ before_bytes [] range | Some next ↦ from_bytes next range ]) range
+    by None = before_within [] range
     by (Some n) = from_within n range
 
 upto_within : (bytes : List ℕ) (range : KeyRange) → IsWithin (upto_prefix bytes range) range

@@ -45,10 +45,10 @@ before_bytes bytes range =
     then record { lo = range.lo; hi = Some bytes }
     else range
 
--- the range without what lies below all that begins with these bytes and what begins with them
+-- the range from above all that begins with these bytes on; where no bytes are, it ends before all
 abbrev pub after_prefix : List ℕ → KeyRange → KeyRange
 after_prefix bytes range = elim (next_prefix bytes) [
-  | None ↦ from_bytes bytes range
+  | None ↦ before_bytes [] range
   | Some next ↦ from_bytes next range
 ]
 

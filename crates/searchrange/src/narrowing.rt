@@ -152,7 +152,7 @@ fn narrowed_by(
         Operator::Below => Ok(before_bytes(bytes, range)),
         Operator::AtMost => Ok(before_end(next_prefix(alloc, bytes.as_slice())?, range)),
         Operator::Above => match next_prefix(alloc, bytes.as_slice())? {
-            None => Ok(from_bytes(bytes, range)),
+            None => Ok(before_bytes(Vec::new(alloc), range)),
             Some(next) => Ok(from_bytes(next, range)),
         },
         Operator::AtLeast => Ok(from_bytes(bytes, range)),
