@@ -23,7 +23,7 @@ use Rattle.searchrange.proofs.Prefixes.{bytes_cmp, not_below_none}
 use Rattle.searchrange.proofs.Narrowed.{all_met, in_narrowed_from}
 use Rattle.searchrange.proofs.ValueBytes.{storable, key_are_bytes}
 
-all_storable : (vs : List Value) → All IsHeld vs → All IsStorable vs
+pub all_storable : (vs : List Value) → All IsHeld vs → All IsStorable vs
 all_storable [] h = All-nil IsStorable
 all_storable (v ∷ vs) h = All-cons IsStorable v vs (storable v (All-head IsHeld v vs h)) (all_storable vs (All-tail IsHeld v vs h))
 
@@ -38,7 +38,7 @@ in_table number bytes = ap (λ t. not t && is_before_end (number ∷ bytes) (ran
     by true = refl
     by false = ap (λ o. is_lt (ordering_then o (bytes_cmp bytes []))) (sym (nat_cmp_is number (number + 1) Less (omega arith)))
 
-nothing : (o : Option ℕ) → is_none o ≡ true → o ≡ None
+pub nothing : (o : Option ℕ) → is_none o ≡ true → o ≡ None
 nothing None e = refl
 nothing (Some n) e = cc
 

@@ -22,10 +22,10 @@ not_true false e = refl
 not_true true e = sym e
 
 module _ (range : KeyRange) (b : List ℕ) (inside : is_key_in range b ≡ true) where
-  low : is_below b range.lo ≡ false
+  pub low : is_below b range.lo ≡ false
   low = not_true (is_below b range.lo) ((and_parts (not (is_below b range.lo)) (is_before_end b range.hi) inside).0)
 
-  high : is_before_end b range.hi ≡ true
+  pub high : is_before_end b range.hi ≡ true
   high = (and_parts (not (is_below b range.lo)) (is_before_end b range.hi) inside).1
 
   pub in_from : (bytes : List ℕ) → is_below b bytes ≡ false → is_key_in (from_bytes bytes range) b ≡ true
@@ -67,26 +67,26 @@ module _ (o : Ordering) (b e rest : List ℕ) (h : Compared o b e rest) where
   alone : bytes_cmp b e ≡ ordering_then o (bytes_cmp rest [])
   alone = ap (bytes_cmp b) (sym (append-nil e)) ∙ h.compare []
 
-  tied_low : o ≡ Equal → is_below b e ≡ false
+  pub tied_low : o ≡ Equal → is_below b e ≡ false
   tied_low t = ap is_lt (alone ∙ ap (λ p. ordering_then p (bytes_cmp rest [])) t) ∙ not_below_none rest
 
-  less : o ≡ Less → bytes_cmp b e ≡ Less
+  pub less : o ≡ Less → bytes_cmp b e ≡ Less
   less t = alone ∙ ap (λ p. ordering_then p (bytes_cmp rest [])) t
 
-  greater_low : o ≡ Greater → is_below b e ≡ false
+  pub greater_low : o ≡ Greater → is_below b e ≡ false
   greater_low t = ap is_lt (alone ∙ ap (λ p. ordering_then p (bytes_cmp rest [])) t)
 
-  tied_high : o ≡ Equal → IfSome (next_prefix e) (λ n. is_below b n ≡ true)
+  pub tied_high : o ≡ Equal → IfSome (next_prefix e) (λ n. is_below b n ≡ true)
   tied_high t = subst (λ k. IfSome (next_prefix e) (λ n. is_below k n ≡ true)) (sym (h.begins t)) (begins_below e rest)
 
-  less_high : o ≡ Less → IfSome (next_prefix e) (λ n. is_below b n ≡ true)
+  pub less_high : o ≡ Less → IfSome (next_prefix e) (λ n. is_below b n ≡ true)
   less_high t = by (next_prefix e) (subst (λ k. IfSome (next_prefix e) (λ n. is_below k n ≡ true)) (append-nil e) (begins_below e []))
     where
       by : (p : Option (List ℕ)) → IfSome p (λ n. is_below e n ≡ true) → IfSome p (λ n. is_below b n ≡ true)
       by None k = tt
       by (Some n) k = ap is_lt (nat_list_cmp_total.trans b e n (less t) (is_less (bytes_cmp e n) k))
 
-  above : o ≡ Greater → AreAbove b e
+  pub above : o ≡ Greater → AreAbove b e
   above t = λ ys. h.compare ys ∙ ap (λ p. ordering_then p (bytes_cmp rest ys)) t
 
 in_narrowed_by : (op : Operator) (o p : Ordering) (b e rest : List ℕ) (range : KeyRange) → o ≡ p → Compared o b e rest → compares op p ≡ true → is_key_in range b ≡ true

@@ -1,4 +1,5 @@
 mod Covering
+mod Exact
 mod InRange
 mod Narrowed
 mod Prefixes

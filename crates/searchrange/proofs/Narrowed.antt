@@ -49,13 +49,18 @@ all_met table key (c ∷ cs) h f s =
     All-cons (IsMet table key) c cs (record { held = both.0; good = none.0; stored = All-head (λ (c : Comparison). IsStorable c.value) c cs s })
     (all_met table key cs both.1 none.1 (All-tail (λ (c : Comparison). IsStorable c.value) c cs s))
 
--- the column that a comparison names, where the table does not refuse it
-record Named (table : Table) (c : Comparison) : Type 0 where
-  column : Column
-  found : column_at table c.column ≡ Some column
-  comparable : can_compare column.of c.value ≡ true
+-- what follows for each
+pub every : {A B : Comparison → Type 0} → ((c : Comparison) → A c → B c) → (cs : List Comparison) → All A cs → All B cs
+every {A} {B} f [] h = All-nil B
+every {A} {B} f (c ∷ cs) h = All-cons B c cs (f c (All-head A c cs h)) (every f cs (All-tail A c cs h))
 
-named : (table : Table) (c : Comparison) → comparison_fault table c ≡ None → Named table c
+-- the column that a comparison names, where the table does not refuse it
+pub record Named (table : Table) (c : Comparison) : Type 0 where
+  pub column : Column
+  pub found : column_at table c.column ≡ Some column
+  pub comparable : can_compare column.of c.value ≡ true
+
+pub named : (table : Table) (c : Comparison) → comparison_fault table c ≡ None → Named table c
 named table c e = by (column_at table c.column) refl e
   where
     tested : (t u : Bool) → ◌≡◌ {A = Option ℕ} (if t && u then None else Some c.column) None → u ≡ true
@@ -69,16 +74,16 @@ named table c e = by (column_at table c.column) refl e
     by (Some column) at e = record { column = column; found = at; comparable = tested (is_key_column table c.column) (can_compare column.of c.value) e }
 
 -- what stands at a place of the key, and what its bytes go on with
-record StandsAt (table : Table) (key : Key) (b : List ℕ) (place : ℕ) (prefix : List ℕ) : Type 0 where
-  number : ℕ
-  value : Value
-  rest : List ℕ
-  number_is : slice_get table.key place ≡ Some number
-  value_is : slice_get key.parts place ≡ Some value
-  fits : FitsColumn table number value
-  stored : IsStorable value
-  spelled : b ≡ prefix ++ (part_bytes value ++ rest)
-  are_bytes : AreBytes b
+pub record StandsAt (table : Table) (key : Key) (b : List ℕ) (place : ℕ) (prefix : List ℕ) : Type 0 where
+  pub number : ℕ
+  pub value : Value
+  pub rest : List ℕ
+  pub number_is : slice_get table.key place ≡ Some number
+  pub value_is : slice_get key.parts place ≡ Some value
+  pub fits : FitsColumn table number value
+  pub stored : IsStorable value
+  pub spelled : b ≡ prefix ++ (part_bytes value ++ rest)
+  pub are_bytes : AreBytes b
 
 placed : (place : ℕ) (o : Option ℕ) → is_place place o ≡ true → o ≡ Some place
 placed place None e = cc
@@ -100,20 +105,27 @@ module _ (table : Table) (key : Key) (b : List ℕ) (place : ℕ) (prefix : List
   position_is : (c : Comparison) → is_at table place c ≡ true → position (λ k. k == c.column) table.key ≡ Some place
   position_is c e = placed place (position (λ k. k == c.column) table.key) e
 
-  -- it compares with the value as the comparison says
-  compares_so : (c : Comparison) → IsMet table key c → is_at table place c ≡ true → compares c.operator (value_cmp s.value c.value) ≡ true
-  compares_so c h e =
+  -- the comparison holds just where the value compares so
+  pub holds_by_value : (c : Comparison) → is_at table place c ≡ true → holds table key c ≡ compares c.operator (value_cmp s.value c.value)
+  holds_by_value c e =
       let at : part_of table key c.column ≡ Some s.value = ap (option_and_then (slice_get key.parts)) (position_is c e) ∙ s.value_is in
-      sym (ap (λ (o : Option Value). elim o [ None ↦ false | Some value ↦ compares c.operator (value_cmp value c.value) ]) at) ∙ h.held
+      ap (λ (o : Option Value). elim o [ None ↦ false | Some value ↦ compares c.operator (value_cmp value c.value) ]) at
+
+  compares_so : (c : Comparison) → IsMet table key c → is_at table place c ≡ true → compares c.operator (value_cmp s.value c.value) ≡ true
+  compares_so c h e = sym (holds_by_value c e) ∙ h.held
+
+  -- where a comparison is of this place, it holds
+  abbrev pub Agrees : Comparison → Type 0
+  Agrees c = is_at table place c ≡ true → holds table key c ≡ true
 
   same_column : (c : Comparison) → is_at table place c ≡ true → s.number ≡ c.column
   same_column c e =
       let at = position-Some (λ k. k == c.column) table.key place 0 (position_is c e) in
       sym (get_or_from_slice_get table.key place s.number 0 s.number_is) ∙ equal (get_or table.key place 0) c.column at.1
 
-  compared : (c : Comparison) → IsMet table key c → is_at table place c ≡ true → Compared (value_cmp s.value c.value) b (prefix ++ part_bytes c.value) s.rest
-  compared c h e =
-      let n = named table c h.good in
+  pub compared : (c : Comparison) → comparison_fault table c ≡ None → IsStorable c.value → is_at table place c ≡ true → Compared (value_cmp s.value c.value) b (prefix ++ part_bytes c.value) s.rest
+  compared c good stored e =
+      let n = named table c good in
       let one : Some s.fits.column ≡ Some n.column = sym s.fits.found ∙ ap (column_at table) (same_column c e) ∙ n.found in
       let same : s.fits.column ≡ n.column = cc in
       let comparable : can_compare s.fits.column.of c.value ≡ true = subst (λ (x : Column). can_compare x.of c.value ≡ true) (sym same) n.comparable in
@@ -122,7 +134,7 @@ module _ (table : Table) (key : Key) (b : List ℕ) (place : ℕ) (prefix : List
             ap (λ k. bytes_cmp k ((prefix ++ part_bytes c.value) ++ ys)) s.spelled
             ∙ ap (bytes_cmp (prefix ++ (part_bytes s.value ++ s.rest))) (append_assoc prefix (part_bytes c.value) ys)
             ∙ behind prefix (part_bytes s.value ++ s.rest) (part_bytes c.value ++ ys)
-            ∙ compared_cmp s.fits.column.of s.value c.value s.rest ys s.fits.typed comparable s.stored h.stored;
+            ∙ compared_cmp s.fits.column.of s.value c.value s.rest ys s.fits.typed comparable s.stored stored;
         begins = λ t.
             s.spelled ∙ ap (λ v. prefix ++ (part_bytes v ++ s.rest)) (value_cmp-IsAntisymmetric s.value c.value t) ∙ sym (append_assoc prefix (part_bytes c.value) s.rest);
         are_bytes = s.are_bytes;
@@ -138,19 +150,20 @@ module _ (table : Table) (key : Key) (b : List ℕ) (place : ℕ) (prefix : List
       by false e = k
       by true e =
           let met = All-head (IsMet table key) c cs h in
-          in_narrowed c.operator (value_cmp s.value c.value) b (prefix ++ part_bytes c.value) s.rest range (compared c met e) (compares_so c met e) k
+          in_narrowed c.operator (value_cmp s.value c.value) b (prefix ++ part_bytes c.value) s.rest range (compared c met.good met.stored e) (compares_so c met e) k
 
   -- the value that it is to be equal to is its own
-  own_value : (cs : List Comparison) (w : Value) → All (IsMet table key) cs → equal_at table place cs ≡ Some w → s.value ≡ w
+  pub own_value : (cs : List Comparison) (w : Value) → All Agrees cs → equal_at table place cs ≡ Some w → s.value ≡ w
   own_value [] w h e = cc
-  own_value (c ∷ cs) w h e = by (is_at table place c && is_equality c.operator) refl e (own_value cs w (All-tail (IsMet table key) c cs h))
+  own_value (c ∷ cs) w h e = by (is_at table place c && is_equality c.operator) refl e (own_value cs w (All-tail Agrees c cs h))
     where
-      by : (t : Bool) → (is_at table place c && is_equality c.operator) ≡ t → (if t then Some c.value else equal_at table place cs) ≡ Some w → (equal_at table place cs ≡ Some w → s.value ≡ w) → s.value ≡ w
+      by : (t : Bool) → (is_at table place c && is_equality c.operator) ≡ t → (if t then Some c.value else equal_at table place cs) ≡ Some w → (equal_at table place cs ≡ Some w → s.value ≡ w)
+          → s.value ≡ w
       by false at e rest = rest e
       by true at e rest =
           let both = and_parts (is_at table place c) (is_equality c.operator) at in
           let is : c.value ≡ w = cc in
-          let so = compares_so c (All-head (IsMet table key) c cs h) both.0 in
+          let so = sym (holds_by_value c both.0) ∙ All-head Agrees c cs h both.0 in
           value_cmp-IsAntisymmetric s.value c.value (is_equal (value_cmp s.value c.value) (subst (λ op. compares op (value_cmp s.value c.value) ≡ true) (equality c.operator both.1) so)) ∙ is
 
 module _ (table : Table) (key : Key) (b : List ℕ) (cs : List Comparison) (met : All (IsMet table key) cs) (bytes : AreBytes b) where
@@ -177,7 +190,7 @@ module _ (table : Table) (key : Key) (b : List ℕ) (cs : List Comparison) (met 
       by s inside (equal_at table place cs) refl
       (λ w is. in_narrowed_from ns vs (place + 1) (prefix ++ part_bytes w) (narrowed_at table place prefix cs range) (omega (arith, l)) none.1 (All-tail IsStorable v vs g)
       (λ i. p (suc i) ∙ ap (slice_get table.key) (omega arith)) (λ i. q (suc i) ∙ ap (slice_get key.parts) (omega arith))
-      (e ∙ ap (λ x. prefix ++ (part_bytes x ++ flat_map part_bytes vs)) (own_value table key b place prefix s cs w met is) ∙ sym (append_assoc prefix (part_bytes w) (flat_map part_bytes vs))) inside)
+      (e ∙ ap (λ x. prefix ++ (part_bytes x ++ flat_map part_bytes vs)) (own_value table key b place prefix s cs w (every {A = IsMet table key} {B = Agrees table key b place prefix s} (λ c h e. h.held) cs met) is) ∙ sym (append_assoc prefix (part_bytes w) (flat_map part_bytes vs))) inside)
     where
       by : StandsAt table key b place prefix → is_key_in (narrowed_at table place prefix cs range) b ≡ true → (o : Option Value) → equal_at table place cs ≡ o
           → ((w : Value) → equal_at table place cs ≡ Some w → is_key_in (narrowed_from table cs (place + 1) (prefix ++ part_bytes w) ns (narrowed_at table place prefix cs range)) b ≡ true)

@@ -1,11 +1,11 @@
 -- Values of one column by their bytes.
-use Rattle.std.proofs.Common.{◌≡◌, ⊎_elim, ℕ, ◌+◌, ◌/◌, ◌%◌, ◌<◌, List, [], ◌∷◌, ◌++◌, ◌==◌, Bool, true, false, Some, None, refl, sym, subst, ap, ◌∙◌, arith, nat_le, nat_lt, cond, if◌then◌else◌, suc, zero, append-nil, All, IsUtf8}
+use Rattle.std.proofs.Common.{◌≡◌, ⊎_elim, ℕ, ◌+◌, ◌/◌, ◌%◌, ◌<◌, List, [], ◌∷◌, ◌++◌, ◌==◌, Bool, true, false, Some, None, refl, sym, subst, ap, ◌∙◌, arith, nat_le, nat_lt, cond, if◌then◌else◌, suc, zero, append-nil, All, IsUtf8, leb-true, length, ◌≤◌, not}
 use Rattle.std.proofs.lemmas.Bool.{and_parts}
 use Rattle.std.proofs.lemmas.Bool.Decides.{nat_tests}
 use Rattle.std.proofs.lemmas.List.Elements.{All-head, All-tail, All-cons, All-nil, All-append}
 use Rattle.std.specs.Int.{byte_at, bytes_high_first}
 use Rattle.std.specs.Ordering.{ordering_then}
-use Rattle.std.specs.List.{flat_map}
+use Rattle.std.specs.List.{flat_map, list_any}
 use Rattle.std.specs.declared.cmp.Ordering.{Ordering}
 use Rattle.std.specs.declared.cmp.Ordering.TheVariants.{Less, Equal, Greater}
 use lib.Utf8.{scalar, scalars, encodes, encode, scalar_cases}
@@ -16,9 +16,9 @@ use Rattle.values.specs.declared.table.ColumnType.TheVariants.{Int as IsInt, Tex
 use Rattle.values.specs.declared.table.Table.{Table}
 use Rattle.values.specs.declared.key.Key.{Key}
 use Rattle.values.specs.Order.{value_cmp}
-use Rattle.values.specs.Fit.{fits_type, fits_text, fits_value, can_compare, character_count, key_fault}
+use Rattle.values.specs.Fit.{fits_type, fits_text, is_line_break, fits_value, can_compare, character_count, key_fault}
 use Rattle.values.specs.RowEncoding.{IsHeld}
-use Rattle.values.specs.KeyEncoding.{text_bytes, part_bytes, bytes_of_key}
+use Rattle.values.specs.KeyEncoding.{text_bytes, part_bytes, bytes_of_key, IsShort}
 use Rattle.values.specs.KeyEncodingLaws.{IsStorable, AreKeyParts}
 use Rattle.values.proofs.KeyOrder.{keys_cmp}
 use Rattle.searchrange.proofs.Prefixes.{bytes_cmp, AreBytes}
@@ -164,3 +164,26 @@ parts_are_bytes (v ∷ vs) h =
 
 pub key_are_bytes : (k : Key) → k.table < 256 → All IsHeld k.parts → AreBytes (bytes_of_key k)
 key_are_bytes k t h = one k.table (flat_map part_bytes k.parts) t (parts_are_bytes k.parts h)
+
+-- what a column can be compared with is short
+text_short : (t : List ℕ) → fits_text 200 t ≡ true → length t ≤ 200
+text_short t e = leb-true (length t) 200 ((and_parts (nat_le (length t) 200) (not (list_any is_line_break t)) e).0)
+
+pub compared_short : (of : ColumnType) (w : Value) → can_compare of w ≡ true → IsShort w
+compared_short IsText (Text t) e = text_short t e
+compared_short (IsVarchar n) (Text t) e = text_short t e
+compared_short IsInt (Text t) e = cc
+compared_short IsBoolean (Text t) e = cc
+compared_short of (Int x) e = tt
+compared_short of (Truth x) e = tt
+compared_short of Null e = tt
+
+-- and so is what fits a column of the key
+pub fitting_short : (of : ColumnType) (v : Value) → fits_type 200 of v ≡ true → IsShort v
+fitting_short IsText (Text t) e = text_short t e
+fitting_short (IsVarchar n) (Text t) e = text_short t ((and_parts (fits_text 200 t) (nat_le (character_count t) n) e).0)
+fitting_short IsInt (Text t) e = cc
+fitting_short IsBoolean (Text t) e = cc
+fitting_short of (Int x) e = tt
+fitting_short of (Truth x) e = tt
+fitting_short of Null e = tt

@@ -54,7 +54,7 @@ after_within bytes range = by (next_prefix bytes)
     by None = before_within [] range
     by (Some n) = from_within n range
 
-upto_within : (bytes : List ℕ) (range : KeyRange) → IsWithin (upto_prefix bytes range) range
+pub upto_within : (bytes : List ℕ) (range : KeyRange) → IsWithin (upto_prefix bytes range) range
 upto_within bytes range = by (next_prefix bytes)
   where
     by : (o : Option (List ℕ)) → IsWithin (elim o [ None ↦ range | Some next ↦ before_bytes next range ]) range
@@ -68,7 +68,7 @@ narrowed_within AtMost bytes range = upto_within bytes range
 narrowed_within Above bytes range = after_within bytes range
 narrowed_within AtLeast bytes range = from_within bytes range
 
-at_within : (table : Table) (place : ℕ) (prefix : List ℕ) (cs : List Comparison) (range : KeyRange) → IsWithin (narrowed_at table place prefix cs range) range
+pub at_within : (table : Table) (place : ℕ) (prefix : List ℕ) (cs : List Comparison) (range : KeyRange) → IsWithin (narrowed_at table place prefix cs range) range
 at_within table place prefix [] range = same range
 at_within table place prefix (c ∷ cs) range =
     let one : KeyRange = if is_at table place c then narrowed c.operator (prefix ++ part_bytes c.value) range else range in
@@ -78,7 +78,7 @@ at_within table place prefix (c ∷ cs) range =
     by true = narrowed_within c.operator (prefix ++ part_bytes c.value) range
     by false = same range
 
-from_place_within : (table : Table) (cs : List Comparison) (place : ℕ) (prefix columns : List ℕ) (range : KeyRange) → IsWithin (narrowed_from table cs place prefix columns range) range
+pub from_place_within : (table : Table) (cs : List Comparison) (place : ℕ) (prefix columns : List ℕ) (range : KeyRange) → IsWithin (narrowed_from table cs place prefix columns range) range
 from_place_within table cs place prefix [] range = same range
 from_place_within table cs place prefix (n ∷ columns) range =
     by (equal_at table place cs) (λ w. from_place_within table cs (place + 1) (prefix ++ part_bytes w) columns (narrowed_at table place prefix cs range))

@@ -1,5 +1,6 @@
 -- The range of key bytes that holds each key of a search condition: comparisons on the leading key columns narrow it.
-use Rattle.std.specs.Prelude.{◌≡◌, ℕ, ◌+◌, List, [], ◌∷◌, ◌++◌, Option, Some, None, Bool, true, false, ◌&&◌, ◌==◌, nat_le, length, is_none, position, if◌then◌else◌}
+use Rattle.std.specs.Prelude.{◌≡◌, ℕ, ◌+◌, List, [], ◌∷◌, ◌++◌, Option, Some, None, Bool, true, false, ◌&&◌, ◌==◌, nat_le, nat_lt, length, is_none, position, if◌then◌else◌}
+use Rattle.std.specs.List.{list_all}
 use Rattle.values.specs.declared.table.Table.{Table}
 use Rattle.values.specs.declared.key.Key.{Key}
 use Rattle.values.specs.declared.value.Value.{Value}
@@ -7,6 +8,7 @@ use Rattle.values.specs.declared.query.Operator.{Operator}
 use Rattle.values.specs.declared.query.Operator.TheVariants.{Equal, Below, AtMost, Above, AtLeast}
 use Rattle.values.specs.declared.query.Comparison.{Comparison}
 use Rattle.values.specs.declared.query.Keys.{Keys}
+use Rattle.values.specs.Tables.{IsTable}
 use Rattle.values.specs.Fit.{comparisons_fault}
 use Rattle.values.specs.KeyEncoding.{part_bytes, bytes_of_key}
 use Rattle.values.specs.KeyReading.{IsKeyOf}
@@ -122,6 +124,32 @@ abbrev pub Covers : Table → Keys → KeyRange → Type 0
 Covers table keys range =
     (key : Key) → IsKeyOf table key → matches table keys key ≡ true
     → is_key_in range (bytes_of_key key) ≡ true
+
+-- how many of the key's columns narrow, from a place on: those up to and with the first that is not to
+-- be equal to a value
+abbrev pub narrowing_end : Table → List Comparison → ℕ → List ℕ → ℕ
+narrowing_end table cs place [] = place
+narrowing_end table cs place (_ ∷ columns) = elim (equal_at table place cs) [
+  | None ↦ place + 1
+  | Some _ ↦ narrowing_end table cs (place + 1) columns
+]
+
+abbrev pub is_before_place : ℕ → Option ℕ → Bool
+is_before_place end None = false
+is_before_place end (Some place) = nat_lt place end
+
+-- the comparison is of a column that narrows
+abbrev pub narrows : Table → List Comparison → Comparison → Bool
+narrows table cs c =
+    is_before_place (narrowing_end table cs 0 table.key) (position (λ k. k == c.column) table.key)
+
+-- where each comparison is of a column that narrows, each key of the table in the range meets them all
+abbrev pub IsExact : Table → Keys → KeyRange → Type 0
+IsExact table keys range =
+    IsTable table.number table → can_narrow table keys ≡ true
+    → list_all (narrows table keys.comparisons) keys.comparisons ≡ true
+    → (key : Key) → IsKeyOf table key → is_key_in range (bytes_of_key key) ≡ true
+    → matches table keys key ≡ true
 
 -- each key in the first range is in the second
 abbrev pub IsWithin : KeyRange → KeyRange → Type 0

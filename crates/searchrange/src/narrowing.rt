@@ -2,7 +2,7 @@
 ghost use Rattle.std.specs.Prelude.{◌≡◌, IfOk, All, Option, option_copied, position, ◌==◌, [], ◌∷◌, Some, None};
 ghost use Rattle.values.specs.KeyEncodingLaws.{IsStorable};
 ghost use Rattle.values.specs.Memory.{OnlyMemory};
-ghost use Rattle.searchrange.specs.SearchRange.{range_of_table, from_bytes, before_bytes, after_prefix, upto_prefix, narrowed, is_equality, is_at, narrowed_at, equal_at, narrowed_from, can_narrow, search_range, Covers, IsWithin};
+ghost use Rattle.searchrange.specs.SearchRange.{range_of_table, from_bytes, before_bytes, after_prefix, upto_prefix, narrowed, is_equality, is_at, narrowed_at, equal_at, narrowed_from, can_narrow, search_range, Covers, IsWithin, IsExact};
 
 use crate::part::push_part;
 use crate::prefix::next_prefix;
@@ -13,14 +13,16 @@ use values::{ColumnNumber, Comparison, KeyBytes, Keys, Mem, Operator, Table, Val
 
 /// The range of the table's keys, narrowed by the comparisons on its leading key columns.
 ///
-/// A column that is to be equal to a value leaves the keys that begin with it, and the next column
-/// narrows these; the first that is not is the last that narrows. Where the table refuses a
-/// comparison, or the keys are of another table, the range is the table's. Each key of the table
-/// that meets all comparisons is in the range; others may be.
+/// A column that is to be equal to a value leaves the keys that go on with its bytes, and the next
+/// column narrows these; the first that is not is the last that narrows. Where the table refuses a
+/// comparison, or the keys are of another table, the range is the table's. Each key of the table that
+/// meets all comparisons is in the range; where each comparison is of a column that narrows, no other
+/// key of the table is, so a whole key that is given leaves a range of that key.
 pub fn search_range(alloc: Global, table: &Table, keys: &Keys) -> Mem<KeyRange>
     ensures ok { IfOk result (λ range. range ≡ search_range table.now keys.now) }
     ensures covers { IfOk result (λ range. Covers table.now keys.now range) }
     ensures within { IfOk result (λ range. IsWithin range (range_of_table table.now.number)) }
+    ensures exact { IfOk result (λ range. IsExact table.now keys.now range) }
     ensures err { OnlyMemory result }
 {
     let _number = table.number;
