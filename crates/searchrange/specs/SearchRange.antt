@@ -47,7 +47,8 @@ before_bytes bytes range =
     then record { lo = range.lo; hi = Some bytes }
     else range
 
--- the range from above all that begins with these bytes on; where no bytes are, it ends before all
+-- the range from the least bytes above all that begin with these on; where there are none, no key is
+-- left: it ends before all keys
 abbrev pub after_prefix : List ℕ → KeyRange → KeyRange
 after_prefix bytes range = elim (next_prefix bytes) [
   | None ↦ before_bytes [] range
@@ -125,8 +126,8 @@ Covers table keys range =
     (key : Key) → IsKeyOf table key → matches table keys key ≡ true
     → is_key_in range (bytes_of_key key) ≡ true
 
--- how many of the key's columns narrow, from a place on: those up to and with the first that is not to
--- be equal to a value
+-- the place behind the last column that narrows, from a place on: those narrow up to and with the first
+-- that is not to be equal to a value
 abbrev pub narrowing_end : Table → List Comparison → ℕ → List ℕ → ℕ
 narrowing_end table cs place [] = place
 narrowing_end table cs place (_ ∷ columns) = elim (equal_at table place cs) [
