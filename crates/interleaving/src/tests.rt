@@ -2,8 +2,8 @@
 use crate::System;
 use histories::{Listing, Reply, Step};
 use rows::{
-    Chars, Comparison, Form, Instant, Keys, Mem, Operator, Refusal, Row, Rows, Schema, Set, Sets,
-    Shown, Value,
+    Chars, Comparison, Form, Instant, Key, Keys, Mem, Operator, Refusal, Row, Rows, Schema, Set,
+    Sets, Shown, Value, Values,
 };
 use std::alloc::{AllocError, Global};
 use std::process::Abort;
@@ -22,6 +22,13 @@ fn by(alloc: Global, operator: Operator, number: i64) -> Mem<Keys> {
         value: Value::Int(number),
     };
     Keys::of_comparison(alloc, 1, comparison)
+}
+
+fn key(alloc: Global, number: i64) -> Mem<Key> {
+    Ok(Key {
+        table: 1,
+        parts: Values::new(vec![in alloc; Value::Int(number)]?),
+    })
 }
 
 /// Steps, and the text of the reply that each must get.
@@ -101,6 +108,15 @@ impl Talk {
             self.update(1, number, name, wanted[1])?;
         }
         Ok(self.commit(1, reading, wanted[2])?)
+    }
+
+    /// The system that has taken the steps.
+    fn taken(self) -> Mem<System> {
+        let mut system = System::new(self.alloc, Schema::sample(self.alloc)?)?;
+        for step in self.steps {
+            let _reply = system.step(step);
+        }
+        Ok(system)
     }
 
     fn holds(self, rt: &impl Abort) -> Result<(), Fail> {
@@ -334,5 +350,43 @@ fn a_transaction_writes_a_thousand_keys_and_no_more(rt: HostRuntime) -> Result<(
     let some = by(alloc, Operator::Below, 400)?;
     talk.step(Step::Delete(1, some), "deleted 400")?;
     talk.commit(1, 7, "committed 7")?;
+    talk.holds(&rt)
+}
+
+#[test]
+fn nothing_is_kept_beside_the_tree(rt: HostRuntime) -> Result<(), Fail> {
+    let system = Talk::new(rt.alloc()).taken()?;
+    let System {
+        alloc: _alloc,
+        schema: _schema,
+        engine: _engine,
+        sessions,
+    } = &system;
+    assert_eq!(rt; sessions.len(), 65);
+    Ok(())
+}
+
+/// How many nodes a tree has of one row, split at its instant and at its key.
+fn count_nodes(alloc: Global) -> Mem<usize> {
+    let mut talk = Talk::new(alloc);
+    talk.write(1, "Ann", 100, ["begun 0", "inserted 1", "committed 100"])?;
+    talk.step(Step::SplitTime(key(alloc, 1)?, 100), "ok")?;
+    talk.step(Step::SplitKey(key(alloc, 1)?), "ok")?;
+    let system = talk.taken()?;
+    Ok(system.shape()?.nodes.len())
+}
+
+#[test]
+fn a_split_step_splits_a_node(rt: HostRuntime) -> Result<(), Fail> {
+    assert_eq!(rt; count_nodes(rt.alloc())?, 4);
+    Ok(())
+}
+
+#[test]
+fn a_split_shows_in_no_reply(rt: HostRuntime) -> Result<(), Fail> {
+    let mut talk = Talk::new(rt.alloc());
+    talk.write(1, "Ann", 100, ["begun 0", "inserted 1", "committed 100"])?;
+    talk.step(Step::SplitTime(key(rt.alloc(), 1)?, 100), "ok")?;
+    talk.select(1, Form::FromTo(1, 1000), "Ann 100- ")?;
     talk.holds(&rt)
 }

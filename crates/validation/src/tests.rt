@@ -1,11 +1,11 @@
 //! Transactions that overlap.
 
-use crate::Engine;
+use crate::{Cut, Engine};
 use staging::{Net, Staged};
 use std::alloc::{AllocError, Global};
 use std::test::Fail;
 use tsbtree::View;
-use values::{Chars, Instant, Key, Mem, Refusal, Row, Table, Value, Values};
+use values::{Chars, Instant, Key, KeyBytes, Mem, Refusal, Row, Table, Value, Values};
 
 fn employee(alloc: Global, number: i64, name: &str) -> Mem<Row> {
     let mut values = Vec::new(alloc);
@@ -91,5 +91,21 @@ fn no_change_takes_no_instant(rt: HostRuntime) -> Result<(), Fail> {
     let mut engine = Engine::new(rt.alloc())?;
     assert_eq!(rt; commit_nothing(rt.alloc(), &mut engine)?, None);
     assert_eq!(rt; engine.last(), 0);
+    Ok(())
+}
+
+/// Whether the node of a tree of one commit is split at its instant, and then once more.
+fn splits(alloc: Global) -> Mem<(bool, bool)> {
+    let mut engine = Engine::new(alloc)?;
+    let view = engine.begin()?;
+    hire(alloc, &mut engine, &view, 1, 100)?;
+    let cut = Cut::Time(KeyBytes::least(alloc), 100);
+    let first = engine.split(&cut)?;
+    Ok((first, engine.split(&cut)?))
+}
+
+#[test]
+fn a_node_is_split_once_at_an_instant(rt: HostRuntime) -> Result<(), Fail> {
+    assert_eq!(rt; splits(rt.alloc())?, (true, false));
     Ok(())
 }
