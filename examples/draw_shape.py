@@ -1,7 +1,7 @@
 #!/usr/bin/env python3
 """Draws the data nodes of a shape, which stands behind the replies to a script: time from left to right, keys from bottom to top.
 
-    treeshape < tree.script | draw_shape.py > tree.svg
+    treeshape < docs/tree.script | examples/draw_shape.py > docs/tree.svg
 """
 
 import sys

@@ -1,1 +1,2 @@
+pub mod SplitStep
 pub mod SystemState

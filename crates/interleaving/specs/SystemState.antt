@@ -1,5 +1,5 @@
 -- What a system keeps, and what contracts see of it.
-use Rattle.std.specs.Prelude.{◌≡◌, ℕ, ◌≤◌, ◌+◌, List, [], ◌∷◌, Option, Some, None, option_and_then, map, length, All, Bool}
+use Rattle.std.specs.Prelude.{◌≡◌, ℕ, ◌≤◌, ◌+◌, List, [], ◌∷◌, Option, Some, None, option_and_then, map, length, All}
 use Rattle.std.specs.List.{filter_map}
 use Rattle.std.specs.Map.{keys_of}
 use Rattle.std.specs.Option.{option_map}
@@ -9,18 +9,12 @@ use Rattle.values.specs.declared.key.Point.{Point}
 use Rattle.values.specs.Tables.{Schema, table_at}
 use Rattle.values.specs.Log.{Changes, Row}
 use Rattle.values.specs.Laws.{changes_upto}
-use Rattle.values.specs.KeyEncoding.{bytes_of_key}
 use Rattle.values.specs.KeyReading.{key_from}
 use Rattle.values.specs.Events.{AreKeysIn}
 use Rattle.tsbtree.specs.View.{TreeState, events, last}
 use Rattle.staging.specs.View.{Holds}
 use Rattle.staging.specs.Own.{rows_seen}
-use Rattle.validation.specs.declared.cut.Cut.{Cut}
-use Rattle.validation.specs.declared.cut.Cut.TheVariants.{Key as KeyCut, Time as TimeCut}
-use Rattle.validation.specs.Split.{IsSplit}
 use Rattle.transaction.specs.TransactionState.{TransactionState}
-use Rattle.histories.specs.declared.step.Step.{Step}
-use Rattle.histories.specs.declared.step.Step.TheVariants.{SplitKey, SplitTime}
 use Rattle.histories.specs.Misfit.{max_session}
 use Rattle.histories.specs.History.{History}
 use Rattle.histories.specs.World.{OpenTransaction, World}
@@ -90,15 +84,3 @@ pub record IsSystem (schema : Schema) (engine : TreeState)
   pub held : Holds schema engine (changes_in schema (events engine))
   pub upto : All (λ e. e.at ≤ last engine) (events engine)
   pub each_open : All (IsOpen schema engine) sessions
-
--- a node is split, or nothing has changed, by what was done
-pub record WasSplit (cut : Cut) (old new : TreeState) : Type 0 where
-  pub done : Bool
-  pub split : IsSplit cut old new done
-
--- what a step that is answered done makes of the tree
-abbrev pub IsSplitStep : Step → SystemState → SystemState → Type 0
-IsSplitStep (SplitKey key) old new = WasSplit (KeyCut (bytes_of_key key)) old.engine new.engine
-IsSplitStep (SplitTime key instant) old new =
-    WasSplit (TimeCut (bytes_of_key key) instant) old.engine new.engine
-IsSplitStep step old new = Unit {0}

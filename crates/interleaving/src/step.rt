@@ -2,7 +2,8 @@
 ghost use Rattle.std.specs.Prelude.{◌≡◌, ◌≢◌, ◌∷◌, None, true, false, IfOk, IfErr};
 ghost use Rattle.histories.specs.Misfit.{misfit};
 ghost use Rattle.histories.specs.Turn.{turn_in};
-ghost use Rattle.interleaving.specs.SystemState.{world, IsSplitStep};
+ghost use Rattle.interleaving.specs.SplitStep.{IsSplitStep};
+ghost use Rattle.interleaving.specs.SystemState.{world};
 ghost use Rattle.histories.specs.Memory.{is_out_of_memory, takes_no_memory};
 
 use crate::system::System;
