@@ -1,6 +1,5 @@
 -- What the calls of a transaction answer, for every list of changes that its view stands for.
-use Rattle.std.proofs.Common.{◌≡◌, ℕ, ◌≤◌, Bool, true, false, cond, T, List, [], ◌∷◌, Option, Result, Ok, Err, OnOk, OnErr, refl, sym, ap, subst, ◌∙◌, arith, filter, length, if◌then◌else◌, nat_lt, All}
-use Rattle.std.proofs.lemmas.Bool.Decides.{nat_tests}
+use Rattle.std.proofs.Common.{◌≡◌, ℕ, ◌≤◌, Bool, true, false, cond, T, List, [], ◌∷◌, Option, Result, Ok, Err, OnOk, OnErr, refl, sym, ap, subst, ◌∙◌, filter, length, if◌then◌else◌, nat_lt, All}
 use Rattle.std.proofs.lemmas.List.{length-map}
 use Rattle.std.proofs.lemmas.List.Elements.{All-from_recursion, recursion_from_All}
 use Rattle.std.specs.Ordering.{match_ordering}
@@ -111,13 +110,6 @@ kept_ordered p (c ∷ w) h =
         elim (p d) as (λ b. AllByRecursion (λ k. key_cmp c.0 k ≡ Less) (keys_of (cond b (d ∷ filter p ds) (filter p ds)))) [ true ↦ (h.0, above ds h.1) | false ↦ above ds h.1 ]
 
 -- ---- what is put
-
-pub few_answer : (cs w new : Net) (count n : ℕ) → new ≡ put_all cs w → count ≡ length cs → n ≡ length new → n ≤ most_written → ◌≡◌ {A = Result ℕ Refusal} (Ok count) (put_answer cs w)
-few_answer cs w new count n is c l few =
-    sym (ap (λ (b : Bool). if b then Err TooManyWrites else Ok (length cs)) (ap (λ m. nat_lt most_written (length m)) (sym is) ∙ ap (nat_lt most_written) (sym l) ∙ small n few) ∙ ap Ok (sym c))
-  where
-    small : (n : ℕ) → n ≤ most_written → nat_lt most_written n ≡ false
-    small n h = grind (arith, nat_tests)
 
 -- a write of changes, over what was seen
 pub put_is : (m : Changes) (cs w new : Net) (r : Result ℕ Refusal) → T (is_sorted key_cmp w) → r ≡ put_answer cs w → OnOk r (new ≡ put_all cs w) → OnErr r (new ≡ w)

@@ -1,5 +1,5 @@
 -- Rows and writes as finite maps: what a key has after changes, one after the other.
-use Rattle.std.proofs.Common.{◌≡◌, Bool, true, false, cond, T, List, [], ◌∷◌, ◌++◌, Option, Some, None, refl, sym, ap, subst, ◌∙◌, not, map, filter, if◌then◌else◌, append_assoc, append-nil}
+use Rattle.std.proofs.Common.{◌≡◌, Bool, true, false, cond, T, List, [], ◌∷◌, Option, Some, None, refl, sym, ap, subst, ◌∙◌, not, map, filter, if◌then◌else◌}
 use Rattle.std.specs.Ordering.{is_eq, is_lt, match_ordering}
 use Rattle.std.specs.declared.cmp.Ordering.{Ordering}
 use Rattle.std.specs.declared.cmp.Ordering.TheVariants.{Less, Equal, Greater}
@@ -17,7 +17,6 @@ use Rattle.values.specs.Log.{State, Net, Row, row_at, set_row, apply_net}
 use Rattle.values.specs.Writes.{set_all, add_keys}
 use Rattle.values.proofs.Orders.{key_cmp_total, key_cmp-IsAntisymmetric, both, first, second}
 use Rattle.values.proofs.Maps.{same_map, sorted_insert, lookup-insert_entry}
-use Rattle.values.proofs.Now.{insert_last}
 use Rattle.values.proofs.Sorted.{is_less, is_equal, sorted_from as sorted_by_key}
 use Rattle.values.proofs.States.{row_at-set_row, sorted_set_row}
 use Rattle.staging.specs.Staged.{put_all, updates, deletions}
@@ -204,15 +203,3 @@ apply-filter p w s h sorted =
     by : (q : Key) (b : Bool) → upon (cond b (lookup (is_at (key_cmp q)) w) None) (cond b (row_at s q) None) ≡ cond b (upon (lookup (is_at (key_cmp q)) w) (row_at s q)) None
     by q true = refl
     by q false = refl
-
--- ---- a map's entries, put in turn
-
-put_onto : (es m : Net) → T (is_sorted key_cmp (m ++ es)) → put_all es m ≡ m ++ es
-put_onto [] m h = sym (append-nil m)
-put_onto (e ∷ es) m h =
-    ap (put_all es) (insert_last m e es h)
-    ∙ put_onto es (m ++ e ∷ []) (subst (λ l. T (is_sorted key_cmp l)) (sym (append_assoc m (e ∷ []) es)) h)
-    ∙ append_assoc m (e ∷ []) es
-
-pub put_copied : (es : Net) → IsStrictlySortedBy key_cmp (keys_of es) → put_all es [] ≡ es
-put_copied es h = put_onto es [] (sorted_from es h)

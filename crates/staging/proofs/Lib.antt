@@ -5,5 +5,6 @@ pub mod Entries
 pub mod KeyTable
 pub mod Narrowed
 pub mod NetEvents
+pub mod PutBack
 pub mod Seen
 pub mod StoredSets

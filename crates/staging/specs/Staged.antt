@@ -3,7 +3,7 @@ use Rattle.std.specs.Prelude.{ℕ, List, [], ◌∷◌, ◌++◌, ◌||◌, Bool
 use Rattle.std.specs.Option.{option_map}
 use Rattle.std.specs.List.{list_any, filter_map}
 use Rattle.std.specs.BTreeMap.{insert_entry, is_at}
-use Rattle.std.specs.Map.{lookup}
+use Rattle.std.specs.Map.{lookup, set_value, remove_entry}
 use Rattle.values.specs.declared.key.Key.{Key}
 use Rattle.values.specs.Event.{Event}
 use Rattle.values.specs.declared.table.Table.{Table}
@@ -23,6 +23,16 @@ use Rattle.values.specs.Events.{row_until}
 abbrev pub put_all : Net → Net → Net
 put_all [] w = w
 put_all (c ∷ cs) w = put_all cs (insert_entry key_cmp w c.0 c.1)
+
+-- a key's write as it was before: with its row, or none, or not written
+abbrev pub put_back_one : Key → Option (Option Row) → Net → Net
+put_back_one k (Some row) w = set_value (is_at (key_cmp k)) w row
+put_back_one k None w = remove_entry (is_at (key_cmp k)) w
+
+-- and those of many changes, from the last to the first
+abbrev pub put_back : List (Key × Option (Option Row)) → Net → Net
+put_back [] w = w
+put_back (c ∷ cs) w = put_back_one c.0 c.1 (put_back cs w)
 
 -- the number of the changes, unless the keys are too many
 abbrev pub put_answer : Net → Net → Result ℕ Refusal

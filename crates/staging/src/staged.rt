@@ -1,6 +1,6 @@
 //! A transaction's own writes.
-ghost use Rattle.std.specs.Prelude.{◌≡◌, ◌≢◌, ◌||◌, [], All, IfOk, OnOk, OnErr, Result, Err, filter, is_some};
-ghost use Rattle.std.specs.BTreeMap.{IsOrdered};
+ghost use Rattle.std.specs.Prelude.{◌≡◌, ◌≢◌, ◌<◌, ◌≤◌, ◌||◌, [], All, IfOk, IfErr, OnOk, OnErr, Result, Err, filter, is_some, length};
+ghost use Rattle.std.specs.BTreeMap.{IsOrdered, insert_entry};
 ghost use Rattle.std.specs.Map.{keys_of};
 ghost use Rattle.std.specs.List.{filter_map, list_any};
 ghost use Rattle.std.specs.List.Sorted.{IsStrictlySortedBy};
@@ -9,7 +9,7 @@ ghost use Rattle.values.specs.Order.{key_cmp, is_key};
 ghost use Rattle.values.specs.Tables.{Schema, IsTable};
 ghost use Rattle.values.specs.Memory.{OnlyMemory};
 ghost use Rattle.values.specs.Versions.{matches};
-ghost use Rattle.values.specs.Writes.{insert_all};
+ghost use Rattle.values.specs.Writes.{most_written, insert_all};
 ghost use Rattle.values.specs.KeyEncoding.{IsShortKey, bytes_of_key};
 ghost use Rattle.values.specs.Events.{AreKeysIn, row_until};
 ghost use Rattle.keyrange.specs.Range.{is_key_in};
@@ -18,7 +18,7 @@ ghost use Rattle.tsbtree.specs.View.{events};
 ghost use Rattle.searchrange.specs.SearchRange.{search_range, Covers};
 ghost use Rattle.staging.specs.View.{Holds};
 ghost use Rattle.staging.specs.Own.{WhenRead, rows_seen, net_over};
-ghost use Rattle.staging.specs.Staged.{put_all, put_answer, sees, first_seen, row_taken, rows_in, net_in};
+ghost use Rattle.staging.specs.Staged.{put_all, put_back_one, put_back, put_answer, sees, first_seen, row_taken, rows_in, net_in};
 
 use crate::net::Net;
 use searchrange::search_range;
@@ -161,41 +161,95 @@ impl Staged {
         ensures err { OnErr result (self.new ≡ self.old) }
         ensures ordered { IsStrictlySortedBy key_cmp (keys_of self.old) }
     {
+        // The length of a map comes with its order.
+        let _written = self.writes.len();
         let count = changes.len();
-        let mut writes = copy_of(self.alloc, &self.writes)?;
-        put_all(&mut writes, changes)?;
-        if writes.len() > MOST_WRITTEN {
-            return Err(Refusal::TooManyWrites);
+        let mut earlier = Vec::new(self.alloc);
+        if let Err(refusal) = put_few(&mut self.writes, changes, &mut earlier) {
+            put_back(&mut self.writes, earlier);
+            return Err(refusal);
         }
-        self.writes = writes;
         Ok(count)
     }
 }
 
-fn copy_of(
-    alloc: Global,
-    writes: &BTreeMap<Key, Option<Row>>,
-) -> Result<BTreeMap<Key, Option<Row>>, AllocError>
-    ensures ok { IfOk result (λ copy. copy.entries ≡ writes.now.entries) }
-    ensures ordered { IsOrdered key_cmp writes.now }
+/// Puts changes over what was written, and keeps what was there before. `TooManyWrites` where the keys are too many then.
+fn put_few(
+    writes: &mut BTreeMap<Key, Option<Row>>,
+    changes: Vec<(Key, Option<Row>)>,
+    earlier: &mut Vec<(Key, Option<Option<Row>>)>,
+) -> Result<(), Refusal>
+    ensures ok { OnOk result (writes.new.entries ≡ put_all changes.items writes.old.entries) }
+    ensures few { OnOk result (length writes.new.entries ≤ most_written) }
+    ensures err { IfErr result (λ refusal. refusal ≢ Refusal.Memory
+        → (refusal ≡ Refusal.TooManyWrites)
+        × (most_written < length (put_all changes.items writes.old.entries))) }
+    ensures back { put_back earlier.new.items writes.new.entries
+        ≡ put_back earlier.old.items writes.old.entries }
 {
-    let mut copy = BTreeMap::new(alloc);
-    for (key, row) in writes {
-        copy.insert(key.clone()?, row.clone()?)?;
+    put_all(writes, changes, earlier)?;
+    if writes.len() > MOST_WRITTEN {
+        return Err(Refusal::TooManyWrites);
     }
-    Ok(copy)
+    Ok(())
 }
 
 fn put_all(
     writes: &mut BTreeMap<Key, Option<Row>>,
     changes: Vec<(Key, Option<Row>)>,
+    earlier: &mut Vec<(Key, Option<Option<Row>>)>,
 ) -> Result<(), AllocError>
-    ensures { OnOk result (writes.new.entries ≡ put_all changes.items writes.old.entries) }
+    ensures ok { OnOk result (writes.new.entries ≡ put_all changes.items writes.old.entries) }
+    ensures back { put_back earlier.new.items writes.new.entries
+        ≡ put_back earlier.old.items writes.old.entries }
 {
     for (key, row) in changes {
-        writes.insert(key, row)?;
+        put_one(writes, key, row, earlier)?;
     }
     Ok(())
+}
+
+/// Puts a change, and keeps what its key had before. After a refusal no write has changed.
+fn put_one(
+    writes: &mut BTreeMap<Key, Option<Row>>,
+    key: Key,
+    row: Option<Row>,
+    earlier: &mut Vec<(Key, Option<Option<Row>>)>,
+) -> Result<(), AllocError>
+    ensures ok { OnOk result
+        (writes.new.entries ≡ insert_entry key_cmp writes.old.entries key row) }
+    ensures back { put_back earlier.new.items writes.new.entries
+        ≡ put_back earlier.old.items writes.old.entries }
+{
+    let kept = key.clone()?;
+    earlier.reserve(1)?;
+    let before = writes.insert(key, row)?;
+    earlier.push_reserved((kept, before));
+    Ok(())
+}
+
+/// Makes the writes what they were before changes, from the last change to the first.
+fn put_back(writes: &mut BTreeMap<Key, Option<Row>>, mut earlier: Vec<(Key, Option<Option<Row>>)>)
+    ensures { writes.new.entries ≡ put_back earlier.items writes.old.entries }
+{
+    while let Some((key, before)) = earlier.pop() {
+        put_back_one(writes, &key, before);
+    }
+}
+
+fn put_back_one(writes: &mut BTreeMap<Key, Option<Row>>, key: &Key, before: Option<Option<Row>>)
+    ensures { writes.new.entries ≡ put_back_one key.now before writes.old.entries }
+{
+    match before {
+        Some(row) => {
+            if let Some(place) = writes.get_mut(key) {
+                *place = row;
+            }
+        }
+        None => {
+            writes.remove(key);
+        }
+    }
 }
 
 /// The rows of events that the keys take.
