@@ -1,6 +1,7 @@
 pub mod Answered
 pub mod Bridge
 pub mod Calls
+pub mod Earlier
 pub mod Entries
 pub mod KeyTable
 pub mod Narrowed

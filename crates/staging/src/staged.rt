@@ -23,7 +23,7 @@ ghost use Rattle.staging.specs.Staged.{put_all, put_back_one, put_back, put_answ
 use crate::net::Net;
 use searchrange::search_range;
 use std::alloc::{AllocError, Global};
-use std::collections::BTreeMap;
+use std::collections::{BTreeMap, BTreeSet};
 use std::marker::Model;
 use tsbtree::View;
 use values::{
@@ -125,14 +125,15 @@ impl Staged {
         }
     }
 
-    fn is_taken(&self, view: &View, last: Instant, key: &Key, earlier: &[Key]) -> Mem<bool>
+    /// Whether the transaction sees a row of a key, or the key came before.
+    fn is_taken(&self, view: &View, last: Instant, key: &Key, earlier: &BTreeSet<Key>) -> Mem<bool>
         requires { IsShortKey key.now }
         ensures ok { IfOk result (λ b. b ≡ (sees (events view.now) last self.now key.now
-            || list_any (is_key key.now) earlier.now)) }
+            || list_any (is_key key.now) earlier.now.keys)) }
         ensures err { OnlyMemory result }
     {
         let seen = self.sees(view, last, key)?;
-        Ok(seen || is_among(key, earlier))
+        Ok(seen || earlier.contains(key))
     }
 
     /// The first of the keys that the transaction sees, or that came before.
@@ -145,10 +146,12 @@ impl Staged {
     {
         // The length of a map comes with its order.
         let _written = self.writes.len();
-        for (i, key) in keys.iter().enumerate() {
-            if self.is_taken(view, last, key, &keys[..i])? {
+        let mut earlier = BTreeSet::new(self.alloc);
+        for key in keys {
+            if self.is_taken(view, last, key, &earlier)? {
                 return Ok(Some(key.clone()?));
             }
+            earlier.insert(key.clone()?)?;
         }
         Ok(None)
     }
@@ -365,15 +368,4 @@ fn stays(alloc: Global, view: &View, last: Instant, key: &Key, row: &Option<Row>
         return Ok(true);
     }
     Ok(has_row(alloc, view, last, key)?)
-}
-
-fn is_among(key: &Key, keys: &[Key]) -> bool
-    ensures { result ≡ list_any (is_key key.now) keys.now }
-{
-    for other in keys {
-        if key.cmp(other).is_eq() {
-            return true;
-        }
-    }
-    false
 }
