@@ -1,13 +1,16 @@
 -- What the bytes of a text do, one after another.
-use Rattle.std.proofs.Common.{◌≡◌, ◌≢◌, ℕ, List, [], ◌∷◌, ◌++◌, Bool, false, Option, Some, None, append_assoc, append-nil, sym, ◌∙◌, ap, refl, subst, arith}
-use Rattle.std.specs.Prelude.{if◌then◌else◌, ◌==◌, IfSome}
+use Rattle.std.proofs.Common.{◌≡◌, ◌≢◌, ℕ, List, [], ◌∷◌, ◌++◌, Bool, false, Option, Some, append_assoc, append-nil, sym, ◌∙◌, ap, refl, subst, arith}
+use Rattle.std.specs.Prelude.{if◌then◌else◌, ◌==◌}
+use Rattle.std.specs.List.{All}
 use Rattle.std.proofs.lemmas.Bool.Decides.{nat_tests}
-use Rattle.std.proofs.KnownBytes.{Appends-trans, Appends-nil, Consumes-nil, Consumes-trans, Consumes-kept}
+use Rattle.std.proofs.lemmas.List.Elements.{All-head, All-tail}
+use Rattle.std.proofs.KnownBytes.{Appends-trans, Appends-nil, Appends-kept, Consumes-nil, Consumes-trans, Consumes-kept}
 use Rattle.std.specs.Io.KnownBytes.{Appends, Consumes, Keeps, IsAtEnd}
 use Rattle.values.specs.Tables.{Schema}
 use Rattle.statement.specs.Writer.{AppendsFront}
-use Rattle.scripts.specs.Transcript.{Partial, Progress, Reading, Ending, no_reply, beginning, add, ended, line_reply, line_leaves, last_reply, last_leaves, mark, marks_after, written, transcript, whole_replies, leaves, IsTranscript, IsCut, IsStopped}
+use Rattle.scripts.specs.Transcript.{Partial, Progress, Reading, Ending, no_reply, beginning, add, ended, line_reply, line_leaves, last_reply, last_leaves, mark, marks_after, written, transcript, leaves, IsTranscript, IsCut, IsStopped}
 use Rattle.scripts.specs.Taking.{Feeds, Breaks}
+use Rattle.scripts.specs.Script.{add_all}
 use Rattle.statement.proofs.Fronts.{front_then}
 
 not_end : (byte : ℕ) → byte ≢ 10 → (byte == 10) ≡ false
@@ -59,6 +62,24 @@ module _ (schema : Schema) (read : Reading) where
         ∙ ap (λ o. f.out ++ o) (g.goes_on ending more rest) ∙ sym (append_assoc f.out g.out _);
     leaves_on = λ more rest.
         (λ i. leaves schema read (append_assoc f.marks g.marks more i) p l (append_assoc xs ys rest i)) ∙ f.leaves_on (g.marks ++ more) (ys ++ rest) ∙ g.leaves_on more rest;
+  }
+
+  -- bytes, of which none is a line feed
+  pub feeds_all : (a : Option (List ℕ)) (p : Progress) (line : Partial) (bytes : List ℕ) → All (λ b. b ≢ 10) bytes → Feeds schema read a a p line p (add_all line bytes) bytes
+  feeds_all a p line [] others = feeds_none a p line
+  feeds_all a p line (b ∷ bytes) others =
+      feeds_join a a a p p p line (add line b) (add_all (add line b) bytes) (b ∷ []) bytes (feeds_byte a p b line (add line b) refl (All-head (λ c. c ≢ 10) b bytes others)) (feeds_all a p (add line b) bytes (All-tail (λ c. c ≢ 10) b bytes others))
+
+  -- what was written was flushed, or not all of it
+  pub feeds_flushed : (a b c : Option (List ℕ)) (p p' : Progress) (l l' : Partial) (bytes : List ℕ) → Feeds schema read a b p l p' l' bytes → Keeps b c → Feeds schema read a c p l p' l' bytes
+  feeds_flushed a b c p p' l l' bytes f kept = record { marks = f.marks; out = f.out; wrote = Appends-kept a b c f.out f.wrote kept; goes_on = f.goes_on; leaves_on = f.leaves_on }
+
+  pub breaks_flushed : (a b c : Option (List ℕ)) (p p' : Progress) (l l' : Partial) (bytes : List ℕ) → Feeds schema read a b p l p' l' bytes → Keeps b c → Breaks schema read a c p l bytes
+  breaks_flushed a b c p p' l l' bytes f kept = record {
+    marks = f.marks;
+    out = f.out;
+    wrote = Appends-kept a b c f.out f.wrote kept;
+    front = λ more rest. (written schema read (last_reply schema read) more p' l' rest, f.goes_on (last_reply schema read) more rest);
   }
 
   pub breaks_join : (a b c : Option (List ℕ)) (p p' : Progress) (l l' : Partial) (xs ys zs : List ℕ) → Feeds schema read a b p l p' l' xs → Breaks schema read b c p' l' ys → Breaks schema read a c p l ((xs ++ ys) ++ zs)

@@ -1,3 +1,4 @@
+pub mod Adding
 pub mod Feeding
 pub mod Running
 pub mod Scripting

@@ -1,21 +1,29 @@
--- The bytes of a script, one after another, and its end.
-use Rattle.std.proofs.Common.{◌≡◌, ◌≢◌, ℕ, List, [], ◌∷◌, ◌++◌, Bool, true, false, Option, Some, None, sym, subst, refl}
-use Rattle.std.specs.Prelude.{Result, Ok, Err, OnOk, OnErr}
+-- The bytes of a script, line by line, and its end.
+use Rattle.std.proofs.Common.{◌≡◌, ◌≢◌, ℕ, List, [], ◌∷◌, ◌++◌, ◌+◌, ◌<◌, ◌≤◌, Bool, true, false, Option, Some, None, length, take, drop, take-append-drop, append_assoc, append-nil, sym, ◌∙◌, ap, subst, refl, arith}
+use Rattle.std.specs.Prelude.{Result, Ok, Err, OnOk, OnErr, ◌==◌}
+use Rattle.std.proofs.lemmas.Bool.Decides.{nat_tests}
+use Rattle.std.specs.List.{All, prefix_len}
+use Rattle.std.proofs.lemmas.List.{take_more}
 use Rattle.std.specs.Io.KnownBytes.{Appends, Consumes, Keeps, IsAtEnd}
 use Rattle.std.proofs.KnownBytes.{Appends-nil}
 use Rattle.values.specs.Tables.{Schema}
 use Rattle.statement.specs.Line.{line_says}
 use Rattle.statement.specs.Writer.{AppendsFront}
 use Rattle.scripts.specs.Taking.{Feeds, Breaks}
-use Rattle.scripts.specs.Transcript.{Partial, Progress, Reading, beginning, add, ended, line_reply, line_leaves, last_reply, last_leaves, IsRun, IsCut, IsStopped}
-use Rattle.scripts.proofs.Feeding.{Taken, feeds_none, feeds_byte, feeds_end, breaks_end, feeds_join, breaks_join, taken_none, taken_more, cut_between, stopped_inside, stopped_at_end, done_all, done_left}
+use Rattle.scripts.specs.Transcript.{Partial, Progress, Reading, beginning, ended, line_reply, line_leaves, last_reply, last_leaves, IsRun, IsCut, IsStopped}
+use Rattle.scripts.proofs.Feeding.{Taken, feeds_none, feeds_all, feeds_end, breaks_end, feeds_join, breaks_join, feeds_flushed, breaks_flushed, taken_none, taken_more, cut_between, stopped_inside, stopped_at_end, done_all, done_left}
 use Rattle.scripts.specs.declared.script.Script.{Script}
 use Rattle.interleaving.specs.SystemState.{Stands}
-use Rattle.scripts.specs.Script.{line_of, IsAt, SameRun, Answered, Broken, has_byte, Fed, Finished, Unfinished, AnswersLine, BreaksLine, TakesBytes, BreaksBytes, EndsScript, BreaksEnd}
-use Rattle.scripts.proofs.Scripting.{at_same}
+use Rattle.scripts.specs.Script.{line_of, add_all, is_no_feed, IsAt, SameRun, Answered, Broken, has_byte, Fed, Finished, Unfinished, AnswersLine, BreaksLine, TakesBytes, BreaksBytes, EndsScript, BreaksEnd}
+use Rattle.scripts.proofs.Adding.{all_before, feed_behind}
+use Rattle.scripts.proofs.Scripting.{at_same, flushed_answered, flushed_broken}
 
-pub byte_fed : (a : Option (List ℕ)) (s s' : Script) (schema : Schema) (p : Progress) (byte : ℕ) → line_of s' ≡ add (line_of s) byte → SameRun s s' → byte ≢ 10 → IsAt s schema p → Fed a a s s' schema p (byte ∷ [])
-byte_fed a s s' schema p byte line same other at = record { later = p; left = at_same s s' schema p same at; fed = feeds_byte schema (line_says schema) a p byte (line_of s) (line_of s') line other }
+pub bytes_fed : (a : Option (List ℕ)) (s s' : Script) (schema : Schema) (p : Progress) (bytes : List ℕ) → line_of s' ≡ add_all (line_of s) bytes → SameRun s s' → All (λ b. b ≢ 10) bytes → IsAt s schema p → Fed a a s s' schema p bytes
+bytes_fed a s s' schema p bytes line same others at = record {
+  later = p;
+  left = at_same s s' schema p same at;
+  fed = subst (λ l. Feeds schema (line_says schema) a a p (line_of s) p l bytes) (sym line) (feeds_all schema (line_says schema) a p (line_of s) bytes others);
+}
 
 pub end_fed : (a b : Option (List ℕ)) (s m s' : Script) (schema : Schema) (p : Progress) (byte : ℕ) → line_of m ≡ ended (line_of s) → Answered a b s' schema p (line_of m) → line_of s' ≡ Some [] → byte ≡ 10 → Fed a b s s' schema p (byte ∷ [])
 end_fed a b s m s' schema p byte line did empty is =
@@ -86,15 +94,16 @@ none_finished a s schema p e at = record {
 
 -- ---- the same of what a call returned
 
-pub finish_ok : {E : Type 0} (a b : Option (List ℕ)) (r : Result (Unit {0}) E) (s s' : Script) → has_byte (line_of s) ≡ true → OnOk r ((schema : Schema) (p : Progress) → IsAt s schema p → Answered a b s' schema p (line_of s))
-    → OnOk r ((schema : Schema) (p : Progress) → IsAt s schema p → Finished a b s s' schema p)
-finish_ok a b (Ok x) s s' e did = λ schema p at. last_finished a b s s' schema p e (did schema p at)
-finish_ok a b (Err x) s s' e did = tt
+pub finish_ok : {E : Type 0} (a b c : Option (List ℕ)) (r : Result (Unit {0}) E) (s s' : Script) → has_byte (line_of s) ≡ true → AnswersLine a b s s' → Keeps b c → OnOk r (EndsScript a c s s')
+finish_ok a b c (Ok x) s s' e did kept = λ schema p at. last_finished a c s s' schema p e (flushed_answered a b c s' schema p (line_of s) (did schema p at) kept)
+finish_ok a b c (Err x) s s' e did kept = tt
 
-pub finish_err : {E : Type 0} (a b : Option (List ℕ)) (r : Result (Unit {0}) E) (s : Script) → has_byte (line_of s) ≡ true → OnErr r ((schema : Schema) (p : Progress) → IsAt s schema p → Broken a b schema p (line_of s))
-    → OnErr r ((schema : Schema) (p : Progress) → IsAt s schema p → Unfinished a b s schema p)
-finish_err a b (Ok x) s e did = tt
-finish_err a b (Err x) s e did = λ schema p at. last_unfinished a b s schema p e (did schema p at)
+pub finish_stuck : {E : Type 0} (a b c : Option (List ℕ)) (r : Result (Unit {0}) E) (s s' : Script) → has_byte (line_of s) ≡ true → AnswersLine a b s s' → Keeps b c → OnErr r (BreaksEnd a c s)
+finish_stuck a b c (Ok x) s s' e did kept = tt
+finish_stuck a b c (Err x) s s' e did kept = λ schema p at. last_unfinished a c s schema p e (flushed_broken a b c s' schema p (line_of s) (did schema p at) kept)
+
+pub finish_err : (a b : Option (List ℕ)) (s : Script) → has_byte (line_of s) ≡ true → BreaksLine a b s → BreaksEnd a b s
+finish_err a b s e did = λ schema p at. last_unfinished a b s schema p e (did schema p at)
 
 pub end_ok : {E : Type 0} (a b : Option (List ℕ)) (r : Result (Unit {0}) E) (s m s' : Script) (byte : ℕ) → line_of m ≡ ended (line_of s) → SameRun s m → byte ≡ 10
     → OnOk r ((schema : Schema) (p : Progress) → IsAt m schema p → Answered a b s' schema p (line_of m)) → OnOk r (line_of s' ≡ Some [])
@@ -108,10 +117,73 @@ pub end_err : {E : Type 0} (a b : Option (List ℕ)) (r : Result (Unit {0}) E) (
 end_err a b (Ok x) s m byte line same is did = tt
 end_err a b (Err x) s m byte line same is did = λ schema p at. end_broken a b s m schema p byte line (did schema p (at_same s m schema p same at)) is
 
-pub feed_err : {E : Type 0} (a b : Option (List ℕ)) (r : Result (Unit {0}) E) (s : Script) (bytes : List ℕ) → ((schema : Schema) (p : Progress) → IsAt s schema p → Breaks schema (line_says schema) a b p (line_of s) bytes)
-    → OnErr r ((schema : Schema) (p : Progress) → IsAt s schema p → Breaks schema (line_says schema) a b p (line_of s) bytes)
-feed_err a b (Ok x) s bytes did = tt
-feed_err a b (Err x) s bytes did = did
+-- ---- a line at a time
+
+-- the bytes before a line feed
+pub piece_taken : (a : Option (List ℕ)) (s s' : Script) (bytes piece : List ℕ) (n : ℕ) → n ≡ prefix_len is_no_feed bytes → n ≤ length bytes → piece ≡ take n bytes
+    → line_of s' ≡ add_all (line_of s) piece → SameRun s s' → TakesBytes a a s s' (take n bytes)
+piece_taken a s s' bytes piece n is within front line same = λ schema p at. bytes_fed a s s' schema p (take n bytes) (line ∙ ap (λ l. add_all (line_of s) l) front) same (all_before bytes n is within) at
+
+pub stops_before : (n m : ℕ) → n ≤ m → n ≢ m → n < m
+stops_before n m within other = grind (arith, nat_tests)
+
+pub is_none_left : (n : ℕ) → (n == 0) ≡ true → n ≡ 0
+is_none_left n e = grind (arith, nat_tests)
+
+-- and the line feed
+pub line_fed : (a b : Option (List ℕ)) (s m s' : Script) (bytes : List ℕ) (n : ℕ) → n ≡ prefix_len is_no_feed bytes → n < length bytes
+    → TakesBytes a a s m (take n bytes) → TakesBytes a b m s' (10 ∷ []) → TakesBytes a b s s' (take (n + 1) bytes)
+line_fed a b s m s' bytes n is less first feed = λ schema p at.
+    subst (Fed a b s s' schema p) (sym (take_more bytes n 0 less ∙ ap (λ c. take n bytes ++ c ∷ []) (feed_behind bytes n is less)))
+    (fed_join a a b s m s' schema p (take n bytes) (10 ∷ []) (first schema p at) (λ q at'. feed schema q at'))
+
+pub line_broken : (a b : Option (List ℕ)) (s m : Script) (bytes : List ℕ) (n : ℕ) → n ≡ prefix_len is_no_feed bytes → n < length bytes
+    → TakesBytes a a s m (take n bytes) → BreaksBytes a b m (10 ∷ []) → BreaksBytes a b s bytes
+line_broken a b s m bytes n is less first feed = λ schema p at.
+    subst (Breaks schema (line_says schema) a b p (line_of s))
+    (ap (λ l. l ++ drop (n + 1) bytes) (sym (take_more bytes n 0 less ∙ ap (λ c. take n bytes ++ c ∷ []) (feed_behind bytes n is less))) ∙ take-append-drop (n + 1) bytes)
+    (fed_broken a a b s m schema p (take n bytes) (10 ∷ []) (drop (n + 1) bytes) (first schema p at) (λ q at'. feed schema q at'))
+
+-- some of these bytes were taken, and this rest is left
+pub record TakesSome (a b : Option (List ℕ)) (s s' : Script) (bytes rest : List ℕ) : Type 0 where
+  pub done : List ℕ
+  pub is : bytes ≡ done ++ rest
+  pub took : TakesBytes a b s s' done
+
+pub some_none : (a : Option (List ℕ)) (s : Script) (bytes : List ℕ) → TakesSome a a s s bytes bytes
+some_none a s bytes = record { done = []; is = refl; took = λ schema p at. fed_none a s schema p at }
+
+pub some_more : (a b c : Option (List ℕ)) (s m s' : Script) (bytes rest : List ℕ) (n : ℕ) → TakesSome a b s m bytes rest → TakesBytes b c m s' (take n rest) → TakesSome a c s s' bytes (drop n rest)
+some_more a b c s m s' bytes rest n so took = record {
+  done = so.done ++ take n rest;
+  is = so.is ∙ ap (λ l. so.done ++ l) (sym (take-append-drop n rest)) ∙ sym (append_assoc so.done (take n rest) (drop n rest));
+  took = λ schema p at. fed_join a b c s m s' schema p so.done (take n rest) (so.took schema p at) (λ q at'. took schema q at');
+}
+
+pub some_broken : (a b c : Option (List ℕ)) (s m : Script) (bytes rest : List ℕ) → TakesSome a b s m bytes rest → BreaksBytes b c m rest → BreaksBytes a c s bytes
+some_broken a b c s m bytes rest so broken = λ schema p at.
+    subst (Breaks schema (line_says schema) a c p (line_of s)) (append-nil (so.done ++ rest) ∙ sym so.is)
+    (fed_broken a b c s m schema p so.done rest [] (so.took schema p at) (λ q at'. broken schema q at'))
+
+some_all : (a b : Option (List ℕ)) (s s' : Script) (bytes rest : List ℕ) → TakesSome a b s s' bytes rest → length rest ≡ 0 → TakesBytes a b s s' bytes
+some_all a b s s' bytes [] so empty = λ schema p at. subst (Fed a b s s' schema p) (sym (so.is ∙ append-nil so.done)) (so.took schema p at)
+some_all a b s s' bytes (c ∷ rest) so empty = absurd (omega (arith, empty))
+
+-- all were taken, and the replies flushed
+pub all_flushed : {E : Type 0} (a b c : Option (List ℕ)) (r : Result (Unit {0}) E) (s s' : Script) (bytes rest : List ℕ) → TakesSome a b s s' bytes rest → (length rest == 0) ≡ true → Keeps b c
+    → OnOk r (TakesBytes a c s s' bytes)
+all_flushed a b c (Ok x) s s' bytes rest so empty kept = λ schema p at.
+    let did = some_all a b s s' bytes rest so (is_none_left (length rest) empty) schema p at in
+    record { later = did.later; left = did.left; fed = feeds_flushed schema (line_says schema) a b c p did.later (line_of s) (line_of s') bytes did.fed kept }
+all_flushed a b c (Err x) s s' bytes rest so empty kept = tt
+
+-- or could not be flushed
+pub all_stuck : {E : Type 0} (a b c : Option (List ℕ)) (r : Result (Unit {0}) E) (s s' : Script) (bytes rest : List ℕ) → TakesSome a b s s' bytes rest → (length rest == 0) ≡ true → Keeps b c
+    → OnErr r (BreaksBytes a c s bytes)
+all_stuck a b c (Ok x) s s' bytes rest so empty kept = tt
+all_stuck a b c (Err x) s s' bytes rest so empty kept = λ schema p at.
+    let did = some_all a b s s' bytes rest so (is_none_left (length rest) empty) schema p at in
+    breaks_flushed schema (line_says schema) a b c p did.later (line_of s) (line_of s') bytes did.fed kept
 
 -- ---- a run over a reader and a writer
 

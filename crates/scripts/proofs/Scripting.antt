@@ -1,6 +1,6 @@
 -- A line of a script was answered.
-use Rattle.std.proofs.Common.{◌≡◌, ◌≢◌, ℕ, List, [], ◌∷◌, Bool, true, false, Option, sym, ap, subst, ◌∙◌, append-nil, refl, inl, inr}
-use Rattle.std.specs.Prelude.{Result, Ok, Err, OnOk, OnErr, ◌⊎◌, ◌||◌, not, if◌then◌else◌}
+use Rattle.std.proofs.Common.{◌≡◌, ◌≢◌, ℕ, List, [], ◌∷◌, Bool, true, false, Option, sym, ap, subst, ◌∙◌, append-nil, refl}
+use Rattle.std.specs.Prelude.{Result, Ok, Err, OnOk, OnErr, ◌||◌, not, if◌then◌else◌}
 use Rattle.std.specs.Io.KnownBytes.{Appends, Keeps}
 use Rattle.std.proofs.KnownBytes.{Appends-kept}
 use Rattle.values.specs.Tables.{Schema}
@@ -21,7 +21,7 @@ use Rattle.statement.specs.Line.{line_says}
 use Rattle.statement.specs.Memory.{UnlessMemory}
 use Rattle.statement.specs.Writer.{Puts, AppendsFront}
 use Rattle.statement.specs.Print.{reply_text, refusal_text}
-use Rattle.scripts.specs.Transcript.{Partial, Progress, read_at, answered, left_by, asks_memory, reading_takes, can_run_out, is_risky, line_reply, line_leaves}
+use Rattle.scripts.specs.Transcript.{Partial, Progress, read_at, answered, left_by, reading_takes, can_run_out, is_risky, line_reply, line_leaves}
 use Rattle.scripts.specs.declared.script.Script.{Script}
 use Rattle.scripts.specs.Script.{line_of, said_by, IsRead, IsAt, SameRun, Answered, Broken}
 
@@ -180,8 +180,11 @@ at_same s s' schema p same at = record {
   reading_is = same.reading ∙ at.reading_is;
 }
 
-pub flushed_answered : (a b c : Option (List ℕ)) (s s' : Script) (schema : Schema) (p : Progress) (line : Partial) → Answered a b s schema p line → Keeps b c → SameRun s s' → Answered a c s' schema p line
-flushed_answered a b c s s' schema p line did kept same = record { mark = did.mark; wrote = Appends-kept a b c _ did.wrote kept; left = at_same s s' schema _ same did.left }
+pub same_answered : (a b : Option (List ℕ)) (s s' : Script) (schema : Schema) (p : Progress) (line : Partial) → Answered a b s schema p line → SameRun s s' → Answered a b s' schema p line
+same_answered a b s s' schema p line did same = record { mark = did.mark; wrote = did.wrote; left = at_same s s' schema _ same did.left }
+
+pub flushed_answered : (a b c : Option (List ℕ)) (s : Script) (schema : Schema) (p : Progress) (line : Partial) → Answered a b s schema p line → Keeps b c → Answered a c s schema p line
+flushed_answered a b c s schema p line did kept = record { mark = did.mark; wrote = Appends-kept a b c _ did.wrote kept; left = did.left }
 
 pub flushed_broken : (a b c : Option (List ℕ)) (s : Script) (schema : Schema) (p : Progress) (line : Partial) → Answered a b s schema p line → Keeps b c → Broken a c schema p line
 flushed_broken a b c s schema p line did kept = record {

@@ -1,5 +1,5 @@
 -- What a run of a script keeps, by what contracts see of it.
-use Rattle.std.specs.Prelude.{◌≡◌, ◌≤◌, ◌+◌, ℕ, List, [], ◌∷◌, Option, Some, None, Bool, true, false, Result, Err, if◌then◌else◌, vec_capacity, length}
+use Rattle.std.specs.Prelude.{◌≡◌, ◌≤◌, ◌+◌, ℕ, List, [], ◌∷◌, Option, Some, None, Bool, true, false, Result, Err, ◌==◌, not, if◌then◌else◌, vec_capacity, length}
 use Rattle.std.specs.Io.KnownBytes.{Appends, Keeps}
 use Rattle.values.specs.Tables.{Schema}
 use Rattle.values.specs.declared.refusal.Refusal.{Refusal}
@@ -9,13 +9,21 @@ use Rattle.statement.specs.declared.line.Line.{Line}
 use Rattle.statement.specs.Line.{line_says}
 use Rattle.statement.specs.Memory.{UnlessMemory}
 use Rattle.statement.specs.Writer.{AppendsFront}
-use Rattle.scripts.specs.Transcript.{Partial, Progress, max_line, read_at, reading_takes, line_reply, line_leaves, last_reply, last_leaves}
+use Rattle.scripts.specs.Transcript.{Partial, Progress, max_line, add, read_at, reading_takes, line_reply, line_leaves, last_reply, last_leaves}
 use Rattle.scripts.specs.Taking.{Feeds, Breaks}
 use Rattle.scripts.specs.declared.script.Script.{Script}
 
 -- the line as far as it was read
 abbrev pub line_of : Script → Partial
 line_of s = if s.is_too_long then None else Some s.line.items
+
+abbrev pub is_no_feed : ℕ → Bool
+is_no_feed byte = not (byte == 10)
+
+-- a line after more bytes, none of them a line feed
+abbrev pub add_all : Partial → List ℕ → Partial
+add_all line [] = line
+add_all line (byte ∷ bytes) = add_all (add line byte) bytes
 
 -- what the line says
 abbrev pub said_by : Script → Result Line Refusal

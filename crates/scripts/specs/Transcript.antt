@@ -1,5 +1,5 @@
 -- What is written for a text of lines.
-use Rattle.std.specs.Prelude.{◌≡◌, ℕ, List, [], ◌∷◌, ◌++◌, ◌==◌, ◌&&◌, ◌||◌, not, Bool, true, false, Option, Some, None, Result, Ok, Err, if◌then◌else◌, length, nat_lt, codes}
+use Rattle.std.specs.Prelude.{ℕ, List, [], ◌∷◌, ◌++◌, ◌==◌, ◌&&◌, ◌||◌, not, Bool, false, Option, Some, None, Result, Ok, Err, if◌then◌else◌, length, nat_lt, codes}
 use Rattle.std.specs.Io.KnownBytes.{Appends, Consumes, IsAtEnd}
 use Rattle.values.specs.Tables.{Schema}
 use Rattle.values.specs.declared.refusal.Refusal.{Refusal}

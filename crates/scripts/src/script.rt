@@ -1,9 +1,12 @@
-//! Scripts: a line is read, its step taken and its reply written, and then the next one.
-ghost use Rattle.std.specs.Prelude.{◌≡◌, ◌≢◌, ◌≤◌, ◌^◌, Some, None, [], ◌∷◌, OnOk, OnErr, IfOk, IfErr, Ok, Err, length, ◌+◌, vec_capacity};
+//! Scripts: a line is read, its step taken and its reply written, and then the next one. What was
+//! written is flushed before more is read.
+ghost use Rattle.std.specs.Prelude.{◌≡◌, ◌≢◌, ◌≤◌, ◌<◌, ◌^◌, Some, None, [], ◌∷◌, OnOk, OnErr, IfOk, IfErr, Ok, Err, length, take, ◌+◌, vec_capacity};
+ghost use Rattle.std.specs.List.{prefix_len};
+ghost use Rattle.std.specs.Io.KnownBytes.{Keeps};
 ghost use Rattle.values.specs.Tables.{Schema};
 ghost use Rattle.statement.specs.Line.{line_says};
-ghost use Rattle.scripts.specs.Transcript.{beginning, add, ended, IsRun, IsCut, IsStopped};
-ghost use Rattle.scripts.specs.Script.{line_of, said_by, IsRead, IsAt, SameRun, HasRoom, has_byte, AnswersLine, BreaksLine, TakesBytes, BreaksBytes, EndsScript, BreaksEnd, IsIdle};
+ghost use Rattle.scripts.specs.Transcript.{beginning, ended, IsRun, IsCut, IsStopped};
+ghost use Rattle.scripts.specs.Script.{line_of, said_by, add_all, is_no_feed, IsRead, IsAt, SameRun, HasRoom, has_byte, AnswersLine, BreaksLine, TakesBytes, BreaksBytes, EndsScript, BreaksEnd, IsIdle};
 
 use histories::Step;
 use interleaving::System;
@@ -117,26 +120,36 @@ fn end_line<W: Write>(alloc: Global, writer: &mut W, script: &mut Script) -> Res
 {
     let line = read(alloc, script);
     answer(writer, script, line)?;
-    if writer.flush().is_err() {
-        return Err(WriteFault);
-    }
     script.line.clear();
     script.is_too_long = false;
     Ok(())
 }
 
-/// One more byte of the line.
-fn add_byte(script: &mut Script, byte: u8)
+/// The number of bytes before the first line feed: of all, where there is none.
+fn line_length(bytes: &[u8]) -> usize
+    ensures length { result ≡ prefix_len is_no_feed bytes.now }
+    ensures within { result ≤ length bytes.now }
+{
+    for (i, byte) in bytes.iter().enumerate() {
+        if *byte == b'\n' {
+            return i;
+        }
+    }
+    bytes.len()
+}
+
+/// More bytes of the line, none of them its line feed.
+fn add_bytes(script: &mut Script, bytes: &[u8])
     requires { HasRoom script.old }
-    ensures line { line_of script.new ≡ add (line_of script.old) byte }
+    ensures line { line_of script.new ≡ add_all (line_of script.old) bytes.now }
     ensures same { SameRun script.old script.new }
     ensures room { HasRoom script.new }
 {
     if script.is_too_long {
         return;
     }
-    if script.line.len() < LINE {
-        let _ = script.line.push(byte);
+    if bytes.len() <= LINE - script.line.len() {
+        let _ = script.line.extend_from_slice(bytes);
     } else {
         script.is_too_long = true;
     }
@@ -152,30 +165,58 @@ fn add_feed(script: &mut Script)
     let _ = script.line.push(b'\n');
 }
 
-/// Takes the next byte of the script.
-fn take_byte<W: Write>(
+/// Passes on what was written.
+fn flush<W: Write>(writer: &mut W) -> Result<(), WriteFault>
+    ensures { Keeps (W.contents writer.old) (W.contents writer.new) }
+{
+    if writer.flush().is_err() {
+        return Err(WriteFault);
+    }
+    Ok(())
+}
+
+/// Takes a line feed, which ends the line.
+fn take_feed<W: Write>(alloc: Global, writer: &mut W, script: &mut Script) -> Result<(), WriteFault>
+    requires { HasRoom script.old }
+    ensures ok { OnOk result (TakesBytes
+        (W.contents writer.old) (W.contents writer.new) script.old script.new (10 ∷ [])) }
+    ensures err { OnErr result (BreaksBytes
+        (W.contents writer.old) (W.contents writer.new) script.old (10 ∷ [])) }
+    ensures room { OnOk result (HasRoom script.new) }
+{
+    add_feed(script);
+    end_line(alloc, writer, script)
+}
+
+/// Takes the bytes up to the first line feed and with it, or all where there is none. The answer is
+/// their number.
+fn take_line<W: Write>(
     alloc: Global,
     writer: &mut W,
     script: &mut Script,
-    byte: u8,
-) -> Result<(), WriteFault>
+    bytes: &[u8],
+) -> Result<usize, WriteFault>
     requires { HasRoom script.old }
-    ensures ok { OnOk result (TakesBytes
-        (W.contents writer.old) (W.contents writer.new) script.old script.new (byte ∷ [])) }
+    ensures ok { IfOk result (λ n. TakesBytes
+        (W.contents writer.old) (W.contents writer.new) script.old script.new (take n bytes.now)) }
     ensures err { OnErr result (BreaksBytes
-        (W.contents writer.old) (W.contents writer.new) script.old (byte ∷ [])) }
+        (W.contents writer.old) (W.contents writer.new) script.old bytes.now) }
+    ensures within { IfOk result (λ n. n ≤ length bytes.now) }
+    ensures some { IfOk result (λ n. 0 < length bytes.now → 0 < n) }
     ensures room { OnOk result (HasRoom script.new) }
 {
-    if byte == b'\n' {
-        add_feed(script);
-        end_line(alloc, writer, script)
-    } else {
-        add_byte(script, byte);
-        Ok(())
+    let n = line_length(bytes);
+    add_bytes(script, bytes.split_at(n).0);
+    if n == bytes.len() {
+        return Ok(n);
+    }
+    match take_feed(alloc, writer, script) {
+        Ok(()) => Ok(n + 1),
+        Err(fault) => Err(fault),
     }
 }
 
-/// Takes the next bytes of the script.
+/// Takes the next bytes of the script, and flushes the replies to the lines that they end.
 fn feed<W: Write>(
     alloc: Global,
     writer: &mut W,
@@ -189,10 +230,14 @@ fn feed<W: Write>(
         (W.contents writer.old) (W.contents writer.new) script.old bytes.now) }
     ensures room { OnOk result (HasRoom script.new) }
 {
-    for byte in bytes {
-        take_byte(alloc, writer, script, *byte)?;
+    let mut rest = bytes;
+    while !rest.is_empty() {
+        match take_line(alloc, writer, script, rest) {
+            Ok(n) => rest = rest.split_at(n).1,
+            Err(fault) => return Err(fault),
+        }
     }
-    Ok(())
+    flush(writer)
 }
 
 fn has_byte(script: &Script) -> bool
@@ -201,7 +246,8 @@ fn has_byte(script: &Script) -> bool
     script.is_too_long || !script.line.is_empty()
 }
 
-/// Ends the script: a last line without a line feed is answered where it has a byte.
+/// Ends the script: a last line without a line feed is answered where it has a byte, and its reply
+/// flushed.
 fn finish<W: Write>(alloc: Global, writer: &mut W, script: &mut Script) -> Result<(), WriteFault>
     requires { HasRoom script.old }
     ensures ok { OnOk result (EndsScript
@@ -209,10 +255,12 @@ fn finish<W: Write>(alloc: Global, writer: &mut W, script: &mut Script) -> Resul
     ensures err { OnErr result (BreaksEnd
         (W.contents writer.old) (W.contents writer.new) script.old) }
 {
-    if has_byte(script) {
-        end_line(alloc, writer, script)
-    } else {
-        Ok(())
+    if !has_byte(script) {
+        return Ok(());
+    }
+    match end_line(alloc, writer, script) {
+        Ok(()) => flush(writer),
+        Err(fault) => Err(fault),
     }
 }
 
@@ -236,7 +284,8 @@ fn begin(alloc: Global, schema: Schema) -> Result<Script, AllocError>
 }
 
 /// Runs a script over a schema: reads the reader to its end, and writes one reply for each line
-/// that is not blank and no comment, each before the next line is taken.
+/// that is not blank and no comment, each before the next line is taken. The replies are flushed
+/// before the next read, and at the end.
 ///
 /// The transcript of what was read was written, and nothing else, whatever the reader. At `Read` the
 /// replies to the lines that ended are written, and at `Write` a prefix of the transcript of what

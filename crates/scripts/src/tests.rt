@@ -74,10 +74,11 @@ impl Write for Closing {
     }
 }
 
-/// A writer that takes all bytes and cannot pass them on.
+/// A writer that takes all bytes, and passes them on so many times.
 #[derive(Drop)]
 struct Stuck {
     taken: Vec<u8>,
+    flushes: usize,
 }
 
 impl Write for Stuck {
@@ -87,7 +88,11 @@ impl Write for Stuck {
     }
 
     fn flush(&mut self) -> io::Result<()> {
-        Err(io::Error::from(ErrorKind::Other))
+        if self.flushes == 0 {
+            return Err(io::Error::from(ErrorKind::Other));
+        }
+        self.flushes -= 1;
+        Ok(())
     }
 }
 
@@ -158,10 +163,35 @@ fn a_writer_that_fails_is_a_write_fault(rt: HostRuntime) -> Result<(), Fail> {
             "{calls}"
         );
     }
+    Ok(())
+}
+
+#[test]
+fn a_reply_is_flushed_before_the_next_read(rt: HostRuntime) -> Result<(), Fail> {
     let mut out = Stuck {
         taken: Vec::new(rt.alloc()),
+        flushes: 0,
     };
-    let fault = fault_of(&rt, &mut SCRIPT.as_bytes(), &mut out)?;
+    // The first read gives the first line, and a second one would be a read fault.
+    let mut reader = Cut {
+        rest: SCRIPT.as_bytes(),
+        most: 10,
+        calls: 1,
+    };
+    let fault = fault_of(&rt, &mut reader, &mut out)?;
+    assert_eq!(rt; fault, Some(RunFault::Write));
+    assert_eq!(rt; out.taken.as_slice(), "begun 0\n".as_bytes());
+    Ok(())
+}
+
+#[test]
+fn the_last_reply_is_flushed(rt: HostRuntime) -> Result<(), Fail> {
+    let mut out = Stuck {
+        taken: Vec::new(rt.alloc()),
+        flushes: 1,
+    };
+    // The first flush comes before the read that gives the end.
+    let fault = fault_of(&rt, &mut "1: BEGIN".as_bytes(), &mut out)?;
     assert_eq!(rt; fault, Some(RunFault::Write));
     assert_eq!(rt; out.taken.as_slice(), "begun 0\n".as_bytes());
     Ok(())

@@ -1,25 +1,25 @@
-use Rattle.std.proofs.Common.{ap, sym, subst, ◌∙◌, ◌++◌, ◌+◌, drop, take-append-drop}
-use Rattle.std.proofs.lemmas.List.{take_more, take_all}
-use Rattle.statement.specs.Line.{line_says}
-use Rattle.scripts.specs.Taking.{Breaks}
-use Rattle.scripts.specs.Script.{Fed}
-use Rattle.scripts.proofs.Running.{feed_err, fed_none, fed_join, fed_broken}
+use Rattle.std.proofs.Common.{sym, ◌∙◌}
+use Rattle.scripts.proofs.Running.{some_none, some_more, some_broken, all_flushed, all_stuck}
 use Rattle.scripts.proofs.script.feed.Goals as goal
 
-pub loop-byte-init : goal.loop-byte-init
-loop-byte-init g c = record { fed = λ schema p at. fed_none _ _ schema p at; room = c.requires }
+pub loop-rest-init : goal.loop-rest-init
+loop-rest-init g c = record { some = some_none _ _ _; room = c.requires }
 
-pub returns-in_err-take_byte-clause-err : goal.returns-in_err-take_byte-clause-err
-returns-in_err-take_byte-clause-err g c = feed_err _ _ c.from_residual.result c.args.script.now c.args.bytes.now (λ schema p at.
-    let i = c.loop-byte.byte-index in
-    subst (Breaks schema (line_says schema) _ _ p _) (ap (λ l. l ++ drop (i + 1) c.args.bytes.now) (sym (take_more c.args.bytes.now i 0 c.loop-byte-test.true)) ∙ take-append-drop (i + 1) c.args.bytes.now)
-    (fed_broken _ _ _ _ _ schema p _ _ (drop (i + 1) c.args.bytes.now) (c.loop-byte.invariant.fed schema p at) (λ q at'. c.in_err-take_byte.ensures.err schema q at')))
-
-pub loop-byte-preserved : goal.loop-byte-preserved
-loop-byte-preserved g c = record {
-  fed = λ schema p at. rw (take_more c.args.bytes.now c.loop-byte.byte-index 0 c.loop-byte-test.true) (fed_join _ _ _ _ _ _ schema p _ _ (c.loop-byte.invariant.fed schema p at) (λ q at'. c.in_ok-take_byte.ensures.ok schema q at'));
-  room = c.in_ok-take_byte.ensures.room;
+pub loop-rest-preserved : goal.loop-rest-preserved
+loop-rest-preserved g c = record {
+  some = rw c.split_at.ensures.back (some_more (g.W.Write.contents c.args.writer.now) (g.W.Write.contents c.loop-rest.writer) (g.W.Write.contents c.take_line.new.writer)
+      c.args.script.now c.loop-rest.script c.take_line.new.script c.args.bytes.now c.loop-rest.rest.now c.in-Ok.n c.loop-rest.invariant.some c.in-Ok.ensures.ok);
+  room = c.in-Ok.ensures.room;
 }
 
+pub returns-in-Err-clause-err : goal.returns-in-Err-clause-err
+returns-in-Err-clause-err g c = some_broken (g.W.Write.contents c.args.writer.now) (g.W.Write.contents c.loop-rest.writer) (g.W.Write.contents c.take_line.new.writer)
+    c.args.script.now c.loop-rest.script c.args.bytes.now c.loop-rest.rest.now c.loop-rest.invariant.some c.in-Err.ensures.err
+
 pub returns-clause-ok : goal.returns-clause-ok
-returns-clause-ok g c = λ schema p at. subst (Fed _ _ _ _ schema p) (take_all c.loop-byte.byte-index c.args.bytes.now c.loop-byte-test.false) (c.loop-byte.invariant.fed schema p at)
+returns-clause-ok g c = all_flushed (g.W.Write.contents c.args.writer.now) (g.W.Write.contents c.loop-rest.writer) (g.W.Write.contents c.flush.new.writer) c.flush.result
+    c.args.script.now c.loop-rest.script c.args.bytes.now c.loop-rest.rest.now c.loop-rest.invariant.some (sym c.is_empty.ensures ∙ c.loop-rest-test.false) c.flush.ensures
+
+pub returns-clause-err : goal.returns-clause-err
+returns-clause-err g c = all_stuck (g.W.Write.contents c.args.writer.now) (g.W.Write.contents c.loop-rest.writer) (g.W.Write.contents c.flush.new.writer) c.flush.result
+    c.args.script.now c.loop-rest.script c.args.bytes.now c.loop-rest.rest.now c.loop-rest.invariant.some (sym c.is_empty.ensures ∙ c.loop-rest-test.false) c.flush.ensures

@@ -1,11 +1,13 @@
-use Rattle.std.proofs.Common.{take}
-use Rattle.values.specs.Tables.{Schema}
-use Rattle.scripts.specs.Transcript.{Progress}
-use Rattle.scripts.specs.Script.{IsAt, HasRoom, Fed}
+use Rattle.std.proofs.Common.{length}
+use Rattle.scripts.specs.Script.{HasRoom}
+use Rattle.scripts.proofs.Running.{TakesSome}
 use Rattle.scripts.proofs.script.feed.Given as goal
 
-abbrev pub invariant-loop-byte : goal.invariant-loop-byte
-invariant-loop-byte g l = record {
-  fed : (schema : Schema) (p : Progress) → IsAt l.fn.script schema p → Fed (g.W.Write.contents l.fn.writer) (g.W.Write.contents l.writer) l.fn.script l.script schema p (take l.byte-index l.bytes);
+abbrev pub invariant-loop-rest : goal.invariant-loop-rest
+invariant-loop-rest g l = record {
+  some : TakesSome (g.W.Write.contents l.fn.writer) (g.W.Write.contents l.writer) l.fn.script l.script l.bytes l.rest;
   room : HasRoom l.script;
 }
+
+abbrev pub decreases-loop-rest : goal.decreases-loop-rest
+decreases-loop-rest g l = length l.rest
