@@ -57,13 +57,13 @@ module _ (m : List Event) (range : KeyRange) (a z : ℕ) where
   pub some_later : (later : List Event) → later ≡ events_in m range (a + 1) z → AreLater later
   some_later later is = record {
     sound = λ e i. (
-      let k = In-from_filter passes m e (subst (In e) is i) in
-      let parts = and_parts (is_key_in range e.key) _ k.1 in
-      let time = and_parts (nat_le (a + 1) e.at) _ parts.1 in
-      (k.0, and_from (nat_lt a e.at) _ (below a e.at time.0) time.1, parts.0));
+        let k = In-from_filter passes m e (subst (In e) is i) in
+        let parts = and_parts (is_key_in range e.key) _ k.1 in
+        let time = and_parts (nat_le (a + 1) e.at) _ parts.1 in
+        (k.0, and_from (nat_lt a e.at) _ (below a e.at time.0) time.1, parts.0));
     whole = λ e i time key. (
-      let parts = and_parts (nat_lt a e.at) _ time in
-      subst (In e) (sym is) (In-filter passes m e i (and_from (is_key_in range e.key) _ key (and_from (nat_le (a + 1) e.at) _ (from_below a e.at parts.0) parts.1))));
+        let parts = and_parts (nat_lt a e.at) _ time in
+        subst (In e) (sym is) (In-filter passes m e i (and_from (is_key_in range e.key) _ key (and_from (nat_le (a + 1) e.at) _ (from_below a e.at parts.0) parts.1))));
   }
     where
       passes : Event → Bool

@@ -140,10 +140,12 @@ module _ (a z : ℕ) (le : a ≤ z) where
   -- of the key of an event that is after the last instant no later one is in time
   none_in_time : (c d : Event) (ds : List Event) → is_bytes c.key d.key ≡ true → z < d.at → AllByRecursion (λ x. event_cmp d x ≡ Less) ds → AllByRecursion (λ x. x.at ≤ z → is_bytes c.key x.key ≡ false) ds
   none_in_time c d [] same past h = tt
-  none_in_time c d (x ∷ xs) same past h =
-      (λ early. never (is_bytes c.key x.key) (λ is. (
-      let one : d.key ≡ x.key = sym (same_bytes c.key d.key same) ∙ same_bytes c.key x.key is in
-      let before : d.at < x.at = (is_lower d x h.0).same one in omega arith)), none_in_time c d xs same past h.1)
+  none_in_time c d (x ∷ xs) same past h = (
+    λ early. never (is_bytes c.key x.key) (λ is. (
+        let one : d.key ≡ x.key = sym (same_bytes c.key d.key same) ∙ same_bytes c.key x.key is in
+        let before : d.at < x.at = (is_lower d x h.0).same one in omega arith)),
+    none_in_time c d xs same past h.1,
+  )
 
   both : (c : Event) (ds : List Event) → AllByRecursion (λ x. x.at ≤ z → is_bytes c.key x.key ≡ false) ds → AllByRecursion (λ x. x.at ≤ z) ds → AllByRecursion (λ x. is_bytes c.key x.key ≡ false) ds
   both c [] h k = tt

@@ -71,12 +71,7 @@ fn rename(alloc: Global, table: &Table, tree: &mut Tree) -> Result<(), Fail>
         value: text(alloc, "Bea")?,
     };
     let one = by(alloc, Operator::Equal, 1)?;
-    staged.update(
-        tree.current(),
-        table,
-        &one,
-        vec![in alloc; set]?.as_slice(),
-    )?;
+    staged.update(tree.current(), table, &one, vec![in alloc; set]?.as_slice())?;
     let net = staged.net(tree.current())?;
     commit(alloc, tree, 200, net)?;
     Ok(())
@@ -176,9 +171,6 @@ fn rows_at_an_instant_are_those_that_stand(rt: HostRuntime) -> Result<(), Fail> 
         let rows = rows_at(alloc, tree.current(), table, at, &keys)?;
         assert_eq!(rt; rows.len(), count, "at {at}");
     }
-    assert_eq!(rt;
-        current_rows(alloc, tree.current(), table, &keys)?.len(),
-        2
-    );
+    assert_eq!(rt; current_rows(alloc, tree.current(), table, &keys)?.len(), 2);
     Ok(())
 }

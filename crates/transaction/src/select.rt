@@ -8,10 +8,10 @@ ghost use Rattle.transaction.specs.Listing.{as_listing, listing_in};
 
 use crate::open_transaction::OpenTransaction;
 use histories::Listing;
-use tsbtree::View;
 use std::alloc::Global;
 use std::collections::BTreeMap;
 use systime_query::{answer, current_rows, rows_at};
+use tsbtree::View;
 use values::{Form, Key, Keys, Mem, Row, Rows, ShownRows, Table};
 
 impl OpenTransaction {
