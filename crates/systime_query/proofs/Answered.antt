@@ -1,5 +1,5 @@
 -- What is shown of the events in a window is what the query selects.
-use Rattle.std.proofs.Common.{◌≡◌, ℕ, ◌≤◌, ◌<◌, Bool, true, false, cond, ◌&&◌, List, [], ◌∷◌, Option, Some, None, refl, sym, ap, subst, ◌∙◌, arith, nat_le, nat_lt, filter, Result, Ok, Err, IfOk, All}
+use Rattle.std.proofs.Common.{◌≡◌, ℕ, ◌≤◌, ◌<◌, Bool, true, false, cond, ◌&&◌, List, [], ◌∷◌, Option, refl, sym, ap, ◌∙◌, arith, nat_le, nat_lt, filter, All}
 use Rattle.std.proofs.lemmas.Bool.Decides.{nat_tests}
 use Rattle.std.proofs.lemmas.List.Elements.{recursion_from_All}
 use Rattle.std.proofs.lemmas.List.Kept.{IsStrictlySortedBy-filter}
@@ -20,7 +20,7 @@ use Rattle.keyrange.specs.Range.{is_key_in}
 use Rattle.searchrange.specs.SearchRange.{Covers}
 use Rattle.treewalk.specs.NextChange.{event_after}
 use Rattle.tsbtree.specs.View.{TreeState, events}
-use Rattle.systime_query.specs.Selection.{WhenShown, next_of, is_taken, shown_of, selected_by}
+use Rattle.systime_query.specs.Selection.{WhenShown, next_of, is_taken, shown_of}
 use Rattle.systime_query.specs.Window.{IsWindow, is_in_window, shown_in}
 use Rattle.systime_query.proofs.ShownEvents.{not_taken, none_selected, next_kept, now_shown}
 use Rattle.systime_query.proofs.Versioned.{none_out, view_selected}

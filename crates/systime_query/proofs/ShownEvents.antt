@@ -16,7 +16,7 @@ use Rattle.values.specs.Log.{Row}
 use Rattle.values.specs.KeyReading.{key_from}
 use Rattle.values.specs.Versions.{selects, matches}
 use Rattle.values.specs.Events.{bytes_cmp, is_bytes, event_cmp}
-use Rattle.eventlist.proofs.PlaceOrder.{bytes_total, is_own, same_bytes, is_lower, sorted_head, sorted_tail}
+use Rattle.eventlist.proofs.PlaceOrder.{bytes_total, same_bytes, is_lower, sorted_head}
 use Rattle.staging.proofs.Narrowed.{IsOut}
 use Rattle.systime_query.specs.Selection.{next_of, is_taken, shown_of, selected_by}
 

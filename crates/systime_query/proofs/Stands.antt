@@ -1,5 +1,5 @@
 -- The events that stand at an instant show the rows that a query as of it does.
-use Rattle.std.proofs.Common.{◌≡◌, ℕ, ◌<◌, ◌≤◌, Bool, true, false, cond, ◌&&◌, ◌||◌, not, List, [], ◌∷◌, Option, Some, None, refl, sym, ap, subst, ◌∙◌, arith, map, filter, filter_map, nat_le, nat_lt, is_some, if◌then◌else◌, All}
+use Rattle.std.proofs.Common.{◌≡◌, ℕ, ◌<◌, ◌≤◌, Bool, true, false, cond, ◌&&◌, ◌||◌, not, List, [], ◌∷◌, Option, Some, None, refl, sym, ap, ◌∙◌, arith, map, filter, filter_map, nat_le, nat_lt, is_some, All}
 use Rattle.std.proofs.lemmas.Bool.Decides.{nat_tests}
 use Rattle.std.proofs.lemmas.List.Elements.{recursion_from_All}
 use Rattle.std.specs.List.{AllByRecursion, slice_get, cons_option, list_any}
@@ -21,7 +21,7 @@ use Rattle.eventlist.specs.Overtaking.{overtakes}
 use Rattle.eventlist.specs.Listing.{stands_at, standing}
 use Rattle.eventlist.specs.Overtaking.{is_overtaken}
 use Rattle.eventlist.proofs.PlaceOrder.{sorted_head, sorted_tail, same_bytes, is_lower}
-use Rattle.eventlist.proofs.OvertakingNext.{not_earlier, stands_before, stands_is}
+use Rattle.eventlist.proofs.OvertakingNext.{not_earlier, stands_is}
 use Rattle.tsbtree.specs.View.{TreeState, events}
 use Rattle.searchrange.specs.SearchRange.{Covers}
 use Rattle.systime_query.specs.Selection.{WhenShown, next_of, is_taken, shown_of, selected_by}

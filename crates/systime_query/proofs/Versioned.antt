@@ -1,9 +1,8 @@
 -- What events in order show is what the versions of the changes show.
-use Rattle.std.proofs.Common.{◌≡◌, ℕ, ◌<◌, List, [], ◌∷◌, Option, Some, None, Bool, true, false, T, refl, sym, ap, ◌∙◌, subst, cond, map, filter, nat_lt, nat_le, ◌&&◌, ◌==◌, All, arith, ◌≤◌, Result, Ok, Err, IfOk}
+use Rattle.std.proofs.Common.{◌≡◌, ℕ, ◌<◌, List, [], ◌∷◌, Option, Some, None, Bool, true, false, T, refl, sym, ap, ◌∙◌, subst, cond, map, filter, nat_lt, ◌&&◌, ◌==◌, arith}
 use Rattle.std.proofs.lemmas.Bool.Decides.{nat_tests}
-use Rattle.std.proofs.lemmas.List.Elements.{All-head, All-tail, All-filter, recursion_from_All}
+use Rattle.std.proofs.lemmas.List.Elements.{All-head, All-tail}
 use Rattle.std.specs.List.{AllByRecursion, filter_map, cons_option, flat_map, list_all}
-use Rattle.std.specs.List.Sorted.{IsStrictlySortedBy}
 use Rattle.std.specs.Map.{keys_of}
 use Rattle.std.specs.FinMap.{is_sorted}
 use Rattle.std.specs.FinMap.Entries.{below_all}
@@ -15,7 +14,6 @@ use Rattle.values.specs.declared.key.Key.{Key}
 use Rattle.values.specs.declared.key.Point.{Point}
 use Rattle.values.specs.declared.table.Table.{Table}
 use Rattle.values.specs.declared.query.Form.{Form}
-use Rattle.values.specs.declared.query.Form.TheVariants.{Plain, AsOf}
 use Rattle.values.specs.declared.query.Keys.{Keys}
 use Rattle.values.specs.declared.query.Shown.{Shown}
 use Rattle.values.specs.Tables.{Schema, table_at}
@@ -24,22 +22,19 @@ use Rattle.values.specs.Log.{Changes, Row, point_cmp}
 use Rattle.values.specs.Versions.{Version, next_change, version_of, versions, selects, holds, matches, shown_version, answer}
 use Rattle.values.specs.KeyEncoding.{bytes_of_key, part_bytes}
 use Rattle.values.specs.KeyReading.{whole_key, parts_from}
-use Rattle.values.specs.Events.{event_cmp, events_of, event_of, IsKeyOfAny, IsKeyIn, AreChangesIn}
+use Rattle.values.specs.Events.{events_of, event_of, IsKeyOfAny, IsKeyIn, AreChangesIn}
 use Rattle.values.proofs.Orders.{key_cmp_total, first, second, below}
 use Rattle.values.proofs.Sorted.{sorted_from}
 use Rattle.values.proofs.KeyReads.{key_back}
 use Rattle.values.proofs.EventKeys.{same_key}
-use Rattle.values.specs.declared.refusal.Refusal.{Refusal}
 use Rattle.keyrange.specs.declared.range.KeyRange.{KeyRange}
 use Rattle.keyrange.specs.Range.{is_key_in}
-use Rattle.eventlist.specs.Listing.{events_in}
-use Rattle.staging.proofs.KeyTable.{is_of_table}
 use Rattle.tsbtree.specs.View.{TreeState, events}
 use Rattle.staging.specs.View.{Holds}
 use Rattle.searchrange.specs.SearchRange.{Covers}
 use Rattle.staging.proofs.Narrowed.{IsOut, out_of_range}
 use Rattle.systime_query.proofs.ShownEvents.{out_taken}
-use Rattle.systime_query.specs.Selection.{WhenShown, next_of, is_taken, shown_of, selected_by}
+use Rattle.systime_query.specs.Selection.{next_of, is_taken, shown_of, selected_by}
 
 -- ---- the next change of a key stands right behind it
 

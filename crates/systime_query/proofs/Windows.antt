@@ -1,5 +1,5 @@
 -- The versions that a form selects are those of the events in its window.
-use Rattle.std.proofs.Common.{◌≡◌, ℕ, ◌-◌, ◌<◌, ◌≤◌, Bool, true, false, cond, ◌&&◌, ◌||◌, not, List, [], ◌∷◌, Option, Some, None, refl, sym, ap, subst, ◌∙◌, arith, filter, nat_le, nat_lt, is_some, if◌then◌else◌}
+use Rattle.std.proofs.Common.{◌≡◌, ℕ, ◌-◌, ◌<◌, ◌≤◌, Bool, true, false, cond, ◌&&◌, ◌||◌, not, List, [], ◌∷◌, Option, Some, None, refl, sym, ap, subst, ◌∙◌, arith, filter, nat_le, nat_lt, is_some}
 use Rattle.std.proofs.lemmas.Bool.{and_parts}
 use Rattle.std.proofs.lemmas.Bool.Decides.{nat_tests}
 use Rattle.std.specs.List.{AllByRecursion, slice_get, cons_option, list_any}
@@ -8,13 +8,13 @@ use Rattle.std.specs.declared.cmp.Ordering.TheVariants.{Less}
 use Rattle.values.specs.Event.{Event}
 use Rattle.values.specs.declared.table.Table.{Table}
 use Rattle.values.specs.declared.query.Form.{Form}
-use Rattle.values.specs.declared.query.Form.TheVariants.{Plain, AsOf, FromTo, Between}
+use Rattle.values.specs.declared.query.Form.TheVariants.{AsOf, FromTo, Between}
 use Rattle.values.specs.declared.query.Keys.{Keys}
 use Rattle.values.specs.declared.query.Shown.{Shown}
 use Rattle.values.specs.Log.{Row}
 use Rattle.values.specs.Versions.{selects, ends_after}
 use Rattle.values.specs.Events.{is_bytes, event_cmp, bytes_cmp, later}
-use Rattle.eventlist.specs.Overtaking.{overtakes, is_overtaken}
+use Rattle.eventlist.specs.Overtaking.{overtakes}
 use Rattle.eventlist.specs.Listing.{stands_at}
 use Rattle.eventlist.proofs.PlaceOrder.{bytes_total, is_own, same_bytes, is_lower, sorted_head, sorted_tail}
 use Rattle.eventlist.proofs.OvertakingNext.{never, not_earlier, stands_before, stands_is, is_overtakes}

@@ -1,4 +1,4 @@
-use Rattle.std.proofs.Common.{◌≡◌, Bool, false, ℕ, Option, sym, subst}
+use Rattle.std.proofs.Common.{◌≡◌, false, ℕ, Option, sym, subst}
 use Rattle.values.specs.declared.query.Form.{Form}
 use Rattle.values.specs.Versions.{selects}
 use Rattle.systime_query.proofs.Answered.{nothing_is, empty_from, empty_between}

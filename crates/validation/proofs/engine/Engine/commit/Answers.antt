@@ -1,8 +1,7 @@
 use Rattle.std.proofs.Common.{◌≡◌, ◌≢◌, subst, Ok, Err}
 use Rattle.values.specs.declared.refusal.Refusal.TheVariants.{Memory}
 use Rattle.values.specs.Commits.{outcome_by}
-use Rattle.tsbtree.specs.View.{TreeState, events, last}
-use Rattle.staging.specs.View.{Adds}
+use Rattle.tsbtree.specs.View.{events, last}
 use Rattle.validation.specs.Outcome.{changed_in}
 use Rattle.validation.proofs.Adding.{added_holds}
 use Rattle.validation.proofs.Conflicts.{said_of_changes}
