@@ -1,5 +1,5 @@
 -- A split leaves what was committed, so it leaves the system one, and what contracts see of it.
-use Rattle.std.proofs.Common.{◌≡◌, ℕ, ◌≤◌, List, Option, Some, None, sym, subst, All, map}
+use Rattle.std.proofs.Common.{◌≡◌, ◌≤◌, List, Option, Some, None, sym, subst, All, map}
 use Rattle.std.proofs.lemmas.List.Elements.{All-weaker}
 use Rattle.std.specs.Map.{keys_of}
 use Rattle.std.specs.Option.{option_map}

@@ -17,7 +17,7 @@ use Rattle.values.specs.Tables.{Schema}
 use Rattle.values.specs.Log.{Changes, Net, Row, point_cmp, row_at, add_net, rows_after}
 use Rattle.values.specs.Laws.{changes_upto}
 use Rattle.values.specs.Commits.{outcome}
-use Rattle.values.specs.Events.{events_of, later, AreKeysIn, put_net}
+use Rattle.values.specs.Events.{later, AreKeysIn, put_net}
 use Rattle.values.proofs.Orders.{point_cmp_total}
 use Rattle.values.proofs.Maps.{insert_entry-put, sorted_insert}
 use Rattle.values.proofs.Latest.{Upto, latest, point}

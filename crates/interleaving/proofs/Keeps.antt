@@ -21,7 +21,6 @@ use Rattle.values.specs.KeyReading.{key_from}
 use Rattle.values.specs.Events.{events_of, event_of, IsKeyOfAny, IsKeyIn, AreChangesIn}
 use Rattle.values.proofs.KeyReads.{key_back}
 use Rattle.tsbtree.specs.View.{TreeState, events, last, IsEmpty}
-use Rattle.staging.specs.View.{Holds}
 use Rattle.eventlist.proofs.PlaceOrder.{sorted_none}
 use Rattle.values.specs.Log.{point_cmp}
 use Rattle.histories.specs.declared.step.Reply.TheVariants.{Begun as Begins, RolledBack, Refused}

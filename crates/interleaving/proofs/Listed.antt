@@ -1,23 +1,21 @@
 -- What a query shows is what the turn lists.
-use Rattle.std.proofs.Common.{◌≡◌, ℕ, ◌≤◌, List, Option, Some, None, Bool, true, false, refl, sym, ap, ◌∙◌, subst, get_or, Result, Ok, Err, IfOk, map, filter}
+use Rattle.std.proofs.Common.{◌≡◌, ℕ, ◌≤◌, List, Option, Some, None, refl, sym, ap, ◌∙◌, subst, get_or}
 use Rattle.std.specs.Option.{option_map}
 use Rattle.values.specs.declared.table.Table.{Table}
 use Rattle.values.specs.declared.query.Form.{Form}
 use Rattle.values.specs.declared.query.Form.TheVariants.{Plain, AsOf, FromTo, Between}
 use Rattle.values.specs.declared.query.Keys.{Keys}
-use Rattle.values.specs.declared.refusal.Refusal.{Refusal}
 use Rattle.values.specs.declared.refusal.Refusal.TheVariants.{NoTable}
 use Rattle.values.specs.Tables.{Schema, IsTable, table_at}
-use Rattle.values.specs.Log.{Changes, State, Net, Row}
+use Rattle.values.specs.Log.{Changes}
 use Rattle.values.specs.Laws.{changes_upto}
-use Rattle.values.specs.Versions.{answer, matches}
+use Rattle.values.specs.Versions.{answer}
 use Rattle.tsbtree.specs.View.{TreeState, events, last}
 use Rattle.staging.specs.View.{Holds}
 use Rattle.staging.specs.Own.{WhenRead}
 use Rattle.histories.specs.declared.step.Reply.{Reply}
 use Rattle.histories.specs.declared.step.Reply.TheVariants.{Refused, Shown}
 use Rattle.histories.specs.declared.step.Listing.{Listing}
-use Rattle.histories.specs.declared.step.Listing.TheVariants.{Rows}
 use Rattle.histories.specs.World.{OpenTransaction, World}
 use Rattle.histories.specs.Turn.{listing, select_reply}
 use Rattle.interleaving.specs.SystemState.{changes_in, open_of, world_of, IsOpenIn, IsSystem}
