@@ -8,8 +8,6 @@ mod schema;
 mod schema_grammar;
 mod schema_reading;
 mod schema_table;
-#[cfg(test)]
-mod schema_tests;
 mod schema_token;
 
 pub use good_tables::good_tables_are_made;

@@ -5,8 +5,6 @@ mod delete;
 mod insert;
 mod net;
 mod staged;
-#[cfg(test)]
-mod tests;
 mod update;
 
 pub use net::Net;

@@ -4,8 +4,6 @@
 mod condition;
 mod grammar_laws;
 mod line;
-#[cfg(test)]
-mod line_tests;
 mod list;
 mod literal;
 mod meaning;

@@ -3,24 +3,18 @@
 
 mod chars;
 mod event;
-#[cfg(test)]
-mod event_tests;
 mod fit;
 mod form;
 mod key;
 mod key_encoding;
 mod key_laws;
 mod key_reading;
-#[cfg(test)]
-mod key_tests;
 mod laws;
 mod query;
 mod refusal;
 mod row;
 mod row_encoding;
 mod row_laws;
-#[cfg(test)]
-mod row_tests;
 mod sample;
 mod search_condition;
 mod sequence;

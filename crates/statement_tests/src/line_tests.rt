@@ -1,6 +1,6 @@
-use crate::line::{Line, read_line};
 use histories::Step;
 use rows::Schema;
+use statement::{Line, read_line};
 use std::alloc::{AllocError, Global};
 use std::process::Abort;
 use std::test::Fail;

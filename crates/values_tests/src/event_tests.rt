@@ -1,13 +1,9 @@
 //! Events, whose keys and rows are copied or shared.
 
-use crate::event::{Event, SharedEvent};
-use crate::key::Instant;
-use crate::key_encoding::KeyBytes;
-use crate::row::Row;
-use crate::value::Value;
 use std::alloc::{AllocError, Global};
 use std::process::Abort;
 use std::test::Fail;
+use values::{Event, Instant, KeyBytes, Row, SharedEvent, Value};
 
 /// One value, from an instant on.
 fn event_at(rt: &impl Abort, alloc: Global, key: &[u8], at: Instant) -> Result<Event, AllocError> {

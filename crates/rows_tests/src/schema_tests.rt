@@ -1,5 +1,4 @@
-use crate::schema::Schema;
-use crate::schema_reading::{SAMPLE, SchemaFault};
+use rows::{SAMPLE, Schema, SchemaFault};
 use std::alloc::{AllocError, Global};
 use std::test::Fail;
 

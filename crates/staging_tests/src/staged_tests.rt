@@ -2,8 +2,8 @@
 ghost use Rattle.std.specs.Prelude.{◌≤◌};
 ghost use Rattle.values.specs.Tables.{IsTable};
 
-use crate::{Net, Staged};
 use searchrange::range_of_table;
+use staging::{Net, Staged};
 use std::alloc::{AllocError, Global};
 use std::test::Fail;
 use tsbtree::{Tree, View};

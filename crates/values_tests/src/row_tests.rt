@@ -1,10 +1,6 @@
-use crate::chars::Chars;
-use crate::refusal::Mem;
-use crate::row::Row;
-use crate::row_encoding::{read_row, row_bytes};
-use crate::value::Value;
 use std::alloc::{AllocError, Global};
 use std::test::Fail;
+use values::{Chars, Mem, Row, Value, read_row, row_bytes};
 
 fn text(alloc: Global, text: &str) -> Result<Value, AllocError> {
     Ok(Value::Text(Chars::new(String::from_str(alloc, text)?)))

@@ -1,17 +1,12 @@
 ghost use Rattle.std.specs.Prelude.{IfOk, ◌≤◌, length};
 ghost use Rattle.values.specs.KeyEncoding.{IsShortKey};
 
-use crate::chars::Chars;
-use crate::key::Key;
-use crate::key_encoding::{KeyBytes, key_bytes};
-use crate::key_reading::read_key;
-use crate::query::{Comparison, Keys, Operator};
-use crate::refusal::Mem;
-use crate::sequence::Sequence;
-use crate::table::{Column, ColumnType, Table};
-use crate::value::{Value, Values};
 use std::alloc::{AllocError, Global};
 use std::test::Fail;
+use values::{
+    Chars, Column, ColumnType, Comparison, Key, KeyBytes, Keys, Mem, Operator, Sequence, Table,
+    Value, Values, key_bytes, read_key,
+};
 
 fn number_key(alloc: Global, number: i64) -> Result<Key, AllocError>
     ensures { IfOk result IsShortKey }

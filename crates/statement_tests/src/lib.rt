@@ -1,0 +1,5 @@
+//! Tests of `statement` by its public calls: lines.
+#![tactic(auto)]
+
+#[cfg(test)]
+mod line_tests;
