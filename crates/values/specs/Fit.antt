@@ -22,9 +22,13 @@ continues b = nat_le 128 b && nat_lt b 192
 abbrev pub character_count : List ℕ → ℕ
 character_count text = count_by (λ b. not (continues b)) text
 
--- the bytes that a text may have: 200 in a key, else 1,000
+-- the bytes that a text has at most
+abbrev pub longest_text : ℕ
+longest_text = 1000
+
+-- the bytes that a text may have, in a key and elsewhere
 abbrev pub text_limit : Bool → ℕ
-text_limit in_key = if in_key then 200 else 1000
+text_limit in_key = if in_key then 200 else longest_text
 
 -- a text on one line, of at most so many bytes
 abbrev pub fits_text : ℕ → List ℕ → Bool

@@ -5,7 +5,7 @@ use Rattle.std.specs.Int.RustNames.{FitsSigned}
 use Rattle.std.specs.List.{flat_map, list_all}
 use Rattle.values.specs.declared.value.Value.{Value}
 use Rattle.values.specs.declared.value.Value.TheVariants.{Int, Text, Bool as Truth, Null}
-use Rattle.values.specs.Fit.{fits_text}
+use Rattle.values.specs.Fit.{longest_text, fits_text}
 use Rattle.values.specs.Log.{Row}
 
 abbrev pub value_bytes : Value → List ℕ
@@ -17,9 +17,9 @@ value_bytes (Truth t) = (if t then 4 else 3) ∷ []
 abbrev pub bytes_of_row : Row → List ℕ
 bytes_of_row row = length row ∷ flat_map value_bytes row
 
--- a value that is no text of over 1,000 bytes or of two lines
+-- a value that is no text that is too long or has two lines
 abbrev pub is_stored : Value → Bool
-is_stored (Text t) = fits_text 1000 t
+is_stored (Text t) = fits_text longest_text t
 is_stored _ = true
 
 abbrev pub IsStored : Value → Type 0

@@ -5,7 +5,7 @@ use Rattle.std.specs.Int.{w16, w64, from_be_bytes, cast_signed}
 use Rattle.std.specs.Str.{is_utf8}
 use Rattle.values.specs.declared.value.Value.{Value}
 use Rattle.values.specs.declared.value.Value.TheVariants.{Int, Text, Bool as Truth, Null}
-use Rattle.values.specs.Fit.{fits_text}
+use Rattle.values.specs.Fit.{longest_text, fits_text}
 use Rattle.values.specs.Log.{Row}
 
 abbrev pub Taken : Type 0 → Type 0
@@ -23,7 +23,7 @@ int_from bytes =
     else None
 
 abbrev pub is_stored_text : List ℕ → Bool
-is_stored_text text = fits_text 1000 text && is_utf8 text
+is_stored_text text = fits_text longest_text text && is_utf8 text
 
 unfoldable pub text_of : ℕ → List ℕ → Taken Value
 text_of n bytes =

@@ -6,15 +6,12 @@ ghost use Rattle.values.specs.Faults.{no_fault};
 
 use crate::query::{ColumnNumber, Comparison, Set};
 use crate::refusal::Refusal;
-use crate::row::Row;
+use crate::row::{Row, TEXT};
 use crate::table::{Column, ColumnType, Table};
 use crate::value::Value;
 
 /// The bytes that a text of a key may have.
 const KEY_TEXT: usize = 200;
-
-/// The bytes that any other text may have.
-const TEXT: usize = 1000;
 
 fn has_line_break(text: &[u8]) -> bool
     ensures { result ≡ list_any is_line_break text.now }

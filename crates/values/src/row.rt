@@ -1,7 +1,7 @@
 //! Rows that can be stored.
 ghost use Rattle.std.specs.Prelude.{◌≡◌, IfOk, IfSome, IsSome};
 ghost use Rattle.std.specs.List.{list_any, list_all};
-ghost use Rattle.values.specs.Fit.{is_line_break, fits_text};
+ghost use Rattle.values.specs.Fit.{is_line_break, longest_text, fits_text};
 ghost use Rattle.values.specs.Memory.{OnlyMemory};
 ghost use Rattle.values.specs.RowEncoding.{IsStoredRow, is_stored, is_stored_row, is_width};
 
@@ -14,7 +14,7 @@ use std::marker::Model;
 pub(crate) const WIDTH: usize = 16;
 
 /// The bytes that a text may have.
-const TEXT: usize = 1000;
+pub(crate) const TEXT: usize = 1000;
 
 /// A row of a table: 1 to 16 values, in the table's order, with texts of one line and at most 1,000 bytes. Contracts see it as a list.
 #[derive(Debug, Drop)]
@@ -106,7 +106,7 @@ fn is_stored(value: &Value) -> bool
 
 /// Whether bytes are on one line, and at most 1,000.
 pub(crate) fn fits_text(bytes: &[u8]) -> bool
-    ensures { result ≡ fits_text 1000 bytes.now }
+    ensures { result ≡ fits_text longest_text bytes.now }
 {
     bytes.len() <= TEXT && !has_line_break(bytes)
 }

@@ -2,7 +2,7 @@ ghost use Rattle.std.specs.Prelude.{◌≡◌, ◌≤◌, ◌++◌, ◌∷◌, t
 ghost use Rattle.std.specs.Int.{w16, to_be_bytes};
 ghost use Rattle.std.specs.List.{list_any};
 ghost use Rattle.values.specs.Memory.{OnlyMemory};
-ghost use Rattle.values.specs.Fit.{is_line_break, fits_text};
+ghost use Rattle.values.specs.Fit.{is_line_break, longest_text, fits_text};
 ghost use Rattle.values.specs.RowEncoding.{value_bytes, bytes_of_row, IsStored, IsStoredRow, StandsIn, NoRowAt};
 ghost use Rattle.values.specs.RowReading.{Takes, int_from, is_stored_text, text_of, text_from, tagged_from, value_from, values_from, row_from};
 
@@ -45,7 +45,7 @@ fn push_tagged(bytes: &mut Vec<u8>, tag: u8, tail: &[u8]) -> Result<(), AllocErr
 }
 
 fn push_text(bytes: &mut Vec<u8>, text: &[u8]) -> Result<(), AllocError>
-    requires { length text.now ≤ 1000 }
+    requires { length text.now ≤ longest_text }
     ensures { OnOk result (bytes.new.items
         ≡ bytes.old.items ++ (2 ∷ (to_be_bytes w16 (length text.now) ++ text.now))) }
 {
