@@ -11,65 +11,37 @@ use values::same_name;
 /// The bytes that a name may have.
 const NAME: usize = 64;
 
-/// The words of the grammars of schemas and of lines.
-const RESERVED: [&str; 56] = [
-    "CREATE",
-    "TABLE",
-    "WITH",
-    "SYSTEM",
-    "VERSIONING",
-    "NOT",
-    "NULL",
-    "PRIMARY",
-    "KEY",
-    "TIMESTAMP",
-    "GENERATED",
-    "ALWAYS",
-    "AS",
-    "ROW",
-    "START",
-    "END",
-    "PERIOD",
-    "FOR",
-    "SYSTEM_TIME",
-    "INT",
-    "INTEGER",
-    "BIGINT",
-    "TEXT",
-    "VARCHAR",
-    "BOOLEAN",
-    "CLOCK",
-    "SPLIT",
-    "TIME",
-    "AT",
-    "MIGRATE",
-    "BEGIN",
-    "TRANSACTION",
-    "COMMIT",
-    "WORK",
-    "ROLLBACK",
-    "INSERT",
-    "INTO",
-    "VALUES",
-    "UPDATE",
-    "SET",
-    "DELETE",
-    "FROM",
-    "SELECT",
-    "OF",
-    "TO",
-    "BETWEEN",
-    "AND",
-    "WHERE",
-    "TRUE",
-    "FALSE",
-    "ALTER",
-    "ADD",
-    "COLUMN",
-    "WITHOUT",
-    "OVERLAPS",
-    "PORTION",
+// The words of the grammars of schemas and of lines, by their length.
+const OF_TWO: [&str; 4] = ["AS", "AT", "OF", "TO"];
+
+const OF_THREE: [&str; 9] = [
+    "NOT", "KEY", "ROW", "END", "FOR", "INT", "SET", "AND", "ADD",
 ];
+
+const OF_FOUR: [&str; 8] = [
+    "WITH", "NULL", "TEXT", "TIME", "WORK", "INTO", "FROM", "TRUE",
+];
+
+const OF_FIVE: [&str; 8] = [
+    "TABLE", "START", "CLOCK", "SPLIT", "BEGIN", "WHERE", "FALSE", "ALTER",
+];
+
+const OF_SIX: [&str; 12] = [
+    "CREATE", "SYSTEM", "ALWAYS", "PERIOD", "BIGINT", "COMMIT", "INSERT", "VALUES", "UPDATE",
+    "DELETE", "SELECT", "COLUMN",
+];
+
+const OF_SEVEN: [&str; 8] = [
+    "PRIMARY", "INTEGER", "VARCHAR", "BOOLEAN", "MIGRATE", "BETWEEN", "WITHOUT", "PORTION",
+];
+
+const OF_EIGHT: [&str; 2] = ["ROLLBACK", "OVERLAPS"];
+
+const OF_NINE: [&str; 2] = ["TIMESTAMP", "GENERATED"];
+
+const OF_TEN: [&str; 1] = ["VERSIONING"];
+
+const OF_ELEVEN: [&str; 2] = ["SYSTEM_TIME", "TRANSACTION"];
 
 fn is_one_of(words: &[&str], name: &[u8]) -> bool
     ensures { result ≡ list_any (λ word. same_name word.now name.now) words.now }
@@ -77,12 +49,24 @@ fn is_one_of(words: &[&str], name: &[u8]) -> bool
     words.iter().any(|word| same_name(word.as_bytes(), name))
 }
 
-/// Whether a name is, in any case, one of the words of the grammars of schemas and of lines.
+/// Whether a name is, in any case, one of the words of the grammars of schemas and of lines. A word of another length is none.
 #[tactic(auto, unfolding(crate::specs::Name::is_reserved, crate::specs::Name::reserved_words))]
 pub fn is_reserved(name: &[u8]) -> bool
     ensures { result ≡ is_reserved name.now }
 {
-    is_one_of(&RESERVED, name)
+    match name.len() {
+        2 => is_one_of(&OF_TWO, name),
+        3 => is_one_of(&OF_THREE, name),
+        4 => is_one_of(&OF_FOUR, name),
+        5 => is_one_of(&OF_FIVE, name),
+        6 => is_one_of(&OF_SIX, name),
+        7 => is_one_of(&OF_SEVEN, name),
+        8 => is_one_of(&OF_EIGHT, name),
+        9 => is_one_of(&OF_NINE, name),
+        10 => is_one_of(&OF_TEN, name),
+        11 => is_one_of(&OF_ELEVEN, name),
+        _ => false,
+    }
 }
 
 /// Whether letters, digits and underscores are a name: the first is no digit, there are 1 to 64, and they are no reserved word.

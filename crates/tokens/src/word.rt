@@ -1,4 +1,5 @@
-ghost use Rattle.std.specs.Prelude.{◌≡◌, ◌≤◌, length, IsUtf8};
+ghost use Rattle.std.specs.Prelude.{◌≡◌, ◌≤◌, length, false, IsUtf8};
+ghost use Rattle.values.specs.Names.{same_name};
 ghost use Rattle.tokens.specs.Token.{Leaves, front_while, skip_while};
 ghost use Rattle.tokens.specs.Word.{is_name_byte, word_length, is_word_at, after_word, word_at};
 
@@ -33,12 +34,27 @@ pub(crate) fn split_word(bytes: &[u8]) -> (&[u8], &[u8])
     bytes.split_at(word_length(bytes))
 }
 
+/// Whether the first letters do not tell a word and the bytes apart. Most words are told apart here,
+/// before the bytes of the word at the front are counted.
+fn begins_alike(word: &[u8], bytes: &[u8]) -> bool
+    ensures { result ≡ false → same_name word.now (front_while is_name_byte bytes.now) ≡ false }
+{
+    match (word, bytes) {
+        ([letter, ..], [byte, ..]) => letter.eq_ignore_ascii_case(byte),
+        _ => true,
+    }
+}
+
 /// Whether a word comes next, in any case.
 #[tactic(auto, unfolding(crate::specs::Word::is_word_at))]
 pub fn is_word_at<S: Separators>(word: &[u8], bytes: &[u8]) -> bool
     ensures { result ≡ is_word_at S.next word.now bytes.now }
 {
-    same_name(word, split_word(S::next(bytes)).0)
+    let at = S::next(bytes);
+    if !begins_alike(word, at) {
+        return false;
+    }
+    same_name(word, split_word(at).0)
 }
 
 /// The bytes after the word that comes next.
@@ -50,13 +66,18 @@ pub fn after_word<S: Separators>(bytes: &[u8]) -> &[u8]
 }
 
 /// The bytes after a word, which is read in any case.
-#[tactic(auto, unfolding(crate::specs::Word::word_at))]
+#[tactic(auto, unfolding(crate::specs::Word::word_at, crate::specs::Word::is_word_at, crate::specs::Word::after_word))]
 pub fn word_at<'a, S: Separators>(word: &[u8], bytes: &'a [u8]) -> After<'a>
     ensures { Leaves result (word_at S.next word.now bytes.now) }
 {
-    if is_word_at::<S>(word, bytes) {
-        Ok(after_word::<S>(bytes))
+    let at = S::next(bytes);
+    if !begins_alike(word, at) {
+        return Err(at);
+    }
+    let (front, rest) = split_word(at);
+    if same_name(word, front) {
+        Ok(rest)
     } else {
-        Err(S::next(bytes))
+        Err(at)
     }
 }
