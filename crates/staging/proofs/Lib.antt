@@ -3,6 +3,7 @@ pub mod Bridge
 pub mod Calls
 pub mod Earlier
 pub mod Entries
+pub mod Kept
 pub mod KeyTable
 pub mod Narrowed
 pub mod NetEvents

@@ -1,5 +1,5 @@
 -- That what was put is taken back.
-use Rattle.std.proofs.Common.{◌≡◌, Bool, true, false, cond, T, List, [], ◌∷◌, ◌++◌, Option, Some, None, refl, sym, ap, ◌∙◌}
+use Rattle.std.proofs.Common.{◌≡◌, Bool, true, false, cond, T, List, [], ◌∷◌, ◌++◌, Option, Some, None, length, ◌≤◌, refl, sym, ap, ◌∙◌, arith}
 use Rattle.std.proofs.lemmas.Cmp.{tied_itself}
 use Rattle.std.specs.Ordering.{is_eq, match_ordering}
 use Rattle.std.specs.declared.cmp.Ordering.{Ordering}
@@ -14,7 +14,7 @@ use Rattle.values.specs.Order.{key_cmp}
 use Rattle.values.specs.Log.{Net, Row}
 use Rattle.values.proofs.Sorted.{is_less}
 use Rattle.values.proofs.Orders.{key_cmp_total, first, second}
-use Rattle.staging.specs.Staged.{put_back_one, put_back}
+use Rattle.staging.specs.Staged.{put_all, put_back_one, put_back}
 use Rattle.staging.proofs.Entries.{sorted_from}
 
 -- a key that is not there takes no value
@@ -63,3 +63,18 @@ one_back k v (Some row) w sorted is = restored k v row w (sorted_from w sorted) 
 pub back_last : (cs : List (Key × Option (Option Row))) (k : Key) (before : Option (Option Row)) (w : Net) → put_back (cs ++ (k, before) ∷ []) w ≡ put_back cs (put_back_one k before w)
 back_last [] k before w = refl
 back_last (c ∷ cs) k before w = ap (put_back_one c.0 c.1) (back_last cs k before w)
+
+-- ---- a put takes no key away
+
+grown : (w : Net) (k : Key) (v : Option Row) → length w ≤ length (insert_entry key_cmp w k v)
+grown [] k v = omega arith
+grown (e ∷ w) k v = by (key_cmp k e.0) (grown w k v)
+  where
+    by : (o : Ordering) → length w ≤ length (insert_entry key_cmp w k v) → length (e ∷ w) ≤ length (match_ordering o ((k, v) ∷ e ∷ w) ((e.0, v) ∷ w) (e ∷ insert_entry key_cmp w k v))
+    by Less ih = omega arith
+    by Equal ih = omega arith
+    by Greater ih = omega arith
+
+pub grown_all : (cs w : Net) → length w ≤ length (put_all cs w)
+grown_all [] w = omega arith
+grown_all (c ∷ cs) w = let a = grown w c.0 c.1 in let b = grown_all cs (insert_entry key_cmp w c.0 c.1) in omega (arith, a, b)

@@ -1,3 +1,4 @@
+pub mod Bounds
 pub mod View
 pub mod Own
 pub mod Net

@@ -20,6 +20,7 @@ ghost use Rattle.staging.specs.View.{Holds};
 ghost use Rattle.staging.specs.Own.{WhenRead, rows_seen, net_over};
 ghost use Rattle.staging.specs.Staged.{put_all, put_back_one, put_back, put_answer, sees, first_seen, row_taken, rows_in, net_in};
 
+use crate::bounds::{is_past, least_key};
 use crate::net::Net;
 use searchrange::search_range;
 use std::alloc::{AllocError, Global};
@@ -109,7 +110,7 @@ impl Staged {
         let range = search_range(self.alloc, table, keys)?;
         let standing = view.standing(self.alloc, &range, last)?;
         let mut found = rows_taken(self.alloc, table, keys, &standing)?;
-        put_taken(table, keys, &self.writes, &mut found)?;
+        put_taken(self.alloc, table, keys, &self.writes, &mut found)?;
         Ok(found)
     }
 
@@ -176,7 +177,8 @@ impl Staged {
     }
 }
 
-/// Puts changes over what was written, and keeps what was there before. `TooManyWrites` where the keys are too many then.
+/// Puts changes over what was written, and keeps what was there before. `TooManyWrites` as soon as the keys are too many.
+#[tactic(auto, using(crate::proofs::PutBack::grown_all))]
 fn put_few(
     writes: &mut BTreeMap<Key, Option<Row>>,
     changes: Vec<(Key, Option<Row>)>,
@@ -190,24 +192,21 @@ fn put_few(
     ensures back { put_back earlier.new.items writes.new.entries
         ≡ put_back earlier.old.items writes.old.entries }
 {
-    put_all(writes, changes, earlier)?;
-    if writes.len() > MOST_WRITTEN {
-        return Err(Refusal::TooManyWrites);
-    }
-    Ok(())
-}
-
-fn put_all(
-    writes: &mut BTreeMap<Key, Option<Row>>,
-    changes: Vec<(Key, Option<Row>)>,
-    earlier: &mut Vec<(Key, Option<Option<Row>>)>,
-) -> Result<(), AllocError>
-    ensures ok { OnOk result (writes.new.entries ≡ put_all changes.items writes.old.entries) }
-    ensures back { put_back earlier.new.items writes.new.entries
-        ≡ put_back earlier.old.items writes.old.entries }
-{
     for (key, row) in changes {
         put_one(writes, key, row, earlier)?;
+        check_few(writes)?;
+    }
+    check_few(writes)
+}
+
+/// `TooManyWrites` where there are more keys than a transaction may write.
+fn check_few(writes: &BTreeMap<Key, Option<Row>>) -> Result<(), Refusal>
+    ensures ok { OnOk result (length writes.now.entries ≤ most_written) }
+    ensures err { IfErr result (λ refusal. (refusal ≡ Refusal.TooManyWrites)
+        × (most_written < length writes.now.entries)) }
+{
+    if writes.len() > MOST_WRITTEN {
+        return Err(Refusal::TooManyWrites);
     }
     Ok(())
 }
@@ -292,8 +291,9 @@ fn row_taken(alloc: Global, table: &Table, keys: &Keys, event: &Event) -> Mem<Op
     }
 }
 
-/// Puts what was written over rows, as far as the keys take it.
+/// Puts what was written over rows, as far as the keys take it: of the writes, which are in order by key, those are looked at that the first key column can have.
 fn put_taken(
+    alloc: Global,
     table: &Table,
     keys: &Keys,
     writes: &BTreeMap<Key, Option<Row>>,
@@ -301,11 +301,14 @@ fn put_taken(
 ) -> Result<(), AllocError>
     ensures put { OnOk result (found.new.entries ≡ apply_net found.old.entries
         (filter (λ c. matches table.now keys.now c.0) writes.now.entries)) }
-    ensures ordered { IsOrdered key_cmp writes.now }
+    ensures ordered { OnOk result (IsOrdered key_cmp writes.now) }
 {
-    for (key, row) in writes {
+    let least = least_key(alloc, table, keys)?;
+    for (key, row) in writes.range(least..) {
         if keys.matches(table, key) {
             set_row(found, key, row)?;
+        } else if is_past(table, keys, key) {
+            return Ok(());
         }
     }
     Ok(())

@@ -1,7 +1,7 @@
 use Rattle.std.proofs.Common.{◌≡◌}
 use Rattle.std.specs.Vec.Iter.{into_iter_items}
 use Rattle.staging.specs.Staged.{put_all, put_back}
-use Rattle.staging.proofs.staged.put_all.Given as goal
+use Rattle.staging.proofs.staged.put_few.Given as goal
 
 abbrev pub invariant-loop-key : goal.invariant-loop-key
 invariant-loop-key l = record {
