@@ -1,4 +1,4 @@
-ghost use Rattle.std.specs.Prelude.{◌≡◌, ◌≤◌, length, false, IsUtf8};
+ghost use Rattle.std.specs.Prelude.{◌≡◌, ◌≤◌, length, false, IsUtf8, Ok, Err, if◌then◌else◌};
 ghost use Rattle.values.specs.Names.{same_name};
 ghost use Rattle.tokens.specs.Token.{Leaves, front_while, skip_while};
 ghost use Rattle.tokens.specs.Word.{is_name_byte, word_length, is_word_at, after_word, word_at};
@@ -36,6 +36,7 @@ pub(crate) fn split_word(bytes: &[u8]) -> (&[u8], &[u8])
 
 /// Whether the first letters do not tell a word and the bytes apart. Most words are told apart here,
 /// before the bytes of the word at the front are counted.
+#[inline(always)]
 fn begins_alike(word: &[u8], bytes: &[u8]) -> bool
     ensures { result ≡ false → same_name word.now (front_while is_name_byte bytes.now) ≡ false }
 {
@@ -65,7 +66,9 @@ pub fn after_word<S: Separators>(bytes: &[u8]) -> &[u8]
     split_word(S::next(bytes)).1
 }
 
-/// The bytes after a word, which is read in any case.
+/// The bytes after a word, which is read in any case. The test of its first letter is compiled into
+/// each caller: most words that may stand next are told apart there.
+#[inline(always)]
 #[tactic(auto, unfolding(crate::specs::Word::word_at, crate::specs::Word::is_word_at, crate::specs::Word::after_word))]
 pub fn word_at<'a, S: Separators>(word: &[u8], bytes: &'a [u8]) -> After<'a>
     ensures { Leaves result (word_at S.next word.now bytes.now) }
@@ -74,6 +77,14 @@ pub fn word_at<'a, S: Separators>(word: &[u8], bytes: &'a [u8]) -> After<'a>
     if !begins_alike(word, at) {
         return Err(at);
     }
+    word_here(word, at)
+}
+
+/// The bytes after a word at the very front.
+fn word_here<'a>(word: &[u8], at: &'a [u8]) -> After<'a>
+    ensures { Leaves result (if same_name word.now (front_while is_name_byte at.now)
+        then Ok (skip_while is_name_byte at.now) else Err at.now) }
+{
     let (front, rest) = split_word(at);
     if same_name(word, front) {
         Ok(rest)
