@@ -18,9 +18,9 @@ const AFTER: &str =
     "Without --schema the schema has one table: emp (no INT, name TEXT), with the key no.\n\
 Without --script the script is standard input.\n\
 \n\
-Example:\n  \
-printf '1: BEGIN\\n1: COMMIT\\n' | tsvd\n  \
-tsvd --schema insurance.schema --script claim.script\n\
+Examples, in the folder of the repository:\n  \
+printf '1: BEGIN\\n1: COMMIT\\n' | crates/tsvd/out/tsvd\n  \
+crates/tsvd/out/tsvd --schema examples/insurance.schema --script examples/insurance.script\n\
 \n\
 Status:\n  \
 0  done; a line that is refused has its refusal as its reply\n  \

@@ -208,7 +208,8 @@ fn help_goes_to_standard_error_with_status_2(rt: HostRuntime) -> Result<(), Fail
         "--script <FILE>",
         "emp (no INT, name TEXT)",
         "standard input",
-        "Example:",
+        "Examples, in the folder of the repository:",
+        "--schema examples/insurance.schema --script examples/insurance.script",
         "Status:",
     ] {
         assert!(rt; help.contains(part), "{part}");
