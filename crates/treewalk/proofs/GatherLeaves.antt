@@ -23,7 +23,7 @@ module _ (nodes : List TreeNode) (tree : IsTree nodes) where
       let m : MeetsAt nodes 0 area (get_or numbers k d) = are.each k d lt in
       record { node = m.node; there = m.there; bottom = m.of_level; is_data = is_listed nodes tree (get_or numbers k d) m.node.level m.node.rect m.node.content m.node.packed m.there m.of_level }
 
-  events_are : (number : ℕ) (n : TreeNode) → IsAt nodes number n → events_at nodes number ≡ events_of n.content
+  pub events_are : (number : ℕ) (n : TreeNode) → IsAt nodes number n → events_at nodes number ≡ events_of n.content
   events_are number n at = ap (λ (o : Option TreeNode). elim o [ None ↦ [] | Some n ↦ events_of n.content ]) at
 
   cut_of : (m : List Event) (rect : Area) (content : Content) → IsDataNode content → IsCut m rect content → events_of content ≡ cut rect m

@@ -1,5 +1,5 @@
 -- From a level to the next: the children that meet a rectangle are all nodes there that do.
-use Rattle.std.proofs.Common.{◌≡◌, ℕ, zero, suc, ◌+◌, ◌<◌, ◌≤◌, List, [], ◌∷◌, length, get_or, true, Option, refl, sym, ap, subst, ◌∙◌, arith}
+use Rattle.std.proofs.Common.{◌≡◌, ℕ, zero, suc, ◌+◌, ◌<◌, List, [], ◌∷◌, length, get_or, true, Option, refl, sym, ap, subst, ◌∙◌, arith}
 use Rattle.std.specs.Prelude.{All, Contains}
 use Rattle.std.specs.List.Sorted.{IsStrictlyIncreasing}
 use Rattle.std.proofs.lemmas.List.Elements.{All-contains}
@@ -8,9 +8,8 @@ use Rattle.keyrange.proofs.RectInside.{inside_itself, inner_is_common}
 use Rattle.indexnode.specs.declared.reference.Reference.{Reference}
 use Rattle.treenodes.specs.Node.{Content, Events, References, TreeNode, IsAt, references_of}
 use Rattle.treenodes.specs.Tree.{RefersTo, IsIndex, IsTree}
-use Rattle.treewalk.specs.Level.{MeetsAt, AreMeeting}
+use Rattle.treewalk.specs.Level.{MeetsAt, AreMeeting, IsAround}
 use Rattle.treenodes.proofs.LookupFound.{reference_at}
-use Rattle.treenodes.proofs.LookupSteps.{whole_holds}
 use Rattle.treenodes.proofs.NodeNumbers.{one_at}
 use Rattle.treewalk.proofs.LevelNodes.{NodeAt, at_level}
 
@@ -28,34 +27,31 @@ all_of P xs h k d lt = h (get_or xs k d) (k, lt, own xs k d lt)
     own (x ∷ xs) (suc k) d lt = own xs k d (omega arith)
 
 module _ (nodes : List TreeNode) (tree : IsTree nodes) (area : Area) where
-  -- the root alone is of its level
-  pub from_root : IsArea area → (numbers : List ℕ) → numbers ≡ 0 ∷ [] → AreMeeting nodes tree.root.root.level area numbers
-  from_root is_area numbers is = subst (AreMeeting nodes tree.root.root.level area) (sym is) (record {
+  -- a node that has all points of the rectangle is alone of its level
+  pub from_around : IsArea area → (number : ℕ) (around : IsAround nodes area number) (numbers : List ℕ) → numbers ≡ number ∷ [] → AreMeeting nodes around.node.level area numbers
+  from_around is_area number around numbers is = subst (AreMeeting nodes around.node.level area) (sym is) (record {
     ordered = λ k lt. absurd (omega arith);
-    each = all_of (MeetsAt nodes tree.root.root.level area) (0 ∷ []) (λ x c. subst (MeetsAt nodes tree.root.root.level area) (zero_is x c) root_meets);
-    whole = λ i m. (0, omega arith, root_only i m);
+    each = all_of (MeetsAt nodes around.node.level area) (number ∷ []) (λ x c. subst (MeetsAt nodes around.node.level area) (number_is x c) meets);
+    whole = λ i m. (0, omega arith, only i m);
   })
     where
       point : Common area area
       point = inner_is_common area area area is_area (inside_itself area) (inside_itself area)
 
-      root_has : (key : List ℕ) (instant : ℕ) → 1 ≤ instant → has_point tree.root.root.rect key instant ≡ true
-      root_has key instant h = subst (λ a. has_point a key instant ≡ true) (sym tree.root.covers) (whole_holds key instant h)
+      meets : MeetsAt nodes around.node.level area number
+      meets = record { node = around.node; there = around.there; of_level = refl; common = record { key = point.key; instant = point.instant; is_first = point.is_first; is_last = point.is_last; in_first = around.inside point.key point.instant point.in_second; in_second = point.in_second } }
 
-      root_meets : MeetsAt nodes tree.root.root.level area 0
-      root_meets = record { node = tree.root.root; there = tree.root.first; of_level = refl; common = record { key = point.key; instant = point.instant; is_first = point.is_first; is_last = point.is_last; in_first = root_has point.key point.instant point.is_first; in_second = point.in_first } }
+      number_is : (x : ℕ) → Contains (number ∷ []) x → number ≡ x
+      number_is x (zero, lt, e) = e
+      number_is x (suc k, lt, e) = absurd (omega arith)
 
-      zero_is : (x : ℕ) → Contains (0 ∷ []) x → 0 ≡ x
-      zero_is x (zero, lt, e) = e
-      zero_is x (suc k, lt, e) = absurd (omega arith)
-
-      root_only : (i : ℕ) → MeetsAt nodes tree.root.root.level area i → 0 ≡ i
-      root_only i m = tree.apart 0 i tree.root.root m.node tree.root.first m.there (sym m.of_level) (record {
+      only : (i : ℕ) → MeetsAt nodes around.node.level area i → number ≡ i
+      only i m = tree.apart number i around.node m.node around.there m.there (sym m.of_level) (record {
         key = m.common.key;
         instant = m.common.instant;
         is_first = m.common.is_first;
         is_last = m.common.is_last;
-        in_first = root_has m.common.key m.common.instant m.common.is_first;
+        in_first = around.inside m.common.key m.common.instant m.common.in_second;
         in_second = m.common.in_first;
       })
 

@@ -1,4 +1,6 @@
 pub mod ListMembers
+pub mod AroundEnds
+pub mod AroundSteps
 pub mod LevelNodes
 pub mod LevelSteps
 pub mod LevelChildren
@@ -6,6 +8,7 @@ pub mod GatherSorted
 pub mod StandingCut
 pub mod GatherArea
 pub mod GatherLeaves
+pub mod GatherAlone
 pub mod ListingRead
 pub mod ChangeLast
 pub mod ChangeNext

@@ -41,10 +41,15 @@ events_at nodes number = elim (slice_get nodes number) [ None ↦ [] | Some n �
 abbrev pub asked_of_all : Query → KeyRange → List TreeNode → List ℕ → List Event
 asked_of_all query range nodes = flat_map (λ number. asked query range (events_at nodes number))
 
+-- the query asked of all data nodes that have a point of a rectangle
+abbrev pub AreGatheredIn : Query → KeyRange → List TreeNode → Area → List Event → Type 0
+AreGatheredIn query range nodes area es =
+    (numbers : List ℕ) × AreMeeting nodes 0 area numbers
+    × (es ≡ asked_of_all query range nodes numbers)
+
 -- the query asked of all data nodes that have a point in question; of none where there is no point
 pub record AreGathered (query : Query) (range : KeyRange) (nodes : List TreeNode) (es : List Event)
     : Type 0 where
   pub none : area_between range (instants query).0 (instants query).1 ≡ None → es ≡ []
   pub some : (area : Area) → area_between range (instants query).0 (instants query).1 ≡ Some area
-      → (numbers : List ℕ) × AreMeeting nodes 0 area numbers
-      × (es ≡ asked_of_all query range nodes numbers)
+      → AreGatheredIn query range nodes area es

@@ -1,7 +1,7 @@
 -- Which nodes of a level have a point of a rectangle.
 use Rattle.std.specs.Prelude.{◌≡◌, ℕ, ◌<◌, List, All, Contains}
 use Rattle.std.specs.List.Sorted.{IsStrictlyIncreasing}
-use Rattle.keyrange.specs.Rect.{Area, Common}
+use Rattle.keyrange.specs.Rect.{Area, Common, IsInside}
 use Rattle.treenodes.specs.Node.{TreeNode, IsAt, IsIndexNode}
 use Rattle.treenodes.specs.Lookup.{IsData}
 
@@ -31,3 +31,9 @@ AreIndexes nodes numbers =
 -- each is the number of a data node
 abbrev pub AreLeaves : List TreeNode → List ℕ → Type 0
 AreLeaves nodes numbers = All (IsData nodes) numbers
+
+-- the number of a node that has all points of the rectangle
+pub record IsAround (nodes : List TreeNode) (area : Area) (number : ℕ) : Type 0 where
+  pub node : TreeNode
+  pub there : IsAt nodes number node
+  pub inside : IsInside area node.rect

@@ -1,4 +1,5 @@
 pub mod Level
+pub mod Ends
 pub mod Gather
 pub mod Shape
 pub mod NextChange

@@ -2,16 +2,17 @@
 ghost use Rattle.std.specs.Prelude.{◌≡◌, IfOk};
 ghost use Rattle.values.specs.Memory.{OnlyMemory};
 ghost use Rattle.treenodes.specs.Tree.{IsTree};
-ghost use Rattle.treewalk.specs.Gather.{instants, area_between, asked, asked_of_all, AreGathered};
+ghost use Rattle.treewalk.specs.Gather.{instants, area_between, asked, asked_of_all, AreGathered, AreGatheredIn};
 ghost use Rattle.treewalk.specs.Level.{AreLeaves};
 
-use crate::level::leaves_in;
+use crate::around::node_around;
+use crate::level::leaves_below;
 use datanode::DataNode;
 use eventlist::standing;
 use keyrange::{KeyRange, Rect, TimeRange};
 use slots::Slots;
 use std::alloc::Global;
-use treenodes::{Slot, data_at};
+use treenodes::{Child, Slot, data_at};
 use values::{Instant, LAST, Mem, SharedEvent};
 
 /// What is asked of the events of a range of keys.
@@ -37,8 +38,29 @@ pub(crate) fn gathered(
     let (from, to) = instants(query);
     match rect_between(range, from, to)? {
         None => Ok(Vec::new(alloc)),
-        Some(rect) => {
-            let leaves = leaves_in(alloc, nodes, &rect)?;
+        Some(rect) => gathered_in(alloc, nodes, &rect, range, query),
+    }
+}
+
+/// The same, where there are points in question. A leaf that has them all is asked alone, and no list is made of it.
+fn gathered_in(
+    alloc: Global,
+    nodes: &Slots<Slot>,
+    rect: &Rect,
+    range: &KeyRange,
+    query: Query,
+) -> Mem<Vec<SharedEvent>>
+    requires { IsTree nodes.now }
+    ensures ok { IfOk result (λ v. AreGatheredIn query range.now nodes.now rect.now v.items) }
+    ensures err { OnlyMemory result }
+{
+    // Who reads the time knows that the ranges are not empty.
+    let _time = rect.time();
+    let number = node_around(nodes, rect);
+    match nodes.at(number).child() {
+        Child::Data(node) => asked_of(alloc, node, range, query),
+        Child::Index(_) => {
+            let leaves = leaves_below(alloc, nodes, number, rect)?;
             gathered_of(alloc, nodes, &leaves, range, query)
         }
     }

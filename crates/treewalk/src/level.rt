@@ -4,8 +4,9 @@ ghost use Rattle.std.specs.List.Sorted.{IsStrictlyIncreasing};
 ghost use Rattle.values.specs.Memory.{OnlyMemory};
 ghost use Rattle.indexnode.specs.Node.{meet};
 ghost use Rattle.treenodes.specs.Tree.{IsTree};
-ghost use Rattle.treewalk.specs.Level.{AreMeeting, AreIndexes, IsBelowRoot};
+ghost use Rattle.treewalk.specs.Level.{AreMeeting, AreIndexes, IsAround, IsBelowRoot};
 
+use crate::around::node_around;
 use indexnode::IndexNode;
 use keyrange::Rect;
 use slots::Slots;
@@ -71,11 +72,27 @@ pub fn leaves_in(alloc: Global, nodes: &Slots<Slot>, rect: &Rect) -> Mem<Vec<usi
     ensures ok { IfOk result (λ v. AreMeeting nodes.now 0 rect.now v.items) }
     ensures err { OnlyMemory result }
 {
+    let number = node_around(nodes, rect);
+    leaves_below(alloc, nodes, number, rect)
+}
+
+/// The same, where all of the rectangle lies in the node of a number.
+pub(crate) fn leaves_below(
+    alloc: Global,
+    nodes: &Slots<Slot>,
+    number: usize,
+    rect: &Rect,
+) -> Mem<Vec<usize>>
+    requires tree { IsTree nodes.now }
+    requires around { IsAround nodes.now rect.now number }
+    ensures ok { IfOk result (λ v. AreMeeting nodes.now 0 rect.now v.items) }
+    ensures err { OnlyMemory result }
+{
     // Who reads the time knows that the ranges are not empty.
     let _time = rect.time();
     let mut numbers = Vec::new(alloc);
-    numbers.push(0)?;
-    let mut level = nodes.at(0).level();
+    numbers.push(number)?;
+    let mut level = nodes.at(number).level();
     while level > 0 {
         numbers = level_below(alloc, nodes, &numbers, rect)?;
         level -= 1;

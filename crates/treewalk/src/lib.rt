@@ -1,6 +1,7 @@
 //! What is read off the nodes of a tree.
 #![tactic(auto)]
 
+mod around;
 mod change_after;
 mod gather;
 mod last_change;

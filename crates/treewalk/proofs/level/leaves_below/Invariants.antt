@@ -1,7 +1,7 @@
 use Rattle.std.proofs.Common.{◌≤◌}
 use Rattle.treenodes.specs.Node.{TreeNode, IsAt}
 use Rattle.treewalk.specs.Level.{AreMeeting}
-use Rattle.treewalk.proofs.level.leaves_in.Given as goal
+use Rattle.treewalk.proofs.level.leaves_below.Given as goal
 
 abbrev pub invariant-loop-level : goal.invariant-loop-level
 invariant-loop-level l = record {
