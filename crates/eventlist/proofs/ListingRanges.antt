@@ -1,17 +1,16 @@
 -- Events of a range of keys stand together.
-use Rattle.std.proofs.Common.{◌≡◌, ℕ, ◌+◌, ◌-◌, ◌<◌, ◌≤◌, Bool, true, false, ◌&&◌, List, [], ◌∷◌, refl, sym, ap, subst, ◌∙◌, arith, zero, suc, length, take, drop, nat_le, not, filter, if◌then◌else◌, length-drop, get_or-drop}
+use Rattle.std.proofs.Common.{◌≡◌, ℕ, ◌≤◌, Bool, true, false, ◌&&◌, List, [], ◌∷◌, refl, sym, ap, subst, ◌∙◌, arith, zero, suc, length, take, drop, not, filter, if◌then◌else◌, get_or, min}
 use Rattle.std.specs.Ordering.{nat_cmp, ordering_then, is_lt}
 use Rattle.std.specs.declared.cmp.Ordering.{Ordering}
 use Rattle.std.specs.declared.cmp.Ordering.TheVariants.{Less, Equal, Greater}
-use Rattle.std.specs.List.{AllWithin}
+use Rattle.std.specs.List.{AllWithin, slice_get}
+use Rattle.std.proofs.lemmas.Option.{slice_get-get_or}
 use Rattle.std.specs.List.Sorted.{IsStrictlySortedBy, IsPartitionedBy}
 use Rattle.values.specs.Event.{Event}
 use Rattle.values.specs.Events.{bytes_cmp, event_cmp}
-use Rattle.keyrange.specs.declared.range.KeyRange.{KeyRange}
-use Rattle.keyrange.specs.Range.{is_below, is_before_end, is_key_in}
+use Rattle.keyrange.specs.Range.{is_below}
 use Rattle.keyrange.proofs.RangeOrder.{is_less}
-use Rattle.eventlist.specs.Listing.{events_in}
-use Rattle.eventlist.specs.Place.{AreFirst}
+use Rattle.eventlist.specs.KeyGroup.{is_below_key}
 use Rattle.eventlist.proofs.PlaceOrder.{bytes_total, bytes_exact, partitioned, within_tail, within_rest, within_head}
 
 -- ---- a range
@@ -76,28 +75,25 @@ not_above_parts key es h = partitioned event_cmp (not_above key) down es h
     down : (x y : Event) → event_cmp x y ≡ Less → not_above key y ≡ true → not_above key x ≡ true
     down x y h is = kept (is_below key y.key) (is_below key x.key) (up x y h) is
 
--- the events of a range stand between its places
-pub range_is : (es : List Event) (range : KeyRange) (from to a n b : ℕ) → AreFirst (below_key range.lo) es a → AreFirst (λ e. is_before_end e.key range.hi) es n → a ≤ length es → a ≤ b → n ≤ b
-    → events_in (take (b - a) (drop a es)) range from to ≡ events_in es range from to
-range_is es range from to a n b low high in_low first last =
-    sym (
-    front_dropped p (below_key range.lo) too_low es a (λ k d lo hi. low.0 k d lo hi) in_low
-    ∙ back_cut p (λ e. is_before_end e.key range.hi) too_high (drop a es) (b - a)
-    (λ k d lo hi.
-    let within : k < length es - a = subst (λ m. k < m) (length-drop a es) hi in
-    subst (λ (e : Event). is_before_end e.key range.hi ≡ false) (sym (get_or-drop a es k d)) (high.1 (a + k) d (omega arith) (omega arith))
-    )
-    )
+-- those of a range that pass another test
+pub both_tests : (p q : Event → Bool) (es : List Event) → filter q (filter p es) ≡ filter (λ e. p e && q e) es
+both_tests p q [] = refl
+both_tests p q (e ∷ es) = by (p e) (both_tests p q es)
   where
-    p : Event → Bool
-    p e = is_key_in range e.key && (nat_le from e.at && nat_le e.at to)
+    by : (b : Bool) → filter q (filter p es) ≡ filter (λ e. p e && q e) es → filter q (if b then e ∷ filter p es else filter p es) ≡ (if b && q e then e ∷ filter (λ e. p e && q e) es else filter (λ e. p e && q e) es)
+    by true more = ap (λ l. if q e then e ∷ l else l) more
+    by false more = more
 
-    too_low : (e : Event) → below_key range.lo e ≡ true → p e ≡ false
-    too_low e h = ap (λ b. (not b && is_before_end e.key range.hi) && (nat_le from e.at && nat_le e.at to)) h
+-- from a place on that is past the lesser keys there is none of them
+pub below_none : (key : List ℕ) (es : List Event) (reach r : ℕ) → IsStrictlySortedBy event_cmp es → is_below_key key (slice_get es reach) ≡ false → r ≡ min reach (length es) → AllWithin (λ e. is_below e.key key ≡ false) es r (length es)
+below_none key es reach r sorted is least k d low high = by (below_key key (get_or es k d)) refl
+  where
+    inside : reach ≤ k
+    inside = grind (arith, least)
 
-    too_high : (e : Event) → is_before_end e.key range.hi ≡ false → p e ≡ false
-    too_high e h = by (not (is_below e.key range.lo)) h
-      where
-        by : (c : Bool) → is_before_end e.key range.hi ≡ false → ((c && is_before_end e.key range.hi) && (nat_le from e.at && nat_le e.at to)) ≡ false
-        by true h = ap (λ b. b && (nat_le from e.at && nat_le e.at to)) h
-        by false h = refl
+    there : below_key key (get_or es reach d) ≡ false
+    there = ap (is_below_key key) (sym (slice_get-get_or es reach d (omega (arith, inside)))) ∙ is
+
+    by : (b : Bool) → below_key key (get_or es k d) ≡ b → b ≡ false
+    by false e = refl
+    by true e = sym (below_parts key es sorted reach k d inside high e) ∙ there

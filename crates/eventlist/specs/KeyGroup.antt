@@ -19,3 +19,8 @@ AreAbove key es = All (λ e. is_below key e.key ≡ true) es
 abbrev pub is_up_to : List ℕ → Option Event → Bool
 is_up_to key None = false
 is_up_to key (Some e) = not (is_below key e.key)
+
+-- the event is of a lesser key
+abbrev pub is_below_key : List ℕ → Option Event → Bool
+is_below_key key None = false
+is_below_key key (Some e) = is_below e.key key

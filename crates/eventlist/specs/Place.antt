@@ -1,10 +1,9 @@
 -- Places in a list of events, which are in order.
-use Rattle.std.specs.Prelude.{◌≡◌, ℕ, List, [], ◌∷◌, Bool, true, false, not, nat_le, nat_lt, Option, Some, None, if◌then◌else◌}
-use Rattle.std.specs.Ordering.{match_ordering, is_lt, is_eq}
+use Rattle.std.specs.Prelude.{◌≡◌, ℕ, List, [], ◌∷◌, Bool, true, false, nat_le, nat_lt, Option, Some, None, if◌then◌else◌}
+use Rattle.std.specs.Ordering.{match_ordering, is_lt}
 use Rattle.std.specs.List.Sorted.{IsPartitionPoint}
 use Rattle.values.specs.Event.{Event}
 use Rattle.values.specs.Events.{bytes_cmp, is_bytes, event_cmp, later}
-use Rattle.keyrange.specs.Range.{is_below}
 
 -- the first n events are those that pass the test
 abbrev pub AreFirst : (Event → Bool) → List Event → ℕ → Type 0

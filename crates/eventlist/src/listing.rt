@@ -7,11 +7,10 @@ ghost use Rattle.keyrange.specs.Range.{is_key_in};
 ghost use Rattle.eventlist.specs.Listing.{events_in, standing, stands_at};
 
 use crate::key_group::{split_first_key, standing_of};
-use crate::place::place_of_key;
-use crate::range::{of_range, place_of_end};
+use crate::range::of_range;
 use keyrange::KeyRange;
 use std::alloc::Global;
-use values::{Event, Instant, KeyBytes, Mem, SharedEvent};
+use values::{Instant, Mem, SharedEvent};
 
 /// The events of a range of keys, from an instant to another and with it, in order.
 pub fn events_in(
@@ -25,37 +24,28 @@ pub fn events_in(
     ensures ok { IfOk result (λ v. v.items ≡ events_in events.now range.now from to) }
     ensures err { OnlyMemory result }
 {
-    let first = place_of_key(events, &range.lo);
-    let end = place_of_end(events, &range.hi).max(first);
-    Ok(events_of_slice(alloc, &events[first..end], range, from, to)?)
+    Ok(events_between(alloc, of_range(events, range), from, to)?)
 }
 
-/// Of some events, those of a range of keys from an instant to another and with it.
-fn events_of_slice(
+/// Of some events, those from an instant to another and with it.
+fn events_between(
     alloc: Global,
     events: &[SharedEvent],
-    range: &KeyRange,
     from: Instant,
     to: Instant,
 ) -> Mem<Vec<SharedEvent>>
-    ensures ok { IfOk result (λ v. v.items ≡ events_in events.now range.now from to) }
+    ensures ok { IfOk result (λ v. v.items
+        ≡ filter (λ e. nat_le from e.at && nat_le e.at to) events.now) }
     ensures err { OnlyMemory result }
 {
     let mut found = Vec::new(alloc);
     for event in events {
-        if is_in(event.event(), range, from, to) {
+        let at = event.event().at();
+        if from <= at && at <= to {
             found.push(event.share()?)?;
         }
     }
     Ok(found)
-}
-
-fn is_in(event: &Event, range: &KeyRange, from: Instant, to: Instant) -> bool
-    ensures { result
-        ≡ (is_key_in range.now event.now.key
-        && (nat_le from event.now.at && nat_le event.now.at to)) }
-{
-    range.contains(event.key()) && from <= event.at() && event.at() <= to
 }
 
 /// By key: the event of each key of a range whose row stands at an instant. It jumps from key to key.

@@ -1,10 +1,11 @@
-use Rattle.std.proofs.Common.{◌≤◌, ◌∙◌, rules}
-use Rattle.eventlist.proofs.ListingRanges.{range_is}
+use Rattle.std.proofs.Common.{◌∙◌, ◌&&◌, ap, filter, nat_le}
+use Rattle.values.specs.Event.{Event}
+use Rattle.keyrange.specs.Range.{is_key_in}
+use Rattle.eventlist.proofs.ListingRanges.{both_tests}
 use Rattle.eventlist.proofs.listing.events_in.Goals as goal
 
 pub returns-clause-ok : goal.returns-clause-ok
 returns-clause-ok c =
-    let first : c.place_of_key-first.result ≤ c.max-end.result = search rules in
-    let last : c.place_of_end.result ≤ c.max-end.result = search rules in
-    c.in_ok-events_of_slice.ensures.ok
-    ∙ range_is c.args.events.now c.args.range.now c.args.from c.args.to c.place_of_key-first.result c.place_of_end.result c.max-end.result c.place_of_key-first.ensures.first c.place_of_end.ensures.first c.place_of_key-first.ensures.bound first last
+    c.in_ok-events_between.ensures.ok
+    ∙ ap (filter (λ (e : Event). nat_le c.args.from e.at && nat_le e.at c.args.to)) c.of_range.ensures.are
+    ∙ both_tests (λ e. is_key_in c.args.range.now e.key) (λ e. nat_le c.args.from e.at && nat_le e.at c.args.to) c.args.events.now
