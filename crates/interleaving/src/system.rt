@@ -2,6 +2,7 @@
 ghost use Rattle.std.specs.Prelude.{◌≡◌, IfOk};
 ghost use Rattle.values.specs.Memory.{OnlyMemory};
 
+use histories::MAX_SESSION;
 use rows::{Mem, Schema};
 use std::alloc::Global;
 use std::marker::Model;
@@ -11,7 +12,7 @@ use tsbtree::Tree;
 use validation::Engine;
 
 /// How many sessions there are: they are numbered from 0.
-pub(crate) const SESSIONS: usize = 65;
+pub(crate) const SESSIONS: usize = MAX_SESSION as usize + 1;
 
 /// The store: what was committed, and the open transactions by their sessions' numbers.
 #[derive(Drop)]

@@ -5,30 +5,30 @@ use Rattle.std.specs.List.{All, prefix_len}
 use Rattle.std.proofs.lemmas.Bool.Decides.{nat_tests}
 use Rattle.std.proofs.lemmas.List.{length_push, length-take-le, get_or-take}
 use Rattle.std.proofs.lemmas.List.Sums.{prefix_len_passes, prefix_len_stops}
-use Rattle.scripts.specs.Transcript.{max_line}
+use Rattle.statement.specs.Line.{longest_line}
 use Rattle.scripts.specs.Script.{add_all, is_no_feed}
 
-has_room : (n m : ℕ) → n + (m + 1) ≤ max_line → nat_lt n max_line ≡ true
+has_room : (n m : ℕ) → n + (m + 1) ≤ longest_line → nat_lt n longest_line ≡ true
 has_room n m fits = grind (arith, nat_tests)
 
 pub add_all_none : (bytes : List ℕ) → add_all None bytes ≡ None
 add_all_none [] = refl
 add_all_none (b ∷ bytes) = add_all_none bytes
 
-pub add_all_fits : (line bytes : List ℕ) → length line + length bytes ≤ max_line → add_all (Some line) bytes ≡ Some (line ++ bytes)
+pub add_all_fits : (line bytes : List ℕ) → length line + length bytes ≤ longest_line → add_all (Some line) bytes ≡ Some (line ++ bytes)
 add_all_fits line [] fits = ap Some (sym (append-nil line))
 add_all_fits line (b ∷ bytes) fits =
     ap (λ t. add_all (if t then Some (line ++ b ∷ []) else None) bytes) (has_room (length line) (length bytes) (omega (arith, fits)))
     ∙ add_all_fits (line ++ b ∷ []) bytes (omega (arith, fits, length_push line b)) ∙ ap Some (append_assoc line (b ∷ []) bytes)
 
-pub add_all_over : (line bytes : List ℕ) → length line ≤ max_line → max_line < length line + length bytes → add_all (Some line) bytes ≡ None
+pub add_all_over : (line bytes : List ℕ) → length line ≤ longest_line → longest_line < length line + length bytes → add_all (Some line) bytes ≡ None
 add_all_over line [] fits over = absurd (omega (arith, fits, over))
-add_all_over line (b ∷ bytes) fits over = by (nat_lt (length line) max_line) refl (λ less. add_all_over (line ++ b ∷ []) bytes (omega (arith, less, length_push line b)) (omega (arith, over, length_push line b)))
+add_all_over line (b ∷ bytes) fits over = by (nat_lt (length line) longest_line) refl (λ less. add_all_over (line ++ b ∷ []) bytes (omega (arith, less, length_push line b)) (omega (arith, over, length_push line b)))
   where
-    less_than : (n : ℕ) → nat_lt n max_line ≡ true → n < max_line
+    less_than : (n : ℕ) → nat_lt n longest_line ≡ true → n < longest_line
     less_than n e = grind (arith, nat_tests)
 
-    by : (t : Bool) → nat_lt (length line) max_line ≡ t → (length line < max_line → add_all (Some (line ++ b ∷ [])) bytes ≡ None) → add_all (Some line) (b ∷ bytes) ≡ None
+    by : (t : Bool) → nat_lt (length line) longest_line ≡ t → (length line < longest_line → add_all (Some (line ++ b ∷ [])) bytes ≡ None) → add_all (Some line) (b ∷ bytes) ≡ None
     by true e later = ap (λ t. add_all (if t then Some (line ++ b ∷ []) else None) bytes) e ∙ later (less_than (length line) e)
     by false e later = ap (λ t. add_all (if t then Some (line ++ b ∷ []) else None) bytes) e ∙ add_all_none bytes
 
@@ -38,11 +38,11 @@ pub adds_none : (t : Bool) (line bytes : List ℕ) → t ≡ true → (if t then
 adds_none true line bytes e = sym (add_all_none bytes)
 adds_none false line bytes e = cc
 
-pub adds_over : (t : Bool) (line bytes : List ℕ) → t ≡ false → length line ≤ max_line → max_line < length line + length bytes → None ≡ add_all (if t then None else Some line) bytes
+pub adds_over : (t : Bool) (line bytes : List ℕ) → t ≡ false → length line ≤ longest_line → longest_line < length line + length bytes → None ≡ add_all (if t then None else Some line) bytes
 adds_over true line bytes e fits over = cc
 adds_over false line bytes e fits over = sym (add_all_over line bytes fits over)
 
-pub adds_fits : {T E : Type 0} (t : Bool) (r : Result T E) (line bytes now : List ℕ) → t ≡ false → length line + length bytes ≤ max_line → IsOk r → now ≡ (if is_ok r then line ++ bytes else line)
+pub adds_fits : {T E : Type 0} (t : Bool) (r : Result T E) (line bytes now : List ℕ) → t ≡ false → length line + length bytes ≤ longest_line → IsOk r → now ≡ (if is_ok r then line ++ bytes else line)
     → (if t then None else Some now) ≡ add_all (if t then None else Some line) bytes
 adds_fits true r line bytes now e fits ok is = cc
 adds_fits false r line bytes now e fits ok is = ap Some (is ∙ ap (λ b. if b then line ++ bytes else line) ok) ∙ sym (add_all_fits line bytes fits)

@@ -6,10 +6,10 @@ use Rattle.values.specs.declared.refusal.Refusal.{Refusal}
 use Rattle.values.specs.declared.refusal.Refusal.TheVariants.{Memory}
 use Rattle.interleaving.specs.SystemState.{Stands}
 use Rattle.statement.specs.declared.line.Line.{Line}
-use Rattle.statement.specs.Line.{line_says}
+use Rattle.statement.specs.Line.{longest_line, line_says}
 use Rattle.statement.specs.Memory.{UnlessMemory}
 use Rattle.statement.specs.Writer.{AppendsFront}
-use Rattle.scripts.specs.Transcript.{Partial, Progress, max_line, add, read_at, reading_takes, line_reply, line_leaves, last_reply, last_leaves}
+use Rattle.scripts.specs.Transcript.{Partial, Progress, add, read_at, reading_takes, line_reply, line_leaves, last_reply, last_leaves}
 use Rattle.scripts.specs.Taking.{Feeds, Breaks}
 use Rattle.scripts.specs.declared.script.Script.{Script}
 
@@ -61,8 +61,8 @@ pub record Broken
 
 -- the line's buffer has room for the longest line and its line feed
 pub record HasRoom (s : Script) : Type 0 where
-  pub room : max_line + 1 ≤ vec_capacity s.line
-  pub fits : length s.line.items ≤ max_line
+  pub room : longest_line + 1 ≤ vec_capacity s.line
+  pub fits : length s.line.items ≤ longest_line
 
 abbrev pub has_byte : Partial → Bool
 has_byte None = true

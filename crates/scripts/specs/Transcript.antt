@@ -9,13 +9,10 @@ use Rattle.histories.specs.Memory.{takes_no_memory_after}
 use Rattle.interleaving.specs.SystemState.{SystemState, Stands}
 use Rattle.statement.specs.declared.line.Line.{Line}
 use Rattle.statement.specs.declared.line.Line.TheVariants.{Nothing, Clock, Step as Asks}
+use Rattle.statement.specs.Line.{longest_line}
 use Rattle.statement.specs.Memory.{takes_memory}
 use Rattle.statement.specs.Print.{line, refusal_text, reply_text}
 use Rattle.statement.specs.Writer.{AppendsFront}
-
--- the bytes that a line may have before its line feed
-abbrev pub max_line : ℕ
-max_line = 8192
 
 -- a line as far as it goes, or none where it is too long
 abbrev pub Partial : Type 0
@@ -23,7 +20,7 @@ Partial = Option (List ℕ)
 
 abbrev pub add : Partial → ℕ → Partial
 add None byte = None
-add (Some bytes) byte = if nat_lt (length bytes) max_line then Some (bytes ++ byte ∷ []) else None
+add (Some bytes) byte = if nat_lt (length bytes) longest_line then Some (bytes ++ byte ∷ []) else None
 
 -- reading the line takes memory: it is not read where it is too long
 abbrev pub reading_takes : Partial → Bool

@@ -4,20 +4,17 @@ ghost use Rattle.std.specs.Prelude.{◌≡◌, ◌≢◌, ◌≤◌, ◌<◌, �
 ghost use Rattle.std.specs.List.{prefix_len};
 ghost use Rattle.std.specs.Io.KnownBytes.{Keeps};
 ghost use Rattle.values.specs.Tables.{Schema};
-ghost use Rattle.statement.specs.Line.{line_says};
+ghost use Rattle.statement.specs.Line.{longest_line, line_says};
 ghost use Rattle.scripts.specs.Transcript.{beginning, ended, IsRun, IsCut, IsStopped};
 ghost use Rattle.scripts.specs.Script.{line_of, said_by, add_all, is_no_feed, IsRead, IsAt, SameRun, HasRoom, has_byte, AnswersLine, BreaksLine, TakesBytes, BreaksBytes, EndsScript, BreaksEnd, IsIdle};
 
 use histories::Step;
 use interleaving::System;
 use rows::Schema;
-use statement::{Line, WriteFault, print_refusal, print_reply, read_line, write_all};
+use statement::{LONGEST_LINE, Line, WriteFault, print_refusal, print_reply, read_line, write_all};
 use std::alloc::{AllocError, Global};
 use std::io::{Read, Write};
 use values::{Instant, Refusal};
-
-/// The bytes that a line may have before its line feed.
-const LINE: usize = 8192;
 
 /// The bytes that are read at once.
 const CHUNK: usize = 4096;
@@ -110,7 +107,7 @@ fn refuse<W: Write>(writer: &mut W, script: &Script, refusal: &Refusal) -> Resul
 
 /// Ends the line: writes its reply, and begins the next one.
 fn end_line<W: Write>(alloc: Global, writer: &mut W, script: &mut Script) -> Result<(), WriteFault>
-    requires { LINE + 1 ≤ vec_capacity script.old.line }
+    requires { longest_line + 1 ≤ vec_capacity script.old.line }
     ensures ok { OnOk result (AnswersLine
         (W.contents writer.old) (W.contents writer.new) script.old script.new) }
     ensures err { OnErr result (BreaksLine
@@ -148,7 +145,7 @@ fn add_bytes(script: &mut Script, bytes: &[u8])
     if script.is_too_long {
         return;
     }
-    if bytes.len() <= LINE - script.line.len() {
+    if bytes.len() <= LONGEST_LINE - script.line.len() {
         let _ = script.line.extend_from_slice(bytes);
     } else {
         script.is_too_long = true;
@@ -160,7 +157,7 @@ fn add_feed(script: &mut Script)
     requires { HasRoom script.old }
     ensures line { line_of script.new ≡ ended (line_of script.old) }
     ensures same { SameRun script.old script.new }
-    ensures room { LINE + 1 ≤ vec_capacity script.new.line }
+    ensures room { longest_line + 1 ≤ vec_capacity script.new.line }
 {
     let _ = script.line.push(b'\n');
 }
@@ -270,7 +267,7 @@ fn begin(alloc: Global, schema: Schema) -> Result<Script, AllocError>
     ensures line { IfOk result (λ s. line_of s ≡ Some []) }
     ensures room { IfOk result (λ s. HasRoom s) }
 {
-    let line = Vec::with_capacity(alloc, LINE + 1)?;
+    let line = Vec::with_capacity(alloc, LONGEST_LINE + 1)?;
     let system = match System::new(alloc, schema) {
         Ok(system) => system,
         Err(_) => return Err(AllocError),

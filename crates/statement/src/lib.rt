@@ -15,6 +15,6 @@ mod writer;
 
 pub use grammar_laws::{faults_are_final, lines_are_read_by_the_grammar, printed_rows_are_read};
 pub use histories::{Listing, Reply, Step};
-pub use line::{Line, read_line};
+pub use line::{LONGEST_LINE, Line, read_line};
 pub use print::{print_refusal, print_reply};
 pub use writer::{WriteFault, write_all};

@@ -15,7 +15,7 @@ use tokens::{Made, Read, Separators, Stop, symbol_at, word_at};
 use values::{Instant, Key, Refusal};
 
 /// The bytes that a line may have before its line feed.
-const LINE: usize = 8192;
+pub const LONGEST_LINE: usize = 8192;
 
 /// The greatest number of a session that the grammar has.
 const SESSION: u64 = (1 << 63) - 1;
@@ -218,7 +218,7 @@ pub fn read_line(
     ensures unless { UnlessMemory result (line_says schema.now reading line.now) }
     ensures memory { result ≡ Err Refusal.Memory → takes_memory line.now ≡ true }
 {
-    if before_feed(line).len() > LINE {
+    if before_feed(line).len() > LONGEST_LINE {
         return Err(Refusal::LineTooLong);
     }
     body_says(alloc, body_of(line), schema, reading)

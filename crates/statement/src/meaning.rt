@@ -5,15 +5,12 @@ ghost use Rattle.statement.specs.Memory.{UnlessMemory, is_insert};
 
 use crate::literal::WrittenRows;
 use crate::statement::{Columns, Statement};
-use histories::Step;
+use histories::{MAX_SESSION, Step};
 use rows::Schema;
 use std::alloc::{AllocError, Global};
 use values::{
     ColumnNumber, Instant, Mem, Refusal, Row, Rows, Table, Value, Values, fitting_rows_have_bytes,
 };
-
-/// The highest session number.
-const SESSIONS: u64 = 64;
 
 /// Whether each name of a column list is a column's, and none stands twice.
 fn is_column_list(columns: &[ColumnNumber]) -> bool
@@ -223,7 +220,7 @@ pub fn step_of(
     ensures unless { UnlessMemory result (step_of schema.now reading session statement) }
     ensures memory { result ≡ Err Refusal.Memory → is_insert statement ≡ true }
 {
-    if session == 0 || session > SESSIONS {
+    if session == 0 || session > u64::from(MAX_SESSION) {
         return Err(Refusal::NoSession);
     }
     session_step(alloc, schema, reading, session as u8, statement)
