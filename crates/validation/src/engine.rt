@@ -106,6 +106,25 @@ impl Engine {
         }
     }
 
+    /// How a transaction of this start with these net changes would end now, by this reading of the clock: what `commit`
+    /// answers. Nothing has changed.
+    pub fn validate(
+        &self,
+        start: Instant,
+        net: &Net,
+        reading: Instant,
+    ) -> Result<Option<Instant>, Refusal>
+        ensures outcome { (schema : Schema) (m : Changes)
+            → Holds schema self.now m → AreKeysIn schema net.now
+            → result ≢ Err Refusal.Memory
+            → result ≡ outcome m (last self.now) start net.now reading }
+        ensures later { IfOk result (λ end. IfSome end (λ instant. last self.now < instant)) }
+        ensures in_range { IfOk result (λ end. IfSome end (λ instant. instant ≤ max_instant)) }
+        ensures some { IfOk result (λ end. IfSome end (λ _. 0 < length net.now)) }
+    {
+        self.outcome(start, net, reading)
+    }
+
     /// Splits the current data node of a key, where its cut lies inside the node; else, and where memory runs out,
     /// nothing has changed.
     pub fn split(&mut self, cut: &Cut) -> Mem<bool>
@@ -120,12 +139,15 @@ impl Engine {
         }
     }
 
-    /// Adds net changes at an instant after the last.
-    fn add(&mut self, instant: Instant, net: Net) -> Mem<()>
+    /// Adds net changes at an instant after the last, as `validate` answers it. Where memory runs out nothing has changed.
+    pub fn add(&mut self, instant: Instant, net: Net) -> Mem<()>
         requires later { last self.old < instant }
         requires in_range { instant ≤ max_instant }
         requires some { 0 < length net }
         ensures ok { OnOk result (Adds instant net self.old self.new) }
+        ensures holds { OnOk result ((schema : Schema) (m : Changes)
+            → Holds schema self.old m → AreKeysIn schema net
+            → Holds schema self.new (add_net instant m net)) }
         ensures err { OnErr result (self.new ≡ self.old) }
         ensures memory { OnlyMemory result }
     {
