@@ -43,7 +43,8 @@ fn no_session(session: u8) -> Option<Refusal>
     }
 }
 
-fn insert_misfit(schema: &Schema, session: u8, table: u8, rows: &[Row]) -> Option<Refusal>
+/// Why rows that a session inserts into a table, by its number, do not fit: the session, the table, the first column at fault.
+pub fn insert_misfit(schema: &Schema, session: u8, table: u8, rows: &[Row]) -> Option<Refusal>
     ensures { result ≡ misfit_of schema.now session table (λ t. rows_fault t rows.now) }
 {
     match table_of(schema, session, table) {
@@ -52,7 +53,8 @@ fn insert_misfit(schema: &Schema, session: u8, table: u8, rows: &[Row]) -> Optio
     }
 }
 
-fn update_misfit(schema: &Schema, session: u8, keys: &Keys, sets: &[Set]) -> Option<Refusal>
+/// Why what a session sets by keys does not fit: the session, the table, the first column at fault, new values before comparisons.
+pub fn update_misfit(schema: &Schema, session: u8, keys: &Keys, sets: &[Set]) -> Option<Refusal>
     ensures { result ≡
         misfit_of schema.now session keys.now.table (update_fault keys.now sets.now) }
 {
@@ -65,7 +67,8 @@ fn update_misfit(schema: &Schema, session: u8, keys: &Keys, sets: &[Set]) -> Opt
     }
 }
 
-fn keys_misfit(schema: &Schema, session: u8, keys: &Keys) -> Option<Refusal>
+/// Why keys that a session names do not fit: the session, the table, the first column at fault.
+pub fn keys_misfit(schema: &Schema, session: u8, keys: &Keys) -> Option<Refusal>
     ensures { result ≡ misfit_of schema.now session keys.now.table (keys_fault keys.now) }
 {
     match table_of(schema, session, keys.table) {
@@ -74,7 +77,8 @@ fn keys_misfit(schema: &Schema, session: u8, keys: &Keys) -> Option<Refusal>
     }
 }
 
-fn key_misfit(schema: &Schema, key: &Key) -> Option<Refusal>
+/// Why a key does not fit: the table, the first column at fault.
+pub fn key_misfit(schema: &Schema, key: &Key) -> Option<Refusal>
     ensures { result ≡ key_misfit schema.now key.now }
 {
     match table_of(schema, 0, key.table) {
