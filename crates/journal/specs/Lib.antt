@@ -1,0 +1,3 @@
+pub mod Entries
+pub mod Legal
+pub mod JournalState

@@ -1,0 +1,41 @@
+//! Receipts.
+ghost use Rattle.std.specs.Prelude.{◌≡◌, ◌≤◌, ◌-◌, length, slice_get, Some, true};
+
+use crate::entry::SharedEntry;
+use growlog::{Prefix, StoreName};
+
+/// An entry with its number, from 1. The prefix that it keeps has the entry in its place, unless it ends before.
+#[derive(Drop)]
+pub struct Receipt<J: StoreName> {
+    pub number: u64,
+    pub entry: SharedEntry,
+    prefix: Prefix<SharedEntry, J>,
+    pub ghost counts: { 1 ≤ number },
+    pub ghost stands: { number ≤ length prefix → slice_get prefix (number - 1) ≡ Some entry },
+}
+
+impl<J: StoreName> Receipt<J> {
+    /// The receipt of the entry with a number, by a prefix of the log that has the entry or ends before it.
+    pub fn new(number: u64, entry: SharedEntry, prefix: Prefix<SharedEntry, J>) -> Receipt<J>
+        requires counts { 1 ≤ number }
+        requires stands { number ≤ length prefix → slice_get prefix (number - 1) ≡ Some entry }
+        ensures number { result.number ≡ number }
+        ensures entry { result.entry ≡ entry }
+    {
+        Receipt {
+            number,
+            entry,
+            prefix,
+        }
+    }
+
+    /// Whether the prefix reaches the number, and so has the entry.
+    pub fn is_in(&self, whole: &Prefix<SharedEntry, J>) -> bool
+        ensures has { result ≡ true →
+            slice_get whole.now (self.now.number - 1) ≡ Some self.now.entry }
+        ensures reaches { result ≡ true → self.now.number ≤ length whole.now }
+    {
+        whole.agrees(&self.prefix);
+        self.number <= self.prefix.len() && self.number <= whole.len()
+    }
+}
