@@ -1,0 +1,8 @@
+use Rattle.book.proofs.Growing.{new_book}
+use Rattle.book.proofs.book.Book.new.Goals as goal
+
+pub invariant_of-result : goal.invariant_of-result
+invariant_of-result g c = new_book g.J.StoreName.schema c.in_ok-new.field-0 c.new-2.result.entries c.in_ok-new.ensures.ok c.new-2.ensures
+
+pub returns-clause-book : goal.returns-clause-book
+returns-clause-book g c = new_book g.J.StoreName.schema c.in_ok-new.field-0 c.new-2.result.entries c.in_ok-new.ensures.ok c.new-2.ensures

@@ -1,0 +1,6 @@
+use Rattle.std.proofs.Common.{sym}
+use Rattle.book.proofs.Growing.{not_memory}
+use Rattle.book.proofs.commit.ending.Goals as goal
+
+pub returns-clause-is : goal.returns-clause-is
+returns-clause-is c = λ schema m held keys. c.validate-end.ensures.outcome schema m held keys (not_memory c.validate-end.result (sym c.if-ran_out.ensures))

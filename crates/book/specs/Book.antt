@@ -1,0 +1,63 @@
+-- What contracts see of a book, and what its calls make of it.
+use Rattle.std.specs.Prelude.{◌≡◌, ℕ, ◌≤◌, ◌∷◌, Bool, if◌then◌else◌, length}
+use Rattle.values.specs.Tables.{Schema}
+use Rattle.values.specs.Log.{Net, last, changes}
+use Rattle.values.specs.Commits.{outcome}
+use Rattle.tsbtree.specs.View.{TreeState, last as view_last}
+use Rattle.staging.specs.View.{Holds}
+use Rattle.validation.specs.declared.cut.Cut.{Cut}
+use Rattle.validation.specs.Split.{IsSplit}
+use Rattle.journal.specs.declared.entry.Begun.{Begun}
+use Rattle.journal.specs.declared.entry.Entry.{Entry}
+use Rattle.journal.specs.declared.entry.Entry.TheVariants.{Begin, Commit, Split}
+use Rattle.journal.specs.Entries.{Entries, log, has_entry_of}
+use Rattle.journal.specs.Legal.{IsLegal}
+
+-- what was committed, and the entries, the newest first
+pub record BookState : Type 0 where
+  pub engine : TreeState
+  pub entries : Entries
+
+-- the entries that a journal may hold
+abbrev pub most_entries : ℕ
+most_entries = 1000000
+
+-- the journal is legal, the tree holds what its log changed, and the clock stands at its last instant
+pub record IsBook (schema : Schema) (b : BookState) : Type 0 where
+  pub legal : IsLegal b.entries
+  pub holds : Holds schema b.engine (changes (log b.entries))
+  pub clock : view_last b.engine ≡ last (log b.entries)
+  pub room : length b.entries ≤ most_entries
+
+-- the number, where an entry of the session has it, or else 0
+abbrev pub earlier_in : Entries → ℕ → ℕ → ℕ
+earlier_in j session number = if has_entry_of j session number then number else 0
+
+-- the entry of a begin now
+abbrev pub begin_entry : BookState → ℕ → ℕ → Entry
+begin_entry b session earlier = Begin session (earlier_in b.entries session earlier) b.engine
+
+-- what a session keeps of a begin now
+abbrev pub begun_now : BookState → ℕ → ℕ → ℕ → Begun
+begun_now b session earlier number = record {
+  number = number;
+  earlier = earlier_in b.entries session earlier;
+  start = view_last b.engine;
+}
+
+-- the entry of a commit now: the first committer wins
+abbrev pub commit_entry : BookState → ℕ → Begun → Net → ℕ → Entry
+commit_entry b session begun net reading =
+    Commit session begun.number net reading
+    (outcome (changes (log b.entries)) (last (log b.entries)) begun.start net reading)
+
+-- there is one entry more, and this is its number
+pub record Adds (e : Entry) (number : ℕ) (old new : BookState) : Type 0 where
+  pub entries_are : new.entries ≡ e ∷ old.entries
+  pub numbered : number ≡ length new.entries
+
+-- the entry of a split, which did to the tree what the entry says
+pub record IsSplitEntry (cut : Cut) (old new : TreeState) (e : Entry) : Type 0 where
+  pub done : Bool
+  pub entry_is : e ≡ Split cut done
+  pub split : IsSplit cut old new done

@@ -1,0 +1,64 @@
+//! A begin.
+ghost use Rattle.std.specs.Prelude.{◌≡◌, ◌<◌, [], Err, IfOk, OnErr, length};
+ghost use Rattle.values.specs.Memory.{OnlyMemory};
+ghost use Rattle.book.specs.Book.{Adds, IsBook, begin_entry, begun_now, most_entries};
+
+use crate::book::{Book, make_room, twice};
+use growlog::StoreName;
+use journal::{Begun, Entry, Receipt};
+use transaction::OpenTransaction;
+use values::Refusal;
+
+/// A transaction that begins: what its session keeps of the begin, the begin's receipt, and the transaction.
+#[derive(Drop)]
+pub struct Opening<J: StoreName> {
+    pub begun: Begun,
+    pub receipt: Receipt<J>,
+    pub transaction: OpenTransaction,
+}
+
+impl<J: StoreName> Book<J> {
+    /// Begins a transaction of a session, which sees all that was committed. The entry names an earlier one of the session, by its number, if that is one, or else 0.
+    /// `JournalFull` where no more entries may stand. After a refusal nothing has changed.
+    pub fn begin(&mut self, session: u8, earlier: u64) -> Result<Opening<J>, Refusal>
+        ensures entry { IfOk result (λ o.
+            o.receipt.entry ≡ begin_entry self.old session earlier) }
+        ensures adds { IfOk result (λ o. Adds o.receipt.entry o.receipt.number self.old self.new) }
+        ensures begun { IfOk result (λ o.
+            o.begun ≡ begun_now self.old session earlier o.receipt.number) }
+        ensures view { IfOk result (λ o.
+            o.transaction ≡ record { view = self.old.engine; writes = [] }) }
+        ensures engine { self.new.engine ≡ self.old.engine }
+        ensures book { IsBook J.schema self.new }
+        ensures full { length self.old.entries ≡ most_entries
+            → result ≡ Err Refusal.JournalFull }
+        ensures room { length self.old.entries < most_entries → OnlyMemory result }
+        ensures refused { OnErr result (self.new ≡ self.old) }
+    {
+        make_room(&mut self.journal)?;
+        let earlier = if self.journal.has_entry_of(session, earlier) {
+            earlier
+        } else {
+            0
+        };
+        let transaction = OpenTransaction::begin(self.alloc, self.engine.begin()?)?;
+        let view = self.engine.begin()?;
+        let entry = Entry::Begin {
+            session,
+            earlier,
+            view,
+        };
+        let (entry, kept) = twice(self.alloc, entry)?;
+        let receipt = self.journal.push(entry, kept);
+        let begun = Begun {
+            number: receipt.number,
+            earlier,
+            start: transaction.start(),
+        };
+        Ok(Opening {
+            begun,
+            receipt,
+            transaction,
+        })
+    }
+}

@@ -1,0 +1,81 @@
+//! The end of a book.
+ghost use Rattle.std.specs.Prelude.{◌≡◌, All, IsPermutation, Some, length, map, true};
+ghost use Rattle.journal.specs.Entries.{entry_at, numbers};
+ghost use Rattle.book.specs.Book.{IsBook};
+
+use crate::book::Book;
+use growlog::StoreName;
+use journal::{Receipt, SharedEntry};
+use std::marker::Model;
+use tsbtree::Tree;
+use validation::Engine;
+
+/// A book that is closed: the tree, and all entries. Contracts see what they see of a book.
+#[derive(Drop)]
+pub struct Closed {
+    engine: Engine,
+    entries: Vec<SharedEntry>,
+}
+
+impl Model for Closed {
+    ghost use Rattle.std.specs.Prelude.{reverse};
+    ghost use Rattle.book.specs.Book.{BookState};
+
+    ghost Value = { BookState };
+
+    ghost view = { λ c. record { engine = c.engine; entries = reverse c.entries.items } };
+}
+
+impl Closed {
+    ghost use Rattle.std.specs.Prelude.{reverse};
+
+    /// The entries, the oldest first.
+    pub fn journal(&self) -> &[SharedEntry]
+        ensures { reverse result.now ≡ self.now.entries }
+    {
+        self.entries.as_slice()
+    }
+
+    /// How many entries there are.
+    pub fn entries(&self) -> usize
+        ensures { result ≡ length self.now.entries }
+    {
+        self.entries.len()
+    }
+
+    /// The tree of what was committed.
+    pub fn tree(&self) -> &Tree
+        ensures { result.now ≡ self.now.engine }
+    {
+        self.engine.tree()
+    }
+}
+
+impl<J: StoreName> Book<J> {
+    /// Whether the receipts are those of the entries, one for each, in whatever order they come. It takes no memory, and looks at numbers alone.
+    pub fn is_covered(&self, receipts: &mut Vec<Receipt<J>>) -> bool
+        ensures same { IsPermutation receipts.old.items receipts.new.items }
+        ensures stand { result ≡ true → All (λ r.
+            entry_at self.now.entries r.number ≡ Some r.entry) receipts.old.items }
+        ensures once { result ≡ true → IsPermutation
+            (map (λ r. r.number) receipts.old.items) (numbers (length self.now.entries)) }
+    {
+        self.journal.is_covered(receipts)
+    }
+
+    /// The tree and the entries, to which no more are added.
+    pub fn close(self) -> Closed
+        ensures is { result ≡ self }
+        ensures book { IsBook J.schema result }
+    {
+        let Book {
+            alloc: _alloc,
+            engine,
+            journal,
+        } = self;
+        Closed {
+            engine,
+            entries: journal.into_entries(),
+        }
+    }
+}

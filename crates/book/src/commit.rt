@@ -1,0 +1,108 @@
+//! A commit: the first committer wins.
+ghost use Rattle.std.specs.Prelude.{◌≡◌, ◌<◌, Err, IfOk, IfSome, OnErr, OnOk, false, length, true};
+ghost use Rattle.values.specs.Events.{AreKeysIn};
+ghost use Rattle.values.specs.Memory.{OnlyMemory};
+ghost use Rattle.journal.specs.Entries.{is_open};
+ghost use Rattle.book.specs.Book.{Adds, IsBook, commit_entry, most_entries};
+ghost use Rattle.book.specs.Ending.{IsEnd, IsWritten, MayBeWritten, instant_of, ran_out};
+
+use crate::book::{Book, make_room, twice};
+use growlog::StoreName;
+use journal::{Begun, Entry, Receipt};
+use staging::Net;
+use validation::Engine;
+use values::{Instant, Mem, Refusal};
+
+impl<J: StoreName> Book<J> {
+    /// Ends a session's transaction with its net changes, by this reading of the clock: how it ended is in the entry. The changes are handed in twice, once to be kept
+    /// in the entry and once to be put in the tree. `NoTransaction` where the transaction is not open here, `JournalFull` where no more entries may stand. After a refusal nothing has changed.
+    pub fn commit(
+        &mut self,
+        session: u8,
+        begun: &Begun,
+        net: Net,
+        changes: Net,
+        reading: Instant,
+    ) -> Result<Receipt<J>, Refusal>
+        requires keys { AreKeysIn J.schema net }
+        requires twice { changes ≡ net }
+        ensures entry { IfOk result (λ r.
+            r.entry ≡ commit_entry self.old session begun.now net reading) }
+        ensures adds { IfOk result (λ r. Adds r.entry r.number self.old self.new) }
+        ensures book { IsBook J.schema self.new }
+        ensures none { is_open self.old.entries session begun.now ≡ false
+            → result ≡ Err Refusal.NoTransaction }
+        ensures full { is_open self.old.entries session begun.now ≡ true
+            → length self.old.entries ≡ most_entries → result ≡ Err Refusal.JournalFull }
+        ensures room { is_open self.old.entries session begun.now ≡ true
+            → length self.old.entries < most_entries → OnlyMemory result }
+        ensures refused { OnErr result (self.new ≡ self.old) }
+    {
+        if !self.journal.is_open(session, begun) {
+            return Err(Refusal::NoTransaction);
+        }
+        make_room(&mut self.journal)?;
+        let end = ending(&self.engine, begun.start, &net, reading)?;
+        let instant = instant_of(&end);
+        let entry = Entry::Commit {
+            session,
+            begin: begun.number,
+            net,
+            reading,
+            end,
+        };
+        let (entry, kept) = twice(self.alloc, entry)?;
+        // What the tree takes is the last that can be refused.
+        write(&mut self.engine, instant, changes)?;
+        Ok(self.journal.push(entry, kept))
+    }
+}
+
+/// The validation: how a transaction would end.
+fn ending(
+    engine: &Engine,
+    start: Instant,
+    net: &Net,
+    reading: Instant,
+) -> Mem<Result<Option<Instant>, Refusal>>
+    ensures is { IfOk result (IsEnd engine.now start net.now reading) }
+    ensures put { IfOk result (λ end. IfSome (instant_of end) (MayBeWritten engine.now net.now)) }
+    ensures memory { OnlyMemory result }
+{
+    let end = engine.validate(start, net, reading);
+    if ran_out(&end) {
+        return Err(Refusal::Memory);
+    }
+    Ok(end)
+}
+
+/// The write: puts the changes of a transaction in place, where it is committed. Where memory runs out nothing has changed.
+fn write(engine: &mut Engine, instant: Option<Instant>, changes: Net) -> Mem<()>
+    requires { IfSome instant (MayBeWritten engine.old changes) }
+    ensures ok { OnOk result (IsWritten engine.old engine.new changes instant) }
+    ensures err { OnErr result (engine.new ≡ engine.old) }
+    ensures memory { OnlyMemory result }
+{
+    match instant {
+        None => Ok(()),
+        Some(instant) => engine.add(instant, changes),
+    }
+}
+
+/// Whether memory ran out before it was known how a transaction ends.
+fn ran_out(end: &Result<Option<Instant>, Refusal>) -> bool
+    ensures { result ≡ ran_out end.now }
+{
+    matches!(end, Err(Refusal::Memory))
+}
+
+/// The instant of a transaction that is committed.
+fn instant_of(end: &Result<Option<Instant>, Refusal>) -> Option<Instant>
+    ensures { result ≡ instant_of end.now }
+{
+    match end {
+        Ok(Some(instant)) => Some(*instant),
+        Ok(None) => None,
+        Err(_) => None,
+    }
+}

@@ -1,0 +1,60 @@
+//! A split of a node, which changes nothing that was committed.
+ghost use Rattle.std.specs.Prelude.{◌≡◌, ◌<◌, Err, IfOk, OnErr, length};
+ghost use Rattle.values.specs.Memory.{OnlyMemory};
+ghost use Rattle.tsbtree.specs.Growth.{HoldsSame};
+ghost use Rattle.journal.specs.declared.entry.Entry.TheVariants.{Split};
+ghost use Rattle.book.specs.Book.{Adds, IsBook, IsSplitEntry, most_entries};
+
+use crate::book::{Book, make_room, twice};
+use growlog::StoreName;
+use journal::{Entry, Receipt, SharedEntry};
+use std::alloc::Global;
+use validation::Cut;
+use values::{Mem, Refusal};
+
+impl<J: StoreName> Book<J> {
+    /// Splits the current data node of a key, where its cut lies inside the node: whether it did is in the entry. `JournalFull` where no more entries may stand. After a refusal nothing has changed.
+    pub fn split(&mut self, cut: Cut) -> Result<Receipt<J>, Refusal>
+        ensures entry { IfOk result (λ r.
+            IsSplitEntry cut self.old.engine self.new.engine r.entry) }
+        ensures adds { IfOk result (λ r. Adds r.entry r.number self.old self.new) }
+        ensures same { HoldsSame self.old.engine self.new.engine }
+        ensures book { IsBook J.schema self.new }
+        ensures full { length self.old.entries ≡ most_entries
+            → result ≡ Err Refusal.JournalFull }
+        ensures room { length self.old.entries < most_entries → OnlyMemory result }
+        ensures refused { OnErr result (self.new ≡ self.old) }
+    {
+        make_room(&mut self.journal)?;
+        let (done, done_kept) = split_entry(self.alloc, &cut, true)?;
+        let (left, left_kept) = split_entry(self.alloc, &cut, false)?;
+        // Which entry it is can be told only after the split, and then no memory is taken.
+        let is_done = self.engine.split(&cut)?;
+        Ok(if is_done {
+            self.journal.push(done, done_kept)
+        } else {
+            self.journal.push(left, left_kept)
+        })
+    }
+}
+
+/// The entry of a split, twice.
+fn split_entry(alloc: Global, cut: &Cut, done: bool) -> Mem<(SharedEntry, SharedEntry)>
+    ensures is { IfOk result (λ pair. pair.0 ≡ Split cut.now done) }
+    ensures twice { IfOk result (λ pair. pair.1 ≡ Split cut.now done) }
+    ensures memory { OnlyMemory result }
+{
+    let cut = copy_of(cut)?;
+    twice(alloc, Entry::Split { cut, done })
+}
+
+/// An equal cut.
+fn copy_of(cut: &Cut) -> Mem<Cut>
+    ensures ok { IfOk result (λ c. c ≡ cut.now) }
+    ensures memory { OnlyMemory result }
+{
+    match cut {
+        Cut::Key(key) => Ok(Cut::Key(key.copy()?)),
+        Cut::Time(key, instant) => Ok(Cut::Time(key.copy()?, *instant)),
+    }
+}
