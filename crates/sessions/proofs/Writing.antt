@@ -1,0 +1,48 @@
+-- A session after a write: all is as before but what its transaction wrote.
+use Rattle.std.proofs.Common.{◌≡◌, ℕ, List, [], Option, Some, None, refl, sym, ap, ◌∙◌, subst}
+use Rattle.std.specs.Option.{option_map}
+use Rattle.values.specs.declared.table.Table.{Table}
+use Rattle.values.specs.Tables.{Schema, IsTable, table_at}
+use Rattle.values.specs.Log.{Changes, Net}
+use Rattle.values.specs.Events.{AreKeysIn}
+use Rattle.tsbtree.specs.View.{last}
+use Rattle.staging.specs.View.{Holds}
+use Rattle.staging.specs.Own.{WhenRead}
+use Rattle.transaction.specs.TransactionState.{TransactionState}
+use Rattle.journal.specs.declared.entry.Begun.{Begun}
+use Rattle.sessions.specs.SessionState.{RunningState, SessionState, IsRunning, IsSession, MayRun, WithWrites, running, with_transaction, with_writes}
+
+abbrev pub state : ℕ → Schema → ℕ → Option RunningState → SessionState
+state number schema receipt o = record { number = number; schema = schema; receipt = receipt; transaction = o }
+
+as_it_is : (o : Option RunningState) → (writes : Net) × (o ≡ option_map (with_writes writes) o)
+as_it_is None = ([], refl)
+as_it_is (Some t) = (t.writes, refl)
+
+pub same_writes : (s : SessionState) → WithWrites s s
+same_writes s = let p = as_it_is s.transaction in (p.0, λ k. state s.number s.schema s.receipt (p.1 k))
+
+module _ (number : ℕ) (schema : Schema) (receipt : ℕ) (o : Option RunningState) (begun : Begun) (old new : TransactionState) (is : o ≡ Some (running begun old)) (view : new.view ≡ old.view) where
+  pub with_new : (before : SessionState) → state number schema receipt o ≡ before → WithWrites before (state number schema receipt (Some (running begun new)))
+  with_new before seen = (
+    new.writes,
+    (λ k. state number schema receipt (Some (record { begun = begun; view = view k; writes = new.writes })))
+        ∙ (λ k. state number schema receipt (option_map (with_writes new.writes) (sym is k)))
+        ∙ (λ k. with_transaction (seen k) (option_map (with_writes new.writes) (seen k).transaction)),
+  )
+
+  pub written_is : (table : Table) (n : ℕ) → IsSession number schema o → Some table ≡ table_at schema n → IsTable n table → WhenRead table old.view old.writes (λ schema m. AreKeysIn schema new.writes) → IsSession number schema (Some (running begun new))
+  written_is table n was there good keys =
+      let runs : MayRun schema (Some (running begun old)) = subst (MayRun schema) is was.runs in
+      let ran : IsRunning schema (running begun old) runs.0 = runs.1 in
+      record {
+        in_range = was.in_range;
+        runs = (
+          runs.0,
+          record {
+            held = subst (λ v. Holds schema v runs.0) (sym view) ran.held;
+            keys = keys schema runs.0 (record { held = ran.held; keys = ran.keys; is_table = ap (table_at schema) good.numbered ∙ sym there });
+            start_is = ran.start_is ∙ ap last (sym view);
+          },
+        );
+      }

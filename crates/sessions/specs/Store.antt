@@ -1,0 +1,52 @@
+-- What the store's calls do to a session.
+use Rattle.std.specs.Prelude.{◌≡◌, ℕ, [], Option, Some, None, Result, Bool, true, ◌==◌, ◌||◌}
+use Rattle.values.specs.declared.refusal.Refusal.{Refusal}
+use Rattle.values.specs.Log.{Changes, Net}
+use Rattle.tsbtree.specs.View.{TreeState, last}
+use Rattle.staging.specs.View.{Holds}
+use Rattle.staging.specs.Own.{net_over}
+use Rattle.validation.specs.declared.cut.Cut.{Cut}
+use Rattle.journal.specs.declared.entry.Entry.{Entry}
+use Rattle.journal.specs.declared.entry.Entry.TheVariants.{Begin, Commit, Split}
+use Rattle.sessions.specs.SessionState.{RunningState, SessionState}
+
+-- a transaction that has written nothing, by its begin's number, the entry before that it names, and its view
+abbrev pub begun_with : ℕ → ℕ → TreeState → RunningState
+begun_with number earlier view = record {
+  begun = record { number = number; earlier = earlier; start = last view };
+  view = view;
+  writes = [];
+}
+
+-- the session sees what the entry shows, which names the session's receipt before, or none
+pub record IsBegun (old new : SessionState) (number : ℕ) (e : Entry) : Type 0 where
+  pub earlier : ℕ
+  pub view : TreeState
+  pub entry_is : e ≡ Begin old.number earlier view
+  pub names : ((earlier == 0) || (earlier == old.receipt)) ≡ true
+  pub session_is : new ≡ record {
+    number = old.number;
+    schema = old.schema;
+    receipt = number;
+    transaction = Some (begun_with number earlier view);
+  }
+
+-- the entry names the session's begin, with what the session changed and the reading, and the transaction has ended
+pub record IsCommitted (old new : SessionState) (reading number : ℕ) (e : Entry) : Type 0 where
+  pub ran : RunningState
+  pub was_open : old.transaction ≡ Some ran
+  pub net : Net
+  pub end : Result (Option ℕ) Refusal
+  pub entry_is : e ≡ Commit old.number ran.begun.number net reading end
+  pub net_is : (m : Changes) → Holds old.schema ran.view m → net ≡ net_over m ran.writes
+  pub session_is : new ≡ record {
+    number = old.number;
+    schema = old.schema;
+    receipt = number;
+    transaction = None;
+  }
+
+-- the entry holds what was asked for
+pub record IsSplitOf (cut : Cut) (e : Entry) : Type 0 where
+  pub done : Bool
+  pub entry_is : e ≡ Split cut done

@@ -1,0 +1,115 @@
+//! A session: what its transaction sees of what was committed, and its own writes. Nothing here takes a lock.
+ghost use Rattle.std.specs.Prelude.{◌≡◌, ◌<◌, ◌≤◌, [], Err, IfOk, IsOk, MatchOption, None, Some};
+ghost use Rattle.histories.specs.Misfit.{max_session};
+ghost use Rattle.values.specs.Log.{Changes};
+ghost use Rattle.tsbtree.specs.View.{last};
+ghost use Rattle.staging.specs.View.{Holds};
+ghost use Rattle.sessions.specs.SessionState.{running, with_transaction};
+
+use book::Opening;
+use growlog::StoreName;
+use histories::MAX_SESSION;
+use journal::{Begun, Receipt};
+use rows::{Refusal, Schema};
+use std::alloc::Global;
+use std::marker::Model;
+use transaction::OpenTransaction;
+
+/// A transaction that a session has open, and where it began.
+#[derive(Drop)]
+pub(crate) struct Running {
+    pub(crate) begun: Begun,
+    pub(crate) transaction: OpenTransaction,
+}
+
+impl Model for Running {
+    ghost use Rattle.sessions.specs.SessionState.{RunningState};
+
+    ghost Value = { RunningState };
+
+    ghost view = { λ r. record { begun = r.begun; view = r.transaction.view; writes = r.transaction.writes } };
+}
+
+/// A session of a store, with a transaction open or none. It belongs to no store: what it began at one is not open at another.
+#[derive(Drop)]
+pub struct Session {
+    pub(crate) alloc: Global,
+    pub(crate) number: u8,
+    pub(crate) schema: Schema,
+    pub(crate) receipt: u64,
+    pub(crate) running: Option<Running>,
+}
+
+impl Model for Session {
+    ghost use Rattle.sessions.specs.SessionState.{SessionState, IsSession};
+
+    ghost Value = { SessionState };
+
+    ghost view = { λ s. record { number = s.number; schema = s.schema; receipt = s.receipt; transaction = s.running } };
+
+    ghost invariant = { λ s. IsSession s.number s.schema s.running };
+}
+
+impl Session {
+    /// A session of these tables, with no transaction open. `NoSession` where the number is above 64; 0 is the service's own.
+    pub fn new(alloc: Global, number: u8, schema: Schema) -> Result<Session, Refusal>
+        ensures ok { IfOk result (λ s. s
+            ≡ record { number = number; schema = schema; receipt = 0; transaction = None }) }
+        ensures above { max_session < number → result ≡ Err Refusal.NoSession }
+        ensures upto { number ≤ max_session → IsOk result }
+    {
+        if number > MAX_SESSION {
+            return Err(Refusal::NoSession);
+        }
+        Ok(Session {
+            alloc,
+            number,
+            schema,
+            receipt: 0,
+            running: None,
+        })
+    }
+
+    /// The number of the last receipt that a store gave the session, 0 at first.
+    pub fn last_receipt(&self) -> u64
+        ensures { result ≡ self.now.receipt }
+    {
+        self.receipt
+    }
+
+    /// Ends the open transaction with no trace. `NoTransaction` where none is open. It takes no memory.
+    pub fn rollback(&mut self) -> Result<(), Refusal>
+        ensures which { MatchOption self.old.transaction
+            (result ≡ Err Refusal.NoTransaction) (λ _. IsOk result) }
+        ensures ok { self.new ≡ with_transaction self.old None }
+    {
+        if self.running.is_none() {
+            return Err(Refusal::NoTransaction);
+        }
+        self.running = None;
+        Ok(())
+    }
+
+    /// Takes up a transaction that a store has begun, and hands on its receipt.
+    pub(crate) fn take<J: StoreName>(&mut self, opening: Opening<J>) -> Receipt<J>
+        requires shown { (m : Changes) × Holds self.old.schema opening.transaction.view m }
+        requires unwritten { opening.transaction.writes ≡ [] }
+        requires start { opening.begun.start ≡ last opening.transaction.view }
+        ensures receipt { result ≡ opening.receipt }
+        ensures session { self.new ≡ record {
+          number = self.old.number;
+          schema = self.old.schema;
+          receipt = opening.receipt.number;
+          transaction = Some (running opening.begun opening.transaction);
+        } }
+    {
+        let Opening {
+            begun,
+            receipt,
+            transaction,
+        } = opening;
+        self.receipt = receipt.number;
+        self.running = Some(Running { begun, transaction });
+        receipt
+    }
+}

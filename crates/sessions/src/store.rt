@@ -1,0 +1,127 @@
+//! The store: the book under its lock.
+ghost use Rattle.std.specs.Prelude.{◌≡◌, ◌≢◌, All, Err, IfErr, IfOk, IsPermutation, IsSome, None, OnErr, Some, length, map};
+ghost use Rattle.values.specs.Memory.{OnlyMemory};
+ghost use Rattle.journal.specs.Entries.{entry_at, numbers};
+ghost use Rattle.book.specs.Book.{IsBook};
+ghost use Rattle.sessions.specs.Store.{IsBegun, IsCommitted, IsSplitOf};
+
+use crate::same_schema::is_same_schema;
+use crate::session::{Running, Session};
+use book::{Book, Closed, Opening};
+use growlog::{NewLog, StoreName};
+use journal::{Begun, Receipt, SharedEntry};
+use rows::{Instant, Mem, Refusal, Schema};
+use std::alloc::Global;
+use std::sync::{Mutex, Wait};
+use validation::Cut;
+
+/// A store round which many threads run sessions. What its calls say they say if they return.
+#[derive(Drop)]
+pub struct LockedStore<J: StoreName> {
+    schema: Schema,
+    book: Mutex<Book<J>>,
+    pub ghost named: { schema ≡ J.schema },
+}
+
+/// A store that is not closed, since the receipts are not one for each entry. They are handed back in some order, and closing can be tried again.
+#[derive(Drop)]
+pub struct Unclosed<J: StoreName> {
+    pub store: LockedStore<J>,
+    pub receipts: Vec<Receipt<J>>,
+}
+
+impl<J: StoreName> LockedStore<J> {
+    /// A store of these tables to which nothing has happened.
+    pub fn new(alloc: Global, schema: Schema, opened: NewLog<SharedEntry>) -> Mem<LockedStore<J>>
+        requires log { opened.seen.book ≡ J.book }
+        requires tables { schema ≡ J.schema }
+        ensures memory { OnlyMemory result }
+    {
+        let book = Book::new(alloc, opened)?;
+        Ok(LockedStore {
+            schema,
+            book: Mutex::new(book),
+        })
+    }
+
+    /// Begins a session's transaction, which sees what its receipt's entry shows. `NoTable` where the session is of other tables, `InTransaction` where one is open,
+    /// `JournalFull` where no more entries may stand. After a refusal nothing has changed.
+    pub fn begin<R: Wait>(&self, rt: &R, session: &mut Session) -> Result<Receipt<J>, Refusal>
+        ensures begun { IfOk result (λ r. IsBegun session.old session.new r.number r.entry) }
+        ensures other { session.old.schema ≢ J.schema → result ≡ Err Refusal.NoTable }
+        ensures open_before { session.old.schema ≡ J.schema → IsSome session.old.transaction
+            → result ≡ Err Refusal.InTransaction }
+        ensures refused { OnErr result (session.new ≡ session.old) }
+    {
+        if !is_same_schema(&self.schema, &session.schema) {
+            return Err(Refusal::NoTable);
+        }
+        if session.running.is_some() {
+            return Err(Refusal::InTransaction);
+        }
+        let opening = self.book.lock(rt).begin(session.number, session.receipt)?;
+        Ok(session.take(opening))
+    }
+
+    /// Ends a session's transaction, by this reading of the clock: how it ended is in the receipt's entry. `NoTable` where the session is of other tables, `NoTransaction` where none is open, or none at this store,
+    /// `JournalFull` where no more entries may stand. After a refusal nothing has changed, and the transaction is open still.
+    pub fn commit<R: Wait>(
+        &self,
+        rt: &R,
+        session: &mut Session,
+        reading: Instant,
+    ) -> Result<Receipt<J>, Refusal>
+        ensures committed { IfOk result (λ r.
+            IsCommitted session.old session.new reading r.number r.entry) }
+        ensures other { session.old.schema ≢ J.schema → result ≡ Err Refusal.NoTable }
+        ensures none { session.old.schema ≡ J.schema → session.old.transaction ≡ None
+            → result ≡ Err Refusal.NoTransaction }
+        ensures refused { OnErr result (session.new ≡ session.old) }
+    {
+        if !is_same_schema(&self.schema, &session.schema) {
+            return Err(Refusal::NoTable);
+        }
+        let Some(running) = &session.running else {
+            return Err(Refusal::NoTransaction);
+        };
+        let net = running.transaction.net()?;
+        let changes = running.transaction.net()?;
+        let begun = running.begun;
+        let receipt = self
+            .book
+            .lock(rt)
+            .commit(session.number, &begun, net, changes, reading)?;
+        session.running = None;
+        session.receipt = receipt.number;
+        Ok(receipt)
+    }
+
+    /// Splits the current data node of a key, where its cut lies inside the node: whether it did is in the receipt's entry. `JournalFull` where no more entries may stand. After a refusal nothing has changed.
+    pub fn split<R: Wait>(&self, rt: &R, cut: Cut) -> Result<Receipt<J>, Refusal>
+        ensures { IfOk result (λ r. IsSplitOf cut r.entry) }
+    {
+        self.book.lock(rt).split(cut)
+    }
+
+    /// Closes the store where the receipts are those of its entries, one for each, in whatever order they come. It takes no memory.
+    pub fn close(self, receipts: Vec<Receipt<J>>) -> Result<Closed, Unclosed<J>>
+        ensures book { IfOk result (IsBook J.schema) }
+        ensures stand { IfOk result (λ c. All (λ r.
+            entry_at c.entries r.number ≡ Some r.entry) receipts.items) }
+        ensures once { IfOk result (λ c. IsPermutation
+            (map (λ r. r.number) receipts.items) (numbers (length c.entries))) }
+        ensures unclosed { IfErr result (λ u. IsPermutation receipts.items u.receipts.items) }
+    {
+        let mut receipts = receipts;
+        let LockedStore { schema, book } = self;
+        let book = book.into_inner();
+        if book.is_covered(&mut receipts) {
+            return Ok(book.close());
+        }
+        let store = LockedStore {
+            schema,
+            book: Mutex::new(book),
+        };
+        Err(Unclosed { store, receipts })
+    }
+}
