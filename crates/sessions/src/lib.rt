@@ -5,6 +5,8 @@ mod read;
 mod same_schema;
 mod session;
 mod store;
+#[cfg(test)]
+mod tests;
 mod write;
 
 pub use session::Session;
