@@ -8,8 +8,6 @@ mod lookup;
 mod node;
 mod root;
 mod split;
-#[cfg(test)]
-mod tests;
 
 pub use event::with_event;
 pub use laws::{maps_are_read_off, meeting_references_are_one};

@@ -2,8 +2,6 @@
 #![tactic(auto)]
 
 mod same;
-#[cfg(test)]
-mod tests;
 mod tree;
 mod view;
 

@@ -4,7 +4,7 @@ use Rattle.values.specs.Event.{Event}
 use Rattle.values.specs.Events.{put_event}
 use Rattle.treenodes.specs.Map.{HoldsMap, IsNext, changes}
 use Rattle.treenodes.proofs.MapRead.{changes_is}
-use Rattle.treenodes.proofs.tests.two_events.Goals as goal
+use Rattle.treenodes_tests.proofs.node_tests.two_events.Goals as goal
 
 pub with_event-requires-2-clause-holds : goal.with_event-requires-2-clause-holds
 with_event-requires-2-clause-holds c =

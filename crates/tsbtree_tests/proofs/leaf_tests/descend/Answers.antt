@@ -1,6 +1,6 @@
 use Rattle.treenodes.specs.declared.node.Child.TheVariants.{Index}
 use Rattle.treenodes.proofs.LookupSteps.{shown_at, index_at}
-use Rattle.tsbtree.proofs.tests.descend.Goals as goal
+use Rattle.tsbtree_tests.proofs.leaf_tests.descend.Goals as goal
 
 pub find-requires-clause-tiled : goal.find-requires-clause-tiled
 find-requires-clause-tiled c =

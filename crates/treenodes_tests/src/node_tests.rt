@@ -4,15 +4,14 @@ ghost use Rattle.values.specs.Commits.{max_instant};
 ghost use Rattle.treenodes.specs.Tree.{IsTree};
 ghost use Rattle.treenodes.specs.Lookup.{IsData};
 
-use crate::node::{Child, Slot};
-use crate::{
-    can_split_key, can_split_time, data_at, leaf_alone, leaf_at, raised, way, with_event,
-    with_keys_split, with_time_split,
-};
 use slots::Slots;
 use std::alloc::Global;
 use std::process::Abort;
 use std::test::Fail;
+use treenodes::{
+    Child, Slot, can_split_key, can_split_time, data_at, leaf_alone, leaf_at, raised, way,
+    with_event, with_keys_split, with_time_split,
+};
 use values::{Event, Instant, KeyBytes, LAST, Mem, Row, Value};
 
 fn key(rt: &impl Abort, alloc: Global, number: u8) -> Mem<KeyBytes> {
@@ -79,21 +78,6 @@ fn split_leaf(alloc: Global, nodes: Slots<Slot>, key: &KeyBytes, at: Instant) ->
     Ok(nodes)
 }
 
-fn has_row(nodes: &Slots<Slot>, key: &KeyBytes, at: Instant) -> bool
-    requires tree { IsTree nodes.now }
-    requires instant { 1 ≤ at }
-{
-    let (number, _visits) = leaf_at(nodes, key, at);
-    data_at(nodes, number).at(key, at).is_some()
-}
-
-fn number_of(nodes: &Slots<Slot>, key: &KeyBytes, at: Instant) -> usize
-    requires tree { IsTree nodes.now }
-    requires instant { 1 ≤ at }
-{
-    leaf_at(nodes, key, at).0
-}
-
 /// The root with a row of key 1 from 100 on, and one of key 2 from 200 on.
 fn two_rows(rt: &impl Abort, alloc: Global) -> Mem<Slots<Slot>>
     ensures { IfOk result IsTree }
@@ -101,10 +85,57 @@ fn two_rows(rt: &impl Abort, alloc: Global) -> Mem<Slots<Slot>>
     two_events(alloc, event(rt, alloc, 1, 100)?, event(rt, alloc, 2, 200)?)
 }
 
+/// Its data node split at 200, below a new root.
+fn two_halves(rt: &impl Abort, alloc: Global) -> Mem<Slots<Slot>>
+    ensures { IfOk result IsTree }
+{
+    let nodes = two_rows(rt, alloc)?;
+    split_root(alloc, nodes, 200)
+}
+
+/// The current half split at key 2.
+fn three_parts(rt: &impl Abort, alloc: Global) -> Mem<Slots<Slot>>
+    ensures { IfOk result IsTree }
+{
+    let nodes = two_halves(rt, alloc)?;
+    let two = key(rt, alloc, 2)?;
+    split_leaf(alloc, nodes, &two, 250)
+}
+
+/// Whether a key has a row at an instant.
+fn has_row(
+    rt: &impl Abort,
+    alloc: Global,
+    nodes: &Slots<Slot>,
+    number: u8,
+    at: Instant,
+) -> Mem<bool>
+    requires tree { IsTree nodes.now }
+    requires instant { 1 ≤ at }
+{
+    let key = key(rt, alloc, number)?;
+    let (leaf, _visits) = leaf_at(nodes, &key, at);
+    Ok(data_at(nodes, leaf).at(&key, at).is_some())
+}
+
+/// The number of the data node of a key at an instant, and how many nodes lead to it.
+fn place(
+    rt: &impl Abort,
+    alloc: Global,
+    nodes: &Slots<Slot>,
+    number: u8,
+    at: Instant,
+) -> Mem<(usize, usize)>
+    requires tree { IsTree nodes.now }
+    requires instant { 1 ≤ at }
+{
+    let key = key(rt, alloc, number)?;
+    Ok(leaf_at(nodes, &key, at))
+}
+
 #[test]
 fn a_row_stands_from_its_instant_on(rt: HostRuntime) -> Result<(), Fail> {
-    let alloc = rt.alloc();
-    let nodes = two_rows(&rt, alloc)?;
+    let nodes = two_rows(&rt, rt.alloc())?;
     assert_eq!(rt; nodes.len(), 1);
     for (number, at, there) in [
         (1, 99, false),
@@ -112,42 +143,48 @@ fn a_row_stands_from_its_instant_on(rt: HostRuntime) -> Result<(), Fail> {
         (2, 199, false),
         (2, 200, true),
     ] {
-        let key = key(&rt, alloc, number)?;
-        assert_eq!(rt; has_row(&nodes, &key, at), there, "{number} at {at}");
+        let stands = has_row(&rt, rt.alloc(), &nodes, number, at)?;
+        assert_eq!(rt; stands, there, "{number} at {at}");
     }
     Ok(())
 }
 
 #[test]
 fn a_share_keeps_its_nodes(rt: HostRuntime) -> Result<(), Fail> {
-    let alloc = rt.alloc();
-    let nodes = two_rows(&rt, alloc)?;
+    let nodes = two_rows(&rt, rt.alloc())?;
     let before = nodes.share()?;
-    let after = split_root(alloc, nodes, 200)?;
-    assert_eq!(rt; before.len(), 1);
-    assert_eq!(rt; after.len(), 3);
-    let key = key(&rt, alloc, 2)?;
-    assert!(rt; has_row(&before, &key, 200));
-    assert!(rt; has_row(&after, &key, 200));
+    let after = split_root(rt.alloc(), nodes, 200)?;
+    assert_eq!(rt; (before.len(), after.len()), (1, 3));
+    assert!(rt; has_row(&rt, rt.alloc(), &before, 2, 200)?);
+    assert!(rt; has_row(&rt, rt.alloc(), &after, 2, 200)?);
     Ok(())
 }
 
 #[test]
 fn a_raised_root_is_split(rt: HostRuntime) -> Result<(), Fail> {
-    let alloc = rt.alloc();
-    let nodes = split_root(alloc, two_rows(&rt, alloc)?, 200)?;
-    let one = key(&rt, alloc, 1)?;
-    let two = key(&rt, alloc, 2)?;
-    for (at, number) in [(199, 1), (200, 2)] {
-        assert_eq!(rt; number_of(&nodes, &one, at), number, "at {at}");
+    let nodes = two_halves(&rt, rt.alloc())?;
+    for (number, at, found) in [(1, 199, (1, 2)), (1, 200, (2, 2)), (2, 250, (2, 2))] {
+        let at_point = place(&rt, rt.alloc(), &nodes, number, at)?;
+        assert_eq!(rt; at_point, found, "{number} at {at}");
     }
-    assert_eq!(rt; leaf_at(&nodes, &two, 250).1, 2);
-    let nodes = split_leaf(alloc, nodes, &two, 250)?;
-    assert_eq!(rt; number_of(&nodes, &one, 250), 2);
-    assert_eq!(rt; number_of(&nodes, &two, 250), 3);
-    assert_eq!(rt;
-        way(alloc, &nodes, &two, 250)?.as_slice(),
-        [0, 3].as_slice()
-    );
     Ok(())
+}
+
+#[test]
+fn a_leaf_below_the_root_is_split(rt: HostRuntime) -> Result<(), Fail> {
+    let nodes = three_parts(&rt, rt.alloc())?;
+    for (number, found) in [(1, (2, 2)), (2, (3, 2))] {
+        let at_point = place(&rt, rt.alloc(), &nodes, number, 250)?;
+        assert_eq!(rt; at_point, found, "{number}");
+    }
+    assert!(rt; is_way_from_root(&rt, rt.alloc(), &nodes)?);
+    Ok(())
+}
+
+/// Whether the way to key 2 goes from the root to node 3.
+fn is_way_from_root(rt: &impl Abort, alloc: Global, nodes: &Slots<Slot>) -> Mem<bool>
+    requires { IsTree nodes.now }
+{
+    let way = way(alloc, nodes, &key(rt, alloc, 2)?, 250)?;
+    Ok(way.as_slice() == [0, 3].as_slice())
 }

@@ -1,0 +1,5 @@
+//! Tests of `treenodes` by its public calls: a tree that takes events, and nodes that are split by hand.
+#![tactic(auto)]
+
+#[cfg(test)]
+mod node_tests;

@@ -1,0 +1,59 @@
+//! How a shape shows its nodes.
+use keyrange::Rect;
+use treewalk::Shape;
+use values::{Instant, KeyBytes};
+
+/// A node: the level from the root down, the lower and the upper key, or 0, the start and the end, and how much the node
+/// holds.
+pub(crate) type Line = (usize, u8, u8, Instant, Option<Instant>, usize);
+
+/// Whether a shape begins with some lines.
+pub(crate) fn begins_with(shape: &Shape, lines: &[Line]) -> bool {
+    for (place, line) in lines.iter().enumerate() {
+        if !is_line(shape, place, *line) {
+            return false;
+        }
+    }
+    true
+}
+
+/// Whether a shape shows a node so at a place.
+pub(crate) fn is_line(shape: &Shape, place: usize, line: Line) -> bool {
+    match shape.nodes.get(place) {
+        None => false,
+        Some(node) => {
+            height(shape).checked_sub(line.0) == Some(node.level)
+                && is_area(&node.rect, line)
+                && node.count == line.5
+                && !node.packed
+        }
+    }
+}
+
+fn is_area(rect: &Rect, line: Line) -> bool {
+    let (_, lo, hi, from, to, _) = line;
+    last_byte(&rect.keys().lo) == lo
+        && end_byte(&rect.keys().hi) == hi
+        && rect.time().from == from
+        && rect.time().to == to
+}
+
+/// The root's level.
+fn height(shape: &Shape) -> usize {
+    match shape.nodes.first() {
+        None => 0,
+        Some(root) => root.level,
+    }
+}
+
+/// The last byte of a key, or 0 where it has none.
+fn last_byte(key: &KeyBytes) -> u8 {
+    key.bytes().last().copied().unwrap_or(0)
+}
+
+fn end_byte(end: &Option<KeyBytes>) -> u8 {
+    match end {
+        None => 0,
+        Some(key) => last_byte(key),
+    }
+}
