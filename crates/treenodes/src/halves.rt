@@ -35,6 +35,29 @@ fn placed(
     Ok(nodes)
 }
 
+/// The nodes with other children at two numbers, and one more, at these levels.
+fn with_children(
+    alloc: Global,
+    nodes: Slots<Slot>,
+    numbers: (usize, usize),
+    levels: (usize, usize),
+    first: Child,
+    above: Child,
+    second: Child,
+) -> Mem<Slots<Slot>>
+    requires number { numbers.0 < length nodes }
+    requires parent { numbers.1 < length nodes }
+    ensures ok { IfOk result (λ s.
+        s ≡ slice_set (slice_set nodes numbers.0 (seen levels.0 first)) numbers.1
+        (seen levels.1 above) ++ seen levels.0 second ∷ []) }
+    ensures err { OnlyMemory result }
+{
+    let low = Slot::new(alloc, levels.0, first)?;
+    let middle = Slot::new(alloc, levels.1, above)?;
+    let high = Slot::new(alloc, levels.0, second)?;
+    placed(nodes, numbers.0, low, numbers.1, middle, high)
+}
+
 /// The nodes with two halves in the place of one: the first has its number, the second a new one, and both stand below
 /// its parent.
 pub(crate) fn with_halves(
@@ -70,8 +93,14 @@ pub(crate) fn with_halves(
     let node = above
         .index()
         .with_references(slot.child().rect(), lower, upper)?;
-    let low = Slot::new(alloc, level, first)?;
-    let middle = Slot::new(alloc, above.level(), Child::Index(node))?;
-    let high = Slot::new(alloc, level, second)?;
-    placed(nodes, number, low, parent, middle, high)
+    let height = above.level();
+    with_children(
+        alloc,
+        nodes,
+        (number, parent),
+        (level, height),
+        first,
+        Child::Index(node),
+        second,
+    )
 }

@@ -3,6 +3,7 @@ use Rattle.std.specs.Prelude.{IfOk, None}
 use Rattle.keyrange.specs.Rect.{IsArea}
 use Rattle.treenodes.specs.Node.{TreeNode, References, seen}
 use Rattle.treenodes.specs.Tree.{IsTree}
+use Rattle.treenodes.specs.declared.node.Child.TheVariants.{Index}
 use Rattle.treenodes.specs.Map.{HoldsMap}
 use Rattle.treenodes.specs.Split.{Halved}
 use Rattle.treenodes.proofs.HalvesParents.{parent_within, below_within, is_index, halves_of, has_whole, HasHalves, has_halves, given, weaker}
@@ -31,33 +32,33 @@ with_references-requires-clause-there c =
     (c.requires.split slot c.at-slot.ensures) c.rect-3.result.now c.in_ok-copy.field-0 c.in_ok-copy-2.field-0
     (c.rect-3.ensures.rect ∙ sym (ap (λ (q : TreeNode). q.rect) c.child.ensures)) (c.in_ok-copy.ensures.ok ∙ c.rect.ensures.rect) (c.in_ok-copy-2.ensures.ok ∙ c.rect-2.ensures.rect)
 
-pub placed-requires-clause-number : goal.placed-requires-clause-number
-placed-requires-clause-number c = below_within c.args.nodes c.requires.tree c.args.parent c.args.number c.requires.parent
+pub with_children-requires-clause-number : goal.with_children-requires-clause-number
+with_children-requires-clause-number c = below_within c.args.nodes c.requires.tree c.args.parent c.args.number c.requires.parent
 
-pub placed-requires-clause-parent : goal.placed-requires-clause-parent
-placed-requires-clause-parent c = parent_within c.args.nodes c.requires.tree c.args.parent c.args.number c.requires.parent
+pub with_children-requires-clause-parent : goal.with_children-requires-clause-parent
+with_children-requires-clause-parent c = parent_within c.args.nodes c.requires.tree c.args.parent c.args.number c.requires.parent
 
-facts : (c : goal.After-placed) → IfOk c.placed.result (HasHalves c.args.nodes c.args.parent c.args.number c.args.first c.args.second)
+facts : (c : goal.After-with_children) → IfOk c.with_children.result (HasHalves c.args.nodes c.args.parent c.args.number c.args.first c.args.second)
 facts c =
     let slot = c.at-slot.result.now in
     let node = c.in_ok-node.node in
-    given c.placed.result _ (HasHalves c.args.nodes c.args.parent c.args.number c.args.first c.args.second) c.placed.ensures.ok
+    given c.with_children.result _ (HasHalves c.args.nodes c.args.parent c.args.number c.args.first c.args.second) c.with_children.ensures.ok
     (has_halves c.args.nodes c.requires.tree c.args.parent c.args.number c.requires.parent slot c.at-above.result.now c.at-slot.ensures c.at-above.ensures c.index.result.now c.index.ensures c.args.first c.args.second
     (c.requires.split slot c.at-slot.ensures) c.rect-3.result.now c.in_ok-copy.field-0 c.in_ok-copy-2.field-0
     (c.rect-3.ensures.rect ∙ sym (ap (λ (q : TreeNode). q.rect) c.child.ensures)) (c.in_ok-copy.ensures.ok ∙ c.rect.ensures.rect) (c.in_ok-copy-2.ensures.ok ∙ c.rect-2.ensures.rect)
     (subst IsArea c.rect.ensures.rect c.rect.ensures.area) (subst IsArea c.rect-2.ensures.rect c.rect-2.ensures.area)
     c.len.result c.len.ensures node.references.items c.in_ok-node.ensures.replaced c.in_ok-node.ensures.tiled c.in_ok-node.ensures.current c.in_ok-node.ensures.meet
-    c.in_ok-low.low c.in_ok-middle.middle c.in_ok-high.high
-    (c.in_ok-low.ensures.ok ∙ ap (λ l. seen l c.args.first) c.level-level.ensures)
-    (c.in_ok-middle.ensures.ok ∙ (λ t. record { level = c.level.ensures t; rect = c.in_ok-node.ensures.rect t; content = References node.references.items; packed = None }))
-    (c.in_ok-high.ensures.ok ∙ ap (λ l. seen l c.args.second) c.level-level.ensures))
+    (seen c.level-level.result c.args.first) (seen c.level-height.result (Index node)) (seen c.level-level.result c.args.second)
+    (ap (λ l. seen l c.args.first) c.level-level.ensures)
+    (λ t. record { level = c.level-height.ensures t; rect = c.in_ok-node.ensures.rect t; content = References node.references.items; packed = None })
+    (ap (λ l. seen l c.args.second) c.level-level.ensures))
 
 pub returns-clause-tree : goal.returns-clause-tree
-returns-clause-tree c = weaker c.placed.result (HasHalves c.args.nodes c.args.parent c.args.number c.args.first c.args.second) IsTree (λ s h. h.tree) (facts c)
+returns-clause-tree c = weaker c.with_children.result (HasHalves c.args.nodes c.args.parent c.args.number c.args.first c.args.second) IsTree (λ s h. h.tree) (facts c)
 
 pub returns-clause-holds : goal.returns-clause-holds
-returns-clause-holds c = λ m n holds at cuts. weaker c.placed.result (HasHalves c.args.nodes c.args.parent c.args.number c.args.first c.args.second) (λ s. HoldsMap s m) (λ s h. h.holds m n holds at cuts) (facts c)
+returns-clause-holds c = λ m n holds at cuts. weaker c.with_children.result (HasHalves c.args.nodes c.args.parent c.args.number c.args.first c.args.second) (λ s. HoldsMap s m) (λ s h. h.holds m n holds at cuts) (facts c)
 
 pub returns-clause-halved : goal.returns-clause-halved
-returns-clause-halved c = λ n at. weaker c.placed.result (HasHalves c.args.nodes c.args.parent c.args.number c.args.first c.args.second)
+returns-clause-halved c = λ n at. weaker c.with_children.result (HasHalves c.args.nodes c.args.parent c.args.number c.args.first c.args.second)
     (λ s. Halved c.args.nodes s c.args.parent c.args.number (seen n.level c.args.first) (seen n.level c.args.second)) (λ s h. h.halved n at) (facts c)
