@@ -11,6 +11,3 @@ mod system;
 mod write;
 
 pub use system::System;
-
-#[cfg(test)]
-mod tests;

@@ -5,8 +5,6 @@ mod cut;
 mod laws;
 mod range;
 mod rect;
-#[cfg(test)]
-mod tests;
 
 pub use laws::{halves_part_their_whole, rectangles_have_points, rectangles_lie_inside};
 pub use range::{KeyRange, TimeRange, is_before_end, is_below, is_early};

@@ -3,8 +3,6 @@
 
 mod middle;
 mod split;
-#[cfg(test)]
-mod tests;
 
 pub use middle::middle_key;
 pub use split::split_key;

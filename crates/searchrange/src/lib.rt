@@ -5,8 +5,6 @@ mod narrowing;
 mod part;
 mod prefix;
 mod table_range;
-#[cfg(test)]
-mod tests;
 
 pub use narrowing::search_range;
 pub use table_range::range_of_table;

@@ -3,8 +3,6 @@
 
 mod share;
 mod slots;
-#[cfg(test)]
-mod tests;
 mod trie;
 
 pub use share::{Share, Update};

@@ -6,8 +6,6 @@ mod leaf;
 mod point;
 mod relief;
 mod split;
-#[cfg(test)]
-mod tests;
 
 pub use commit::with_commit;
 pub use split::{key_split, time_split};

@@ -8,8 +8,6 @@ mod last_change;
 mod level;
 mod listing;
 mod shape;
-#[cfg(test)]
-mod tests;
 
 pub use change_after::next_change;
 pub use last_change::changed_since;

@@ -3,8 +3,6 @@
 
 mod cut;
 mod engine;
-#[cfg(test)]
-mod tests;
 
 pub use cut::Cut;
 pub use engine::Engine;

@@ -10,7 +10,7 @@ use Rattle.treenodes.specs.Tree.{IsTree}
 use Rattle.treenodes.specs.Map.{HoldsMap, changes, latest}
 use Rattle.treenodes.proofs.MapRead.{changes_is}
 use Rattle.treenodes.proofs.MapLatest.{latest_is}
-use Rattle.treewalk.proofs.tests.grown.Goals as goal
+use Rattle.tree_tests.proofs.treewalk_tests.grown.Goals as goal
 
 below : (m : List Event) (t : ℕ) → latest m < t → (k : ℕ) (d : Event) → k < length m → (get_or m k d).at < t
 below [] t h k d lt = absurd (omega arith)

@@ -1,8 +1,8 @@
 //! Middle keys worked out by hand.
 
-use crate::{middle_key, split_key};
 use datanode::DataNode;
 use keyrange::{KeyRange, Rect, TimeRange};
+use keysplit::{middle_key, split_key};
 use std::alloc::Global;
 use std::process::Abort;
 use std::test::Fail;

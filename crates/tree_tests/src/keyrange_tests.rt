@@ -1,6 +1,6 @@
 //! Rectangles worked out by hand.
 
-use crate::{KeyRange, Rect, TimeRange};
+use keyrange::{KeyRange, Rect, TimeRange};
 use std::alloc::AllocError;
 use std::test::Fail;
 use values::{Instant, KeyBytes, LAST};

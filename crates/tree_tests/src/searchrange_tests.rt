@@ -1,7 +1,7 @@
 //! Ranges worked out by hand.
 
-use crate::{range_of_table, search_range};
 use keyrange::KeyRange;
+use searchrange::{range_of_table, search_range};
 use std::alloc::Global;
 use std::test::Fail;
 use values::{

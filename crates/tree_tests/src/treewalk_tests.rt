@@ -4,7 +4,6 @@ ghost use Rattle.values.specs.Commits.{max_instant};
 ghost use Rattle.treenodes.specs.Tree.{IsTree};
 ghost use Rattle.treenodes.specs.Map.{HoldsMap, changes, latest};
 
-use crate::{Shape, changed_since, events, leaves_in, next_change, standing, tree_shape};
 use keyrange::{KeyRange, Rect, TimeRange};
 use slots::Slots;
 use std::alloc::{AllocError, Global};
@@ -13,6 +12,7 @@ use std::test::Fail;
 use treenodes::{
     Slot, can_split_time, leaf_alone, leaf_at, raised, whole, with_event, with_time_split,
 };
+use treewalk::{Shape, changed_since, events, leaves_in, next_change, standing, tree_shape};
 use values::{Event, Instant, KeyBytes, LAST, Mem, Row, Value};
 
 fn key(rt: &impl Abort, alloc: Global, number: u8) -> Result<KeyBytes, AllocError> {

@@ -1,5 +1,5 @@
 //! Lists of numbers: what stands where, and what a share keeps.
-use crate::{Share, Slots, Update};
+use slots::{Share, Slots, Update};
 use std::alloc::Global;
 use std::test::Fail;
 use values::Mem;

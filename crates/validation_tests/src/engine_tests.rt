@@ -1,10 +1,10 @@
 //! Transactions that overlap.
 
-use crate::{Cut, Engine};
 use staging::{Net, Staged};
 use std::alloc::{AllocError, Global};
 use std::test::Fail;
 use tsbtree::View;
+use validation::{Cut, Engine};
 use values::{Chars, Instant, Key, KeyBytes, Mem, Refusal, Row, Table, Value, Values};
 
 fn employee(alloc: Global, number: i64, name: &str) -> Mem<Row> {

@@ -1,6 +1,6 @@
 //! Conversations with a store: each step beside what it must answer.
-use crate::System;
 use histories::{Listing, Reply, Step};
+use interleaving::System;
 use rows::{
     Chars, Comparison, Form, Instant, Key, Keys, Mem, Operator, Refusal, Row, Rows, Schema, Set,
     Sets, Shown, Value, Values,
@@ -351,19 +351,6 @@ fn a_transaction_writes_a_thousand_keys_and_no_more(rt: HostRuntime) -> Result<(
     talk.step(Step::Delete(1, some), "deleted 400")?;
     talk.commit(1, 7, "committed 7")?;
     talk.holds(&rt)
-}
-
-#[test]
-fn nothing_is_kept_beside_the_tree(rt: HostRuntime) -> Result<(), Fail> {
-    let system = Talk::new(rt.alloc()).taken()?;
-    let System {
-        alloc: _alloc,
-        schema: _schema,
-        engine: _engine,
-        sessions,
-    } = &system;
-    assert_eq!(rt; sessions.len(), 65);
-    Ok(())
 }
 
 /// How many nodes a tree has of one row, split at its instant and at its key.

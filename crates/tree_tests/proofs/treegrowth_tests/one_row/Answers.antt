@@ -1,6 +1,6 @@
 use Rattle.std.proofs.Common.{[], ◌∷◌, ◌++◌, ap, ◌∙◌}
 use Rattle.treegrowth.proofs.CommitFew.{one_commit}
-use Rattle.treegrowth.proofs.tests.one_row.Goals as goal
+use Rattle.tree_tests.proofs.treegrowth_tests.one_row.Goals as goal
 
 pub with_commit-requires-clause-commit : goal.with_commit-requires-clause-commit
 with_commit-requires-clause-commit g c =

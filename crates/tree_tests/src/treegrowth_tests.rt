@@ -2,11 +2,11 @@
 ghost use Rattle.std.specs.Prelude.{◌≡◌, IfOk};
 ghost use Rattle.treenodes.specs.Sound.{IsSound};
 
-use crate::{key_split, time_split, with_commit};
 use slots::Slots;
 use std::alloc::Global;
 use std::process::Abort;
 use std::test::Fail;
+use treegrowth::{key_split, time_split, with_commit};
 use treenodes::{Slot, leaf_alone};
 use values::{Event, Instant, KeyBytes, Mem, Row, Value};
 

@@ -1,0 +1,15 @@
+//! Tests of small crates of the tree by their public calls, a file for each crate.
+#![tactic(auto)]
+
+#[cfg(test)]
+mod keyrange_tests;
+#[cfg(test)]
+mod keysplit_tests;
+#[cfg(test)]
+mod searchrange_tests;
+#[cfg(test)]
+mod slots_tests;
+#[cfg(test)]
+mod treegrowth_tests;
+#[cfg(test)]
+mod treewalk_tests;

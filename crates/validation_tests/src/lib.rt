@@ -1,0 +1,5 @@
+//! Tests of `validation` by its public calls: transactions that overlap.
+#![tactic(auto)]
+
+#[cfg(test)]
+mod engine_tests;
