@@ -4,8 +4,6 @@
 mod period;
 mod selection;
 mod standing;
-#[cfg(test)]
-mod tests;
 mod window;
 
 pub use selection::answer;

@@ -2,10 +2,10 @@
 ghost use Rattle.std.specs.Prelude.{◌≤◌};
 ghost use Rattle.values.specs.Tables.{IsTable};
 
-use crate::{answer, current_rows, rows_at};
 use staging::{Net, Staged};
 use std::alloc::Global;
 use std::test::Fail;
+use systime_query::{answer, current_rows, rows_at};
 use tsbtree::Tree;
 use values::{
     Chars, Comparison, Form, Instant, Keys, Mem, Operator, Refusal, Row, Set, Shown, Table, Value,
