@@ -32,7 +32,7 @@ use Rattle.values.proofs.KeyOrder.{byte_order_is_key_order}
 use Rattle.tsbtree.specs.View.{events, TreeState}
 use Rattle.staging.specs.View.{Holds}
 use Rattle.staging.specs.Own.{rows_seen, net_over}
-use Rattle.staging.specs.Staged.{sees, net_in}
+use Rattle.staging.specs.Staged.{row_in, sees, net_in}
 use Rattle.eventlist.proofs.PlaceOrder.{sorted_tail}
 use Rattle.staging.proofs.Entries.{upon, row_at-apply}
 
@@ -152,6 +152,14 @@ sees_is schema t m w q h sorted hq = by (lookup (is_at (key_cmp q)) w) ∙ ap is
   where
     by : (o : Option (Option Row)) → elim o [ Some row ↦ is_some row | None ↦ is_some (row_until (events_of m) (bytes_of_key q) t) ] ≡ is_some (upon o (row_at (rows_after [] m) q))
     by None = ap is_some (row_until_is schema t m q h hq)
+    by (Some row) = refl
+
+-- and its row
+pub seen_is : (schema : Schema) (t : ℕ) (m : Changes) (w : Net) (q : Key) → AreSeen schema t m → T (is_sorted key_cmp w) → IsKeyIn schema q → row_in (events_of m) t w q ≡ row_at (rows_seen m w) q
+seen_is schema t m w q h sorted hq = by (lookup (is_at (key_cmp q)) w) ∙ sym (row_at-apply w (rows_after [] m) q (sorted_base m) sorted)
+  where
+    by : (o : Option (Option Row)) → elim o [ Some row ↦ row | None ↦ row_until (events_of m) (bytes_of_key q) t ] ≡ upon o (row_at (rows_after [] m) q)
+    by None = row_until_is schema t m q h hq
     by (Some row) = refl
 
 -- ---- net changes

@@ -15,10 +15,11 @@ use Rattle.values.specs.declared.query.Keys.{Keys}
 use Rattle.values.specs.declared.refusal.Refusal.{Refusal}
 use Rattle.values.specs.declared.refusal.Refusal.TheVariants.{TooManyWrites}
 use Rattle.values.specs.Order.{key_cmp}
-use Rattle.values.specs.Log.{Net, Row, Changes, apply_net, rows_after}
+use Rattle.values.specs.Log.{Net, Row, Changes, apply_net, row_at, rows_after}
 use Rattle.values.specs.Tables.{Schema}
 use Rattle.values.specs.Writes.{Written, write_keys, most_written, insert_all, add_keys}
 use Rattle.values.specs.Versions.{matches}
+use Rattle.values.specs.KeyReading.{IsKeyOf}
 use Rattle.values.specs.Events.{event_cmp, events_of, AreKeysIn}
 use Rattle.keyrange.specs.Range.{is_key_in}
 use Rattle.eventlist.specs.Listing.{standing}
@@ -26,11 +27,11 @@ use Rattle.staging.proofs.KeyTable.{is_of_table}
 use Rattle.tsbtree.specs.View.{events, TreeState}
 use Rattle.staging.specs.View.{Holds}
 use Rattle.staging.specs.Own.{Reads, rows_seen, own, net_over}
-use Rattle.staging.specs.Staged.{put_all, put_answer, rows_in, net_in}
+use Rattle.staging.specs.Staged.{put_all, put_answer, row_in, rows_in, net_in}
 use Rattle.staging.proofs.Narrowed.{narrowed, others, out_of_range}
 use Rattle.searchrange.specs.SearchRange.{search_range, Covers}
 use Rattle.staging.proofs.Entries.{sorted_from, apply-put_all, keys_put_all}
-use Rattle.staging.proofs.Bridge.{are_seen, sorted_base, net_is}
+use Rattle.staging.proofs.Bridge.{are_seen, sorted_base, key_in, net_is, seen_is}
 use Rattle.staging.proofs.Seen.{rows_are}
 
 -- ---- what is read of a view
@@ -44,6 +45,12 @@ rows_of_view schema table keys view t m w reads same covers sorted upto ordered 
     (narrowed table keys (is_key_in (search_range table keys)) t (events_of m) (events_of m) (out_of_range schema table keys (search_range table keys) covers reads.is_table m reads.held.keys)
     ∙ sym (narrowed table keys (is_of_table table.number) t (events_of m) (events_of m) (others table keys (events_of m))))
     ∙ rows_are schema table keys t m w reads.is_table same (are_seen schema view t m reads.held sorted upto) (sorted_from w ordered)
+
+pub row_of_view : (schema : Schema) (table : Table) (view : TreeState) (t : ℕ) (m : Changes) (w : Net) (key : Key) → Reads schema table view w m → IsKeyOf table key → IsStrictlySortedBy event_cmp (events view) → All (λ e. e.at ≤ t) (events view)
+    → IsStrictlySortedBy key_cmp (keys_of w) → row_in (events view) t w key ≡ row_at (rows_seen m w) key
+row_of_view schema table view t m w key reads own sorted upto ordered =
+    ap (λ es. row_in es t w key) reads.held.events_are
+    ∙ seen_is schema t m w key (are_seen schema view t m reads.held sorted upto) (sorted_from w ordered) (key_in schema table key reads.is_table own)
 
 pub net_of_view : (schema : Schema) (view : TreeState) (t : ℕ) (m : Changes) (w : Net) → Holds schema view m → AreKeysIn schema w → IsStrictlySortedBy event_cmp (events view) → All (λ e. e.at ≤ t) (events view) → IsStrictlySortedBy key_cmp (keys_of w)
     → net_in (events view) t w ≡ net_over m w

@@ -50,6 +50,13 @@ updates sets m = map (λ e. (e.0, Some (set_all sets e.1))) m
 abbrev pub deletions : State → Net
 deletions m = map (λ e. (e.0, None)) m
 
+-- a key's row: by what was written, and where nothing was by the events until an instant
+abbrev pub row_in : List Event → ℕ → Net → Key → Option Row
+row_in es t w key = elim (lookup (is_at (key_cmp key)) w) [
+  | Some row ↦ row
+  | None ↦ row_until es (bytes_of_key key) t
+]
+
 -- a key has a row: by what was written, and where nothing was by the events until an instant
 abbrev pub sees : List Event → ℕ → Net → Key → Bool
 sees es t w key = elim (lookup (is_at (key_cmp key)) w) [

@@ -49,6 +49,16 @@ impl Net {
         self.changes.as_slice()
     }
 
+    /// Equal net changes.
+    pub fn copy(&self) -> Mem<Net>
+        ensures ok { IfOk result (λ n. n ≡ self.now) }
+        ensures err { OnlyMemory result }
+    {
+        Ok(Net {
+            changes: self.changes.clone()?,
+        })
+    }
+
     /// The changes as events of an instant, by the bytes of their keys, one a key.
     pub fn into_events(self, alloc: Global, instant: Instant) -> Mem<Vec<Event>>
         ensures adds { IfOk result (λ v. (m : List Change)

@@ -1,16 +1,18 @@
 //! A transaction's own writes.
-ghost use Rattle.std.specs.Prelude.{◌≡◌, ◌≢◌, ◌<◌, ◌≤◌, ◌||◌, [], All, IfOk, IfErr, OnOk, OnErr, Result, Err, filter, is_some, length};
+ghost use Rattle.std.specs.Prelude.{◌≡◌, ◌≢◌, ◌<◌, ◌≤◌, ◌||◌, [], All, None, IfOk, IfErr, OnOk, OnErr, Result, Err, filter, is_some, length};
 ghost use Rattle.std.specs.BTreeMap.{IsOrdered, insert_entry};
 ghost use Rattle.std.specs.Map.{keys_of};
 ghost use Rattle.std.specs.List.{filter_map, list_any};
 ghost use Rattle.std.specs.List.Sorted.{IsStrictlySortedBy};
-ghost use Rattle.values.specs.Log.{Changes, set_row, apply_net};
+ghost use Rattle.values.specs.Log.{Changes, row_at, set_row, apply_net};
 ghost use Rattle.values.specs.Order.{key_cmp, is_key};
 ghost use Rattle.values.specs.Tables.{Schema, IsTable};
 ghost use Rattle.values.specs.Memory.{OnlyMemory};
 ghost use Rattle.values.specs.Versions.{matches};
 ghost use Rattle.values.specs.Writes.{most_written, insert_all};
 ghost use Rattle.values.specs.KeyEncoding.{IsShortKey, bytes_of_key};
+ghost use Rattle.values.specs.RowEncoding.{IsHeld};
+ghost use Rattle.values.specs.Fit.{key_fault};
 ghost use Rattle.values.specs.Events.{AreKeysIn, row_until};
 ghost use Rattle.keyrange.specs.Range.{is_key_in};
 ghost use Rattle.eventlist.specs.Listing.{standing};
@@ -18,7 +20,7 @@ ghost use Rattle.tsbtree.specs.View.{events};
 ghost use Rattle.searchrange.specs.SearchRange.{search_range, Covers};
 ghost use Rattle.staging.specs.View.{Holds};
 ghost use Rattle.staging.specs.Own.{WhenRead, rows_seen, net_over};
-ghost use Rattle.staging.specs.Staged.{put_all, put_back_one, put_back, put_answer, sees, first_seen, row_taken, rows_in, net_in};
+ghost use Rattle.staging.specs.Staged.{put_all, put_back_one, put_back, put_answer, row_in, sees, first_seen, row_taken, rows_in, net_in};
 
 use crate::bounds::{is_past, least_key};
 use crate::net::Net;
@@ -28,7 +30,7 @@ use std::collections::{BTreeMap, BTreeSet};
 use std::marker::Model;
 use tsbtree::View;
 use values::{
-    Event, Instant, Key, Keys, Mem, Refusal, Row, SharedEvent, Table, key_bytes, read_key,
+    Event, Instant, Key, Keys, Mem, Refusal, Row, SharedEvent, Table, Value, key_bytes, read_key,
 };
 
 /// The keys that a transaction may write.
@@ -76,6 +78,19 @@ impl Staged {
         Ok(self.rows_found(view, view.last(), table, keys)?)
     }
 
+    /// The row that the transaction sees at a key of the table, which fits it: what the transaction wrote, or else what the view has.
+    pub fn get(&self, view: &View, table: &Table, key: &Key) -> Mem<Option<Row>>
+        requires table { IsTable table.now.number table.now }
+        requires own { key.now.table ≡ table.now.number }
+        requires fits { key_fault table.now key.now.parts ≡ None }
+        ensures ok { IfOk result (λ row. WhenRead table.now view.now self.now (λ schema m.
+            row ≡ row_at (rows_seen m self.now) key.now)) }
+        ensures err { OnlyMemory result }
+    {
+        read_values(key.parts.items());
+        Ok(self.row_found(view, view.last(), key)?)
+    }
+
     /// What the transaction changes: what each key that it wrote has in the end, without those that are absent both then and in the view.
     pub fn net(&self, view: &View) -> Mem<Net>
         ensures ok { IfOk result (λ net. (schema : Schema) (m : Changes)
@@ -112,6 +127,21 @@ impl Staged {
         let mut found = rows_taken(self.alloc, table, keys, &standing)?;
         put_taken(self.alloc, table, keys, &self.writes, &mut found)?;
         Ok(found)
+    }
+
+    /// The row of a key: what was written, or else what the view has at an instant.
+    fn row_found(&self, view: &View, last: Instant, key: &Key) -> Mem<Option<Row>>
+        requires { IsShortKey key.now }
+        ensures ok { IfOk result (λ row. row ≡ row_in (events view.now) last self.now key.now) }
+        ensures err { OnlyMemory result }
+        ensures ordered { IsStrictlySortedBy key_cmp (keys_of self.now) }
+    {
+        // The length of a map comes with its order.
+        let _written = self.writes.len();
+        match self.writes.get(key) {
+            Some(row) => Ok(row.clone()?),
+            None => Ok(committed_row(self.alloc, view, last, key)?),
+        }
     }
 
     /// Whether the transaction sees a row of a key: what it wrote, or else what the view has at an instant.
@@ -328,6 +358,18 @@ fn set_row(rows: &mut BTreeMap<Key, Row>, key: &Key, row: &Option<Row>) -> Resul
     Ok(())
 }
 
+/// The row of a key at an instant.
+fn committed_row(alloc: Global, view: &View, instant: Instant, key: &Key) -> Mem<Option<Row>>
+    requires { IsShortKey key.now }
+    ensures ok { IfOk result (λ row. row
+        ≡ row_until (events view.now) (bytes_of_key key.now) instant) }
+    ensures err { OnlyMemory result }
+{
+    let bytes = key_bytes(alloc, key)?;
+    let (row, _visits) = view.get(&bytes, instant)?;
+    Ok(row)
+}
+
 /// Whether a key has a row at an instant.
 fn has_row(alloc: Global, view: &View, instant: Instant, key: &Key) -> Mem<bool>
     requires { IsShortKey key.now }
@@ -335,8 +377,7 @@ fn has_row(alloc: Global, view: &View, instant: Instant, key: &Key) -> Mem<bool>
         ≡ is_some (row_until (events view.now) (bytes_of_key key.now) instant)) }
     ensures err { OnlyMemory result }
 {
-    let bytes = key_bytes(alloc, key)?;
-    let (row, _visits) = view.get(&bytes, instant)?;
+    let row = committed_row(alloc, view, instant, key)?;
     Ok(row.is_some())
 }
 
@@ -371,4 +412,28 @@ fn stays(alloc: Global, view: &View, last: Instant, key: &Key, row: &Option<Row>
         return Ok(true);
     }
     Ok(has_row(alloc, view, last, key)?)
+}
+
+/// Reads each value: what was read is a number of 64 bits, or a text of characters.
+fn read_values(values: &[Value])
+    ensures { All IsHeld values.now }
+{
+    for value in values {
+        read_value(value);
+    }
+}
+
+fn read_value(value: &Value)
+    ensures { IsHeld value.now }
+{
+    match value {
+        Value::Int(number) => {
+            let _number = *number;
+        }
+        Value::Text(text) => {
+            let _utf8 = text.text();
+        }
+        Value::Bool(_) => {}
+        Value::Null => {}
+    }
 }

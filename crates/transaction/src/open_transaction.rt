@@ -1,17 +1,18 @@
-ghost use Rattle.std.specs.Prelude.{◌≡◌, ◌≢◌, [], IfOk};
-ghost use Rattle.values.specs.Log.{Changes};
+ghost use Rattle.std.specs.Prelude.{◌≡◌, ◌≢◌, [], IfOk, None};
+ghost use Rattle.values.specs.Fit.{key_fault};
+ghost use Rattle.values.specs.Log.{Changes, row_at};
 ghost use Rattle.values.specs.Memory.{OnlyMemory};
-ghost use Rattle.values.specs.Tables.{Schema};
+ghost use Rattle.values.specs.Tables.{IsTable, Schema};
 ghost use Rattle.values.specs.Events.{AreKeysIn};
 ghost use Rattle.tsbtree.specs.View.{last};
 ghost use Rattle.staging.specs.View.{Holds};
-ghost use Rattle.staging.specs.Own.{net_over};
+ghost use Rattle.staging.specs.Own.{WhenRead, net_over, rows_seen};
 
 use staging::{Net, Staged};
 use std::alloc::Global;
 use std::marker::Model;
 use tsbtree::View;
-use values::{Instant, Mem};
+use values::{Instant, Key, Mem, Row, Table};
 
 /// What a transaction sees of what was committed, and its own writes, which nobody else sees.
 #[derive(Drop)]
@@ -43,6 +44,18 @@ impl OpenTransaction {
         ensures { result ≡ last self.now.view }
     {
         self.view.last()
+    }
+
+    /// The row that the transaction sees at a key of the table, which fits it.
+    pub fn get(&self, table: &Table, key: &Key) -> Mem<Option<Row>>
+        requires table { IsTable table.now.number table.now }
+        requires own { key.now.table ≡ table.now.number }
+        requires fits { key_fault table.now key.now.parts ≡ None }
+        ensures ok { IfOk result (λ row. WhenRead table.now self.now.view self.now.writes (λ schema m.
+            row ≡ row_at (rows_seen m self.now.writes) key.now)) }
+        ensures err { OnlyMemory result }
+    {
+        self.staged.get(&self.view, table, key)
     }
 
     /// What the transaction changes: what each key that it wrote has in the end, without those that are absent both then and in the view.
