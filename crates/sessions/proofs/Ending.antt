@@ -1,5 +1,5 @@
 -- A session after a commit.
-use Rattle.std.proofs.Common.{◌≡◌, ℕ, Option, Some, None, Result, sym, ap, ◌∙◌, subst}
+use Rattle.std.proofs.Common.{◌≡◌, ℕ, Option, Some, None, Result, subst}
 use Rattle.values.specs.declared.refusal.Refusal.{Refusal}
 use Rattle.values.specs.Tables.{Schema}
 use Rattle.values.specs.Log.{Changes, Net}
@@ -8,7 +8,7 @@ use Rattle.staging.specs.View.{Holds}
 use Rattle.staging.specs.Own.{net_over}
 use Rattle.journal.specs.declared.entry.Entry.{Entry}
 use Rattle.journal.specs.declared.entry.Entry.TheVariants.{Commit}
-use Rattle.sessions.specs.SessionState.{RunningState, SessionState, IsRunning, MayRun}
+use Rattle.sessions.specs.SessionState.{RunningState, SessionState, MayRun}
 use Rattle.sessions.specs.Store.{IsCommitted}
 use Rattle.sessions.proofs.Writing.{state}
 
@@ -18,10 +18,6 @@ module _ (schema : Schema) (o : Option RunningState) (t : RunningState) (runs : 
 
   pub keys_of_net : (store : Schema) (net : Net) → ((schema : Schema) → AreKeysIn schema t.writes → AreKeysIn schema net) → schema ≡ store → AreKeysIn store net
   keys_of_net store net keys same = subst (λ s. AreKeysIn s net) same (keys schema ran.1.keys)
-
-  pub twice_one : (net again : Net) → ((schema : Schema) (m : Changes) → Holds schema t.view m → AreKeysIn schema t.writes → net ≡ net_over m t.writes)
-      → ((schema : Schema) (m : Changes) → Holds schema t.view m → AreKeysIn schema t.writes → again ≡ net_over m t.writes) → again ≡ net
-  twice_one net again first second = second schema ran.0 ran.1.held ran.1.keys ∙ sym (first schema ran.0 ran.1.held ran.1.keys)
 
   pub committed : (number receipt reading n : ℕ) (before : SessionState) (e : Entry) (net : Net) (end : Result (Option ℕ) Refusal) → state number schema receipt o ≡ before
       → ((schema : Schema) (m : Changes) → Holds schema t.view m → AreKeysIn schema t.writes → net ≡ net_over m t.writes)

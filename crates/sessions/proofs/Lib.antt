@@ -1,2 +1,4 @@
+pub mod Alike
+pub mod AlikeShown
 pub mod Ending
 pub mod Writing

@@ -1,9 +1,9 @@
 -- A session after a write: all is as before but what its transaction wrote.
-use Rattle.std.proofs.Common.{◌≡◌, ℕ, List, [], Option, Some, None, refl, sym, ap, ◌∙◌, subst}
+use Rattle.std.proofs.Common.{◌≡◌, ℕ, [], Option, Some, None, refl, sym, ap, ◌∙◌, subst}
 use Rattle.std.specs.Option.{option_map}
 use Rattle.values.specs.declared.table.Table.{Table}
 use Rattle.values.specs.Tables.{Schema, IsTable, table_at}
-use Rattle.values.specs.Log.{Changes, Net}
+use Rattle.values.specs.Log.{Net}
 use Rattle.values.specs.Events.{AreKeysIn}
 use Rattle.tsbtree.specs.View.{last}
 use Rattle.staging.specs.View.{Holds}

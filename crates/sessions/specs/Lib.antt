@@ -1,2 +1,3 @@
 pub mod SessionState
 pub mod Store
+pub mod OfHistory

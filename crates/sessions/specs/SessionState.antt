@@ -1,23 +1,24 @@
 -- What contracts see of a session, and what its calls answer and leave.
-use Rattle.std.specs.Prelude.{◌≡◌, ◌≢◌, ℕ, ◌≤◌, List, [], Option, Some, None, Result, Ok, Err}
+use Rattle.std.specs.Prelude.{◌≡◌, ◌≢◌, ℕ, ◌≤◌, ◌||◌, Option, Some, None, Result, Ok, Err, is_some, is_none, true}
 use Rattle.std.specs.Option.{option_map}
+use Rattle.values.specs.declared.key.Key.{Key}
 use Rattle.values.specs.declared.query.Form.{Form}
 use Rattle.values.specs.declared.query.Keys.{Keys}
 use Rattle.values.specs.declared.refusal.Refusal.{Refusal}
 use Rattle.values.specs.declared.refusal.Refusal.TheVariants.{NoTable, NoTransaction, Memory}
 use Rattle.values.specs.Tables.{Schema, table_at}
-use Rattle.values.specs.Log.{Changes, Net}
+use Rattle.values.specs.Log.{Changes, Net, Row, row_at}
 use Rattle.values.specs.Writes.{Own}
 use Rattle.values.specs.Events.{AreKeysIn}
 use Rattle.tsbtree.specs.View.{TreeState, last}
 use Rattle.staging.specs.View.{Holds}
-use Rattle.staging.specs.Own.{own}
+use Rattle.staging.specs.Own.{own, rows_seen}
 use Rattle.transaction.specs.Listing.{listing_in}
 use Rattle.transaction.specs.TransactionState.{TransactionState}
 use Rattle.histories.specs.declared.step.Listing.{Listing}
 use Rattle.histories.specs.declared.step.Step.{Step}
 use Rattle.histories.specs.declared.step.Step.TheVariants.{Select}
-use Rattle.histories.specs.Misfit.{max_session, misfit}
+use Rattle.histories.specs.Misfit.{max_session, misfit, key_misfit}
 use Rattle.histories.specs.History.{write}
 use Rattle.journal.specs.declared.entry.Begun.{Begun}
 
@@ -113,3 +114,21 @@ select_in m s form keys = elim (misfit s.schema (Select s.number form keys)) [
 abbrev pub IsSelect : SessionState → Form → Keys → Result Listing Refusal → Type 0
 IsSelect s form keys result =
     (m : Changes) → Shows s m → result ≢ Err Memory → result ≡ select_in m s form keys
+
+-- what a read at a key gives, where the session's view shows these changes
+abbrev pub get_in : Changes → SessionState → Key → Result (Option Row) Refusal
+get_in m s key = elim (key_misfit s.schema key) [
+  | Some refusal ↦ Err refusal
+  | None ↦ elim s.transaction [
+    | None ↦ Err NoTransaction
+    | Some t ↦ Ok (row_at (rows_seen m t.writes) key)
+  ]
+]
+
+-- unless memory ran out, a read at a key gives what the definitions say
+abbrev pub IsGet : SessionState → Key → Result (Option Row) Refusal → Type 0
+IsGet s key result = (m : Changes) → Shows s m → result ≢ Err Memory → result ≡ get_in m s key
+
+-- what does not fit, or comes with no transaction open, is not refused for memory
+abbrev pub TakesNoMemory : {A : Type 0} → SessionState → Option Refusal → Result A Refusal → Type 0
+TakesNoMemory s unfit result = (is_some unfit || is_none s.transaction) ≡ true → result ≢ Err Memory

@@ -1,15 +1,36 @@
 //! Reads: by the session's own view and its own writes, with no lock.
 ghost use Rattle.std.specs.Prelude.{◌≡◌};
-ghost use Rattle.sessions.specs.SessionState.{IsSelect};
+ghost use Rattle.histories.specs.declared.step.Step.TheVariants.{Select};
+ghost use Rattle.histories.specs.Misfit.{misfit, key_misfit};
+ghost use Rattle.sessions.specs.SessionState.{IsGet, IsSelect, TakesNoMemory};
 
 use crate::session::Session;
-use histories::{Listing, keys_misfit};
-use rows::{Form, Keys, Refusal};
+use histories::{Listing, key_misfit, keys_misfit};
+use rows::{Form, Key, Keys, Refusal, Row};
 
 impl Session {
+    /// The row that the transaction sees at a key, if there is one. `NoTable`; `BadRow` where the key does not fit; `NoTransaction`.
+    pub fn get(&self, key: &Key) -> Result<Option<Row>, Refusal>
+        ensures answer { IsGet self.now key.now result }
+        ensures no_memory { TakesNoMemory self.now (key_misfit self.now.schema key.now) result }
+    {
+        if let Some(refusal) = key_misfit(&self.schema, key) {
+            return Err(refusal);
+        }
+        let Some(running) = &self.running else {
+            return Err(Refusal::NoTransaction);
+        };
+        let Some(table) = self.schema.table_at(key.table) else {
+            return Err(Refusal::NoTable);
+        };
+        running.transaction.get(table, key)
+    }
+
     /// What a query of a table shows: a plain one the rows that the transaction sees, any other what was committed until its start. `NoTable`; `BadRow` where a value does not fit; `NoTransaction`.
     pub fn select(&self, form: Form, keys: &Keys) -> Result<Listing, Refusal>
-        ensures { IsSelect self.now form keys.now result }
+        ensures answer { IsSelect self.now form keys.now result }
+        ensures no_memory { TakesNoMemory self.now
+            (misfit self.now.schema (Select self.now.number form keys.now)) result }
     {
         if let Some(refusal) = keys_misfit(&self.schema, self.number, keys) {
             return Err(refusal);

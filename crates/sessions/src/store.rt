@@ -85,7 +85,7 @@ impl<J: StoreName> LockedStore<J> {
             return Err(Refusal::NoTransaction);
         };
         let net = running.transaction.net()?;
-        let changes = running.transaction.net()?;
+        let changes = net.copy()?;
         let begun = running.begun;
         let receipt = self
             .book

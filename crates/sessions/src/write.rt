@@ -1,7 +1,8 @@
 //! INSERT, UPDATE and DELETE: the open transaction keeps them, and nobody else sees them.
 ghost use Rattle.std.specs.Prelude.{◌≡◌, OnErr};
 ghost use Rattle.histories.specs.declared.step.Step.TheVariants.{Insert, Update, Delete};
-ghost use Rattle.sessions.specs.SessionState.{IsWrite, WithWrites};
+ghost use Rattle.histories.specs.Misfit.{misfit};
+ghost use Rattle.sessions.specs.SessionState.{IsWrite, TakesNoMemory, WithWrites};
 
 use crate::session::Session;
 use histories::{insert_misfit, keys_misfit, update_misfit};
@@ -12,6 +13,8 @@ impl Session {
     /// `TooManyWrites` where it would have written over 1,000 keys. After a refusal nothing has changed.
     pub fn insert(&mut self, table: u8, rows: &[Row]) -> Result<usize, Refusal>
         ensures answers { IsWrite (Insert self.old.number table rows.now) self.old self.new result }
+        ensures no_memory { TakesNoMemory self.old
+            (misfit self.old.schema (Insert self.old.number table rows.now)) result }
         ensures rest { WithWrites self.old self.new }
         ensures refused { OnErr result (self.new ≡ self.old) }
     {
@@ -31,6 +34,8 @@ impl Session {
     /// `TooManyWrites` where the transaction would have written over 1,000 keys. After a refusal nothing has changed.
     pub fn update(&mut self, keys: &Keys, sets: &[Set]) -> Result<usize, Refusal>
         ensures answers { IsWrite (Update self.old.number keys.now sets.now) self.old self.new result }
+        ensures no_memory { TakesNoMemory self.old
+            (misfit self.old.schema (Update self.old.number keys.now sets.now)) result }
         ensures rest { WithWrites self.old self.new }
         ensures refused { OnErr result (self.new ≡ self.old) }
     {
@@ -50,6 +55,8 @@ impl Session {
     /// `TooManyWrites` where the transaction would have written over 1,000 keys. After a refusal nothing has changed.
     pub fn delete(&mut self, keys: &Keys) -> Result<usize, Refusal>
         ensures answers { IsWrite (Delete self.old.number keys.now) self.old self.new result }
+        ensures no_memory { TakesNoMemory self.old
+            (misfit self.old.schema (Delete self.old.number keys.now)) result }
         ensures rest { WithWrites self.old self.new }
         ensures refused { OnErr result (self.new ≡ self.old) }
     {

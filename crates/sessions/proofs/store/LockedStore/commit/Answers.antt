@@ -1,21 +1,15 @@
-use Rattle.std.proofs.Common.{◌≡◌, refl, sym, ap, ◌∙◌, Some}
+use Rattle.std.proofs.Common.{refl, sym, ap, ◌∙◌, Some}
 use Rattle.values.specs.Log.{last, changes}
 use Rattle.values.specs.Commits.{outcome}
-use Rattle.values.specs.Tables.{Schema}
 use Rattle.journal.specs.Entries.{log}
 use Rattle.sessions.specs.SessionState.{RunningState, running}
-use Rattle.sessions.proofs.Ending.{keys_of_net, twice_one, committed}
+use Rattle.sessions.proofs.Ending.{keys_of_net, committed}
 use Rattle.sessions.proofs.store.LockedStore.commit.Goals as goal
 
 pub commit-requires-clause-keys : goal.commit-requires-clause-keys
 commit-requires-clause-keys g c = λ κs h.
     keys_of_net c.session.inside.schema c.session.inside.running (running c.running.inside.begun c.running.inside.transaction) c.session.invariant.runs (c.in-Some.is ∙ ap (λ (t : RunningState). Some t) (sym c.running.view_is))
     g.J.StoreName.schema c.in_ok-net.net c.in_ok-net.ensures.keys (sym (c.if-not-is_same_schema.ensures.0 refl) ∙ c.args.self.now.named)
-
-pub commit-requires-clause-twice : goal.commit-requires-clause-twice
-commit-requires-clause-twice g c = λ κs h.
-    twice_one c.session.inside.schema c.session.inside.running (running c.running.inside.begun c.running.inside.transaction) c.session.invariant.runs (c.in-Some.is ∙ ap (λ (t : RunningState). Some t) (sym c.running.view_is))
-    c.in_ok-net.net c.in_ok-changes.changes c.in_ok-net.ensures.ok c.in_ok-changes.ensures.ok
 
 pub returns-clause-committed : goal.returns-clause-committed
 returns-clause-committed g c =

@@ -1,0 +1,59 @@
+-- What a session is shown beside a history is what the history's replies show.
+use Rattle.std.proofs.Common.{◌≡◌, [], Option, Some, None, Ok, Err, refl, sym, ap, ◌∙◌}
+use Rattle.std.specs.Option.{option_map}
+use Rattle.values.specs.declared.table.Table.{Table}
+use Rattle.values.specs.declared.query.Form.{Form}
+use Rattle.values.specs.declared.query.Form.TheVariants.{Plain, AsOf, FromTo, Between}
+use Rattle.values.specs.declared.query.Keys.{Keys}
+use Rattle.values.specs.declared.refusal.Refusal.{Refusal}
+use Rattle.values.specs.declared.refusal.Refusal.TheVariants.{NoTable, NoTransaction}
+use Rattle.values.specs.Tables.{table_at}
+use Rattle.values.specs.Log.{Log, Changes, State, upto, changes}
+use Rattle.values.specs.Versions.{answer}
+use Rattle.values.specs.Writes.{Own}
+use Rattle.staging.specs.Own.{own as own_over}
+use Rattle.transaction.specs.Listing.{listing_in}
+use Rattle.histories.specs.declared.step.Listing.TheVariants.{Rows, Periods}
+use Rattle.histories.specs.declared.step.Step.TheVariants.{Select}
+use Rattle.histories.specs.declared.step.Reply.TheVariants.{Refused, Shown}
+use Rattle.histories.specs.Misfit.{misfit}
+use Rattle.histories.specs.History as history
+use Rattle.histories.specs.History.{History, log, log_at_begin, own, own_of, mine_of, rows_of, rows_taken, snap}
+use Rattle.sessions.specs.SessionState.{RunningState, SessionState, own_in}
+use Rattle.sessions.specs.OfHistory.{IsIn, own_at, shown_reply, QueriesAnswerAlike}
+
+abbrev rows_or_none : Option Own → State
+rows_or_none None = []
+rows_or_none (Some o) = o.rows
+
+module _ (m : Changes) (s : SessionState) (h : History) (is : IsIn m s h) where
+  abbrev at : Option Log → Own
+  at lab = own_of s.schema (log s.schema h) lab (own s.schema h s.number)
+
+  same_own : (t : RunningState) (lab : Option Log) → s.transaction ≡ Some t → log_at_begin s.schema h s.number ≡ lab → ◌≡◌ {A = Option Own} (Some (own_over m t.writes)) (option_map (λ before. at (Some before)) lab)
+  same_own t lab ran begun = (λ k. option_map (λ (t : RunningState). own_over m t.writes) (sym ran k)) ∙ is.own_is ∙ (λ k. option_map (λ before. at (Some before)) (begun k))
+
+  listed : (t : RunningState) (lab : Option Log) (form : Form) (table : Table) (keys : Keys) → s.transaction ≡ Some t → log_at_begin s.schema h s.number ≡ lab
+      → listing_in m t.writes table form keys ≡ history.listing s.schema h s.number form table keys
+  listed t None Plain table keys ran begun =
+      let clash : ◌≡◌ {A = Option Own} (Some (own_over m t.writes)) None = same_own t None ran begun in cc
+  listed t (Some before) Plain table keys ran begun =
+      ap (λ o. Rows (rows_taken table keys (rows_or_none o))) (same_own t (Some before) ran begun)
+      ∙ (λ k. elim (sym begun k) [ Some before ↦ Rows (rows_taken table keys (mine_of s.schema (log s.schema h) (sym begun k) (own s.schema h s.number))) | None ↦ Rows (rows_of (answer (changes (upto (log s.schema h) (snap s.schema h s.number))) table Plain keys)) ])
+  listed t lab (AsOf a) table keys ran begun = ap (λ m. Rows (rows_of (answer m table (AsOf a) keys))) is.snapshot
+  listed t lab (FromTo a b) table keys ran begun = ap (λ m. Periods (answer m table (FromTo a b) keys)) is.snapshot
+  listed t lab (Between a b) table keys ran begun = ap (λ m. Periods (answer m table (Between a b) keys)) is.snapshot
+
+pub queries_answer_alike : QueriesAnswerAlike
+queries_answer_alike m s h form keys is ran = by (misfit s.schema (Select s.number form keys)) s.transaction refl
+  where
+    by : (u : Option Refusal) (o : Option RunningState) → s.transaction ≡ o
+        → shown_reply (elim u [ Some refusal ↦ Err refusal | None ↦ elim o [ None ↦ Err NoTransaction | Some t ↦ elim (table_at s.schema keys.table) [ None ↦ Err NoTable | Some table ↦ Ok (listing_in m t.writes table form keys) ] ] ])
+        ≡ elim u [ Some refusal ↦ Refused refusal | None ↦ elim (table_at s.schema keys.table) [ None ↦ Refused NoTable | Some table ↦ Shown (history.listing s.schema h s.number form table keys) ] ]
+    by (Some refusal) o e = refl
+    by None None e = absurd (ran e)
+    by None (Some r) e = of_table (table_at s.schema keys.table)
+      where
+        of_table : (t : Option Table) → shown_reply (elim t [ None ↦ Err NoTable | Some table ↦ Ok (listing_in m r.writes table form keys) ]) ≡ elim t [ None ↦ Refused NoTable | Some table ↦ Shown (history.listing s.schema h s.number form table keys) ]
+        of_table None = refl
+        of_table (Some table) = ap Shown (listed m s h is r (log_at_begin s.schema h s.number) form table keys e refl)

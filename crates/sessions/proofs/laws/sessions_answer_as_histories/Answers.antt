@@ -1,0 +1,12 @@
+use Rattle.sessions.proofs.Alike as alike
+use Rattle.sessions.proofs.AlikeShown as shown
+use Rattle.sessions.proofs.laws.sessions_answer_as_histories.Goals as goal
+
+pub returns-clause-writes : goal.returns-clause-writes
+returns-clause-writes c = alike.writes_answer_alike
+
+pub returns-clause-queries : goal.returns-clause-queries
+returns-clause-queries c = shown.queries_answer_alike
+
+pub returns-clause-after : goal.returns-clause-after
+returns-clause-after c = alike.writes_leave_alike
