@@ -1,0 +1,15 @@
+//! Tests of `sessions` by its public calls: sessions round one store.
+#![tactic(auto)]
+
+#[cfg(test)]
+mod call_tests;
+#[cfg(test)]
+mod closing_tests;
+#[cfg(test)]
+mod desk;
+#[cfg(test)]
+mod run_tests;
+#[cfg(test)]
+mod runs;
+#[cfg(test)]
+mod store_tests;
