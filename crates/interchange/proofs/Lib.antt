@@ -1,0 +1,3 @@
+mod Wholes
+mod Fields
+mod Chunks
