@@ -7,8 +7,9 @@ use Rattle.std.proofs.lemmas.List.Elements.{All-head, All-tail}
 use Rattle.std.proofs.KnownBytes.{Appends-trans, Appends-nil, Appends-kept, Consumes-nil, Consumes-trans, Consumes-kept}
 use Rattle.std.specs.Io.KnownBytes.{Appends, Consumes, Keeps, IsAtEnd}
 use Rattle.values.specs.Tables.{Schema}
+use Rattle.histories.specs.History.{History}
 use Rattle.statement.specs.Writer.{AppendsFront}
-use Rattle.scripts.specs.Transcript.{Partial, Progress, Reading, Ending, no_reply, beginning, add, ended, line_reply, line_leaves, last_reply, last_leaves, mark, marks_after, written, transcript, leaves, IsTranscript, IsCut, IsStopped}
+use Rattle.scripts.specs.Transcript.{Partial, Progress, Reading, Ending, no_reply, after, add, ended, line_reply, line_leaves, last_reply, last_leaves, mark, marks_after, written, transcript_after, leaves, IsTranscriptAfter, IsCutAfter, IsStoppedAfter}
 use Rattle.scripts.specs.Taking.{Feeds, Breaks}
 use Rattle.scripts.specs.Script.{add_all}
 use Rattle.statement.proofs.Fronts.{front_then}
@@ -97,31 +98,31 @@ module _ (schema : Schema) (read : Reading) where
 
 -- ---- a run over a reader and a writer
 
-module _ (schema : Schema) (read : Reading) where
+module _ (schema : Schema) (read : Reading) (first : History) where
   -- these bytes were read and answered
   pub record Taken (unread left old new : Option (List ℕ)) (p : Progress) (line : Partial) : Type 0 where
     pub bytes : List ℕ
     pub took : Consumes unread left bytes
-    pub fed : Feeds schema read old new beginning (Some []) p line bytes
+    pub fed : Feeds schema read old new (after first) (Some []) p line bytes
 
-module _ (schema : Schema) (read : Reading) where
-  pub taken_none : (r w : Option (List ℕ)) (line : Partial) → line ≡ Some [] → Taken schema read r r w w beginning line
-  taken_none r w line e = subst (Taken schema read r r w w beginning) (sym e) (record { bytes = []; took = Consumes-nil r; fed = feeds_none schema read w beginning (Some []) })
+module _ (schema : Schema) (read : Reading) (first : History) where
+  pub taken_none : (r w : Option (List ℕ)) (line : Partial) → line ≡ Some [] → Taken schema read first r r w w (after first) line
+  taken_none r w line e = subst (Taken schema read first r r w w (after first)) (sym e) (record { bytes = []; took = Consumes-nil r; fed = feeds_none schema read w (after first) (Some []) })
 
-  pub taken_more : (r s t a b c : Option (List ℕ)) (p p' : Progress) (line line' : Partial) (ys : List ℕ) → Taken schema read r s a b p line → Consumes s t ys → Feeds schema read b c p line p' line' ys → Taken schema read r t a c p' line'
+  pub taken_more : (r s t a b c : Option (List ℕ)) (p p' : Progress) (line line' : Partial) (ys : List ℕ) → Taken schema read first r s a b p line → Consumes s t ys → Feeds schema read b c p line p' line' ys → Taken schema read first r t a c p' line'
   taken_more r s t a b c p p' line line' ys so took fed = record {
     bytes = so.bytes ++ ys;
     took = Consumes-trans r s t so.bytes ys so.took took;
-    fed = feeds_join schema read a b c beginning p p' (Some []) line line' so.bytes ys so.fed fed;
+    fed = feeds_join schema read a b c (after first) p p' (Some []) line line' so.bytes ys so.fed fed;
   }
 
   -- what is written for bytes that were answered and for no more
-  whole : (a b : Option (List ℕ)) (p : Progress) (line : Partial) (bytes : List ℕ) (ending : Ending) (m : Bool) (f : Feeds schema read a b beginning (Some []) p line bytes)
-      → written schema read ending (f.marks ++ m ∷ []) beginning (Some []) bytes ≡ f.out ++ ending m p line
-  whole a b p line bytes ending m f = ap (written schema read ending (f.marks ++ m ∷ []) beginning (Some [])) (sym (append-nil bytes)) ∙ f.goes_on ending (m ∷ []) []
+  whole : (a b : Option (List ℕ)) (p : Progress) (line : Partial) (bytes : List ℕ) (ending : Ending) (m : Bool) (f : Feeds schema read a b (after first) (Some []) p line bytes)
+      → written schema read ending (f.marks ++ m ∷ []) (after first) (Some []) bytes ≡ f.out ++ ending m p line
+  whole a b p line bytes ending m f = ap (written schema read ending (f.marks ++ m ∷ []) (after first) (Some [])) (sym (append-nil bytes)) ∙ f.goes_on ending (m ∷ []) []
 
   -- the reader failed
-  pub cut_between : (r s t a b : Option (List ℕ)) (p : Progress) (line : Partial) → Taken schema read r s a b p line → Keeps s t → IsCut schema read r t a b
+  pub cut_between : (r s t a b : Option (List ℕ)) (p : Progress) (line : Partial) → Taken schema read first r s a b p line → Keeps s t → IsCutAfter schema read first r t a b
   cut_between r s t a b p line so kept = record {
     text = so.bytes;
     took = Consumes-kept r s t so.bytes so.took kept;
@@ -130,7 +131,7 @@ module _ (schema : Schema) (read : Reading) where
   }
 
   -- the writer failed in the reply to a last line
-  pub stopped_at_end : (r s t a b c : Option (List ℕ)) (p : Progress) (line : Partial) (m : Bool) → Taken schema read r s a b p line → Consumes s t [] → AppendsFront b c (last_reply schema read m p line) → IsStopped schema read r t a c
+  pub stopped_at_end : (r s t a b c : Option (List ℕ)) (p : Progress) (line : Partial) (m : Bool) → Taken schema read first r s a b p line → Consumes s t [] → AppendsFront b c (last_reply schema read m p line) → IsStoppedAfter schema read first r t a c
   stopped_at_end r s t a b c p line m so took front = record {
     text = so.bytes;
     took = subst (Consumes r t) (append-nil so.bytes) (Consumes-trans r s t so.bytes [] so.took took);
@@ -139,20 +140,20 @@ module _ (schema : Schema) (read : Reading) where
   }
 
   -- or in bytes that were read
-  pub stopped_inside : (r s t a b c : Option (List ℕ)) (p : Progress) (line : Partial) (ys : List ℕ) → Taken schema read r s a b p line → Consumes s t ys → Breaks schema read b c p line ys → IsStopped schema read r t a c
+  pub stopped_inside : (r s t a b c : Option (List ℕ)) (p : Progress) (line : Partial) (ys : List ℕ) → Taken schema read first r s a b p line → Consumes s t ys → Breaks schema read b c p line ys → IsStoppedAfter schema read first r t a c
   stopped_inside r s t a b c p line ys so took breaks =
-      let all = breaks_join schema read a b c beginning p (Some []) line so.bytes ys [] so.fed breaks in
+      let all = breaks_join schema read a b c (after first) p (Some []) line so.bytes ys [] so.fed breaks in
       let left = all.front [] [] in
       record {
         text = so.bytes ++ ys;
         took = Consumes-trans r s t so.bytes ys so.took took;
         marks = all.marks ++ [];
-        wrote = record { out = all.out; left = left.0; wrote = all.wrote; front = ap (transcript schema read (all.marks ++ [])) (sym (append-nil ((so.bytes ++ ys) ++ []) ∙ append-nil (so.bytes ++ ys))) ∙ left.1 };
+        wrote = record { out = all.out; left = left.0; wrote = all.wrote; front = ap (transcript_after schema read first (all.marks ++ [])) (sym (append-nil ((so.bytes ++ ys) ++ []) ∙ append-nil (so.bytes ++ ys))) ∙ left.1 };
       }
 
   -- at the end of the reader all was answered
-  pub done_all : (r s t a b c : Option (List ℕ)) (p : Progress) (line : Partial) (m : Bool) → Taken schema read r s a b p line → Consumes s t [] → IsAtEnd t → Appends b c (last_reply schema read m p line)
-      → IsTranscript schema read r t a c
+  pub done_all : (r s t a b c : Option (List ℕ)) (p : Progress) (line : Partial) (m : Bool) → Taken schema read first r s a b p line → Consumes s t [] → IsAtEnd t → Appends b c (last_reply schema read m p line)
+      → IsTranscriptAfter schema read first r t a c
   done_all r s t a b c p line m so took end wrote = record {
     text = so.bytes;
     took = subst (Consumes r t) (append-nil so.bytes) (Consumes-trans r s t so.bytes [] so.took took);
@@ -162,7 +163,7 @@ module _ (schema : Schema) (read : Reading) where
   }
 
   -- and this is left
-  pub done_left : (r s t a b c : Option (List ℕ)) (p : Progress) (line : Partial) (m : Bool) (so : Taken schema read r s a b p line) (took : Consumes s t []) (end : IsAtEnd t) (wrote : Appends b c (last_reply schema read m p line))
-      → let done = done_all r s t a b c p line m so took end wrote in leaves schema read done.marks beginning (Some []) done.text ≡ last_leaves schema read m p line
+  pub done_left : (r s t a b c : Option (List ℕ)) (p : Progress) (line : Partial) (m : Bool) (so : Taken schema read first r s a b p line) (took : Consumes s t []) (end : IsAtEnd t) (wrote : Appends b c (last_reply schema read m p line))
+      → let done = done_all r s t a b c p line m so took end wrote in leaves schema read done.marks (after first) (Some []) done.text ≡ last_leaves schema read m p line
   unfolding done_all
-  done_left r s t a b c p line m so took end wrote = ap (leaves schema read (so.fed.marks ++ m ∷ []) beginning (Some [])) (sym (append-nil so.bytes)) ∙ so.fed.leaves_on (m ∷ []) []
+  done_left r s t a b c p line m so took end wrote = ap (leaves schema read (so.fed.marks ++ m ∷ []) (after first) (Some [])) (sym (append-nil so.bytes)) ∙ so.fed.leaves_on (m ∷ []) []

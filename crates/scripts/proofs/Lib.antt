@@ -1,4 +1,5 @@
 pub mod Adding
 pub mod Feeding
+pub mod Leading
 pub mod Running
 pub mod Scripting

@@ -7,10 +7,11 @@ use Rattle.std.proofs.lemmas.List.{take_more}
 use Rattle.std.specs.Io.KnownBytes.{Appends, Consumes, Keeps, IsAtEnd}
 use Rattle.std.proofs.KnownBytes.{Appends-nil}
 use Rattle.values.specs.Tables.{Schema}
+use Rattle.histories.specs.History.{History}
 use Rattle.statement.specs.Line.{line_says}
 use Rattle.statement.specs.Writer.{AppendsFront}
 use Rattle.scripts.specs.Taking.{Feeds, Breaks}
-use Rattle.scripts.specs.Transcript.{Partial, Progress, Reading, beginning, ended, line_reply, line_leaves, last_reply, last_leaves, IsRun, IsCut, IsStopped}
+use Rattle.scripts.specs.Transcript.{Partial, Progress, Reading, after, ended, line_reply, line_leaves, last_reply, last_leaves, IsRunAfter, IsCutAfter, IsStoppedAfter}
 use Rattle.scripts.proofs.Feeding.{Taken, feeds_none, feeds_all, feeds_end, breaks_end, feeds_join, breaks_join, feeds_flushed, breaks_flushed, taken_none, taken_more, cut_between, stopped_inside, stopped_at_end, done_all, done_left}
 use Rattle.scripts.specs.declared.script.Script.{Script}
 use Rattle.interleaving.specs.SystemState.{Stands}
@@ -188,42 +189,42 @@ all_stuck a b c (Err x) s s' bytes rest so empty kept = λ schema p at.
 -- ---- a run over a reader and a writer
 
 -- some bytes were read and answered, and the run is as far as that
-pub record Going (unread left old new : Option (List ℕ)) (s : Script) (schema : Schema) : Type 0 where
+pub record Going (unread left old new : Option (List ℕ)) (s : Script) (schema : Schema) (first : History) : Type 0 where
   pub progress : Progress
   pub at : IsAt s schema progress
-  pub taken : Taken schema (line_says schema) unread left old new progress (line_of s)
+  pub taken : Taken schema (line_says schema) first unread left old new progress (line_of s)
 
-pub going_none : (r w : Option (List ℕ)) (s : Script) (schema : Schema) → IsAt s schema beginning → line_of s ≡ Some [] → Going r r w w s schema
-going_none r w s schema at line = record { progress = beginning; at = at; taken = taken_none schema (line_says schema) r w (line_of s) line }
+pub going_none : (r w : Option (List ℕ)) (s : Script) (schema : Schema) (first : History) → IsAt s schema (after first) → line_of s ≡ Some [] → Going r r w w s schema first
+going_none r w s schema first at line = record { progress = after first; at = at; taken = taken_none schema (line_says schema) first r w (line_of s) line }
 
-pub going_more : (r s t a b c : Option (List ℕ)) (x y : Script) (schema : Schema) (bytes : List ℕ) → Going r s a b x schema → Consumes s t bytes
-    → ((schema : Schema) (p : Progress) → IsAt x schema p → Fed b c x y schema p bytes) → Going r t a c y schema
-going_more r s t a b c x y schema bytes so took fed =
+pub going_more : (r s t a b c : Option (List ℕ)) (x y : Script) (schema : Schema) (first : History) (bytes : List ℕ) → Going r s a b x schema first → Consumes s t bytes
+    → ((schema : Schema) (p : Progress) → IsAt x schema p → Fed b c x y schema p bytes) → Going r t a c y schema first
+going_more r s t a b c x y schema first bytes so took fed =
     let did = fed schema so.progress so.at in
-    record { progress = did.later; at = did.left; taken = taken_more schema (line_says schema) r s t a b c so.progress did.later (line_of x) (line_of y) bytes so.taken took did.fed }
+    record { progress = did.later; at = did.left; taken = taken_more schema (line_says schema) first r s t a b c so.progress did.later (line_of x) (line_of y) bytes so.taken took did.fed }
 
-pub going_cut : (r s t a b : Option (List ℕ)) (x : Script) (schema : Schema) → Going r s a b x schema → Keeps s t → IsCut schema (line_says schema) r t a b
-going_cut r s t a b x schema so kept = cut_between schema (line_says schema) r s t a b so.progress (line_of x) so.taken kept
+pub going_cut : (r s t a b : Option (List ℕ)) (x : Script) (schema : Schema) (first : History) → Going r s a b x schema first → Keeps s t → IsCutAfter schema (line_says schema) first r t a b
+going_cut r s t a b x schema first so kept = cut_between schema (line_says schema) first r s t a b so.progress (line_of x) so.taken kept
 
-pub going_broken : (r s t a b c : Option (List ℕ)) (x : Script) (schema : Schema) (bytes : List ℕ) → Going r s a b x schema → Consumes s t bytes
-    → ((schema : Schema) (p : Progress) → IsAt x schema p → Breaks schema (line_says schema) b c p (line_of x) bytes) → IsStopped schema (line_says schema) r t a c
-going_broken r s t a b c x schema bytes so took broken = stopped_inside schema (line_says schema) r s t a b c so.progress (line_of x) bytes so.taken took (broken schema so.progress so.at)
+pub going_broken : (r s t a b c : Option (List ℕ)) (x : Script) (schema : Schema) (first : History) (bytes : List ℕ) → Going r s a b x schema first → Consumes s t bytes
+    → ((schema : Schema) (p : Progress) → IsAt x schema p → Breaks schema (line_says schema) b c p (line_of x) bytes) → IsStoppedAfter schema (line_says schema) first r t a c
+going_broken r s t a b c x schema first bytes so took broken = stopped_inside schema (line_says schema) first r s t a b c so.progress (line_of x) bytes so.taken took (broken schema so.progress so.at)
 
-pub going_done : (r s t a b c : Option (List ℕ)) (x y : Script) (schema : Schema) → Going r s a b x schema → Consumes s t [] → IsAtEnd t
-    → EndsScript b c x y → IsRun schema (line_says schema) y.system r t a c
-going_done r s t a b c x y schema so took end finished =
+pub going_done : (r s t a b c : Option (List ℕ)) (x y : Script) (schema : Schema) (first : History) → Going r s a b x schema first → Consumes s t [] → IsAtEnd t
+    → EndsScript b c x y → IsRunAfter schema (line_says schema) first y.system r t a c
+going_done r s t a b c x y schema first so took end finished =
     let did = finished schema so.progress so.at in
     record {
-      ran = done_all schema (line_says schema) r s t a b c so.progress (line_of x) did.mark so.taken took end did.wrote;
-      stands = subst (λ p. Stands y.system p.history) (sym (done_left schema (line_says schema) r s t a b c so.progress (line_of x) did.mark so.taken took end did.wrote)) did.left.stands;
+      ran = done_all schema (line_says schema) first r s t a b c so.progress (line_of x) did.mark so.taken took end did.wrote;
+      stands = subst (λ p. Stands y.system p.history) (sym (done_left schema (line_says schema) first r s t a b c so.progress (line_of x) did.mark so.taken took end did.wrote)) did.left.stands;
     }
 
 -- the schema stays
-pub going_schema : (r s a b c : Option (List ℕ)) (x y : Script) (schema : Schema) → Going r s a b x schema → EndsScript b c x y → y.system.schema ≡ schema
-going_schema r s a b c x y schema so finished = (finished schema so.progress so.at).left.schema_is
+pub going_schema : (r s a b c : Option (List ℕ)) (x y : Script) (schema : Schema) (first : History) → Going r s a b x schema first → EndsScript b c x y → y.system.schema ≡ schema
+going_schema r s a b c x y schema first so finished = (finished schema so.progress so.at).left.schema_is
 
-pub going_unfinished : (r s t a b c : Option (List ℕ)) (x : Script) (schema : Schema) → Going r s a b x schema → Consumes s t []
-    → ((schema : Schema) (p : Progress) → IsAt x schema p → Unfinished b c x schema p) → IsStopped schema (line_says schema) r t a c
-going_unfinished r s t a b c x schema so took unfinished =
+pub going_unfinished : (r s t a b c : Option (List ℕ)) (x : Script) (schema : Schema) (first : History) → Going r s a b x schema first → Consumes s t []
+    → ((schema : Schema) (p : Progress) → IsAt x schema p → Unfinished b c x schema p) → IsStoppedAfter schema (line_says schema) first r t a c
+going_unfinished r s t a b c x schema first so took unfinished =
     let did = unfinished schema so.progress so.at in
-    stopped_at_end schema (line_says schema) r s t a b c so.progress (line_of x) did.mark so.taken took did.wrote
+    stopped_at_end schema (line_says schema) first r s t a b c so.progress (line_of x) did.mark so.taken took did.wrote

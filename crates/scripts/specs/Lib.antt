@@ -1,3 +1,4 @@
+pub mod First
 pub mod Script
 pub mod Taking
 pub mod Transcript

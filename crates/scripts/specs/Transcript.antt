@@ -37,8 +37,12 @@ pub record Progress : Type 0 where
   pub history : History
   pub reading : ℕ
 
+-- after these steps, with the clock at nought
+abbrev pub after : History → Progress
+after first = record { history = first; reading = 0 }
+
 abbrev pub beginning : Progress
-beginning = record { history = []; reading = 0 }
+beginning = after []
 
 -- how a line is read at a reading of the clock
 abbrev pub Reading : Type 0
@@ -133,38 +137,57 @@ module _ (schema : Schema) (read : Reading) where
       then leaves (marks_after ms) (line_leaves schema read (mark ms) p (ended bytes)) (Some []) bs
       else leaves ms p (add bytes b) bs
 
-  -- the replies to all lines of a text
-  abbrev pub transcript : List Bool → List ℕ → List ℕ
-  transcript ms text = written last_reply ms beginning (Some []) text
+module _ (schema : Schema) (read : Reading) (first : History) where
+  -- the replies to all lines of a text, after these steps
+  abbrev pub transcript_after : List Bool → List ℕ → List ℕ
+  transcript_after ms text = written schema read (last_reply schema read) ms (after first) (Some []) text
 
   -- the replies to those that have ended
-  abbrev pub whole_replies : List Bool → List ℕ → List ℕ
-  whole_replies ms text = written no_reply ms beginning (Some []) text
+  abbrev pub whole_replies_after : List Bool → List ℕ → List ℕ
+  whole_replies_after ms text = written schema read no_reply ms (after first) (Some []) text
+
+  -- what the text leaves
+  abbrev pub leaves_after : List Bool → List ℕ → Progress
+  leaves_after ms text = leaves schema read ms (after first) (Some []) text
 
   -- A text was read to its end, and its transcript was written: nothing but that. Where a reader's
   -- bytes are known, the text is what was left of them.
-  pub record IsTranscript (unread left old new : Option (List ℕ)) : Type 0 where
+  pub record IsTranscriptAfter (unread left old new : Option (List ℕ)) : Type 0 where
     pub text : List ℕ
     pub took : Consumes unread left text
     pub ended_there : IsAtEnd left
     pub marks : List Bool
-    pub wrote : Appends old new (transcript marks text)
+    pub wrote : Appends old new (transcript_after marks text)
 
   -- the same, and a system stands for what the text leaves
-  pub record IsRun (s : SystemState) (unread left old new : Option (List ℕ)) : Type 0 where
-    pub ran : IsTranscript unread left old new
-    pub stands : Stands s (leaves ran.marks beginning (Some []) ran.text).history
+  pub record IsRunAfter (s : SystemState) (unread left old new : Option (List ℕ)) : Type 0 where
+    pub ran : IsTranscriptAfter unread left old new
+    pub stands : Stands s (leaves_after ran.marks ran.text).history
 
   -- some bytes were read, and just the replies to their lines that ended were written
-  pub record IsCut (unread left old new : Option (List ℕ)) : Type 0 where
+  pub record IsCutAfter (unread left old new : Option (List ℕ)) : Type 0 where
     pub text : List ℕ
     pub took : Consumes unread left text
     pub marks : List Bool
-    pub wrote : Appends old new (whole_replies marks text)
+    pub wrote : Appends old new (whole_replies_after marks text)
 
   -- some bytes were read, and a prefix of their transcript was written
-  pub record IsStopped (unread left old new : Option (List ℕ)) : Type 0 where
+  pub record IsStoppedAfter (unread left old new : Option (List ℕ)) : Type 0 where
     pub text : List ℕ
     pub took : Consumes unread left text
     pub marks : List Bool
-    pub wrote : AppendsFront old new (transcript marks text)
+    pub wrote : AppendsFront old new (transcript_after marks text)
+
+-- ---- the same from the beginning
+
+abbrev pub IsTranscript : Schema → Reading → (unread left old new : Option (List ℕ)) → Type 0
+IsTranscript schema read unread left old new = IsTranscriptAfter schema read [] unread left old new
+
+abbrev pub IsRun : Schema → Reading → SystemState → (unread left old new : Option (List ℕ)) → Type 0
+IsRun schema read s unread left old new = IsRunAfter schema read [] s unread left old new
+
+abbrev pub IsCut : Schema → Reading → (unread left old new : Option (List ℕ)) → Type 0
+IsCut schema read unread left old new = IsCutAfter schema read [] unread left old new
+
+abbrev pub IsStopped : Schema → Reading → (unread left old new : Option (List ℕ)) → Type 0
+IsStopped schema read unread left old new = IsStoppedAfter schema read [] unread left old new

@@ -1,14 +1,18 @@
 //! Scripts: a line is read, its step taken and its reply written, and then the next one. What was
 //! written is flushed before more is read.
-ghost use Rattle.std.specs.Prelude.{◌≡◌, ◌≢◌, ◌≤◌, ◌<◌, ◌^◌, Some, None, [], ◌∷◌, OnOk, OnErr, IfOk, IfErr, Ok, Err, length, take, ◌+◌, vec_capacity};
+ghost use Rattle.std.specs.Prelude.{◌≡◌, ◌≢◌, ◌≤◌, ◌<◌, ◌^◌, Some, None, [], ◌∷◌, OnOk, OnErr, IfOk, IfErr, Ok, Err, length, take, ◌+◌, vec_capacity, false};
 ghost use Rattle.std.specs.List.{prefix_len};
 ghost use Rattle.std.specs.Io.KnownBytes.{Keeps};
 ghost use Rattle.values.specs.Tables.{Schema};
 ghost use Rattle.statement.specs.Line.{longest_line, line_says};
-ghost use Rattle.scripts.specs.Transcript.{beginning, ended, IsRun, IsCut, IsStopped};
+ghost use Rattle.values.specs.declared.refusal.Refusal.{Refusal as Why};
+ghost use Rattle.scripts.specs.First.{history_of, refusal_in, first_refusal, LeadsTo, RefusesFirst, IsRefusedFirst, IsUnled, is_first};
+ghost use Rattle.histories.specs.History.{History};
+ghost use Rattle.interleaving.specs.SystemState.{Stands};
+ghost use Rattle.scripts.specs.Transcript.{ended, IsRun, IsCut, IsStopped, IsRunAfter, IsCutAfter, IsStoppedAfter};
 ghost use Rattle.scripts.specs.Script.{line_of, said_by, add_all, is_no_feed, IsRead, IsAt, SameRun, HasRoom, has_byte, AnswersLine, BreaksLine, TakesBytes, BreaksBytes, EndsScript, BreaksEnd, IsIdle};
 
-use histories::Step;
+use histories::{Reply, Step};
 use interleaving::System;
 use rows::Schema;
 use statement::{LONGEST_LINE, Line, WriteFault, print_refusal, print_reply, read_line, write_all};
@@ -23,8 +27,10 @@ const CHUNK: usize = 4096;
 const READS: u64 = 1 << 32;
 
 /// Why a run stopped before the end of its script.
-#[derive(Clone, Copy, Debug, PartialEq, Eq)]
+#[derive(Debug, PartialEq, Eq, Drop)]
 pub enum RunFault {
+    /// A step before the script's was refused.
+    First(Refusal),
     /// The reader failed, or gave no end in 2^32 reads.
     Read,
     /// The writer failed.
@@ -262,22 +268,152 @@ fn finish<W: Write>(alloc: Global, writer: &mut W, script: &mut Script) -> Resul
 }
 
 /// A run at the beginning of its script.
-fn begin(alloc: Global, schema: Schema) -> Result<Script, AllocError>
-    ensures at { IfOk result (λ s. IsAt s schema beginning) }
+fn begin(alloc: Global, system: System) -> Result<Script, AllocError>
+    ensures system { IfOk result (λ s. s.system ≡ system) }
+    ensures reading { IfOk result (λ s. s.reading ≡ 0) }
     ensures line { IfOk result (λ s. line_of s ≡ Some []) }
     ensures room { IfOk result (λ s. HasRoom s) }
 {
     let line = Vec::with_capacity(alloc, LONGEST_LINE + 1)?;
-    let system = match System::new(alloc, schema) {
-        Ok(system) => system,
-        Err(_) => return Err(AllocError),
-    };
     Ok(Script {
         system,
         reading: 0,
         line,
         is_too_long: false,
     })
+}
+
+/// The refusal in a reply, where it is one.
+fn refusal_in(reply: Reply) -> Option<Refusal>
+    ensures { result ≡ refusal_in reply }
+{
+    match reply {
+        Reply::Refused(refusal) => Some(refusal),
+        _ => None,
+    }
+}
+
+/// Takes steps in turn, up to the first that is refused.
+fn take_all(system: &mut System, first: Vec<Step>) -> Result<(), Refusal>
+    ensures all { OnOk result (LeadsTo system.old system.new first.items) }
+    ensures some { IfErr result (λ refusal. RefusesFirst system.old first.items refusal) }
+    ensures schema { system.new.schema ≡ system.old.schema }
+{
+    for step in first {
+        let reply = system.step(step);
+        match refusal_in(reply) {
+            None => {}
+            Some(refusal) => return Err(refusal),
+        }
+    }
+    Ok(())
+}
+
+/// A store that took these steps.
+///
+/// `First` where one was refused, or memory ran out at it; otherwise `Memory`.
+pub fn lead(alloc: Global, schema: Schema, first: Vec<Step>) -> Result<System, RunFault>
+    ensures stands { IfOk result (λ s. Stands s (history_of first.items)) }
+    ensures schema { IfOk result (λ s. s.schema ≡ schema) }
+    ensures taken { OnOk result (first_refusal schema [] first.items ≡ None) }
+    ensures err { IfErr result (λ fault. IsUnled schema first.items fault) }
+{
+    let mut system = match System::new(alloc, schema) {
+        Ok(system) => system,
+        Err(_) => return Err(RunFault::Memory),
+    };
+    match take_all(&mut system, first) {
+        Ok(()) => Ok(system),
+        Err(refusal) => Err(RunFault::First(refusal)),
+    }
+}
+
+/// Runs a script over a store as it is; otherwise like `run_script`. It is never `First`.
+pub fn run_script_in<I: Read, W: Write>(
+    alloc: Global,
+    system: System,
+    reader: &mut I,
+    writer: &mut W,
+) -> Result<System, RunFault>
+    ensures done { IfOk result (λ s. (h : History) → Stands system h
+        → IsRunAfter system.schema (line_says system.schema) h s
+        (I.remaining reader.old) (I.remaining reader.new)
+        (W.contents writer.old) (W.contents writer.new)) }
+    ensures schema { IfOk result (λ s. (h : History) → Stands system h
+        → s.schema ≡ system.schema) }
+    ensures read { result ≡ Err RunFault.Read → (h : History) → Stands system h
+        → IsCutAfter system.schema (line_says system.schema) h
+        (I.remaining reader.old) (I.remaining reader.new)
+        (W.contents writer.old) (W.contents writer.new) }
+    ensures write { result ≡ Err RunFault.Write → (h : History) → Stands system h
+        → IsStoppedAfter system.schema (line_says system.schema) h
+        (I.remaining reader.old) (I.remaining reader.new)
+        (W.contents writer.old) (W.contents writer.new) }
+    ensures memory { result ≡ Err RunFault.Memory → IsIdle
+        (I.remaining reader.old) (I.remaining reader.new)
+        (W.contents writer.old) (W.contents writer.new) }
+    ensures first { IfErr result (λ fault. is_first fault ≡ false) }
+{
+    let Ok(mut script) = begin(alloc, system) else {
+        return Err(RunFault::Memory);
+    };
+    let mut chunk = [0u8; CHUNK];
+    for _turn in 0..READS {
+        let n = match reader.read(&mut chunk) {
+            Ok(n) => n,
+            Err(_) => return Err(RunFault::Read),
+        };
+        if n == 0 {
+            return match finish(alloc, writer, &mut script) {
+                Ok(()) => Ok(script.system),
+                Err(_) => Err(RunFault::Write),
+            };
+        }
+        match feed(alloc, writer, &mut script, chunk.split_at(n).0) {
+            Ok(()) => {}
+            Err(_) => return Err(RunFault::Write),
+        }
+    }
+    Err(RunFault::Read)
+}
+
+/// Takes steps, for which nothing is written, and then runs a script as `run_script` does.
+///
+/// At `First` a step before the script's was refused, or memory ran out at it; nothing was read or
+/// written. The other faults are those of `run_script`, with the transcript after these steps.
+pub fn run_script_after<I: Read, W: Write>(
+    alloc: Global,
+    first: Vec<Step>,
+    reader: &mut I,
+    writer: &mut W,
+    schema: Schema,
+) -> Result<System, RunFault>
+    ensures done { IfOk result (λ system.
+        IsRunAfter schema (line_says schema) (history_of first.items) system
+        (I.remaining reader.old) (I.remaining reader.new)
+        (W.contents writer.old) (W.contents writer.new)) }
+    ensures taken { OnOk result (first_refusal schema [] first.items ≡ None) }
+    ensures schema { IfOk result (λ system. system.schema ≡ schema) }
+    ensures read { result ≡ Err RunFault.Read
+        → IsCutAfter schema (line_says schema) (history_of first.items)
+        (I.remaining reader.old) (I.remaining reader.new)
+        (W.contents writer.old) (W.contents writer.new) }
+    ensures write { result ≡ Err RunFault.Write
+        → IsStoppedAfter schema (line_says schema) (history_of first.items)
+        (I.remaining reader.old) (I.remaining reader.new)
+        (W.contents writer.old) (W.contents writer.new) }
+    ensures memory { result ≡ Err RunFault.Memory → IsIdle
+        (I.remaining reader.old) (I.remaining reader.new)
+        (W.contents writer.old) (W.contents writer.new) }
+    ensures first { (refusal : Why) → result ≡ Err (RunFault.First refusal)
+        → IsRefusedFirst schema first.items refusal × IsIdle
+        (I.remaining reader.old) (I.remaining reader.new)
+        (W.contents writer.old) (W.contents writer.new) }
+{
+    match lead(alloc, schema, first) {
+        Ok(system) => run_script_in(alloc, system, reader, writer),
+        Err(fault) => Err(fault),
+    }
 }
 
 /// Runs a script over a schema: reads the reader to its end, and writes one reply for each line
@@ -306,26 +442,10 @@ pub fn run_script<I: Read, W: Write>(
     ensures memory { result ≡ Err RunFault.Memory → IsIdle
         (I.remaining reader.old) (I.remaining reader.new)
         (W.contents writer.old) (W.contents writer.new) }
+    ensures first { (refusal : Why) → result ≡ Err (RunFault.First refusal)
+        → (refusal ≡ Refusal.Memory) × IsIdle
+        (I.remaining reader.old) (I.remaining reader.new)
+        (W.contents writer.old) (W.contents writer.new) }
 {
-    let Ok(mut script) = begin(alloc, schema) else {
-        return Err(RunFault::Memory);
-    };
-    let mut chunk = [0u8; CHUNK];
-    for _turn in 0..READS {
-        let n = match reader.read(&mut chunk) {
-            Ok(n) => n,
-            Err(_) => return Err(RunFault::Read),
-        };
-        if n == 0 {
-            return match finish(alloc, writer, &mut script) {
-                Ok(()) => Ok(script.system),
-                Err(_) => Err(RunFault::Write),
-            };
-        }
-        match feed(alloc, writer, &mut script, chunk.split_at(n).0) {
-            Ok(()) => {}
-            Err(_) => return Err(RunFault::Write),
-        }
-    }
-    Err(RunFault::Read)
+    run_script_after(alloc, Vec::new(alloc), reader, writer, schema)
 }

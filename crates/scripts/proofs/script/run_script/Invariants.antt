@@ -1,9 +1,0 @@
-use Rattle.scripts.specs.Script.{HasRoom}
-use Rattle.scripts.proofs.Running.{Going}
-use Rattle.scripts.proofs.script.run_script.Given as goal
-
-abbrev pub invariant-loop-turn : goal.invariant-loop-turn
-invariant-loop-turn g l = record {
-  going : Going (g.I.Read.remaining l.fn.reader) (g.I.Read.remaining l.reader) (g.W.Write.contents l.fn.writer) (g.W.Write.contents l.writer) l.script l.fn.schema;
-  room : HasRoom l.script;
-}

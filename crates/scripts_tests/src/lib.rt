@@ -1,0 +1,5 @@
+//! Tests of `scripts` by its public calls.
+#![tactic(auto)]
+
+#[cfg(test)]
+mod first_tests;
