@@ -18,6 +18,7 @@ of_schema (schema.BadTable number) = BadTable number
 of_schema schema.Memory = SchemaMemory
 
 abbrev pub of_run : RunFault → Fault
+of_run (run.First refusal) = Memory
 of_run run.Read = Read
 of_run run.Write = Write
 of_run run.Memory = Memory

@@ -60,6 +60,7 @@ pub fn run_fault(fault: RunFault) -> Fault
     ensures { result ≡ of_run fault }
 {
     match fault {
+        RunFault::First(_) => Fault::Memory,
         RunFault::Read => Fault::Read,
         RunFault::Write => Fault::Write,
         RunFault::Memory => Fault::Memory,
