@@ -5,4 +5,4 @@ mod script;
 #[cfg(test)]
 mod tests;
 
-pub use script::{RunFault, run_script, run_script_after};
+pub use script::{RunFault, lead, run_script, run_script_after, run_script_in};
