@@ -42,6 +42,14 @@ asks_to_split bytes =
 abbrev pub asks_for_values : List ℕ → Bool
 asks_for_values bytes = asks_for_rows bytes || asks_to_split bytes
 
+-- the same in a line that a session sends
+abbrev pub serves_values : List ℕ → Bool
+serves_values bytes = is_on_rows bytes || asks_to_split bytes
+
+-- reading a line that a session sends takes memory
+abbrev pub serving_takes_memory : List ℕ → Bool
+serving_takes_memory line = serves_values (body_of line)
+
 -- reading the line takes memory: only where values may stand does it
 abbrev pub takes_memory : List ℕ → Bool
 takes_memory line = asks_for_values (body_of line)

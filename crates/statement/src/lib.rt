@@ -8,6 +8,7 @@ mod list;
 mod literal;
 mod meaning;
 mod print;
+mod served;
 mod split;
 mod statement;
 mod token;
@@ -17,4 +18,5 @@ pub use grammar_laws::{faults_are_final, lines_are_read_by_the_grammar, printed_
 pub use histories::{Listing, Reply, Step};
 pub use line::{LONGEST_LINE, Line, read_line};
 pub use print::{print_refusal, print_reply};
+pub use served::read_served;
 pub use writer::{WriteFault, write_all};

@@ -53,14 +53,14 @@ fn without_last(byte: u8, bytes: &[u8]) -> &[u8]
     }
 }
 
-fn before_feed(line: &[u8]) -> &[u8]
+pub(crate) fn before_feed(line: &[u8]) -> &[u8]
     ensures { result.now ≡ before_feed line.now }
 {
     without_last(b'\n', line)
 }
 
 /// The bytes of a line's tokens. A carriage return is dropped where a line feed follows it, and stays in a last line without one.
-fn body_of(line: &[u8]) -> &[u8]
+pub(crate) fn body_of(line: &[u8]) -> &[u8]
     ensures { result.now ≡ body_of line.now }
 {
     let front = before_feed(line);
@@ -72,7 +72,7 @@ fn body_of(line: &[u8]) -> &[u8]
 }
 
 /// Whether a line is, at its first token, blank or a comment.
-fn is_nothing(at: &[u8]) -> bool
+pub(crate) fn is_nothing(at: &[u8]) -> bool
     ensures { result ≡ is_nothing at.now }
 {
     match at {
@@ -104,7 +104,7 @@ fn clock_at(bytes: &[u8]) -> Read<'_, Written>
 }
 
 #[tactic(auto, unfolding(crate::specs::Line::migrate_at))]
-fn migrate_at(bytes: &[u8]) -> Read<'_, Written>
+pub(crate) fn migrate_at(bytes: &[u8]) -> Read<'_, Written>
     ensures gives { Gives result (migrate_at bytes.now) }
     ensures migrates { IfOk result (λ x. inserts x.0 ≡ false) }
 {
@@ -163,7 +163,7 @@ fn asked(step: Result<Step, Refusal>) -> Result<Line, Refusal>
 }
 
 #[tactic(auto, unfolding(crate::specs::Line::meaning_of))]
-fn meaning_of(
+pub(crate) fn meaning_of(
     alloc: Global,
     schema: &Schema,
     reading: Instant,
