@@ -1,5 +1,7 @@
 -- What contracts see of a book, and what its calls make of it.
-use Rattle.std.specs.Prelude.{◌≡◌, ℕ, ◌≤◌, ◌∷◌, Bool, if◌then◌else◌, length}
+use Rattle.std.specs.Prelude.{◌≡◌, ℕ, ◌≤◌, ◌∷◌, ◌⊎◌, Bool, Result, IfErr, if◌then◌else◌, length}
+use Rattle.values.specs.declared.refusal.Refusal.{Refusal}
+use Rattle.values.specs.declared.refusal.Refusal.TheVariants.{JournalFull, Memory}
 use Rattle.values.specs.Tables.{Schema}
 use Rattle.values.specs.Log.{Net, last, changes}
 use Rattle.values.specs.Commits.{outcome}
@@ -61,3 +63,7 @@ pub record IsSplitEntry (cut : Cut) (old new : TreeState) (e : Entry) : Type 0 w
   pub done : Bool
   pub entry_is : e ≡ Split cut done
   pub split : IsSplit cut old new done
+
+-- no refusal but want of room in the journal or in memory
+abbrev pub OnlyRoom : {T : Type 0} → Result T Refusal → Type 0
+OnlyRoom r = IfErr r (λ e. (e ≡ JournalFull) ⊎ (e ≡ Memory))

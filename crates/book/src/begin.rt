@@ -1,7 +1,7 @@
 //! A begin.
 ghost use Rattle.std.specs.Prelude.{◌≡◌, ◌<◌, [], Err, IfOk, OnErr, length};
 ghost use Rattle.values.specs.Memory.{OnlyMemory};
-ghost use Rattle.book.specs.Book.{Adds, IsBook, begin_entry, begun_now, most_entries};
+ghost use Rattle.book.specs.Book.{Adds, IsBook, OnlyRoom, begin_entry, begun_now, most_entries};
 
 use crate::book::{Book, make_room, twice};
 use growlog::StoreName;
@@ -33,6 +33,7 @@ impl<J: StoreName> Book<J> {
         ensures full { length self.old.entries ≡ most_entries
             → result ≡ Err Refusal.JournalFull }
         ensures room { length self.old.entries < most_entries → OnlyMemory result }
+        ensures why { OnlyRoom result }
         ensures refused { OnErr result (self.new ≡ self.old) }
     {
         make_room(&mut self.journal)?;

@@ -2,7 +2,7 @@
 ghost use Rattle.std.specs.Prelude.{◌≡◌, ◌≢◌, ◌<◌, [], IfErr, IfOk, OnErr, OnOk, Err, length};
 ghost use Rattle.values.specs.Memory.{OnlyMemory};
 ghost use Rattle.tsbtree.specs.View.{IsEmpty};
-ghost use Rattle.book.specs.Book.{IsBook, most_entries};
+ghost use Rattle.book.specs.Book.{IsBook, OnlyRoom, most_entries};
 
 use growlog::{NewLog, StoreName};
 use journal::{Entry, Journal, SharedEntry};
@@ -70,6 +70,7 @@ pub(crate) fn make_room<J: StoreName>(journal: &mut Journal<J>) -> Result<(), Re
     ensures same { journal.new.entries ≡ journal.old.entries }
     ensures full { length journal.old.entries ≡ most_entries → result ≡ Err Refusal.JournalFull }
     ensures room { length journal.old.entries < most_entries → OnlyMemory result }
+    ensures why { OnlyRoom result }
 {
     if journal.len() >= MOST_ENTRIES {
         return Err(Refusal::JournalFull);

@@ -3,7 +3,7 @@ ghost use Rattle.std.specs.Prelude.{◌≡◌, ◌<◌, Err, IfOk, IfSome, OnErr
 ghost use Rattle.values.specs.Events.{AreKeysIn};
 ghost use Rattle.values.specs.Memory.{OnlyMemory};
 ghost use Rattle.journal.specs.Entries.{is_open};
-ghost use Rattle.book.specs.Book.{Adds, IsBook, commit_entry, most_entries};
+ghost use Rattle.book.specs.Book.{Adds, IsBook, OnlyRoom, commit_entry, most_entries};
 ghost use Rattle.book.specs.Ending.{IsEnd, IsWritten, MayBeWritten, instant_of, ran_out};
 
 use crate::book::{Book, make_room, twice};
@@ -36,6 +36,7 @@ impl<J: StoreName> Book<J> {
             → length self.old.entries ≡ most_entries → result ≡ Err Refusal.JournalFull }
         ensures room { is_open self.old.entries session begun.now ≡ true
             → length self.old.entries < most_entries → OnlyMemory result }
+        ensures why { is_open self.old.entries session begun.now ≡ true → OnlyRoom result }
         ensures refused { OnErr result (self.new ≡ self.old) }
     {
         if !self.journal.is_open(session, begun) {

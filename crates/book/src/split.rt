@@ -3,7 +3,7 @@ ghost use Rattle.std.specs.Prelude.{◌≡◌, ◌<◌, Err, IfOk, OnErr, length
 ghost use Rattle.values.specs.Memory.{OnlyMemory};
 ghost use Rattle.tsbtree.specs.Growth.{HoldsSame};
 ghost use Rattle.journal.specs.declared.entry.Entry.TheVariants.{Split};
-ghost use Rattle.book.specs.Book.{Adds, IsBook, IsSplitEntry, most_entries};
+ghost use Rattle.book.specs.Book.{Adds, IsBook, IsSplitEntry, OnlyRoom, most_entries};
 
 use crate::book::{Book, make_room, twice};
 use growlog::StoreName;
@@ -23,6 +23,7 @@ impl<J: StoreName> Book<J> {
         ensures full { length self.old.entries ≡ most_entries
             → result ≡ Err Refusal.JournalFull }
         ensures room { length self.old.entries < most_entries → OnlyMemory result }
+        ensures why { OnlyRoom result }
         ensures refused { OnErr result (self.new ≡ self.old) }
     {
         make_room(&mut self.journal)?;

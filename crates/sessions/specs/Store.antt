@@ -1,6 +1,7 @@
 -- What the store's calls do to a session.
-use Rattle.std.specs.Prelude.{◌≡◌, ℕ, [], Option, Some, None, Result, Bool, true, ◌==◌, ◌||◌}
+use Rattle.std.specs.Prelude.{◌≡◌, ◌⊎◌, ℕ, [], Option, Some, None, Result, IfErr, Bool, true, ◌==◌, ◌||◌}
 use Rattle.values.specs.declared.refusal.Refusal.{Refusal}
+use Rattle.values.specs.declared.refusal.Refusal.TheVariants.{NoTransaction, JournalFull, Memory}
 use Rattle.values.specs.Log.{Changes, Net}
 use Rattle.tsbtree.specs.View.{TreeState, last}
 use Rattle.staging.specs.View.{Holds}
@@ -24,6 +25,7 @@ pub record IsBegun (old new : SessionState) (number : ℕ) (e : Entry) : Type 0 
   pub view : TreeState
   pub entry_is : e ≡ Begin old.number earlier view
   pub names : ((earlier == 0) || (earlier == old.receipt)) ≡ true
+  pub shows : (m : Changes) × Holds old.schema view m
   pub session_is : new ≡ record {
     number = old.number;
     schema = old.schema;
@@ -50,3 +52,7 @@ pub record IsCommitted (old new : SessionState) (reading number : ℕ) (e : Entr
 pub record IsSplitOf (cut : Cut) (e : Entry) : Type 0 where
   pub done : Bool
   pub entry_is : e ≡ Split cut done
+
+-- no refusal but want of room, and that the transaction is not open at this store
+abbrev pub OnlyRoomOrNone : {T : Type 0} → Result T Refusal → Type 0
+OnlyRoomOrNone r = IfErr r (λ e. (e ≡ NoTransaction) ⊎ ((e ≡ JournalFull) ⊎ (e ≡ Memory)))

@@ -1,5 +1,5 @@
 //! A session: what its transaction sees of what was committed, and its own writes. Nothing here takes a lock.
-ghost use Rattle.std.specs.Prelude.{◌≡◌, ◌<◌, ◌≤◌, [], Err, IfOk, IsOk, MatchOption, None, Some};
+ghost use Rattle.std.specs.Prelude.{◌≡◌, ◌<◌, ◌≤◌, [], Err, IfOk, IsOk, MatchOption, None, Some, is_some};
 ghost use Rattle.histories.specs.Misfit.{max_session};
 ghost use Rattle.values.specs.Log.{Changes};
 ghost use Rattle.tsbtree.specs.View.{last};
@@ -68,6 +68,27 @@ impl Session {
             receipt: 0,
             running: None,
         })
+    }
+
+    /// The session's number, from 0 to 64.
+    pub fn number(&self) -> u8
+        ensures { result ≡ self.now.number }
+    {
+        self.number
+    }
+
+    /// The tables that the session speaks of.
+    pub fn schema(&self) -> &Schema
+        ensures { result.now ≡ self.now.schema }
+    {
+        &self.schema
+    }
+
+    /// Whether a transaction is open.
+    pub fn is_open(&self) -> bool
+        ensures { result ≡ is_some self.now.transaction }
+    {
+        self.running.is_some()
     }
 
     /// The number of the last receipt that a store gave the session, 0 at first.

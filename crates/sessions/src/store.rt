@@ -2,8 +2,8 @@
 ghost use Rattle.std.specs.Prelude.{◌≡◌, ◌≢◌, All, Err, IfErr, IfOk, IsPermutation, IsSome, None, OnErr, Some, length, map};
 ghost use Rattle.values.specs.Memory.{OnlyMemory};
 ghost use Rattle.journal.specs.Entries.{entry_at, numbers};
-ghost use Rattle.book.specs.Book.{IsBook};
-ghost use Rattle.sessions.specs.Store.{IsBegun, IsCommitted, IsSplitOf};
+ghost use Rattle.book.specs.Book.{IsBook, OnlyRoom};
+ghost use Rattle.sessions.specs.Store.{IsBegun, IsCommitted, IsSplitOf, OnlyRoomOrNone};
 
 use crate::same_schema::is_same_schema;
 use crate::session::{Running, Session};
@@ -51,6 +51,8 @@ impl<J: StoreName> LockedStore<J> {
         ensures other { session.old.schema ≢ J.schema → result ≡ Err Refusal.NoTable }
         ensures open_before { session.old.schema ≡ J.schema → IsSome session.old.transaction
             → result ≡ Err Refusal.InTransaction }
+        ensures why { session.old.schema ≡ J.schema → session.old.transaction ≡ None
+            → OnlyRoom result }
         ensures refused { OnErr result (session.new ≡ session.old) }
     {
         if !is_same_schema(&self.schema, &session.schema) {
@@ -76,6 +78,8 @@ impl<J: StoreName> LockedStore<J> {
         ensures other { session.old.schema ≢ J.schema → result ≡ Err Refusal.NoTable }
         ensures none { session.old.schema ≡ J.schema → session.old.transaction ≡ None
             → result ≡ Err Refusal.NoTransaction }
+        ensures why { session.old.schema ≡ J.schema → IsSome session.old.transaction
+            → OnlyRoomOrNone result }
         ensures refused { OnErr result (session.new ≡ session.old) }
     {
         if !is_same_schema(&self.schema, &session.schema) {
@@ -98,7 +102,8 @@ impl<J: StoreName> LockedStore<J> {
 
     /// Splits the current data node of a key, where its cut lies inside the node: whether it did is in the receipt's entry. `JournalFull` where no more entries may stand. After a refusal nothing has changed.
     pub fn split<R: Wait>(&self, rt: &R, cut: Cut) -> Result<Receipt<J>, Refusal>
-        ensures { IfOk result (λ r. IsSplitOf cut r.entry) }
+        ensures split { IfOk result (λ r. IsSplitOf cut r.entry) }
+        ensures why { OnlyRoom result }
     {
         self.book.lock(rt).split(cut)
     }

@@ -1,0 +1,6 @@
+//! The lines of a text, as its bytes come in.
+#![tactic(auto)]
+
+mod line_buffer;
+
+pub use line_buffer::{LineBuffer, line_length};
