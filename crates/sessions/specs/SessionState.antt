@@ -39,6 +39,10 @@ pub record SessionState : Type 0 where
   pub receipt : ℕ
   pub transaction : Option RunningState
 
+-- the last instant that the open transaction sees, if one is open
+abbrev pub start_of : SessionState → Option ℕ
+start_of s = option_map (λ t. t.begun.start) s.transaction
+
 -- the view shows the changes, whose keys are of the schema as the written ones are, and the begin has its last instant
 pub record IsRunning (schema : Schema) (t : RunningState) (m : Changes) : Type 0 where
   pub held : Holds schema t.view m

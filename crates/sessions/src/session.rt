@@ -1,16 +1,16 @@
 //! A session: what its transaction sees of what was committed, and its own writes. Nothing here takes a lock.
-ghost use Rattle.std.specs.Prelude.{◌≡◌, ◌<◌, ◌≤◌, [], Err, IfOk, IsOk, MatchOption, None, Some, is_some};
+ghost use Rattle.std.specs.Prelude.{◌≡◌, ◌<◌, ◌≤◌, [], Err, IfOk, IsOk, MatchOption, None, Some};
 ghost use Rattle.histories.specs.Misfit.{max_session};
 ghost use Rattle.values.specs.Log.{Changes};
 ghost use Rattle.tsbtree.specs.View.{last};
 ghost use Rattle.staging.specs.View.{Holds};
-ghost use Rattle.sessions.specs.SessionState.{running, with_transaction};
+ghost use Rattle.sessions.specs.SessionState.{running, start_of, with_transaction};
 
 use book::Opening;
 use growlog::StoreName;
 use histories::MAX_SESSION;
 use journal::{Begun, Receipt};
-use rows::{Refusal, Schema};
+use rows::{Instant, Refusal, Schema};
 use std::alloc::Global;
 use std::marker::Model;
 use transaction::OpenTransaction;
@@ -84,11 +84,14 @@ impl Session {
         &self.schema
     }
 
-    /// Whether a transaction is open.
-    pub fn is_open(&self) -> bool
-        ensures { result ≡ is_some self.now.transaction }
+    /// The last instant that the open transaction sees, or none where none is open.
+    pub fn start(&self) -> Option<Instant>
+        ensures { result ≡ start_of self.now }
     {
-        self.running.is_some()
+        match &self.running {
+            None => None,
+            Some(running) => Some(running.begun.start),
+        }
     }
 
     /// The number of the last receipt that a store gave the session, 0 at first.
