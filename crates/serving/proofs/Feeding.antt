@@ -1,17 +1,17 @@
 -- The bytes of a served session, line by line.
-use Rattle.std.proofs.Common.{◌≡◌, ◌≢◌, ℕ, List, [], ◌∷◌, ◌++◌, ◌+◌, ◌<◌, ◌≤◌, Bool, true, false, Option, Some, None, length, take, drop, take-append-drop, append_assoc, append-nil, inl, inr, refl, sym, ap, ◌∙◌, subst, arith}
-use Rattle.std.specs.Prelude.{◌⊎◌, ◌==◌, Result, Ok, Err, OnOk, OnErr, if◌then◌else◌}
+use Rattle.std.proofs.Common.{◌≡◌, ◌≢◌, ℕ, List, [], ◌∷◌, ◌++◌, ◌+◌, ◌<◌, ◌≤◌, true, false, Option, Some, length, take, drop, take-append-drop, append_assoc, append-nil, inl, inr, refl, sym, ap, ◌∙◌, subst, arith}
+use Rattle.std.specs.Prelude.{◌==◌, Result, Ok, Err, OnOk, OnErr, if◌then◌else◌}
 use Rattle.std.specs.List.{prefix_len}
 use Rattle.std.proofs.lemmas.Bool.Decides.{nat_tests}
 use Rattle.std.proofs.lemmas.List.{take_more}
-use Rattle.std.specs.Io.KnownBytes.{Appends, Consumes, Keeps, IsAtEnd}
+use Rattle.std.specs.Io.KnownBytes.{Consumes, Keeps, IsAtEnd}
 use Rattle.std.proofs.KnownBytes.{Consumes-nil, Consumes-trans, Consumes-kept}
 use Rattle.lines.specs.Partial.{Fits, Partial, add_all, ended, has_byte, is_no_feed}
 use Rattle.lines.specs.Lines.{EndsLines, lines_from, lines_of}
 use Rattle.lines.proofs.Adding.{all_before, feed_behind}
 use Rattle.lines.proofs.Ending.{ends_none, ends_line, ends_join, ends_nothing}
 use Rattle.sessions.specs.SessionState.{SessionState}
-use Rattle.serving.specs.Account.{AccountState, Writes, WritesFront, IsBroken, Feeds, Breaks}
+use Rattle.serving.specs.Account.{AccountState, Writes, IsBroken, Feeds, Breaks}
 use Rattle.serving.specs.Ends.{Ends, EndsInPart}
 use Rattle.serving.proofs.Joining.{writes_none, writes_join, writes_kept, all_front, front_join, left_front}
 

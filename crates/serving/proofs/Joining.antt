@@ -1,18 +1,15 @@
 -- Lines that were served, one after another.
 use Rattle.std.proofs.Common.{◌≡◌, ℕ, List, [], ◌∷◌, ◌++◌, Option, append_assoc, append-nil, refl, sym, ap, ◌∙◌, subst}
-use Rattle.std.specs.Prelude.{◌⊎◌}
-use Rattle.std.specs.Io.KnownBytes.{Appends, Keeps}
+use Rattle.std.specs.Io.KnownBytes.{Keeps}
 use Rattle.std.proofs.KnownBytes.{Appends-trans, Appends-nil, Appends-kept}
 use Rattle.values.specs.Tables.{Schema}
-use Rattle.statement.specs.Writer.{AppendsFront}
 use Rattle.statement.proofs.Fronts.{front_then}
 use Rattle.lines.specs.Partial.{Partial}
 use Rattle.sessions.specs.SessionState.{SessionState}
 use Rattle.serving.specs.declared.told.Told.{Told}
 use Rattle.serving.specs.Taken.{Given, Progress}
 use Rattle.serving.specs.Served.{IsAnswered, Serves}
-use Rattle.serving.specs.Serving.{IsAt}
-use Rattle.serving.specs.Account.{AccountState, Served, Writes, WritesFront, LeavesAll, IsBroken}
+use Rattle.serving.specs.Account.{AccountState, Served, Writes, WritesFront, LeavesAll}
 
 module _ (schema : Schema) (i : ℕ) where
   pub serves_one : (l : Partial) (t : Told) (p q : Progress) (g : List Given) (o : List ℕ) → IsAnswered schema i l t p g o q → Serves schema i (l ∷ []) (t ∷ []) p g o q

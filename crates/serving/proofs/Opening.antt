@@ -1,33 +1,31 @@
 -- Steps that begin, end or read a transaction.
-use Rattle.std.proofs.Common.{◌≡◌, ◌≢◌, ◌⊎◌, ℕ, List, [], ◌∷◌, Bool, true, false, Option, Some, None, Result, Ok, Err, inl, inr, refl, sym, ap, ◌∙◌, subst}
+use Rattle.std.proofs.Common.{◌≡◌, ◌≢◌, ◌⊎◌, ℕ, [], ◌∷◌, true, false, Option, Some, None, Result, Ok, Err, inl, inr, refl, sym, ap, ◌∙◌, subst}
 use Rattle.std.specs.Prelude.{◌==◌, ◌||◌, IsOk, MatchOption}
 use Rattle.std.specs.Option.{is_some, option_map, unwrap_or}
 use Rattle.values.specs.declared.query.Form.{Form}
 use Rattle.values.specs.declared.query.Form.TheVariants.{Plain, AsOf, FromTo, Between}
 use Rattle.values.specs.declared.query.Keys.{Keys}
 use Rattle.values.specs.declared.refusal.Refusal.{Refusal}
-use Rattle.values.specs.declared.refusal.Refusal.TheVariants.{NoTransaction, NoTable, JournalFull, Memory}
+use Rattle.values.specs.declared.refusal.Refusal.TheVariants.{NoTransaction, NoTable, Memory}
 use Rattle.values.specs.declared.table.Table.{Table}
 use Rattle.values.specs.Tables.{Schema, table_at}
 use Rattle.values.specs.Log.{Changes, Net, rows_after}
 use Rattle.values.specs.Writes.{Own, net_of}
-use Rattle.tsbtree.specs.View.{TreeState, last}
-use Rattle.staging.specs.View.{Holds}
-use Rattle.staging.specs.Own.{own, net_over}
+use Rattle.tsbtree.specs.View.{last}
+use Rattle.staging.specs.Own.{own}
 use Rattle.transaction.specs.Listing.{listing_in}
 use Rattle.histories.specs.declared.step.Listing.{Listing}
 use Rattle.histories.specs.declared.step.Step.TheVariants.{Begin, Select, Commit, Rollback}
 use Rattle.histories.specs.declared.step.Reply.{Reply}
 use Rattle.histories.specs.declared.step.Reply.TheVariants.{Begun, Shown, RolledBack, Refused}
 use Rattle.histories.specs.Misfit.{misfit}
-use Rattle.histories.specs.History.{commit_reply}
 use Rattle.journal.specs.declared.entry.Entry.{Entry}
 use Rattle.journal.specs.declared.entry.Entry.TheVariants.{Commit as Commits}
-use Rattle.sessions.specs.SessionState.{RunningState, SessionState, IsSelect, Shows, select_in, start_of, with_transaction}
+use Rattle.sessions.specs.SessionState.{RunningState, SessionState, IsSelect, select_in, start_of, with_transaction}
 use Rattle.sessions.specs.Store.{IsBegun, IsCommitted, begun_with}
 use Rattle.serving.specs.declared.answer.Sent.{Sent}
 use Rattle.serving.specs.declared.answer.Sent.TheVariants.{Reply as Says, Ending, Refused as Denies}
-use Rattle.serving.specs.Taken.{Given, Opened, Progress, after, opened, listed, query, IsBegin, Replies, Takes, TakesBegin, TakesQuery, TakesCommit, IsRefusedStep, IsLeftUnread}
+use Rattle.serving.specs.Taken.{Given, Opened, Progress, after, opened, listed, query, IsBegin, Replies, TakesBegin}
 use Rattle.serving.specs.Serving.{IsAt, IsOpened, IsOpenAs, IsReplied, IsSentFor, IsStepped, ending_in, reply_by, sent_listing, sent_refusal}
 use Rattle.serving.proofs.Refusing.{memory_or_reply}
 

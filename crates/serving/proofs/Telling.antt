@@ -1,29 +1,27 @@
 -- A line that is served: what is sent for it, and what is told of it.
-use Rattle.std.proofs.Common.{◌≡◌, ◌≢◌, ℕ, List, [], ◌∷◌, ◌++◌, Bool, true, Option, Some, None, length, inl, inr, refl, sym, ap, ◌∙◌, subst}
+use Rattle.std.proofs.Common.{◌≡◌, ◌≢◌, ℕ, List, [], ◌∷◌, ◌++◌, true, Option, Some, None, length, inl, inr, refl, sym, ap, ◌∙◌, subst}
 use Rattle.std.specs.Prelude.{◌⊎◌, Result, Ok, Err, OnOk, OnErr}
-use Rattle.std.specs.Io.KnownBytes.{Appends, Keeps}
 use Rattle.std.proofs.KnownBytes.{Appends-nil}
 use Rattle.values.specs.declared.refusal.Refusal.{Refusal}
 use Rattle.values.specs.declared.refusal.Refusal.TheVariants.{Memory}
 use Rattle.values.specs.Tables.{Schema}
 use Rattle.histories.specs.declared.step.Step.{Step}
-use Rattle.histories.specs.declared.step.Reply.{Reply}
 use Rattle.histories.specs.declared.step.Reply.TheVariants.{Refused}
 use Rattle.statement.specs.declared.line.Line.{Line}
 use Rattle.statement.specs.declared.line.Line.TheVariants.{Nothing, Clock, Step as Asks}
 use Rattle.statement.specs.Memory.{UnlessMemory}
 use Rattle.statement.specs.Print.{refusal_text, reply_text}
-use Rattle.statement.specs.Writer.{AppendsFront, Puts}
+use Rattle.statement.specs.Writer.{Puts}
 use Rattle.lines.specs.Partial.{Partial}
 use Rattle.sessions.specs.SessionState.{SessionState}
 use Rattle.serving.specs.declared.answer.Sent.{Sent}
 use Rattle.serving.specs.declared.answer.Sent.TheVariants.{Reply as Says, Ending, Refused as Denies}
 use Rattle.serving.specs.declared.told.Told.{Told}
 use Rattle.serving.specs.Taken.{Given, Progress}
-use Rattle.serving.specs.Served.{Answers, IsAnswered, IsKept, IsRefusedLine, Serves, reading_takes, said}
+use Rattle.serving.specs.Served.{Answers, IsAnswered, IsKept, IsRefusedLine, reading_takes, said}
 use Rattle.serving.specs.Serving.{AnswerState, IsAt, IsReplied, given_list, refused_of, reply_by, reply_of, sent_refusal, text_of}
-use Rattle.serving.specs.Account.{AccountState, IsBroken, LeavesAll, Served, Writes, WritesFront, taken_by}
-use Rattle.serving.specs.Line.{IsBrokenStep, IsRead, IsTaken, IsTold, Sends, SendsFront}
+use Rattle.serving.specs.Account.{AccountState, IsBroken, Served, Writes, taken_by}
+use Rattle.serving.specs.Line.{IsBrokenStep, IsRead, IsTaken, IsTold, Sends}
 use Rattle.serving.proofs.Joining.{serves_one}
 use Rattle.serving.proofs.Refusing.{memory_or_reply, unless_is}
 

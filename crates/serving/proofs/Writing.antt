@@ -1,5 +1,5 @@
 -- Steps that write.
-use Rattle.std.proofs.Common.{◌≡◌, ◌≢◌, ◌⊎◌, ℕ, List, [], ◌∷◌, Option, Some, None, Result, Ok, Err, inl, inr, refl, sym, ap, ◌∙◌, subst}
+use Rattle.std.proofs.Common.{◌≡◌, ◌≢◌, ◌⊎◌, ℕ, List, [], Option, Some, None, Result, Ok, Err, inl, inr, refl, sym, ap, ◌∙◌, subst}
 use Rattle.std.specs.Prelude.{OnErr}
 use Rattle.std.specs.Option.{option_map}
 use Rattle.values.specs.declared.refusal.Refusal.{Refusal}
@@ -13,11 +13,11 @@ use Rattle.histories.specs.declared.step.Reply.{Reply}
 use Rattle.histories.specs.declared.step.Reply.TheVariants.{Refused}
 use Rattle.histories.specs.Misfit.{misfit}
 use Rattle.histories.specs.History.{write_count, written_reply}
-use Rattle.sessions.specs.SessionState.{RunningState, SessionState, IsWrite, Shows, WithWrites, own_in, write_by, write_in, with_transaction, with_writes}
+use Rattle.sessions.specs.SessionState.{RunningState, SessionState, IsWrite, WithWrites, write_by, with_writes}
 use Rattle.serving.specs.declared.answer.Sent.{Sent}
-use Rattle.serving.specs.declared.answer.Sent.TheVariants.{Reply as Says, Refused as Denies}
-use Rattle.serving.specs.Taken.{Given, Opened, Progress, after, own_of, with_own, Takes, TakesWrite, IsTurnedAway}
-use Rattle.serving.specs.Serving.{IsAt, IsOpened, IsOpenAs, IsReplied, IsStepped, reply_by, sent_refusal}
+use Rattle.serving.specs.declared.answer.Sent.TheVariants.{Reply as Says}
+use Rattle.serving.specs.Taken.{Given, Opened, Progress, after, own_of, with_own, Takes, TakesWrite}
+use Rattle.serving.specs.Serving.{IsAt, IsOpenAs, IsReplied, IsStepped, reply_by, sent_refusal}
 use Rattle.serving.proofs.Refusing.{memory_or_reply}
 
 -- what is sent for a write

@@ -1,5 +1,5 @@
 -- What is kept of the lines of a served session, and what serving some of them did.
-use Rattle.std.specs.Prelude.{◌≡◌, ◌⊎◌, ℕ, List, [], ◌∷◌, ◌++◌, Option, Some, None, is_some, length, if◌then◌else◌}
+use Rattle.std.specs.Prelude.{◌≡◌, ◌⊎◌, ℕ, List, ◌++◌, Option, is_some, if◌then◌else◌}
 use Rattle.std.specs.Io.KnownBytes.{Appends, Keeps}
 use Rattle.statement.specs.Writer.{AppendsFront}
 use Rattle.lines.specs.Partial.{Partial}
@@ -7,7 +7,7 @@ use Rattle.lines.specs.Lines.{EndsLines, lines_from}
 use Rattle.sessions.specs.SessionState.{SessionState}
 use Rattle.serving.specs.declared.told.Told.{Told}
 use Rattle.serving.specs.Taken.{Given, Progress}
-use Rattle.serving.specs.Served.{IsAnswered, Serves}
+use Rattle.serving.specs.Served.{Serves}
 use Rattle.serving.specs.Serving.{IsAt}
 
 -- what is told of each line, the receipts that the lines took, and for how many more there is room

@@ -1,5 +1,5 @@
 -- How a step of a served session is taken: the receipts that it takes, its reply, and what it leaves.
-use Rattle.std.specs.Prelude.{◌≡◌, ℕ, List, [], ◌∷◌, Bool, true, false, Option, Some, None, Result, Ok, Err, ◌==◌, ◌||◌, is_some, is_none, MatchOption}
+use Rattle.std.specs.Prelude.{◌≡◌, ℕ, List, [], ◌∷◌, Bool, true, false, Option, Some, None, Result, ◌==◌, ◌||◌, is_some, is_none, MatchOption}
 use Rattle.std.specs.Option.{option_map}
 use Rattle.values.specs.declared.key.Key.{Key}
 use Rattle.values.specs.declared.table.Table.{Table}

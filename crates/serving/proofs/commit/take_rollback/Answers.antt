@@ -1,4 +1,3 @@
-use Rattle.std.proofs.Common.{refl, subst, sym}
 use Rattle.serving.proofs.Opening.{rollback_stepped, rolled_ok, rolled_err}
 use Rattle.serving.proofs.commit.take_rollback.Goals as goal
 

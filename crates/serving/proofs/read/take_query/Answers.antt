@@ -1,4 +1,4 @@
-use Rattle.std.proofs.Common.{sym, ap, ◌∙◌, refl}
+use Rattle.std.proofs.Common.{sym, ap, ◌∙◌}
 use Rattle.std.specs.Option.{is_some}
 use Rattle.serving.proofs.Opening.{query_stepped, alone_stepped, is_running, not_open}
 use Rattle.serving.proofs.read.take_query.Goals as goal

@@ -1,4 +1,4 @@
-use Rattle.std.proofs.Common.{take, [], refl, subst, sym, ◌∙◌, arith, Some}
+use Rattle.std.proofs.Common.{take, [], refl, subst, ◌∙◌, arith, Some}
 use Rattle.std.specs.Io.KnownBytes.{Consumes}
 use Rattle.std.proofs.KnownBytes.{Keeps-refl}
 use Rattle.serving.proofs.Feeding.{empty_fits, going_none, going_more, going_cut, going_broken, going_done, going_unfinished}

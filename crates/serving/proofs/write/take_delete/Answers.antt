@@ -1,4 +1,4 @@
-use Rattle.std.proofs.Common.{Ok, Err, subst, sym}
+use Rattle.std.proofs.Common.{Ok, Err}
 use Rattle.serving.proofs.Writing.{write_stepped}
 use Rattle.serving.proofs.write.take_delete.Goals as goal
 
