@@ -1,11 +1,11 @@
 //! The values that fields write.
 ghost use Rattle.std.specs.Prelude.{◌≡◌, ◌≤◌, ◌^◌, IfOk, IfSome, option_map};
-ghost use Rattle.std.specs.Str.Parse.{AllDigits};
-ghost use Rattle.statement.specs.Literal.{value_within, digits_here, above_nought, below_nought};
+ghost use Rattle.statement.specs.Literal.{digits_here, above_nought, below_nought};
 ghost use Rattle.tokens.specs.Token.{Finds};
 ghost use Rattle.values.specs.Memory.{OnlyMemory};
 ghost use Rattle.interchange.specs.Field.{number_of, misfit_of, number_value, truth_value, text_value, field_value, whole};
 
+use statement::value_within;
 use std::alloc::Global;
 use std::str;
 use tokens::split_digits;
@@ -13,23 +13,6 @@ use values::{Chars, ColumnType, Mem, Value, same_name};
 
 /// The greatest number of 64 bits.
 const GREATEST: u64 = (1 << 63) - 1;
-
-/// The number that digits write, if it is at most so great.
-fn value_within(most: u64, digits: &[u8]) -> Option<u64>
-    requires { AllDigits 10 digits.now }
-    ensures value { result ≡ value_within most digits.now }
-    ensures within { IfSome result (λ value. value ≤ most) }
-{
-    let mut value: u64 = 0;
-    for digit in digits {
-        let more = 10 * value as u128 + (*digit - b'0') as u128;
-        if more > most as u128 {
-            return None;
-        }
-        value = more as u64;
-    }
-    Some(value)
-}
 
 /// The number that digits and nothing else write, if it is at most so great.
 #[tactic(auto, unfolding(statement::specs::Literal::digits_here))]

@@ -1,17 +1,16 @@
 //! The rows of a file.
-ghost use Rattle.std.specs.Prelude.{◌≡◌, ◌==◌, ◌≤◌, length, map, IfOk, [], unwrap_or};
-ghost use Rattle.std.specs.List.{list_any};
+ghost use Rattle.std.specs.Prelude.{◌≡◌, ◌≤◌, length, map, IfOk, [], unwrap_or};
 ghost use Rattle.csv.specs.Records.{fields_of, field_at};
 ghost use Rattle.values.specs.Memory.{OnlyMemory};
-ghost use Rattle.statement.specs.Meaning.{is_column_list, place_of, row_in};
 ghost use Rattle.statement.specs.Memory.{UnlessMemory};
 ghost use Rattle.interchange.specs.Load.{column_list, value_in, values_from, row_of, rows_from, rows_of, Loads, vec_items};
 
 use crate::field::field_value;
 use crate::record::records_of;
 use csv::ByteRecord;
+use statement::{is_column_list, place_of, row_in};
 use std::alloc::{AllocError, Global};
-use values::{Column, ColumnNumber, Mem, Refusal, Row, Table, Value, fitting_rows_have_bytes};
+use values::{Column, ColumnNumber, Mem, Refusal, Row, Table, Value};
 
 /// The field at a place; empty past the end.
 fn field_at(fields: &ByteRecord, place: usize) -> &[u8]
@@ -34,32 +33,6 @@ fn column_list(
         columns.push(table.column(field_at(header, i)).unwrap_or(0))?;
     }
     Ok(columns)
-}
-
-/// Whether each name of a column list is a column's, and none stands twice.
-fn is_column_list(columns: &[ColumnNumber]) -> bool
-    ensures { result ≡ is_column_list columns.now }
-{
-    for (i, column) in columns.iter().enumerate() {
-        if *column == 0 || has_column(columns.split_at(i + 1).1, *column) {
-            return false;
-        }
-    }
-    true
-}
-
-fn has_column(columns: &[ColumnNumber], column: ColumnNumber) -> bool
-    ensures { result ≡ list_any (λ other. other == column) columns.now }
-{
-    columns.iter().any(|other| *other == column)
-}
-
-/// Where a column stands in a column list.
-#[tactic(auto, unfolding(statement::specs::Meaning::place_of))]
-fn place_of(columns: &[ColumnNumber], number: ColumnNumber) -> Option<usize>
-    ensures { result ≡ place_of columns.now number }
-{
-    columns.iter().position(|column| *column == number)
 }
 
 /// The value that a record gives a column; NULL where the header does not name it.
@@ -96,22 +69,6 @@ fn values_of(
         values.push(value_in(alloc, columns, fields, i + 1, column)?)?;
     }
     Ok(values)
-}
-
-/// A row of the table, if the values fit it.
-fn row_in(table: &Table, values: Vec<Value>) -> Mem<Row>
-    requires some { 1 ≤ length table.now.columns }
-    requires few { length table.now.columns ≤ 16 }
-    ensures { result ≡ row_in table.now values.items }
-{
-    if let Err(refusal) = table.check_row(values.as_slice()) {
-        return Err(refusal);
-    }
-    fitting_rows_have_bytes();
-    match Row::new(values) {
-        Some(row) => Ok(row),
-        None => unreachable!(),
-    }
 }
 
 /// The row that a record writes.

@@ -17,6 +17,8 @@ mod writer;
 pub use grammar_laws::{faults_are_final, lines_are_read_by_the_grammar, printed_rows_are_read};
 pub use histories::{Listing, Reply, Step};
 pub use line::{LONGEST_LINE, Line, read_line};
+pub use literal::value_within;
+pub use meaning::{is_column_list, place_of, row_in};
 pub use print::{print_refusal, print_reply};
 pub use served::read_served;
 pub use writer::{WriteFault, write_all};

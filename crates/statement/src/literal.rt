@@ -17,7 +17,7 @@ const GREATEST: u64 = (1 << 63) - 1;
 pub type WrittenRows = Sequence<Values>;
 
 /// The number that digits write, if it is at most so great.
-fn value_within(most: u64, digits: &[u8]) -> Option<u64>
+pub fn value_within(most: u64, digits: &[u8]) -> Option<u64>
     requires { AllDigits 10 digits.now }
     ensures value { result ≡ value_within most digits.now }
     ensures within { IfSome result (λ value. value ≤ most) }

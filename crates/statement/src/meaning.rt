@@ -12,8 +12,8 @@ use values::{
     ColumnNumber, Instant, Mem, Refusal, Row, Rows, Table, Value, Values, fitting_rows_have_bytes,
 };
 
-/// Whether each name of a column list is a column's, and none stands twice.
-fn is_column_list(columns: &[ColumnNumber]) -> bool
+/// Whether each name of a column list is a column's, and none stands twice. Columns are numbered from 1, and 0 stands for what is no column's name.
+pub fn is_column_list(columns: &[ColumnNumber]) -> bool
     ensures { result ≡ is_column_list columns.now }
 {
     for (i, column) in columns.iter().enumerate() {
@@ -57,9 +57,9 @@ fn value_of(
     }
 }
 
-/// Where a column stands in a column list.
+/// Where a column stands in a column list, from 0, if it stands there.
 #[tactic(auto, unfolding(crate::specs::Meaning::place_of))]
-fn place_of(columns: &[ColumnNumber], number: ColumnNumber) -> Option<usize>
+pub fn place_of(columns: &[ColumnNumber], number: ColumnNumber) -> Option<usize>
     ensures { result ≡ place_of columns.now number }
 {
     columns.iter().position(|column| *column == number)
@@ -91,8 +91,8 @@ fn copy_of(alloc: Global, values: &[Value]) -> Result<Vec<Value>, AllocError>
     Ok(copy)
 }
 
-/// A row of the table, if the values fit it.
-fn row_in(table: &Table, values: Vec<Value>) -> Result<Row, Refusal>
+/// A row of the table, whose values stand in its order; `BadRow` with the column where they do not fit it, and with 0 where they are too few or too many.
+pub fn row_in(table: &Table, values: Vec<Value>) -> Result<Row, Refusal>
     requires some { 1 ≤ length table.now.columns }
     requires few { length table.now.columns ≤ 16 }
     ensures { result ≡ row_in table.now values.items }
