@@ -1,7 +1,0 @@
-pub mod Feeding
-pub mod Joining
-pub mod Opening
-pub mod Refusing
-pub mod Starting
-pub mod Telling
-pub mod Writing
