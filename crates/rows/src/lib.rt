@@ -5,6 +5,7 @@ mod declaration;
 mod good_tables;
 mod sample;
 mod schema;
+mod schema_copy;
 mod schema_grammar;
 mod schema_reading;
 mod schema_table;

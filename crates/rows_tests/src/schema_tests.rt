@@ -1,4 +1,4 @@
-use rows::{SAMPLE, Schema, SchemaFault};
+use rows::{ColumnType, SAMPLE, Schema, SchemaFault};
 use std::alloc::{AllocError, Global};
 use std::test::Fail;
 
@@ -122,5 +122,23 @@ fn a_schema_has_16_tables_of_16_columns_at_most(rt: HostRuntime) -> Result<(), F
         let text = wide_text(rt.alloc(), tables, columns)?;
         assert!(rt; is_bad_table(rt.alloc(), text.as_bytes(), bad));
     }
+    Ok(())
+}
+
+const SHIFTS: &str = "CREATE TABLE shift (day INT NOT NULL, name VARCHAR(7), \
+    s TIMESTAMP GENERATED ALWAYS AS ROW START, e TIMESTAMP GENERATED ALWAYS AS ROW END, \
+    PERIOD FOR SYSTEM_TIME (s, e), PRIMARY KEY (name, day)) WITH SYSTEM VERSIONING";
+
+#[test]
+fn a_copy_of_a_schema_has_its_tables(rt: HostRuntime) -> Result<(), Fail> {
+    let schema = Schema::read(rt.alloc(), SHIFTS.as_bytes()).expect(&rt, "shifts are a table");
+    let copy = schema.copy(rt.alloc())?;
+    let table = copy.table_at(1).expect(&rt, "the copy has the table");
+    assert!(rt; copy.tables().len() == 1 && table.number == 1);
+    assert!(rt; table.name.text() == "shift" && table.row_start.text() == "s");
+    assert!(rt; table.row_end.text() == "e" && table.key.items() == [2, 1].as_slice());
+    let columns = table.columns.items();
+    assert!(rt; columns.len() == 2 && columns[0].name.text() == "day" && columns[0].not_null);
+    assert!(rt; columns[1].of == ColumnType::Varchar(7) && !columns[1].not_null);
     Ok(())
 }
