@@ -13,17 +13,18 @@ use Rattle.tokens.specs.Token.{Read}
 use Rattle.statement.specs.Token.{is_blank, next}
 use Rattle.statement.specs.Line.{is_nothing, written_at, meaning_of, body_says}
 use Rattle.tokens.specs.Run.{Ends}
-use Rattle.statement.specs.Grammar.{Blanks, IsNothing, IsLine}
-use Rattle.statement.specs.GrammarLaws.{LinesAreRead, LinesSayOneThing, NothingIsRead, IsRefused, OnlyLinesAreRead, FaultsAreAtTokens}
+use Rattle.statement.specs.Served.{served_at, served_body_says}
+use Rattle.statement.specs.Grammar.{Blanks, IsNothing, IsLine, IsServedLine}
+use Rattle.statement.specs.GrammarLaws.{Lines, LinesAreRead, LinesSayOneThing, NothingIsRead, IsRefused, OnlyLinesAreRead, FaultsAreAtTokens}
 use Rattle.statement.proofs.Gaps.{blanks_before, next_is}
 use Rattle.statement.proofs.Sound.{same_byte}
 use Rattle.std.proofs.lemmas.List.{length-append}
-use Rattle.statement.proofs.Holds.{holds_at}
-use Rattle.statement.proofs.Stopping.{stopped_at}
-use Rattle.statement.proofs.StopsLine.{written_stops}
+use Rattle.statement.proofs.Holds.{Holds, holds_at}
+use Rattle.statement.proofs.Stopping.{Stops, stopped_at}
+use Rattle.statement.proofs.StopsLine.{written_stops, served_stops}
 use Rattle.statement.proofs.Meanings.{never_syntax}
-use Rattle.statement.proofs.SoundLines.{written_sound}
-use Rattle.statement.proofs.WholeLines.{line_is_something, line_whole}
+use Rattle.statement.proofs.SoundLines.{written_sound, served_sound}
+use Rattle.statement.proofs.WholeLines.{line_is_something, line_whole, served_is_something, served_whole}
 
 nothing_found : (bytes at : List ℕ) → Blanks bytes at → is_nothing at ≡ true → IsNothing bytes
 nothing_found bytes [] blanks is = inl blanks
@@ -39,70 +40,120 @@ nothing_whole bytes (inr is) = ap is_nothing (next_is is.1.1.0 (ends is.1.0 is.0
     ends : (at rest : List ℕ) → at ≡ 45 ∷ 45 ∷ rest → Ends is_blank at
     ends at rest spelled = subst (Ends is_blank) (sym spelled) refl
 
-module _ (schema : Schema) where
-  abbrev answered : ℕ → List ℕ → Read Written → Result Line Refusal
+-- what is answered for the bytes of a line's tokens, by a reader of written lines
+module _ (schema : Schema) (at : List ℕ → Read Written) where
+  abbrev pub answered : ℕ → List ℕ → Read Written → Result Line Refusal
   answered reading bytes r = elim r [ Err at ↦ Err (Syntax (length bytes - length at)) | Ok x ↦ meaning_of schema reading x.0 ]
 
-  pub read : LinesAreRead schema
-  unfolding body_says
+  abbrev pub says : ℕ → List ℕ → Result Line Refusal
+  says reading bytes = if is_nothing (next bytes) then Ok Nothing else answered reading bytes (at bytes)
+
+module _ (schema : Schema) (Is : Lines) (at : List ℕ → Read Written)
+    (sound : (bytes : List ℕ) → Holds (at bytes) (λ written rest. Is written bytes))
+    (whole : (written : Written) (bytes : List ℕ) → Is written bytes → at bytes ≡ Ok (written, []))
+    (something : (written : Written) (bytes : List ℕ) → Is written bytes → is_nothing (next bytes) ≡ false)
+    (stops : (bytes : List ℕ) → Stops bytes (at bytes)) where
+  abbrev answer : ℕ → List ℕ → Read Written → Result Line Refusal
+  answer reading bytes r = answered schema at reading bytes r
+
+  read : LinesAreRead schema Is (says schema at)
   read reading bytes written is =
-      ap (λ t. if t then Ok Nothing else answered reading bytes (written_at schema bytes)) (line_is_something schema written bytes is)
-      ∙ ap (answered reading bytes) (line_whole schema written bytes is)
+      ap (λ t. if t then Ok Nothing else answer reading bytes (at bytes)) (something written bytes is)
+      ∙ ap (answer reading bytes) (whole written bytes is)
 
   abbrev by_value : Written → Read Written → Written
   by_value other r = elim r [ Ok x ↦ x.0 | Err at ↦ other ]
 
-  pub one_thing : LinesSayOneThing schema
-  one_thing bytes written other is too = ap (by_value written) (sym (line_whole schema written bytes is) ∙ line_whole schema other bytes too)
+  one_thing : LinesSayOneThing Is
+  one_thing bytes written other is too = ap (by_value written) (sym (whole written bytes is) ∙ whole other bytes too)
 
-  pub nothing : NothingIsRead schema
-  unfolding body_says
+  nothing : NothingIsRead schema Is (says schema at)
   nothing reading bytes is =
       let none = nothing_whole bytes is in (
-        ap (λ t. if t then Ok Nothing else answered reading bytes (written_at schema bytes)) none,
-        λ written line. false≢true (sym (line_is_something schema written bytes line) ∙ none),
+        ap (λ t. if t then Ok Nothing else answer reading bytes (at bytes)) none,
+        λ written line. false≢true (sym (something written bytes line) ∙ none),
       )
 
-  refused_at : (bytes at : List ℕ) → written_at schema bytes ≡ Err at → (written : Written) → IsLine schema written bytes → ⊥
-  refused_at bytes at is written line = let a = line_whole schema written bytes line in cc
+  refused_at : (bytes stop : List ℕ) → at bytes ≡ Err stop → (written : Written) → Is written bytes → ⊥
+  refused_at bytes stop is written line = let a = whole written bytes line in cc
 
-  by_reading : (reading : ℕ) (bytes : List ℕ) (r : Read Written) → written_at schema bytes ≡ r → is_nothing (next bytes) ≡ false
-      → ((written : Written) × IsLine schema written bytes) ⊎ IsRefused schema reading bytes
-  unfolding body_says
-  by_reading reading bytes (Ok x) is something = inl (x.0, holds_at (written_sound schema bytes) is)
-  by_reading reading bytes (Err at) is something = inr (
-    length bytes - length at,
+  by_reading : (reading : ℕ) (bytes : List ℕ) (r : Read Written) → at bytes ≡ r → is_nothing (next bytes) ≡ false
+      → ((written : Written) × Is written bytes) ⊎ IsRefused schema Is (says schema at) reading bytes
+  by_reading reading bytes (Ok x) is some = inl (x.0, holds_at (sound bytes) is)
+  by_reading reading bytes (Err stop) is some = inr (
+    length bytes - length stop,
     (
-      ap (λ t. if t then Ok Nothing else answered reading bytes (written_at schema bytes)) something ∙ ap (answered reading bytes) is,
-      refused_at bytes at is,
+      ap (λ t. if t then Ok Nothing else answer reading bytes (at bytes)) some ∙ ap (answer reading bytes) is,
+      refused_at bytes stop is,
     ),
   )
 
-  pub only : OnlyLinesAreRead schema
+  only : OnlyLinesAreRead schema Is (says schema at)
   only reading bytes = by_test (is_nothing (next bytes)) refl
     where
-      by_test : (t : Bool) → is_nothing (next bytes) ≡ t → IsNothing bytes ⊎ (((written : Written) × IsLine schema written bytes) ⊎ IsRefused schema reading bytes)
+      by_test : (t : Bool) → is_nothing (next bytes) ≡ t → IsNothing bytes ⊎ (((written : Written) × Is written bytes) ⊎ IsRefused schema Is (says schema at) reading bytes)
       by_test true is = inl (nothing_found bytes (next bytes) (blanks_before bytes) is)
-      by_test false is = inr (by_reading reading bytes (written_at schema bytes) refl is)
+      by_test false is = inr (by_reading reading bytes (at bytes) refl is)
 
   -- the byte of a fault of syntax
-  pub at_tokens : FaultsAreAtTokens schema
-  unfolding body_says
+  at_tokens : FaultsAreAtTokens (says schema at)
   at_tokens reading bytes byte is = by_test (is_nothing (next bytes)) is
     where
       number : Result Line Refusal → ℕ
       number (Err (Syntax k)) = k
       number _ = byte
 
-      told : (at front : List ℕ) → length bytes ≡ length (front ++ at) → length bytes - length at ≡ byte → byte ≡ length front
-      told at front whole e = omega (arith, whole, e, length-append front at)
+      told : (stop front : List ℕ) → length bytes ≡ length (front ++ stop) → length bytes - length stop ≡ byte → byte ≡ length front
+      told stop front all e = omega (arith, all, e, length-append front stop)
 
-      by_read : (r : Read Written) → written_at schema bytes ≡ r → answered reading bytes r ≡ Err (Syntax byte) → TokenAt (Ends is_blank) bytes byte
-      by_read (Ok x) at e = absurd (never_syntax schema reading x.0 byte e)
-      by_read (Err at) at_is e =
-          let r = stopped_at (written_stops schema bytes) at_is in
-          record { before = r.ended.front; from = at; place = r.ended.place; counted = told at r.ended.front (ap length r.ended.place) (ap number e); begins = r.begins }
+      by_read : (r : Read Written) → at bytes ≡ r → answer reading bytes r ≡ Err (Syntax byte) → TokenAt (Ends is_blank) bytes byte
+      by_read (Ok x) is e = absurd (never_syntax schema reading x.0 byte e)
+      by_read (Err stop) is e =
+          let r = stopped_at (stops bytes) is in
+          record { before = r.ended.front; from = stop; place = r.ended.place; counted = told stop r.ended.front (ap length r.ended.place) (ap number e); begins = r.begins }
 
-      by_test : (t : Bool) → (if t then Ok Nothing else answered reading bytes (written_at schema bytes)) ≡ Err (Syntax byte) → TokenAt (Ends is_blank) bytes byte
+      by_test : (t : Bool) → (if t then Ok Nothing else answer reading bytes (at bytes)) ≡ Err (Syntax byte) → TokenAt (Ends is_blank) bytes byte
       by_test true e = let no : ◌≡◌ {A = Result Line Refusal} (Ok Nothing) (Err (Syntax byte)) = e in cc
-      by_test false e = by_read (written_at schema bytes) refl e
+      by_test false e = by_read (at bytes) refl e
+
+-- of the lines of a script
+module _ (schema : Schema) where
+  pub script_read : LinesAreRead schema (IsLine schema) (body_says schema)
+  unfolding body_says
+  script_read = read schema (IsLine schema) (written_at schema) (written_sound schema) (line_whole schema) (line_is_something schema) (written_stops schema)
+
+  pub script_one_thing : LinesSayOneThing (IsLine schema)
+  script_one_thing = one_thing schema (IsLine schema) (written_at schema) (written_sound schema) (line_whole schema) (line_is_something schema) (written_stops schema)
+
+  pub script_nothing : NothingIsRead schema (IsLine schema) (body_says schema)
+  unfolding body_says
+  script_nothing = nothing schema (IsLine schema) (written_at schema) (written_sound schema) (line_whole schema) (line_is_something schema) (written_stops schema)
+
+  pub script_only : OnlyLinesAreRead schema (IsLine schema) (body_says schema)
+  unfolding body_says
+  script_only = only schema (IsLine schema) (written_at schema) (written_sound schema) (line_whole schema) (line_is_something schema) (written_stops schema)
+
+  pub script_at_tokens : FaultsAreAtTokens (body_says schema)
+  unfolding body_says
+  script_at_tokens = at_tokens schema (IsLine schema) (written_at schema) (written_sound schema) (line_whole schema) (line_is_something schema) (written_stops schema)
+
+-- of the lines that a session sends
+module _ (schema : Schema) (session : ℕ) where
+  pub served_read : LinesAreRead schema (IsServedLine schema session) (served_body_says schema session)
+  unfolding served_body_says
+  served_read = read schema (IsServedLine schema session) (served_at schema session) (served_sound schema session) (served_whole schema session) (served_is_something schema session) (served_stops schema session)
+
+  pub served_one_thing : LinesSayOneThing (IsServedLine schema session)
+  served_one_thing = one_thing schema (IsServedLine schema session) (served_at schema session) (served_sound schema session) (served_whole schema session) (served_is_something schema session) (served_stops schema session)
+
+  pub served_nothing : NothingIsRead schema (IsServedLine schema session) (served_body_says schema session)
+  unfolding served_body_says
+  served_nothing = nothing schema (IsServedLine schema session) (served_at schema session) (served_sound schema session) (served_whole schema session) (served_is_something schema session) (served_stops schema session)
+
+  pub served_only : OnlyLinesAreRead schema (IsServedLine schema session) (served_body_says schema session)
+  unfolding served_body_says
+  served_only = only schema (IsServedLine schema session) (served_at schema session) (served_sound schema session) (served_whole schema session) (served_is_something schema session) (served_stops schema session)
+
+  pub served_at_tokens : FaultsAreAtTokens (served_body_says schema session)
+  unfolding served_body_says
+  served_at_tokens = at_tokens schema (IsServedLine schema session) (served_at schema session) (served_sound schema session) (served_whole schema session) (served_is_something schema session) (served_stops schema session)

@@ -11,27 +11,34 @@ use Rattle.statement.specs.declared.line.Line.{Line}
 use Rattle.statement.specs.declared.line.Line.TheVariants.{Nothing}
 use Rattle.statement.specs.declared.line.Written.{Written}
 use Rattle.statement.specs.Token.{next}
-use Rattle.statement.specs.Line.{is_nothing, written_at, meaning_of, body_says}
+use Rattle.statement.specs.Line.{is_nothing, written_at, body_says}
+use Rattle.statement.specs.Served.{served_at, served_body_says}
+use Rattle.statement.specs.Grammar.{IsLine, IsServedLine}
+use Rattle.statement.specs.GrammarLaws.{Lines}
+use Rattle.statement.proofs.ByTheGrammar.{answered, says}
 use Rattle.statement.specs.GoingOn.{FaultsAreFinal}
 use Rattle.statement.proofs.Meanings.{never_syntax}
-use Rattle.tokens.proofs.Same.{Same}
+use Rattle.tokens.proofs.Same.{Good, Same}
 use Rattle.tokens.proofs.SameTokens.{token_agrees}
 use Rattle.statement.proofs.SameToken.{Tokens, texts, near_front}
-use Rattle.statement.proofs.SameLine.{written_fine}
+use Rattle.statement.proofs.SameLine.{written_fine, served_fine}
 use Rattle.statement.proofs.Stopping.{Stops}
-use Rattle.statement.proofs.StopsLine.{written_stops}
-use Rattle.statement.proofs.WholeLines.{line_whole}
+use Rattle.statement.proofs.StopsLine.{written_stops, served_stops}
+use Rattle.statement.proofs.WholeLines.{line_whole, served_whole}
 
 other_byte : (b symbol : ℕ) → (b ≡ symbol → ⊥) → (b == symbol) ≡ false
 other_byte b symbol h = grind (arith, nat_tests)
 
-module _ (schema : Schema) where
-  abbrev answered : ℕ → List ℕ → Read Written → Result Line Refusal
-  answered reading bytes r = elim r [ Err at ↦ Err (Syntax (length bytes - length at)) | Ok x ↦ meaning_of schema reading x.0 ]
+-- of a grammar and its reader, which is the same up to a token and in it
+module _ (schema : Schema) (Is : Lines) (at : List ℕ → Read Written)
+    (whole : (written : Written) (bytes : List ℕ) → Is written bytes → at bytes ≡ Ok (written, []))
+    (stops : (bytes : List ℕ) → Stops bytes (at bytes))
+    (fine : (first : ℕ) (rest other : List ℕ) (t : Tokens first rest other) → (first == 45) ≡ false → (first == 39) ≡ false → Good (texts first rest other t) at) where
+  abbrev answer : ℕ → List ℕ → Read Written → Result Line Refusal
+  answer reading bytes r = answered schema at reading bytes r
 
-  pub faults_are_final : FaultsAreFinal schema
-  unfolding body_says
-  faults_are_final reading before first others rest p fault other written q line = by_test (is_nothing (next bytes)) fault
+  final : FaultsAreFinal Is (says schema at)
+  final reading before first others rest p fault other written q line = by_test (is_nothing (next bytes)) fault
     where
       s : List ℕ
       s = others ++ rest
@@ -42,30 +49,38 @@ module _ (schema : Schema) where
       bytes : List ℕ
       bytes = before ++ first ∷ s
 
-      read : written_at schema (before ++ first ∷ t) ≡ Ok (written, [])
-      read = line_whole schema written (before ++ first ∷ t) line
+      read : at (before ++ first ∷ t) ≡ Ok (written, [])
+      read = whole written (before ++ first ∷ t) line
 
       both : Tokens first s t
       both = record { no_blank = p.no_blank; runs = λ f within. token_agrees f within rest other first others p.token q.token }
 
-      same : Same (texts first s t both) (written_at schema bytes) (written_at schema (before ++ first ∷ t))
-      same = (written_fine first s t both (other_byte first 45 p.no_minus) (other_byte first 39 p.no_quote) schema).same _ _ (near_front first s t both before)
+      same : Same (texts first s t both) (at bytes) (at (before ++ first ∷ t))
+      same = (fine first s t both (other_byte first 45 p.no_minus) (other_byte first 39 p.no_quote)).same _ _ (near_front first s t both before)
 
       number : Result Line Refusal → ℕ
       number (Err (Syntax k)) = k
       number _ = length before
 
-      from_token : (at : List ℕ) → length at ≤ length bytes → length bytes - length at ≡ length before → length at ≡ suc (length s)
-      from_token at h e = omega (arith, h, e, length-append before (first ∷ s))
+      from_token : (stop : List ℕ) → length stop ≤ length bytes → length bytes - length stop ≡ length before → length stop ≡ suc (length s)
+      from_token stop h e = omega (arith, h, e, length-append before (first ∷ s))
 
-      clash : (r u : Read Written) → Same (texts first s t both) r u → u ≡ Ok (written, []) → Stops bytes r → answered reading bytes r ≡ Err (Syntax (length before)) → ⊥
+      clash : (r u : Read Written) → Same (texts first s t both) r u → u ≡ Ok (written, []) → Stops bytes r → answer reading bytes r ≡ Err (Syntax (length before)) → ⊥
       clash (Ok x) u w is stop e = never_syntax schema reading x.0 (length before) e
-      clash (Err at) (Err c) w is stop e = cc
-      clash (Err at) (Ok y) w is stop e =
+      clash (Err left) (Err c) w is stop e = cc
+      clash (Err left) (Ok y) w is stop e =
           let r = stop.it in
-          let left : length at ≤ length bytes = omega (arith, ap length (r.ended).place, length-append (r.ended).front at) in
-          w.it (from_token at left (ap number e))
+          let short : length left ≤ length bytes = omega (arith, ap length (r.ended).place, length-append (r.ended).front left) in
+          w.it (from_token left short (ap number e))
 
-      by_test : (u : Bool) → (if u then Ok Nothing else answered reading bytes (written_at schema bytes)) ≡ Err (Syntax (length before)) → ⊥
+      by_test : (u : Bool) → (if u then Ok Nothing else answer reading bytes (at bytes)) ≡ Err (Syntax (length before)) → ⊥
       by_test true e = let no : ◌≡◌ {A = Result Line Refusal} (Ok Nothing) (Err (Syntax (length before))) = e in cc
-      by_test false e = clash (written_at schema bytes) (written_at schema (before ++ first ∷ t)) same read (written_stops schema bytes) e
+      by_test false e = clash (at bytes) (at (before ++ first ∷ t)) same read (stops bytes) e
+
+pub script_final : (schema : Schema) → FaultsAreFinal (IsLine schema) (body_says schema)
+unfolding body_says
+script_final schema = final schema (IsLine schema) (written_at schema) (line_whole schema) (written_stops schema) (λ first rest other t no_minus no_quote. written_fine first rest other t no_minus no_quote schema)
+
+pub served_final : (schema : Schema) (session : ℕ) → FaultsAreFinal (IsServedLine schema session) (served_body_says schema session)
+unfolding served_body_says
+served_final schema session = final schema (IsServedLine schema session) (served_at schema session) (served_whole schema session) (served_stops schema session) (λ first rest other t no_minus no_quote. served_fine first rest other t no_minus no_quote schema session)

@@ -13,10 +13,13 @@ use Rattle.statement.specs.declared.line.Written.TheVariants.{Clock, SplitKey, S
 use Rattle.statement.specs.Token.{next, symbol_at, word_at, end_at, after_semicolon}
 use Rattle.statement.specs.Literal.{digits_at}
 use Rattle.statement.specs.Statement.{instant_at, statement_at}
-use Rattle.statement.specs.Line.{begins_digit, is_nothing, clock_at, migrate_at, session_at, service_at, written_at, meaning_of, body_says}
+use Rattle.statement.specs.Line.{begins_digit, is_nothing, clock_at, migrate_at, session_at, service_at, written_at, body_says}
+use Rattle.statement.specs.Served.{request_at, served_at, served_body_says}
 use Rattle.statement.specs.Split.{key_at, split_key_at, split_time_at, kind_at, split_at}
-use Rattle.statement.specs.Grammar.{Piece, ◌⋯◌, ◌∣◌, Empty, Blanks, Symbol, Word, Digits, IsInstant, IsStatement, IsKey, IsLine}
+use Rattle.statement.specs.Grammar.{Piece, ◌⋯◌, ◌∣◌, Empty, Blanks, Symbol, Word, Digits, IsInstant, IsStatement, IsKey, IsLine, IsServedLine}
 use Rattle.statement.specs.GoingOn.{FrontsGoOn}
+use Rattle.statement.specs.GrammarLaws.{Lines}
+use Rattle.statement.proofs.ByTheGrammar.{answered, says}
 use Rattle.statement.proofs.Gaps.{blanks_before}
 use Rattle.statement.proofs.Meanings.{never_syntax}
 use Rattle.statement.proofs.SoundLines.{semicolon_sound}
@@ -255,29 +258,94 @@ module _ (schema : Schema) where
       by_test true = session_reads bytes
       by_test false = service_reads bytes
 
-  -- ---- where a fault is
+  -- ---- lines that a session sends
 
-  abbrev answered : ℕ → List ℕ → Read Written → Result Line Refusal
-  answered reading bytes r = elim r [ Err at ↦ Err (Syntax (length bytes - length at)) | Ok x ↦ meaning_of schema reading x.0 ]
+  -- the bytes before the rest are such a line
+  ServedPiece : ℕ → Written → Piece
+  ServedPiece session (Clock instant) = λ bytes rest. ⊥
+  ServedPiece session (SplitKey key) = LinePiece (SplitKey key)
+  ServedPiece session (SplitTime key instant) = LinePiece (SplitTime key instant)
+  ServedPiece session Migrate = LinePiece Migrate
+  ServedPiece session (Session number statement) = λ bytes rest. (number ≡ session) × (IsStatement schema statement ⋯ (Empty ∣ Symbol 59) ⋯ Blanks) bytes rest
 
-  number : ℕ → Result Line Refusal → ℕ
-  number n (Err (Syntax k)) = k
-  number n _ = n
+  served_line_of : (session : ℕ) (w : Written) (bytes : List ℕ) → ServedPiece session w bytes [] → IsServedLine schema session w bytes
+  unfolding LinePiece ServedPiece
+  served_line_of session (Clock instant) bytes is = absurd is
+  served_line_of session (SplitKey key) bytes is = is
+  served_line_of session (SplitTime key instant) bytes is = is
+  served_line_of session Migrate bytes is = is
+  served_line_of session (Session number statement) bytes is = is
 
-  pub fronts_go_on : FrontsGoOn schema
-  unfolding body_says number
-  fronts_go_on reading before rest fault = by_test (is_nothing (next bytes)) fault
+  served_split_opened : (session : ℕ) (w : Written) (bytes a b rest : List ℕ) → Word (codes "SPLIT") bytes a → Symbol 58 a b → Kind w b rest → ServedPiece session w bytes rest
+  unfolding Kind LinePiece ServedPiece
+  served_split_opened session (Clock instant) bytes a b rest word colon is = absurd is
+  served_split_opened session (SplitKey key) bytes a b rest word colon is = (a, (word, (b, (colon, is))))
+  served_split_opened session (SplitTime key instant) bytes a b rest word colon is = (a, (word, (b, (colon, is))))
+  served_split_opened session Migrate bytes a b rest word colon is = absurd is
+  served_split_opened session (Session number statement) bytes a b rest word colon is = absurd is
+
+  served_split_of : (session : ℕ) (w : Written) (bytes rest : List ℕ) → Next (Word (codes "SPLIT")) (Next (Symbol 58) Kind) w bytes rest → ServedPiece session w bytes rest
+  served_split_of session w bytes rest n = let a = n.second in served_split_opened session w bytes n.between a.between rest n.first a.first a.second
+
+  served_migrate_of : (session : ℕ) (w : Written) (bytes rest : List ℕ) → Next (Word (codes "MIGRATE")) (Next (Symbol 58) (Last Migrate Blanks)) w bytes rest → ServedPiece session w bytes rest
+  unfolding LinePiece ServedPiece
+  served_migrate_of session w bytes rest n =
+      let a = n.second in
+      subst (λ (w : Written). ServedPiece session w bytes rest) (sym (a.second).0) (n.between, (n.first, (a.between, (a.first, (a.second).1))))
+
+  request_of : (session : ℕ) (w : Written) (bytes rest : List ℕ) → SessionStatement session w bytes rest → ServedPiece session w bytes rest
+  unfolding SessionStatement Closed ServedPiece
+  request_of session w bytes rest s =
+      let c = s.second in
+      let e = c.second in
+      subst (λ (w : Written). ServedPiece session w bytes rest) (sym e.0) (refl, (s.between, (s.first, (c.between, (c.first, e.1)))))
+
+  request_reads : (session : ℕ) (bytes : List ℕ) → Reads (ServedPiece session) bytes (request_at schema session bytes)
+  unfolding request_at SessionStatement
+  request_reads session bytes =
+      reads_weaker _ (reads_then (statement_at schema bytes) _ (statement_moves schema) (λ statement. closed_usual (Session session statement)) (statement_reads schema bytes) (λ statement c.
+      closed_reads (Session session statement) c)) (request_of session)
+
+  served_reads : (session : ℕ) (bytes : List ℕ) → Reads (ServedPiece session) bytes (served_at schema session bytes)
+  unfolding served_at
+  served_reads session bytes =
+      reads_either (word_at (codes "SPLIT") bytes) _ _ (word_moves (codes "SPLIT")) (word_reads (codes "SPLIT") refl bytes) (served_split_of session) split_reads (λ _ _.
+      reads_either (word_at (codes "MIGRATE") bytes) _ _ (word_moves (codes "MIGRATE")) (word_reads (codes "MIGRATE") refl bytes) (served_migrate_of session) migrate_reads (λ _ _. request_reads session bytes))
+
+-- ---- where a fault is
+
+number : ℕ → Result Line Refusal → ℕ
+number n (Err (Syntax k)) = k
+number n _ = n
+
+module _ (schema : Schema) (Is : Lines) (at : List ℕ → Read Written) (P : Written → Piece)
+    (reads : (bytes : List ℕ) → Reads P bytes (at bytes))
+    (of : (w : Written) (bytes : List ℕ) → P w bytes [] → Is w bytes) where
+  abbrev answer : ℕ → List ℕ → Read Written → Result Line Refusal
+  answer reading bytes r = answered schema at reading bytes r
+
+  fronts : FrontsGoOn Is (says schema at)
+  unfolding number
+  fronts reading before rest fault = by_test (is_nothing (next bytes)) fault
     where
       bytes : List ℕ
       bytes = before ++ rest
 
-      by_read : (r : Read Written) → Reads LinePiece bytes r → answered reading bytes r ≡ Err (Syntax (length before)) → (more : List ℕ) × ((written : Written) × IsLine schema written (before ++ more))
+      by_read : (r : Read Written) → Reads P bytes r → answer reading bytes r ≡ Err (Syntax (length before)) → (more : List ℕ) × ((written : Written) × Is written (before ++ more))
       by_read (Ok x) s e = absurd (never_syntax schema reading x.0 (length before) e)
-      by_read (Err at) s e =
+      by_read (Err stop) s e =
           let c = s.it in
-          let here : c.front ≡ before = same_front c.front before at rest c.place (ap (number (length before)) e) in
-          (c.more ++ [], (c.value, line_of c.value (before ++ (c.more ++ [])) (subst (λ (l : List ℕ). LinePiece c.value (l ++ (c.more ++ [])) []) here (c.goes [] tt))))
+          let here : c.front ≡ before = same_front c.front before stop rest c.place (ap (number (length before)) e) in
+          (c.more ++ [], (c.value, of c.value (before ++ (c.more ++ [])) (subst (λ (l : List ℕ). P c.value (l ++ (c.more ++ [])) []) here (c.goes [] tt))))
 
-      by_test : (u : Bool) → (if u then Ok Nothing else answered reading bytes (written_at schema bytes)) ≡ Err (Syntax (length before)) → (more : List ℕ) × ((written : Written) × IsLine schema written (before ++ more))
+      by_test : (u : Bool) → (if u then Ok Nothing else answer reading bytes (at bytes)) ≡ Err (Syntax (length before)) → (more : List ℕ) × ((written : Written) × Is written (before ++ more))
       by_test true e = let no : ◌≡◌ {A = Result Line Refusal} (Ok Nothing) (Err (Syntax (length before))) = e in cc
-      by_test false e = by_read (written_at schema bytes) (written_reads bytes) e
+      by_test false e = by_read (at bytes) (reads bytes) e
+
+pub script_fronts : (schema : Schema) → FrontsGoOn (IsLine schema) (body_says schema)
+unfolding body_says
+script_fronts schema = fronts schema (IsLine schema) (written_at schema) (LinePiece schema) (written_reads schema) (line_of schema)
+
+pub served_fronts : (schema : Schema) (session : ℕ) → FrontsGoOn (IsServedLine schema session) (served_body_says schema session)
+unfolding served_body_says
+served_fronts schema session = fronts schema (IsServedLine schema session) (served_at schema session) (ServedPiece schema session) (served_reads schema session) (served_line_of schema session)

@@ -23,6 +23,7 @@ use Rattle.statement.specs.Literal.{digits_here, digits_at, begins_with, above_n
 use Rattle.statement.specs.Condition.{table_of, column_of, table_name_at, column_name_at, or_equal, operator_of, operator_at, set_at, comparison_at, sets_at, comparisons_at, columns_at, keys_at}
 use Rattle.statement.specs.Statement.{instant_at, as_of_at, period_at, selection_at, system_time_at, form_at, start_at, listed_at, insert_at, update_at, delete_at, select_at, data_at, statement_at}
 use Rattle.statement.specs.Line.{begins_digit, clock_at, migrate_at, session_at, service_at, written_at}
+use Rattle.statement.specs.Served.{request_at, served_at}
 use Rattle.statement.specs.Split.{key_at, split_key_at, split_time_at, kind_at, split_at}
 use Rattle.statement.proofs.Holds.{Leaves}
 use Rattle.statement.proofs.Sound.{symbol_sound, word_sound}
@@ -468,3 +469,13 @@ module _ (first : ℕ) (rest other : List ℕ) (t : Tokens first rest other) (no
     unfolding written_at
     written_fine =
         good_if w (λ bytes. begins_digit (next bytes)) (session_at schema) (service_at schema) (record { tells = λ a c r. inl (first_same begins_digit (λ d q more. refl) (reach_next first rest other t r)) }) session_fine service_fine
+
+    request_fine : (session : ℕ) → Fine (request_at schema session)
+    unfolding request_at
+    request_fine session =
+        reads (statement_at schema) _ statement_fine (λ statement.
+        optional (symbol_at 59) (λ bytes. end_at bytes >>= λ rest. Ok (Session session statement, rest)) (good_symbol w 59) (after end_at (λ rest. Ok (Session session statement, rest)) end (ok _)))
+
+    pub served_fine : (session : ℕ) → Fine (served_at schema session)
+    unfolding served_at
+    served_fine session = by_word (codes "SPLIT") (split_at schema) _ split_fine (by_word (codes "MIGRATE") migrate_at (request_at schema session) migrate_fine (request_fine session))

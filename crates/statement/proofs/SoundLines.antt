@@ -4,6 +4,7 @@ use Rattle.std.specs.Prelude.{◌-◌, ◌^◌, if◌then◌else◌, codes}
 use Rattle.values.specs.Tables.{Schema}
 use Rattle.values.specs.declared.query.Comparison.{Comparison}
 use Rattle.values.specs.declared.query.Keys.{Keys}
+use Rattle.statement.specs.declared.line.Written.{Written}
 use Rattle.statement.specs.declared.line.Written.TheVariants.{Clock, SplitKey, SplitTime, Migrate, Session}
 use Rattle.statement.specs.declared.statement.Statement.TheVariants.{Begin, Insert, Update, Delete, Select, Commit, Rollback}
 use Rattle.tokens.specs.Token.{After}
@@ -12,13 +13,14 @@ use Rattle.statement.specs.Token.{word_at, after_optional_word}
 use Rattle.statement.specs.Condition.{keys_at}
 use Rattle.statement.specs.Statement.{start_at, listed_at, insert_at, update_at, delete_at, select_at, data_at, statement_at}
 use Rattle.statement.specs.Line.{begins_digit, clock_at, migrate_at, session_at, service_at, written_at}
+use Rattle.statement.specs.Served.{request_at, served_at}
 use Rattle.statement.specs.Split.{key_at, split_key_at, split_time_at, kind_at, split_at}
-use Rattle.statement.specs.Grammar.{◌∣◌, Empty, Blanks, Symbol, Word, Listed, IsTable, IsSet, IsComparison, IsColumnList, IsWhere, IsStatement, IsKey, IsLine}
+use Rattle.statement.specs.Grammar.{◌∣◌, Empty, Blanks, Symbol, Word, Listed, IsTable, IsSet, IsComparison, IsColumnList, IsWhere, IsStatement, IsKey, IsServiceLine, IsLine, IsServedLine}
 use Rattle.statement.proofs.Gaps.{blanks_before}
 use Rattle.statement.proofs.Sound.{symbol_sound, word_sound}
 use Rattle.statement.proofs.SoundLiterals.{digits_sound}
 use Rattle.statement.proofs.SoundLists.{row_sound, rows_sound, instant_sound, form_sound, table_sound, sets_sound, comparisons_sound, columns_sound}
-use Rattle.statement.proofs.Holds.{Holds, Leaves, holds, holds_then, leaves_then, leaves_either}
+use Rattle.statement.proofs.Holds.{Holds, Leaves, holds, holds_then, holds_weaker, leaves_then, leaves_either}
 
 optional_sound : {P : List ℕ → Type 0} (bytes : List ℕ) (r : After) → Leaves r P → (bytes ≡ elim r [ Ok rest ↦ rest | Err at ↦ bytes ]) ⊎ P (elim r [ Ok rest ↦ rest | Err at ↦ bytes ])
 optional_sound bytes (Ok rest) h = inr h.it
@@ -139,13 +141,13 @@ module _ (schema : Schema) where
   unfolding key_at
   key_sound bytes = holds_then _ _ (table_sound schema bytes) (λ table a named. holds_then _ _ (row_sound a) (λ parts rest are. holds _ rest (a, (named, are))))
 
-  split_key_sound : (start a b bytes : List ℕ) → Word (codes "SPLIT") start a → Symbol 58 a b → Word (codes "KEY") b bytes → Holds (split_key_at schema bytes) (λ written rest. IsLine schema written start)
+  split_key_sound : (start a b bytes : List ℕ) → Word (codes "SPLIT") start a → Symbol 58 a b → Word (codes "KEY") b bytes → Holds (split_key_at schema bytes) (λ written rest. IsServiceLine schema written start)
   unfolding split_key_at
   split_key_sound start a b bytes word colon kind =
       holds_then _ _ (key_sound bytes) (λ key c is.
       leaves_then _ _ (end_sound c) (λ rest blank. holds (SplitKey key) rest (a, (word, (b, (colon, (bytes, (kind, (c, (is, blank))))))))))
 
-  split_time_sound : (start a b bytes : List ℕ) → Word (codes "SPLIT") start a → Symbol 58 a b → Word (codes "TIME") b bytes → Holds (split_time_at schema bytes) (λ written rest. IsLine schema written start)
+  split_time_sound : (start a b bytes : List ℕ) → Word (codes "SPLIT") start a → Symbol 58 a b → Word (codes "TIME") b bytes → Holds (split_time_at schema bytes) (λ written rest. IsServiceLine schema written start)
   unfolding split_time_at
   split_time_sound start a b bytes word colon kind =
       holds_then _ _ (key_sound bytes) (λ key c is.
@@ -154,26 +156,33 @@ module _ (schema : Schema) where
       leaves_then _ _ (end_sound e) (λ rest blank.
       holds (SplitTime key instant) rest (a, (word, (b, (colon, (bytes, (kind, (c, (is, (d, (second, (e, (number, blank))))))))))))))))
 
-  kind_sound : (start a bytes : List ℕ) → Word (codes "SPLIT") start a → Symbol 58 a bytes → Holds (kind_at schema bytes) (λ written rest. IsLine schema written start)
+  kind_sound : (start a bytes : List ℕ) → Word (codes "SPLIT") start a → Symbol 58 a bytes → Holds (kind_at schema bytes) (λ written rest. IsServiceLine schema written start)
   unfolding kind_at
   kind_sound start a bytes word colon =
       leaves_either _ _ _ (word_sound (codes "KEY") bytes) (λ rest kind. split_key_sound start a bytes rest word colon kind) (λ _.
       leaves_either _ _ _ (word_sound (codes "TIME") bytes) (λ rest kind. split_time_sound start a bytes rest word colon kind) (λ at. record { it = tt }))
 
-  split_sound : (start bytes : List ℕ) → Word (codes "SPLIT") start bytes → Holds (split_at schema bytes) (λ written rest. IsLine schema written start)
+  split_sound : (start bytes : List ℕ) → Word (codes "SPLIT") start bytes → Holds (split_at schema bytes) (λ written rest. IsServiceLine schema written start)
   unfolding split_at
   split_sound start bytes word = leaves_then _ _ (symbol_sound 58 bytes) (λ rest colon. kind_sound start bytes rest word colon)
 
-  migrate_sound : (start bytes : List ℕ) → Word (codes "MIGRATE") start bytes → Holds (migrate_at bytes) (λ written rest. IsLine schema written start)
+  migrate_sound : (start bytes : List ℕ) → Word (codes "MIGRATE") start bytes → Holds (migrate_at bytes) (λ written rest. IsServiceLine schema written start)
   unfolding migrate_at
   migrate_sound start bytes word =
       leaves_then _ _ (symbol_sound 58 bytes) (λ b colon. leaves_then _ _ (end_sound b) (λ rest blank. holds Migrate rest (bytes, (word, (b, (colon, blank))))))
 
+  line_of_service : (written : Written) (bytes : List ℕ) → IsServiceLine schema written bytes → IsLine schema written bytes
+  line_of_service (Clock instant) bytes is = absurd is
+  line_of_service (SplitKey key) bytes is = is
+  line_of_service (SplitTime key instant) bytes is = is
+  line_of_service Migrate bytes is = is
+  line_of_service (Session session statement) bytes is = absurd is
+
   service_sound : (bytes : List ℕ) → Holds (service_at schema bytes) (λ written rest. IsLine schema written bytes)
   unfolding service_at
   service_sound bytes =
-      leaves_either _ _ _ (word_sound (codes "SPLIT") bytes) (λ rest word. split_sound bytes rest word) (λ _.
-      leaves_either _ _ _ (word_sound (codes "MIGRATE") bytes) (λ rest word. migrate_sound bytes rest word) (λ _. clock_sound bytes))
+      leaves_either _ _ _ (word_sound (codes "SPLIT") bytes) (λ rest word. holds_weaker (split_sound bytes rest word) (λ written _ is. line_of_service written bytes is)) (λ _.
+      leaves_either _ _ _ (word_sound (codes "MIGRATE") bytes) (λ rest word. holds_weaker (migrate_sound bytes rest word) (λ written _ is. line_of_service written bytes is)) (λ _. clock_sound bytes))
 
   pub written_sound : (bytes : List ℕ) → Holds (written_at schema bytes) (λ written rest. IsLine schema written bytes)
   unfolding written_at
@@ -182,3 +191,25 @@ module _ (schema : Schema) where
       by_test : (t : Bool) → Holds (if t then session_at schema bytes else service_at schema bytes) (λ written rest. IsLine schema written bytes)
       by_test true = session_sound bytes
       by_test false = service_sound bytes
+
+  -- ---- lines that a session sends
+
+  served_of_service : (session : ℕ) (written : Written) (bytes : List ℕ) → IsServiceLine schema written bytes → IsServedLine schema session written bytes
+  served_of_service session (Clock instant) bytes is = is
+  served_of_service session (SplitKey key) bytes is = is
+  served_of_service session (SplitTime key instant) bytes is = is
+  served_of_service session Migrate bytes is = is
+  served_of_service session (Session number statement) bytes is = absurd is
+
+  request_sound : (session : ℕ) (bytes : List ℕ) → Holds (request_at schema session bytes) (λ written rest. IsServedLine schema session written bytes)
+  unfolding request_at
+  request_sound session bytes =
+      holds_then _ _ (statement_sound bytes) (λ statement c is.
+      leaves_then _ _ (end_sound (after_semicolon c)) (λ rest blank.
+      holds (Session session statement) rest (refl, (c, (is, (after_semicolon c, (semicolon_sound c, blank)))))))
+
+  pub served_sound : (session : ℕ) (bytes : List ℕ) → Holds (served_at schema session bytes) (λ written rest. IsServedLine schema session written bytes)
+  unfolding served_at
+  served_sound session bytes =
+      leaves_either _ _ _ (word_sound (codes "SPLIT") bytes) (λ rest word. holds_weaker (split_sound bytes rest word) (λ written _ is. served_of_service session written bytes is)) (λ _.
+      leaves_either _ _ _ (word_sound (codes "MIGRATE") bytes) (λ rest word. holds_weaker (migrate_sound bytes rest word) (λ written _ is. served_of_service session written bytes is)) (λ _. request_sound session bytes))

@@ -1,5 +1,5 @@
 -- What is of the grammar is read: lines.
-use Rattle.std.proofs.Common.{◌≡◌, ◌<◌, ◌≤◌, ℕ, false, List, [], ◌∷◌, length, Ok, Err, inl, inr, refl, ap, ◌∙◌, arith, lit<, lit≤}
+use Rattle.std.proofs.Common.{◌≡◌, ◌<◌, ◌≤◌, ℕ, false, List, [], ◌∷◌, length, Ok, Err, inl, inr, refl, sym, ap, ◌∙◌, arith, lit<, lit≤}
 use Rattle.std.specs.Prelude.{◌==◌, ◌&&◌, ◌-◌, ◌^◌, if◌then◌else◌, codes}
 use Rattle.std.specs.Char.{to_ascii_lowercase}
 use Rattle.values.specs.Tables.{Schema}
@@ -14,8 +14,9 @@ use Rattle.statement.specs.Token.{next, end_at, after_semicolon}
 use Rattle.statement.specs.Token.{word_at, after_optional_word}
 use Rattle.statement.specs.Statement.{start_at, insert_at, update_at, delete_at, select_at, data_at, statement_at}
 use Rattle.statement.specs.Line.{is_nothing, begins_digit, clock_at, migrate_at, session_at, service_at, written_at}
+use Rattle.statement.specs.Served.{request_at, served_at}
 use Rattle.statement.specs.Split.{split_key_at, split_time_at, kind_at, split_at}
-use Rattle.statement.specs.Grammar.{◌⋯◌, ◌∣◌, Empty, Blanks, Symbol, Word, Digits, IsStatement, IsInstant, IsKey, IsLine}
+use Rattle.statement.specs.Grammar.{◌⋯◌, ◌∣◌, Empty, Blanks, Symbol, Word, Digits, IsStatement, IsRequest, IsInstant, IsKey, IsLine, IsServedLine}
 use Rattle.statement.proofs.Gaps.{next_is}
 use Rattle.statement.proofs.Whole.{word_whole, symbol_whole, next_symbol, next_run, other_word_refused, symbol_refused, symbol_refused_at_end, word_refused, word_refused_at_end}
 use Rattle.tokens.proofs.Words.{some_written}
@@ -295,3 +296,93 @@ module _ (schema : Schema) where
       let f = number_first session bytes is.0 is.1.0 in
       ap (λ t. if t then session_at schema bytes else service_at schema bytes) (ap begins_digit f.spelled ∙ f.digit)
       ∙ session_whole session statement bytes is
+
+  -- ---- lines that a session sends
+
+  -- the word that a statement begins with, which is none of a line of no session
+  record FirstWord (bytes : List ℕ) : Type 0 where
+    pub letter : ℕ
+    pub letters : List ℕ
+    pub rest : List ℕ
+    pub stands : Word (letter ∷ letters) bytes rest
+    pub low : 97 ≤ to_ascii_lowercase letter
+    pub no_split : same_name (codes "SPLIT") (letter ∷ letters) ≡ false
+    pub no_migrate : same_name (codes "MIGRATE") (letter ∷ letters) ≡ false
+
+  statement_first : (statement : Statement) (bytes rest : List ℕ) → IsStatement schema statement bytes rest → FirstWord bytes
+  statement_first Begin bytes rest (inl is) = record { letter = 66; letters = codes "EGIN"; rest = rest; stands = is; low = lit≤ tt; no_split = refl; no_migrate = refl }
+  statement_first Begin bytes rest (inr is) = record { letter = 83; letters = codes "TART"; rest = is.0; stands = is.1.0; low = lit≤ tt; no_split = refl; no_migrate = refl }
+  statement_first Commit bytes rest is = record { letter = 67; letters = codes "OMMIT"; rest = is.0; stands = is.1.0; low = lit≤ tt; no_split = refl; no_migrate = refl }
+  statement_first Rollback bytes rest is = record { letter = 82; letters = codes "OLLBACK"; rest = is.0; stands = is.1.0; low = lit≤ tt; no_split = refl; no_migrate = refl }
+  statement_first (Insert table columns rows) bytes rest is = record { letter = 73; letters = codes "NSERT"; rest = is.0; stands = is.1.0; low = lit≤ tt; no_split = refl; no_migrate = refl }
+  statement_first (Update keys sets) bytes rest is = record { letter = 85; letters = codes "PDATE"; rest = is.0; stands = is.1.0; low = lit≤ tt; no_split = refl; no_migrate = refl }
+  statement_first (Delete keys) bytes rest is = record { letter = 68; letters = codes "ELETE"; rest = is.0; stands = is.1.0; low = lit≤ tt; no_split = refl; no_migrate = refl }
+  statement_first (Select form keys) bytes rest is = record { letter = 83; letters = codes "ELECT"; rest = is.0; stands = is.1.0; low = lit≤ tt; no_split = refl; no_migrate = refl }
+
+  served_begins : (session : ℕ) (written : Written) (bytes : List ℕ) → IsServedLine schema session written bytes → Begins bytes
+  served_begins session (Clock instant) bytes is = absurd is
+  served_begins session (SplitKey key) bytes is = word_begins 83 (codes "PLIT") bytes is.0 (lit≤ tt) is.1.0
+  served_begins session (SplitTime key instant) bytes is = word_begins 83 (codes "PLIT") bytes is.0 (lit≤ tt) is.1.0
+  served_begins session Migrate bytes is = word_begins 77 (codes "IGRATE") bytes is.0 (lit≤ tt) is.1.0
+  served_begins session (Session number statement) bytes is =
+      let f = statement_first statement bytes is.1.0 is.1.1.0 in
+      word_begins f.letter f.letters bytes f.rest f.low f.stands
+
+  pub served_is_something : (session : ℕ) (written : Written) (bytes : List ℕ) → IsServedLine schema session written bytes → is_nothing (next bytes) ≡ false
+  served_is_something session written bytes is = let b = served_begins session written bytes is in ap is_nothing b.here ∙ something b.first b.others b.no_minus
+
+  abbrev on_served_migrate : ℕ → List ℕ → After → Read Written
+  on_served_migrate session bytes r = elim r [ Ok rest ↦ migrate_at rest | Err _ ↦ request_at schema session bytes ]
+
+  abbrev on_served_split : ℕ → List ℕ → After → Read Written
+  on_served_split session bytes r = elim r [ Ok rest ↦ split_at schema rest | Err _ ↦ on_served_migrate session bytes (word_at (codes "MIGRATE") bytes) ]
+
+  served_split_reached : (session : ℕ) (bytes a b : List ℕ) → Word (codes "SPLIT") bytes a → Symbol 58 a b → served_at schema session bytes ≡ kind_at schema b
+  unfolding served_at split_at
+  served_split_reached session bytes a b word colon =
+      ap (on_served_split session bytes) (word_whole (codes "SPLIT") (lit< tt) bytes a word) ∙ ok_then _ _ (symbol_whole 58 refl a b colon) refl
+
+  served_migrate_reached : (session : ℕ) (bytes rest : List ℕ) → Word (codes "MIGRATE") bytes rest → served_at schema session bytes ≡ migrate_at rest
+  unfolding served_at
+  served_migrate_reached session bytes rest is =
+      ap (on_served_split session bytes) (other_word_refused (codes "SPLIT") (codes "MIGRATE") refl (lit< tt) bytes rest is).is
+      ∙ ap (on_served_migrate session bytes) (word_whole (codes "MIGRATE") (lit< tt) bytes rest is)
+
+  request_reached : (session : ℕ) (bytes : List ℕ) → FirstWord bytes → served_at schema session bytes ≡ request_at schema session bytes
+  unfolding served_at
+  request_reached session bytes f =
+      ap (on_served_split session bytes) (other_word_refused (codes "SPLIT") (f.letter ∷ f.letters) f.no_split (omega arith) bytes f.rest f.stands).is
+      ∙ ap (on_served_migrate session bytes) (other_word_refused (codes "MIGRATE") (f.letter ∷ f.letters) f.no_migrate (omega arith) bytes f.rest f.stands).is
+
+  request_whole : (session : ℕ) (statement : Statement) (bytes : List ℕ) → IsRequest schema statement bytes [] → request_at schema session bytes ≡ Ok (Session session statement, [])
+  unfolding request_at
+  request_whole session statement bytes is =
+      let c = is.0 in
+      let d = is.1.1.0 in
+      let semicolon = is.1.1.1.0 in
+      let blanks = is.1.1.1.1 in
+      ok_then _ _ (statement_whole statement bytes c is.1.0 (closing c d semicolon blanks))
+      (ok_then _ _ (ap end_at (semicolon_whole c d semicolon blanks) ∙ end_whole d blanks) refl)
+
+  pub served_whole : (session : ℕ) (written : Written) (bytes : List ℕ) → IsServedLine schema session written bytes → served_at schema session bytes ≡ Ok (written, [])
+  served_whole session (Clock instant) bytes is = absurd is
+  served_whole session (SplitKey key) bytes is =
+      let a = is.0 in
+      let b = is.1.1.0 in
+      let c = is.1.1.1.1.0 in
+      let d = is.1.1.1.1.1.1.0 in
+      served_split_reached session bytes a b is.1.0 is.1.1.1.0
+      ∙ key_reached b c is.1.1.1.1.1.0
+      ∙ split_key_whole key c d is.1.1.1.1.1.1.1.0 is.1.1.1.1.1.1.1.1
+  served_whole session (SplitTime key instant) bytes is =
+      let a = is.0 in
+      let b = is.1.1.0 in
+      let c = is.1.1.1.1.0 in
+      served_split_reached session bytes a b is.1.0 is.1.1.1.0
+      ∙ time_reached b c is.1.1.1.1.1.0
+      ∙ split_time_whole key instant c is.1.1.1.1.1.1
+  served_whole session Migrate bytes is = served_migrate_reached session bytes is.0 is.1.0 ∙ migrate_whole is.0 is.1.1
+  served_whole session (Session number statement) bytes is =
+      request_reached session bytes (statement_first statement bytes is.1.0 is.1.1.0)
+      ∙ request_whole session statement bytes is.1
+      ∙ ap (λ (n : ℕ). Ok (Session n statement, [])) (sym is.0)

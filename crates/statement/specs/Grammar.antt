@@ -179,19 +179,39 @@ module _ (schema : Schema) where
   abbrev pub IsKey : Key → Piece
   IsKey key = IsTable key.table ⋯ IsRow key.parts
 
-  -- a line up to its end
+  -- a statement, with or without a semicolon
+  abbrev pub IsRequest : Statement → Piece
+  IsRequest statement = IsStatement statement ⋯ (Empty ∣ Symbol 59) ⋯ Blanks
+
+  -- a line of no session: a split or a migration
+  abbrev pub IsServiceLine : Written → List ℕ → Type 0
+  IsServiceLine (SplitKey key) bytes =
+      (Word (codes "SPLIT") ⋯ Symbol 58 ⋯ Word (codes "KEY") ⋯ IsKey key ⋯ Blanks) bytes []
+  IsServiceLine (SplitTime key instant) bytes =
+      (Word (codes "SPLIT") ⋯ Symbol 58 ⋯ Word (codes "TIME") ⋯ IsKey key ⋯ Word (codes "AT")
+      ⋯ IsInstant instant ⋯ Blanks) bytes []
+  IsServiceLine Migrate bytes = (Word (codes "MIGRATE") ⋯ Symbol 58 ⋯ Blanks) bytes []
+  IsServiceLine (Clock instant) bytes = ⊥
+  IsServiceLine (Session session statement) bytes = ⊥
+
+  -- a line of a script, up to its end
   abbrev pub IsLine : Written → List ℕ → Type 0
   IsLine (Clock instant) bytes =
       (Word (codes "CLOCK") ⋯ Symbol 58 ⋯ IsInstant instant ⋯ Blanks) bytes []
-  IsLine (SplitKey key) bytes =
-      (Word (codes "SPLIT") ⋯ Symbol 58 ⋯ Word (codes "KEY") ⋯ IsKey key ⋯ Blanks) bytes []
-  IsLine (SplitTime key instant) bytes =
-      (Word (codes "SPLIT") ⋯ Symbol 58 ⋯ Word (codes "TIME") ⋯ IsKey key ⋯ Word (codes "AT")
-      ⋯ IsInstant instant ⋯ Blanks) bytes []
-  IsLine Migrate bytes = (Word (codes "MIGRATE") ⋯ Symbol 58 ⋯ Blanks) bytes []
+  IsLine (SplitKey key) bytes = IsServiceLine (SplitKey key) bytes
+  IsLine (SplitTime key instant) bytes = IsServiceLine (SplitTime key instant) bytes
+  IsLine Migrate bytes = IsServiceLine Migrate bytes
   IsLine (Session session statement) bytes =
-      ((Blanks ⋯ Digits (2 ^ 63 - 1) session) ⋯ Symbol 58 ⋯ IsStatement statement
-      ⋯ (Empty ∣ Symbol 59) ⋯ Blanks) bytes []
+      ((Blanks ⋯ Digits (2 ^ 63 - 1) session) ⋯ Symbol 58 ⋯ IsRequest statement) bytes []
+
+  -- a line that this session sends: its statement without its number, or a line of no session
+  abbrev pub IsServedLine : ℕ → Written → List ℕ → Type 0
+  IsServedLine session (Clock instant) bytes = ⊥
+  IsServedLine session (SplitKey key) bytes = IsServiceLine (SplitKey key) bytes
+  IsServedLine session (SplitTime key instant) bytes = IsServiceLine (SplitTime key instant) bytes
+  IsServedLine session Migrate bytes = IsServiceLine Migrate bytes
+  IsServedLine session (Session number statement) bytes =
+      (number ≡ session) × IsRequest statement bytes []
 
 -- a blank line, or a comment
 abbrev pub IsNothing : List ℕ → Type 0

@@ -1,57 +1,65 @@
 -- What reading from the left amounts to, in the words of the grammar.
-use Rattle.std.specs.Prelude.{◌≡◌, ℕ, ◌<◌, ◌^◌, List, [], ◌∷◌, ◌++◌, ◌⊎◌, Ok, Err, pos, negsuc, length, IsUtf8}
+use Rattle.std.specs.Prelude.{◌≡◌, ℕ, ◌<◌, ◌^◌, List, [], ◌∷◌, ◌++◌, ◌⊎◌, Result, Ok, Err, pos, negsuc, length, IsUtf8}
 use Rattle.values.specs.declared.value.Value.{Value}
 use Rattle.values.specs.declared.value.Value.TheVariants.{Int, Text, Bool as Truth, Null}
 use Rattle.values.specs.Log.{Row}
 use Rattle.values.specs.Tables.{Schema}
+use Rattle.values.specs.declared.refusal.Refusal.{Refusal}
 use Rattle.values.specs.declared.refusal.Refusal.TheVariants.{Syntax}
+use Rattle.statement.specs.declared.line.Line.{Line}
 use Rattle.statement.specs.declared.line.Line.TheVariants.{Nothing}
 use Rattle.statement.specs.declared.line.Written.{Written}
 use Rattle.tokens.specs.Place.{TokenAt}
 use Rattle.tokens.specs.Run.{Ends}
 use Rattle.statement.specs.Token.{is_blank}
-use Rattle.statement.specs.Line.{before_feed, body_of, meaning_of, body_says}
+use Rattle.statement.specs.Line.{before_feed, body_of, meaning_of}
 use Rattle.statement.specs.Literal.{row_at}
 use Rattle.statement.specs.Print.{values_text}
-use Rattle.statement.specs.Grammar.{IsNothing, IsLine}
+use Rattle.statement.specs.Grammar.{IsNothing}
 
-module _ (schema : Schema) where
+-- lines of a grammar, by what each is written as; and a reader of the bytes of a line's tokens, at a
+-- reading of the clock
+abbrev pub Lines : Type 1
+Lines = Written → List ℕ → Type 0
+
+abbrev pub Reader : Type 0
+Reader = ℕ → List ℕ → Result Line Refusal
+
+module _ (schema : Schema) (Is : Lines) (says : Reader) where
   -- every line of the grammar is read, as what it says
   abbrev pub LinesAreRead : Type 0
   LinesAreRead =
-      (reading : ℕ) (bytes : List ℕ) (written : Written) → IsLine schema written bytes
-      → body_says schema reading bytes ≡ meaning_of schema reading written
-
-  -- no line of the grammar says two things
-  abbrev pub LinesSayOneThing : Type 0
-  LinesSayOneThing =
-      (bytes : List ℕ) (written other : Written) → IsLine schema written bytes
-      → IsLine schema other bytes → written ≡ other
+      (reading : ℕ) (bytes : List ℕ) (written : Written) → Is written bytes
+      → says reading bytes ≡ meaning_of schema reading written
 
   -- blank lines and comments are read, and no line of the grammar is one
   abbrev pub NothingIsRead : Type 0
   NothingIsRead =
       (reading : ℕ) (bytes : List ℕ) → IsNothing bytes
-      → (body_says schema reading bytes ≡ Ok Nothing) × ((written : Written)
-      → IsLine schema written bytes → ⊥)
+      → (says reading bytes ≡ Ok Nothing) × ((written : Written) → Is written bytes → ⊥)
 
   -- the bytes are no line of the grammar, and are answered so
   abbrev pub IsRefused : ℕ → List ℕ → Type 0
   IsRefused reading bytes =
-      (byte : ℕ) × ((body_says schema reading bytes ≡ Err (Syntax byte)) × ((written : Written)
-      → IsLine schema written bytes → ⊥))
+      (byte : ℕ) × ((says reading bytes ≡ Err (Syntax byte)) × ((written : Written)
+      → Is written bytes → ⊥))
 
   -- whatever is read is nothing or a line of the grammar, and all else is refused with a byte
   abbrev pub OnlyLinesAreRead : Type 0
   OnlyLinesAreRead =
       (reading : ℕ) (bytes : List ℕ)
       → IsNothing bytes
-      ⊎ (((written : Written) × IsLine schema written bytes) ⊎ IsRefused reading bytes)
+      ⊎ (((written : Written) × Is written bytes) ⊎ IsRefused reading bytes)
+
+-- no line of the grammar says two things
+abbrev pub LinesSayOneThing : Lines → Type 0
+LinesSayOneThing Is =
+    (bytes : List ℕ) (written other : Written) → Is written bytes → Is other bytes → written ≡ other
 
 -- a fault of syntax is reported where a token begins, or at the line's end
-abbrev pub FaultsAreAtTokens : Schema → Type 0
-FaultsAreAtTokens schema =
-    (reading : ℕ) (bytes : List ℕ) (byte : ℕ) → body_says schema reading bytes ≡ Err (Syntax byte)
+abbrev pub FaultsAreAtTokens : Reader → Type 0
+FaultsAreAtTokens says =
+    (reading : ℕ) (bytes : List ℕ) (byte : ℕ) → says reading bytes ≡ Err (Syntax byte)
     → TokenAt (Ends is_blank) bytes byte
 
 -- the bytes do not end with this one

@@ -14,7 +14,10 @@ mod statement;
 mod token;
 mod writer;
 
-pub use grammar_laws::{faults_are_final, lines_are_read_by_the_grammar, printed_rows_are_read};
+pub use grammar_laws::{
+    faults_are_final, lines_are_read_by_the_grammar, printed_rows_are_read,
+    served_faults_are_final, served_lines_are_read_by_the_grammar,
+};
 pub use histories::{Listing, Reply, Step};
 pub use line::{LONGEST_LINE, Line, read_line};
 pub use literal::value_within;
