@@ -56,6 +56,9 @@ adds_within true r line bytes now e fits is = cc
 adds_within false (Ok x) line bytes now e fits is = omega (arith, fits, ap length is, length-append line bytes)
 adds_within false (Err x) line bytes now e fits is = omega (arith, fits, ap length is)
 
+pub empty_fits : (line : Partial) → line ≡ Some [] → Fits line
+empty_fits line is = subst Fits (sym is) (omega arith)
+
 -- ---- the bytes before a line feed
 
 not_feed : (b : ℕ) → is_no_feed b ≡ true → b ≢ 10

@@ -9,9 +9,9 @@ use Rattle.std.specs.Io.KnownBytes.{Appends, Consumes, Keeps, IsAtEnd}
 use Rattle.values.specs.Tables.{Schema}
 use Rattle.histories.specs.History.{History}
 use Rattle.statement.specs.Writer.{AppendsFront}
-use Rattle.scripts.specs.Transcript.{Partial, Progress, Reading, Ending, no_reply, after, add, ended, line_reply, line_leaves, last_reply, last_leaves, mark, marks_after, written, transcript_after, leaves, IsTranscriptAfter, IsCutAfter, IsStoppedAfter}
+use Rattle.lines.specs.Partial.{Partial, add, add_all, ended}
+use Rattle.scripts.specs.Transcript.{Progress, Reading, Ending, no_reply, after, line_reply, line_leaves, last_reply, last_leaves, mark, marks_after, written, transcript_after, leaves, IsTranscriptAfter, IsCutAfter, IsStoppedAfter}
 use Rattle.scripts.specs.Taking.{Feeds, Breaks}
-use Rattle.scripts.specs.Script.{add_all}
 use Rattle.statement.proofs.Fronts.{front_then}
 
 not_end : (byte : ℕ) → byte ≢ 10 → (byte == 10) ≡ false

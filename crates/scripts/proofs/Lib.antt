@@ -1,4 +1,3 @@
-pub mod Adding
 pub mod Feeding
 pub mod Leading
 pub mod Running

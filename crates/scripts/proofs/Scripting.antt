@@ -21,9 +21,10 @@ use Rattle.statement.specs.Line.{line_says}
 use Rattle.statement.specs.Memory.{UnlessMemory}
 use Rattle.statement.specs.Writer.{Puts, AppendsFront}
 use Rattle.statement.specs.Print.{reply_text, refusal_text}
-use Rattle.scripts.specs.Transcript.{Partial, Progress, read_at, answered, left_by, reading_takes, can_run_out, is_risky, line_reply, line_leaves}
+use Rattle.lines.specs.Partial.{Partial}
+use Rattle.scripts.specs.Transcript.{Progress, read_at, answered, left_by, reading_takes, can_run_out, is_risky, line_reply, line_leaves}
 use Rattle.scripts.specs.declared.script.Script.{Script}
-use Rattle.scripts.specs.Script.{line_of, said_by, IsRead, IsAt, SameRun, Answered, Broken}
+use Rattle.scripts.specs.Script.{said_by, IsRead, IsAt, SameRun, Answered, Broken}
 
 pub puts_ok : {E P : Type 0} (a b : Option (List ℕ)) (r : Result (Unit {0}) E) (text : List ℕ) → Puts a b r text → (Appends a b text → P) → OnOk r P
 puts_ok a b (Ok done) text p f = f p
@@ -56,8 +57,8 @@ unless BadPeriod due other e = e
 unless TransactionsOpen due other e = e
 
 -- what was read at a run's place
-pub said_is : (s : Script) (schema : Schema) (p : Progress) → IsAt s schema p → said_by s ≡ read_at (line_says schema) p.reading (line_of s)
-said_is s schema p at = λ i. read_at (line_says (at.schema_is i)) (at.reading_is i) (line_of s)
+pub said_is : (s : Script) (schema : Schema) (p : Progress) → IsAt s schema p → said_by s ≡ read_at (line_says schema) p.reading s.line
+said_is s schema p at = λ i. read_at (line_says (at.schema_is i)) (at.reading_is i) s.line
 
 -- ---- a line at which memory ran out
 
@@ -86,7 +87,7 @@ or_right true y e = refl
 or_right false y e = e
 
 -- memory ran out while the line was read
-read_risky : (s : Script) (schema : Schema) (p : Progress) → IsAt s schema p → IsRead (Err Memory) s → is_risky schema (line_says schema) p (line_of s) ≡ true
+read_risky : (s : Script) (schema : Schema) (p : Progress) → IsAt s schema p → IsRead (Err Memory) s → is_risky schema (line_says schema) p s.line ≡ true
 read_risky s schema p at is = or_left _ _ (is.memory refl)
 
 -- ---- a line that was answered
@@ -113,9 +114,9 @@ pub record Stepped (s s' : Script) (step : Step) (r : Reply) : Type 0 where
   pub reading_stays : s'.reading ≡ s.reading
 
 -- the step takes memory where it ran out
-step_risky : (s s' : Script) (schema : Schema) (p : Progress) (step : Step) (r : Reply) → Stepped s s' step r → IsAt s schema p → said_by s ≡ Ok (Asks step) → is_out_of_memory r ≡ true → is_risky schema (line_says schema) p (line_of s) ≡ true
+step_risky : (s s' : Script) (schema : Schema) (p : Progress) (step : Step) (r : Reply) → Stepped s s' step r → IsAt s schema p → said_by s ≡ Ok (Asks step) → is_out_of_memory r ≡ true → is_risky schema (line_says schema) p s.line ≡ true
 step_risky s s' schema p step r so at e out =
-    ap (can_run_out schema p (line_of s)) (sym (said_is s schema p at) ∙ e) ∙ or_right (reading_takes (line_of s)) _ (ap not (sym alike ∙ taken (takes_no_memory (world s.system) step) refl))
+    ap (can_run_out schema p s.line) (sym (said_is s schema p at) ∙ e) ∙ or_right (reading_takes s.line) _ (ap not (sym alike ∙ taken (takes_no_memory (world s.system) step) refl))
   where
     alike : takes_no_memory (world s.system) step ≡ takes_no_memory_after schema p.history step
     alike = memory_is_taken_alike (world s.system) p.history step at.stands ∙ ap (λ x. takes_no_memory_after x p.history step) at.schema_is
@@ -125,51 +126,51 @@ step_risky s s' schema p step r so at e out =
     taken false is = refl
 
 pub step_answered : (a b : Option (List ℕ)) (s s' : Script) (schema : Schema) (p : Progress) (step : Step) (r : Reply) → Stepped s s' step r → IsAt s schema p → said_by s ≡ Ok (Asks step)
-    → Appends a b (reply_text r) → Answered a b s' schema p (line_of s)
+    → Appends a b (reply_text r) → Answered a b s' schema p s.line
 step_answered a b s s' schema p step r so at e wrote = by (is_out_of_memory r) refl
   where
-    by : (out : Bool) → is_out_of_memory r ≡ out → Answered a b s' schema p (line_of s)
+    by : (out : Bool) → is_out_of_memory r ≡ out → Answered a b s' schema p s.line
     by true is =
         let out = is_out_so r is in
-        out_answered a b s' schema p (line_of s) (step_risky s s' schema p step r so at e is) (subst (λ r. Appends a b (reply_text r)) out wrote)
+        out_answered a b s' schema p s.line (step_risky s s' schema p step r so at e is) (subst (λ r. Appends a b (reply_text r)) out wrote)
         (record { schema_is = so.schema_stays ∙ at.schema_is; stands = so.out_of_memory p.history at.stands out; reading_is = so.reading_stays ∙ at.reading_is })
     by false is =
         let did = so.answers p.history at.stands (not_out r is) in
-        answered_as a b s' schema p (line_of s) (Ok (Asks step)) (sym (said_is s schema p at) ∙ e)
+        answered_as a b s' schema p s.line (Ok (Asks step)) (sym (said_is s schema p at) ∙ e)
         (subst (λ r. Appends a b (reply_text r)) (did.0 ∙ ap (λ x. reply x p.history step) at.schema_is) wrote)
         (record { schema_is = so.schema_stays ∙ at.schema_is; stands = did.1; reading_is = so.reading_stays ∙ at.reading_is })
 
 pub step_broken : (a b : Option (List ℕ)) (s s' : Script) (schema : Schema) (p : Progress) (step : Step) (r : Reply) → Stepped s s' step r → IsAt s schema p → said_by s ≡ Ok (Asks step)
-    → AppendsFront a b (reply_text r) → Broken a b schema p (line_of s)
+    → AppendsFront a b (reply_text r) → Broken a b schema p s.line
 step_broken a b s s' schema p step r so at e wrote = by (is_out_of_memory r) refl
   where
-    by : (out : Bool) → is_out_of_memory r ≡ out → Broken a b schema p (line_of s)
-    by true is = out_broken a b schema p (line_of s) (step_risky s s' schema p step r so at e is) (subst (λ r. AppendsFront a b (reply_text r)) (is_out_so r is) wrote)
+    by : (out : Bool) → is_out_of_memory r ≡ out → Broken a b schema p s.line
+    by true is = out_broken a b schema p s.line (step_risky s s' schema p step r so at e is) (subst (λ r. AppendsFront a b (reply_text r)) (is_out_so r is) wrote)
     by false is =
-        broken_as a b schema p (line_of s) (Ok (Asks step)) (sym (said_is s schema p at) ∙ e)
+        broken_as a b schema p s.line (Ok (Asks step)) (sym (said_is s schema p at) ∙ e)
         (subst (λ r. AppendsFront a b (reply_text r)) ((so.answers p.history at.stands (not_out r is)).0 ∙ ap (λ x. reply x p.history step) at.schema_is) wrote)
 
 -- ---- a refusal
 
 pub refused_broken : (a b : Option (List ℕ)) (s : Script) (schema : Schema) (p : Progress) (refusal : Refusal) → IsAt s schema p → IsRead (Err refusal) s
-    → AppendsFront a b (refusal_text refusal) → Broken a b schema p (line_of s)
+    → AppendsFront a b (refusal_text refusal) → Broken a b schema p s.line
 refused_broken a b s schema p refusal at is wrote = by (is_memory refusal) refl
   where
-    by : (out : Bool) → is_memory refusal ≡ out → Broken a b schema p (line_of s)
+    by : (out : Bool) → is_memory refusal ≡ out → Broken a b schema p s.line
     by true e =
         let out = is_memory_so refusal e in
-        out_broken a b schema p (line_of s) (read_risky s schema p at (subst (λ r. IsRead (Err r) s) out is)) (subst (λ r. AppendsFront a b (refusal_text r)) out wrote)
-    by false e = broken_as a b schema p (line_of s) (Err refusal) (sym (said_is s schema p at) ∙ unless refusal _ (other refusal e) is.unless) wrote
+        out_broken a b schema p s.line (read_risky s schema p at (subst (λ r. IsRead (Err r) s) out is)) (subst (λ r. AppendsFront a b (refusal_text r)) out wrote)
+    by false e = broken_as a b schema p s.line (Err refusal) (sym (said_is s schema p at) ∙ unless refusal _ (other refusal e) is.unless) wrote
 
 pub refused_answered : (a b : Option (List ℕ)) (s : Script) (schema : Schema) (p : Progress) (refusal : Refusal) → IsAt s schema p → IsRead (Err refusal) s
-    → Appends a b (refusal_text refusal) → Answered a b s schema p (line_of s)
+    → Appends a b (refusal_text refusal) → Answered a b s schema p s.line
 refused_answered a b s schema p refusal at is wrote = by (is_memory refusal) refl
   where
-    by : (out : Bool) → is_memory refusal ≡ out → Answered a b s schema p (line_of s)
+    by : (out : Bool) → is_memory refusal ≡ out → Answered a b s schema p s.line
     by true e =
         let out = is_memory_so refusal e in
-        out_answered a b s schema p (line_of s) (read_risky s schema p at (subst (λ r. IsRead (Err r) s) out is)) (subst (λ r. Appends a b (refusal_text r)) out wrote) at
-    by false e = answered_as a b s schema p (line_of s) (Err refusal) (sym (said_is s schema p at) ∙ unless refusal _ (other refusal e) is.unless) wrote at
+        out_answered a b s schema p s.line (read_risky s schema p at (subst (λ r. IsRead (Err r) s) out is)) (subst (λ r. Appends a b (refusal_text r)) out wrote) at
+    by false e = answered_as a b s schema p s.line (Err refusal) (sym (said_is s schema p at) ∙ unless refusal _ (other refusal e) is.unless) wrote at
 
 -- ---- the end of a line
 

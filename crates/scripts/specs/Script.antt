@@ -1,38 +1,27 @@
 -- What a run of a script keeps, by what contracts see of it.
-use Rattle.std.specs.Prelude.{◌≡◌, ◌≤◌, ◌+◌, ℕ, List, [], ◌∷◌, Option, Some, None, Bool, true, false, Result, Err, ◌==◌, not, if◌then◌else◌, vec_capacity, length}
+use Rattle.std.specs.Prelude.{◌≡◌, ℕ, List, Option, Bool, true, Result, Err}
 use Rattle.std.specs.Io.KnownBytes.{Appends, Keeps}
 use Rattle.values.specs.Tables.{Schema}
 use Rattle.values.specs.declared.refusal.Refusal.{Refusal}
 use Rattle.values.specs.declared.refusal.Refusal.TheVariants.{Memory}
 use Rattle.interleaving.specs.SystemState.{Stands}
 use Rattle.statement.specs.declared.line.Line.{Line}
-use Rattle.statement.specs.Line.{longest_line, line_says}
+use Rattle.statement.specs.Line.{line_says}
 use Rattle.statement.specs.Memory.{UnlessMemory}
 use Rattle.statement.specs.Writer.{AppendsFront}
-use Rattle.scripts.specs.Transcript.{Partial, Progress, add, read_at, reading_takes, line_reply, line_leaves, last_reply, last_leaves}
+use Rattle.lines.specs.Partial.{Partial}
+use Rattle.scripts.specs.Transcript.{Progress, read_at, reading_takes, line_reply, line_leaves, last_reply, last_leaves}
 use Rattle.scripts.specs.Taking.{Feeds, Breaks}
 use Rattle.scripts.specs.declared.script.Script.{Script}
 
--- the line as far as it was read
-abbrev pub line_of : Script → Partial
-line_of s = if s.is_too_long then None else Some s.line.items
-
-abbrev pub is_no_feed : ℕ → Bool
-is_no_feed byte = not (byte == 10)
-
--- a line after more bytes, none of them a line feed
-abbrev pub add_all : Partial → List ℕ → Partial
-add_all line [] = line
-add_all line (byte ∷ bytes) = add_all (add line byte) bytes
-
 -- what the line says
 abbrev pub said_by : Script → Result Line Refusal
-said_by s = read_at (line_says s.system.schema) s.reading (line_of s)
+said_by s = read_at (line_says s.system.schema) s.reading s.line
 
 -- this was read of the line: memory may have run out where reading it takes some
 pub record IsRead (r : Result Line Refusal) (s : Script) : Type 0 where
   pub unless : UnlessMemory r (said_by s)
-  pub memory : r ≡ Err Memory → reading_takes (line_of s) ≡ true
+  pub memory : r ≡ Err Memory → reading_takes s.line ≡ true
 
 -- a run that has a schema's tables is as far as this
 pub record IsAt (s : Script) (schema : Schema) (p : Progress) : Type 0 where
@@ -59,35 +48,25 @@ pub record Broken
   pub mark : Bool
   pub wrote : AppendsFront old new (line_reply schema (line_says schema) mark p line)
 
--- the line's buffer has room for the longest line and its line feed
-pub record HasRoom (s : Script) : Type 0 where
-  pub room : longest_line + 1 ≤ vec_capacity s.line
-  pub fits : length s.line.items ≤ longest_line
-
-abbrev pub has_byte : Partial → Bool
-has_byte None = true
-has_byte (Some []) = false
-has_byte (Some (b ∷ bytes)) = true
-
 -- some bytes of the script were taken and answered
 pub record Fed
     (old new : Option (List ℕ)) (s s' : Script) (schema : Schema) (p : Progress) (bytes : List ℕ)
     : Type 0 where
   pub later : Progress
   pub left : IsAt s' schema later
-  pub fed : Feeds schema (line_says schema) old new p (line_of s) later (line_of s') bytes
+  pub fed : Feeds schema (line_says schema) old new p s.line later s'.line bytes
 
 -- what was due after the last byte was written, and the run is at the end of its script
 pub record Finished
     (old new : Option (List ℕ)) (s s' : Script) (schema : Schema) (p : Progress) : Type 0 where
   pub mark : Bool
-  pub wrote : Appends old new (last_reply schema (line_says schema) mark p (line_of s))
-  pub left : IsAt s' schema (last_leaves schema (line_says schema) mark p (line_of s))
+  pub wrote : Appends old new (last_reply schema (line_says schema) mark p s.line)
+  pub left : IsAt s' schema (last_leaves schema (line_says schema) mark p s.line)
 
 pub record Unfinished
     (old new : Option (List ℕ)) (s : Script) (schema : Schema) (p : Progress) : Type 0 where
   pub mark : Bool
-  pub wrote : AppendsFront old new (last_reply schema (line_says schema) mark p (line_of s))
+  pub wrote : AppendsFront old new (last_reply schema (line_says schema) mark p s.line)
 
 -- nothing was read or written
 pub record IsIdle (unread left old new : Option (List ℕ)) : Type 0 where
@@ -99,12 +78,12 @@ pub record IsIdle (unread left old new : Option (List ℕ)) : Type 0 where
 -- the line was answered
 abbrev pub AnswersLine : (old new : Option (List ℕ)) → Script → Script → Type 0
 AnswersLine old new s s' =
-    (schema : Schema) (p : Progress) → IsAt s schema p → Answered old new s' schema p (line_of s)
+    (schema : Schema) (p : Progress) → IsAt s schema p → Answered old new s' schema p s.line
 
 -- the writer failed in the line's reply
 abbrev pub BreaksLine : (old new : Option (List ℕ)) → Script → Type 0
 BreaksLine old new s =
-    (schema : Schema) (p : Progress) → IsAt s schema p → Broken old new schema p (line_of s)
+    (schema : Schema) (p : Progress) → IsAt s schema p → Broken old new schema p s.line
 
 -- these bytes were taken
 abbrev pub TakesBytes : (old new : Option (List ℕ)) → Script → Script → List ℕ → Type 0
@@ -115,7 +94,7 @@ TakesBytes old new s s' bytes =
 abbrev pub BreaksBytes : (old new : Option (List ℕ)) → Script → List ℕ → Type 0
 BreaksBytes old new s bytes =
     (schema : Schema) (p : Progress) → IsAt s schema p
-    → Breaks schema (line_says schema) old new p (line_of s) bytes
+    → Breaks schema (line_says schema) old new p s.line bytes
 
 -- the script ended
 abbrev pub EndsScript : (old new : Option (List ℕ)) → Script → Script → Type 0

@@ -2,7 +2,8 @@
 use Rattle.std.specs.Prelude.{◌≡◌, ℕ, List, ◌++◌, Bool, Option}
 use Rattle.std.specs.Io.KnownBytes.{Appends}
 use Rattle.values.specs.Tables.{Schema}
-use Rattle.scripts.specs.Transcript.{Partial, Progress, Reading, Ending, last_reply, written, leaves}
+use Rattle.lines.specs.Partial.{Partial}
+use Rattle.scripts.specs.Transcript.{Progress, Reading, Ending, last_reply, written, leaves}
 
 module _ (schema : Schema) (read : Reading) where
   -- these bytes of a text were taken: what was written is what is written for them however the text

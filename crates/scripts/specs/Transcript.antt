@@ -1,5 +1,5 @@
 -- What is written for a text of lines.
-use Rattle.std.specs.Prelude.{ℕ, List, [], ◌∷◌, ◌++◌, ◌==◌, ◌&&◌, ◌||◌, not, Bool, false, Option, Some, None, Result, Ok, Err, if◌then◌else◌, length, nat_lt, codes}
+use Rattle.std.specs.Prelude.{ℕ, List, [], ◌∷◌, ◌++◌, ◌==◌, ◌&&◌, ◌||◌, not, Bool, false, Option, Some, None, Result, Ok, Err, if◌then◌else◌, codes}
 use Rattle.std.specs.Io.KnownBytes.{Appends, Consumes, IsAtEnd}
 use Rattle.values.specs.Tables.{Schema}
 use Rattle.values.specs.declared.refusal.Refusal.{Refusal}
@@ -9,28 +9,15 @@ use Rattle.histories.specs.Memory.{takes_no_memory_after}
 use Rattle.interleaving.specs.SystemState.{SystemState, Stands}
 use Rattle.statement.specs.declared.line.Line.{Line}
 use Rattle.statement.specs.declared.line.Line.TheVariants.{Nothing, Clock, Step as Asks}
-use Rattle.statement.specs.Line.{longest_line}
 use Rattle.statement.specs.Memory.{takes_memory}
 use Rattle.statement.specs.Print.{line, refusal_text, reply_text}
 use Rattle.statement.specs.Writer.{AppendsFront}
-
--- a line as far as it goes, or none where it is too long
-abbrev pub Partial : Type 0
-Partial = Option (List ℕ)
-
-abbrev pub add : Partial → ℕ → Partial
-add None byte = None
-add (Some bytes) byte = if nat_lt (length bytes) longest_line then Some (bytes ++ byte ∷ []) else None
+use Rattle.lines.specs.Partial.{Partial, add, ended}
 
 -- reading the line takes memory: it is not read where it is too long
 abbrev pub reading_takes : Partial → Bool
 reading_takes None = false
 reading_takes (Some bytes) = takes_memory bytes
-
--- a line with its line feed
-abbrev pub ended : Partial → Partial
-ended None = None
-ended (Some bytes) = Some (bytes ++ 10 ∷ [])
 
 -- what lines leave: the steps that were answered, the newest first, and the clock's last reading
 pub record Progress : Type 0 where

@@ -1,24 +1,25 @@
 //! Scripts: a line is read, its step taken and its reply written, and then the next one. What was
 //! written is flushed before more is read.
-ghost use Rattle.std.specs.Prelude.{◌≡◌, ◌≢◌, ◌≤◌, ◌<◌, ◌^◌, Some, None, [], ◌∷◌, OnOk, OnErr, IfOk, IfErr, Ok, Err, length, take, ◌+◌, vec_capacity, false};
-ghost use Rattle.std.specs.List.{prefix_len};
+ghost use Rattle.std.specs.Prelude.{◌≡◌, ◌≢◌, ◌≤◌, ◌<◌, ◌^◌, Some, None, [], ◌∷◌, OnOk, OnErr, IfOk, IfErr, Ok, Err, length, take, ◌+◌, false};
 ghost use Rattle.std.specs.Io.KnownBytes.{Keeps};
 ghost use Rattle.values.specs.Tables.{Schema};
-ghost use Rattle.statement.specs.Line.{longest_line, line_says};
+ghost use Rattle.statement.specs.Line.{line_says};
+ghost use Rattle.lines.specs.Partial.{Fits};
 ghost use Rattle.values.specs.declared.refusal.Refusal.{Refusal as Why};
 ghost use Rattle.scripts.specs.First.{history_of, refusal_in, first_refusal, LeadsTo, RefusesFirst, IsRefusedFirst, IsUnled, is_first};
 ghost use Rattle.histories.specs.History.{History};
 ghost use Rattle.interleaving.specs.SystemState.{Stands};
-ghost use Rattle.scripts.specs.Transcript.{ended, IsRun, IsCut, IsStopped, IsRunAfter, IsCutAfter, IsStoppedAfter};
-ghost use Rattle.scripts.specs.Script.{line_of, said_by, add_all, is_no_feed, IsRead, IsAt, SameRun, HasRoom, has_byte, AnswersLine, BreaksLine, TakesBytes, BreaksBytes, EndsScript, BreaksEnd, IsIdle};
+ghost use Rattle.scripts.specs.Transcript.{IsRun, IsCut, IsStopped, IsRunAfter, IsCutAfter, IsStoppedAfter};
+ghost use Rattle.scripts.specs.Script.{said_by, IsRead, IsAt, AnswersLine, BreaksLine, TakesBytes, BreaksBytes, EndsScript, BreaksEnd, IsIdle};
 
 use histories::{Reply, Step};
 use interleaving::System;
+use lines::{LineBuffer, line_length};
 use rows::Schema;
-use statement::{LONGEST_LINE, Line, WriteFault, print_refusal, print_reply, read_line, write_all};
-use std::alloc::{AllocError, Global};
+use statement::{Line, WriteFault, print_refusal, print_reply, read_line, write_all};
+use std::alloc::Global;
 use std::io::{Read, Write};
-use values::{Instant, Refusal};
+use values::{Instant, Mem, Refusal};
 
 /// The bytes that are read at once.
 const CHUNK: usize = 4096;
@@ -44,23 +45,17 @@ pub enum RunFault {
 struct Script {
     system: System,
     reading: Instant,
-    line: Vec<u8>,
-    is_too_long: bool,
+    line: LineBuffer,
 }
 
 /// Reads the line, whose line feed is still on it.
 fn read(alloc: Global, script: &Script) -> Result<Line, Refusal>
     ensures { IsRead result script.now }
 {
-    if script.is_too_long {
-        return Err(Refusal::LineTooLong);
+    match script.line.get() {
+        None => Err(Refusal::LineTooLong),
+        Some(bytes) => read_line(alloc, bytes, script.system.schema(), script.reading),
     }
-    read_line(
-        alloc,
-        script.line.as_slice(),
-        script.system.schema(),
-        script.reading,
-    )
 }
 
 /// Takes what a line says, and writes the reply.
@@ -74,7 +69,6 @@ fn answer<W: Write>(
         (W.contents writer.old) (W.contents writer.new) script.old script.new) }
     ensures err { OnErr result (BreaksLine
         (W.contents writer.old) (W.contents writer.new) script.old) }
-    ensures room { vec_capacity script.new.line ≡ vec_capacity script.old.line }
 {
     match line {
         Ok(Line::Nothing) => Ok(()),
@@ -94,7 +88,6 @@ fn take_step<W: Write>(writer: &mut W, script: &mut Script, step: Step) -> Resul
         (W.contents writer.old) (W.contents writer.new) script.old script.new) }
     ensures err { OnErr result (BreaksLine
         (W.contents writer.old) (W.contents writer.new) script.old) }
-    ensures room { vec_capacity script.new.line ≡ vec_capacity script.old.line }
 {
     let reply = script.system.step(step);
     print_reply(writer, &reply)
@@ -113,59 +106,16 @@ fn refuse<W: Write>(writer: &mut W, script: &Script, refusal: &Refusal) -> Resul
 
 /// Ends the line: writes its reply, and begins the next one.
 fn end_line<W: Write>(alloc: Global, writer: &mut W, script: &mut Script) -> Result<(), WriteFault>
-    requires { longest_line + 1 ≤ vec_capacity script.old.line }
     ensures ok { OnOk result (AnswersLine
         (W.contents writer.old) (W.contents writer.new) script.old script.new) }
     ensures err { OnErr result (BreaksLine
         (W.contents writer.old) (W.contents writer.new) script.old) }
-    ensures line { OnOk result (line_of script.new ≡ Some []) }
-    ensures room { OnOk result (HasRoom script.new) }
+    ensures line { OnOk result (script.new.line ≡ Some []) }
 {
     let line = read(alloc, script);
     answer(writer, script, line)?;
     script.line.clear();
-    script.is_too_long = false;
     Ok(())
-}
-
-/// The number of bytes before the first line feed: of all, where there is none.
-fn line_length(bytes: &[u8]) -> usize
-    ensures length { result ≡ prefix_len is_no_feed bytes.now }
-    ensures within { result ≤ length bytes.now }
-{
-    for (i, byte) in bytes.iter().enumerate() {
-        if *byte == b'\n' {
-            return i;
-        }
-    }
-    bytes.len()
-}
-
-/// More bytes of the line, none of them its line feed.
-fn add_bytes(script: &mut Script, bytes: &[u8])
-    requires { HasRoom script.old }
-    ensures line { line_of script.new ≡ add_all (line_of script.old) bytes.now }
-    ensures same { SameRun script.old script.new }
-    ensures room { HasRoom script.new }
-{
-    if script.is_too_long {
-        return;
-    }
-    if bytes.len() <= LONGEST_LINE - script.line.len() {
-        let _ = script.line.extend_from_slice(bytes);
-    } else {
-        script.is_too_long = true;
-    }
-}
-
-/// The line's own line feed.
-fn add_feed(script: &mut Script)
-    requires { HasRoom script.old }
-    ensures line { line_of script.new ≡ ended (line_of script.old) }
-    ensures same { SameRun script.old script.new }
-    ensures room { longest_line + 1 ≤ vec_capacity script.new.line }
-{
-    let _ = script.line.push(b'\n');
 }
 
 /// Passes on what was written.
@@ -180,14 +130,14 @@ fn flush<W: Write>(writer: &mut W) -> Result<(), WriteFault>
 
 /// Takes a line feed, which ends the line.
 fn take_feed<W: Write>(alloc: Global, writer: &mut W, script: &mut Script) -> Result<(), WriteFault>
-    requires { HasRoom script.old }
+    requires { Fits script.old.line }
     ensures ok { OnOk result (TakesBytes
         (W.contents writer.old) (W.contents writer.new) script.old script.new (10 ∷ [])) }
     ensures err { OnErr result (BreaksBytes
         (W.contents writer.old) (W.contents writer.new) script.old (10 ∷ [])) }
-    ensures room { OnOk result (HasRoom script.new) }
+    ensures room { OnOk result (Fits script.new.line) }
 {
-    add_feed(script);
+    script.line.end();
     end_line(alloc, writer, script)
 }
 
@@ -199,17 +149,17 @@ fn take_line<W: Write>(
     script: &mut Script,
     bytes: &[u8],
 ) -> Result<usize, WriteFault>
-    requires { HasRoom script.old }
+    requires { Fits script.old.line }
     ensures ok { IfOk result (λ n. TakesBytes
         (W.contents writer.old) (W.contents writer.new) script.old script.new (take n bytes.now)) }
     ensures err { OnErr result (BreaksBytes
         (W.contents writer.old) (W.contents writer.new) script.old bytes.now) }
     ensures within { IfOk result (λ n. n ≤ length bytes.now) }
     ensures some { IfOk result (λ n. 0 < length bytes.now → 0 < n) }
-    ensures room { OnOk result (HasRoom script.new) }
+    ensures room { OnOk result (Fits script.new.line) }
 {
     let n = line_length(bytes);
-    add_bytes(script, bytes.split_at(n).0);
+    script.line.add(bytes.split_at(n).0);
     if n == bytes.len() {
         return Ok(n);
     }
@@ -226,12 +176,12 @@ fn feed<W: Write>(
     script: &mut Script,
     bytes: &[u8],
 ) -> Result<(), WriteFault>
-    requires { HasRoom script.old }
+    requires { Fits script.old.line }
     ensures ok { OnOk result (TakesBytes
         (W.contents writer.old) (W.contents writer.new) script.old script.new bytes.now) }
     ensures err { OnErr result (BreaksBytes
         (W.contents writer.old) (W.contents writer.new) script.old bytes.now) }
-    ensures room { OnOk result (HasRoom script.new) }
+    ensures room { OnOk result (Fits script.new.line) }
 {
     let mut rest = bytes;
     while !rest.is_empty() {
@@ -243,22 +193,16 @@ fn feed<W: Write>(
     flush(writer)
 }
 
-fn has_byte(script: &Script) -> bool
-    ensures { result ≡ has_byte (line_of script.now) }
-{
-    script.is_too_long || !script.line.is_empty()
-}
-
 /// Ends the script: a last line without a line feed is answered where it has a byte, and its reply
 /// flushed.
 fn finish<W: Write>(alloc: Global, writer: &mut W, script: &mut Script) -> Result<(), WriteFault>
-    requires { HasRoom script.old }
+    requires { Fits script.old.line }
     ensures ok { OnOk result (EndsScript
         (W.contents writer.old) (W.contents writer.new) script.old script.new) }
     ensures err { OnErr result (BreaksEnd
         (W.contents writer.old) (W.contents writer.new) script.old) }
 {
-    if !has_byte(script) {
+    if !script.line.has_byte() {
         return Ok(());
     }
     match end_line(alloc, writer, script) {
@@ -268,18 +212,16 @@ fn finish<W: Write>(alloc: Global, writer: &mut W, script: &mut Script) -> Resul
 }
 
 /// A run at the beginning of its script.
-fn begin(alloc: Global, system: System) -> Result<Script, AllocError>
+fn begin(alloc: Global, system: System) -> Mem<Script>
     ensures system { IfOk result (λ s. s.system ≡ system) }
     ensures reading { IfOk result (λ s. s.reading ≡ 0) }
-    ensures line { IfOk result (λ s. line_of s ≡ Some []) }
-    ensures room { IfOk result (λ s. HasRoom s) }
+    ensures line { IfOk result (λ s. s.line ≡ Some []) }
 {
-    let line = Vec::with_capacity(alloc, LONGEST_LINE + 1)?;
+    let line = LineBuffer::new(alloc)?;
     Ok(Script {
         system,
         reading: 0,
         line,
-        is_too_long: false,
     })
 }
 

@@ -1,12 +1,12 @@
 use Rattle.std.proofs.Common.{length}
-use Rattle.scripts.specs.Script.{HasRoom}
+use Rattle.lines.specs.Partial.{Fits}
 use Rattle.scripts.proofs.Running.{TakesSome}
 use Rattle.scripts.proofs.script.feed.Given as goal
 
 abbrev pub invariant-loop-rest : goal.invariant-loop-rest
 invariant-loop-rest g l = record {
   some : TakesSome (g.W.Write.contents l.fn.writer) (g.W.Write.contents l.writer) l.fn.script l.script l.bytes l.rest;
-  room : HasRoom l.script;
+  room : Fits l.script.line;
 }
 
 abbrev pub decreases-loop-rest : goal.decreases-loop-rest

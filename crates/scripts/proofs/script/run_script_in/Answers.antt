@@ -1,6 +1,7 @@
 use Rattle.std.proofs.Common.{take, [], subst, arith}
 use Rattle.std.specs.Io.KnownBytes.{Consumes}
 use Rattle.std.proofs.KnownBytes.{Keeps-refl}
+use Rattle.lines.proofs.Adding.{empty_fits}
 use Rattle.scripts.proofs.Leading.{run_at}
 use Rattle.scripts.proofs.Running.{going_none, going_more, going_cut, going_broken, going_done, going_schema, going_unfinished}
 use Rattle.scripts.proofs.script.run_script_in.Goals as goal
@@ -8,7 +9,7 @@ use Rattle.scripts.proofs.script.run_script_in.Goals as goal
 pub loop-turn-init : goal.loop-turn-init
 loop-turn-init g c = record {
   going = λ h at. going_none _ _ _ _ _ (run_at c.in-Ok.script c.args.system h c.in-Ok.ensures.system c.in-Ok.ensures.reading at) c.in-Ok.ensures.line;
-  room = c.in-Ok.ensures.room;
+  room = empty_fits _ c.in-Ok.ensures.line;
 }
 
 pub loop-turn-preserved : goal.loop-turn-preserved

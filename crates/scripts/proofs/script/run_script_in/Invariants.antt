@@ -1,11 +1,11 @@
 use Rattle.histories.specs.History.{History}
 use Rattle.interleaving.specs.SystemState.{Stands}
-use Rattle.scripts.specs.Script.{HasRoom}
+use Rattle.lines.specs.Partial.{Fits}
 use Rattle.scripts.proofs.Running.{Going}
 use Rattle.scripts.proofs.script.run_script_in.Given as goal
 
 abbrev pub invariant-loop-turn : goal.invariant-loop-turn
 invariant-loop-turn g l = record {
   going : (h : History) → Stands l.fn.system h → Going (g.I.Read.remaining l.fn.reader) (g.I.Read.remaining l.reader) (g.W.Write.contents l.fn.writer) (g.W.Write.contents l.writer) l.script l.fn.system.schema h;
-  room : HasRoom l.script;
+  room : Fits l.script.line;
 }
