@@ -1,11 +1,11 @@
 -- What a session answers beside a history is what the history's replies are.
-use Rattle.std.proofs.Common.{◌≡◌, ◌≢◌, ℕ, Bool, true, false, List, [], ◌∷◌, ◌++◌, Option, Some, None, Result, Ok, Err, refl, sym, ap, ◌∙◌}
+use Rattle.std.proofs.Common.{◌≡◌, ℕ, Bool, true, false, List, [], ◌∷◌, ◌++◌, Option, Some, None, Result, Ok, Err, refl, sym, ap, ◌∙◌}
 use Rattle.std.specs.Prelude.{if◌then◌else◌, ◌&&◌, ◌==◌, is_none, is_some, not}
 use Rattle.std.specs.Option.{option_map}
 use Rattle.values.specs.declared.refusal.Refusal.{Refusal}
 use Rattle.values.specs.declared.refusal.Refusal.TheVariants.{NoTransaction}
 use Rattle.values.specs.Tables.{Schema}
-use Rattle.values.specs.Log.{Log, Changes, upto, changes}
+use Rattle.values.specs.Log.{Log, upto, changes}
 use Rattle.values.specs.Writes.{Own}
 use Rattle.histories.specs.declared.step.Step.{Step}
 use Rattle.histories.specs.declared.step.Step.TheVariants.{Begin, Insert, Update, Delete, Select, Commit, Rollback, SplitKey, SplitTime, Migrate}
@@ -15,8 +15,8 @@ use Rattle.histories.specs.Misfit.{misfit}
 use Rattle.histories.specs.History.{History, ends, begins, is_write_of, is_refused, log, log_at_begin, own, own_of, reply, reply_in, rewrite_all, seen_of, snap, snap_of, write, write_reply, writer, written_reply}
 use Rattle.histories.proofs.Ends.{itself}
 use Rattle.histories.proofs.Written.{write_is, is_err}
-use Rattle.sessions.specs.SessionState.{SessionState, own_in, write_by, write_in}
-use Rattle.sessions.specs.OfHistory.{IsIn, own_at, WritesAnswerAlike, WritesLeaveAlike}
+use Rattle.sessions.specs.SessionState.{write_by}
+use Rattle.sessions.specs.OfHistory.{own_at, WritesAnswerAlike, WritesLeaveAlike}
 
 -- ---- a step that writes for a session
 

@@ -19,8 +19,8 @@ use Rattle.histories.specs.declared.step.Reply.TheVariants.{Refused, Shown}
 use Rattle.histories.specs.Misfit.{misfit}
 use Rattle.histories.specs.History as history
 use Rattle.histories.specs.History.{History, log, log_at_begin, own, own_of, mine_of, rows_of, rows_taken, snap}
-use Rattle.sessions.specs.SessionState.{RunningState, SessionState, own_in}
-use Rattle.sessions.specs.OfHistory.{IsIn, own_at, shown_reply, QueriesAnswerAlike}
+use Rattle.sessions.specs.SessionState.{RunningState, SessionState}
+use Rattle.sessions.specs.OfHistory.{IsIn, shown_reply, QueriesAnswerAlike}
 
 abbrev rows_or_none : Option Own → State
 rows_or_none None = []

@@ -1,3 +1,4 @@
 pub mod SessionState
 pub mod Store
 pub mod OfHistory
+pub mod StoreOfHistory

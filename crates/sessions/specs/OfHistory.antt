@@ -1,19 +1,27 @@
 -- A session beside a history of steps: what it answers is what the history's replies are.
-use Rattle.std.specs.Prelude.{◌≡◌, ◌≢◌, ℕ, ◌∷◌, Option, Some, None, Result, Ok, Err}
+use Rattle.std.specs.Prelude.{◌≡◌, ◌≢◌, ◌≤◌, ℕ, List, [], ◌∷◌, Option, Some, None, Result, Ok, Err, IsOk, MatchOption}
 use Rattle.std.specs.Option.{option_map}
+use Rattle.values.specs.declared.key.Key.{Key}
+use Rattle.values.specs.declared.table.Table.{Table}
 use Rattle.values.specs.declared.query.Form.{Form}
+use Rattle.values.specs.declared.query.Form.TheVariants.{Plain}
 use Rattle.values.specs.declared.query.Keys.{Keys}
 use Rattle.values.specs.declared.refusal.Refusal.{Refusal}
-use Rattle.values.specs.Tables.{Schema}
-use Rattle.values.specs.Log.{Changes, upto, changes}
+use Rattle.values.specs.declared.refusal.Refusal.TheVariants.{NoTransaction}
+use Rattle.values.specs.Tables.{Schema, table_at}
+use Rattle.values.specs.Order.{is_key}
+use Rattle.values.specs.Versions.{matches}
+use Rattle.values.specs.Log.{Changes, Row, row_at, upto, changes}
 use Rattle.values.specs.Writes.{Own}
 use Rattle.histories.specs.declared.step.Listing.{Listing}
+use Rattle.histories.specs.declared.step.Listing.TheVariants.{Rows}
 use Rattle.histories.specs.declared.step.Reply.{Reply}
-use Rattle.histories.specs.declared.step.Reply.TheVariants.{Refused, Shown}
+use Rattle.histories.specs.declared.step.Reply.TheVariants.{Refused, RolledBack, Shown}
 use Rattle.histories.specs.declared.step.Step.{Step}
-use Rattle.histories.specs.declared.step.Step.TheVariants.{Select}
-use Rattle.histories.specs.History.{History, log, log_at_begin, own, own_of, reply, snap, writer, written_reply}
-use Rattle.sessions.specs.SessionState.{SessionState, own_in, select_in, write_in}
+use Rattle.histories.specs.declared.step.Step.TheVariants.{Rollback, Select}
+use Rattle.histories.specs.Misfit.{key_misfit, max_session, misfit}
+use Rattle.histories.specs.History.{History, log, log_at_begin, mine, own, own_of, reply, snap, writer, written_reply}
+use Rattle.sessions.specs.SessionState.{SessionState, get_in, own_in, select_in, with_transaction, write_in}
 
 -- the rows that the history's open transaction sees and the keys that it wrote
 abbrev pub own_at : Schema → History → ℕ → Option Own
@@ -53,3 +61,55 @@ WritesLeaveAlike =
     → new.number ≡ old.number → new.schema ≡ old.schema
     → own_in m new ≡ (write_in old step (own_in m old)).1
     → IsIn m new (step ∷ h)
+
+-- the row that the history's open transaction has at a key, if there is one: of the rows that its
+-- plain queries list
+abbrev pub read_at : Schema → History → ℕ → Key → Result (Option Row) Refusal
+read_at schema h i key = elim (key_misfit schema key) [
+  | Some refusal ↦ Err refusal
+  | None ↦ elim (log_at_begin schema h i) [
+    | None ↦ Err NoTransaction
+    | Some before ↦ Ok (row_at (mine schema h i) key)
+  ]
+]
+
+-- a read at a key gives the row that the history has there
+abbrev pub GetsAnswerAlike : Type 0
+GetsAnswerAlike =
+    (m : Changes) (s : SessionState) (h : History) (key : Key)
+    → IsIn m s h → get_in m s key ≡ read_at s.schema h s.number key
+
+-- a row, if there is one
+abbrev pub row_alone : Option Row → List Row
+row_alone None = []
+row_alone (Some row) = row ∷ []
+
+-- and it is the row that the history's reply shows to a plain query that takes this key alone
+abbrev pub GetsAsListed : Type 0
+GetsAsListed =
+    (m : Changes) (s : SessionState) (h : History) (key : Key) (keys : Keys) (table : Table)
+    (row : Option Row)
+    → IsIn m s h → get_in m s key ≡ Ok row
+    → misfit s.schema (Select s.number Plain keys) ≡ None
+    → table_at s.schema keys.table ≡ Some table
+    → ((k : Key) → matches table keys k ≡ is_key key k)
+    → reply s.schema h (Select s.number Plain keys) ≡ Shown (Rows (row_alone row))
+
+-- what a history's open transaction sees of what was committed, or all of it with none open
+abbrev pub seen_at : Schema → History → ℕ → Changes
+seen_at schema h i = changes (upto (log schema h) (snap schema h i))
+
+abbrev pub rolled_reply : {A : Type 0} → Result A Refusal → Reply
+rolled_reply (Ok done) = RolledBack
+rolled_reply (Err refusal) = Refused refusal
+
+-- a rollback answers what the history's does, and then the session has open what the history with
+-- that step has: none
+abbrev pub RollbacksAnswerAlike : Type 0
+RollbacksAnswerAlike =
+    (m : Changes) (s : SessionState) (h : History) (result : Result (Unit {0}) Refusal)
+    → IsIn m s h → s.number ≤ max_session
+    → MatchOption s.transaction (result ≡ Err NoTransaction) (λ _. IsOk result)
+    → (rolled_reply result ≡ reply s.schema h (Rollback s.number))
+    × IsIn (seen_at s.schema (Rollback s.number ∷ h) s.number)
+    (with_transaction s None) (Rollback s.number ∷ h)

@@ -8,6 +8,6 @@ mod session;
 mod store;
 mod write;
 
-pub use laws::sessions_answer_as_histories;
+pub use laws::{sessions_answer_as_histories, stores_answer_as_histories};
 pub use session::Session;
 pub use store::{LockedStore, Unclosed};

@@ -1,5 +1,5 @@
 //! The store: the book under its lock.
-ghost use Rattle.std.specs.Prelude.{◌≡◌, ◌≢◌, All, Err, IfErr, IfOk, IsPermutation, IsSome, None, OnErr, Some, length, map};
+ghost use Rattle.std.specs.Prelude.{◌≡◌, ◌≢◌, ◌⊎◌, All, Err, IfErr, IfOk, IsPermutation, IsSome, None, OnErr, Some, length, map};
 ghost use Rattle.values.specs.Memory.{OnlyMemory};
 ghost use Rattle.journal.specs.Entries.{entry_at, numbers};
 ghost use Rattle.book.specs.Book.{IsBook, OnlyRoom};
@@ -42,6 +42,15 @@ impl<J: StoreName> LockedStore<J> {
             schema,
             book: Mutex::new(book),
         })
+    }
+
+    /// A session of the store's tables, with no transaction open. `NoSession` where the number is above 64, otherwise want of memory is the only refusal.
+    pub fn session(&self, alloc: Global, number: u8) -> Result<Session, Refusal>
+        ensures ok { IfOk result (λ s. s
+            ≡ record { number = number; schema = J.schema; receipt = 0; transaction = None }) }
+        ensures why { IfErr result (λ e. (e ≡ Refusal.NoSession) ⊎ (e ≡ Refusal.Memory)) }
+    {
+        Session::new(alloc, number, self.schema.copy(alloc)?)
     }
 
     /// Begins a session's transaction, which sees what its receipt's entry shows. `NoTable` where the session is of other tables, `InTransaction` where one is open,

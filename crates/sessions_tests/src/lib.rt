@@ -13,3 +13,5 @@ mod run_tests;
 mod runs;
 #[cfg(test)]
 mod store_tests;
+#[cfg(test)]
+mod thread_tests;

@@ -45,6 +45,18 @@ pub(crate) struct Ran<J: StoreName> {
     pub(crate) counts: Counts,
 }
 
+impl<J: StoreName> Ran<J> {
+    /// With what another brings back.
+    pub(crate) fn add(&mut self, other: Ran<J>) -> Mem<()> {
+        let Ran { receipts, counts } = other;
+        for receipt in receipts {
+            self.receipts.push(receipt)?;
+        }
+        self.counts.add(counts);
+        Ok(())
+    }
+}
+
 /// Before the first transaction.
 pub(crate) fn nothing_ran<J: StoreName>(alloc: Global) -> Ran<J> {
     Ran {
@@ -147,6 +159,21 @@ pub(crate) fn commit_name<J: StoreName, R: Wait>(
     let seen = sees(alloc, &session, 1, name)?;
     let end = commit(rt, store, &mut session, &mut ran.receipts)?;
     ran.counts.add(Counts::of(seen, end));
+    Ok(())
+}
+
+/// Ten transactions of a session that give the employee 1 a name.
+pub(crate) fn name_often<J: StoreName, R: Wait>(
+    rt: &R,
+    alloc: Global,
+    store: &LockedStore<J>,
+    number: u8,
+    ran: &mut Ran<J>,
+) -> Result<(), Refusal> {
+    for _ in 0..10 {
+        let session = begin_and_name(rt, alloc, store, number, "Ann", ran)?;
+        commit_name(rt, alloc, store, session, "Ann", ran)?;
+    }
     Ok(())
 }
 

@@ -1,4 +1,6 @@
 use Rattle.sessions.proofs.Alike as alike
+use Rattle.sessions.proofs.AlikeEnded as ended
+use Rattle.sessions.proofs.AlikeListed as listed
 use Rattle.sessions.proofs.AlikeShown as shown
 use Rattle.sessions.proofs.laws.sessions_answer_as_histories.Goals as goal
 
@@ -10,3 +12,12 @@ returns-clause-queries c = shown.queries_answer_alike
 
 pub returns-clause-after : goal.returns-clause-after
 returns-clause-after c = alike.writes_leave_alike
+
+pub returns-clause-gets : goal.returns-clause-gets
+returns-clause-gets c = ended.gets_answer_alike
+
+pub returns-clause-rollbacks : goal.returns-clause-rollbacks
+returns-clause-rollbacks c = ended.rollbacks_answer_alike
+
+pub returns-clause-listed : goal.returns-clause-listed
+returns-clause-listed c = listed.gets_as_listed

@@ -1,0 +1,95 @@
+-- Which types may cross threads: a store is shared, and sessions and receipts are moved. The nodes of a view refer to
+-- themselves, so what stands over them is shown here step by step.
+use denote.RattleType.{RattleType}
+use denote.Param.Send.{IsSend, IsSync, sendable}
+use Rattle.std.proofs.Crossing.{crosses as plain}
+use Rattle.bytes.proofs.shared.Bytes.TheSendSync as bytes
+use Rattle.values.proofs.refusal.Refusal.TheSendSync as refusal
+use Rattle.rows.proofs.schema.Schema.TheSendSync as schema
+use Rattle.keyrange.proofs.rect.Rect.TheSendSync as rect
+use Rattle.slots.specs.contracts.slots.Slots as Slots
+use Rattle.slots.proofs.trie.Trie.TheLaws.TheKnot as knot
+use Rattle.treenodes.specs.contracts.node.Slot as Slot
+use Rattle.treenodes.proofs.node.Slot.TheSendSync as slot
+use Rattle.tsbtree.specs.contracts.tree.Tree as Tree
+use Rattle.tsbtree.specs.contracts.view.View as View
+use Rattle.staging.proofs.net.Net.TheSendSync as net
+use Rattle.staging.proofs.staged.Staged.TheSendSync as staged
+use Rattle.validation.specs.contracts.engine.Engine as Engine
+use Rattle.growlog.specs.declared.log.StoreName.{Ghosts}
+use Rattle.growlog.proofs.log.Log.TheSendSync as log
+use Rattle.growlog.proofs.prefix.Prefix.TheSendSync as prefix
+use Rattle.journal.specs.contracts.entry.Entry as Entry
+use Rattle.journal.specs.contracts.entry.SharedEntry as SharedEntry
+use Rattle.journal.specs.contracts.journal.Journal as Journal
+use Rattle.journal.specs.contracts.receipt.Receipt as Receipt
+use Rattle.transaction.specs.contracts.open_transaction.OpenTransaction as OpenTransaction
+use Rattle.book.specs.contracts.book.Book as Book
+use Rattle.sessions.specs.contracts.session.Running as Running
+use Rattle.sessions.specs.contracts.session.Session as Session
+use Rattle.sessions.specs.contracts.store.LockedStore as LockedStore
+
+-- ---- views
+
+slots_send : IsSend (Slots.the_row Slot.the_row)
+slots_send = search (knot.crosses, slot.the_send, slot.the_sync, sendable, plain) depth 60 fits 20000
+
+slots_sync : IsSync (Slots.the_row Slot.the_row)
+slots_sync = search (knot.crosses, slot.the_send, slot.the_sync, sendable, plain) depth 60 fits 20000
+
+view_send : IsSend View.the_row
+view_send = search (slots_send, sendable, plain) depth 60 fits 20000
+
+view_sync : IsSync View.the_row
+view_sync = search (slots_sync, sendable, plain) depth 60 fits 20000
+
+-- ---- entries and receipts
+
+entry_send : IsSend Entry.the_row
+entry_send = search (view_send, net.the_send, rect.the_send, refusal.the_send, bytes.the_send, sendable, plain) depth 60 fits 20000
+
+entry_sync : IsSync Entry.the_row
+entry_sync = search (view_sync, net.the_sync, rect.the_sync, refusal.the_sync, bytes.the_sync, sendable, plain) depth 60 fits 20000
+
+shared_send : IsSend SharedEntry.the_row
+shared_send = search (entry_send, entry_sync, sendable, plain) depth 60 fits 20000
+
+-- ---- sessions
+
+transaction_send : IsSend OpenTransaction.the_row
+transaction_send = search (view_send, staged.the_send, sendable, plain) depth 60 fits 20000
+
+running_send : IsSend Running.the_row
+running_send = search (transaction_send, sendable, plain) depth 60 fits 20000
+
+pub session_send : IsSend Session.the_row
+session_send = search (running_send, schema.the_send, sendable, plain) depth 60 fits 20000
+
+-- ---- what stands under the lock
+
+tree_send : IsSend Tree.the_row
+tree_send = search (view_send, sendable, plain) depth 60 fits 20000
+
+engine_send : IsSend Engine.the_row
+engine_send = search (tree_send, sendable, plain) depth 60 fits 20000
+
+module _ (K : RattleType) (g : Ghosts K.Denot) (named : IsSend K) where
+  pub receipt_send : IsSend (Receipt.the_row K g)
+  receipt_send = search (shared_send, prefix.the_send, sendable, plain) depth 60 fits 20000
+
+  pub receipt_field_send : IsSend (Receipt.the_field K g).row
+  receipt_field_send = search (shared_send, prefix.the_send, sendable, plain) depth 60 fits 20000
+
+  journal_send : IsSend (Journal.the_row K g)
+  journal_send = search (shared_send, prefix.the_send, log.the_field_send, sendable, plain) depth 60 fits 20000
+
+  book_send : IsSend (Book.the_row K g)
+  book_send = search (journal_send, engine_send, sendable, plain) depth 60 fits 20000
+
+  pub store_send : IsSend (LockedStore.the_row K g)
+  store_send = search (book_send, schema.the_send, sendable, plain) depth 60 fits 20000
+
+  pub store_sync : IsSync (LockedStore.the_row K g)
+  store_sync = search (book_send, schema.the_sync, sendable, plain) depth 60 fits 20000
+
+pub ruleset crosses = (session_send, receipt_send, receipt_field_send, store_send, store_sync)

@@ -1,0 +1,117 @@
+-- A store and its sessions beside a history of steps: what the store's calls answer and leave is what
+-- the history's replies are, and the log of the history with that step.
+use Rattle.std.specs.Prelude.{◌≡◌, ◌≢◌, ◌≤◌, ℕ, ◌∷◌, ◌++◌, Option, Some, None, false}
+use Rattle.values.specs.declared.query.Form.{Form}
+use Rattle.values.specs.declared.query.Keys.{Keys}
+use Rattle.values.specs.declared.refusal.Refusal.TheVariants.{InTransaction, NoTransaction}
+use Rattle.values.specs.Tables.{Schema}
+use Rattle.values.specs.KeyEncoding.{bytes_of_key}
+use Rattle.tsbtree.specs.View.{last as view_last}
+use Rattle.staging.specs.View.{Holds}
+use Rattle.validation.specs.declared.cut.Cut.{Cut}
+use Rattle.validation.specs.declared.cut.Cut.TheVariants.{Key, Time}
+use Rattle.histories.specs.declared.step.Reply.{Reply}
+use Rattle.histories.specs.declared.step.Reply.TheVariants.{Begun, Done, Refused}
+use Rattle.histories.specs.declared.step.Step.{Step}
+use Rattle.histories.specs.declared.step.Step.TheVariants.{Begin as BeginStep, Commit as CommitStep, Rollback, Select, SplitKey, SplitTime}
+use Rattle.histories.specs.Misfit.{max_session, misfit}
+use Rattle.histories.specs.History.{History, begins, commit_reply, ends, is_write_of, log, reply, snap, writer}
+use Rattle.journal.specs.declared.entry.Entry.{Entry}
+use Rattle.journal.specs.declared.entry.Entry.TheVariants.{Begin, Commit, Split, Install}
+use Rattle.journal.specs.Entries.{Entries, entry_at, log as journal_log}
+use Rattle.book.specs.Book.{BookState, IsBook, Adds}
+use Rattle.sessions.specs.SessionState.{RunningState, SessionState, WithWrites, own_in, with_transaction, write_in}
+use Rattle.sessions.specs.OfHistory.{IsIn, seen_at}
+use Rattle.sessions.specs.Store.{IsBegun, IsCommitted, IsSplitOf}
+
+-- what the step is answered that the entry was made for
+abbrev pub entry_reply : Entry → Reply
+entry_reply (Begin session earlier view) = Begun (view_last view)
+entry_reply (Commit session begin net reading end) = commit_reply end
+entry_reply (Split cut done) = Done
+entry_reply (Install rect block done) = Done
+
+-- the open transaction's begin stands in the journal, and saw what the history's snapshot has
+abbrev pub BeganIn : Entries → Schema → History → ℕ → Option RunningState → Type 0
+BeganIn j schema h i None = Unit {0}
+BeganIn j schema h i (Some t) =
+    (entry_at j t.begun.number ≡ Some (Begin i t.begun.earlier t.view))
+    × (view_last t.view ≡ snap schema h i) × Holds schema t.view (seen_at schema h i)
+
+-- the journal's log is the history's, and the session has open what the history has
+pub record IsBeside (j : Entries) (s : SessionState) (h : History) : Type 0 where
+  pub in_range : s.number ≤ max_session
+  pub log_is : journal_log j ≡ log s.schema h
+  pub is_in : IsIn (seen_at s.schema h s.number) s h
+  pub began : BeganIn j s.schema h s.number s.transaction
+
+-- under the lock there is one entry more
+pub record Grows (s : SessionState) (e : Entry) (number : ℕ) (old new : BookState) : Type 0 where
+  pub was : IsBook s.schema old
+  pub is : IsBook s.schema new
+  pub adds : Adds e number old new
+
+-- a BEGIN answers the history's last instant, and then the session has open what the history has
+abbrev pub BeginsAnswerAlike : Type 0
+BeginsAnswerAlike =
+    (old new : SessionState) (b c : BookState) (h : History) (number : ℕ) (e : Entry)
+    → IsBeside b.entries old h → old.transaction ≡ None → Grows old e number b c
+    → IsBegun old new number e
+    → (entry_reply e ≡ reply old.schema h (BeginStep old.number))
+    × IsBeside c.entries new (BeginStep old.number ∷ h)
+
+-- a COMMIT answers the history's outcome, an instant or none or a refusal, and leaves its log
+abbrev pub CommitsAnswerAlike : Type 0
+CommitsAnswerAlike =
+    (old new : SessionState) (b c : BookState) (h : History) (reading number : ℕ) (e : Entry)
+    → IsBeside b.entries old h → Grows old e number b c → IsCommitted old new reading number e
+    → (entry_reply e ≡ reply old.schema h (CommitStep old.number reading))
+    × IsBeside c.entries new (CommitStep old.number reading ∷ h)
+
+-- a step that splits at the cut
+abbrev pub IsSplitStep : Cut → Step → Type 0
+IsSplitStep cut (SplitKey key) = cut ≡ Key (bytes_of_key key)
+IsSplitStep cut (SplitTime key instant) = cut ≡ Time (bytes_of_key key) instant
+IsSplitStep cut _ = ⊥
+
+-- a split of a key that fits answers what the history's does, whether it was done or not, and
+-- changes nothing of any session
+abbrev pub SplitsAnswerAlike : Type 0
+SplitsAnswerAlike =
+    (s : SessionState) (j : Entries) (h : History) (cut : Cut) (step : Step) (e : Entry)
+    → IsBeside j s h → IsSplitStep cut step → misfit s.schema step ≡ None → IsSplitOf cut e
+    → (entry_reply e ≡ reply s.schema h step) × IsBeside (e ∷ j) s (step ∷ h)
+
+-- a BEGIN with one open and a COMMIT with none are refused as the history refuses them
+abbrev pub RefusedAlike : Type 0
+RefusedAlike =
+    (s : SessionState) (j : Entries) (h : History) → IsBeside j s h
+    → (s.transaction ≢ None → Refused InTransaction ≡ reply s.schema h (BeginStep s.number))
+    × ((reading : ℕ) → s.transaction ≡ None
+    → Refused NoTransaction ≡ reply s.schema h (CommitStep s.number reading))
+
+-- the step neither begins nor ends nor writes for the session
+pub record IsOfAnother (i : ℕ) (step : Step) : Type 0 where
+  pub no_begin : begins i step ≡ false
+  pub no_end : ends i step ≡ false
+  pub no_write : is_write_of i step ≡ false
+
+-- a step of another session changes nothing of what a session has open
+abbrev pub OthersLeaveAlike : Type 0
+OthersLeaveAlike =
+    (s : SessionState) (j more : Entries) (h : History) (step : Step)
+    → IsBeside j s h → IsOfAnother s.number step
+    → journal_log (more ++ j) ≡ log s.schema (step ∷ h)
+    → IsBeside (more ++ j) s (step ∷ h)
+
+-- what a session does without the store keeps it beside the history: a write that leaves what the
+-- definitions say, a query, and a rollback
+abbrev pub OwnStepsStayBeside : Type 0
+OwnStepsStayBeside =
+    (old new : SessionState) (j : Entries) (h : History) (step : Step) → IsBeside j old h
+    → (writer step ≡ Some old.number → WithWrites old new
+    → own_in (seen_at old.schema h old.number) new
+    ≡ (write_in old step (own_in (seen_at old.schema h old.number) old)).1
+    → IsBeside j new (step ∷ h))
+    × ((form : Form) (keys : Keys) → IsBeside j old (Select old.number form keys ∷ h))
+    × IsBeside j (with_transaction old None) (Rollback old.number ∷ h)

@@ -1,0 +1,29 @@
+use denote.Param.Send.{IsSend, IsSync, sendable}
+use Rattle.std.proofs.Common.{rules}
+use Rattle.std.proofs.Crossing.{crosses}
+use Rattle.sessions.proofs.Crossing.{receipt_send, receipt_field_send, store_sync}
+use Rattle.sessions_tests.proofs.thread_tests.fn.hire_in_threads.scope.Goals as goal
+
+pub spawn-first-requires-send-F : goal.spawn-first-requires-send-F
+spawn-first-requires-send-F g c κs = λ within.
+    let named : IsSend g.row.J = search (rules, c.requires) parts 8 in
+    let handle : IsSync g.row.R = search (rules, c.requires) parts 8 in
+    search (store_sync, sendable, crosses) depth 60 fits 20000
+
+pub spawn-first-requires-send-T : goal.spawn-first-requires-send-T
+spawn-first-requires-send-T g c κs = λ within.
+    let named : IsSend g.row.J = search (rules, c.requires) parts 8 in
+    let handle : IsSync g.row.R = search (rules, c.requires) parts 8 in
+    search (receipt_send, receipt_field_send, sendable, crosses) depth 60 fits 20000
+
+pub spawn-second-requires-send-F : goal.spawn-second-requires-send-F
+spawn-second-requires-send-F g c κs = λ within.
+    let named : IsSend g.row.J = search (rules, c.requires) parts 8 in
+    let handle : IsSync g.row.R = search (rules, c.requires) parts 8 in
+    search (store_sync, sendable, crosses) depth 60 fits 20000
+
+pub spawn-second-requires-send-T : goal.spawn-second-requires-send-T
+spawn-second-requires-send-T g c κs = λ within.
+    let named : IsSend g.row.J = search (rules, c.requires) parts 8 in
+    let handle : IsSync g.row.R = search (rules, c.requires) parts 8 in
+    search (receipt_send, receipt_field_send, sendable, crosses) depth 60 fits 20000
