@@ -1,0 +1,7 @@
+pub mod Feeding
+pub mod Joining
+pub mod Opening
+pub mod Refusing
+pub mod Starting
+pub mod Telling
+pub mod Writing

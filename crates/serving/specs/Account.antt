@@ -1,0 +1,75 @@
+-- What is kept of the lines of a served session, and what serving some of them did.
+use Rattle.std.specs.Prelude.{◌≡◌, ◌⊎◌, ℕ, List, ◌++◌, Option, is_some, if◌then◌else◌}
+use Rattle.std.specs.Io.KnownBytes.{Appends, Keeps}
+use Rattle.statement.specs.Writer.{AppendsFront}
+use Rattle.lines.specs.Partial.{Partial}
+use Rattle.lines.specs.Lines.{EndsLines, lines_from}
+use Rattle.sessions.specs.SessionState.{SessionState}
+use Rattle.serving.specs.declared.told.Told.{Told}
+use Rattle.serving.specs.Taken.{Given, Progress}
+use Rattle.serving.specs.Served.{Serves}
+use Rattle.serving.specs.Serving.{IsAt}
+
+-- what is told of each line, the receipts that the lines took, and for how many more there is room
+pub record AccountState : Type 0 where
+  pub told : List Told
+  pub given : List Given
+  pub room : ℕ
+
+abbrev pub taken_by : {A : Type 0} → Option A → ℕ
+taken_by receipt = if is_some receipt then 1 else 0
+
+-- some lines were served with this text: whatever the session had come to, it goes on from there
+pub record Served (lines : List Partial) (out : List ℕ) (old new : SessionState) (a b : AccountState)
+    : Type 0 where
+  pub told : List Told
+  pub given : List Given
+  pub told_is : b.told ≡ a.told ++ told
+  pub given_is : b.given ≡ a.given ++ given
+  pub schema_is : new.schema ≡ old.schema
+  pub number_is : new.number ≡ old.number
+  pub steps : (p : Progress) → IsAt old p
+      → (p' : Progress)
+      × (IsAt new p' × Serves old.schema old.number lines told p given out p')
+
+-- and the text was written
+pub record Writes (lines : List Partial) (old new : SessionState) (a b : AccountState)
+    (w w' : Option (List ℕ)) : Type 0 where
+  pub out : List ℕ
+  pub wrote : Appends w w' out
+  pub served : Served lines out old new a b
+
+-- and a front of the text was written
+pub record WritesFront (lines : List Partial) (old new : SessionState) (a b : AccountState)
+    (w w' : Option (List ℕ)) : Type 0 where
+  pub out : List ℕ
+  pub wrote : AppendsFront w w' out
+  pub served : Served lines out old new a b
+
+-- some bytes were taken: the lines that they end were served
+pub record Feeds (line next : Partial) (bytes : List ℕ) (old new : SessionState) (a b : AccountState)
+    (w w' : Option (List ℕ)) : Type 0 where
+  pub lines : List Partial
+  pub ends : EndsLines line bytes lines next
+  pub writes : Writes lines old new a b w w'
+
+-- of some bytes that were read the first lines were served, and then the session ended
+pub record Breaks (line : Partial) (bytes : List ℕ) (old new : SessionState) (a b : AccountState)
+    (w w' : Option (List ℕ)) : Type 0 where
+  pub lines : List Partial
+  pub go_on : (rest : List ℕ)
+      → (more : List Partial) × (lines_from line (bytes ++ rest) ≡ lines ++ more)
+  pub writes : WritesFront lines old new a b w w'
+
+-- none of the lines was taken, and nothing was written
+pub record LeavesAll (old new : SessionState) (a b : AccountState) (w w' : Option (List ℕ)) : Type 0
+  where
+    pub session_is : new ≡ old
+    pub told_is : b.told ≡ a.told
+    pub given_is : b.given ≡ a.given
+    pub wrote : Keeps w w'
+
+-- the session ended in such lines: they were served and a front of the text was written, or none was taken
+abbrev pub IsBroken : List Partial → SessionState → SessionState → AccountState → AccountState
+    → Option (List ℕ) → Option (List ℕ) → Type 0
+IsBroken lines old new a b w w' = WritesFront lines old new a b w w' ⊎ LeavesAll old new a b w w'

@@ -1,0 +1,6 @@
+pub mod Account
+pub mod Line
+pub mod Ends
+pub mod Serving
+pub mod Served
+pub mod Taken

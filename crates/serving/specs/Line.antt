@@ -1,0 +1,52 @@
+-- What serving one line does.
+use Rattle.std.specs.Prelude.{◌≡◌, ◌⊎◌, ℕ, List, [], ◌∷◌, ◌++◌, true, Option, Result, Err}
+use Rattle.std.specs.Io.KnownBytes.{Appends}
+use Rattle.values.specs.declared.refusal.Refusal.{Refusal}
+use Rattle.values.specs.declared.refusal.Refusal.TheVariants.{Memory}
+use Rattle.values.specs.Tables.{Schema}
+use Rattle.histories.specs.declared.step.Step.{Step}
+use Rattle.statement.specs.declared.line.Line.{Line}
+use Rattle.statement.specs.Memory.{UnlessMemory}
+use Rattle.statement.specs.Writer.{AppendsFront}
+use Rattle.lines.specs.Partial.{Partial}
+use Rattle.sessions.specs.SessionState.{SessionState}
+use Rattle.serving.specs.Served.{said, reading_takes}
+use Rattle.serving.specs.Serving.{AnswerState, IsStepped, given_list, refused_of, reply_of, text_of}
+use Rattle.serving.specs.Account.{AccountState, LeavesAll, taken_by}
+
+-- this was read of a line: memory may have run out where reading it takes some
+pub record IsRead (schema : Schema) (i : ℕ) (line : Partial) (r : Result Line Refusal) : Type 0 where
+  pub unless : UnlessMemory r (said schema i line)
+  pub memory : r ≡ Err Memory → reading_takes schema i line ≡ true
+
+-- an answer was taken down
+pub record IsTold (answer : AnswerState) (a b : AccountState) : Type 0 where
+  pub told_is : b.told
+      ≡ a.told ++ record { taken = taken_by answer.given; refused = refused_of answer.sent } ∷ []
+  pub given_is : b.given ≡ a.given ++ given_list answer.given
+
+-- a step was taken, and taken down
+pub record IsTaken (step : Step) (answer : AnswerState) (old new : SessionState) (a b : AccountState)
+    : Type 0 where
+  pub stepped : IsStepped step old new answer
+  pub told : IsTold answer a b
+
+-- and what is sent for it was written
+pub record Sends (step : Step) (old new : SessionState) (a b : AccountState) (w w' : Option (List ℕ))
+    : Type 0 where
+  pub answer : AnswerState
+  pub taken : IsTaken step answer old new a b
+  pub wrote : Appends w w' (text_of (reply_of answer))
+
+-- or a front of that
+pub record SendsFront (step : Step) (old new : SessionState) (a b : AccountState)
+    (w w' : Option (List ℕ)) : Type 0 where
+  pub answer : AnswerState
+  pub taken : IsTaken step answer old new a b
+  pub wrote : AppendsFront w w' (text_of (reply_of answer))
+
+-- the session ended in a step: it was taken, or nothing was done
+abbrev pub IsBrokenStep : Step → SessionState → SessionState → AccountState → AccountState
+    → Option (List ℕ) → Option (List ℕ) → Type 0
+IsBrokenStep step old new a b w w' =
+    SendsFront step old new a b w w' ⊎ LeavesAll old new a b w w'

@@ -1,0 +1,113 @@
+-- What a served session has come to, and what a step makes of it.
+use Rattle.std.specs.Prelude.{◌≡◌, ◌⊎◌, ℕ, List, [], ◌∷◌, Bool, Option, Some, None, Result, Ok, Err}
+use Rattle.values.specs.declared.refusal.Refusal.{Refusal}
+use Rattle.values.specs.declared.refusal.Refusal.TheVariants.{Memory, JournalFull}
+use Rattle.values.specs.declared.query.Form.{Form}
+use Rattle.values.specs.declared.query.Keys.{Keys}
+use Rattle.values.specs.Tables.{Schema}
+use Rattle.staging.specs.View.{Holds}
+use Rattle.staging.specs.Own.{own}
+use Rattle.validation.specs.declared.cut.Cut.{Cut}
+use Rattle.histories.specs.declared.step.Listing.{Listing}
+use Rattle.histories.specs.declared.step.Step.{Step}
+use Rattle.histories.specs.declared.step.Reply.{Reply}
+use Rattle.histories.specs.declared.step.Reply.TheVariants.{Refused, Shown, Done}
+use Rattle.histories.specs.History.{commit_reply}
+use Rattle.statement.specs.Print.{refusal_text, reply_text}
+use Rattle.journal.specs.declared.entry.Entry.{Entry}
+use Rattle.journal.specs.declared.entry.Entry.TheVariants.{Begin, Commit, Split, Install}
+use Rattle.sessions.specs.SessionState.{IsSelect, RunningState, SessionState}
+use Rattle.serving.specs.declared.answer.Sent.{Sent}
+use Rattle.serving.specs.declared.answer.Sent.TheVariants.{Reply as Replies, Ending, Refused as Refuses}
+use Rattle.serving.specs.Taken.{Given, Opened, Progress, Takes, IsRefusedStep}
+
+-- how a step was answered: with the receipt that it took, if it took one
+pub record AnswerState : Type 0 where
+  pub given : Option Given
+  pub sent : Sent
+
+abbrev pub given_list : Option Given → List Given
+given_list None = []
+given_list (Some g) = g ∷ []
+
+-- how the commit of an entry ended
+abbrev pub ending_in : Entry → Reply
+ending_in (Commit session begin net reading end) = commit_reply end
+ending_in (Begin session earlier view) = Done
+ending_in (Split cut done) = Done
+ending_in (Install rect block done) = Done
+
+abbrev pub ending_of : Option Given → Reply
+ending_of None = Done
+ending_of (Some g) = ending_in g.entry
+
+-- the reply that is sent, or why the step is refused
+abbrev pub reply_by : Option Given → Sent → Result Reply Refusal
+reply_by given (Replies reply) = Ok reply
+reply_by given Ending = Ok (ending_of given)
+reply_by given (Refuses refusal) = Err refusal
+
+abbrev pub reply_of : AnswerState → Result Reply Refusal
+reply_of a = reply_by a.given a.sent
+
+abbrev pub refused_of : Sent → Option Refusal
+refused_of (Refuses refusal) = Some refusal
+refused_of (Replies reply) = None
+refused_of Ending = None
+
+abbrev pub text_of : Result Reply Refusal → List ℕ
+text_of (Ok reply) = reply_text reply
+text_of (Err refusal) = refusal_text refusal
+
+-- what is sent for a refusal: memory that ran out is no reply
+abbrev pub sent_refusal : Refusal → Sent
+sent_refusal Memory = Refuses Memory
+sent_refusal refusal = Replies (Refused refusal)
+
+abbrev pub sent_listing : Result Listing Refusal → Sent
+sent_listing (Ok listing) = Replies (Shown listing)
+sent_listing (Err refusal) = sent_refusal refusal
+
+-- what is sent for a query of a session
+abbrev pub IsSentFor : SessionState → Form → Keys → Sent → Type 0
+IsSentFor s form keys sent =
+    (listing : Result Listing Refusal)
+    × (IsSelect s form keys listing × (sent ≡ sent_listing listing))
+
+-- a session's transaction is this
+pub record IsOpened (schema : Schema) (t : RunningState) (o : Opened) : Type 0 where
+  pub begin_is : o.begin ≡ t.begun.number
+  pub held : Holds schema t.view o.changes
+  pub own_is : o.own ≡ own o.changes t.writes
+
+abbrev pub IsOpenAs : Schema → Option RunningState → Option Opened → Type 0
+IsOpenAs schema None None = Unit {0}
+IsOpenAs schema (Some t) (Some o) = IsOpened schema t o
+IsOpenAs schema (Some t) None = ⊥
+IsOpenAs schema None (Some o) = ⊥
+
+-- a session has come to this
+pub record IsAt (s : SessionState) (p : Progress) : Type 0 where
+  pub receipt_is : p.receipt ≡ s.receipt
+  pub open_is : IsOpenAs s.schema s.transaction p.transaction
+
+-- a step is replied to, or refused
+abbrev pub IsReplied : Schema → ℕ → Step → Progress → List Given → Result Reply Refusal → Progress
+    → Type 0
+IsReplied schema i step p given (Ok reply) p' = Takes schema i step p given reply p'
+IsReplied schema i step p given (Err refusal) p' = IsRefusedStep schema i step p given refusal p'
+
+-- what an answer to a step makes of a session, whatever it has come to
+pub record IsStepped (step : Step) (old new : SessionState) (a : AnswerState) : Type 0 where
+  pub schema_is : new.schema ≡ old.schema
+  pub number_is : new.number ≡ old.number
+  pub steps : (p : Progress) → IsAt old p
+      → (p' : Progress)
+      × (IsAt new p' × IsReplied old.schema old.number step p (given_list a.given) (reply_of a) p')
+
+-- a cut was made, if it lies inside a node, and its receipt tells whether; or there was no room for it
+abbrev pub IsCutBy : Cut → Option Given → Result Reply Refusal → Type 0
+IsCutBy cut None (Err refusal) = (refusal ≡ JournalFull) ⊎ (refusal ≡ Memory)
+IsCutBy cut (Some g) (Ok reply) = (done : Bool) × ((g.entry ≡ Split cut done) × (reply ≡ Done))
+IsCutBy cut None (Ok reply) = ⊥
+IsCutBy cut (Some g) (Err refusal) = ⊥

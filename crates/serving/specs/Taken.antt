@@ -1,0 +1,214 @@
+-- How a step of a served session is taken: the receipts that it takes, its reply, and what it leaves.
+use Rattle.std.specs.Prelude.{◌≡◌, ℕ, List, [], ◌∷◌, Bool, true, false, Option, Some, None, Result, ◌==◌, ◌||◌, is_some, is_none, MatchOption}
+use Rattle.std.specs.Option.{option_map}
+use Rattle.values.specs.declared.key.Key.{Key}
+use Rattle.values.specs.declared.table.Table.{Table}
+use Rattle.values.specs.declared.query.Form.{Form}
+use Rattle.values.specs.declared.query.Form.TheVariants.{Plain, AsOf, FromTo, Between}
+use Rattle.values.specs.declared.query.Keys.{Keys}
+use Rattle.values.specs.declared.refusal.Refusal.{Refusal}
+use Rattle.values.specs.declared.refusal.Refusal.TheVariants.{NoTable, NoTransaction, InTransaction, JournalFull, Memory}
+use Rattle.values.specs.Tables.{Schema, table_at}
+use Rattle.values.specs.KeyEncoding.{bytes_of_key}
+use Rattle.values.specs.Log.{Changes, rows_after}
+use Rattle.values.specs.Versions.{answer}
+use Rattle.values.specs.Writes.{Own, net_of}
+use Rattle.tsbtree.specs.View.{TreeState, last}
+use Rattle.staging.specs.View.{Holds}
+use Rattle.staging.specs.Own.{own}
+use Rattle.validation.specs.declared.cut.Cut.{Cut}
+use Rattle.validation.specs.declared.cut.Cut.TheVariants.{Key as KeyCut, Time as TimeCut}
+use Rattle.histories.specs.declared.step.Listing.{Listing}
+use Rattle.histories.specs.declared.step.Listing.TheVariants.{Rows}
+use Rattle.histories.specs.declared.step.Step.{Step}
+use Rattle.histories.specs.declared.step.Step.TheVariants.{Begin, Insert, Update, Delete, Select, Commit, Rollback, SplitKey, SplitTime, Migrate}
+use Rattle.histories.specs.declared.step.Reply.{Reply}
+use Rattle.histories.specs.declared.step.Reply.TheVariants.{Begun, Shown, RolledBack, Done, Refused}
+use Rattle.histories.specs.Misfit.{misfit, key_misfit}
+use Rattle.histories.specs.History.{commit_reply, rows_taken, written_reply}
+use Rattle.transaction.specs.Listing.{as_listing}
+use Rattle.journal.specs.declared.entry.Entry.{Entry}
+use Rattle.journal.specs.declared.entry.Entry.TheVariants.{Begin as Begins, Commit as Commits, Split as Splits}
+use Rattle.sessions.specs.SessionState.{write_by}
+
+-- a receipt: an entry of the journal, and its number
+pub record Given : Type 0 where
+  pub number : ℕ
+  pub entry : Entry
+
+-- an open transaction: its begin's number, what was committed when it began, and its own rows and keys
+pub record Opened : Type 0 where
+  pub begin : ℕ
+  pub changes : Changes
+  pub own : Own
+
+-- what lines leave: the number of the session's last receipt, and its open transaction or none
+pub record Progress : Type 0 where
+  pub receipt : ℕ
+  pub transaction : Option Opened
+
+abbrev pub after : ℕ → Option Opened → Progress
+after receipt transaction = record { receipt = receipt; transaction = transaction }
+
+-- a transaction that has written nothing
+abbrev pub opened : ℕ → Changes → Opened
+opened begin m = record { begin = begin; changes = m; own = own m [] }
+
+-- what a query of a table shows: a plain one the rows that the transaction sees, any other what was committed when it began
+abbrev pub listed : Changes → Own → Table → Form → Keys → Listing
+listed m o table Plain keys = Rows (rows_taken table keys o.rows)
+listed m o table (AsOf t) keys = as_listing (AsOf t) (answer m table (AsOf t) keys)
+listed m o table (FromTo a b) keys = as_listing (FromTo a b) (answer m table (FromTo a b) keys)
+listed m o table (Between a b) keys = as_listing (Between a b) (answer m table (Between a b) keys)
+
+-- with these of its rows and keys
+abbrev pub with_own : Option Opened → Option Own → Option Opened
+with_own (Some t) (Some o) = Some (record { begin = t.begin; changes = t.changes; own = o })
+with_own t o = None
+
+abbrev pub own_of : Option Opened → Option Own
+own_of t = option_map (λ t. t.own) t
+
+-- no receipt, this reply, and nothing is changed
+pub record Replies (said : Reply) (p : Progress) (given : List Given) (reply : Reply) (p' : Progress)
+    : Type 0 where
+  pub takes : given ≡ []
+  pub reply_is : reply ≡ said
+  pub left : p' ≡ p
+
+module _ (schema : Schema) (i : ℕ) where
+  -- the receipt of the session's begin, which sees these changes, and names its receipt before or none
+  pub record IsBegin (p : Progress) (m : Changes) (view : TreeState) (g : Given) : Type 0 where
+    pub earlier : ℕ
+    pub entry_is : g.entry ≡ Begins i earlier view
+    pub names : ((earlier == 0) || (earlier == p.receipt)) ≡ true
+    pub held : Holds schema view m
+
+  -- BEGIN with none open
+  pub record TakesBegin (p : Progress) (given : List Given) (reply : Reply) (p' : Progress) : Type 0
+    where
+      pub receipt : Given
+      pub changes : Changes
+      pub view : TreeState
+      pub takes : given ≡ receipt ∷ []
+      pub begins : IsBegin p changes view receipt
+      pub reply_is : reply ≡ Begun (last view)
+      pub left : p' ≡ after receipt.number (Some (opened receipt.number changes))
+
+  -- what a query answers
+  abbrev pub query : Changes → Own → Form → Keys → Reply
+  query m o form keys = elim (misfit schema (Select i form keys)) [
+    | Some refusal ↦ Refused refusal
+    | None ↦ elim (table_at schema keys.table) [
+      | None ↦ Refused NoTable
+      | Some table ↦ Shown (listed m o table form keys)
+    ]
+  ]
+
+  -- SELECT with none open: a begin, the query, and a rollback
+  pub record TakesQuery (form : Form) (keys : Keys) (p : Progress) (given : List Given)
+      (reply : Reply) (p' : Progress) : Type 0 where
+    pub receipt : Given
+    pub changes : Changes
+    pub view : TreeState
+    pub takes : given ≡ receipt ∷ []
+    pub begins : IsBegin p changes view receipt
+    pub reply_is : reply ≡ query changes (own changes []) form keys
+    pub left : p' ≡ after receipt.number None
+
+  -- COMMIT: its receipt names the transaction's begin, with its net changes, and tells how it ended
+  pub record TakesCommit (t : Opened) (given : List Given) (reply : Reply) (p' : Progress) : Type 0
+    where
+      pub receipt : Given
+      pub reading : ℕ
+      pub end : Result (Option ℕ) Refusal
+      pub takes : given ≡ receipt ∷ []
+      pub entry_is : receipt.entry
+          ≡ Commits i t.begin (net_of (rows_after [] t.changes) t.own.rows t.own.written) reading end
+      pub reply_is : reply ≡ commit_reply end
+      pub left : p' ≡ after receipt.number None
+
+  -- a write: what the definitions answer and leave
+  pub record TakesWrite (step : Step) (p : Progress) (given : List Given) (reply : Reply)
+      (p' : Progress) : Type 0 where
+    pub takes : given ≡ []
+    pub reply_is : reply
+        ≡ written_reply step (write_by schema step (misfit schema step) (own_of p.transaction)).0
+    pub left : p' ≡ after p.receipt (with_own p.transaction
+        (write_by schema step (misfit schema step) (own_of p.transaction)).1)
+
+  -- SPLIT: its receipt tells whether it was done
+  pub record TakesSplit (cut : Cut) (p : Progress) (given : List Given) (reply : Reply)
+      (p' : Progress) : Type 0 where
+    pub receipt : Given
+    pub done : Bool
+    pub takes : given ≡ receipt ∷ []
+    pub entry_is : receipt.entry ≡ Splits cut done
+    pub reply_is : reply ≡ Done
+    pub left : p' ≡ p
+
+  abbrev pub takes_split : Key → Cut → Progress → List Given → Reply → Progress → Type 0
+  takes_split key cut p given reply p' = elim (key_misfit schema key) [
+    | Some refusal ↦ Replies (Refused refusal) p given reply p'
+    | None ↦ TakesSplit cut p given reply p'
+  ]
+
+  -- how a step of the session is taken
+  abbrev pub Takes : Step → Progress → List Given → Reply → Progress → Type 0
+  Takes (Begin j) p given reply p' = MatchOption p.transaction
+      (TakesBegin p given reply p')
+      (λ t. Replies (Refused InTransaction) p given reply p')
+  Takes (Insert j number rows) p given reply p' = TakesWrite (Insert i number rows) p given reply p'
+  Takes (Update j keys sets) p given reply p' = TakesWrite (Update i keys sets) p given reply p'
+  Takes (Delete j keys) p given reply p' = TakesWrite (Delete i keys) p given reply p'
+  Takes (Select j form keys) p given reply p' = MatchOption p.transaction
+      (TakesQuery form keys p given reply p')
+      (λ t. Replies (query t.changes t.own form keys) p given reply p')
+  Takes (Commit j reading) p given reply p' = MatchOption p.transaction
+      (Replies (Refused NoTransaction) p given reply p')
+      (λ t. TakesCommit t given reply p')
+  Takes (Rollback j) p given reply p' = MatchOption p.transaction
+      (Replies (Refused NoTransaction) p given reply p')
+      (λ t. Replies RolledBack (after p.receipt None) given reply p')
+  Takes (SplitKey key) p given reply p' = takes_split key (KeyCut (bytes_of_key key)) p given reply p'
+  Takes (SplitTime key instant) p given reply p' =
+      takes_split key (TimeCut (bytes_of_key key) instant) p given reply p'
+  Takes Migrate p given reply p' = Replies Done p given reply p'
+
+  -- the step asks the store for an entry
+  abbrev pub asks_store : Step → Option Opened → Bool
+  asks_store (Begin j) t = is_none t
+  asks_store (Select j form keys) t = is_none t
+  asks_store (Commit j reading) t = is_some t
+  asks_store (SplitKey key) t = true
+  asks_store (SplitTime key instant) t = true
+  asks_store step t = false
+
+  -- what the store may refuse a step for, beside want of memory: a full journal, and a COMMIT also for a transaction that is not open there
+  abbrev pub may_be_refused : Step → Option Opened → Refusal → Bool
+  may_be_refused step t Memory = true
+  may_be_refused step t JournalFull = asks_store step t
+  may_be_refused (Commit j reading) t NoTransaction = is_some t
+  may_be_refused step t refusal = false
+
+  -- a step is refused so, and changes nothing but that a SELECT may have begun
+  pub record IsTurnedAway (step : Step) (p : Progress) (given : List Given) (refusal : Refusal)
+      (p' : Progress) : Type 0 where
+    pub may : may_be_refused step p.transaction refusal ≡ true
+    pub takes : given ≡ []
+    pub left : p' ≡ p
+
+  -- a SELECT with none open began, and memory ran out
+  pub record IsLeftUnread (p : Progress) (given : List Given) (refusal : Refusal) (p' : Progress)
+      : Type 0 where
+    pub receipt : Given
+    pub changes : Changes
+    pub view : TreeState
+    pub takes : given ≡ receipt ∷ []
+    pub begins : IsBegin p changes view receipt
+    pub refusal_is : refusal ≡ Memory
+    pub left : p' ≡ after receipt.number None
+
+  abbrev pub IsRefusedStep : Step → Progress → List Given → Refusal → Progress → Type 0
+  IsRefusedStep step p (g ∷ given) refusal p' = (p.transaction ≡ None) × IsLeftUnread p (g ∷ given) refusal p'
+  IsRefusedStep step p [] refusal p' = IsTurnedAway step p [] refusal p'

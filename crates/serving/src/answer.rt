@@ -1,0 +1,125 @@
+//! What is sent for a step.
+ghost use Rattle.std.specs.Prelude.{◌≡◌};
+ghost use Rattle.statement.specs.Writer.{Puts};
+ghost use Rattle.statement.specs.Print.{reply_text};
+ghost use Rattle.histories.specs.History.{commit_reply};
+ghost use Rattle.serving.specs.Serving.{ending_in};
+
+use growlog::StoreName;
+use histories::Reply;
+use journal::{Entry, Receipt};
+use rows::{Instant, Refusal};
+use statement::{WriteFault, print_refusal, print_reply};
+use std::io::Write;
+use std::marker::Model;
+
+/// What is sent for a step.
+#[derive(Drop)]
+pub(crate) enum Sent {
+    Reply(Reply),
+    /// How the commit ended whose receipt was taken.
+    Ending,
+    /// Why it was refused, where it is as if it had not been asked.
+    Refused(Refusal),
+}
+
+/// How a step was answered, with the receipt that it took, if it took one.
+#[derive(Drop)]
+pub(crate) struct Answer<J: StoreName> {
+    pub(crate) receipt: Option<Receipt<J>>,
+    pub(crate) sent: Sent,
+}
+
+impl<J: StoreName> Model for Answer<J> {
+    ghost use Rattle.std.specs.Option.{option_map};
+    ghost use Rattle.serving.specs.Serving.{AnswerState};
+
+    ghost Value = { AnswerState };
+
+    ghost view = { λ a. record {
+      given = option_map (λ r. record { number = r.number; entry = r.entry }) a.receipt;
+      sent = a.sent;
+    } };
+}
+
+impl<J: StoreName> Answer<J> {
+    ghost use Rattle.std.specs.Prelude.{None};
+    ghost use Rattle.std.specs.Option.{option_map};
+    ghost use Rattle.serving.specs.Serving.{refused_of, reply_of, text_of};
+
+    /// A reply with no receipt.
+    pub(crate) fn reply(reply: Reply) -> Answer<J>
+        ensures { result ≡ record { given = None; sent = Sent.Reply reply } }
+    {
+        Answer {
+            receipt: None,
+            sent: Sent::Reply(reply),
+        }
+    }
+
+    /// A refusal with no receipt.
+    pub(crate) fn refused(refusal: Refusal) -> Answer<J>
+        ensures { result ≡ record { given = None; sent = Sent.Refused refusal } }
+    {
+        Answer {
+            receipt: None,
+            sent: Sent::Refused(refusal),
+        }
+    }
+
+    /// The receipt, and why the step was refused, if it was.
+    pub(crate) fn into_parts(self) -> (Option<Receipt<J>>, Option<Refusal>)
+        ensures receipt { option_map (λ r. record { number = r.number; entry = r.entry }) result.0
+            ≡ self.given }
+        ensures refused { result.1 ≡ refused_of self.sent }
+    {
+        let Answer { receipt, sent } = self;
+        match sent {
+            Sent::Refused(refusal) => (receipt, Some(refusal)),
+            Sent::Reply(_) => (receipt, None),
+            Sent::Ending => (receipt, None),
+        }
+    }
+
+    /// Writes what is sent.
+    pub(crate) fn print<W: Write>(&self, writer: &mut W) -> Result<(), WriteFault>
+        ensures { Puts (W.contents writer.old) (W.contents writer.new) result
+            (text_of (reply_of self.now)) }
+    {
+        match &self.sent {
+            Sent::Reply(reply) => print_reply(writer, reply),
+            Sent::Refused(refusal) => print_refusal(writer, refusal),
+            Sent::Ending => match &self.receipt {
+                Some(receipt) => print_ending(writer, receipt.entry.entry()),
+                None => print_reply(writer, &Reply::Done),
+            },
+        }
+    }
+}
+
+/// Writes how the commit of an entry ended.
+fn print_ending<W: Write>(writer: &mut W, entry: &Entry) -> Result<(), WriteFault>
+    ensures { Puts (W.contents writer.old) (W.contents writer.new) result
+        (reply_text (ending_in entry.now)) }
+{
+    match entry {
+        Entry::Commit { end, .. } => print_end(writer, end),
+        Entry::Begin { .. } => print_reply(writer, &Reply::Done),
+        Entry::Split { .. } => print_reply(writer, &Reply::Done),
+        Entry::Install { .. } => print_reply(writer, &Reply::Done),
+    }
+}
+
+/// Writes how a commit ended.
+fn print_end<W: Write>(
+    writer: &mut W,
+    end: &Result<Option<Instant>, Refusal>,
+) -> Result<(), WriteFault>
+    ensures { Puts (W.contents writer.old) (W.contents writer.new) result
+        (reply_text (commit_reply end.now)) }
+{
+    match end {
+        Ok(instant) => print_reply(writer, &Reply::Committed(*instant)),
+        Err(refusal) => print_refusal(writer, refusal),
+    }
+}

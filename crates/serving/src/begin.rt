@@ -1,0 +1,32 @@
+//! BEGIN.
+ghost use Rattle.std.specs.Prelude.{◌≡◌};
+ghost use Rattle.histories.specs.declared.step.Step.TheVariants.{Begin};
+ghost use Rattle.serving.specs.Serving.{IsStepped};
+
+use crate::answer::{Answer, Sent};
+use growlog::StoreName;
+use histories::Reply;
+use rows::Refusal;
+use sessions::{LockedStore, Session};
+use std::sync::Wait;
+
+/// Begins the session's transaction, unless one is open.
+pub(crate) fn take_begin<J: StoreName, R: Wait>(
+    rt: &R,
+    store: &LockedStore<J>,
+    session: &mut Session,
+) -> Answer<J>
+    requires { session.old.schema ≡ J.schema }
+    ensures { IsStepped (Begin session.old.number) session.old session.new result }
+{
+    if session.start().is_some() {
+        return Answer::reply(Reply::Refused(Refusal::InTransaction));
+    }
+    match store.begin(rt, session) {
+        Ok(receipt) => Answer {
+            receipt: Some(receipt),
+            sent: Sent::Reply(Reply::Begun(session.start().unwrap_or(0))),
+        },
+        Err(refusal) => Answer::refused(refusal),
+    }
+}

@@ -1,0 +1,44 @@
+//! COMMIT and ROLLBACK.
+ghost use Rattle.std.specs.Prelude.{◌≡◌};
+ghost use Rattle.histories.specs.declared.step.Step.TheVariants.{Commit, Rollback};
+ghost use Rattle.serving.specs.Serving.{IsStepped};
+
+use crate::answer::{Answer, Sent};
+use crate::gate::Readings;
+use growlog::StoreName;
+use histories::Reply;
+use rows::Refusal;
+use sessions::{LockedStore, Session};
+use std::sync::Wait;
+
+/// Ends the session's transaction, if one is open, by the next reading of the clock.
+pub(crate) fn take_commit<J: StoreName, R: Wait, C: Readings>(
+    rt: &R,
+    store: &LockedStore<J>,
+    session: &mut Session,
+    readings: &mut C,
+) -> Answer<J>
+    requires { session.old.schema ≡ J.schema }
+    ensures { IsStepped (Commit session.old.number 0) session.old session.new result }
+{
+    if session.start().is_none() {
+        return Answer::reply(Reply::Refused(Refusal::NoTransaction));
+    }
+    match store.commit(rt, session, readings.reading()) {
+        Ok(receipt) => Answer {
+            receipt: Some(receipt),
+            sent: Sent::Ending,
+        },
+        Err(refusal) => Answer::refused(refusal),
+    }
+}
+
+/// Ends the session's transaction with no trace, if one is open.
+pub(crate) fn take_rollback<J: StoreName>(session: &mut Session) -> Answer<J>
+    ensures { IsStepped (Rollback session.old.number) session.old session.new result }
+{
+    match session.rollback() {
+        Ok(()) => Answer::reply(Reply::RolledBack),
+        Err(refusal) => Answer::reply(Reply::Refused(refusal)),
+    }
+}

@@ -1,0 +1,20 @@
+//! A session that is served: what it is sent follows from what it sends and from its receipts.
+#![tactic(auto)]
+
+mod account;
+mod answer;
+mod begin;
+mod commit;
+mod gate;
+mod read;
+mod serve;
+mod serve_line;
+mod service;
+mod split;
+mod step;
+mod told;
+mod write;
+
+pub use gate::{Gate, Place, Readings};
+pub use serve::serve_session;
+pub use told::{End, Served, Told};

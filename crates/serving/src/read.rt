@@ -1,0 +1,63 @@
+//! SELECT.
+ghost use Rattle.std.specs.Prelude.{◌≡◌, None};
+ghost use Rattle.histories.specs.declared.step.Step.TheVariants.{Select};
+ghost use Rattle.sessions.specs.SessionState.{with_transaction};
+ghost use Rattle.serving.specs.Serving.{IsSentFor, IsStepped, sent_listing};
+
+use crate::answer::{Answer, Sent};
+use growlog::StoreName;
+use histories::{Listing, Reply};
+use rows::{Form, Keys, Refusal};
+use sessions::{LockedStore, Session};
+use std::sync::Wait;
+
+/// What a query shows; where no transaction is open one begins for it, and is rolled back.
+pub(crate) fn take_query<J: StoreName, R: Wait>(
+    rt: &R,
+    store: &LockedStore<J>,
+    session: &mut Session,
+    form: Form,
+    keys: &Keys,
+) -> Answer<J>
+    requires { session.old.schema ≡ J.schema }
+    ensures { IsStepped (Select session.old.number form keys.now) session.old session.new result }
+{
+    if session.start().is_some() {
+        return Answer {
+            receipt: None,
+            sent: listed(session.select(form, keys)),
+        };
+    }
+    let receipt = match store.begin(rt, session) {
+        Ok(receipt) => receipt,
+        Err(refusal) => return Answer::refused(refusal),
+    };
+    let sent = read_and_roll_back(session, form, keys);
+    Answer {
+        receipt: Some(receipt),
+        sent,
+    }
+}
+
+/// What a query shows in the open transaction, which then ends with no trace.
+fn read_and_roll_back(session: &mut Session, form: Form, keys: &Keys) -> Sent
+    ensures sent { IsSentFor session.old form keys.now result }
+    ensures left { session.new ≡ with_transaction session.old None }
+{
+    let sent = listed(session.select(form, keys));
+    match session.rollback() {
+        Ok(()) => sent,
+        Err(_) => sent,
+    }
+}
+
+/// What is sent for a query.
+fn listed(listing: Result<Listing, Refusal>) -> Sent
+    ensures { result ≡ sent_listing listing }
+{
+    match listing {
+        Ok(listing) => Sent::Reply(Reply::Shown(listing)),
+        Err(Refusal::Memory) => Sent::Refused(Refusal::Memory),
+        Err(other) => Sent::Reply(Reply::Refused(other)),
+    }
+}

@@ -1,0 +1,81 @@
+//! SPLIT.
+ghost use Rattle.std.specs.Prelude.{◌≡◌, IfOk, None};
+ghost use Rattle.values.specs.KeyEncoding.{bytes_of_key};
+ghost use Rattle.values.specs.Memory.{OnlyMemory};
+ghost use Rattle.histories.specs.declared.step.Step.TheVariants.{SplitKey, SplitTime};
+ghost use Rattle.histories.specs.Misfit.{key_misfit};
+ghost use Rattle.serving.specs.Serving.{IsCutBy, IsStepped, reply_of};
+
+use crate::answer::{Answer, Sent};
+use growlog::StoreName;
+use histories::{Reply, key_misfit};
+use rows::{Instant, Key, KeyBytes, Mem, Schema, key_bytes};
+use sessions::{LockedStore, Session};
+use std::alloc::Global;
+use std::sync::Wait;
+use validation::Cut;
+use values::fitting_keys_have_bytes;
+
+/// Splits the current data node of a key there.
+pub(crate) fn take_key_split<J: StoreName, R: Wait>(
+    rt: &R,
+    alloc: Global,
+    store: &LockedStore<J>,
+    session: &mut Session,
+    key: &Key,
+) -> Answer<J>
+    ensures { IsStepped (SplitKey key.now) session.old session.new result }
+{
+    if let Some(refusal) = key_misfit(session.schema(), key) {
+        return Answer::reply(Reply::Refused(refusal));
+    }
+    match fitting_key_bytes(alloc, session.schema(), key) {
+        Ok(bytes) => split(rt, store, Cut::Key(bytes)),
+        Err(refusal) => Answer::refused(refusal),
+    }
+}
+
+/// Splits the current data node of a key at an instant.
+pub(crate) fn take_time_split<J: StoreName, R: Wait>(
+    rt: &R,
+    alloc: Global,
+    store: &LockedStore<J>,
+    session: &mut Session,
+    key: &Key,
+    instant: Instant,
+) -> Answer<J>
+    ensures { IsStepped (SplitTime key.now instant) session.old session.new result }
+{
+    if let Some(refusal) = key_misfit(session.schema(), key) {
+        return Answer::reply(Reply::Refused(refusal));
+    }
+    match fitting_key_bytes(alloc, session.schema(), key) {
+        Ok(bytes) => split(rt, store, Cut::Time(bytes, instant)),
+        Err(refusal) => Answer::refused(refusal),
+    }
+}
+
+fn split<J: StoreName, R: Wait>(rt: &R, store: &LockedStore<J>, cut: Cut) -> Answer<J>
+    ensures { IsCutBy cut result.given (reply_of result) }
+{
+    match store.split(rt, cut) {
+        Ok(receipt) => Answer {
+            receipt: Some(receipt),
+            sent: Sent::Reply(Reply::Done),
+        },
+        Err(refusal) => Answer::refused(refusal),
+    }
+}
+
+/// The bytes of a key that fits its table.
+fn fitting_key_bytes(alloc: Global, schema: &Schema, key: &Key) -> Mem<KeyBytes>
+    requires { key_misfit schema.now key.now ≡ None }
+    ensures ok { IfOk result (λ bytes. bytes ≡ bytes_of_key key.now) }
+    ensures err { OnlyMemory result }
+{
+    fitting_keys_have_bytes();
+    match schema.table_at(key.table) {
+        Some(_) => key_bytes(alloc, key),
+        None => unreachable!(),
+    }
+}

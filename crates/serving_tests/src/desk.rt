@@ -1,0 +1,183 @@
+//! A session that is served round a store of its own.
+ghost use Rattle.std.specs.Prelude.{◌≡◌};
+ghost use Rattle.rows.specs.Sample.{sample};
+
+use growlog::{NewLog, StoreName};
+use journal::{Receipt, SharedEntry};
+use rows::{Instant, Refusal, Schema};
+use serving::{End, Gate, Place, Readings, Told, serve_session};
+use sessions::{LockedStore, Session};
+use std::alloc::Global;
+use std::io;
+use std::io::{ErrorKind, Read, Write};
+use std::marker::Brand;
+use std::sync::Wait;
+
+/// A gate that is open, or that gives up at one place.
+#[derive(Clone, Copy, PartialEq, Eq)]
+pub(crate) enum Door {
+    Open,
+    ShutAt(Place),
+}
+
+impl Gate for Door {
+    fn pass<R: Wait>(&self, _rt: &R, _session: u8, place: Place) -> bool {
+        match self {
+            Door::Open => true,
+            Door::ShutAt(shut) => *shut != place,
+        }
+    }
+}
+
+/// Readings that rise by one, from 10 on.
+#[derive(Clone, Copy)]
+struct Ticks {
+    next: Instant,
+}
+
+impl Readings for Ticks {
+    fn reading(&mut self) -> Instant {
+        let now = self.next;
+        self.next = now.saturating_add(1);
+        now
+    }
+}
+
+/// A reader that gives at most so many bytes at a call, and fails at the call after so many.
+#[derive(Drop)]
+pub(crate) struct Cut<'a> {
+    pub(crate) rest: &'a [u8],
+    pub(crate) most: usize,
+    pub(crate) calls: usize,
+}
+
+impl Read for Cut<'_> {
+    fn read(&mut self, buf: &mut [u8]) -> io::Result<usize> {
+        if self.calls == 0 {
+            return Err(io::Error::from(ErrorKind::Other));
+        }
+        self.calls -= 1;
+        let n = self.rest.len().min(buf.len()).min(self.most);
+        let (front, rest) = self.rest.split_at(n);
+        buf.split_at_mut(n).0.copy_from_slice(front);
+        self.rest = rest;
+        Ok(n)
+    }
+}
+
+/// A writer that takes so many bytes, passes them on so many times, and then fails.
+#[derive(Drop)]
+pub(crate) struct Pipe {
+    pub(crate) taken: Vec<u8>,
+    pub(crate) room: usize,
+    pub(crate) flushes: usize,
+}
+
+impl Write for Pipe {
+    fn write(&mut self, buf: &[u8]) -> io::Result<usize> {
+        if self.room == 0 {
+            return Err(io::Error::from(ErrorKind::Other));
+        }
+        let n = buf.len().min(self.room);
+        self.room -= n;
+        self.taken.extend_from_slice(buf.split_at(n).0)?;
+        Ok(n)
+    }
+
+    fn flush(&mut self) -> io::Result<()> {
+        if self.flushes == 0 {
+            return Err(io::Error::from(ErrorKind::Other));
+        }
+        self.flushes -= 1;
+        Ok(())
+    }
+}
+
+/// What a served session came to: why it ended, how many receipts it took and how many are told of, how many lines, and how many entries the store closes with.
+#[derive(Clone, Copy, Debug, PartialEq, Eq)]
+pub(crate) struct Summary {
+    pub(crate) end: End,
+    pub(crate) receipts: usize,
+    pub(crate) told: usize,
+    pub(crate) lines: usize,
+    pub(crate) entries: Option<usize>,
+}
+
+fn receipts_told(told: &[Told]) -> usize {
+    let mut sum = 0usize;
+    for t in told {
+        sum = sum.saturating_add(usize::from(t.taken));
+    }
+    sum
+}
+
+fn entries_of<J: StoreName>(store: LockedStore<J>, receipts: Vec<Receipt<J>>) -> Option<usize> {
+    match store.close(receipts) {
+        Ok(closed) => Some(closed.entries()),
+        Err(_) => None,
+    }
+}
+
+/// Serves a session, whose number is 3, round a store of the sample tables.
+fn serve<J: StoreName, R: Wait, I: Read, W: Write>(
+    rt: &R,
+    alloc: Global,
+    schema: Schema,
+    opened: NewLog<SharedEntry>,
+    reader: &mut I,
+    writer: &mut W,
+    door: Door,
+) -> Result<Summary, Refusal>
+    requires log { opened.seen.book ≡ J.book }
+    requires tables { schema ≡ J.schema }
+    requires sample { schema ≡ sample }
+{
+    let store = LockedStore::<J>::new(alloc, schema, opened)?;
+    let session = Session::new(alloc, 3, Schema::sample(alloc)?)?;
+    let mut ticks = Ticks { next: 10 };
+    let served = serve_session(
+        rt, alloc, reader, writer, session, &store, &door, &mut ticks,
+    );
+    Ok(Summary {
+        end: served.end,
+        receipts: served.receipts.len(),
+        told: receipts_told(served.told.as_slice()),
+        lines: served.told.len(),
+        entries: entries_of(store, served.receipts),
+    })
+}
+
+/// What comes of a session that is served over this reader and this writer.
+pub(crate) fn summary_of<R: Wait, I: Read, W: Write>(
+    rt: &R,
+    alloc: Global,
+    reader: &mut I,
+    writer: &mut W,
+    door: Door,
+) -> Result<Summary, Refusal> {
+    let schema = Schema::sample(alloc)?;
+    serve::<Brand, _, _, _>(rt, alloc, schema, NewLog::new(), reader, writer, door)
+}
+
+/// What a session is sent for a text, and what comes of it.
+pub(crate) fn sent_for<R: Wait>(
+    rt: &R,
+    alloc: Global,
+    text: &[u8],
+) -> Result<(Vec<u8>, Summary), Refusal> {
+    let mut reader = text;
+    let mut out = Vec::new(alloc);
+    let summary = summary_of(rt, alloc, &mut reader, &mut out, Door::Open)?;
+    Ok((out, summary))
+}
+
+/// A session that ended as `Closed` with so many lines and receipts, which close the store.
+pub(crate) fn closed(lines: usize, receipts: usize) -> Summary {
+    Summary {
+        end: End::Closed,
+        receipts,
+        told: receipts,
+        lines,
+        entries: Some(receipts),
+    }
+}
