@@ -1,0 +1,189 @@
+-- Rectangles read back from their bytes, and nothing else is read.
+use Rattle.std.proofs.Common.{◌≡◌, ℕ, ◌^◌, ◌<◌, ◌≤◌, List, [], ◌∷◌, ◌++◌, Bool, true, false, Option, Some, None, take, drop, refl, sym, subst, ap, ◌∙◌, arith, if◌then◌else◌, append_assoc, IsSome}
+use Rattle.std.specs.Prelude.{nat_eq, nat_le}
+use Rattle.std.specs.Cmp.Lexicographic.{pointwise}
+use Rattle.std.proofs.lemmas.Bool.{and_parts}
+use Rattle.std.proofs.lemmas.Bool.Decides.{nat_tests}
+use Rattle.std.proofs.lemmas.List.{take-append-drop}
+use Rattle.values.specs.RowReading.{Taken}
+use Rattle.values.proofs.RowReads.{chosen, same_taken, AreBytes}
+use Rattle.keyrange.specs.declared.range.KeyRange.{KeyRange}
+use Rattle.keyrange.specs.declared.range.TimeRange.{TimeRange}
+use Rattle.keyrange.specs.Range.{is_before_end, is_early}
+use Rattle.keyrange.specs.Rect.{Area, IsArea, is_area}
+use Rattle.keyrange.specs.Cut.{rect_of}
+use Rattle.blocks.specs.Field.{taken_then, key_field, end_field, instant_field, key_from, end_from, instant_from}
+use Rattle.blocks.specs.Rect.{mark, keys_field, time_field, rect_field, AreShortKeys, mark_from, keys_from, time_from, area_taken, ranges_from, rect_from}
+use Rattle.blocks.proofs.FieldReads.{are_taken, bytes_behind, key_back, key_only, end_back, end_only, instant_back, instant_only}
+
+-- ---- the mark
+
+pub mark_back : (rest : List ℕ) → mark_from (mark ++ rest) ≡ Some rest
+unfolding mark_from
+mark_back rest = refl
+
+same_number : (a b : ℕ) → nat_eq a b ≡ true → a ≡ b
+same_number a b e = grind (arith, nat_tests)
+
+same_lists : (xs ys : List ℕ) → pointwise nat_eq xs ys ≡ true → xs ≡ ys
+same_lists [] [] e = refl
+same_lists [] (y ∷ ys) e = cc
+same_lists (x ∷ xs) [] e = cc
+same_lists (x ∷ xs) (y ∷ ys) e =
+    let two = and_parts (nat_eq x y) (pointwise nat_eq xs ys) e in
+    ap (λ n. n ∷ xs) (same_number x y two.0) ∙ ap (λ l. y ∷ l) (same_lists xs ys two.1)
+
+mark_by : (bytes rest : List ℕ) (t : Bool) → pointwise nat_eq (take 4 bytes) mark ≡ t → ◌≡◌ {A = Option (List ℕ)} (if t then Some (drop 4 bytes) else None) (Some rest) → bytes ≡ mark ++ rest
+mark_by bytes rest false e is = cc
+mark_by bytes rest true e is =
+    let left : drop 4 bytes ≡ rest = cc in
+    sym (take-append-drop 4 bytes) ∙ ap (λ l. l ++ drop 4 bytes) (same_lists (take 4 bytes) mark e) ∙ ap (λ l. mark ++ l) left
+
+pub mark_only : (bytes rest : List ℕ) → mark_from bytes ≡ Some rest → bytes ≡ mark ++ rest
+unfolding mark_from
+mark_only bytes rest is = mark_by bytes rest (pointwise nat_eq (take 4 bytes) mark) refl is
+
+-- ---- keys
+
+keys_back : (keys : KeyRange) (rest : List ℕ) → AreShortKeys keys → keys_from (keys_field keys ++ rest) ≡ Some (keys, rest)
+unfolding keys_from
+keys_back keys rest short =
+    let f : List ℕ → List ℕ → Taken KeyRange = λ lo rest. taken_then (end_from rest) (λ hi left. Some (record { lo = lo; hi = hi }, left)) in
+    ap (λ l. taken_then (key_from l) f) (append_assoc (key_field keys.lo) (end_field keys.hi) rest)
+    ∙ ap (λ t. taken_then t f) (key_back keys.lo (end_field keys.hi ++ rest) short.lower)
+    ∙ ap (λ t. taken_then t (λ hi left. Some (record { lo = keys.lo; hi = hi }, left))) (end_back keys.hi rest short.upper)
+
+record AreKeys (bytes : List ℕ) (keys : KeyRange) (rest : List ℕ) : Type 0 where
+  spelled : bytes ≡ keys_field keys ++ rest
+  short : AreShortKeys keys
+
+keys_only : (bytes : List ℕ) (keys : KeyRange) (rest : List ℕ) → AreBytes bytes → keys_from bytes ≡ Some (keys, rest) → AreKeys bytes keys rest
+unfolding keys_from
+keys_only bytes keys rest h is =
+    let two = are_taken (key_from bytes) (λ lo rest. taken_then (end_from rest) (λ hi left. Some (record { lo = lo; hi = hi }, left))) keys rest is in
+    let key = key_only bytes two.x two.left h two.first in
+    let next = are_taken (end_from two.left) (λ hi left. Some (record { lo = two.x; hi = hi }, left)) keys rest two.second in
+    let end = end_only two.left next.x next.left (bytes_behind bytes (key_field two.x) two.left key.spelled h) next.first in
+    let k : KeyRange = record { lo = two.x; hi = next.x } in
+    let parts = same_taken k keys next.left rest next.second in
+    let here : AreKeys bytes k next.left = record {
+      spelled = key.spelled ∙ ap (λ l. key_field two.x ++ l) end.spelled ∙ sym (append_assoc (key_field two.x) (end_field next.x) next.left);
+      short = record { lower = key.short; upper = end.short };
+    } in
+    subst (λ x. AreKeys bytes x rest) parts.0 (subst (λ l. AreKeys bytes k l) parts.1 here)
+
+-- ---- instants
+
+time_back : (from end : ℕ) (rest : List ℕ) → from < 2 ^ 64 → end < 2 ^ 64 → time_from ((instant_field from ++ instant_field end) ++ rest) ≡ Some (record { from = from; to = Some end }, rest)
+unfolding time_from
+time_back from end rest a b =
+    let f : ℕ → List ℕ → Taken TimeRange = λ from rest. taken_then (instant_from rest) (λ to left. Some (record { from = from; to = Some to }, left)) in
+    ap (λ l. taken_then (instant_from l) f) (append_assoc (instant_field from) (instant_field end) rest)
+    ∙ ap (λ t. taken_then t f) (instant_back from (instant_field end ++ rest) a)
+    ∙ ap (λ t. taken_then t (λ to left. Some (record { from = from; to = Some to }, left))) (instant_back end rest b)
+
+record IsTime (bytes : List ℕ) (time : TimeRange) (rest : List ℕ) : Type 0 where
+  spelled : bytes ≡ time_field time ++ rest
+  ends : IsSome time.to
+
+time_only : (bytes : List ℕ) (time : TimeRange) (rest : List ℕ) → AreBytes bytes → time_from bytes ≡ Some (time, rest) → IsTime bytes time rest
+unfolding time_from
+time_only bytes time rest h is =
+    let two = are_taken (instant_from bytes) (λ from rest. taken_then (instant_from rest) (λ to left. Some (record { from = from; to = Some to }, left))) time rest is in
+    let from = instant_only bytes two.x two.left h two.first in
+    let next = are_taken (instant_from two.left) (λ to left. Some (record { from = two.x; to = Some to }, left)) time rest two.second in
+    let to = instant_only two.left next.x next.left (bytes_behind bytes (instant_field two.x) two.left from h) next.first in
+    let t : TimeRange = record { from = two.x; to = Some next.x } in
+    let parts = same_taken t time next.left rest next.second in
+    let here : IsTime bytes t next.left = record {
+      spelled = from ∙ ap (λ l. instant_field two.x ++ l) to ∙ sym (append_assoc (instant_field two.x) (instant_field next.x) next.left);
+      ends = refl;
+    } in
+    subst (λ x. IsTime bytes x rest) parts.0 (subst (λ l. IsTime bytes t l) parts.1 here)
+
+-- ---- rectangles
+
+-- what a rectangle's bytes ask of it
+pub record IsPast (r : Area) : Type 0 where
+  pub area : IsArea r
+  pub ends : IsSome r.time.to
+  pub short : AreShortKeys r.keys
+
+record Fits (from end : ℕ) : Type 0 where
+  start : from < 2 ^ 64
+  stop : end < 2 ^ 64
+
+fits : (keys : KeyRange) (from end : ℕ) → is_area keys (record { from = from; to = Some end }) ≡ true → Fits from end
+fits keys from end h =
+    let a = and_parts (is_before_end keys.lo keys.hi) _ h in
+    let b = and_parts (nat_le 1 from) _ a.1 in
+    let c = and_parts (nat_le from 999999999999999999) _ b.1 in
+    let d = and_parts (is_early from (Some end)) (nat_le end 999999999999999999) c.1 in
+    let start : from ≤ 999999999999999999 = at_most from c.0 in
+    let stop : end ≤ 999999999999999999 = at_most end d.1 in
+    record { start = omega arith; stop = omega arith }
+  where
+    at_most : (n : ℕ) → nat_le n 999999999999999999 ≡ true → n ≤ 999999999999999999
+    at_most n e = grind (arith, nat_tests)
+
+ranges_back : (r : Area) (end : Option ℕ) (rest : List ℕ) → r.time.to ≡ end → IsSome end → IsArea r → AreShortKeys r.keys → ranges_from ((keys_field r.keys ++ time_field r.time) ++ rest) ≡ Some (r, rest)
+unfolding ranges_from
+ranges_back r None rest e some area short = cc
+ranges_back r (Some end) rest e some area short =
+    let time : TimeRange = record { from = r.time.from; to = Some end } in
+    let is : r.time ≡ time = ap (λ t. record { from = r.time.from; to = t }) e in
+    let both = fits r.keys r.time.from end (subst (λ t. is_area r.keys t ≡ true) is area) in
+    let f : KeyRange → List ℕ → Taken Area = λ keys rest. taken_then (time_from rest) (λ time left. area_taken (rect_of keys time) left) in
+    ap (λ t. taken_then (keys_from ((keys_field r.keys ++ time_field t) ++ rest)) f) is
+    ∙ ap (λ l. taken_then (keys_from l) f) (append_assoc (keys_field r.keys) (time_field time) rest)
+    ∙ ap (λ t. taken_then t f) (keys_back r.keys (time_field time ++ rest) short)
+    ∙ ap (λ t. taken_then t (λ time left. area_taken (rect_of r.keys time) left)) (time_back r.time.from end rest both.start both.stop)
+    ∙ ap (λ t. area_taken (rect_of r.keys t) rest) (sym is)
+    ∙ ap (λ o. area_taken o rest) (chosen (is_area r.keys r.time) (Some r) None area)
+
+pub rect_back : (r : Area) (rest : List ℕ) → IsPast r → rect_from (rect_field r ++ rest) ≡ Some (r, rest)
+unfolding rect_from
+rect_back r rest past =
+    ap (λ (o : Option (List ℕ)). elim o [ None ↦ None | Some l ↦ ranges_from l ]) (mark_back ((keys_field r.keys ++ time_field r.time) ++ rest))
+    ∙ ranges_back r r.time.to rest refl past.ends past.area past.short
+
+pub record IsRect (bytes : List ℕ) (r : Area) (rest : List ℕ) : Type 0 where
+  pub spelled : bytes ≡ rect_field r ++ rest
+  pub past : IsPast r
+
+record AreRanges (bytes : List ℕ) (r : Area) (rest : List ℕ) : Type 0 where
+  spelled : bytes ≡ (keys_field r.keys ++ time_field r.time) ++ rest
+  past : IsPast r
+
+area_by : (bytes : List ℕ) (keys : KeyRange) (time : TimeRange) (left others : List ℕ) (r : Area) (rest : List ℕ) (t : Bool) → is_area keys time ≡ t → AreKeys bytes keys left → IsTime left time others
+    → area_taken (if t then Some (record { keys = keys; time = time }) else None) others ≡ Some (r, rest) → AreRanges bytes r rest
+area_by bytes keys time left others r rest false e k i is = cc
+area_by bytes keys time left others r rest true e k i is =
+    let a : Area = record { keys = keys; time = time } in
+    let parts = same_taken a r others rest is in
+    let here : AreRanges bytes a others = record {
+      spelled = k.spelled ∙ ap (λ l. keys_field keys ++ l) i.spelled ∙ sym (append_assoc (keys_field keys) (time_field time) others);
+      past = record { area = e; ends = i.ends; short = k.short };
+    } in
+    subst (λ x. AreRanges bytes x rest) parts.0 (subst (λ l. AreRanges bytes a l) parts.1 here)
+
+ranges_only : (bytes : List ℕ) (r : Area) (rest : List ℕ) → AreBytes bytes → ranges_from bytes ≡ Some (r, rest) → AreRanges bytes r rest
+unfolding ranges_from
+ranges_only bytes r rest h is =
+    let two = are_taken (keys_from bytes) (λ keys rest. taken_then (time_from rest) (λ time left. area_taken (rect_of keys time) left)) r rest is in
+    let keys = keys_only bytes two.x two.left h two.first in
+    let next = are_taken (time_from two.left) (λ time left. area_taken (rect_of two.x time) left) r rest two.second in
+    let time = time_only two.left next.x next.left (bytes_behind bytes (keys_field two.x) two.left keys.spelled h) next.first in
+    area_by bytes two.x next.x two.left next.left r rest (is_area two.x next.x) refl keys time next.second
+
+rect_by : (bytes : List ℕ) (r : Area) (rest : List ℕ) (o : Option (List ℕ)) → AreBytes bytes → mark_from bytes ≡ o
+    → ◌≡◌ {A = Taken Area} (elim o [ None ↦ None | Some l ↦ ranges_from l ]) (Some (r, rest)) → IsRect bytes r rest
+rect_by bytes r rest None h e is = cc
+rect_by bytes r rest (Some left) h e is =
+    let spelled = mark_only bytes left e in
+    let ranges = ranges_only left r rest (bytes_behind bytes mark left spelled h) is in
+    record { spelled = spelled ∙ ap (λ l. mark ++ l) ranges.spelled; past = ranges.past }
+
+pub rect_only : (bytes : List ℕ) (r : Area) (rest : List ℕ) → AreBytes bytes → rect_from bytes ≡ Some (r, rest) → IsRect bytes r rest
+unfolding rect_from
+rect_only bytes r rest h is = rect_by bytes r rest (mark_from bytes) h refl is

@@ -1,0 +1,66 @@
+-- The rectangle of a block.
+use Rattle.std.specs.Prelude.{ℕ, ◌≤◌, List, [], ◌∷◌, ◌++◌, Option, Some, None, length, take, drop, nat_eq, IfSome, if◌then◌else◌}
+use Rattle.std.specs.Cmp.Lexicographic.{pointwise}
+use Rattle.values.specs.RowReading.{Taken}
+use Rattle.keyrange.specs.declared.range.KeyRange.{KeyRange}
+use Rattle.keyrange.specs.declared.range.TimeRange.{TimeRange}
+use Rattle.keyrange.specs.Rect.{Area}
+use Rattle.keyrange.specs.Cut.{rect_of}
+use Rattle.blocks.specs.Field.{taken_then, key_field, end_field, instant_field, key_from, end_from, instant_from}
+
+-- what each block begins with: TSB1
+abbrev pub mark : List ℕ
+mark = 84 ∷ 83 ∷ 66 ∷ 49 ∷ []
+
+-- ---- what is written
+
+abbrev pub keys_field : KeyRange → List ℕ
+keys_field keys = key_field keys.lo ++ end_field keys.hi
+
+-- only a node of history has an end, and a block
+abbrev pub time_end_field : Option ℕ → List ℕ
+time_end_field None = []
+time_end_field (Some end) = instant_field end
+
+abbrev pub time_field : TimeRange → List ℕ
+time_field time = instant_field time.from ++ time_end_field time.to
+
+abbrev pub rect_field : Area → List ℕ
+rect_field r = mark ++ (keys_field r.keys ++ time_field r.time)
+
+-- as each range that a program holds: no key has over 1,609 bytes
+pub record AreShortKeys (keys : KeyRange) : Type 0 where
+  pub lower : length keys.lo ≤ 1609
+  pub upper : IfSome keys.hi (λ key. length key ≤ 1609)
+
+-- ---- what is read
+
+-- the bytes behind the mark
+unfoldable pub mark_from : List ℕ → Option (List ℕ)
+mark_from bytes = if pointwise nat_eq (take 4 bytes) mark then Some (drop 4 bytes) else None
+
+unfoldable pub keys_from : List ℕ → Taken KeyRange
+keys_from bytes =
+    taken_then (key_from bytes)
+    (λ lo rest. taken_then (end_from rest) (λ hi left. Some (record { lo = lo; hi = hi }, left)))
+
+unfoldable pub time_from : List ℕ → Taken TimeRange
+time_from bytes =
+    taken_then (instant_from bytes)
+    (λ from rest.
+    taken_then (instant_from rest)
+    (λ to left. Some (record { from = from; to = Some to }, left)))
+
+-- the rectangle of what was taken, where it is one
+abbrev pub area_taken : Option Area → List ℕ → Taken Area
+area_taken None rest = None
+area_taken (Some r) rest = Some (r, rest)
+
+unfoldable pub ranges_from : List ℕ → Taken Area
+ranges_from bytes =
+    taken_then (keys_from bytes)
+    (λ keys rest.
+    taken_then (time_from rest) (λ time left. area_taken (rect_of keys time) left))
+
+unfoldable pub rect_from : List ℕ → Taken Area
+rect_from bytes = elim (mark_from bytes) [ None ↦ None | Some rest ↦ ranges_from rest ]

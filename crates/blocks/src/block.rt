@@ -1,0 +1,91 @@
+//! The block of a node, and the node of a block.
+ghost use Rattle.std.specs.Prelude.{◌≡◌, ◌↔◌, ◌≤◌, ◌++◌, Some, IsTrue, IfOk, IfSome, IfNone, OnOk, All, length};
+ghost use Rattle.values.specs.Memory.{OnlyMemory};
+ghost use Rattle.datanode.specs.Node.{Node};
+ghost use Rattle.blocks.specs.Event.{event_fields, IsKept};
+ghost use Rattle.blocks.specs.Block.{block_of, HasBlock, IsBlockOf};
+ghost use Rattle.blocks.specs.Gather.{IsCountedNode, NoCountedNode};
+
+use crate::event::push_event;
+use crate::field::byte_from;
+use crate::gather::{gather, node_in};
+use crate::rect::{push_rect, rect_from};
+use bytes::Bytes;
+use datanode::DataNode;
+use keyrange::Rect;
+use std::alloc::Global;
+use values::{Mem, SharedEvent};
+
+/// The events that a block may have.
+const MOST: usize = 64;
+
+fn are_instants(events: &[SharedEvent]) -> bool
+    ensures { IsTrue result ↔ All (λ e. 1 ≤ e.at) events.now }
+{
+    events.iter().all(|event| 1 <= event.event().at())
+}
+
+/// Whether a node has a block: it is one of history, with at most 64 events and none of them before instant 1.
+pub fn has_block(node: &DataNode) -> bool
+    ensures { IsTrue result ↔ HasBlock node.now }
+{
+    node.rect().time().to.is_some() && node.len() <= MOST && are_instants(node.events())
+}
+
+fn push_events(alloc: Global, bytes: &mut Vec<u8>, events: &[SharedEvent]) -> Mem<()>
+    ensures ok { OnOk result (bytes.new.items ≡ bytes.old.items ++ event_fields events.now) }
+    ensures kept { OnOk result (All IsKept events.now) }
+    ensures err { OnlyMemory result }
+{
+    for event in events {
+        push_event(alloc, bytes, event.event())?;
+    }
+    Ok(())
+}
+
+/// The block of a node of history: its bytes in form 1.
+pub fn pack(alloc: Global, node: &DataNode) -> Mem<Bytes>
+    requires { HasBlock node.now }
+    ensures bytes { IfOk result (λ bytes. bytes ≡ block_of node.now) }
+    ensures block { IfOk result (λ bytes. IsBlockOf bytes node.now) }
+    ensures err { OnlyMemory result }
+{
+    let mut bytes = Vec::new(alloc);
+    push_rect(&mut bytes, node.rect())?;
+    bytes.push(node.len() as u8)?;
+    push_events(alloc, &mut bytes, node.events())?;
+    Ok(Bytes::from_vec(bytes)?)
+}
+
+/// The node of a rectangle and so many events, behind which nothing stands.
+fn counted_from(alloc: Global, rect: Rect, n: u8, bytes: &[u8]) -> Mem<Option<DataNode>>
+    ensures some { IfOk result (λ found. IfSome found (λ m.
+        IsCountedNode rect n bytes.now m)) }
+    ensures none { IfOk result (λ found. IfNone found (NoCountedNode rect n bytes.now)) }
+    ensures err { OnlyMemory result }
+{
+    if n as usize > MOST {
+        return Ok(None);
+    }
+    match gather(alloc, &rect, n, bytes)? {
+        None => Ok(None),
+        Some((node, [])) => node_in(&node, rect),
+        Some((_node, _rest)) => Ok(None),
+    }
+}
+
+/// The node that bytes are the block of; None where they are no node's. Each block is one node's alone.
+pub fn unpack(alloc: Global, bytes: &[u8]) -> Mem<Option<DataNode>>
+    ensures found { IfOk result (λ found. IfSome found (IsBlockOf bytes.now)) }
+    ensures of_block { IfOk result (λ found. (n : Node) →
+        IsBlockOf bytes.now n → found ≡ Some n) }
+    ensures err { OnlyMemory result }
+{
+    let Some((rect, rest)) = rect_from(alloc, bytes)? else {
+        return Ok(None);
+    };
+    let Some((n, left)) = byte_from(rest) else {
+        return Ok(None);
+    };
+    counted_from(alloc, rect, n, left)
+}

@@ -1,0 +1,9 @@
+//! Tests of `blocks` by its public calls.
+#![tactic(auto)]
+
+#[cfg(test)]
+mod bytes_tests;
+#[cfg(test)]
+mod read_tests;
+#[cfg(test)]
+mod samples;
