@@ -1,0 +1,125 @@
+//! Connections, each served in a thread of its own.
+ghost use Rattle.std.specs.Prelude.{IfOk};
+ghost use Rattle.book.specs.Book.{IsBook};
+
+use crate::clock::Microseconds;
+use book::Closed;
+use growlog::StoreName;
+use journal::Receipt;
+use serving::{Gate, serve_session};
+use sessions::LockedStore;
+use std::alloc::{AllocError, Global};
+use std::io::{Read, Write};
+use std::net::{Net, OpenListener, TcpListener, TcpStream};
+use std::sync::Wait;
+use std::thread;
+use std::thread::Threads;
+use std::time::Clock;
+
+/// Why sessions were not served to a closed store.
+#[derive(Clone, Copy, Debug, PartialEq, Eq)]
+pub enum ListenFault {
+    /// No connection could be taken.
+    Socket,
+    /// Memory ran out, or a thread could not be made.
+    Memory,
+    /// The receipts are not those of the store's entries, one for each.
+    NotClosed,
+}
+
+impl From<AllocError> for ListenFault {
+    fn from(_: AllocError) -> ListenFault {
+        ListenFault::Memory
+    }
+}
+
+/// Takes so many connections, and serves the n-th as session n, from 1, in a thread of its own. When all have ended the store is closed with their receipts and with those of what was done before.
+///
+/// A session that ends in a fault is no fault here: its receipts count, and the others go on. Where a connection cannot be taken, or a thread not made, the sessions that run are waited for.
+pub fn listen<J, R, G>(
+    rt: &R,
+    alloc: Global,
+    listener: &TcpListener,
+    sessions: u8,
+    store: LockedStore<J>,
+    before: Vec<Receipt<J>>,
+    gate: &G,
+) -> Result<Closed, ListenFault>
+where
+    J: StoreName,
+    R: Net<Listener = TcpListener, Stream = TcpStream> + Clock + Threads + Wait + Sync,
+    G: Gate + Sync,
+    ensures book { IfOk result (IsBook J.schema) }
+{
+    let receipts = serve_connections(rt, alloc, listener, sessions, &store, before, gate)?;
+    match store.close(receipts) {
+        Ok(closed) => Ok(closed),
+        Err(_) => Err(ListenFault::NotClosed),
+    }
+}
+
+/// The receipts of all sessions, behind those of what was done before.
+fn serve_connections<J, R, G>(
+    rt: &R,
+    alloc: Global,
+    listener: &TcpListener,
+    sessions: u8,
+    store: &LockedStore<J>,
+    before: Vec<Receipt<J>>,
+    gate: &G,
+) -> Result<Vec<Receipt<J>>, ListenFault>
+where
+    J: StoreName,
+    R: Net<Listener = TcpListener, Stream = TcpStream> + Clock + Threads + Wait + Sync,
+    G: Gate + Sync,
+{
+    let mut receipts = before;
+    thread::scope(thread::scope_env(), rt, |scope| {
+        let mut handles = Vec::with_capacity(alloc, sessions as usize)?;
+        for turn in 0..sessions {
+            let number = turn + 1;
+            let Ok((stream, _peer)) = listener.accept() else {
+                return Err(ListenFault::Socket);
+            };
+            match scope.spawn(move || serve_stream(rt, alloc, store, gate, &stream, number)) {
+                Ok(handle) => handles.push(handle).map_err(AllocError::from)?,
+                Err(_) => return Err(ListenFault::Memory),
+            }
+        }
+        while let Some(handle) = handles.pop() {
+            for receipt in handle.join(rt) {
+                receipts.push(receipt).map_err(AllocError::from)?;
+            }
+        }
+        Ok(())
+    })?;
+    Ok(receipts)
+}
+
+/// The receipts that a connection's session took.
+fn serve_stream<J: StoreName, R: Clock + Wait, G: Gate>(
+    rt: &R,
+    alloc: Global,
+    store: &LockedStore<J>,
+    gate: &G,
+    stream: &TcpStream,
+    number: u8,
+) -> Vec<Receipt<J>> {
+    let Ok(session) = store.session(alloc, number) else {
+        return Vec::new(alloc);
+    };
+    let mut reader = stream;
+    let mut writer = stream;
+    let mut readings = Microseconds { rt };
+    let served = serve_session(
+        rt,
+        alloc,
+        &mut reader,
+        &mut writer,
+        session,
+        store,
+        gate,
+        &mut readings,
+    );
+    served.receipts
+}

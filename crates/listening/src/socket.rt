@@ -1,0 +1,13 @@
+//! A socket that listens.
+use std::io;
+use std::net::{Net, OpenListener, TcpListener, TcpStream};
+
+/// A socket that listens on 127.0.0.1 alone, at a port, or at one that the system chooses where the port is 0; and its port.
+pub fn bind<R: Net<Listener = TcpListener, Stream = TcpStream>>(
+    rt: &R,
+    port: u16,
+) -> io::Result<(TcpListener, u16)> {
+    let listener = TcpListener::bind(rt, ("127.0.0.1", port))?;
+    let port = listener.local_addr()?.port();
+    Ok((listener, port))
+}
