@@ -1,2 +1,5 @@
 pub mod Taking
 mod Faults
+mod Loading
+mod Running
+mod Ending

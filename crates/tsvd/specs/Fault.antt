@@ -4,8 +4,10 @@ use Rattle.scripts.specs.declared.script.RunFault.{RunFault}
 use Rattle.scripts.specs.declared.script.RunFault.TheVariants as run
 use Rattle.rows.specs.declared.schema_reading.SchemaFault.{SchemaFault}
 use Rattle.rows.specs.declared.schema_reading.SchemaFault.TheVariants as schema
+use Rattle.interchange.specs.declared.versions.ExportFault.{ExportFault}
+use Rattle.interchange.specs.declared.versions.ExportFault.TheVariants as export
 use Rattle.tsvd.specs.declared.fault.Fault.{Fault}
-use Rattle.tsvd.specs.declared.fault.Fault.TheVariants.{Words, SchemaSyntax, BadTable, SchemaMemory, Read, Write, Memory}
+use Rattle.tsvd.specs.declared.fault.Fault.TheVariants.{Words, SchemaSyntax, BadTable, SchemaMemory, Load, Read, Write, Memory}
 
 -- the words are at fault
 abbrev pub is_of_words : Fault → Bool
@@ -17,6 +19,7 @@ of_schema (schema.Syntax at) = SchemaSyntax at
 of_schema (schema.BadTable number) = BadTable number
 of_schema schema.Memory = SchemaMemory
 
+-- a run over a store as it is meets no refusal before its script
 abbrev pub of_run : RunFault → Fault
 of_run (run.First refusal) = Memory
 of_run run.Read = Read
@@ -24,6 +27,15 @@ of_run run.Write = Write
 of_run run.Memory = Memory
 
 -- what a run comes to: a fault is reported as it is
-abbrev pub outcome_of : {S : Type 0} → Result S RunFault → Result (Unit {0}) Fault
-outcome_of (Ok system) = Ok tt
+abbrev pub outcome_of : {S : Type 0} → Result S RunFault → Result S Fault
+outcome_of (Ok system) = Ok system
 outcome_of (Err stopped) = Err (of_run stopped)
+
+-- the same where the steps before a script are a load
+abbrev pub of_load : RunFault → Fault
+of_load (run.First refusal) = Load refusal
+of_load fault = Memory
+
+abbrev pub of_export : ExportFault → Fault
+of_export export.Write = Write
+of_export export.Memory = Memory

@@ -1,19 +1,19 @@
-//! Why the program stops before its end. Each text is written here alone.
-ghost use Rattle.std.specs.Prelude.{◌≡◌, ◌≢◌, List, [], true, false};
-ghost use Rattle.clap.specs.Words.{Text};
-ghost use Rattle.tsvd.specs.Words.{Refuses, faults};
-ghost use Rattle.tsvd.specs.Fault.{is_of_words, of_run, of_schema};
+//! Why the program stops before its end. Each text is written here alone, but for those of refusals.
+ghost use Rattle.std.specs.Prelude.{◌≡◌, true, false};
+ghost use Rattle.tsvd.specs.Fault.{is_of_words, of_export, of_load, of_run, of_schema};
 
 use crate::words::WordsFault;
-use rows::SchemaFault;
+use interchange::ExportFault;
+use rows::{Refusal, SchemaFault};
 use scripts::RunFault;
+use statement::print_refusal;
 use std::io::Write;
 use thiserror::Error;
 
-/// A fault of a stream, of a file, of a schema or of memory.
+/// A fault of a stream, of a file, of a schema, of a load, of an export or of memory.
 pub const FAULT: u8 = 1;
 
-/// Words that are none of the program's, or that ask for help.
+/// Words that are none of the program's.
 pub const WORDS: u8 = 2;
 
 /// Why the program stops before its end, as standard error tells it.
@@ -27,23 +27,17 @@ pub enum Fault {
     BadTable(usize),
     #[error("schema: memory")]
     SchemaMemory,
+    #[error("export: E2 no table")]
+    NoExport,
+    /// Behind this text stands the refusal's own.
+    #[error("load: ")]
+    Load(Refusal),
     #[error("read fault")]
     Read,
     #[error("write fault")]
     Write,
     #[error("memory")]
     Memory,
-}
-
-/// Words for which memory ran out are not refused for a fault of theirs.
-pub fn words_fault(fault: WordsFault) -> Fault
-    ensures { (words : List Text) → Refuses words fault
-        → is_of_words result ≡ true → faults words ≢ [] }
-{
-    match fault {
-        WordsFault::Memory => Fault::Memory,
-        fault => Fault::Words(fault),
-    }
 }
 
 pub fn schema_fault(fault: SchemaFault) -> Fault
@@ -67,6 +61,25 @@ pub fn run_fault(fault: RunFault) -> Fault
     }
 }
 
+/// The fault of the steps of a load.
+pub fn load_fault(fault: RunFault) -> Fault
+    ensures { result ≡ of_load fault }
+{
+    match fault {
+        RunFault::First(refusal) => Fault::Load(refusal),
+        _ => Fault::Memory,
+    }
+}
+
+pub fn export_fault(fault: ExportFault) -> Fault
+    ensures { result ≡ of_export fault }
+{
+    match fault {
+        ExportFault::Write => Fault::Write,
+        ExportFault::Memory => Fault::Memory,
+    }
+}
+
 impl Fault {
     /// The program's status at this fault.
     fn status(&self) -> u8
@@ -80,15 +93,24 @@ impl Fault {
     }
 }
 
-/// Tells a fault on standard error, and gives its status.
+/// Reports a fault on standard error, and gives its status.
 pub fn tell<E: Write>(err: &mut E, fault: &Fault) -> u8
     ensures words { is_of_words fault.now ≡ true → result ≡ WORDS }
     ensures other { is_of_words fault.now ≡ false → result ≡ FAULT }
 {
-    // The texts of words end their last line themselves.
-    let _ = match fault {
-        Fault::Words(words) => write!(err, "{words}"),
-        fault => writeln!(err, "{fault}"),
-    };
+    // Nobody is left to be told where standard error fails too.
+    match fault {
+        // The texts of words end their last line themselves.
+        Fault::Words(words) => {
+            let _ = write!(err, "{words}");
+        }
+        Fault::Load(refusal) => {
+            let _ = write!(err, "{fault}");
+            let _ = print_refusal(err, refusal);
+        }
+        _ => {
+            let _ = writeln!(err, "{fault}");
+        }
+    }
     fault.status()
 }

@@ -2,18 +2,26 @@
 #![tactic(auto)]
 
 mod fault;
+mod greeting;
+mod load;
+mod output;
 mod program;
 mod schema_file;
+mod table_export;
 #[cfg(test)]
 mod tests;
 mod words;
 
 use crate::fault::{Fault, tell};
+use crate::greeting::Greeter;
 use crate::program::program;
 use crate::words::WordsFault;
 use std::env;
 use std::io::{BufWriter, ErrorKind};
 use std::process::ExitCode;
+
+/// What is said of a word that is no text.
+const NO_TEXT: &str = "error: a word is not UTF-8\n";
 
 fn main(rt: HostRuntime) -> ExitCode {
     ExitCode::from(status(&rt))
@@ -31,7 +39,7 @@ fn status(rt: &HostRuntime) -> u8 {
     program(
         rt,
         words.as_slice(),
-        &mut rt.stdin(),
+        &mut Greeter::new(rt),
         &mut out,
         &mut rt.stderr(),
     )
@@ -42,7 +50,7 @@ fn words_after_the_name(rt: &HostRuntime) -> Result<Vec<String>, Fault> {
     let arguments = match env::args(rt) {
         Ok(arguments) => arguments,
         Err(error) if error.kind() == ErrorKind::InvalidData => {
-            return Err(Fault::Words(WordsFault::Words));
+            return Err(Fault::Words(WordsFault::Words(NO_TEXT)));
         }
         Err(_) => return Err(Fault::Memory),
     };

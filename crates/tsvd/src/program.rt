@@ -1,15 +1,25 @@
 //! What the program does with its words and streams.
-ghost use Rattle.std.specs.Prelude.{◌≡◌, ◌≤◌, IfErr, OnOk, is_ok, map, option_map, true, false};
-ghost use Rattle.rows.specs.declared.schema.Schema.{Schema};
-ghost use Rattle.tsvd.specs.Program.{HasRun, Leaves, IsDone, IsFaulty, IsRefused};
+ghost use Rattle.std.specs.Prelude.{◌≡◌, ◌≤◌, ℕ, List, IfOk, IfErr, OnOk, map, option_map, true, false};
+ghost use Rattle.std.specs.Io.KnownBytes.{Appends};
+ghost use Rattle.clap.specs.Words.{IsAmong, Text, kind_of};
+ghost use Rattle.histories.specs.History.{History};
+ghost use Rattle.interleaving.specs.SystemState.{Stands};
+ghost use Rattle.tsvd.specs.Words.{Refuses, asked_of, faults};
+ghost use Rattle.tsvd.specs.Program.{Halts, HaltsAt, HaltsOn, HasAnswered, HasDone, HasRun, HasRunAll, HasRunOn, IsComplete, IsDone, IsFaulty, IsRefused, IsStuck, IsUnanswered, IsUnshown, Leaves};
 ghost use Rattle.tsvd.specs.Fault.{is_of_words, outcome_of};
 
-use crate::fault::{FAULT, Fault, WORDS, run_fault, tell, words_fault};
+use crate::fault::{FAULT, Fault, WORDS, run_fault, tell};
+use crate::load::load;
+use crate::output::put;
 use crate::schema_file::schema_of;
+use crate::table_export::{export_number, export_table};
 use crate::words;
+use crate::words::{Options, WordsFault};
+use clap::error::ErrorKind;
 use interleaving::System;
 use rows::Schema;
-use scripts::{RunFault, run_script};
+use scripts::{RunFault, run_script_in};
+use std::alloc::Global;
 use std::convert::AsStr;
 use std::fs::File;
 use std::io::{Read, Write};
@@ -19,8 +29,9 @@ use std::rt::Files;
 pub const DONE: u8 = 0;
 
 /// Runs the program: reads a script over a schema, each from standard input or from a file as the
-/// words ask for, and writes its transcript. The answer is the status: 0 done, 1 a fault, 2 words
-/// that are refused; a fault is reported on standard error.
+/// words ask for, and writes its transcript; before it the rows of a file may be loaded, and after it
+/// a table may be exported. The answer is the status: 0 done, 1 a fault, 2 words that are refused; a
+/// fault is reported on standard error. Help and the version are written like other output.
 pub fn program<R: AllocGlobal + Files, S: AsStr, I: Read, O: Write, E: Write>(
     rt: &R,
     words: &[S],
@@ -45,7 +56,8 @@ pub fn program<R: AllocGlobal + Files, S: AsStr, I: Read, O: Write, E: Write>(
     }
 }
 
-/// Runs the program up to its first fault: of the words, of the schema, of the script.
+/// Runs the program up to its first fault: of the words, of the schema, of the table to be exported,
+/// of the load, of the script, of the export.
 fn run<R: AllocGlobal + Files, S: AsStr, I: Read, O: Write>(
     rt: &R,
     words: &[S],
@@ -64,47 +76,186 @@ fn run<R: AllocGlobal + Files, S: AsStr, I: Read, O: Write>(
         (I.remaining reader.old) (I.remaining reader.new)
         (O.contents out.old) (O.contents out.new)) }
 {
-    let options = match words::words(rt.alloc(), words) {
-        Ok(options) => options,
-        Err(fault) => return Err(words_fault(fault)),
-    };
-    let schema = schema_of(rt, options.schema)?;
-    run_script_of(rt, options.script, reader, out, schema)
+    match words::words(rt.alloc(), words) {
+        Ok(options) => run_options(rt, options, reader, out),
+        Err(fault) => answer(rt.alloc(), out, fault),
+    }
 }
 
-/// Runs the script of a file, or of standard input where no file is named.
+/// Writes the text of help or of the version.
+fn show<O: Write>(alloc: Global, out: &mut O, error: &clap::Error) -> Result<(), Fault>
+    ensures ok { OnOk result ((text : List ℕ)
+        × Appends (O.contents out.old) (O.contents out.new) text) }
+    ensures err { IfErr result (λ fault.
+        IsUnshown fault (O.contents out.old) (O.contents out.new)) }
+{
+    match format!(in alloc; "{error}") {
+        Ok(text) => put(out, text.as_str().as_bytes()),
+        Err(_) => Err(Fault::Memory),
+    }
+}
+
+/// Help and the version are no faults: they are written as asked for.
+fn answer_clap<O: Write>(alloc: Global, out: &mut O, error: clap::Error) -> Result<(), Fault>
+    ensures ok { OnOk result ((words : List Text) → IsAmong (kind_of error) (faults words)
+        → HasAnswered words (O.contents out.old) (O.contents out.new)) }
+    ensures err { IfErr result (λ fault. (words : List Text)
+        → IsAmong (kind_of error) (faults words)
+        → IsUnanswered fault words (O.contents out.old) (O.contents out.new)) }
+{
+    match error.kind() {
+        ErrorKind::DisplayHelp => show(alloc, out, &error),
+        ErrorKind::DisplayVersion => show(alloc, out, &error),
+        _ => Err(Fault::Words(WordsFault::Clap(error))),
+    }
+}
+
+/// What words come to that are not taken.
+fn answer<O: Write>(alloc: Global, out: &mut O, fault: WordsFault) -> Result<(), Fault>
+    ensures ok { OnOk result ((words : List Text) → Refuses words fault
+        → HasAnswered words (O.contents out.old) (O.contents out.new)) }
+    ensures err { IfErr result (λ stop. (words : List Text) → Refuses words fault
+        → IsUnanswered stop words (O.contents out.old) (O.contents out.new)) }
+{
+    match fault {
+        WordsFault::Clap(error) => answer_clap(alloc, out, error),
+        WordsFault::Words(text) => Err(Fault::Words(WordsFault::Words(text))),
+        WordsFault::Memory => Err(Fault::Memory),
+    }
+}
+
+/// Runs what is asked for.
+fn run_options<R: AllocGlobal + Files, I: Read, O: Write>(
+    rt: &R,
+    options: Options<'_>,
+    reader: &mut I,
+    out: &mut O,
+) -> Result<(), Fault>
+    ensures done { OnOk result (IsComplete (asked_of options.entry)
+        (I.remaining reader.old) (I.remaining reader.new)
+        (O.contents out.old) (O.contents out.new)) }
+    ensures stuck { IfErr result (λ fault. IsStuck fault (asked_of options.entry)
+        (I.remaining reader.old) (I.remaining reader.new)
+        (O.contents out.old) (O.contents out.new)) }
+{
+    match schema_of(rt, options.schema) {
+        Ok(schema) => run_over(rt, options, reader, out, schema),
+        Err(fault) => Err(fault),
+    }
+}
+
+/// Runs what is asked for over a schema: the table to be exported is looked up first.
+fn run_over<R: AllocGlobal + Files, I: Read, O: Write>(
+    rt: &R,
+    options: Options<'_>,
+    reader: &mut I,
+    out: &mut O,
+    schema: Schema,
+) -> Result<(), Fault>
+    ensures done { OnOk result (HasDone (asked_of options.entry) schema
+        (I.remaining reader.old) (I.remaining reader.new)
+        (O.contents out.old) (O.contents out.new)) }
+    ensures halts { IfErr result (λ fault. Halts fault (asked_of options.entry) schema
+        (I.remaining reader.old) (I.remaining reader.new)
+        (O.contents out.old) (O.contents out.new)) }
+{
+    match export_number(&schema, options.export) {
+        Ok(number) => run_all(
+            rt,
+            options.load,
+            options.script,
+            number,
+            reader,
+            out,
+            schema,
+        ),
+        Err(fault) => Err(fault),
+    }
+}
+
+/// The load, then the script, then the export.
+fn run_all<R: AllocGlobal + Files, I: Read, O: Write>(
+    rt: &R,
+    text: Option<&str>,
+    file: Option<&str>,
+    number: Option<u8>,
+    reader: &mut I,
+    out: &mut O,
+    schema: Schema,
+) -> Result<(), Fault>
+    ensures done { OnOk result (HasRunAll (option_map (λ text. text.now) text.entry)
+        (option_map (λ text. text.now) file.entry) number schema
+        (I.remaining reader.old) (I.remaining reader.new)
+        (O.contents out.old) (O.contents out.new)) }
+    ensures halts { IfErr result (λ fault. HaltsAt fault (option_map (λ text. text.now) text.entry)
+        (option_map (λ text. text.now) file.entry) number schema
+        (I.remaining reader.old) (I.remaining reader.new)
+        (O.contents out.old) (O.contents out.new)) }
+{
+    match load(rt, text, out, schema) {
+        Ok(system) => run_on(rt, file, number, reader, out, system),
+        Err(fault) => Err(fault),
+    }
+}
+
+/// The script over a store, then the export.
+fn run_on<R: AllocGlobal + Files, I: Read, O: Write>(
+    rt: &R,
+    file: Option<&str>,
+    number: Option<u8>,
+    reader: &mut I,
+    out: &mut O,
+    system: System,
+) -> Result<(), Fault>
+    ensures done { OnOk result ((h : History) → Stands system h
+        → HasRunOn (option_map (λ text. text.now) file.entry) number system.schema h
+        (I.remaining reader.old) (I.remaining reader.new)
+        (O.contents out.old) (O.contents out.new)) }
+    ensures halts { IfErr result (λ fault. (h : History) → Stands system h
+        → HaltsOn fault (option_map (λ text. text.now) file.entry) number system.schema h
+        (I.remaining reader.old) (I.remaining reader.new)
+        (O.contents out.old) (O.contents out.new)) }
+{
+    match run_script_of(rt, file, reader, out, system) {
+        Ok(system) => export_table(rt.alloc(), out, number, system),
+        Err(fault) => Err(fault),
+    }
+}
+
+/// Runs the script of a file, or of standard input where no file is named, over a store.
 fn run_script_of<R: AllocGlobal + Files, I: Read, O: Write>(
     rt: &R,
     file: Option<&str>,
     reader: &mut I,
     out: &mut O,
-    schema: Schema,
-) -> Result<(), Fault>
-    ensures done { OnOk result (HasRun (option_map (λ text. text.now) file.entry) schema
+    system: System,
+) -> Result<System, Fault>
+    ensures done { IfOk result (λ s. (h : History) → Stands system h
+        → HasRun (option_map (λ text. text.now) file.entry) system.schema h s
         (I.remaining reader.old) (I.remaining reader.new)
         (O.contents out.old) (O.contents out.new)) }
-    ensures fault { IfErr result (λ fault. Leaves fault
-        (option_map (λ text. text.now) file.entry) schema
+    ensures schema { IfOk result (λ s. (h : History) → Stands system h
+        → s.schema ≡ system.schema) }
+    ensures fault { IfErr result (λ fault. (h : History) → Stands system h
+        → Leaves fault (option_map (λ text. text.now) file.entry) system.schema h
         (I.remaining reader.old) (I.remaining reader.new)
         (O.contents out.old) (O.contents out.new)) }
-    ensures other { IfErr result (λ fault. is_of_words fault ≡ false) }
 {
     match file {
         Some(path) => match File::open(rt, path) {
-            Ok(mut script) => finish(run_script(rt.alloc(), &mut script, out, schema)),
+            Ok(mut script) => finish(run_script_in(rt.alloc(), system, &mut script, out)),
             Err(_) => Err(Fault::Read),
         },
-        None => finish(run_script(rt.alloc(), reader, out, schema)),
+        None => finish(run_script_in(rt.alloc(), system, reader, out)),
     }
 }
 
 /// What a run comes to: a fault is reported as it is.
-fn finish(ran: Result<System, RunFault>) -> Result<(), Fault>
-    ensures ok { OnOk result (is_ok ran ≡ true) }
-    ensures exact { result ≡ outcome_of ran }
+fn finish(ran: Result<System, RunFault>) -> Result<System, Fault>
+    ensures { result ≡ outcome_of ran }
 {
     match ran {
-        Ok(_) => Ok(()),
+        Ok(system) => Ok(system),
         Err(stopped) => Err(run_fault(stopped)),
     }
 }

@@ -2,6 +2,7 @@
 
 mod dialogues;
 mod files;
+mod tables;
 mod words;
 
 use crate::fault::{FAULT, WORDS};

@@ -38,7 +38,7 @@ const COMPOUND_REPLIES: &str = "begun 0\n\
     E3 bad row at column 3\n";
 
 /// A file of this test alone, with this text.
-fn file(rt: &HostRuntime, name: &str, text: &[u8]) -> io::Result<PathBuf> {
+pub fn file(rt: &HostRuntime, name: &str, text: &[u8]) -> io::Result<PathBuf> {
     let name = format!(in rt.alloc(); "tsvd-{}-{name}", process::id(rt.process()))?;
     let path = env::temp_dir(rt)?.join(rt.alloc(), name.as_str())?;
     fs::write(rt, path.as_path(), text)?;
@@ -47,13 +47,13 @@ fn file(rt: &HostRuntime, name: &str, text: &[u8]) -> io::Result<PathBuf> {
 
 /// What a run leaves: the status, the output, and what was told on standard error.
 #[derive(Drop)]
-struct Ran {
-    status: u8,
-    out: Vec<u8>,
-    err: Vec<u8>,
+pub struct Ran {
+    pub status: u8,
+    pub out: Vec<u8>,
+    pub err: Vec<u8>,
 }
 
-fn run(rt: &HostRuntime, words: &[&str], input: &str) -> Ran {
+pub fn run(rt: &HostRuntime, words: &[&str], input: &str) -> Ran {
     let mut out = Vec::new(rt.alloc());
     let mut err = Vec::new(rt.alloc());
     let status = program(rt, words, &mut input.as_bytes(), &mut out, &mut err);
@@ -196,26 +196,42 @@ fn words_come_before_the_schema_and_the_schema_before_the_script(
     Ok(())
 }
 
+/// Whether a run wrote its answer to standard output, and nothing else.
+fn is_answer(ran: &Ran) -> bool {
+    ran.status == DONE && !ran.out.is_empty() && ran.err.is_empty()
+}
+
 #[test]
-fn help_goes_to_standard_error_with_status_2(rt: HostRuntime) -> Result<(), Fail> {
-    let ran = run(&rt, &["--help"], "1: BEGIN\n");
-    assert_eq!(rt; ran.status, WORDS);
-    assert!(rt; ran.out.is_empty());
-    let help = str::from_utf8(ran.err.as_slice())?;
-    for part in [
-        "Usage: tsvd",
-        "--schema <FILE>",
-        "--script <FILE>",
-        "emp (no INT, name TEXT)",
-        "standard input",
-        "Examples, in the folder of the repository:",
-        "--schema examples/insurance.schema --script examples/insurance.script",
-        "Status:",
-    ] {
-        assert!(rt; help.contains(part), "{part}");
-    }
-    for part in ["--listen", "--sessions", "--load", "--export"] {
-        assert!(rt; !help.contains(part), "{part}");
+fn help_goes_to_standard_output_with_status_0(rt: HostRuntime) -> Result<(), Fail> {
+    for word in ["--help", "-h"] {
+        let ran = run(&rt, &[word], "1: BEGIN\n");
+        assert!(rt; is_answer(&ran), "{word}");
+        let help = str::from_utf8(ran.out.as_slice())?;
+        for part in [
+            "Usage: tsvd",
+            "--schema <FILE>",
+            "--script <FILE>",
+            "--load <TABLE=FILE>",
+            "--export <TABLE>",
+            "--version",
+            "emp (no INT, name TEXT)",
+            "standard input",
+            "\n  1: BEGIN\n",
+            "\n  clock: 100\n",
+            "| tsvd --export emp\n",
+            "Status:",
+        ] {
+            assert!(rt; help.contains(part), "{part}");
+        }
     }
     Ok(())
+}
+
+#[test]
+fn the_version_goes_to_standard_output_with_status_0(rt: HostRuntime) {
+    for word in ["--version", "-V"] {
+        let ran = run(&rt, &[word], "1: BEGIN\n");
+        assert!(rt; is_answer(&ran), "{word}");
+        assert_eq!(rt; ran.out.as_slice(), "tsvd 0.1.0\n".as_bytes(), "{word}");
+    }
 }

@@ -3,26 +3,55 @@ use crate::words::{Options, WordsFault, words};
 use clap::error::ErrorKind;
 use std::test::Fail;
 
+/// Options by their texts: of the schema, the script, the load and the export.
+type Texts<'a> = [Option<&'a str>; 4];
+
+fn texts_of<'a>(options: Options<'a>) -> Texts<'a> {
+    [options.schema, options.script, options.load, options.export]
+}
+
 #[test]
 fn options_have_the_texts_that_follow_them(rt: HostRuntime) -> Result<(), Fail> {
-    let cases: [(&[&str], Option<&str>, Option<&str>); 11] = [
-        (&[], None, None),
-        (&["--schema", "a"], Some("a"), None),
-        (&["--script", "b"], None, Some("b")),
-        (&["--schema", "a", "--script", "b"], Some("a"), Some("b")),
-        (&["--script", "b", "--schema", "a"], Some("a"), Some("b")),
-        (&["--schema=a", "--script=b=c"], Some("a"), Some("b=c")),
-        (&["--schema", ""], Some(""), None),
-        (&["--schema="], Some(""), None),
-        (&["--schema=--script"], Some("--script"), None),
-        (&["--schema", "-"], Some("-"), None),
-        (&["--"], None, None),
+    let cases: [(&[&str], Texts); 16] = [
+        (&[], [None, None, None, None]),
+        (&["--schema", "a"], [Some("a"), None, None, None]),
+        (&["--script", "b"], [None, Some("b"), None, None]),
+        (&["--load", "t=c"], [None, None, Some("t=c"), None]),
+        (&["--export", "d"], [None, None, None, Some("d")]),
+        (
+            &[
+                "--export", "d", "--load", "t=c", "--script", "b", "--schema", "a",
+            ],
+            [Some("a"), Some("b"), Some("t=c"), Some("d")],
+        ),
+        (
+            &["--schema=a", "--script=b=c"],
+            [Some("a"), Some("b=c"), None, None],
+        ),
+        (&["--schema", ""], [Some(""), None, None, None]),
+        (&["--schema="], [Some(""), None, None, None]),
+        (&["--schema=--script"], [Some("--script"), None, None, None]),
+        (&["--schema", "-"], [Some("-"), None, None, None]),
+        (&["--load=t=c=d"], [None, None, Some("t=c=d"), None]),
+        (&["--load", "="], [None, None, Some("="), None]),
+        (&["--load=t="], [None, None, Some("t="), None]),
+        (&["--export="], [None, None, None, Some("")]),
+        (&["--"], [None, None, None, None]),
     ];
-    for (given, schema, script) in cases {
+    for (given, texts) in cases {
         let options = words(rt.alloc(), given)?;
-        assert_eq!(rt; options, Options { schema, script }, "{given:?}");
+        assert_eq!(rt; texts_of(options), texts, "{given:?}");
     }
     Ok(())
+}
+
+#[test]
+fn a_load_names_a_file_behind_an_equals_sign(rt: HostRuntime) {
+    let cases: [&[&str]; 3] = [&["--load", "emp"], &["--load="], &["--load", "emp:f"]];
+    for given in cases {
+        let is_refused = matches!(words(rt.alloc(), given), Err(WordsFault::Words(_)));
+        assert!(rt; is_refused, "{given:?}");
+    }
 }
 
 /// The kind of `clap`'s refusal, where there is one.
@@ -35,7 +64,7 @@ fn refusal(rt: &HostRuntime, given: &[&str]) -> Option<ErrorKind> {
 
 #[test]
 fn other_words_are_refused(rt: HostRuntime) {
-    let cases: [(&[&str], ErrorKind); 19] = [
+    let cases: [(&[&str], ErrorKind); 24] = [
         (&["--schema"], ErrorKind::InvalidValue),
         (&["--schema", "--script", "b"], ErrorKind::InvalidValue),
         (
@@ -54,13 +83,24 @@ fn other_words_are_refused(rt: HostRuntime) {
         (&["--SCHEMA", "a"], ErrorKind::UnknownArgument),
         (&["--sch", "a"], ErrorKind::UnknownArgument),
         (&["-s", "a"], ErrorKind::UnknownArgument),
-        (&["--version"], ErrorKind::UnknownArgument),
+        (&["--loads", "emp=f"], ErrorKind::UnknownArgument),
+        (&["-v"], ErrorKind::UnknownArgument),
         (&["--listen", "0"], ErrorKind::UnknownArgument),
         (&["--sessions", "1"], ErrorKind::UnknownArgument),
-        (&["--load", "emp=f"], ErrorKind::UnknownArgument),
-        (&["--export", "emp"], ErrorKind::UnknownArgument),
+        (&["--load"], ErrorKind::InvalidValue),
+        (&["--export"], ErrorKind::InvalidValue),
+        (
+            &["--load", "emp=f", "--load", "dept=g"],
+            ErrorKind::ArgumentConflict,
+        ),
+        (
+            &["--export", "emp", "--export=emp"],
+            ErrorKind::ArgumentConflict,
+        ),
         (&["--help"], ErrorKind::DisplayHelp),
         (&["-h"], ErrorKind::DisplayHelp),
+        (&["--version"], ErrorKind::DisplayVersion),
+        (&["-V"], ErrorKind::DisplayVersion),
     ];
     for (given, kind) in cases {
         assert_eq!(rt; refusal(&rt, given), Some(kind), "{given:?}");

@@ -1,9 +1,35 @@
-use Rattle.std.proofs.Common.{ap, sym, subst, ◌∙◌, ◌≡◌, codes, map}
+use Rattle.std.proofs.Common.{ap, sym, subst, ◌∙◌, ◌≡◌, codes, map, List, []}
+use Rattle.std.specs.Prelude.{Result, Ok, Err, IfOk, IfErr}
 use Rattle.clap.proofs.WalkLemmas.{first_value-rows}
-use Rattle.clap.specs.Words.{App, HasKind, app_of, fault_of, first_of, found_of, is_simple, is_simple_and_free, matches_of}
-use Rattle.tsvd.specs.Words.{command, faults}
+use Rattle.clap.specs.Words.{App, HasKind, Text, app_of, fault_of, first_of, first_value, found_of, is_simple, is_simple_and_free, matches_of, rows_of}
+use Rattle.clap.specs.declared.parser.matches.Found.{Found}
+use Rattle.tsvd.specs.declared.words.Options.{Options}
+use Rattle.tsvd.specs.declared.words.WordsFault.{WordsFault}
+use Rattle.tsvd.specs.Words.{Gives, Reads, Refuses, asked_of, command, faults}
 use Rattle.tsvd.proofs.Taking.{command_is_simple, command_is_free}
 use Rattle.tsvd.proofs.words.words.Goals as goal
+
+given : (r : Result Options WordsFault) (words : List Text) (options : Options) → Reads words options → IfOk r (λ o. (words : List Text) → Reads words options → Gives words o) → IfOk r (Gives words)
+given (Ok o) words options reads f = f words reads
+given (Err e) words options reads f = tt
+
+lacking : (r : Result Options WordsFault) (words : List Text) (options : Options) → Reads words options → IfErr r (λ fault. (words : List Text) → Reads words options → Refuses words fault) → IfErr r (Refuses words)
+lacking (Ok o) words options reads f = tt
+lacking (Err e) words options reads f = f words reads
+
+-- what clap found for the words is what is asked for
+reads_of : (words : List Text) (options : Options) (found : Found) → faults words ≡ [] → rows_of found ≡ matches_of command words
+    → asked_of options ≡ record { schema = first_value found (codes "schema"); script = first_value found (codes "script"); load = first_value found (codes "load"); exports = first_value found (codes "export") }
+    → Reads words options
+reads_of words options found taken rows asked = record {
+  taken = taken;
+  asked = asked ∙ (λ i. record {
+    schema = (first_value-rows found (codes "schema") ∙ ap (first_of (codes "schema")) rows) i;
+    script = (first_value-rows found (codes "script") ∙ ap (first_of (codes "script")) rows) i;
+    load = (first_value-rows found (codes "load") ∙ ap (first_of (codes "load")) rows) i;
+    exports = (first_value-rows found (codes "export") ∙ ap (first_of (codes "export")) rows) i;
+  });
+}
 
 pub returns-in-Ok-try_get_matches_from-clause-ok :
     goal.returns-in-Ok-try_get_matches_from-clause-ok
@@ -13,15 +39,21 @@ returns-in-Ok-try_get_matches_from-clause-ok g c =
     let parse = c.in-Ok-try_get_matches_from in
     let taken = parse.ensures.kinds (ap is_simple_and_free is_command ∙ command_is_free) in
     let rows = (parse.ensures.matches (ap is_simple is_command ∙ command_is_simple)).0 ∙ ap (λ (a : App). matches_of a texts) is_command in
-    record {
-      taken = sym (ap (λ (a : App). fault_of a texts) is_command) ∙ taken;
-      schema = c.options_of.ensures.schema ∙ (first_value-rows (found_of parse.matches) (codes "schema") ∙ ap (first_of (codes "schema")) rows);
-      script = c.options_of.ensures.script ∙ (first_value-rows (found_of parse.matches) (codes "script") ∙ ap (first_of (codes "script")) rows);
-    }
+    given c.with_file.result texts c.options_of.result (reads_of texts c.options_of.result (found_of parse.matches) (sym (ap (λ (a : App). fault_of a texts) is_command) ∙ taken) rows c.options_of.ensures) c.with_file.ensures.ok
+
+pub returns-in-Ok-try_get_matches_from-clause-err :
+    goal.returns-in-Ok-try_get_matches_from-clause-err
+returns-in-Ok-try_get_matches_from-clause-err g c =
+    let texts = map g.S.AsStr.text c.args.words.now in
+    let is_command : app_of c.in-Ok.command ≡ command = c.in-Ok.ensures in
+    let parse = c.in-Ok-try_get_matches_from in
+    let taken = parse.ensures.kinds (ap is_simple_and_free is_command ∙ command_is_free) in
+    let rows = (parse.ensures.matches (ap is_simple is_command ∙ command_is_simple)).0 ∙ ap (λ (a : App). matches_of a texts) is_command in
+    lacking c.with_file.result texts c.options_of.result (reads_of texts c.options_of.result (found_of parse.matches) (sym (ap (λ (a : App). fault_of a texts) is_command) ∙ taken) rows c.options_of.ensures) c.with_file.ensures.err
 
 pub returns-in-Err-clause-err : goal.returns-in-Err-clause-err
 returns-in-Err-clause-err g c =
     let texts = map g.S.AsStr.text c.args.words.now in
     let is_command : app_of c.in-Ok.command ≡ command = c.in-Ok.ensures in
     let fails = c.in-Err.ensures.kinds (ap is_simple_and_free is_command ∙ command_is_free) in
-    c.refused.ensures (faults texts) (subst (λ (a : App). HasKind (fault_of a texts) c.in-Err.error) is_command fails)
+    c.refused.ensures texts (subst (λ (a : App). HasKind (fault_of a texts) c.in-Err.error) is_command fails)

@@ -1,0 +1,10 @@
+use Rattle.std.proofs.Common.{◌≡◌, ℕ, Bool, true, false, refl, arith}
+use Rattle.tsvd.specs.Fault.{is_of_words}
+use Rattle.tsvd.proofs.program.program.Goals as goal
+
+other : (of_words : Bool) (status : ℕ) (P : Type 0) → (of_words ≡ true → status ≡ 2) → (of_words ≡ false → P) → status ≡ 1 → P
+other true status P words faulty e = absurd (omega (arith, words refl, e))
+other false status P words faulty e = faulty refl
+
+pub returns-in-Err-clause-fault : goal.returns-in-Err-clause-fault
+returns-in-Err-clause-fault g c = other (is_of_words c.in-Err.fault) c.tell.result _ c.tell.ensures.words c.in-Err.ensures.fault
