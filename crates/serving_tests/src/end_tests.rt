@@ -71,41 +71,18 @@ fn replies_are_passed_on_before_more_is_read(rt: HostRuntime) -> Result<(), Fail
 }
 
 #[test]
-fn a_gate_that_gives_up_before_a_read_ends_the_session(rt: HostRuntime) -> Result<(), Fail> {
-    let mut reader = HIRE;
-    let mut out = Vec::new(rt.alloc());
-    let summary = summary_of(
-        &rt,
-        rt.alloc(),
-        &mut reader,
-        &mut out,
-        Door::ShutAt(Place::Read),
-    )?;
-    assert_eq!(rt;
-        out.as_slice(),
-        b"begun 0\ninserted 1\ncommitted 10\n".as_slice()
-    );
-    assert!(rt; summary.end == End::Gate);
-    assert_eq!(rt; (summary.lines, summary.entries), (3, Some(2)));
-    Ok(())
-}
-
-#[test]
-fn a_gate_that_gives_up_after_a_commit_ends_the_session(rt: HostRuntime) -> Result<(), Fail> {
-    let mut reader = HIRE;
-    let mut out = Vec::new(rt.alloc());
-    let summary = summary_of(
-        &rt,
-        rt.alloc(),
-        &mut reader,
-        &mut out,
-        Door::ShutAt(Place::Committed),
-    )?;
-    assert_eq!(rt;
-        out.as_slice(),
-        b"begun 0\ninserted 1\ncommitted 10\n".as_slice()
-    );
-    assert!(rt; summary.end == End::Gate);
-    assert_eq!(rt; (summary.lines, summary.entries), (3, Some(2)));
+fn a_gate_that_gives_up_ends_the_session(rt: HostRuntime) -> Result<(), Fail> {
+    for place in [Place::Read, Place::Committed] {
+        let mut reader = HIRE;
+        let mut out = Vec::new(rt.alloc());
+        let door = Door::ShutAt(place);
+        let summary = summary_of(&rt, rt.alloc(), &mut reader, &mut out, door)?;
+        assert_eq!(rt;
+            out.as_slice(),
+            b"begun 0\ninserted 1\ncommitted 10\n".as_slice()
+        );
+        assert!(rt; summary.end == End::Gate);
+        assert_eq!(rt; (summary.lines, summary.entries), (3, Some(2)));
+    }
     Ok(())
 }

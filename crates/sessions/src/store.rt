@@ -1,6 +1,7 @@
 //! The store: the book under its lock.
-ghost use Rattle.std.specs.Prelude.{◌≡◌, ◌≢◌, ◌⊎◌, All, Err, IfErr, IfOk, IsPermutation, IsSome, None, OnErr, Some, length, map};
+ghost use Rattle.std.specs.Prelude.{◌≡◌, ◌≢◌, ◌<◌, ◌≤◌, ◌⊎◌, All, Err, IfErr, IfOk, IsPermutation, IsSome, None, OnErr, Some, length, map};
 ghost use Rattle.values.specs.Memory.{OnlyMemory};
+ghost use Rattle.histories.specs.Misfit.{max_session};
 ghost use Rattle.journal.specs.Entries.{entry_at, numbers};
 ghost use Rattle.book.specs.Book.{IsBook, OnlyRoom};
 ghost use Rattle.sessions.specs.Store.{IsBegun, IsCommitted, IsSplitOf, OnlyRoomOrNone};
@@ -44,10 +45,12 @@ impl<J: StoreName> LockedStore<J> {
         })
     }
 
-    /// A session of the store's tables, with no transaction open. `NoSession` where the number is above 64, otherwise want of memory is the only refusal.
+    /// A session of the store's tables, with no transaction open. `NoSession` or want of memory where the number is above 64, otherwise want of memory is the only refusal.
     pub fn session(&self, alloc: Global, number: u8) -> Result<Session, Refusal>
         ensures ok { IfOk result (λ s. s
             ≡ record { number = number; schema = J.schema; receipt = 0; transaction = None }) }
+        ensures above { max_session < number → IfOk result (λ s. ⊥) }
+        ensures upto { number ≤ max_session → OnlyMemory result }
         ensures why { IfErr result (λ e. (e ≡ Refusal.NoSession) ⊎ (e ≡ Refusal.Memory)) }
     {
         Session::new(alloc, number, self.schema.copy(alloc)?)

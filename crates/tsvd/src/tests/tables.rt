@@ -148,45 +148,46 @@ fn stops(rt: &HostRuntime, words: &[&str], status: u8, told: &str) -> bool {
     ran.status == status && ran.out.is_empty() && ran.err.as_slice().starts_with(told.as_bytes())
 }
 
+/// Words with their status, and how standard error begins.
+const FAULTY: [(&[&str], u8, &str); 9] = [
+    (
+        &["--load", "emp", "--schema", "/no/such/file"],
+        WORDS,
+        "error: --load takes",
+    ),
+    (
+        &["--export", "dept", "--schema", "/no/such/file"],
+        FAULT,
+        "read fault\n",
+    ),
+    (&["--export", "dept"], FAULT, "export: E2 no table\n"),
+    (
+        &["--export", "", "--script", "/no/such/file"],
+        FAULT,
+        "export: E2 no table\n",
+    ),
+    (
+        &["--load", "dept=/no/such/file", "--export", "dept"],
+        FAULT,
+        "export: E2 no table\n",
+    ),
+    (
+        &["--load", "dept=/no/such/file", "--script", "/no/such/file"],
+        FAULT,
+        "load: E2 no table\n",
+    ),
+    (&["--load", "=/no/such/file"], FAULT, "load: E2 no table\n"),
+    (&["--load", "emp=/no/such/file"], FAULT, "read fault\n"),
+    (
+        &["--load", "emp=/", "--export", "emp"],
+        FAULT,
+        "read fault\n",
+    ),
+];
+
 #[test]
 fn faults_are_found_in_the_order_of_the_rules(rt: HostRuntime) {
-    let none = "/no/such/file";
-    let cases: [(&[&str], u8, &str); 9] = [
-        (
-            &["--load", "emp", "--schema", none],
-            WORDS,
-            "error: --load takes",
-        ),
-        (
-            &["--export", "dept", "--schema", none],
-            FAULT,
-            "read fault\n",
-        ),
-        (&["--export", "dept"], FAULT, "export: E2 no table\n"),
-        (
-            &["--export", "", "--script", none],
-            FAULT,
-            "export: E2 no table\n",
-        ),
-        (
-            &["--load", "dept=/no/such/file", "--export", "dept"],
-            FAULT,
-            "export: E2 no table\n",
-        ),
-        (
-            &["--load", "dept=/no/such/file", "--script", none],
-            FAULT,
-            "load: E2 no table\n",
-        ),
-        (&["--load", "=/no/such/file"], FAULT, "load: E2 no table\n"),
-        (&["--load", "emp=/no/such/file"], FAULT, "read fault\n"),
-        (
-            &["--load", "emp=/", "--export", "emp"],
-            FAULT,
-            "read fault\n",
-        ),
-    ];
-    for (words, status, told) in cases {
+    for (words, status, told) in FAULTY {
         assert!(rt; stops(&rt, words, status, told), "{words:?}");
     }
 }

@@ -62,47 +62,49 @@ fn refusal(rt: &HostRuntime, given: &[&str]) -> Option<ErrorKind> {
     }
 }
 
+/// Words that are none of the program's, with the kind of `clap`'s refusal.
+const REFUSED: [(&[&str], ErrorKind); 24] = [
+    (&["--schema"], ErrorKind::InvalidValue),
+    (&["--schema", "--script", "b"], ErrorKind::InvalidValue),
+    (
+        &["--schema", "a", "--schema", "a"],
+        ErrorKind::ArgumentConflict,
+    ),
+    (
+        &["--script=a", "--script", "b"],
+        ErrorKind::ArgumentConflict,
+    ),
+    (&["--schema", "a", "b"], ErrorKind::UnknownArgument),
+    (&["schema"], ErrorKind::UnknownArgument),
+    (&[""], ErrorKind::UnknownArgument),
+    (&["-"], ErrorKind::UnknownArgument),
+    (&["--", "--schema"], ErrorKind::UnknownArgument),
+    (&["--SCHEMA", "a"], ErrorKind::UnknownArgument),
+    (&["--sch", "a"], ErrorKind::UnknownArgument),
+    (&["-s", "a"], ErrorKind::UnknownArgument),
+    (&["--loads", "emp=f"], ErrorKind::UnknownArgument),
+    (&["-v"], ErrorKind::UnknownArgument),
+    (&["--listen", "0"], ErrorKind::UnknownArgument),
+    (&["--sessions", "1"], ErrorKind::UnknownArgument),
+    (&["--load"], ErrorKind::InvalidValue),
+    (&["--export"], ErrorKind::InvalidValue),
+    (
+        &["--load", "emp=f", "--load", "dept=g"],
+        ErrorKind::ArgumentConflict,
+    ),
+    (
+        &["--export", "emp", "--export=emp"],
+        ErrorKind::ArgumentConflict,
+    ),
+    (&["--help"], ErrorKind::DisplayHelp),
+    (&["-h"], ErrorKind::DisplayHelp),
+    (&["--version"], ErrorKind::DisplayVersion),
+    (&["-V"], ErrorKind::DisplayVersion),
+];
+
 #[test]
 fn other_words_are_refused(rt: HostRuntime) {
-    let cases: [(&[&str], ErrorKind); 24] = [
-        (&["--schema"], ErrorKind::InvalidValue),
-        (&["--schema", "--script", "b"], ErrorKind::InvalidValue),
-        (
-            &["--schema", "a", "--schema", "a"],
-            ErrorKind::ArgumentConflict,
-        ),
-        (
-            &["--script=a", "--script", "b"],
-            ErrorKind::ArgumentConflict,
-        ),
-        (&["--schema", "a", "b"], ErrorKind::UnknownArgument),
-        (&["schema"], ErrorKind::UnknownArgument),
-        (&[""], ErrorKind::UnknownArgument),
-        (&["-"], ErrorKind::UnknownArgument),
-        (&["--", "--schema"], ErrorKind::UnknownArgument),
-        (&["--SCHEMA", "a"], ErrorKind::UnknownArgument),
-        (&["--sch", "a"], ErrorKind::UnknownArgument),
-        (&["-s", "a"], ErrorKind::UnknownArgument),
-        (&["--loads", "emp=f"], ErrorKind::UnknownArgument),
-        (&["-v"], ErrorKind::UnknownArgument),
-        (&["--listen", "0"], ErrorKind::UnknownArgument),
-        (&["--sessions", "1"], ErrorKind::UnknownArgument),
-        (&["--load"], ErrorKind::InvalidValue),
-        (&["--export"], ErrorKind::InvalidValue),
-        (
-            &["--load", "emp=f", "--load", "dept=g"],
-            ErrorKind::ArgumentConflict,
-        ),
-        (
-            &["--export", "emp", "--export=emp"],
-            ErrorKind::ArgumentConflict,
-        ),
-        (&["--help"], ErrorKind::DisplayHelp),
-        (&["-h"], ErrorKind::DisplayHelp),
-        (&["--version"], ErrorKind::DisplayVersion),
-        (&["-V"], ErrorKind::DisplayVersion),
-    ];
-    for (given, kind) in cases {
+    for (given, kind) in REFUSED {
         assert_eq!(rt; refusal(&rt, given), Some(kind), "{given:?}");
     }
 }
