@@ -1,3 +1,4 @@
 pub mod Field
 pub mod Load
 pub mod Export
+pub mod Report

@@ -16,7 +16,7 @@ const GREATEST: u64 = (1 << 63) - 1;
 
 /// The number that digits and nothing else write, if it is at most so great.
 #[tactic(auto, unfolding(statement::specs::Literal::digits_here))]
-fn whole_within(most: u64, bytes: &[u8]) -> Option<u64>
+pub fn whole_within(most: u64, bytes: &[u8]) -> Option<u64>
     ensures value { result ≡ whole (digits_here most bytes.now) }
     ensures within { IfSome result (λ value. value ≤ most) }
 {
