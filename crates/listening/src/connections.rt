@@ -1,6 +1,7 @@
 //! Connections, each served in a thread of its own.
-ghost use Rattle.std.specs.Prelude.{IfOk};
+ghost use Rattle.std.specs.Prelude.{◌≡◌, All, IfOk, Some};
 ghost use Rattle.book.specs.Book.{IsBook};
+ghost use Rattle.journal.specs.Entries.{entry_at};
 
 use crate::clock::Microseconds;
 use book::Closed;
@@ -9,7 +10,7 @@ use journal::Receipt;
 use serving::{Gate, serve_session};
 use sessions::LockedStore;
 use std::alloc::{AllocError, Global};
-use std::io::{Read, Write};
+use std::io::BufWriter;
 use std::net::{Net, OpenListener, TcpListener, TcpStream};
 use std::sync::Wait;
 use std::thread;
@@ -35,6 +36,8 @@ impl From<AllocError> for ListenFault {
 
 /// Takes so many connections, and serves the n-th as session n, from 1, in a thread of its own. When all have ended the store is closed with their receipts and with those of what was done before.
 ///
+/// Of the closed store it holds what `close` says, and the receipts of what was done before are of its entries.
+///
 /// A session that ends in a fault is no fault here: its receipts count, and the others go on. Where a connection cannot be taken, or a thread not made, the sessions that run are waited for.
 pub fn listen<J, R, G>(
     rt: &R,
@@ -50,22 +53,25 @@ where
     R: Net<Listener = TcpListener, Stream = TcpStream> + Clock + Threads + Wait + Sync,
     G: Gate + Sync,
     ensures book { IfOk result (IsBook J.schema) }
+    ensures stand { IfOk result (λ c. All (λ r.
+        entry_at c.entries r.number ≡ Some r.entry) before.items) }
 {
-    let receipts = serve_connections(rt, alloc, listener, sessions, &store, before, gate)?;
+    let mut receipts = before;
+    let mut others = serve_connections(rt, alloc, listener, sessions, &store, gate)?;
+    receipts.append(&mut others)?;
     match store.close(receipts) {
         Ok(closed) => Ok(closed),
         Err(_) => Err(ListenFault::NotClosed),
     }
 }
 
-/// The receipts of all sessions, behind those of what was done before.
+/// The receipts of all sessions.
 fn serve_connections<J, R, G>(
     rt: &R,
     alloc: Global,
     listener: &TcpListener,
     sessions: u8,
     store: &LockedStore<J>,
-    before: Vec<Receipt<J>>,
     gate: &G,
 ) -> Result<Vec<Receipt<J>>, ListenFault>
 where
@@ -73,7 +79,7 @@ where
     R: Net<Listener = TcpListener, Stream = TcpStream> + Clock + Threads + Wait + Sync,
     G: Gate + Sync,
 {
-    let mut receipts = before;
+    let mut receipts = Vec::new(alloc);
     thread::scope(thread::scope_env(), rt, |scope| {
         let mut handles = Vec::with_capacity(alloc, sessions as usize)?;
         for turn in 0..sessions {
@@ -108,8 +114,12 @@ fn serve_stream<J: StoreName, R: Clock + Wait, G: Gate>(
     let Ok(session) = store.session(alloc, number) else {
         return Vec::new(alloc);
     };
+    // A reply is sent at once, whether or not what was sent before has arrived. Where that cannot be set, it is sent all the same.
+    let _ = stream.set_nodelay(true);
+    let Ok(mut writer) = BufWriter::new(alloc, stream) else {
+        return Vec::new(alloc);
+    };
     let mut reader = stream;
-    let mut writer = stream;
     let mut readings = Microseconds { rt };
     let served = serve_session(
         rt,

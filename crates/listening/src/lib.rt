@@ -4,9 +4,13 @@
 mod clock;
 mod connections;
 mod gate;
+mod loading;
+mod server;
 mod socket;
 
 pub use clock::Microseconds;
 pub use connections::{ListenFault, listen};
 pub use gate::AlwaysOpen;
+pub use loading::{Loaded, load_into};
+pub use server::{Plan, ServerFault, TableRows, serve};
 pub use socket::bind;

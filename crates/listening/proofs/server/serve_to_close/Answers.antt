@@ -1,0 +1,14 @@
+use Rattle.std.specs.Prelude.{◌≡◌, Some}
+use Rattle.std.proofs.lemmas.List.Elements.{All-map}
+use Rattle.journal.specs.Entries.{entry_at}
+use Rattle.serving.specs.Taken.{Given}
+use Rattle.listening.proofs.server.serve_to_close.Goals as goal
+
+pub returns-in-Ok-listen-clause-ok : goal.returns-in-Ok-listen-clause-ok
+returns-in-Ok-listen-clause-ok g c = (
+  (c.from.result, c.in-Ok-report.ensures.ok),
+  record {
+    is_book = c.in-Ok-listen.ensures.book;
+    stand = All-map (λ (g : Given). entry_at c.in-Ok-listen.closed.entries g.number ≡ Some g.entry) (λ r. record { number = r.number; entry = r.entry }) c.args.receipts.items c.in-Ok-listen.ensures.stand;
+  },
+)

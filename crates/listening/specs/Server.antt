@@ -1,0 +1,171 @@
+-- What a server writes, and what its closed store is.
+use Rattle.std.specs.Prelude.{◌≡◌, ◌⊎◌, ℕ, List, [], Option, Some, None, IfSome, IsSome, All, codes, length}
+use Rattle.std.specs.Io.KnownBytes.{Appends, Keeps}
+use Rattle.values.specs.Commits.{max_instant}
+use Rattle.values.specs.Log.{changes}
+use Rattle.values.specs.Tables.{Schema, table_at}
+use Rattle.values.specs.Versions.{answer}
+use Rattle.values.specs.declared.table.Table.{Table}
+use Rattle.values.specs.declared.query.Form.TheVariants.{Between}
+use Rattle.values.specs.declared.refusal.Refusal.{Refusal}
+use Rattle.statement.specs.Print.{numbered}
+use Rattle.statement.specs.Writer.{AppendsFront}
+use Rattle.interchange.specs.Export.{export_text}
+use Rattle.interchange.specs.Report.{loaded_text}
+use Rattle.journal.specs.Entries.{entry_at, log}
+use Rattle.book.specs.Book.{BookState, IsBook}
+use Rattle.serving.specs.Taken.{Given}
+use Rattle.listening.specs.Loading.{IsLoaded, IsUnloaded}
+use Rattle.listening.specs.declared.server.TableRows.{TableRows}
+use Rattle.listening.specs.declared.server.ServerFault.{ServerFault}
+use Rattle.listening.specs.declared.server.ServerFault.TheVariants.{Load, Write, Listen}
+
+-- ---- the rows that are loaded first
+
+pub record HasReported (schema : Schema) (first : TableRows) (receipts : List Given)
+    (old new : Option (List ℕ)) : Type 0 where
+  pub instant : ℕ
+  pub loaded : IsLoaded schema first.number first.rows.items receipts instant
+  pub wrote : Appends old new (loaded_text (length first.rows.items) instant)
+
+-- what is loaded, where something is, with its receipts, and its report
+abbrev pub HasFirst : Schema → Option TableRows → List Given → (old new : Option (List ℕ)) → Type 0
+HasFirst schema None receipts old new = (receipts ≡ []) × Keeps old new
+HasFirst schema (Some first) receipts old new = HasReported schema first receipts old new
+
+-- ---- a store that was served and closed
+
+-- its journal is legal, its tree holds what the journal's log changed, and these receipts are of its entries
+pub record IsClosedWith (schema : Schema) (receipts : List Given) (b : BookState) : Type 0 where
+  pub is_book : IsBook schema b
+  pub stand : All (λ g. entry_at b.entries g.number ≡ Some g.entry) receipts
+
+-- the table that is exported, where one is, is one of these
+abbrev pub IsExportOf : Schema → Option ℕ → Type 0
+IsExportOf schema number = IfSome number (λ n. IsSome (table_at schema n))
+
+-- the line that tells the port
+abbrev pub HasListened : (old new : Option (List ℕ)) → Type 0
+HasListened old new = (port : ℕ) × Appends old new (numbered (codes "listening ") port)
+
+-- the line that tells how many entries there are
+abbrev pub HasClosed : BookState → (old new : Option (List ℕ)) → Type 0
+HasClosed b old new = Appends old new (numbered (codes "closed ") (length b.entries))
+
+-- a table with all versions that the journal's log gives
+abbrev pub versions_text : BookState → Table → List ℕ
+versions_text b table = export_text table
+    (answer (changes (log b.entries)) table (Between 0 max_instant)
+    (record { table = table.number; comparisons = [] }))
+
+pub record HasWritten (schema : Schema) (number : ℕ) (b : BookState) (old new : Option (List ℕ))
+    : Type 0 where
+  pub table : Table
+  pub table_is : table_at schema number ≡ Some table
+  pub wrote : Appends old new (versions_text b table)
+
+-- the table that is exported, where one is
+abbrev pub HasExported : Schema → Option ℕ → BookState → (old new : Option (List ℕ)) → Type 0
+HasExported schema None b old new = Keeps old new
+HasExported schema (Some number) b old new = HasWritten schema number b old new
+
+-- ---- all of it
+
+-- the number of entries, and then the table that is exported
+pub record EndsAfter (schema : Schema) (number : Option ℕ) (b : BookState)
+    (old new : Option (List ℕ)) : Type 0 where
+  pub ended : Option (List ℕ)
+  pub closes : HasClosed b old ended
+  pub exported : HasExported schema number b ended new
+
+-- the report of what was loaded, the port, and the end of a store that has the receipts of the load
+pub record HasServed (schema : Schema) (first : Option TableRows) (number : Option ℕ)
+    (old new : Option (List ℕ)) : Type 0 where
+  pub receipts : List Given
+  pub reported : Option (List ℕ)
+  pub listening : Option (List ℕ)
+  pub b : BookState
+  pub loads : HasFirst schema first receipts old reported
+  pub listens : HasListened reported listening
+  pub closed : IsClosedWith schema receipts b
+  pub ends : EndsAfter schema number b listening new
+
+-- ---- what a fault leaves: what came before it, and a prefix of what was to be written next
+
+-- a prefix of the report of what was loaded
+pub record StopsInReport (schema : Schema) (first : Option TableRows) (old new : Option (List ℕ))
+    : Type 0 where
+  pub rows : TableRows
+  pub first_is : first ≡ Some rows
+  pub receipts : List Given
+  pub instant : ℕ
+  pub loaded : IsLoaded schema rows.number rows.rows.items receipts instant
+  pub wrote : AppendsFront old new (loaded_text (length rows.rows.items) instant)
+
+-- a prefix of the line that tells the port
+abbrev pub StopsListening : (old new : Option (List ℕ)) → Type 0
+StopsListening old new = (port : ℕ) × AppendsFront old new (numbered (codes "listening ") port)
+
+pub record StopsAtPort (schema : Schema) (first : Option TableRows) (old new : Option (List ℕ))
+    : Type 0 where
+  pub receipts : List Given
+  pub reported : Option (List ℕ)
+  pub loads : HasFirst schema first receipts old reported
+  pub stops : StopsListening reported new
+
+-- a prefix of the table that is exported
+pub record StopsInExport (schema : Schema) (number : Option ℕ) (b : BookState)
+    (old new : Option (List ℕ)) : Type 0 where
+  pub ended : Option (List ℕ)
+  pub closes : HasClosed b old ended
+  pub n : ℕ
+  pub number_is : number ≡ Some n
+  pub table : Table
+  pub table_is : table_at schema n ≡ Some table
+  pub wrote : AppendsFront ended new (versions_text b table)
+
+-- a prefix of the line that tells how many entries there are, or of the table
+abbrev pub StopsLate : Schema → Option ℕ → BookState → (old new : Option (List ℕ)) → Type 0
+StopsLate schema number b old new =
+    AppendsFront old new (numbered (codes "closed ") (length b.entries))
+    ⊎ StopsInExport schema number b old new
+
+pub record StopsAfter (schema : Schema) (first : Option TableRows) (number : Option ℕ)
+    (old new : Option (List ℕ)) : Type 0 where
+  pub receipts : List Given
+  pub reported : Option (List ℕ)
+  pub listening : Option (List ℕ)
+  pub b : BookState
+  pub loads : HasFirst schema first receipts old reported
+  pub listens : HasListened reported listening
+  pub closed : IsClosedWith schema receipts b
+  pub stops : StopsLate schema number b listening new
+
+-- no rows were refused
+abbrev pub IsOther : ServerFault → Type 0
+IsOther (Load refusal) = ⊥
+IsOther Write = Unit {0}
+IsOther (Listen fault) = Unit {0}
+
+-- why rows are not loaded, where there are some
+abbrev pub IsRefusedFirst : Schema → Option TableRows → Refusal → Type 0
+IsRefusedFirst schema None refusal = ⊥
+IsRefusedFirst schema (Some first) refusal =
+    IsUnloaded schema first.number first.rows.items refusal
+
+-- nothing was loaded and written, or a prefix of the report
+abbrev pub HasNoFirst : ServerFault → Schema → Option TableRows → (old new : Option (List ℕ)) → Type 0
+HasNoFirst (Load refusal) schema first old new = IsRefusedFirst schema first refusal × Keeps old new
+HasNoFirst Write schema first old new = StopsInReport schema first old new
+HasNoFirst (Listen fault) schema first old new = Keeps old new
+
+abbrev pub StopsSomewhere : Schema → Option TableRows → Option ℕ → (old new : Option (List ℕ)) → Type 0
+StopsSomewhere schema first number old new =
+    StopsAtPort schema first old new ⊎ StopsAfter schema first number old new
+
+-- where rows were refused, nothing was written
+abbrev pub HasStopped : ServerFault → Schema → Option TableRows → Option ℕ
+    → (old new : Option (List ℕ)) → Type 0
+HasStopped fault schema first number old new =
+    HasNoFirst fault schema first old new
+    ⊎ (IsOther fault × StopsSomewhere schema first number old new)

@@ -1,0 +1,289 @@
+//! A store that is loaded, served and closed, and what is written of it.
+ghost use Rattle.std.specs.Prelude.{◌≡◌, ◌⊎◌, ℕ, [], Some, IfOk, IfErr, OnOk, map, codes, length};
+ghost use Rattle.std.specs.Io.KnownBytes.{Appends, Keeps};
+ghost use Rattle.values.specs.Commits.{max_instant};
+ghost use Rattle.values.specs.Log.{changes};
+ghost use Rattle.values.specs.Memory.{OnlyMemory};
+ghost use Rattle.values.specs.Tables.{table_at};
+ghost use Rattle.values.specs.Versions.{answer};
+ghost use Rattle.values.specs.declared.query.Form.TheVariants.{Between};
+ghost use Rattle.statement.specs.Print.{numbered};
+ghost use Rattle.statement.specs.Writer.{AppendsFront};
+ghost use Rattle.journal.specs.Entries.{log};
+ghost use Rattle.book.specs.Book.{IsBook};
+ghost use Rattle.serving.specs.Taken.{Given};
+ghost use Rattle.listening.specs.Server.{EndsAfter, HasFirst, HasListened, HasNoFirst, HasReported, HasServed, HasStopped, IsClosedWith, IsExportOf, IsOther, StopsListening, StopsLate, versions_text};
+
+use crate::connections::{ListenFault, listen};
+use crate::gate::AlwaysOpen;
+use crate::loading::load_into;
+use crate::socket::bind;
+use book::Closed;
+use growlog::{NewLog, StoreName};
+use interchange::{ExportFault, export, loaded_line, numbered_line, put_whole};
+use journal::{Receipt, SharedEntry};
+use rows::{Form, Keys, LAST, Mem, Refusal, Row, Schema, Shown, Table};
+use sessions::LockedStore;
+use std::alloc::Global;
+use std::io::Write;
+use std::marker::Brand;
+use std::net::{Net, TcpListener, TcpStream};
+use std::sync::Wait;
+use std::thread::Threads;
+use std::time::Clock;
+use systime_query::answer;
+
+/// Why a server stopped before its end.
+#[derive(Debug, Drop)]
+pub enum ServerFault {
+    /// The rows were refused.
+    Load(Refusal),
+    /// The writer failed.
+    Write,
+    /// Connections could not be served to a closed store.
+    Listen(ListenFault),
+}
+
+/// Rows of the table with a number.
+#[derive(Drop)]
+pub struct TableRows {
+    pub number: u8,
+    pub rows: Vec<Row>,
+}
+
+/// What a server does: the port at which it listens, 0 where the system chooses; how many connections it takes; and the number of the table that is exported at the end, where one is.
+#[derive(Clone, Copy, Debug, PartialEq, Eq)]
+pub struct Plan {
+    pub port: u16,
+    pub sessions: u8,
+    pub export: Option<u8>,
+}
+
+const OUT_OF_MEMORY: ServerFault = ServerFault::Listen(ListenFault::Memory);
+
+/// Serves connections round a store of these tables, and writes what becomes of it, each as soon as it is so: with rows to be loaded, `loaded N at I`; once it listens, `listening P`, where P is the port; when all connections have ended, `closed J`, where J is the number of entries; and then the table that is exported, with all its versions.
+pub fn serve<R, O>(
+    rt: &R,
+    alloc: Global,
+    out: &mut O,
+    schema: Schema,
+    first: Option<TableRows>,
+    plan: Plan,
+) -> Result<(), ServerFault>
+where
+    R: Net<Listener = TcpListener, Stream = TcpStream> + Clock + Threads + Wait + Sync,
+    O: Write,
+    requires export { IsExportOf schema plan.export }
+    ensures ok { OnOk result (HasServed schema first plan.export
+        (O.contents out.old) (O.contents out.new)) }
+    ensures err { IfErr result (λ fault. HasStopped fault schema first plan.export
+        (O.contents out.old) (O.contents out.new)) }
+{
+    serve_store::<Brand, R, O>(rt, alloc, out, schema, first, plan, NewLog::new())
+}
+
+fn serve_store<J, R, O>(
+    rt: &R,
+    alloc: Global,
+    out: &mut O,
+    schema: Schema,
+    first: Option<TableRows>,
+    plan: Plan,
+    opened: NewLog<SharedEntry>,
+) -> Result<(), ServerFault>
+where
+    J: StoreName,
+    R: Net<Listener = TcpListener, Stream = TcpStream> + Clock + Threads + Wait + Sync,
+    O: Write,
+    requires log { opened.seen.book ≡ J.book }
+    requires tables { schema ≡ J.schema }
+    requires export { IsExportOf schema plan.export }
+    ensures ok { OnOk result (HasServed schema first plan.export
+        (O.contents out.old) (O.contents out.new)) }
+    ensures err { IfErr result (λ fault. HasStopped fault schema first plan.export
+        (O.contents out.old) (O.contents out.new)) }
+{
+    let Ok(tables) = schema.copy(alloc) else {
+        return Err(OUT_OF_MEMORY);
+    };
+    let Ok(store) = LockedStore::<J>::new(alloc, schema, opened) else {
+        return Err(OUT_OF_MEMORY);
+    };
+    let receipts = match load_first(rt, alloc, out, &store, first) {
+        Ok(receipts) => receipts,
+        Err(fault) => return Err(fault),
+    };
+    match serve_to_close(rt, alloc, out, plan, store, receipts) {
+        Ok(closed) => close_with(alloc, out, &tables, plan.export, &closed),
+        Err(fault) => Err(fault),
+    }
+}
+
+/// The receipts of the rows that are loaded, where some are to be, once they are reported.
+fn load_first<J: StoreName, R: Wait, O: Write>(
+    rt: &R,
+    alloc: Global,
+    out: &mut O,
+    store: &LockedStore<J>,
+    first: Option<TableRows>,
+) -> Result<Vec<Receipt<J>>, ServerFault>
+    ensures ok { IfOk result (λ receipts. HasFirst J.schema first
+        (map (λ r. record { number = r.number; entry = r.entry }) receipts.items)
+        (O.contents out.old) (O.contents out.new)) }
+    ensures err { IfErr result (λ fault. HasNoFirst fault J.schema first
+        (O.contents out.old) (O.contents out.new)) }
+{
+    match first {
+        Some(first) => load_and_report(rt, alloc, out, store, &first),
+        None => Ok(Vec::new(alloc)),
+    }
+}
+
+fn load_and_report<J: StoreName, R: Wait, O: Write>(
+    rt: &R,
+    alloc: Global,
+    out: &mut O,
+    store: &LockedStore<J>,
+    first: &TableRows,
+) -> Result<Vec<Receipt<J>>, ServerFault>
+    ensures ok { IfOk result (λ receipts. HasReported J.schema first.now
+        (map (λ r. record { number = r.number; entry = r.entry }) receipts.items)
+        (O.contents out.old) (O.contents out.new)) }
+    ensures err { IfErr result (λ fault. HasNoFirst fault J.schema (Some first.now)
+        (O.contents out.old) (O.contents out.new)) }
+{
+    let rows = first.rows.as_slice();
+    let loaded = match load_into(rt, alloc, store, first.number, rows) {
+        Ok(loaded) => loaded,
+        Err(refusal) => return Err(ServerFault::Load(refusal)),
+    };
+    let Ok(line) = loaded_line(alloc, rows.len(), loaded.instant) else {
+        return Err(OUT_OF_MEMORY);
+    };
+    match put_whole(out, line.as_slice()) {
+        Ok(()) => Ok(loaded.receipts),
+        Err(_) => Err(ServerFault::Write),
+    }
+}
+
+/// Writes a label and a number as a line.
+fn report<O: Write>(
+    alloc: Global,
+    out: &mut O,
+    label: &[u8],
+    number: u64,
+) -> Result<(), ServerFault>
+    ensures ok { OnOk result (Appends (O.contents out.old) (O.contents out.new)
+        (numbered label.now number)) }
+    ensures err { IfErr result (λ fault. IsOther fault × AppendsFront (O.contents out.old)
+        (O.contents out.new) (numbered label.now number)) }
+{
+    let Ok(line) = numbered_line(alloc, label, number) else {
+        return Err(OUT_OF_MEMORY);
+    };
+    match put_whole(out, line.as_slice()) {
+        Ok(()) => Ok(()),
+        Err(_) => Err(ServerFault::Write),
+    }
+}
+
+/// Listens, reports the port, and serves connections until the store closes.
+fn serve_to_close<J, R, O>(
+    rt: &R,
+    alloc: Global,
+    out: &mut O,
+    plan: Plan,
+    store: LockedStore<J>,
+    receipts: Vec<Receipt<J>>,
+) -> Result<Closed, ServerFault>
+where
+    J: StoreName,
+    R: Net<Listener = TcpListener, Stream = TcpStream> + Clock + Threads + Wait + Sync,
+    O: Write,
+    ensures ok { IfOk result (λ closed. HasListened (O.contents out.old) (O.contents out.new)
+        × IsClosedWith J.schema
+        (map (λ r. record { number = r.number; entry = r.entry }) receipts.items) closed) }
+    ensures err { IfErr result (λ fault. IsOther fault
+        × StopsListening (O.contents out.old) (O.contents out.new)) }
+{
+    let Ok((listener, port)) = bind(rt, plan.port) else {
+        return Err(ServerFault::Listen(ListenFault::Socket));
+    };
+    match report(alloc, out, b"listening ", u64::from(port)) {
+        Ok(()) => {}
+        Err(fault) => return Err(fault),
+    }
+    match listen(rt, alloc, &listener, plan.sessions, store, receipts, &AlwaysOpen) {
+        Ok(closed) => Ok(closed),
+        Err(fault) => Err(ServerFault::Listen(fault)),
+    }
+}
+
+/// Reports a store that is closed, and exports a table of it, where one is to be.
+fn close_with<O: Write>(
+    alloc: Global,
+    out: &mut O,
+    tables: &Schema,
+    number: Option<u8>,
+    closed: &Closed,
+) -> Result<(), ServerFault>
+    requires { IsExportOf tables.now number }
+    ensures ok { OnOk result (IsBook tables.now closed.now
+        → EndsAfter tables.now number closed.now (O.contents out.old) (O.contents out.new)) }
+    ensures err { IfErr result (λ fault. IsBook tables.now closed.now → IsOther fault
+        × StopsLate tables.now number closed.now (O.contents out.old) (O.contents out.new)) }
+{
+    match report(alloc, out, b"closed ", closed.entries() as u64) {
+        Ok(()) => {}
+        Err(fault) => return Err(fault),
+    }
+    let Some(number) = number else {
+        return Ok(());
+    };
+    match tables.table_at(number) {
+        Some(table) => export_closed(alloc, out, table, closed),
+        None => unreachable!(),
+    }
+}
+
+/// Writes a table with all its versions as CSV.
+fn export_closed<O: Write>(
+    alloc: Global,
+    out: &mut O,
+    table: &Table,
+    closed: &Closed,
+) -> Result<(), ServerFault>
+    ensures ok { OnOk result ((schema : Schema) → IsBook schema closed.now
+        → table_at schema table.now.number ≡ Some table.now
+        → Appends (O.contents out.old) (O.contents out.new)
+        (versions_text closed.now table.now)) }
+    ensures err { IfErr result (λ fault. (schema : Schema) → IsBook schema closed.now
+        → table_at schema table.now.number ≡ Some table.now
+        → IsOther fault × AppendsFront (O.contents out.old) (O.contents out.new)
+        (versions_text closed.now table.now)) }
+{
+    let Ok(shown) = versions_of(alloc, closed, table) else {
+        return Err(OUT_OF_MEMORY);
+    };
+    match export(alloc, out, table, shown.as_slice()) {
+        Ok(()) => match out.flush() {
+            Ok(()) => Ok(()),
+            Err(_) => Err(ServerFault::Write),
+        },
+        Err(ExportFault::Write) => Err(ServerFault::Write),
+        Err(ExportFault::Memory) => Err(OUT_OF_MEMORY),
+    }
+}
+
+/// All versions of a table.
+fn versions_of(alloc: Global, closed: &Closed, table: &Table) -> Mem<Vec<Shown>>
+    ensures ok { IfOk result (λ shown. (schema : Schema) → IsBook schema closed.now
+        → table_at schema table.now.number ≡ Some table.now
+        → shown.items ≡ answer (changes (log closed.now.entries)) table.now
+        (Between 0 max_instant) (record { table = table.now.number; comparisons = [] })) }
+    ensures err { OnlyMemory result }
+{
+    let keys = Keys::all(alloc, table.number);
+    let view = closed.tree().current();
+    answer(alloc, view, table, Form::Between(0, LAST), &keys)
+}
