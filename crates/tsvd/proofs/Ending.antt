@@ -9,12 +9,16 @@ use Rattle.interleaving.specs.SystemState.{SystemState, Stands}
 use Rattle.tsvd.specs.declared.words.Options.{Options}
 use Rattle.tsvd.specs.declared.words.WordsFault.{WordsFault}
 use Rattle.tsvd.specs.declared.fault.Fault.{Fault}
-use Rattle.tsvd.specs.declared.fault.Fault.TheVariants.{Words, SchemaSyntax, BadTable, SchemaMemory, NoExport, Load, Read, Write, Memory}
-use Rattle.tsvd.specs.Fault.{is_of_words}
-use Rattle.tsvd.specs.Words.{Asked, Gives, Refuses, asked_of}
+use Rattle.tsvd.specs.declared.fault.Fault.TheVariants.{Words, SchemaSyntax, BadTable, SchemaMemory, NoExport, Load, Read, Write, Socket, NotClosed, Memory}
+use Rattle.listening.specs.declared.connections.ListenFault.TheVariants as listen
+use Rattle.listening.specs.declared.server.ServerFault.{ServerFault}
+use Rattle.listening.specs.declared.server.ServerFault.TheVariants as server
+use Rattle.tsvd.specs.Fault.{is_of_words, of_server}
+use Rattle.tsvd.specs.Words.{Asked, AskedMode, Scripts, Listens, Gives, Refuses, asked_of}
 use Rattle.tsvd.specs.Load.{Unloaded}
 use Rattle.tsvd.specs.Export.{HasExported, Unexported}
-use Rattle.tsvd.specs.Program.{HaltsAt, HaltsOn, Halts, HasRun, HasRunOn, IsFaulty, IsOfSchema, IsRefused, IsStuck, IsUnanswered}
+use Rattle.tsvd.specs.Served.{IsNoFirst, HaltsServing}
+use Rattle.tsvd.specs.Program.{HaltsAt, HaltsMode, HaltsOn, Halts, HasRun, HasRunOn, IsFaulty, IsOfSchema, IsRefused, IsStuck, IsUnanswered}
 use Rattle.tsvd.proofs.Faults.{of_words}
 
 -- ---- the script, then the export
@@ -69,9 +73,28 @@ no_halt : (f : WordsFault) (text script : Option Text) (number : Option ℕ) (sc
 no_halt f text script number schema unread left old new (inl early) = no_load f schema text old new early.unloaded
 no_halt f text script number schema unread left old new (inr loaded) = no_rest f script number schema loaded.first unread left loaded.between new loaded.rest
 
+no_first : (f : WordsFault) (text : Option Text) (schema : Schema) → IsNoFirst (Words f) text schema → ⊥
+no_first f None schema x = x
+no_first f (Some t) schema x = x
+
+not_of_server : (f : WordsFault) (why : ServerFault) → Words f ≡ of_server why → ⊥
+not_of_server f (server.Load refusal) e = cc e
+not_of_server f server.Write e = cc e
+not_of_server f (server.Listen listen.Socket) e = cc e
+not_of_server f (server.Listen listen.Memory) e = cc e
+not_of_server f (server.Listen listen.NotClosed) e = cc e
+
+no_serving : (f : WordsFault) (text : Option Text) (number : Option ℕ) (schema : Schema) (unread left old new : Option (List ℕ)) → HaltsServing (Words f) text number schema unread left old new → ⊥
+no_serving f text number schema unread left old new (inl x) = no_first f text schema x.0
+no_serving f text number schema unread left old new (inr stops) = not_of_server f stops.why stops.fault_is
+
+no_mode : (f : WordsFault) (mode : AskedMode) (text : Option Text) (number : Option ℕ) (schema : Schema) (unread left old new : Option (List ℕ)) → HaltsMode (Words f) mode text number schema unread left old new → ⊥
+no_mode f (Scripts script) text number schema unread left old new x = no_halt f text script number schema unread left old new x
+no_mode f (Listens port sessions) text number schema unread left old new x = no_serving f text number schema unread left old new x
+
 no_fault : (f : WordsFault) (asked : Asked) (schema : Schema) (unread left old new : Option (List ℕ)) → Halts (Words f) asked schema unread left old new → ⊥
 no_fault f asked schema unread left old new (inl unknown) = cc unknown.fault_is
-no_fault f asked schema unread left old new (inr halted) = no_halt f asked.load asked.script halted.number schema unread left old new halted.halts
+no_fault f asked schema unread left old new (inr halted) = no_mode f asked.mode asked.load halted.number schema unread left old new halted.halts
 
 not_stuck : (f : WordsFault) (asked : Asked) (unread left old new : Option (List ℕ)) → IsStuck (Words f) asked unread left old new → ⊥
 not_stuck f asked unread left old new (inl x) = no_schema f asked.schema x.0
@@ -83,9 +106,10 @@ pub taken_faulty : (r : Result (Unit {0}) Fault) (words : List Text) (options : 
     → IfErr r (λ fault. is_of_words fault ≡ false → IsFaulty words unread left old new)
 taken_faulty (Ok u) words options unread left old new gives stuck = tt
 taken_faulty (Err fault) words options unread left old new gives stuck = λ _. inr (inr (record {
-  are_taken = gives.are_taken;
+  asked = asked_of options;
+  ask_for = gives;
   fault = fault;
-  stuck = subst (λ asked. IsStuck fault asked unread left old new) gives.asked stuck;
+  stuck = stuck;
 }))
 
 -- ---- and where they are not
@@ -107,6 +131,8 @@ unanswered SchemaMemory words unread old new e x = absurd x
 unanswered NoExport words unread old new e x = absurd x
 unanswered (Load refusal) words unread old new e x = absurd x
 unanswered Read words unread old new e x = absurd x
+unanswered Socket words unread old new e x = absurd x
+unanswered NotClosed words unread old new e x = absurd x
 unanswered Write words unread old new e x = inr (inl (Keeps-refl unread, x))
 unanswered Memory words unread old new e x = inl (record { read = Keeps-refl unread; wrote = x })
 

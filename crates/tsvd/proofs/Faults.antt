@@ -2,7 +2,7 @@
 use Rattle.std.proofs.Common.{◌≡◌, true, refl}
 use Rattle.tsvd.specs.declared.words.WordsFault.{WordsFault}
 use Rattle.tsvd.specs.declared.fault.Fault.{Fault}
-use Rattle.tsvd.specs.declared.fault.Fault.TheVariants.{Words, SchemaSyntax, BadTable, SchemaMemory, NoExport, Load, Read, Write, Memory}
+use Rattle.tsvd.specs.declared.fault.Fault.TheVariants.{Words, SchemaSyntax, BadTable, SchemaMemory, NoExport, Load, Read, Write, Socket, NotClosed, Memory}
 use Rattle.tsvd.specs.Fault.{is_of_words}
 
 pub of_words : (fault : Fault) → is_of_words fault ≡ true → (f : WordsFault) × (fault ≡ Words f)
@@ -14,4 +14,6 @@ of_words NoExport e = cc
 of_words (Load refusal) e = cc
 of_words Read e = cc
 of_words Write e = cc
+of_words Socket e = cc
+of_words NotClosed e = cc
 of_words Memory e = cc

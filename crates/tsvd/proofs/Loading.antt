@@ -11,9 +11,10 @@ use Rattle.statement.specs.Writer.{AppendsFront}
 use Rattle.interleaving.specs.SystemState.{SystemState, Stands}
 use Rattle.scripts.specs.First.{history_of, first_refusal}
 use Rattle.tsvd.specs.declared.fault.Fault.{Fault}
-use Rattle.tsvd.specs.declared.fault.Fault.TheVariants.{Words, SchemaSyntax, BadTable, SchemaMemory, NoExport, Load, Read, Write, Memory}
+use Rattle.tsvd.specs.declared.fault.Fault.TheVariants.{Words, SchemaSyntax, BadTable, SchemaMemory, NoExport, Load, Read, Write, Socket, NotClosed, Memory}
 use Rattle.tsvd.specs.Words.{name_in}
-use Rattle.tsvd.specs.Load.{IsNamed, FileSays, HasNoRows, IsLed, IsUnread, IsUntold, Unloaded, loaded_text, steps_of}
+use Rattle.interchange.specs.Report.{loaded_text}
+use Rattle.tsvd.specs.Load.{IsNamed, FileSays, HasNoRows, IsLed, IsUnread, IsUntold, Unloaded, steps_of}
 
 same_text : (schema : Schema) (s : SystemState) (number : ℕ) (rows : List Row) (count instant : ℕ) → count ≡ length rows → s.schema ≡ schema → instant ≡ last (log s.schema (history_of (steps_of number rows)))
     → loaded_text count instant ≡ loaded_text (length rows) (last (log schema (history_of (steps_of number rows))))
@@ -47,6 +48,8 @@ unloaded_late SchemaMemory schema text number rows s old new count instant count
 unloaded_late NoExport schema text number rows s old new count instant count_is says at is taken instant_is untold = absurd untold
 unloaded_late (Load refusal) schema text number rows s old new count instant count_is says at is taken instant_is untold = absurd untold
 unloaded_late Read schema text number rows s old new count instant count_is says at is taken instant_is untold = absurd untold
+unloaded_late Socket schema text number rows s old new count instant count_is says at is taken instant_is untold = absurd untold
+unloaded_late NotClosed schema text number rows s old new count instant count_is says at is taken instant_is untold = absurd untold
 unloaded_late Memory schema text number rows s old new count instant count_is says at is taken instant_is untold = untold
 unloaded_late Write schema text number rows s old new count instant count_is says at is taken instant_is untold = record {
   first = history_of (steps_of number rows);
@@ -62,6 +65,8 @@ no_rows_of (BadTable n) schema text table named unread = absurd unread
 no_rows_of SchemaMemory schema text table named unread = absurd unread
 no_rows_of NoExport schema text table named unread = absurd unread
 no_rows_of Write schema text table named unread = absurd unread
+no_rows_of Socket schema text table named unread = absurd unread
+no_rows_of NotClosed schema text table named unread = absurd unread
 no_rows_of Memory schema text table named unread = absurd unread
 no_rows_of Read schema text table named unread = tt
 no_rows_of (Load refusal) schema text table named (inl out) = inl out

@@ -6,8 +6,11 @@ use Rattle.rows.specs.declared.schema_reading.SchemaFault.{SchemaFault}
 use Rattle.rows.specs.declared.schema_reading.SchemaFault.TheVariants as schema
 use Rattle.interchange.specs.declared.versions.ExportFault.{ExportFault}
 use Rattle.interchange.specs.declared.versions.ExportFault.TheVariants as export
+use Rattle.listening.specs.declared.connections.ListenFault.TheVariants as listen
+use Rattle.listening.specs.declared.server.ServerFault.{ServerFault}
+use Rattle.listening.specs.declared.server.ServerFault.TheVariants as server
 use Rattle.tsvd.specs.declared.fault.Fault.{Fault}
-use Rattle.tsvd.specs.declared.fault.Fault.TheVariants.{Words, SchemaSyntax, BadTable, SchemaMemory, Load, Read, Write, Memory}
+use Rattle.tsvd.specs.declared.fault.Fault.TheVariants.{Words, SchemaSyntax, BadTable, SchemaMemory, Load, Read, Write, Socket, NotClosed, Memory}
 
 -- the words are at fault
 abbrev pub is_of_words : Fault → Bool
@@ -39,3 +42,10 @@ of_load fault = Memory
 abbrev pub of_export : ExportFault → Fault
 of_export export.Write = Write
 of_export export.Memory = Memory
+
+abbrev pub of_server : ServerFault → Fault
+of_server (server.Load refusal) = Load refusal
+of_server server.Write = Write
+of_server (server.Listen listen.Socket) = Socket
+of_server (server.Listen listen.Memory) = Memory
+of_server (server.Listen listen.NotClosed) = NotClosed

@@ -1,5 +1,5 @@
 -- What is loaded before a script, and what is written for it.
-use Rattle.std.specs.Prelude.{◌≡◌, ◌⊎◌, ℕ, List, [], ◌∷◌, ◌++◌, Option, Some, None, Result, Ok, Err, codes, decimal, length}
+use Rattle.std.specs.Prelude.{◌≡◌, ◌⊎◌, ℕ, List, [], ◌∷◌, Option, Some, None, Result, Ok, Err, length}
 use Rattle.std.specs.Io.KnownBytes.{Appends, Keeps}
 use Rattle.clap.specs.Words.{Text}
 use Rattle.values.specs.declared.table.Table.{Table}
@@ -11,10 +11,10 @@ use Rattle.values.specs.Tables.{Schema, IsTable, table_at}
 use Rattle.histories.specs.declared.step.Step.{Step}
 use Rattle.histories.specs.declared.step.Step.TheVariants.{Begin, Insert, Commit}
 use Rattle.histories.specs.History.{History, log}
-use Rattle.statement.specs.Print.{numbered}
 use Rattle.statement.specs.Writer.{AppendsFront}
 use Rattle.interleaving.specs.SystemState.{SystemState, Stands}
 use Rattle.interchange.specs.Load.{Loads}
+use Rattle.interchange.specs.Report.{loaded_text}
 use Rattle.scripts.specs.First.{history_of, first_refusal}
 use Rattle.tsvd.specs.declared.fault.Fault.{Fault}
 use Rattle.tsvd.specs.declared.fault.Fault.TheVariants.{Load, Read, Write, Memory}
@@ -41,10 +41,6 @@ pub record FileSays (schema : Schema) (text : Text) (number : ℕ) (r : Result (
   pub number_is : table.number ≡ number
   pub bytes : List ℕ
   pub loads : Loads table bytes r
-
--- how many rows were loaded, and the last commit instant, 0 where there is none
-abbrev pub loaded_text : ℕ → ℕ → List ℕ
-loaded_text rows instant = codes "loaded " ++ (decimal rows ++ numbered (codes " at ") instant)
 
 -- the rows of some file, whose steps leave a history: none of them is refused
 pub record IsLoad (schema : Schema) (text : Text) (first : History) : Type 0 where

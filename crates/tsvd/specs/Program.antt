@@ -14,9 +14,10 @@ use Rattle.scripts.specs.Script.{IsIdle}
 use Rattle.scripts.specs.Transcript.{IsRunAfter, IsCutAfter, IsStoppedAfter, leaves_after}
 use Rattle.tsvd.specs.declared.fault.Fault.{Fault}
 use Rattle.tsvd.specs.declared.fault.Fault.TheVariants.{Words, SchemaSyntax, BadTable, SchemaMemory, NoExport, Read, Write, Memory}
-use Rattle.tsvd.specs.Words.{Asked, AreTaken, AreRequest, AreMistaken, asked_in}
+use Rattle.tsvd.specs.Words.{Asked, AskFor, AskedMode, Scripts, Listens, AreRequest, AreMistaken}
 use Rattle.tsvd.specs.Load.{HasLoaded, Unloaded}
 use Rattle.tsvd.specs.Export.{Exports, IsUnknown, HasExported, Unexported}
+use Rattle.tsvd.specs.Served.{HasServedAll, HaltsServing}
 
 -- the sample schema, or where a file is named the schema of some text
 abbrev pub IsSchemaOf : Option Text → Schema → Type 0
@@ -131,11 +132,25 @@ HaltsAt fault load script number schema unread left old new =
 
 -- ---- what is asked for, over a schema
 
+abbrev pub HasRunMode : AskedMode → Option Text → Option ℕ → Schema
+    → (unread left old new : Option (List ℕ)) → Type 0
+HasRunMode (Scripts script) load number schema unread left old new =
+    HasRunAll load script number schema unread left old new
+HasRunMode (Listens port sessions) load number schema unread left old new =
+    HasServedAll load number schema unread left old new
+
+abbrev pub HaltsMode : Fault → AskedMode → Option Text → Option ℕ → Schema
+    → (unread left old new : Option (List ℕ)) → Type 0
+HaltsMode fault (Scripts script) load number schema unread left old new =
+    HaltsAt fault load script number schema unread left old new
+HaltsMode fault (Listens port sessions) load number schema unread left old new =
+    HaltsServing fault load number schema unread left old new
+
 pub record HasDone (asked : Asked) (schema : Schema) (unread left old new : Option (List ℕ))
     : Type 0 where
   pub number : Option ℕ
   pub exports : Exports schema asked.exports number
-  pub ran : HasRunAll asked.load asked.script number schema unread left old new
+  pub ran : HasRunMode asked.mode asked.load number schema unread left old new
 
 -- there is no table to be exported: nothing was read or written
 pub record HasNoExport (fault : Fault) (asked : Asked) (schema : Schema)
@@ -148,7 +163,7 @@ pub record HasHalted (fault : Fault) (asked : Asked) (schema : Schema)
     (unread left old new : Option (List ℕ)) : Type 0 where
   pub number : Option ℕ
   pub exports : Exports schema asked.exports number
-  pub halts : HaltsAt fault asked.load asked.script number schema unread left old new
+  pub halts : HaltsMode fault asked.mode asked.load number schema unread left old new
 
 abbrev pub Halts : Fault → Asked → Schema → (unread left old new : Option (List ℕ)) → Type 0
 Halts fault asked schema unread left old new =
@@ -195,8 +210,9 @@ pub record IsComplete (asked : Asked) (unread left old new : Option (List ℕ)) 
   pub did : HasDone asked schema unread left old new
 
 pub record IsRun (words : List Text) (unread left old new : Option (List ℕ)) : Type 0 where
-  pub are_taken : AreTaken words
-  pub complete : IsComplete (asked_in words) unread left old new
+  pub asked : Asked
+  pub ask_for : AskFor words asked
+  pub complete : IsComplete asked unread left old new
 
 abbrev pub IsDone : List Text → (unread left old new : Option (List ℕ)) → Type 0
 IsDone words unread left old new =
@@ -216,9 +232,10 @@ IsStuck fault asked unread left old new =
     ⊎ IsHalted fault asked unread left old new
 
 pub record IsBroken (words : List Text) (unread left old new : Option (List ℕ)) : Type 0 where
-  pub are_taken : AreTaken words
+  pub asked : Asked
+  pub ask_for : AskFor words asked
   pub fault : Fault
-  pub stuck : IsStuck fault (asked_in words) unread left old new
+  pub stuck : IsStuck fault asked unread left old new
 
 pub record IsRefused (words : List Text) (unread left old new : Option (List ℕ)) : Type 0 where
   pub refused : AreMistaken words

@@ -1,16 +1,17 @@
 //! Why the program stops before its end. Each text is written here alone, but for those of refusals.
 ghost use Rattle.std.specs.Prelude.{◌≡◌, true, false};
-ghost use Rattle.tsvd.specs.Fault.{is_of_words, of_export, of_load, of_run, of_schema};
+ghost use Rattle.tsvd.specs.Fault.{is_of_words, of_export, of_load, of_run, of_schema, of_server};
 
 use crate::words::WordsFault;
 use interchange::ExportFault;
+use listening::{ListenFault, ServerFault};
 use rows::{Refusal, SchemaFault};
 use scripts::RunFault;
 use statement::print_refusal;
 use std::io::Write;
 use thiserror::Error;
 
-/// A fault of a stream, of a file, of a schema, of a load, of an export or of memory.
+/// A fault of a stream, of a file, of a socket, of a schema, of a load, of an export or of memory.
 pub const FAULT: u8 = 1;
 
 /// Words that are none of the program's.
@@ -36,6 +37,11 @@ pub enum Fault {
     Read,
     #[error("write fault")]
     Write,
+    #[error("socket fault")]
+    Socket,
+    /// The receipts of the sessions are not those of the store's entries, one for each.
+    #[error("not closed")]
+    NotClosed,
     #[error("memory")]
     Memory,
 }
@@ -77,6 +83,18 @@ pub fn export_fault(fault: ExportFault) -> Fault
     match fault {
         ExportFault::Write => Fault::Write,
         ExportFault::Memory => Fault::Memory,
+    }
+}
+
+pub fn server_fault(fault: ServerFault) -> Fault
+    ensures { result ≡ of_server fault }
+{
+    match fault {
+        ServerFault::Load(refusal) => Fault::Load(refusal),
+        ServerFault::Write => Fault::Write,
+        ServerFault::Listen(ListenFault::Socket) => Fault::Socket,
+        ServerFault::Listen(ListenFault::Memory) => Fault::Memory,
+        ServerFault::Listen(ListenFault::NotClosed) => Fault::NotClosed,
     }
 }
 

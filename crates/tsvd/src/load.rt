@@ -1,5 +1,5 @@
 //! Rows of a file that are loaded before the script.
-ghost use Rattle.std.specs.Prelude.{◌≡◌, ◌++◌, IfOk, IfErr, IfSome, None, Some, Ok, Err, OnOk, [], length, option_map, List, ℕ, codes, decimal};
+ghost use Rattle.std.specs.Prelude.{◌≡◌, IfOk, IfErr, IfSome, None, Some, Ok, Err, OnOk, [], length, option_map, List, ℕ};
 ghost use Rattle.std.specs.Io.KnownBytes.{Appends};
 ghost use Rattle.clap.specs.Words.{Text};
 ghost use Rattle.values.specs.Names.{table_number};
@@ -9,30 +9,24 @@ ghost use Rattle.values.specs.declared.refusal.Refusal.{Refusal as Why};
 ghost use Rattle.histories.specs.History.{History, log};
 ghost use Rattle.interleaving.specs.SystemState.{Stands};
 ghost use Rattle.interchange.specs.Load.{Loads};
+ghost use Rattle.interchange.specs.Report.{loaded_text};
 ghost use Rattle.scripts.specs.First.{history_of, first_refusal};
 ghost use Rattle.tsvd.specs.Words.{name_in};
-ghost use Rattle.tsvd.specs.Load.{IsLed, IsNamed, FileSays, HasNoRows, IsUnread, IsUntaken, IsUntold, Unloaded, loaded_text, steps_of};
+ghost use Rattle.tsvd.specs.Load.{IsLed, IsNamed, FileSays, HasNoRows, IsUnread, IsUntaken, IsUntold, Unloaded, steps_of};
 
 use crate::fault::{Fault, load_fault};
 use crate::output::put;
 use histories::Step;
-use interchange::load_rows;
+use interchange::{load_rows, loaded_line};
 use interleaving::System;
-use itoa::{Buffer, Integer};
+use listening::TableRows;
 use rows::{Instant, Mem, Refusal, Row, Rows, Schema, Table};
 use scripts::lead;
-use std::alloc::{AllocError, Global};
+use std::alloc::Global;
 use std::fs::File;
 use std::io;
 use std::io::{ErrorKind, Read, Write};
 use std::rt::Files;
-
-/// Rows for the table with a number.
-#[derive(Drop)]
-struct TableRows {
-    number: u8,
-    rows: Vec<Row>,
-}
 
 /// The table's name in the text of `--load`, up to the first `=`.
 fn name_of(text: &str) -> &str
@@ -103,8 +97,8 @@ fn table_rows<R: AllocGlobal + Files>(rt: &R, table: &Table, file: &str) -> Resu
     }
 }
 
-/// The rows that the text of `--load` asks for.
-fn rows_for<R: AllocGlobal + Files>(rt: &R, text: &str, schema: &Schema) -> Result<TableRows, Fault>
+/// The rows that the text of `--load` asks for, with their table's number.
+pub fn rows_for<R: AllocGlobal + Files>(rt: &R, text: &str, schema: &Schema) -> Result<TableRows, Fault>
     ensures ok { IfOk result (λ r. FileSays schema.now text.now r.number (Ok r.rows.items)) }
     ensures err { IfErr result (λ fault. HasNoRows fault schema.now text.now) }
 {
@@ -156,25 +150,6 @@ fn last_instant(system: &System) -> Instant
     system.tree().current().last()
 }
 
-fn put_number<N: Integer>(text: &mut Vec<u8>, number: N) -> Result<(), AllocError>
-    ensures { OnOk result (text.new.items ≡ text.old.items ++ N.text number) }
-{
-    let mut buffer = Buffer::new();
-    text.extend_from_slice(buffer.format(number).as_bytes())
-}
-
-/// How many rows were loaded, and at which instant.
-fn report_of(alloc: Global, count: usize, instant: Instant) -> Result<Vec<u8>, AllocError>
-    ensures { IfOk result (λ text. text.items ≡ loaded_text count instant) }
-{
-    let mut text = b"loaded ".to_vec(alloc)?;
-    put_number(&mut text, count as u64)?;
-    text.extend_from_slice(b" at ")?;
-    put_number(&mut text, instant)?;
-    text.push(b'\n')?;
-    Ok(text)
-}
-
 /// Writes how many rows were loaded, and at which instant.
 fn report<O: Write>(alloc: Global, out: &mut O, count: usize, instant: Instant) -> Result<(), Fault>
     ensures ok { OnOk result (
@@ -182,7 +157,7 @@ fn report<O: Write>(alloc: Global, out: &mut O, count: usize, instant: Instant) 
     ensures err { IfErr result (λ fault. IsUntold fault (loaded_text count instant)
         (O.contents out.old) (O.contents out.new)) }
 {
-    match report_of(alloc, count, instant) {
+    match loaded_line(alloc, count, instant) {
         Ok(text) => put(out, text.as_slice()),
         Err(_) => Err(Fault::Memory),
     }

@@ -1,4 +1,4 @@
-//! The program `tsvd`: system-versioned tables from the command line.
+//! The program `tsvd`: system-versioned tables from the command line and over TCP.
 #![tactic(auto)]
 
 mod fault;
@@ -7,6 +7,7 @@ mod load;
 mod output;
 mod program;
 mod schema_file;
+mod server;
 mod table_export;
 #[cfg(test)]
 mod tests;
@@ -23,26 +24,18 @@ use std::process::ExitCode;
 /// What is said of a word that is no text.
 const NO_TEXT: &str = "error: a word is not UTF-8\n";
 
+/// Runs the program on the process's words and standard streams, and ends with its status. Output is held back until a reply is whole.
 fn main(rt: HostRuntime) -> ExitCode {
-    ExitCode::from(status(&rt))
-}
-
-/// Runs the program on the process's words and standard streams, and gives its status. Output is held back until a reply is whole.
-fn status(rt: &HostRuntime) -> u8 {
-    let words = match words_after_the_name(rt) {
+    let mut err = rt.stderr();
+    let words = match words_after_the_name(&rt) {
         Ok(words) => words,
-        Err(fault) => return tell(&mut rt.stderr(), &fault),
+        Err(fault) => return ExitCode::from(tell(&mut err, &fault)),
     };
     let Ok(mut out) = BufWriter::new(rt.alloc(), rt.stdout()) else {
-        return tell(&mut rt.stderr(), &Fault::Memory);
+        return ExitCode::from(tell(&mut err, &Fault::Memory));
     };
-    program(
-        rt,
-        words.as_slice(),
-        &mut Greeter::new(rt),
-        &mut out,
-        &mut rt.stderr(),
-    )
+    let mut input = Greeter::new(&rt);
+    ExitCode::from(program(&rt, words.as_slice(), &mut input, &mut out, &mut err))
 }
 
 /// The process's words after the program's name.

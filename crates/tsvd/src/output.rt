@@ -4,7 +4,7 @@ ghost use Rattle.std.specs.Io.KnownBytes.{Appends, Keeps};
 ghost use Rattle.statement.specs.Writer.{AppendsFront};
 
 use crate::fault::Fault;
-use statement::write_all;
+use interchange::put_whole;
 use std::io::Write;
 
 /// Passes on what was written.
@@ -24,8 +24,8 @@ pub fn put<O: Write>(out: &mut O, text: &[u8]) -> Result<(), Fault>
     ensures err { IfErr result (λ fault. (fault ≡ Fault.Write)
         × AppendsFront (O.contents out.old) (O.contents out.new) text.now) }
 {
-    match write_all(out, text) {
-        Ok(()) => flush(out),
+    match put_whole(out, text) {
+        Ok(()) => Ok(()),
         Err(_) => Err(Fault::Write),
     }
 }

@@ -4,41 +4,60 @@ ghost use Rattle.std.specs.Io.KnownBytes.{Appends};
 ghost use Rattle.clap.specs.Words.{IsAmong, Text, kind_of};
 ghost use Rattle.histories.specs.History.{History};
 ghost use Rattle.interleaving.specs.SystemState.{Stands};
+ghost use Rattle.listening.specs.Server.{IsExportOf};
 ghost use Rattle.tsvd.specs.Words.{Refuses, asked_of, faults};
-ghost use Rattle.tsvd.specs.Program.{Halts, HaltsAt, HaltsOn, HasAnswered, HasDone, HasRun, HasRunAll, HasRunOn, IsComplete, IsDone, IsFaulty, IsRefused, IsStuck, IsUnanswered, IsUnshown, Leaves};
+ghost use Rattle.tsvd.specs.Program.{Halts, HaltsAt, HaltsMode, HaltsOn, HasAnswered, HasDone, HasRun, HasRunAll, HasRunMode, HasRunOn, IsComplete, IsDone, IsFaulty, IsRefused, IsStuck, IsUnanswered, IsUnshown, Leaves};
 ghost use Rattle.tsvd.specs.Fault.{is_of_words, outcome_of};
 
 use crate::fault::{FAULT, Fault, WORDS, run_fault, tell};
 use crate::load::load;
 use crate::output::put;
 use crate::schema_file::schema_of;
+use crate::server::run_server;
 use crate::table_export::{export_number, export_table};
 use crate::words;
-use crate::words::{Options, WordsFault};
+use crate::words::{Mode, Options, WordsFault};
 use clap::error::ErrorKind;
 use interleaving::System;
+use listening::Plan;
 use rows::Schema;
 use scripts::{RunFault, run_script_in};
 use std::alloc::Global;
 use std::convert::AsStr;
 use std::fs::File;
 use std::io::{Read, Write};
+use std::net::{Net, TcpListener, TcpStream};
 use std::rt::Files;
+use std::sync::Wait;
+use std::thread::Threads;
+use std::time::Clock;
 
 /// All was done. Refused lines are replies, and no faults.
 pub const DONE: u8 = 0;
 
 /// Runs the program: reads a script over a schema, each from standard input or from a file as the
-/// words ask for, and writes its transcript; before it the rows of a file may be loaded, and after it
-/// a table may be exported. The answer is the status: 0 done, 1 a fault, 2 words that are refused; a
+/// words ask for, and writes its transcript, or serves connections; before it the rows of a file may
+/// be loaded, and after it a table may be exported. The answer is the status: 0 done, 1 a fault, 2 words that are refused; a
 /// fault is reported on standard error. Help and the version are written like other output.
-pub fn program<R: AllocGlobal + Files, S: AsStr, I: Read, O: Write, E: Write>(
+pub fn program<R, S, I, O, E>(
     rt: &R,
     words: &[S],
     reader: &mut I,
     out: &mut O,
     err: &mut E,
 ) -> u8
+where
+    R: AllocGlobal
+        + Files
+        + Net<Listener = TcpListener, Stream = TcpStream>
+        + Clock
+        + Threads
+        + Wait
+        + Sync,
+    S: AsStr,
+    I: Read,
+    O: Write,
+    E: Write,
     ensures done { result ≡ DONE → IsDone (map S.text words.now)
         (I.remaining reader.old) (I.remaining reader.new)
         (O.contents out.old) (O.contents out.new) }
@@ -58,12 +77,23 @@ pub fn program<R: AllocGlobal + Files, S: AsStr, I: Read, O: Write, E: Write>(
 
 /// Runs the program up to its first fault: of the words, of the schema, of the table to be exported,
 /// of the load, of the script, of the export.
-fn run<R: AllocGlobal + Files, S: AsStr, I: Read, O: Write>(
+fn run<R, S, I, O>(
     rt: &R,
     words: &[S],
     reader: &mut I,
     out: &mut O,
 ) -> Result<(), Fault>
+where
+    R: AllocGlobal
+        + Files
+        + Net<Listener = TcpListener, Stream = TcpStream>
+        + Clock
+        + Threads
+        + Wait
+        + Sync,
+    S: AsStr,
+    I: Read,
+    O: Write,
     ensures done { OnOk result (IsDone (map S.text words.now)
         (I.remaining reader.old) (I.remaining reader.new)
         (O.contents out.old) (O.contents out.new)) }
@@ -125,12 +155,22 @@ fn answer<O: Write>(alloc: Global, out: &mut O, fault: WordsFault) -> Result<(),
 }
 
 /// Runs what is asked for.
-fn run_options<R: AllocGlobal + Files, I: Read, O: Write>(
+fn run_options<R, I, O>(
     rt: &R,
     options: Options<'_>,
     reader: &mut I,
     out: &mut O,
 ) -> Result<(), Fault>
+where
+    R: AllocGlobal
+        + Files
+        + Net<Listener = TcpListener, Stream = TcpStream>
+        + Clock
+        + Threads
+        + Wait
+        + Sync,
+    I: Read,
+    O: Write,
     ensures done { OnOk result (IsComplete (asked_of options.entry)
         (I.remaining reader.old) (I.remaining reader.new)
         (O.contents out.old) (O.contents out.new)) }
@@ -145,13 +185,23 @@ fn run_options<R: AllocGlobal + Files, I: Read, O: Write>(
 }
 
 /// Runs what is asked for over a schema: the table to be exported is looked up first.
-fn run_over<R: AllocGlobal + Files, I: Read, O: Write>(
+fn run_over<R, I, O>(
     rt: &R,
     options: Options<'_>,
     reader: &mut I,
     out: &mut O,
     schema: Schema,
 ) -> Result<(), Fault>
+where
+    R: AllocGlobal
+        + Files
+        + Net<Listener = TcpListener, Stream = TcpStream>
+        + Clock
+        + Threads
+        + Wait
+        + Sync,
+    I: Read,
+    O: Write,
     ensures done { OnOk result (HasDone (asked_of options.entry) schema
         (I.remaining reader.old) (I.remaining reader.new)
         (O.contents out.old) (O.contents out.new)) }
@@ -160,16 +210,50 @@ fn run_over<R: AllocGlobal + Files, I: Read, O: Write>(
         (O.contents out.old) (O.contents out.new)) }
 {
     match export_number(&schema, options.export) {
-        Ok(number) => run_all(
-            rt,
-            options.load,
-            options.script,
-            number,
-            reader,
-            out,
-            schema,
-        ),
+        Ok(number) => run_mode(rt, options, number, reader, out, schema),
         Err(fault) => Err(fault),
+    }
+}
+
+/// Runs a script or a server.
+fn run_mode<R, I, O>(
+    rt: &R,
+    options: Options<'_>,
+    number: Option<u8>,
+    reader: &mut I,
+    out: &mut O,
+    schema: Schema,
+) -> Result<(), Fault>
+where
+    R: AllocGlobal
+        + Files
+        + Net<Listener = TcpListener, Stream = TcpStream>
+        + Clock
+        + Threads
+        + Wait
+        + Sync,
+    I: Read,
+    O: Write,
+    requires export { IsExportOf schema number }
+    ensures done { OnOk result (HasRunMode (asked_of options.entry).mode
+        (asked_of options.entry).load number schema
+        (I.remaining reader.old) (I.remaining reader.new)
+        (O.contents out.old) (O.contents out.new)) }
+    ensures halts { IfErr result (λ fault. HaltsMode fault (asked_of options.entry).mode
+        (asked_of options.entry).load number schema
+        (I.remaining reader.old) (I.remaining reader.new)
+        (O.contents out.old) (O.contents out.new)) }
+{
+    match options.mode {
+        Mode::Script(file) => run_all(rt, options.load, file, number, reader, out, schema),
+        Mode::Listen { port, sessions } => {
+            let plan = Plan {
+                port,
+                sessions,
+                export: number,
+            };
+            run_server(rt, options.load, plan, reader, out, schema)
+        }
     }
 }
 

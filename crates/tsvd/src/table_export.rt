@@ -6,6 +6,7 @@ ghost use Rattle.histories.specs.declared.step.Listing.TheVariants.{Periods};
 ghost use Rattle.histories.specs.declared.step.Reply.TheVariants.{Shown as Shows};
 ghost use Rattle.interchange.specs.Export.{export_text};
 ghost use Rattle.interleaving.specs.SystemState.{Stands};
+ghost use Rattle.listening.specs.Server.{IsExportOf};
 ghost use Rattle.statement.specs.Writer.{AppendsFront};
 ghost use Rattle.tsvd.specs.Export.{Exports, HasExported, IsOfWriting, IsUnknown, Unexported, all_versions};
 
@@ -22,6 +23,7 @@ use std::io::Write;
 pub fn export_number(schema: &Schema, name: Option<&str>) -> Result<Option<u8>, Fault>
     ensures ok { IfOk result (λ number.
         Exports schema.now (option_map (λ text. text.now) name.entry) number) }
+    ensures there { IfOk result (IsExportOf schema.now) }
     ensures err { IfErr result (λ fault. (fault ≡ Fault.NoExport)
         × IsUnknown schema.now (option_map (λ text. text.now) name.entry)) }
 {

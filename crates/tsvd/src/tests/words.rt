@@ -1,54 +1,97 @@
 //! Words, and what `clap` makes of them.
-use crate::words::{Options, WordsFault, words};
+use crate::words::{Mode, Options, WordsFault, words};
 use clap::error::ErrorKind;
 use std::test::Fail;
 
-/// Options by their texts: of the schema, the script, the load and the export.
+/// Options of a script by their texts: of the schema, the script, the load and the export.
 type Texts<'a> = [Option<&'a str>; 4];
 
-fn texts_of<'a>(options: Options<'a>) -> Texts<'a> {
-    [options.schema, options.script, options.load, options.export]
+/// What options of a script ask for; none where they are a server's.
+fn texts_of<'a>(options: Options<'a>) -> Option<Texts<'a>> {
+    match options.mode {
+        Mode::Script(script) => Some([options.schema, script, options.load, options.export]),
+        Mode::Listen { .. } => None,
+    }
 }
+
+/// Words, with what they ask for.
+const TAKEN: [(&[&str], Texts<'static>); 16] = [
+    (&[], [None, None, None, None]),
+    (&["--schema", "a"], [Some("a"), None, None, None]),
+    (&["--script", "b"], [None, Some("b"), None, None]),
+    (&["--load", "t=c"], [None, None, Some("t=c"), None]),
+    (&["--export", "d"], [None, None, None, Some("d")]),
+    (
+        &[
+            "--export", "d", "--load", "t=c", "--script", "b", "--schema", "a",
+        ],
+        [Some("a"), Some("b"), Some("t=c"), Some("d")],
+    ),
+    (
+        &["--schema=a", "--script=b=c"],
+        [Some("a"), Some("b=c"), None, None],
+    ),
+    (&["--schema", ""], [Some(""), None, None, None]),
+    (&["--schema="], [Some(""), None, None, None]),
+    (&["--schema=--script"], [Some("--script"), None, None, None]),
+    (&["--schema", "-"], [Some("-"), None, None, None]),
+    (&["--load=t=c=d"], [None, None, Some("t=c=d"), None]),
+    (&["--load", "="], [None, None, Some("="), None]),
+    (&["--load=t="], [None, None, Some("t="), None]),
+    (&["--export="], [None, None, None, Some("")]),
+    (&["--"], [None, None, None, None]),
+];
 
 #[test]
 fn options_have_the_texts_that_follow_them(rt: HostRuntime) -> Result<(), Fail> {
-    let cases: [(&[&str], Texts); 16] = [
-        (&[], [None, None, None, None]),
-        (&["--schema", "a"], [Some("a"), None, None, None]),
-        (&["--script", "b"], [None, Some("b"), None, None]),
-        (&["--load", "t=c"], [None, None, Some("t=c"), None]),
-        (&["--export", "d"], [None, None, None, Some("d")]),
-        (
-            &[
-                "--export", "d", "--load", "t=c", "--script", "b", "--schema", "a",
-            ],
-            [Some("a"), Some("b"), Some("t=c"), Some("d")],
-        ),
-        (
-            &["--schema=a", "--script=b=c"],
-            [Some("a"), Some("b=c"), None, None],
-        ),
-        (&["--schema", ""], [Some(""), None, None, None]),
-        (&["--schema="], [Some(""), None, None, None]),
-        (&["--schema=--script"], [Some("--script"), None, None, None]),
-        (&["--schema", "-"], [Some("-"), None, None, None]),
-        (&["--load=t=c=d"], [None, None, Some("t=c=d"), None]),
-        (&["--load", "="], [None, None, Some("="), None]),
-        (&["--load=t="], [None, None, Some("t="), None]),
-        (&["--export="], [None, None, None, Some("")]),
-        (&["--"], [None, None, None, None]),
-    ];
-    for (given, texts) in cases {
+    for (given, texts) in TAKEN {
         let options = words(rt.alloc(), given)?;
-        assert_eq!(rt; texts_of(options), texts, "{given:?}");
+        assert_eq!(rt; texts_of(options), Some(texts), "{given:?}");
     }
     Ok(())
 }
 
 #[test]
-fn a_load_names_a_file_behind_an_equals_sign(rt: HostRuntime) {
-    let cases: [&[&str]; 3] = [&["--load", "emp"], &["--load="], &["--load", "emp:f"]];
-    for given in cases {
+fn a_server_has_a_port_and_a_number_of_sessions(rt: HostRuntime) -> Result<(), Fail> {
+    let cases: [([&str; 4], u16, u8); 4] = [
+        (["--listen", "0", "--sessions", "1"], 0, 1),
+        (["--sessions", "64", "--listen", "65535"], 65535, 64),
+        (["--listen", "0007411", "--sessions", "08"], 7411, 8),
+        (["--export", "d", "--listen=80", "--sessions=2"], 80, 2),
+    ];
+    for (given, port, sessions) in cases {
+        let options = words(rt.alloc(), &given)?;
+        assert_eq!(rt; options.mode, Mode::Listen { port, sessions }, "{given:?}");
+    }
+    Ok(())
+}
+
+/// Words that `clap` takes, and the program does not.
+const UNFIT: [&[&str]; 19] = [
+    &["--load", "emp"],
+    &["--load="],
+    &["--load", "emp:f"],
+    &["--listen", "0"],
+    &["--sessions", "1"],
+    &["--script", "b", "--listen", "0"],
+    &["--script", "b", "--sessions", "1"],
+    &["--script", "b", "--listen", "0", "--sessions", "1"],
+    &["--listen", "65536", "--sessions", "1"],
+    &["--listen", "18446744073709551616", "--sessions", "1"],
+    &["--listen=-1", "--sessions", "1"],
+    &["--listen", "+1", "--sessions", "1"],
+    &["--listen", "", "--sessions", "1"],
+    &["--listen", "80a", "--sessions", "1"],
+    &["--listen", " 80", "--sessions", "1"],
+    &["--listen", "0", "--sessions", "0"],
+    &["--listen", "0", "--sessions", "65"],
+    &["--listen", "0", "--sessions", "1.0"],
+    &["--listen", "0", "--sessions", ""],
+];
+
+#[test]
+fn options_that_do_not_go_together_are_refused(rt: HostRuntime) {
+    for given in UNFIT {
         let is_refused = matches!(words(rt.alloc(), given), Err(WordsFault::Words(_)));
         assert!(rt; is_refused, "{given:?}");
     }
@@ -84,8 +127,11 @@ const REFUSED: [(&[&str], ErrorKind); 24] = [
     (&["-s", "a"], ErrorKind::UnknownArgument),
     (&["--loads", "emp=f"], ErrorKind::UnknownArgument),
     (&["-v"], ErrorKind::UnknownArgument),
-    (&["--listen", "0"], ErrorKind::UnknownArgument),
-    (&["--sessions", "1"], ErrorKind::UnknownArgument),
+    (&["--listen"], ErrorKind::InvalidValue),
+    (
+        &["--sessions", "1", "--sessions", "1"],
+        ErrorKind::ArgumentConflict,
+    ),
     (&["--load"], ErrorKind::InvalidValue),
     (&["--export"], ErrorKind::InvalidValue),
     (
