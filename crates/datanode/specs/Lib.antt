@@ -1,3 +1,4 @@
 pub mod Cut
 pub mod Node
 pub mod Laws
+pub mod NextChange

@@ -18,7 +18,7 @@ use Rattle.eventlist.proofs.PlaceOrder.{sorted_head, sorted_tail}
 use Rattle.keyrange.specs.declared.range.KeyRange.{KeyRange}
 use Rattle.keyrange.specs.Range.{is_key_in}
 use Rattle.searchrange.specs.SearchRange.{Covers}
-use Rattle.treewalk.specs.NextChange.{event_after}
+use Rattle.datanode.specs.NextChange.{event_after}
 use Rattle.tsbtree.specs.View.{TreeState, events}
 use Rattle.systime_query.specs.Selection.{WhenShown, next_of, is_taken, shown_of}
 use Rattle.systime_query.specs.Window.{IsWindow, is_in_window, shown_in}

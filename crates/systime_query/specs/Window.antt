@@ -9,7 +9,7 @@ use Rattle.values.specs.declared.query.Form.{Form}
 use Rattle.values.specs.declared.query.Keys.{Keys}
 use Rattle.values.specs.declared.query.Shown.{Shown}
 use Rattle.eventlist.specs.Listing.{stands_at}
-use Rattle.treewalk.specs.NextChange.{event_after}
+use Rattle.datanode.specs.NextChange.{event_after}
 use Rattle.systime_query.specs.Selection.{next_of, shown_of}
 
 -- a form that asks of the instants from one to another, and with it: a version is selected where it begins up to the

@@ -15,7 +15,7 @@ use Rattle.datanode.proofs.CutMembers.{In, In-filter, In-from_filter, some_is}
 use Rattle.datanode.proofs.CutOrder.{head_below}
 use Rattle.datanode.proofs.CutLaws.{in_cut_decides, time_decides, ends_earlier}
 use Rattle.datanode.proofs.LawsLast.{IsLastSuch, found_such, until_such}
-use Rattle.treewalk.specs.NextChange.{event_after}
+use Rattle.datanode.specs.NextChange.{event_after}
 
 -- ---- in a list
 

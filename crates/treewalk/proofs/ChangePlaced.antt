@@ -14,7 +14,7 @@ use Rattle.eventlist.proofs.PlaceFound.{until_parts}
 use Rattle.datanode.specs.Cut.{IsMap}
 use Rattle.datanode.proofs.CutMembers.{In}
 use Rattle.datanode.proofs.CutOrder.{In_place, at_In}
-use Rattle.treewalk.specs.NextChange.{event_after}
+use Rattle.datanode.specs.NextChange.{event_after}
 use Rattle.treewalk.proofs.ChangeNext.{first_is, none_is}
 
 module _ (key : List ℕ) where

@@ -2,4 +2,3 @@ pub mod Level
 pub mod Ends
 pub mod Gather
 pub mod Shape
-pub mod NextChange

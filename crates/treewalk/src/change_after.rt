@@ -7,7 +7,7 @@ ghost use Rattle.keyrange.specs.Rect.{has_point};
 ghost use Rattle.datanode.specs.Cut.{cut};
 ghost use Rattle.treenodes.specs.Tree.{IsTree};
 ghost use Rattle.treenodes.specs.Map.{HoldsMap};
-ghost use Rattle.treewalk.specs.NextChange.{event_after};
+ghost use Rattle.datanode.specs.NextChange.{event_after};
 
 use datanode::DataNode;
 use eventlist::{event_until, place_after};

@@ -7,7 +7,7 @@ ghost use Rattle.values.specs.Memory.{OnlyMemory};
 ghost use Rattle.keyrange.specs.Range.{is_key_in};
 ghost use Rattle.eventlist.specs.Listing.{events_in, standing};
 ghost use Rattle.treenodes.specs.Sound.{IsSound};
-ghost use Rattle.treewalk.specs.NextChange.{event_after};
+ghost use Rattle.datanode.specs.NextChange.{event_after};
 ghost use Rattle.treewalk.specs.Shape.{IsShapeOf};
 ghost use Rattle.tsbtree.specs.View.{events, last, visits, IsState};
 ghost use Rattle.tsbtree.specs.Leaf.{IsLeafOf};

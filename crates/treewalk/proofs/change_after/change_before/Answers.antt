@@ -2,7 +2,7 @@ use Rattle.std.proofs.Common.{◌+◌, refl, sym, ap, ◌∙◌, arith, option_c
 use Rattle.keyrange.specs.Rect.{Area}
 use Rattle.keyrange.specs.declared.range.TimeRange.{TimeRange}
 use Rattle.values.specs.Events.{event_until}
-use Rattle.treewalk.specs.NextChange.{event_after}
+use Rattle.datanode.specs.NextChange.{event_after}
 use Rattle.treewalk.proofs.ChangeNext.{known_leaf, some_copied, ends_above, here, nowhere, later_on}
 use Rattle.treewalk.proofs.change_after.change_before.Goals as goal
 

@@ -1,6 +1,6 @@
 use Rattle.std.proofs.Common.{sym, ap, ◌∙◌, option_copied}
 use Rattle.values.specs.Events.{event_until}
-use Rattle.treewalk.specs.NextChange.{event_after}
+use Rattle.datanode.specs.NextChange.{event_after}
 use Rattle.treewalk.proofs.ChangeNext.{known_leaf, some_copied, last_leaf, at_last}
 use Rattle.treewalk.proofs.change_after.later_change.Goals as goal
 

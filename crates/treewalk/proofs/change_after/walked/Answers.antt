@@ -1,7 +1,7 @@
 use Rattle.std.proofs.Common.{◌+◌, refl, sym, ap, ◌∙◌, arith}
 use Rattle.keyrange.specs.Rect.{Area}
 use Rattle.keyrange.specs.declared.range.TimeRange.{TimeRange}
-use Rattle.treewalk.specs.NextChange.{event_after}
+use Rattle.datanode.specs.NextChange.{event_after}
 use Rattle.treewalk.proofs.ChangeNext.{next_leaf, ends_above, here, nowhere, later_on, none_late}
 use Rattle.treewalk.proofs.ListingRead.{in_time}
 use Rattle.treewalk.proofs.change_after.walked.Goals as goal

@@ -1,7 +1,7 @@
 use Rattle.std.proofs.Common.{◌≡◌, ◌-◌, List}
 use Rattle.values.specs.Event.{Event}
 use Rattle.treenodes.specs.Map.{HoldsMap}
-use Rattle.treewalk.specs.NextChange.{event_after}
+use Rattle.datanode.specs.NextChange.{event_after}
 use Rattle.treewalk.proofs.change_after.walked.Given as goal
 
 abbrev pub invariant-loop-until : goal.invariant-loop-until
