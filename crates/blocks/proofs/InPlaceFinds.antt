@@ -64,7 +64,7 @@ past_values_back (v ∷ vs) rest s =
     ∙ ap (option_and_then (past_values (length vs))) (past_value_back v (flat_map value_bytes vs ++ rest) (All-head IsStored v vs s))
     ∙ past_values_back vs rest (All-tail IsStored v vs s)
 
-past_row_back : (row : Option Row) (rest : List ℕ) → IfSome row IsStoredRow → past_row_field (row_field row ++ rest) ≡ Some rest
+pub past_row_back : (row : Option Row) (rest : List ℕ) → IfSome row IsStoredRow → past_row_field (row_field row ++ rest) ≡ Some rest
 unfolding past_row_tagged
 past_row_back None rest s = refl
 past_row_back (Some row) rest s = past_values_back row rest s.stored
@@ -92,7 +92,7 @@ module _ (key : List ℕ) (low high : ℕ) where
       by Equal e = cc
       by Greater e = refl
 
-  unwanted : (e : Event) → is_below key e.key ≡ true → wanted e ≡ false
+  pub unwanted : (e : Event) → is_below key e.key ≡ true → wanted e ≡ false
   unfolding is_wanted
   unwanted e h = ap (λ b. b && (nat_lt low e.at && nat_le e.at high)) (below_not e.key h)
 
@@ -111,7 +111,7 @@ module _ (key : List ℕ) (low high : ℕ) where
       ap (λ o. later o (if wanted e then Some e else None)) (none_wanted es (λ x i. h x (inr i)))
       ∙ ap (λ (t : Bool). if t then Some e else None) (unwanted e (h e (inl refl)))
 
-  all_below : (e : Event) (es : List Event) → IsMap (e ∷ es) → is_below key e.key ≡ true → (x : Event) → In x (e ∷ es) → is_below key x.key ≡ true
+  pub all_below : (e : Event) (es : List Event) → IsMap (e ∷ es) → is_below key e.key ≡ true → (x : Event) → In x (e ∷ es) → is_below key x.key ≡ true
   all_below e es map h x (inl q) = subst (λ (y : Event). is_below key y.key ≡ true) q h
   all_below e es map h x (inr i) = below_next e x h (head_below e es map x i)
 
@@ -207,7 +207,7 @@ until_is key t (e ∷ es) h =
     ap (λ o. later o (if is_wanted key 0 t (e.key, e.at) then Some e else None)) (until_is key t es (All-tail (λ e. 1 ≤ e.at) e es h))
     ∙ ap (λ b. later (event_until es key t) (if is_bytes key e.key && (b && nat_le e.at t) then Some e else None)) (lt-ltb 0 e.at (All-head (λ e. 1 ≤ e.at) e es h))
 
-and_true : (b : Bool) → (b && true) ≡ b
+pub and_true : (b : Bool) → (b && true) ≡ b
 and_true true = refl
 and_true false = refl
 
@@ -261,7 +261,7 @@ row_until_found bytes key instant at field is n b =
     found_row n.events (last_wanted key 0 instant n.events) at field key instant (kept_found key 0 instant n.events b.held.events) found
     ∙ ap (option_and_then (λ (e : Event). e.row)) (until_is key instant n.events b.has_block.instants)
 
-at_found : (o : Option Event) (t : Taken ℕ) (key : List ℕ) (low high : ℕ) → IsPlaceOf key low high o t → option_map (λ (x : ℕ × List ℕ). x.0) t ≡ option_map (λ (e : Event). e.at) o
+pub at_found : (o : Option Event) (t : Taken ℕ) (key : List ℕ) (low high : ℕ) → IsPlaceOf key low high o t → option_map (λ (x : ℕ × List ℕ). x.0) t ≡ option_map (λ (e : Event). e.at) o
 at_found None t key low high h = ap (option_map (λ (x : ℕ × List ℕ). x.0)) h
 at_found (Some e) t key low high h = ap (option_map (λ (x : ℕ × List ℕ). x.0)) h.1
 

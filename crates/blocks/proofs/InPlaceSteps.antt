@@ -7,7 +7,7 @@ use Rattle.values.proofs.Taken.{left}
 use Rattle.keyrange.specs.Range.{is_below}
 use Rattle.blocks.specs.Field.{taken_then}
 use Rattle.blocks.specs.Event.{point_from}
-use Rattle.blocks.specs.InPlace.{past_value, past_values, past_row_field, is_wanted, event_place}
+use Rattle.blocks.specs.InPlace.{past_value, past_values, past_row_field, is_wanted, event_place, first_place}
 
 pub values_step : (n i : ℕ) (bytes : List ℕ) (o : Option (List ℕ)) → i < n → past_value bytes ≡ o
     → past_values (n - i) bytes ≡ option_and_then (past_values (n - (i + 1))) o
@@ -52,3 +52,26 @@ module _ (key : List ℕ) (low high : ℕ) where
   place_past n i bytes found other row at o h is t past =
       turns n i bytes found (Some ((other, at), row)) h is ∙ ap (asked (n - (i + 1)) found (other, at) row) t
       ∙ ap (passed (n - (i + 1)) found (other, at) row) past
+
+  -- the first one that is wanted
+  abbrev first_passed : ℕ → Option (List ℕ) → Taken ℕ
+  first_passed n o = elim o [ None ↦ None | Some left ↦ first_place n left key low high ]
+
+  abbrev first_asked : ℕ → (List ℕ × ℕ) → List ℕ → Bool → Bool → Taken ℕ
+  first_asked n point row w t = if w then Some (point.1, row) else if t then None else first_passed n (past_row_field row)
+
+  abbrev first_turned : ℕ → Taken (List ℕ × ℕ) → Taken ℕ
+  first_turned n t = taken_then t (λ point row. first_asked n point row (is_wanted key low high point) (is_below key point.0))
+
+  first_turns : (n i : ℕ) (bytes : List ℕ) (t : Taken (List ℕ × ℕ)) → i < n → point_from bytes ≡ t
+      → first_place (n - i) bytes key low high ≡ first_turned (n - (i + 1)) t
+  first_turns n i bytes t h is = ap (λ k. first_place k bytes key low high) (left n i h) ∙ ap (first_turned (n - (i + 1))) is
+
+  pub first_past : (n i : ℕ) (bytes other row : List ℕ) (at : ℕ) (o : Option (List ℕ)) → i < n → point_from bytes ≡ Some ((other, at), row)
+      → is_wanted key low high (other, at) ≡ false → is_below key other ≡ false → past_row_field row ≡ o
+      → first_place (n - i) bytes key low high ≡ first_passed (n - (i + 1)) o
+  first_past n i bytes other row at o h is w t past =
+      first_turns n i bytes (Some ((other, at), row)) h is
+      ∙ ap (λ b. first_asked (n - (i + 1)) (other, at) row b (is_below key other)) w
+      ∙ ap (first_asked (n - (i + 1)) (other, at) row false) t
+      ∙ ap (first_passed (n - (i + 1))) past

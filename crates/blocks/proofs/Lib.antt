@@ -6,3 +6,5 @@ pub mod RectReads
 pub mod BlockReads
 pub mod GatherSteps
 pub mod InPlaceFinds
+pub mod PackedReads
+pub mod InPlaceNext

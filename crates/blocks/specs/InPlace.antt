@@ -65,6 +65,19 @@ event_place (suc n) bytes key low high found =
           (if is_wanted key low high point then Some (point.1, rest) else found)
     ])
 
+-- the first wanted of so many events: its instant, and the bytes from its row on
+abbrev pub first_place : ℕ → List ℕ → List ℕ → ℕ → ℕ → Taken ℕ
+first_place zero bytes key low high = None
+first_place (suc n) bytes key low high =
+    taken_then (point_from bytes)
+    (λ point rest.
+    if is_wanted key low high point then Some (point.1, rest)
+    else if is_below key point.0 then None
+    else elim (past_row_field rest) [
+      | None ↦ None
+      | Some left ↦ first_place n left key low high
+    ])
+
 -- the number of a block's events, and the bytes from the first on
 unfoldable pub events_place : List ℕ → Taken ℕ
 events_place bytes = elim (mark_from bytes) [
@@ -78,6 +91,10 @@ events_place bytes = elim (mark_from bytes) [
 unfoldable pub place_in : List ℕ → List ℕ → ℕ → ℕ → Taken ℕ
 place_in bytes key low high =
     taken_then (events_place bytes) (λ n events. event_place n events key low high None)
+
+unfoldable pub first_in : List ℕ → List ℕ → ℕ → ℕ → Taken ℕ
+first_in bytes key low high =
+    taken_then (events_place bytes) (λ n events. first_place n events key low high)
 
 -- the row of an event whose row's bytes come next
 abbrev pub row_of_field : Taken (Option Row) → Option Row

@@ -5,3 +5,4 @@ pub mod Block
 pub mod Gather
 pub mod InPlace
 pub mod Laws
+pub mod Packed

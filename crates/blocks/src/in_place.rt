@@ -4,10 +4,11 @@ ghost use Rattle.values.specs.Memory.{OnlyMemory};
 ghost use Rattle.values.specs.Events.{row_until, event_since};
 ghost use Rattle.values.specs.RowReading.{Takes};
 ghost use Rattle.datanode.specs.Node.{Node, IsCutOf};
+ghost use Rattle.datanode.specs.NextChange.{event_after};
 ghost use Rattle.keyrange.specs.Rect.{has_point};
 ghost use Rattle.values.specs.Event.{Event as Change};
 ghost use Rattle.blocks.specs.Block.{IsBlockOf};
-ghost use Rattle.blocks.specs.InPlace.{past_text, past_tagged, past_value, past_values, past_row, past_row_tagged, past_row_field, is_wanted, event_place, events_place, place_in, row_of_field};
+ghost use Rattle.blocks.specs.InPlace.{past_text, past_tagged, past_value, past_values, past_row, past_row_tagged, past_row_field, is_wanted, event_place, first_place, events_place, place_in, first_in, row_of_field};
 ghost use Rattle.blocks.specs.Event.{row_field_from};
 
 use crate::event::{Taken, point_from, row_field_from};
@@ -130,6 +131,31 @@ fn event_place<'a>(
     found
 }
 
+/// The first event of a key above an instant and up to another, among so many events: its instant, and the bytes from
+/// its row on.
+fn first_place<'a>(
+    n: u8,
+    bytes: &'a [u8],
+    key: &[u8],
+    low: Instant,
+    high: Instant,
+) -> Taken<'a, Instant>
+    ensures { Takes (λ at. at) result (first_place n bytes.now key.now low high) }
+{
+    let mut rest = bytes;
+    for _ in 0..n {
+        let ((other, at), row) = point_from(rest)?;
+        if is_wanted(key, low, high, other, at) {
+            return Some((at, row));
+        }
+        if key.cmp(other).is_lt() {
+            return None;
+        }
+        rest = past_row_field(row)?;
+    }
+    None
+}
+
 /// How many events a block has, and the bytes from the first on.
 #[tactic(auto, unfolding(crate::specs::InPlace::events_place))]
 fn events_place(bytes: &[u8]) -> Taken<'_, u8>
@@ -148,6 +174,14 @@ fn place_in<'a>(bytes: &'a [u8], key: &[u8], low: Instant, high: Instant) -> Tak
 {
     let (n, events) = events_place(bytes)?;
     event_place(n, events, key, low, high)
+}
+
+#[tactic(auto, unfolding(crate::specs::InPlace::first_in))]
+fn first_in<'a>(bytes: &'a [u8], key: &[u8], low: Instant, high: Instant) -> Taken<'a, Instant>
+    ensures { Takes (λ at. at) result (first_in bytes.now key.now low high) }
+{
+    let (n, events) = events_place(bytes)?;
+    first_place(n, events, key, low, high)
 }
 
 /// The row of an event, from its bytes.
@@ -193,6 +227,17 @@ pub fn changed_since(bytes: &[u8], key: &KeyBytes, start: Instant) -> Option<Ins
     ensures { (n : Node) → IsBlockOf bytes.now n → result ≡ event_since n.events start key.now }
 {
     match place_in(bytes, key.bytes(), start, Instant::MAX) {
+        None => None,
+        Some((at, _row)) => Some(at),
+    }
+}
+
+/// The instant of a key's first event above `after`, where there is one, in the node that a block stands for. It takes
+/// no memory.
+pub(crate) fn next_change(bytes: &[u8], key: &KeyBytes, after: Instant) -> Option<Instant>
+    ensures { (n : Node) → IsBlockOf bytes.now n → result ≡ event_after n.events after key.now }
+{
+    match first_in(bytes, key.bytes(), after, Instant::MAX) {
         None => None,
         Some((at, _row)) => Some(at),
     }
