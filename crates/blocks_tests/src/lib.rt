@@ -4,6 +4,8 @@
 #[cfg(test)]
 mod bytes_tests;
 #[cfg(test)]
+mod packed_tests;
+#[cfg(test)]
 mod read_tests;
 #[cfg(test)]
 mod samples;
