@@ -4,8 +4,6 @@
 mod cut;
 mod laws;
 mod node;
-#[cfg(test)]
-mod tests;
 
 pub use cut::is_carried;
 pub use laws::{cuts_are_nested, cuts_show_the_map, cuts_stay, halves_hold_each_event_once};

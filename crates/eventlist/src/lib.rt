@@ -8,8 +8,6 @@ mod place;
 mod put;
 mod range;
 mod sort;
-#[cfg(test)]
-mod tests;
 
 pub use key_group::{place_until, split_first_key};
 pub use listing::{events_in, standing};

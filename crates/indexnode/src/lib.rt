@@ -7,8 +7,6 @@ mod node;
 mod reference;
 mod replacement;
 mod split;
-#[cfg(test)]
-mod tests;
 
 pub use list::{pair, single};
 pub use node::IndexNode;

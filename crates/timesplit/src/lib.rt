@@ -3,8 +3,6 @@
 
 mod split;
 mod stay;
-#[cfg(test)]
-mod tests;
 
 pub use split::split_time;
 pub use stay::stay_count;

@@ -1,30 +1,33 @@
-//! Rectangles worked out by hand.
+//! Rectangles worked out by hand. A helper answers None where memory runs out.
 
+use crate::samples::all;
 use keyrange::{KeyRange, Rect, TimeRange};
-use std::alloc::AllocError;
-use std::test::Fail;
+use std::alloc::Global;
 use values::{Instant, KeyBytes, LAST};
 
-fn bytes(rt: &HostRuntime, text: &[u8]) -> Result<Option<KeyBytes>, AllocError> {
-    Ok(KeyBytes::new(text.to_vec(rt.alloc())?))
+fn key(alloc: Global, text: &[u8]) -> Option<KeyBytes> {
+    KeyBytes::new(text.to_vec(alloc).ok()?)
 }
 
-fn rect(
-    rt: &HostRuntime,
+/// Whether two ranges are a rectangle; no upper key is no end.
+fn is_rect(
+    alloc: Global,
     lo: &[u8],
     hi: &[u8],
     from: Instant,
     to: Option<Instant>,
-) -> Result<Option<Rect>, AllocError> {
-    let Some(lo) = bytes(rt, lo)? else {
-        return Ok(None);
+) -> Option<bool> {
+    let lo = key(alloc, lo)?;
+    let hi = if hi.is_empty() {
+        None
+    } else {
+        Some(key(alloc, hi)?)
     };
-    let hi = if hi.is_empty() { None } else { bytes(rt, hi)? };
-    Ok(Rect::new(KeyRange { lo, hi }, TimeRange { from, to }))
+    Some(Rect::new(KeyRange { lo, hi }, TimeRange { from, to }).is_some())
 }
 
 #[test]
-fn a_rectangle_has_a_key_and_an_instant(rt: HostRuntime) -> Result<(), Fail> {
+fn a_rectangle_has_a_key_and_an_instant(rt: HostRuntime) {
     let cases: [(&[u8], &[u8], Instant, Option<Instant>, bool); 9] = [
         (b"", b"", 1, None, true),
         (b"a", b"b", 1, Some(2), true),
@@ -37,49 +40,75 @@ fn a_rectangle_has_a_key_and_an_instant(rt: HostRuntime) -> Result<(), Fail> {
         (b"", b"", LAST + 1, None, false),
     ];
     for (lo, hi, from, to, is_one) in cases {
-        let made = rect(&rt, lo, hi, from, to)?;
-        assert_eq!(rt; made.is_some(), is_one, "from {from}");
+        assert!(rt;
+            is_rect(rt.alloc(), lo, hi, from, to) == Some(is_one),
+            "from {from}"
+        );
     }
-    Ok(())
 }
 
-/// All keys from instant 1 on.
-fn all(rt: &HostRuntime) -> Result<Rect, Fail> {
-    Ok(rect(rt, b"", b"", 1, None)?.ok_or("no rectangle")?)
+/// The halves of all keys at instant 200.
+fn time_halves(alloc: Global) -> Option<(Rect, Rect)> {
+    all(alloc, 1, None)?.cut_time(200).ok()?
 }
 
-fn key(rt: &HostRuntime, text: &[u8]) -> Result<KeyBytes, Fail> {
-    Ok(bytes(rt, text)?.ok_or("no key")?)
+/// Whether each of those halves has a point of a key.
+fn in_time_halves(alloc: Global, instant: Instant) -> Option<(bool, bool)> {
+    let key = key(alloc, b"m")?;
+    let (past, now) = time_halves(alloc)?;
+    Some((past.contains(&key, instant), now.contains(&key, instant)))
 }
 
-#[test]
-fn a_cut_by_time_parts_the_instants(rt: HostRuntime) -> Result<(), Fail> {
-    let all = all(&rt)?;
-    let key = key(&rt, b"m")?;
-    let (past, now) = all.cut_time(200)?.ok_or("no halves")?;
-    assert!(rt; past.contains(&key, 199));
-    assert!(rt; !past.contains(&key, 200));
-    assert!(rt; now.contains(&key, 200));
-    assert!(rt; !past.meets(&now));
-    Ok(())
+fn time_halves_meet(alloc: Global) -> Option<bool> {
+    let (past, now) = time_halves(alloc)?;
+    Some(past.meets(&now))
 }
 
 #[test]
-fn a_cut_by_key_parts_the_keys(rt: HostRuntime) -> Result<(), Fail> {
-    let all = all(&rt)?;
-    let key = key(&rt, b"m")?;
-    let (below, above) = all.cut_key(&key)?.ok_or("no halves")?;
-    assert!(rt; !below.contains(&key, 7));
-    assert!(rt; above.contains(&key, 7));
-    assert!(rt; !below.meets(&above));
-    Ok(())
+fn a_cut_by_time_parts_the_instants(rt: HostRuntime) {
+    assert!(rt; in_time_halves(rt.alloc(), 199) == Some((true, false)));
+    assert!(rt; in_time_halves(rt.alloc(), 200) == Some((false, true)));
+    assert!(rt; time_halves_meet(rt.alloc()) == Some(false));
+}
+
+/// The halves of all keys at the key `m`.
+fn key_halves(alloc: Global) -> Option<(Rect, Rect)> {
+    all(alloc, 1, None)?.cut_key(&key(alloc, b"m")?).ok()?
+}
+
+/// Whether each of those halves has a point of a key.
+fn in_key_halves(alloc: Global, text: &[u8]) -> Option<(bool, bool)> {
+    let key = key(alloc, text)?;
+    let (below, above) = key_halves(alloc)?;
+    Some((below.contains(&key, 7), above.contains(&key, 7)))
+}
+
+fn key_halves_meet(alloc: Global) -> Option<bool> {
+    let (below, above) = key_halves(alloc)?;
+    Some(below.meets(&above))
 }
 
 #[test]
-fn a_cut_at_the_start_gives_none(rt: HostRuntime) -> Result<(), Fail> {
-    let all = all(&rt)?.copy()?;
-    let empty = key(&rt, b"")?;
-    assert!(rt; all.cut_key(&empty)?.is_none());
-    assert!(rt; all.cut_time(1)?.is_none());
-    Ok(())
+fn a_cut_by_key_parts_the_keys(rt: HostRuntime) {
+    assert!(rt; in_key_halves(rt.alloc(), b"l") == Some((true, false)));
+    assert!(rt; in_key_halves(rt.alloc(), b"m") == Some((false, true)));
+    assert!(rt; key_halves_meet(rt.alloc()) == Some(false));
+}
+
+/// Whether a copy of all keys has halves at its least key.
+fn is_cut_at_least_key(alloc: Global) -> Option<bool> {
+    let copy = all(alloc, 1, None)?.copy().ok()?;
+    Some(copy.cut_key(&KeyBytes::least(alloc)).ok()?.is_some())
+}
+
+/// Whether a copy of all keys has halves at an instant.
+fn is_cut_at(alloc: Global, instant: Instant) -> Option<bool> {
+    let copy = all(alloc, 1, None)?.copy().ok()?;
+    Some(copy.cut_time(instant).ok()?.is_some())
+}
+
+#[test]
+fn a_cut_at_the_start_gives_none(rt: HostRuntime) {
+    assert!(rt; is_cut_at_least_key(rt.alloc()) == Some(false));
+    assert!(rt; is_cut_at(rt.alloc(), 1) == Some(false));
 }

@@ -2,13 +2,23 @@
 #![tactic(auto)]
 
 #[cfg(test)]
+mod datanode_tests;
+#[cfg(test)]
+mod eventlist_tests;
+#[cfg(test)]
+mod indexnode_tests;
+#[cfg(test)]
 mod keyrange_tests;
 #[cfg(test)]
 mod keysplit_tests;
 #[cfg(test)]
+mod samples;
+#[cfg(test)]
 mod searchrange_tests;
 #[cfg(test)]
 mod slots_tests;
+#[cfg(test)]
+mod timesplit_tests;
 #[cfg(test)]
 mod treegrowth_tests;
 #[cfg(test)]

@@ -1,68 +1,65 @@
-//! A tree of one commit, and its splits.
-ghost use Rattle.std.specs.Prelude.{◌≡◌, IfOk};
+//! A tree of one commit, and its splits. A helper answers None where memory runs out.
+ghost use Rattle.std.specs.Prelude.{IfOk};
 ghost use Rattle.treenodes.specs.Sound.{IsSound};
 
+use crate::samples::{change, key};
 use slots::Slots;
 use std::alloc::Global;
 use std::process::Abort;
-use std::test::Fail;
 use treegrowth::{key_split, time_split, with_commit};
 use treenodes::{Slot, leaf_alone};
-use values::{Event, Instant, KeyBytes, Mem, Row, Value};
-
-fn key(rt: &impl Abort, alloc: Global, number: u8) -> Mem<KeyBytes> {
-    Ok(KeyBytes::new(vec![in alloc; number]?).expect(rt, "one byte is short"))
-}
-
-fn event(rt: &impl Abort, alloc: Global, number: u8, at: Instant) -> Mem<Event>
-    ensures { IfOk result (λ e. e.at ≡ at) }
-{
-    let row = Row::new(vec![in alloc; Value::Int(1)]?);
-    let made = Event::new(key(rt, alloc, number)?, at, row);
-    Ok(made.expect(rt, "the key has a byte"))
-}
+use values::{Instant, Mem};
 
 /// A tree with one row of key 5, from instant 100 on.
 fn one_row(rt: &impl Abort, alloc: Global) -> Mem<Slots<Slot>>
     ensures { IfOk result (λ s. IsSound s 100) }
 {
     let mut events = Vec::new(alloc);
-    events.push(event(rt, alloc, 5, 100)?)?;
+    events.push(change(rt, alloc, 5, 100, true))?;
     with_commit(alloc, leaf_alone(alloc)?, 0, 100, events)
 }
 
+/// How many nodes there are, or 0 where there is no tree.
+fn count_nodes(nodes: Option<Slots<Slot>>) -> usize {
+    match nodes {
+        Some(nodes) => nodes.len(),
+        None => 0,
+    }
+}
+
 /// How many nodes there are after a split at a key, or 0 where there is none.
-fn after_key_split(rt: &impl Abort, alloc: Global, number: u8) -> Mem<usize> {
-    let nodes = one_row(rt, alloc)?;
-    let halves = key_split(alloc, &nodes, 100, &key(rt, alloc, number)?)?;
-    Ok(halves.map_or(0, |nodes| nodes.len()))
+fn after_key_split(alloc: Global, nodes: &Slots<Slot>, number: u8) -> Option<usize>
+    requires { IsSound nodes.now 100 }
+{
+    let key = key(alloc, number)?;
+    Some(count_nodes(key_split(alloc, nodes, 100, &key).ok()?))
 }
 
 /// How many nodes there are after a split at an instant, or 0 where there is none.
-fn after_time_split(rt: &impl Abort, alloc: Global, instant: Instant) -> Mem<usize> {
-    let nodes = one_row(rt, alloc)?;
-    let halves = time_split(alloc, &nodes, 100, &key(rt, alloc, 5)?, instant)?;
-    Ok(halves.map_or(0, |nodes| nodes.len()))
+fn after_time_split(alloc: Global, nodes: &Slots<Slot>, instant: Instant) -> Option<usize>
+    requires { IsSound nodes.now 100 }
+{
+    let key = key(alloc, 5)?;
+    Some(count_nodes(time_split(alloc, nodes, 100, &key, instant).ok()?))
 }
 
 #[test]
-fn a_root_that_is_split_gets_a_new_root(rt: HostRuntime) -> Result<(), Fail> {
-    let alloc = rt.alloc();
-    assert_eq!(rt; one_row(&rt, alloc)?.len(), 1);
-    assert_eq!(rt; after_key_split(&rt, alloc, 5)?, 3);
-    assert_eq!(rt; after_key_split(&rt, alloc, 9)?, 3);
-    Ok(())
+fn a_root_that_is_split_gets_a_new_root(rt: HostRuntime) {
+    let Ok(nodes) = one_row(&rt, rt.alloc()) else {
+        panic!(&rt; "there is memory")
+    };
+    assert!(rt; nodes.len() == 1);
+    assert!(rt; after_key_split(rt.alloc(), &nodes, 5) == Some(3));
+    assert!(rt; after_key_split(rt.alloc(), &nodes, 9) == Some(3));
 }
 
 #[test]
-fn a_split_is_after_the_start_and_not_after_the_last_commit(rt: HostRuntime) -> Result<(), Fail> {
-    let alloc = rt.alloc();
+fn a_split_is_after_the_start_and_not_after_the_last_commit(rt: HostRuntime) {
+    let Ok(nodes) = one_row(&rt, rt.alloc()) else {
+        panic!(&rt; "there is memory")
+    };
     for (instant, count) in [(0, 0), (1, 0), (2, 3), (100, 3), (101, 0)] {
-        assert_eq!(rt;
-            after_time_split(&rt, alloc, instant)?,
-            count,
-            "at {instant}"
-        );
+        let found = after_time_split(rt.alloc(), &nodes, instant);
+        assert!(rt; found == Some(count), "at {instant}");
     }
-    Ok(())
 }

@@ -1,42 +1,18 @@
-//! What is read off a tree of two leaves.
+//! What is read off a tree of two leaves. A helper answers None where memory runs out.
 ghost use Rattle.std.specs.Prelude.{◌≡◌, ◌<◌, ◌≤◌, IfOk};
 ghost use Rattle.values.specs.Commits.{max_instant};
 ghost use Rattle.treenodes.specs.Tree.{IsTree};
 ghost use Rattle.treenodes.specs.Map.{HoldsMap, changes, latest};
 
-use keyrange::{KeyRange, Rect, TimeRange};
+use crate::samples::{all, all_keys, change, count, key};
 use slots::Slots;
-use std::alloc::{AllocError, Global};
+use std::alloc::Global;
 use std::process::Abort;
-use std::test::Fail;
 use treenodes::{
     Slot, can_split_time, leaf_alone, leaf_at, raised, whole, with_event, with_time_split,
 };
 use treewalk::{Shape, changed_since, events, leaves_in, next_change, standing, tree_shape};
-use values::{Event, Instant, KeyBytes, LAST, Mem, Row, Value};
-
-fn key(rt: &impl Abort, alloc: Global, number: u8) -> Result<KeyBytes, AllocError> {
-    Ok(KeyBytes::new(vec![in alloc; number]?).expect(rt, "one byte is few"))
-}
-
-/// A row of a key, or its deletion.
-fn change(
-    rt: &impl Abort,
-    alloc: Global,
-    number: u8,
-    at: Instant,
-    there: bool,
-) -> Result<Event, AllocError>
-    ensures { IfOk result (λ e. e.at ≡ at) }
-{
-    let row = if there {
-        Row::new(vec![in alloc; Value::Int(1)]?)
-    } else {
-        None
-    };
-    let event = Event::new(key(rt, alloc, number)?, at, row);
-    Ok(event.expect(rt, "the key is not empty"))
-}
+use values::{Event, Instant, KeyBytes, LAST, Mem};
 
 /// The tree with an event that is later than all.
 fn grown(nodes: Slots<Slot>, event: Event) -> Mem<Slots<Slot>>
@@ -71,31 +47,34 @@ fn halved(alloc: Global, nodes: Slots<Slot>, instant: Instant) -> Mem<Slots<Slot
 fn single(rt: &impl Abort, alloc: Global) -> Mem<Slots<Slot>>
     ensures { IfOk result IsTree }
 {
-    let nodes = leaf_alone(alloc)?;
-    let nodes = grown(nodes, change(rt, alloc, 1, 100, true)?)?;
-    let nodes = grown(nodes, change(rt, alloc, 2, 150, true)?)?;
-    grown(nodes, change(rt, alloc, 1, 200, false)?)
+    let first = change(rt, alloc, 1, 100, true);
+    let second = change(rt, alloc, 2, 150, true);
+    let third = change(rt, alloc, 1, 200, false);
+    grown(grown(grown(leaf_alone(alloc)?, first)?, second)?, third)
 }
 
 /// The same in two leaves, of which the second begins at 250 and has the row of key 2 alone.
-fn some(rt: &impl Abort, alloc: Global) -> Mem<Slots<Slot>>
-    ensures { IfOk result IsTree }
+fn some(rt: &impl Abort, alloc: Global) -> Slots<Slot>
+    ensures { IsTree result }
 {
-    halved(alloc, single(rt, alloc)?, 250)
+    let Ok(nodes) = single(rt, alloc) else {
+        panic!(rt; "there is memory")
+    };
+    let Ok(nodes) = halved(alloc, nodes, 250) else {
+        panic!(rt; "there is memory")
+    };
+    nodes
 }
 
-fn all_keys(alloc: Global) -> KeyRange {
-    KeyRange {
-        lo: KeyBytes::least(alloc),
-        hi: None,
-    }
+fn count_events(alloc: Global, nodes: &Slots<Slot>, from: Instant, to: Instant) -> Option<usize>
+    requires { IsTree nodes.now }
+{
+    count(events(alloc, nodes, &all_keys(alloc), from, to))
 }
 
 #[test]
-fn a_carried_event_is_listed_once(rt: HostRuntime) -> Result<(), Fail> {
-    let alloc = rt.alloc();
-    let nodes = some(&rt, alloc)?;
-    let keys = all_keys(alloc);
+fn a_carried_event_is_listed_once(rt: HostRuntime) {
+    let nodes = some(&rt, rt.alloc());
     for (from, to, count) in [
         (0, u64::MAX, 3),
         (1, 199, 2),
@@ -103,20 +82,20 @@ fn a_carried_event_is_listed_once(rt: HostRuntime) -> Result<(), Fail> {
         (201, 300, 0),
         (2, 1, 0),
     ] {
-        assert_eq!(rt;
-            events(alloc, &nodes, &keys, from, to)?.len(),
-            count,
-            "from {from} to {to}"
-        );
+        let found = count_events(rt.alloc(), &nodes, from, to);
+        assert!(rt; found == Some(count), "from {from} to {to}");
     }
-    Ok(())
+}
+
+fn count_standing(alloc: Global, nodes: &Slots<Slot>, at: Instant) -> Option<usize>
+    requires { IsTree nodes.now }
+{
+    count(standing(alloc, nodes, &all_keys(alloc), at))
 }
 
 #[test]
-fn a_row_stands_until_its_key_is_changed(rt: HostRuntime) -> Result<(), Fail> {
-    let alloc = rt.alloc();
-    let nodes = some(&rt, alloc)?;
-    let keys = all_keys(alloc);
+fn a_row_stands_until_its_key_is_changed(rt: HostRuntime) {
+    let nodes = some(&rt, rt.alloc());
     for (at, count) in [
         (0, 0),
         (99, 0),
@@ -126,88 +105,98 @@ fn a_row_stands_until_its_key_is_changed(rt: HostRuntime) -> Result<(), Fail> {
         (250, 1),
         (u64::MAX, 1),
     ] {
-        assert_eq!(rt; standing(alloc, &nodes, &keys, at)?.len(), count, "at {at}");
+        let found = count_standing(rt.alloc(), &nodes, at);
+        assert!(rt; found == Some(count), "at {at}");
     }
-    Ok(())
+}
+
+/// When a key was last changed after an instant; 0 where it was not.
+fn changed(alloc: Global, nodes: &Slots<Slot>, number: u8, since: Instant) -> Option<Instant>
+    requires { IsTree nodes.now }
+{
+    let key = key(alloc, number)?;
+    Some(changed_since(nodes, &key, since).unwrap_or(0))
 }
 
 #[test]
-fn a_deletion_in_an_earlier_leaf_is_a_change(rt: HostRuntime) -> Result<(), Fail> {
-    let alloc = rt.alloc();
-    let nodes = some(&rt, alloc)?;
-    for (number, since, found) in [
-        (1, 99, Some(200)),
-        (1, 200, None),
-        (2, 149, Some(150)),
-        (2, 150, None),
-        (3, 0, None),
+fn a_deletion_in_an_earlier_leaf_is_a_change(rt: HostRuntime) {
+    let nodes = some(&rt, rt.alloc());
+    for (number, since, at) in [
+        (1, 99, 200),
+        (1, 200, 0),
+        (2, 149, 150),
+        (2, 150, 0),
+        (3, 0, 0),
     ] {
-        let key = key(&rt, alloc, number)?;
-        assert_eq!(rt;
-            changed_since(&nodes, &key, since),
-            found,
-            "key {number} since {since}"
-        );
+        let found = changed(rt.alloc(), &nodes, number, since);
+        assert!(rt; found == Some(at), "key {number} since {since}");
     }
-    Ok(())
+}
+
+/// When a key is changed next after an instant; 0 where it is not.
+fn next(alloc: Global, nodes: &Slots<Slot>, number: u8, after: Instant) -> Option<Instant>
+    requires { IsTree nodes.now }
+{
+    let key = key(alloc, number)?;
+    Some(next_change(nodes, &key, after).unwrap_or(0))
 }
 
 #[test]
-fn a_version_ends_at_the_next_change(rt: HostRuntime) -> Result<(), Fail> {
-    let alloc = rt.alloc();
-    let nodes = some(&rt, alloc)?;
-    for (number, after, found) in [
-        (1, 0, Some(100)),
-        (1, 99, Some(100)),
-        (1, 100, Some(200)),
-        (1, 200, None),
-        (2, 149, Some(150)),
-        (2, 150, None),
-        (3, 0, None),
-        (1, LAST, None),
-        (1, u64::MAX, None),
+fn a_version_ends_at_the_next_change(rt: HostRuntime) {
+    let nodes = some(&rt, rt.alloc());
+    for (number, after, at) in [
+        (1, 0, 100),
+        (1, 99, 100),
+        (1, 100, 200),
+        (1, 200, 0),
+        (2, 149, 150),
+        (2, 150, 0),
+        (3, 0, 0),
+        (1, LAST, 0),
+        (1, u64::MAX, 0),
     ] {
-        let key = key(&rt, alloc, number)?;
-        assert_eq!(rt;
-            next_change(&nodes, &key, after),
-            found,
-            "key {number} after {after}"
-        );
+        let found = next(rt.alloc(), &nodes, number, after);
+        assert!(rt; found == Some(at), "key {number} after {after}");
     }
-    Ok(())
+}
+
+fn count_leaves_from(alloc: Global, nodes: &Slots<Slot>, from: Instant) -> Option<usize>
+    requires { IsTree nodes.now }
+{
+    let rect = all(alloc, from, None)?;
+    count(leaves_in(alloc, nodes, &rect))
 }
 
 #[test]
-fn leaves_are_found_by_their_time(rt: HostRuntime) -> Result<(), Fail> {
-    let alloc = rt.alloc();
-    let nodes = some(&rt, alloc)?;
-    assert_eq!(rt; leaves_in(alloc, &nodes, &whole(alloc))?.len(), 2);
-    let late = TimeRange {
-        from: 300,
-        to: None,
-    };
-    let rect = Rect::new(all_keys(alloc), late).expect(&rt, "the ranges are not empty");
-    assert_eq!(rt; leaves_in(alloc, &nodes, &rect)?.len(), 1);
-    Ok(())
+fn leaves_are_found_by_their_time(rt: HostRuntime) {
+    let nodes = some(&rt, rt.alloc());
+    let leaves = count(leaves_in(rt.alloc(), &nodes, &whole(rt.alloc())));
+    assert!(rt; leaves == Some(2));
+    assert!(rt; count_leaves_from(rt.alloc(), &nodes, 300) == Some(1));
 }
 
 fn is_shown(shape: &Shape, place: usize, level: usize, from: Instant, count: usize) -> bool {
-    shape.nodes.get(place).is_some_and(|node| {
-        node.level == level && node.rect.time().from == from && node.count == count && !node.packed
-    })
+    match shape.nodes.get(place) {
+        Some(node) => {
+            node.level == level
+                && node.rect.time().from == from
+                && node.count == count
+                && !node.packed
+        }
+        None => false,
+    }
 }
 
 #[test]
-fn a_shape_lists_the_root_first_then_leaves_by_time(rt: HostRuntime) -> Result<(), Fail> {
-    let alloc = rt.alloc();
-    let nodes = some(&rt, alloc)?;
-    let shape = tree_shape(alloc, &nodes)?;
-    assert_eq!(rt; shape.nodes.len(), 3);
+fn a_shape_lists_the_root_first_then_leaves_by_time(rt: HostRuntime) {
+    let nodes = some(&rt, rt.alloc());
+    let shape = tree_shape(rt.alloc(), &nodes).ok();
+    let shape = shape.expect(&rt, "there is memory");
+    assert!(rt; shape.nodes.len() == 3);
     for (place, level, from, count) in [(0, 1, 1, 2), (1, 0, 1, 3), (2, 0, 250, 1)] {
         assert!(rt;
             is_shown(&shape, place, level, from, count),
             "at place {place}"
         );
     }
-    Ok(())
 }

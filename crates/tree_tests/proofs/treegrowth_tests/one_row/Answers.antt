@@ -4,4 +4,4 @@ use Rattle.tree_tests.proofs.treegrowth_tests.one_row.Goals as goal
 
 pub with_commit-requires-clause-commit : goal.with_commit-requires-clause-commit
 with_commit-requires-clause-commit g c =
-    one_commit 100 c.push.new.self.items c.in_ok-event.field-0 (c.in_ok-push.ensures.items ∙ ap (λ l. l ++ c.in_ok-event.field-0 ∷ []) c.new-events.ensures.items) c.in_ok-event.ensures
+    one_commit 100 c.push.new.self.items c.change.result (c.in_ok-push.ensures.items ∙ ap (λ l. l ++ c.change.result ∷ []) c.new-events.ensures.items) c.change.ensures
