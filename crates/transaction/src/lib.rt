@@ -3,8 +3,6 @@
 
 mod open_transaction;
 mod select;
-#[cfg(test)]
-mod tests;
 mod write;
 
 pub use open_transaction::OpenTransaction;
