@@ -3,9 +3,37 @@
 use crate::fault::{FAULT, WORDS};
 use crate::program::{DONE, program};
 use rows::SAMPLE;
+use std::net::{Net, TcpListener, TcpStream};
 use std::path::PathBuf;
+use std::rt::Files;
+use std::sync::Wait;
 use std::test::Fail;
+use std::thread::Threads;
+use std::time::Clock;
 use std::{env, fs, io, process, str};
+
+/// What the program runs on.
+pub trait Runtime:
+    AllocGlobal
+    + Files
+    + Net<Listener = TcpListener, Stream = TcpStream>
+    + Clock
+    + Threads
+    + Wait
+    + Sync
+{
+}
+
+impl<R> Runtime for R where
+    R: AllocGlobal
+        + Files
+        + Net<Listener = TcpListener, Stream = TcpStream>
+        + Clock
+        + Threads
+        + Wait
+        + Sync
+{
+}
 
 /// A table with a key of two columns.
 const COMPOUND: &str = "CREATE TABLE t (\n\
@@ -53,24 +81,24 @@ pub struct Ran {
     pub err: Vec<u8>,
 }
 
-pub fn run(rt: &HostRuntime, words: &[&str], input: &str) -> Ran {
+pub fn run<R: Runtime>(rt: &R, words: &[&str], input: &str) -> Ran {
     let mut out = Vec::new(rt.alloc());
     let mut err = Vec::new(rt.alloc());
     let status = program(rt, words, &mut input.as_bytes(), &mut out, &mut err);
     Ran { status, out, err }
 }
 
-/// Runs the program with a schema file of this text, over a script on standard input.
-fn run_over(rt: &HostRuntime, name: &str, schema: &[u8], input: &str) -> io::Result<Ran> {
-    let path = file(rt, name, schema)?;
-    let ran = run(rt, &["--schema", path.as_path().as_str()], input);
-    fs::remove_file(rt, path.as_path())?;
+/// Runs the program with a schema file, over a script on standard input, and removes the file.
+fn run_over<R: Runtime>(rt: &R, schema: PathBuf, input: &str) -> io::Result<Ran> {
+    let ran = run(rt, &["--schema", schema.as_path().as_str()], input);
+    fs::remove_file(rt, schema.as_path())?;
     Ok(ran)
 }
 
 #[test]
 fn a_schema_file_has_the_tables(rt: HostRuntime) -> Result<(), Fail> {
-    let ran = run_over(&rt, "tables", COMPOUND.as_bytes(), COMPOUND_SCRIPT)?;
+    let schema = file(&rt, "tables", COMPOUND.as_bytes())?;
+    let ran = run_over(&rt, schema, COMPOUND_SCRIPT)?;
     assert_eq!(rt; ran.status, DONE);
     assert_eq!(rt; ran.out.as_slice(), COMPOUND_REPLIES.as_bytes());
     assert!(rt; ran.err.is_empty());
@@ -125,7 +153,8 @@ fn a_text_that_is_no_schema_is_told(rt: HostRuntime) -> Result<(), Fail> {
         ("-- no table\r\n", "schema: syntax at 13\n"),
     ];
     for (schema, told) in cases {
-        let ran = run_over(&rt, "faulty", schema.as_bytes(), "1: BEGIN\n")?;
+        let path = file(&rt, "faulty", schema.as_bytes())?;
+        let ran = run_over(&rt, path, "1: BEGIN\n")?;
         assert_eq!(rt; ran.status, FAULT, "{schema:?}");
         assert!(rt; ran.out.is_empty(), "{schema:?}");
         assert_eq!(rt; ran.err.as_slice(), told.as_bytes(), "{schema:?}");
@@ -152,7 +181,8 @@ fn a_schema_has_at_most_65536_bytes(rt: HostRuntime) -> Result<(), Fail> {
     ];
     for (length, status, told) in cases {
         let text = padded(&rt, length)?;
-        let ran = run_over(&rt, "long", text.as_slice(), "1: BEGIN\n")?;
+        let path = file(&rt, "long", text.as_slice())?;
+        let ran = run_over(&rt, path, "1: BEGIN\n")?;
         assert_eq!(rt; ran.status, status, "{length} bytes");
         assert_eq!(rt; ran.err.as_slice(), told.as_bytes(), "{length} bytes");
     }
@@ -160,7 +190,7 @@ fn a_schema_has_at_most_65536_bytes(rt: HostRuntime) -> Result<(), Fail> {
 }
 
 /// Runs the program with one option.
-fn run_with(rt: &HostRuntime, option: &str, path: &str) -> Ran {
+fn run_with<R: Runtime>(rt: &R, option: &str, path: &str) -> Ran {
     let words = [option, path];
     run(rt, &words, "1: BEGIN\n")
 }

@@ -2,17 +2,17 @@
 
 use crate::fault::{FAULT, WORDS};
 use crate::program::DONE;
-use crate::tests::files::{Ran, file, run};
+use crate::tests::files::{Ran, Runtime, file, run};
 use std::alloc::AllocError;
+use std::path::PathBuf;
 use std::test::Fail;
 use std::{fs, io};
 
-/// Runs the program over standard input with the rows of a file of this text loaded into `emp`.
-fn run_load(rt: &HostRuntime, name: &str, text: &[u8], input: &str) -> Result<Ran, Fail> {
-    let path = file(rt, name, text)?;
-    let load = format!(in rt.alloc(); "--load=emp={}", path.as_path().as_str())?;
+/// Runs the program over standard input with the rows of a file loaded into `emp`, and removes the file.
+fn run_load<R: Runtime>(rt: &R, rows: PathBuf, input: &str) -> Result<Ran, Fail> {
+    let load = format!(in rt.alloc(); "--load=emp={}", rows.as_path().as_str())?;
     let ran = run(rt, &[load.as_str()], input);
-    fs::remove_file(rt, path.as_path())?;
+    fs::remove_file(rt, rows.as_path())?;
     Ok(ran)
 }
 
@@ -88,7 +88,8 @@ fn a_load_is_a_transaction_before_the_script(rt: HostRuntime) -> Result<(), Fail
         ),
     ];
     for (text, input, due) in cases {
-        let ran = run_load(&rt, "loaded", text.as_bytes(), input)?;
+        let rows = file(&rt, "loaded", text.as_bytes())?;
+        let ran = run_load(&rt, rows, input)?;
         assert_eq!(rt; ran.status, DONE, "{text:?}");
         assert_eq!(rt; ran.out.as_slice(), due.as_bytes(), "{text:?}");
         assert!(rt; ran.err.is_empty(), "{text:?}");
@@ -109,10 +110,12 @@ fn many_rows(rt: &HostRuntime, rows: usize) -> Result<Vec<u8>, AllocError> {
 
 #[test]
 fn a_load_has_at_most_1000_rows(rt: HostRuntime) -> Result<(), Fail> {
-    let ran = run_load(&rt, "most", many_rows(&rt, 1000)?.as_slice(), "")?;
+    let rows = file(&rt, "most", many_rows(&rt, 1000)?.as_slice())?;
+    let ran = run_load(&rt, rows, "")?;
     assert_eq!(rt; ran.status, DONE);
     assert_eq!(rt; ran.out.as_slice(), "loaded 1000 at 1\n".as_bytes());
-    let ran = run_load(&rt, "many", many_rows(&rt, 1001)?.as_slice(), "1: BEGIN\n")?;
+    let rows = file(&rt, "many", many_rows(&rt, 1001)?.as_slice())?;
+    let ran = run_load(&rt, rows, "1: BEGIN\n")?;
     assert_eq!(rt; ran.status, FAULT);
     assert!(rt; ran.out.is_empty());
     assert_eq!(rt; ran.err.as_slice(), "load: E9 too many writes\n".as_bytes());
@@ -134,7 +137,8 @@ fn a_file_that_is_not_loaded_is_reported_and_nothing_is_run(rt: HostRuntime) -> 
         ),
     ];
     for (text, told) in cases {
-        let ran = run_load(&rt, "unloaded", text.as_bytes(), "1: BEGIN\n")?;
+        let rows = file(&rt, "unloaded", text.as_bytes())?;
+        let ran = run_load(&rt, rows, "1: BEGIN\n")?;
         assert_eq!(rt; ran.status, FAULT, "{text:?}");
         assert!(rt; ran.out.is_empty(), "{text:?}");
         assert_eq!(rt; ran.err.as_slice(), told.as_bytes(), "{text:?}");
@@ -143,7 +147,7 @@ fn a_file_that_is_not_loaded_is_reported_and_nothing_is_run(rt: HostRuntime) -> 
 }
 
 /// Runs the program with words that end in a fault, and compares what is written.
-fn stops(rt: &HostRuntime, words: &[&str], status: u8, told: &str) -> bool {
+fn stops<R: Runtime>(rt: &R, words: &[&str], status: u8, told: &str) -> bool {
     let ran = run(rt, words, "1: BEGIN\n");
     ran.status == status && ran.out.is_empty() && ran.err.as_slice().starts_with(told.as_bytes())
 }
@@ -193,7 +197,7 @@ fn faults_are_found_in_the_order_of_the_rules(rt: HostRuntime) {
 }
 
 /// Runs the program with a file loaded and another option.
-fn run_with_load(rt: &HostRuntime, load: &str, option: &str) -> Ran {
+fn run_with_load<R: Runtime>(rt: &R, load: &str, option: &str) -> Ran {
     let words = [load, option];
     run(rt, &words, "1: BEGIN\n1: DELETE FROM emp\n1: COMMIT\n")
 }
