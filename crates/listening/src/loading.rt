@@ -87,11 +87,7 @@ fn commit_begun<J: StoreName, R: Wait>(
     Ok(Loaded { receipts, instant })
 }
 
-fn pair<J: StoreName>(
-    alloc: Global,
-    first: Receipt<J>,
-    second: Receipt<J>,
-) -> Mem<Vec<Receipt<J>>>
+fn pair<J: StoreName>(alloc: Global, first: Receipt<J>, second: Receipt<J>) -> Mem<Vec<Receipt<J>>>
     ensures ok { IfOk result (λ v. v.items ≡ first ∷ second ∷ []) }
     ensures err { OnlyMemory result }
 {

@@ -213,7 +213,15 @@ where
         Ok(()) => {}
         Err(fault) => return Err(fault),
     }
-    match listen(rt, alloc, &listener, plan.sessions, store, receipts, &AlwaysOpen) {
+    match listen(
+        rt,
+        alloc,
+        &listener,
+        plan.sessions,
+        store,
+        receipts,
+        &AlwaysOpen,
+    ) {
         Ok(closed) => Ok(closed),
         Err(fault) => Err(ServerFault::Listen(fault)),
     }

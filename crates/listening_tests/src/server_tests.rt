@@ -9,7 +9,10 @@ use std::thread::Threads;
 use std::time::Clock;
 
 fn employee(alloc: Global, number: i64, name: &str) -> Result<Row, Refusal> {
-    let values = vec![in alloc; Value::Int(number), Value::Text(Chars::copy_of(alloc, name)?)]?;
+    let values = vec![in alloc;
+        Value::Int(number),
+        Value::Text(Chars::copy_of(alloc, name)?),
+    ]?;
     Row::new(values).ok_or(Refusal::BadRow(2))
 }
 

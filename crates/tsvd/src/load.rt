@@ -98,7 +98,11 @@ fn table_rows<R: AllocGlobal + Files>(rt: &R, table: &Table, file: &str) -> Resu
 }
 
 /// The rows that the text of `--load` asks for, with their table's number.
-pub fn rows_for<R: AllocGlobal + Files>(rt: &R, text: &str, schema: &Schema) -> Result<TableRows, Fault>
+pub fn rows_for<R: AllocGlobal + Files>(
+    rt: &R,
+    text: &str,
+    schema: &Schema,
+) -> Result<TableRows, Fault>
     ensures ok { IfOk result (λ r. FileSays schema.now text.now r.number (Ok r.rows.items)) }
     ensures err { IfErr result (λ fault. HasNoRows fault schema.now text.now) }
 {

@@ -39,13 +39,7 @@ pub const DONE: u8 = 0;
 /// words ask for, and writes its transcript, or serves connections; before it the rows of a file may
 /// be loaded, and after it a table may be exported. The answer is the status: 0 done, 1 a fault, 2 words that are refused; a
 /// fault is reported on standard error. Help and the version are written like other output.
-pub fn program<R, S, I, O, E>(
-    rt: &R,
-    words: &[S],
-    reader: &mut I,
-    out: &mut O,
-    err: &mut E,
-) -> u8
+pub fn program<R, S, I, O, E>(rt: &R, words: &[S], reader: &mut I, out: &mut O, err: &mut E) -> u8
 where
     R: AllocGlobal
         + Files
@@ -77,12 +71,7 @@ where
 
 /// Runs the program up to its first fault: of the words, of the schema, of the table to be exported,
 /// of the load, of the script, of the export.
-fn run<R, S, I, O>(
-    rt: &R,
-    words: &[S],
-    reader: &mut I,
-    out: &mut O,
-) -> Result<(), Fault>
+fn run<R, S, I, O>(rt: &R, words: &[S], reader: &mut I, out: &mut O) -> Result<(), Fault>
 where
     R: AllocGlobal
         + Files

@@ -12,29 +12,6 @@ use std::thread::Threads;
 use std::time::Clock;
 use std::{env, fs, io, process, str};
 
-/// What the program runs on.
-pub trait Runtime:
-    AllocGlobal
-    + Files
-    + Net<Listener = TcpListener, Stream = TcpStream>
-    + Clock
-    + Threads
-    + Wait
-    + Sync
-{
-}
-
-impl<R> Runtime for R where
-    R: AllocGlobal
-        + Files
-        + Net<Listener = TcpListener, Stream = TcpStream>
-        + Clock
-        + Threads
-        + Wait
-        + Sync
-{
-}
-
 /// A table with a key of two columns.
 const COMPOUND: &str = "CREATE TABLE t (\n\
     k TEXT, n INT, f BOOLEAN,\n\
@@ -81,7 +58,16 @@ pub struct Ran {
     pub err: Vec<u8>,
 }
 
-pub fn run<R: Runtime>(rt: &R, words: &[&str], input: &str) -> Ran {
+pub fn run<R>(rt: &R, words: &[&str], input: &str) -> Ran
+where
+    R: AllocGlobal
+        + Files
+        + Net<Listener = TcpListener, Stream = TcpStream>
+        + Clock
+        + Threads
+        + Wait
+        + Sync,
+{
     let mut out = Vec::new(rt.alloc());
     let mut err = Vec::new(rt.alloc());
     let status = program(rt, words, &mut input.as_bytes(), &mut out, &mut err);
@@ -89,7 +75,16 @@ pub fn run<R: Runtime>(rt: &R, words: &[&str], input: &str) -> Ran {
 }
 
 /// Runs the program with a schema file, over a script on standard input, and removes the file.
-fn run_over<R: Runtime>(rt: &R, schema: PathBuf, input: &str) -> io::Result<Ran> {
+fn run_over<R>(rt: &R, schema: PathBuf, input: &str) -> io::Result<Ran>
+where
+    R: AllocGlobal
+        + Files
+        + Net<Listener = TcpListener, Stream = TcpStream>
+        + Clock
+        + Threads
+        + Wait
+        + Sync,
+{
     let ran = run(rt, &["--schema", schema.as_path().as_str()], input);
     fs::remove_file(rt, schema.as_path())?;
     Ok(ran)
@@ -190,7 +185,16 @@ fn a_schema_has_at_most_65536_bytes(rt: HostRuntime) -> Result<(), Fail> {
 }
 
 /// Runs the program with one option.
-fn run_with<R: Runtime>(rt: &R, option: &str, path: &str) -> Ran {
+fn run_with<R>(rt: &R, option: &str, path: &str) -> Ran
+where
+    R: AllocGlobal
+        + Files
+        + Net<Listener = TcpListener, Stream = TcpStream>
+        + Clock
+        + Threads
+        + Wait
+        + Sync,
+{
     let words = [option, path];
     run(rt, &words, "1: BEGIN\n")
 }

@@ -2,14 +2,28 @@
 
 use crate::fault::{FAULT, WORDS};
 use crate::program::DONE;
-use crate::tests::files::{Ran, Runtime, file, run};
+use crate::tests::files::{Ran, file, run};
 use std::alloc::AllocError;
+use std::net::{Net, TcpListener, TcpStream};
 use std::path::PathBuf;
+use std::rt::Files;
+use std::sync::Wait;
 use std::test::Fail;
+use std::thread::Threads;
+use std::time::Clock;
 use std::{fs, io};
 
 /// Runs the program over standard input with the rows of a file loaded into `emp`, and removes the file.
-fn run_load<R: Runtime>(rt: &R, rows: PathBuf, input: &str) -> Result<Ran, Fail> {
+fn run_load<R>(rt: &R, rows: PathBuf, input: &str) -> Result<Ran, Fail>
+where
+    R: AllocGlobal
+        + Files
+        + Net<Listener = TcpListener, Stream = TcpStream>
+        + Clock
+        + Threads
+        + Wait
+        + Sync,
+{
     let load = format!(in rt.alloc(); "--load=emp={}", rows.as_path().as_str())?;
     let ran = run(rt, &[load.as_str()], input);
     fs::remove_file(rt, rows.as_path())?;
@@ -147,7 +161,16 @@ fn a_file_that_is_not_loaded_is_reported_and_nothing_is_run(rt: HostRuntime) -> 
 }
 
 /// Runs the program with words that end in a fault, and compares what is written.
-fn stops<R: Runtime>(rt: &R, words: &[&str], status: u8, told: &str) -> bool {
+fn stops<R>(rt: &R, words: &[&str], status: u8, told: &str) -> bool
+where
+    R: AllocGlobal
+        + Files
+        + Net<Listener = TcpListener, Stream = TcpStream>
+        + Clock
+        + Threads
+        + Wait
+        + Sync,
+{
     let ran = run(rt, words, "1: BEGIN\n");
     ran.status == status && ran.out.is_empty() && ran.err.as_slice().starts_with(told.as_bytes())
 }
@@ -197,7 +220,16 @@ fn faults_are_found_in_the_order_of_the_rules(rt: HostRuntime) {
 }
 
 /// Runs the program with a file loaded and another option.
-fn run_with_load<R: Runtime>(rt: &R, load: &str, option: &str) -> Ran {
+fn run_with_load<R>(rt: &R, load: &str, option: &str) -> Ran
+where
+    R: AllocGlobal
+        + Files
+        + Net<Listener = TcpListener, Stream = TcpStream>
+        + Clock
+        + Threads
+        + Wait
+        + Sync,
+{
     let words = [load, option];
     run(rt, &words, "1: BEGIN\n1: DELETE FROM emp\n1: COMMIT\n")
 }

@@ -6,12 +6,13 @@ use std::test::Fail;
 /// Options of a script by their texts: of the schema, the script, the load and the export.
 type Texts<'a> = [Option<&'a str>; 4];
 
-/// What options of a script ask for; none where they are a server's.
-fn texts_of<'a>(options: Options<'a>) -> Option<Texts<'a>> {
-    match options.mode {
-        Mode::Script(script) => Some([options.schema, script, options.load, options.export]),
-        Mode::Listen { .. } => None,
-    }
+/// What is asked for, with these words in the script's place where it is a server.
+fn texts_of<'a>(options: Options<'a>) -> Texts<'a> {
+    let script = match options.mode {
+        Mode::Script(script) => script,
+        Mode::Listen { .. } => Some("a server"),
+    };
+    [options.schema, script, options.load, options.export]
 }
 
 /// Words, with what they ask for.
@@ -46,7 +47,7 @@ const TAKEN: [(&[&str], Texts<'static>); 16] = [
 fn options_have_the_texts_that_follow_them(rt: HostRuntime) -> Result<(), Fail> {
     for (given, texts) in TAKEN {
         let options = words(rt.alloc(), given)?;
-        assert_eq!(rt; texts_of(options), Some(texts), "{given:?}");
+        assert_eq!(rt; texts_of(options), texts, "{given:?}");
     }
     Ok(())
 }
