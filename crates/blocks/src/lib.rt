@@ -8,9 +8,11 @@ mod gather;
 mod in_place;
 mod laws;
 mod packed;
+mod reading;
 mod rect;
 
 pub use block::{has_block, pack, unpack};
 pub use in_place::{at, changed_since, event_count};
 pub use laws::blocks_stand_for_nodes;
 pub use packed::Block;
+pub use reading::{Blocks, Unpacking};

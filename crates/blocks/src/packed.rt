@@ -1,12 +1,12 @@
 //! Packed nodes.
-ghost use Rattle.std.specs.Prelude.{◌≡◌, ◌↔◌, Some, List, length, IsTrue, IfOk, IfSome};
+ghost use Rattle.std.specs.Prelude.{◌≡◌, ◌↔◌, Some, List, length, IsTrue, IsSome, IfOk, IfSome};
 ghost use Rattle.values.specs.Memory.{OnlyMemory};
 ghost use Rattle.values.specs.Events.{row_until, event_since};
 ghost use Rattle.values.specs.Event.{Event as Change};
 ghost use Rattle.keyrange.specs.Rect.{IsArea, has_point};
 ghost use Rattle.datanode.specs.Node.{Node, IsCutOf};
 ghost use Rattle.datanode.specs.NextChange.{event_after};
-ghost use Rattle.blocks.specs.Block.{block_of, HasBlock, IsBlockOf};
+ghost use Rattle.blocks.specs.Block.{block_of, HasBlock, IsHeldNode, IsBlockOf};
 
 use crate::block::{pack, unpack};
 use crate::in_place::{at, changed_since, event_count, next_change};
@@ -65,6 +65,8 @@ impl Block {
     pub fn rect(&self) -> &Rect
         ensures rect { result.now ≡ self.now.node.rect }
         ensures area { IsArea result.now }
+        ensures past { IsSome self.now.node.rect.time.to }
+        ensures held { IsHeldNode self.now.node }
     {
         &self.rect
     }
