@@ -1,0 +1,121 @@
+//! What is asked of a cache, block after block.
+
+use blockcache::BlockCache;
+use blocks::{Block, Blocks, Unpacking};
+use bytes::Bytes;
+use keyrange::KeyRange;
+use std::alloc::Global;
+use std::test::*;
+use values::{Instant, KeyBytes, Mem};
+
+/// The block of all keys from an instant to another, with one event: key 1 has a row of one number from `at` on.
+fn block_of(alloc: Global, from: u8, to: u8, at: u8) -> Mem<Option<Block>> {
+    let bytes = &[
+        84, 83, 66, 49, 0, 0, 0, 0, 0, 0, 0, 0, 0, 0, from, 0, 0, 0, 0, 0, 0, 0, to, 1, 0, 9, 1,
+        128, 0, 0, 0, 0, 0, 0, 1, 0, 0, 0, 0, 0, 0, 0, at, 1, 1, 1, 0, 0, 0, 0, 0, 0, 0, 7,
+    ];
+    Block::from_bytes(alloc, Bytes::copy_from_slice(alloc, bytes)?)
+}
+
+/// The keys from the key of one byte on.
+fn keys_from(alloc: Global, lower: u8) -> Mem<Option<KeyRange>> {
+    let lower = KeyBytes::new(Vec::from_slice(alloc, &[lower])?);
+    Ok(lower.map(|lo| KeyRange { lo, hi: None }))
+}
+
+/// The instant of the one event that is given of a block; None where there is not one.
+fn given<B: Blocks>(
+    blocks: &mut B,
+    block: &Block,
+    range: &KeyRange,
+    from: Instant,
+    to: Instant,
+) -> Option<Instant> {
+    match blocks.events(block, range, from, to) {
+        Ok(events) => match events.as_slice() {
+            [event] => Some(event.event().at()),
+            _ => None,
+        },
+        Err(_) => None,
+    }
+}
+
+/// The instant of the one event of keys from a byte on that is given of a block: the block is made anew.
+fn asked<B: Blocks>(
+    blocks: &mut B,
+    alloc: Global,
+    (from, to, at): (u8, u8, u8),
+    lower: u8,
+    since: Instant,
+) -> Option<Instant> {
+    match (block_of(alloc, from, to, at), keys_from(alloc, lower)) {
+        (Ok(Some(block)), Ok(Some(range))) => given(blocks, &block, &range, since, u64::MAX),
+        _ => None,
+    }
+}
+
+/// How many of 17 blocks, asked for in order twice over, are answered by their own event.
+fn count_own<B: Blocks>(blocks: &mut B, alloc: Global) -> usize {
+    let mut own = 0usize;
+    for round in 0..34u8 {
+        let at = round % 17 + 1;
+        if asked(blocks, alloc, (at, at + 1, at), 0, 0) == Some(at as Instant) {
+            own = own.saturating_add(1);
+        }
+    }
+    own
+}
+
+#[test]
+fn seventeen_blocks_asked_for_twice_over_give_their_own_events(rt: HostRuntime) {
+    let alloc = rt.alloc();
+    let mut cache = BlockCache::new(alloc).expect(&rt, "there is memory");
+    let own = count_own(&mut cache, alloc);
+    assert!(rt; own == 34 && cache.len() == 16);
+}
+
+/// How often two blocks of one rectangle, asked for in turn, are answered by their own event.
+fn count_turns<B: Blocks>(blocks: &mut B, alloc: Global) -> usize {
+    let mut own = 0usize;
+    for turn in 0..6u8 {
+        let at = turn % 2 + 1;
+        if asked(blocks, alloc, (1, 3, at), 0, 0) == Some(at as Instant) {
+            own = own.saturating_add(1);
+        }
+    }
+    own
+}
+
+#[test]
+fn two_blocks_of_one_rectangle_give_their_own_events(rt: HostRuntime) {
+    let alloc = rt.alloc();
+    let mut cache = BlockCache::new(alloc).expect(&rt, "there is memory");
+    let own = count_turns(&mut cache, alloc);
+    assert!(rt; own == 6 && cache.len() == 1);
+}
+
+/// How many ranges of a block's keys and instants are answered as they should be, of five.
+fn count_ranges<B: Blocks>(blocks: &mut B, alloc: Global) -> usize {
+    let mut right = 0usize;
+    for (lower, since, expected) in [
+        (0, 0, Some(5)),
+        (1, 5, Some(5)),
+        (1, 6, None),
+        (2, 0, None),
+        (0, 5, Some(5)),
+    ] {
+        if asked(blocks, alloc, (5, 9, 5), lower, since) == expected {
+            right = right.saturating_add(1);
+        }
+    }
+    right
+}
+
+#[test]
+fn a_block_gives_the_range_that_is_asked_for(rt: HostRuntime) {
+    let alloc = rt.alloc();
+    let mut cache = BlockCache::new(alloc).expect(&rt, "there is memory");
+    let kept = count_ranges(&mut cache, alloc);
+    let unpacked = count_ranges(&mut Unpacking::new(alloc), alloc);
+    assert!(rt; kept == 5 && unpacked == 5 && cache.len() == 1);
+}
