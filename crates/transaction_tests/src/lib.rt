@@ -1,5 +1,15 @@
-//! Tests of open transactions by their public calls.
+//! Tests of transactions by public calls, a file for each crate: what one writes, shows and commits.
 #![tactic(auto)]
 
 #[cfg(test)]
-mod own_write_tests;
+mod interleaving_tests;
+#[cfg(test)]
+mod open_transaction_tests;
+#[cfg(test)]
+mod samples;
+#[cfg(test)]
+mod staging_tests;
+#[cfg(test)]
+mod systime_query_tests;
+#[cfg(test)]
+mod validation_tests;

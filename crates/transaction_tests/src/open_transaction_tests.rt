@@ -1,0 +1,95 @@
+//! A transaction that reads what it wrote.
+
+use crate::samples::{empty_tree, one_row, sets, table};
+use histories::Listing;
+use std::alloc::Global;
+use std::process::Abort;
+use transaction::{OpenTransaction, listing_of};
+use values::{Form, Keys};
+
+/// A transaction over nothing committed.
+fn begun(rt: &impl Abort, alloc: Global) -> OpenTransaction {
+    let view = empty_tree(rt, alloc).view().expect(rt, "there is memory");
+    OpenTransaction::begin(alloc, view).expect(rt, "there is memory")
+}
+
+/// A transaction that has inserted an employee.
+fn with_ann(rt: &impl Abort, alloc: Global) -> OpenTransaction {
+    let table = table(rt, alloc);
+    let rows = one_row(rt, alloc, 1, "Ann");
+    let mut transaction = begun(rt, alloc);
+    assert!(rt; transaction.insert(&table, &rows) == Ok(1));
+    transaction
+}
+
+#[test]
+fn a_transaction_begins_at_the_last_commit(rt: HostRuntime) {
+    assert!(rt; with_ann(&rt, rt.alloc()).start() == 0);
+}
+
+fn count(listing: &Listing) -> usize {
+    match listing {
+        Listing::Rows(rows) => rows.items().len(),
+        Listing::Periods(shown) => shown.items().len(),
+    }
+}
+
+/// How many rows a query of a transaction shows.
+fn count_shown(rt: &impl Abort, alloc: Global, transaction: &OpenTransaction, form: Form) -> usize {
+    let table = table(rt, alloc);
+    let listing = transaction.select(alloc, form, &table, &Keys::all(alloc, 1));
+    count(&listing.expect(rt, "there is memory"))
+}
+
+/// How many rows a query shows outside any transaction.
+fn count_outside(rt: &impl Abort, alloc: Global) -> usize {
+    let table = table(rt, alloc);
+    let tree = empty_tree(rt, alloc);
+    let keys = Keys::all(alloc, 1);
+    let listing = listing_of(alloc, tree.current(), Form::Plain, &table, &keys);
+    count(&listing.expect(rt, "there is memory"))
+}
+
+#[test]
+fn a_transaction_reads_its_own_writes_in_a_plain_query_alone(rt: HostRuntime) {
+    let transaction = with_ann(&rt, rt.alloc());
+    for (form, shown) in [
+        (Form::Plain, 1),
+        (Form::AsOf(1), 0),
+        (Form::Between(0, 9), 0),
+    ] {
+        let count = count_shown(&rt, rt.alloc(), &transaction, form);
+        assert!(rt; count == shown, "{form:?}");
+    }
+    assert!(rt; count_outside(&rt, rt.alloc()) == 0);
+}
+
+fn count_changes(rt: &impl Abort, transaction: &OpenTransaction) -> usize {
+    let net = transaction.net().expect(rt, "there is memory");
+    net.changes().len()
+}
+
+/// How many rows an update of all rows meets.
+fn update_all(rt: &impl Abort, alloc: Global, transaction: &mut OpenTransaction) -> usize {
+    let table = table(rt, alloc);
+    let sets = sets(rt, alloc, "Bea");
+    let met = transaction.update(&table, &Keys::all(alloc, 1), &sets);
+    met.expect(rt, "the name is set")
+}
+
+/// How many rows a deletion of all rows meets.
+fn delete_all(rt: &impl Abort, alloc: Global, transaction: &mut OpenTransaction) -> usize {
+    let table = table(rt, alloc);
+    let met = transaction.delete(&table, &Keys::all(alloc, 1));
+    met.expect(rt, "they are deleted")
+}
+
+#[test]
+fn a_transaction_changes_what_it_wrote(rt: HostRuntime) {
+    let mut transaction = with_ann(&rt, rt.alloc());
+    assert!(rt; update_all(&rt, rt.alloc(), &mut transaction) == 1);
+    assert!(rt; count_changes(&rt, &transaction) == 1);
+    let mut transaction = with_ann(&rt, rt.alloc());
+    assert!(rt; delete_all(&rt, rt.alloc(), &mut transaction) == 1);
+    assert!(rt; count_changes(&rt, &transaction) == 0);
+}

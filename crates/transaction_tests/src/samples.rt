@@ -1,0 +1,116 @@
+//! Employees, and trees in which they were committed. The run ends where memory does.
+ghost use Rattle.std.specs.Prelude.{◌≤◌};
+ghost use Rattle.values.specs.Tables.{IsTable};
+
+use staging::{Net, Staged};
+use std::alloc::Global;
+use std::process::Abort;
+use tsbtree::{Tree, View};
+use values::{
+    Chars, Comparison, Instant, Key, Keys, Mem, Operator, Refusal, Row, Set, Table, Value, Values,
+};
+
+/// The table of employees.
+pub(crate) fn table(rt: &impl Abort, alloc: Global) -> Table
+    ensures { IsTable result.number result }
+{
+    Table::sample(alloc).expect(rt, "there is memory")
+}
+
+fn text(rt: &impl Abort, alloc: Global, name: &str) -> Value {
+    Value::Text(Chars::copy_of(alloc, name).expect(rt, "the name is short"))
+}
+
+pub(crate) fn employee(rt: &impl Abort, alloc: Global, number: i64, name: &str) -> Row {
+    let values = vec![in alloc; Value::Int(number), text(rt, alloc, name)];
+    Row::new(values.expect(rt, "there is memory")).expect(rt, "two values are few")
+}
+
+pub(crate) fn one_row(rt: &impl Abort, alloc: Global, number: i64, name: &str) -> Vec<Row> {
+    let rows = vec![in alloc; employee(rt, alloc, number, name)];
+    rows.expect(rt, "there is memory")
+}
+
+pub(crate) fn key(rt: &impl Abort, alloc: Global, number: i64) -> Key {
+    let parts = vec![in alloc; Value::Int(number)];
+    Key {
+        table: 1,
+        parts: Values::new(parts.expect(rt, "there is memory")),
+    }
+}
+
+/// The keys that compare so with a number.
+pub(crate) fn by(rt: &impl Abort, alloc: Global, operator: Operator, number: i64) -> Keys {
+    let comparison = Comparison {
+        column: 1,
+        operator,
+        value: Value::Int(number),
+    };
+    Keys::of_comparison(alloc, 1, comparison).expect(rt, "there is memory")
+}
+
+/// What sets the name.
+pub(crate) fn sets(rt: &impl Abort, alloc: Global, name: &str) -> Vec<Set> {
+    let set = Set {
+        column: 2,
+        value: text(rt, alloc, name),
+    };
+    vec![in alloc; set].expect(rt, "there is memory")
+}
+
+/// A transaction that has written nothing.
+pub(crate) fn staged(rt: &impl Abort, alloc: Global) -> Staged {
+    Staged::new(alloc).expect(rt, "there is memory")
+}
+
+/// The net change of a transaction that inserts an employee.
+pub(crate) fn insertion(
+    rt: &impl Abort,
+    alloc: Global,
+    view: &View,
+    number: i64,
+    name: &str,
+) -> Net {
+    let rows = one_row(rt, alloc, number, name);
+    let mut staged = staged(rt, alloc);
+    let inserted = staged.insert(view, &table(rt, alloc), &rows);
+    assert!(rt; inserted == Ok(1));
+    staged.net(view).expect(rt, "there is memory")
+}
+
+/// Puts net changes into a tree, at an instant after its last.
+pub(crate) fn commit(alloc: Global, tree: &mut Tree, at: Instant, net: Net) -> Mem<()>
+    requires { at ≤ 1000 }
+{
+    if tree.current().last() >= at {
+        return Err(Refusal::ClockEnd);
+    }
+    let events = net.into_events(alloc, at)?;
+    tree.apply(at, events)
+}
+
+/// Inserts an employee in a transaction of its own, and commits it.
+pub(crate) fn hire(
+    rt: &impl Abort,
+    alloc: Global,
+    tree: &mut Tree,
+    at: Instant,
+    number: i64,
+    name: &str,
+)
+    requires { at ≤ 1000 }
+{
+    let net = insertion(rt, alloc, tree.current(), number, name);
+    commit(alloc, tree, at, net).expect(rt, "there is memory, and the instant is later");
+}
+
+pub(crate) fn empty_tree(rt: &impl Abort, alloc: Global) -> Tree {
+    Tree::new(alloc).expect(rt, "there is memory")
+}
+
+/// One employee, Ann with the number 1 from 100 on.
+pub(crate) fn ann(rt: &impl Abort, alloc: Global) -> Tree {
+    let mut tree = empty_tree(rt, alloc);
+    hire(rt, alloc, &mut tree, 100, 1, "Ann");
+    tree
+}

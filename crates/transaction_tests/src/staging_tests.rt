@@ -1,0 +1,177 @@
+//! Own writes over what was committed before.
+
+use crate::samples::{ann, by, employee, empty_tree, key, one_row, sets, staged, table};
+use searchrange::range_of_table;
+use staging::Staged;
+use std::alloc::Global;
+use std::process::Abort;
+use tsbtree::Tree;
+use values::{Instant, Keys, Mem, Operator, Refusal, Row, Value};
+
+/// How many rows of a table stand at an instant, where Ann was committed.
+fn count_standing(rt: &impl Abort, alloc: Global, table: u8, instant: Instant) -> usize {
+    let tree = ann(rt, alloc);
+    let range = range_of_table(alloc, table).expect(rt, "there is memory");
+    let standing = tree.current().standing(alloc, &range, instant);
+    standing.expect(rt, "there is memory").len()
+}
+
+#[test]
+fn a_commit_puts_the_rows_of_its_table_at_its_instant(rt: HostRuntime) {
+    for (table, instant, count) in [(1, 99, 0), (1, 100, 1), (2, 100, 0)] {
+        let found = count_standing(&rt, rt.alloc(), table, instant);
+        assert!(rt; found == count, "table {table} at {instant}");
+    }
+}
+
+/// A transaction over a tree.
+#[derive(Drop)]
+struct Desk {
+    alloc: Global,
+    tree: Tree,
+    staged: Staged,
+}
+
+fn desk_over(rt: &impl Abort, alloc: Global, tree: Tree) -> Desk {
+    let staged = staged(rt, alloc);
+    Desk {
+        alloc,
+        tree,
+        staged,
+    }
+}
+
+/// A transaction over Ann.
+fn desk_of_ann(rt: &impl Abort, alloc: Global) -> Desk {
+    let tree = ann(rt, alloc);
+    desk_over(rt, alloc, tree)
+}
+
+/// A transaction over nothing committed.
+fn desk_of_none(rt: &impl Abort, alloc: Global) -> Desk {
+    let tree = empty_tree(rt, alloc);
+    desk_over(rt, alloc, tree)
+}
+
+impl Desk {
+    fn insert(&mut self, rt: &impl Abort, rows: &[Row]) -> Mem<usize> {
+        let table = table(rt, self.alloc);
+        self.staged.insert(self.tree.current(), &table, rows)
+    }
+
+    fn delete(&mut self, rt: &impl Abort, keys: &Keys) -> Mem<usize> {
+        let table = table(rt, self.alloc);
+        self.staged.delete(self.tree.current(), &table, keys)
+    }
+
+    /// How many rows are inserted of these.
+    fn count_inserted(&mut self, rt: &impl Abort, rows: &[Row]) -> usize {
+        self.insert(rt, rows).expect(rt, "they are inserted")
+    }
+
+    /// How many rows are inserted of one employee.
+    fn hire(&mut self, rt: &impl Abort, number: i64, name: &str) -> usize {
+        let rows = one_row(rt, self.alloc, number, name);
+        self.count_inserted(rt, &rows)
+    }
+
+    /// How many rows a deletion of an employee deletes.
+    fn count_deleted(&mut self, rt: &impl Abort, number: i64) -> usize {
+        let keys = by(rt, self.alloc, Operator::Equal, number);
+        self.delete(rt, &keys).expect(rt, "the row is deleted")
+    }
+
+    /// Sets the name of all employees: how many that are.
+    fn count_renamed(&mut self, rt: &impl Abort, name: &str) -> usize {
+        let table = table(rt, self.alloc);
+        let sets = sets(rt, self.alloc, name);
+        let all = Keys::all(self.alloc, 1);
+        let set = self.staged.update(self.tree.current(), &table, &all, &sets);
+        set.expect(rt, "the name is set")
+    }
+
+    /// How many rows the transaction sees.
+    fn count_rows(&self, rt: &impl Abort) -> usize {
+        let table = table(rt, self.alloc);
+        let all = Keys::all(self.alloc, 1);
+        let found = self.staged.rows(self.tree.current(), &table, &all);
+        found.expect(rt, "there is memory").len()
+    }
+
+    /// How many net changes the transaction has.
+    fn count_changes(&self, rt: &impl Abort) -> usize {
+        let net = self.staged.net(self.tree.current());
+        net.expect(rt, "there is memory").changes().len()
+    }
+
+    /// Whether an insertion is refused for this.
+    fn refuses(&mut self, rt: &impl Abort, rows: &[Row], refusal: Refusal) -> bool {
+        self.insert(rt, rows) == Err(refusal)
+    }
+}
+
+#[test]
+fn a_transaction_sees_its_own_writes(rt: HostRuntime) {
+    let mut desk = desk_of_ann(&rt, rt.alloc());
+    assert!(rt; desk.hire(&rt, 2, "Bea") == 1);
+    assert!(rt; desk.count_deleted(&rt, 1) == 1);
+    assert!(rt; desk.count_rows(&rt) == 1);
+}
+
+#[test]
+fn an_update_sets_a_column(rt: HostRuntime) {
+    let mut desk = desk_of_ann(&rt, rt.alloc());
+    assert!(rt; desk.count_renamed(&rt, "Fay") == 1);
+    assert!(rt; desk.count_changes(&rt) == 1);
+}
+
+#[test]
+fn a_key_that_is_absent_before_and_after_is_no_change(rt: HostRuntime) {
+    let mut desk = desk_of_ann(&rt, rt.alloc());
+    assert!(rt; desk.hire(&rt, 9, "tmp") == 1);
+    assert!(rt; desk.count_changes(&rt) == 1);
+    assert!(rt; desk.count_deleted(&rt, 9) == 1);
+    assert!(rt; desk.count_changes(&rt) == 0);
+}
+
+/// An employee with a number for a name.
+fn misnamed(rt: &impl Abort, alloc: Global, number: i64) -> Vec<Row> {
+    let values = vec![in alloc; Value::Int(number), Value::Int(number)];
+    let row = Row::new(values.expect(rt, "there is memory")).expect(rt, "two values are few");
+    vec![in alloc; row].expect(rt, "there is memory")
+}
+
+#[test]
+fn a_refused_insert_changes_nothing(rt: HostRuntime) {
+    let mut desk = desk_of_ann(&rt, rt.alloc());
+    let there = Refusal::DuplicateKey(key(&rt, rt.alloc(), 1));
+    assert!(rt; desk.refuses(&rt, &one_row(&rt, rt.alloc(), 1, "Al"), there));
+    assert!(rt; desk.refuses(&rt, &misnamed(&rt, rt.alloc(), 2), Refusal::BadRow(2)));
+    assert!(rt; desk.count_changes(&rt) == 0);
+}
+
+/// So many employees.
+fn many(rt: &impl Abort, alloc: Global, count: i64) -> Vec<Row> {
+    let mut rows = Vec::new(alloc);
+    for number in 0..count {
+        let row = employee(rt, alloc, number, "n");
+        rows.push(row).expect(rt, "there is memory");
+    }
+    rows
+}
+
+#[test]
+fn a_transaction_writes_1000_keys_at_most(rt: HostRuntime) {
+    let rows = many(&rt, rt.alloc(), 1000);
+    let mut desk = desk_of_none(&rt, rt.alloc());
+    assert!(rt; desk.count_inserted(&rt, &rows) == 1000);
+    let more = one_row(&rt, rt.alloc(), 1000, "n");
+    assert!(rt; desk.refuses(&rt, &more, Refusal::TooManyWrites));
+}
+
+#[test]
+fn keys_of_another_table_are_refused(rt: HostRuntime) {
+    let mut desk = desk_of_none(&rt, rt.alloc());
+    let other = Keys::all(rt.alloc(), 2);
+    assert!(rt; desk.delete(&rt, &other) == Err(Refusal::NoTable));
+}

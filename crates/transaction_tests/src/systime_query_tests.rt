@@ -1,0 +1,138 @@
+//! Two employees over time.
+ghost use Rattle.std.specs.Prelude.{◌≤◌};
+
+use crate::samples::{ann, by, commit, hire, sets, staged, table};
+use staging::Net;
+use std::alloc::Global;
+use std::process::Abort;
+use systime_query::{answer, current_rows, rows_at};
+use tsbtree::{Tree, View};
+use values::{Form, Instant, Operator, Shown};
+
+/// The net change of a transaction that calls the employee with the number 1 Bea.
+fn renaming(rt: &impl Abort, alloc: Global, view: &View) -> Net {
+    let one = by(rt, alloc, Operator::Equal, 1);
+    let sets = sets(rt, alloc, "Bea");
+    let mut staged = staged(rt, alloc);
+    let renamed = staged.update(view, &table(rt, alloc), &one, &sets);
+    assert!(rt; renamed == Ok(1));
+    staged.net(view).expect(rt, "there is memory")
+}
+
+/// Ann comes at 100 as number 1, and is Bea from 200 on.
+fn ann_then_bea(rt: &impl Abort, alloc: Global) -> Tree {
+    let mut tree = ann(rt, alloc);
+    let net = renaming(rt, alloc, tree.current());
+    commit(alloc, &mut tree, 200, net).expect(rt, "there is memory, and the instant is later");
+    tree
+}
+
+/// What a query shows of the keys that compare so with 1.
+fn shown(
+    rt: &impl Abort,
+    alloc: Global,
+    tree: &Tree,
+    form: Form,
+    operator: Operator,
+) -> Vec<Shown> {
+    let table = table(rt, alloc);
+    let keys = by(rt, alloc, operator, 1);
+    let shown = answer(alloc, tree.current(), &table, form, &keys);
+    shown.expect(rt, "there is memory")
+}
+
+/// Whether a version of this period is shown.
+fn has(shown: &[Shown], from: Instant, to: Option<Instant>) -> bool {
+    for version in shown {
+        if version.from == from && version.to == to {
+            return true;
+        }
+    }
+    false
+}
+
+/// Whether a query shows just these of the two versions: number 1 as Ann, and as Bea.
+fn shows(
+    rt: &impl Abort,
+    alloc: Global,
+    tree: &Tree,
+    form: Form,
+    has_ann: bool,
+    has_bea: bool,
+) -> bool {
+    let shown = shown(rt, alloc, tree, form, Operator::AtMost);
+    has(&shown, 100, Some(200)) == has_ann
+        && has(&shown, 200, None) == has_bea
+        && shown.len() == has_ann as usize + has_bea as usize
+}
+
+#[test]
+fn a_version_is_closed_at_its_start_and_open_at_its_end(rt: HostRuntime) {
+    let tree = ann_then_bea(&rt, rt.alloc());
+    let cases = [
+        (Form::Plain, false, true),
+        (Form::AsOf(99), false, false),
+        (Form::AsOf(100), true, false),
+        (Form::AsOf(199), true, false),
+        (Form::AsOf(200), false, true),
+        (Form::FromTo(100, 200), true, false),
+        (Form::FromTo(150, 150), false, false),
+        (Form::Between(100, 200), true, true),
+        (Form::Between(200, 200), false, true),
+        (Form::Between(201, 200), false, false),
+    ];
+    for (form, has_ann, has_bea) in cases {
+        assert!(rt;
+            shows(&rt, rt.alloc(), &tree, form, has_ann, has_bea),
+            "{form:?}"
+        );
+    }
+}
+
+/// Cid comes at 300 as number 2.
+fn two(rt: &impl Abort, alloc: Global) -> Tree {
+    let mut tree = ann_then_bea(rt, alloc);
+    hire(rt, alloc, &mut tree, 300, 2, "Cid");
+    tree
+}
+
+#[test]
+fn each_key_shows_one_version_at_an_instant(rt: HostRuntime) {
+    let tree = two(&rt, rt.alloc());
+    let cases = [
+        (Form::Plain, 2),
+        (Form::AsOf(99), 0),
+        (Form::AsOf(299), 1),
+        (Form::AsOf(300), 2),
+        (Form::Between(1, 300), 3),
+    ];
+    for (form, count) in cases {
+        let shown = shown(&rt, rt.alloc(), &tree, form, Operator::AtLeast);
+        assert!(rt; shown.len() == count, "{form:?}");
+    }
+}
+
+/// How many employees there were at an instant.
+fn count_at(rt: &impl Abort, alloc: Global, tree: &Tree, at: Instant) -> usize {
+    let table = table(rt, alloc);
+    let keys = by(rt, alloc, Operator::AtLeast, 1);
+    let rows = rows_at(alloc, tree.current(), &table, at, &keys);
+    rows.expect(rt, "there is memory").len()
+}
+
+/// How many employees there are.
+fn count_now(rt: &impl Abort, alloc: Global, tree: &Tree) -> usize {
+    let table = table(rt, alloc);
+    let keys = by(rt, alloc, Operator::AtLeast, 1);
+    let rows = current_rows(alloc, tree.current(), &table, &keys);
+    rows.expect(rt, "there is memory").len()
+}
+
+#[test]
+fn rows_at_an_instant_are_those_that_stand(rt: HostRuntime) {
+    let tree = two(&rt, rt.alloc());
+    for (at, count) in [(99, 0), (100, 1), (299, 1), (300, 2)] {
+        assert!(rt; count_at(&rt, rt.alloc(), &tree, at) == count, "at {at}");
+    }
+    assert!(rt; count_now(&rt, rt.alloc(), &tree) == 2);
+}
