@@ -2,15 +2,15 @@
 ghost use Rattle.std.specs.Prelude.{◌≡◌};
 
 use crate::desk::{insert, sees, session};
-use crate::runs::closed_with;
+use crate::runs::entries_with;
 use growlog::{NewLog, StoreName};
 use journal::{Entry, Receipt, SharedEntry};
-use rows::{Refusal, Schema};
+use rows::Schema;
 use sessions::{LockedStore, Session, Unclosed};
 use std::alloc::Global;
 use std::marker::Brand;
+use std::process::Abort;
 use std::sync::Wait;
-use std::test::Fail;
 
 /// The number of the earlier entry that a begin names.
 fn earlier_of(entry: &Entry) -> Option<u64> {
@@ -31,62 +31,70 @@ struct Three<J: StoreName> {
 }
 
 /// A session begins, inserts the employee 7, commits, and begins again.
-fn hire_and_begin<J: StoreName, R: Wait>(
+fn hire_and_begin<J: StoreName, R: Abort + Wait>(
     rt: &R,
     alloc: Global,
     store: &LockedStore<J>,
     session: &mut Session,
-) -> Result<Three<J>, Refusal> {
-    let begun = store.begin(rt, session)?;
-    insert(alloc, session, 7, "Ann")?;
-    let done = store.commit(rt, session, 0)?;
-    let again = store.begin(rt, session)?;
-    Ok(Three { begun, done, again })
+) -> Three<J> {
+    let begun = store.begin(rt, session).expect(rt, "it begins");
+    insert(rt, alloc, session, 7, "Ann");
+    let done = store.commit(rt, session, 0).expect(rt, "it ends");
+    let again = store.begin(rt, session).expect(rt, "it begins again");
+    Three { begun, done, again }
 }
 
-/// What is read back: the numbers of the receipts, the entry that the last one names, and whether the employee is seen.
-type Back = ((u64, u64, u64), Option<u64>, bool);
+/// How many entries a store closes with by these receipts and one more; none where it closes without that one.
+fn entries_at_last<J: StoreName>(
+    rt: &impl Abort,
+    store: LockedStore<J>,
+    some: Vec<Receipt<J>>,
+    last: Receipt<J>,
+) -> Option<usize> {
+    let Err(Unclosed { store, receipts }) = store.close(some) else {
+        return None;
+    };
+    let mut receipts = receipts;
+    receipts.push(last).expect(rt, "there is memory");
+    entries_with(store, receipts)
+}
 
-/// What is read back, and how many entries the store closes with: with a receipt missing, and with all of them in another order.
-fn read_back<J: StoreName, R: Wait>(
+/// What is read back: the numbers of the receipts, the entry that the last one names, whether the employee is seen, and how many entries the store closes with: with a receipt missing, and with all of them in another order.
+fn read_back<J: StoreName, R: Abort + Wait>(
     rt: &R,
     alloc: Global,
     schema: Schema,
     opened: NewLog<SharedEntry>,
-) -> Result<(Back, Option<usize>), Refusal>
+) -> ((u64, u64, u64), Option<u64>, bool, Option<usize>)
     requires log { opened.seen.book ≡ J.book }
     requires tables { schema ≡ J.schema }
 {
-    let store = LockedStore::<J>::new(alloc, schema, opened)?;
-    let mut session = session(alloc, 1)?;
-    let Three { begun, done, again } = hire_and_begin(rt, alloc, &store, &mut session)?;
+    let store = LockedStore::<J>::new(alloc, schema, opened).expect(rt, "there is memory");
+    let mut session = session(rt, alloc, 1);
+    let Three { begun, done, again } = hire_and_begin(rt, alloc, &store, &mut session);
     let numbers = (begun.number, done.number, again.number);
     let earlier = earlier_of(again.entry.entry());
-    let back = (numbers, earlier, sees(alloc, &session, 7, "Ann")?);
-    let some = vec![in alloc; again, begun]?;
-    let Err(Unclosed { store, receipts }) = store.close(some) else {
-        return Ok((back, None));
-    };
-    Ok((back, entries_with(alloc, store, receipts, done)?))
-}
-
-/// How many entries a store closes with, by these receipts and one more.
-fn entries_with<J: StoreName>(
-    alloc: Global,
-    store: LockedStore<J>,
-    receipts: Vec<Receipt<J>>,
-    last: Receipt<J>,
-) -> Result<Option<usize>, Refusal> {
-    let mut receipts = receipts;
-    receipts.push(last)?;
-    let audit = closed_with(alloc, store, receipts)?;
-    Ok(audit.map(|a| -> usize { a.entries }))
+    let seen = sees(rt, alloc, &session, 7, "Ann");
+    let some = vec![in alloc; again, begun].expect(rt, "there is memory");
+    (
+        numbers,
+        earlier,
+        seen,
+        entries_at_last(rt, store, some, done),
+    )
 }
 
 #[test]
-fn a_session_reads_back_what_it_committed(rt: HostRuntime) -> Result<(), Fail> {
-    let schema = Schema::sample(rt.alloc())?;
-    let read = read_back::<Brand, _>(&rt, rt.alloc(), schema, NewLog::new());
-    assert_eq!(rt; read, Ok((((1, 2, 3), Some(2), true), Some(3))));
-    Ok(())
+fn a_session_reads_back_what_it_committed(rt: HostRuntime) {
+    let schema = Schema::sample(rt.alloc()).expect(&rt, "there is memory");
+    let (numbers, earlier, seen, entries) = read_back::<Brand, _>(
+        &rt,
+        rt.alloc(),
+        schema,
+        NewLog::new(),
+    );
+    assert!(rt; numbers == (1, 2, 3));
+    assert!(rt; earlier == Some(2));
+    assert!(rt; seen);
+    assert!(rt; entries == Some(3));
 }

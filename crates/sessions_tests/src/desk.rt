@@ -1,80 +1,113 @@
-//! Employees, and what a session sees of them.
+//! Employees, and what a session does and sees of them. The run ends where a call that must succeed does not.
+use growlog::StoreName;
 use histories::Listing;
-use rows::{
-    Chars, Comparison, Form, Key, Keys, Mem, Operator, Refusal, Row, Schema, Set, Value, Values,
-};
-use sessions::Session;
+use rows::{Chars, Comparison, Form, Key, Keys, Operator, Row, Schema, Set, Value, Values};
+use sessions::{LockedStore, Session};
 use std::alloc::Global;
+use std::process::Abort;
+use std::sync::Wait;
 
-fn text(alloc: Global, name: &str) -> Mem<Value> {
-    Ok(Value::Text(Chars::copy_of(alloc, name)?))
+fn text(rt: &impl Abort, alloc: Global, name: &str) -> Value {
+    Value::Text(Chars::copy_of(alloc, name).expect(rt, "the name is short"))
 }
 
-fn employee(alloc: Global, number: i64, name: &str) -> Mem<Row> {
-    let values = vec![in alloc; Value::Int(number), text(alloc, name)?]?;
-    Row::new(values).ok_or(Refusal::BadRow(2))
+fn employee(rt: &impl Abort, alloc: Global, number: i64, name: &str) -> Row {
+    let values = vec![in alloc; Value::Int(number), text(rt, alloc, name)];
+    Row::new(values.expect(rt, "there is memory")).expect(rt, "two values are few")
 }
 
-fn key(alloc: Global, number: i64) -> Mem<Key> {
-    Ok(Key {
+pub(crate) fn key(rt: &impl Abort, alloc: Global, number: i64) -> Key {
+    let parts = vec![in alloc; Value::Int(number)];
+    Key {
         table: 1,
-        parts: Values::new(vec![in alloc; Value::Int(number)]?),
-    })
+        parts: Values::new(parts.expect(rt, "there is memory")),
+    }
 }
 
 /// A session of the sample tables.
-pub(crate) fn session(alloc: Global, number: u8) -> Result<Session, Refusal> {
-    Session::new(alloc, number, Schema::sample(alloc)?)
+pub(crate) fn session(rt: &impl Abort, alloc: Global, number: u8) -> Session {
+    let schema = Schema::sample(alloc).expect(rt, "there is memory");
+    Session::new(alloc, number, schema).expect(rt, "the number is upto 64")
 }
 
+/// A session that has begun.
+pub(crate) fn begun<J: StoreName, R: Abort + Wait>(
+    rt: &R,
+    alloc: Global,
+    store: &LockedStore<J>,
+    number: u8,
+) -> Session {
+    let mut session = session(rt, alloc, number);
+    let _receipt = store.begin(rt, &mut session).expect(rt, "it begins");
+    session
+}
+
+/// How many employees are inserted of one.
 pub(crate) fn insert(
+    rt: &impl Abort,
     alloc: Global,
     session: &mut Session,
     number: i64,
     name: &str,
-) -> Result<usize, Refusal> {
-    let rows = vec![in alloc; employee(alloc, number, name)?]?;
-    session.insert(1, rows.as_slice())
+) -> usize {
+    let rows = vec![in alloc; employee(rt, alloc, number, name)];
+    let rows = rows.expect(rt, "there is memory");
+    session
+        .insert(1, rows.as_slice())
+        .expect(rt, "it is inserted")
 }
 
-fn by(alloc: Global, number: i64) -> Mem<Keys> {
+fn by(rt: &impl Abort, alloc: Global, number: i64) -> Keys {
     let comparison = Comparison {
         column: 1,
         operator: Operator::Equal,
         value: Value::Int(number),
     };
-    Keys::of_comparison(alloc, 1, comparison)
+    Keys::of_comparison(alloc, 1, comparison).expect(rt, "there is memory")
 }
 
+fn sets(rt: &impl Abort, alloc: Global, name: &str) -> Vec<Set> {
+    let set = Set {
+        column: 2,
+        value: text(rt, alloc, name),
+    };
+    vec![in alloc; set].expect(rt, "there is memory")
+}
+
+/// How many employees of a number are given a name.
 pub(crate) fn set_name(
+    rt: &impl Abort,
     alloc: Global,
     session: &mut Session,
     number: i64,
     name: &str,
-) -> Result<usize, Refusal> {
-    let set = Set {
-        column: 2,
-        value: text(alloc, name)?,
-    };
-    let sets = vec![in alloc; set]?;
-    session.update(&by(alloc, number)?, sets.as_slice())
+) -> usize {
+    let keys = by(rt, alloc, number);
+    let sets = sets(rt, alloc, name);
+    session
+        .update(&keys, sets.as_slice())
+        .expect(rt, "the name is set")
 }
 
-pub(crate) fn delete(alloc: Global, session: &mut Session, number: i64) -> Result<usize, Refusal> {
-    session.delete(&by(alloc, number)?)
+/// How many employees of a number are deleted.
+pub(crate) fn delete(rt: &impl Abort, alloc: Global, session: &mut Session, number: i64) -> usize {
+    let keys = by(rt, alloc, number);
+    session.delete(&keys).expect(rt, "they are deleted")
 }
 
 /// Whether the session sees this name at a number.
 pub(crate) fn sees(
+    rt: &impl Abort,
     alloc: Global,
     session: &Session,
     number: i64,
     name: &str,
-) -> Result<bool, Refusal> {
-    let Some(row) = session.get(&key(alloc, number)?)? else {
-        return Ok(false);
-    };
-    Ok(row.values() == employee(alloc, number, name)?.values())
+) -> bool {
+    let found = session.get(&key(rt, alloc, number));
+    match found.expect(rt, "the key is read") {
+        Some(row) => row.values() == employee(rt, alloc, number, name).values(),
+        None => false,
+    }
 }
 
 /// How many employees there are in a listing.
@@ -86,6 +119,7 @@ pub(crate) fn count_in(listing: &Listing) -> usize {
 }
 
 /// How many employees the session sees.
-pub(crate) fn count(alloc: Global, session: &Session) -> Result<usize, Refusal> {
-    Ok(count_in(&session.select(Form::Plain, &Keys::all(alloc, 1))?))
+pub(crate) fn count(rt: &impl Abort, alloc: Global, session: &Session) -> usize {
+    let listing = session.select(Form::Plain, &Keys::all(alloc, 1));
+    count_in(&listing.expect(rt, "they are listed"))
 }

@@ -12,4 +12,6 @@ spawn-after-requires-send-F g c κs = λ within.
 
 -- the session is moved
 pub spawn-before-requires-send-F : goal.spawn-before-requires-send-F
-spawn-before-requires-send-F g c κs = search (session_send, sendable, crosses) depth 60 fits 20000
+spawn-before-requires-send-F g c κs = λ within.
+    let handle : IsSync g.row.R = search (rules, c.requires) parts 8 in
+    search (session_send, sendable, crosses) depth 60 fits 20000

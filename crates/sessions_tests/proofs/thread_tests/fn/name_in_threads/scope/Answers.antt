@@ -4,14 +4,14 @@ use Rattle.std.proofs.Crossing.{crosses}
 use Rattle.sessions.proofs.Crossing.{receipt_send, receipt_field_send, store_sync}
 use Rattle.sessions_tests.proofs.thread_tests.fn.name_in_threads.scope.Goals as goal
 
-pub spawn-requires-send-F : goal.spawn-requires-send-F
-spawn-requires-send-F g c κs = λ within.
+pub spawn-handle-requires-send-F : goal.spawn-handle-requires-send-F
+spawn-handle-requires-send-F g c κs = λ within.
     let named : IsSend g.row.J = search (rules, c.requires) parts 8 in
     let handle : IsSync g.row.R = search (rules, c.requires) parts 8 in
     search (store_sync, sendable, crosses) depth 60 fits 20000
 
-pub spawn-requires-send-T : goal.spawn-requires-send-T
-spawn-requires-send-T g c κs = λ within.
+pub spawn-handle-requires-send-T : goal.spawn-handle-requires-send-T
+spawn-handle-requires-send-T g c κs = λ within.
     let named : IsSend g.row.J = search (rules, c.requires) parts 8 in
     let handle : IsSync g.row.R = search (rules, c.requires) parts 8 in
     search (receipt_send, receipt_field_send, sendable, crosses) depth 60 fits 20000
