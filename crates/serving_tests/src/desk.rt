@@ -1,16 +1,16 @@
 //! A session that is served round a store of its own.
 ghost use Rattle.std.specs.Prelude.{◌≡◌};
-ghost use Rattle.rows.specs.Sample.{sample};
 
 use growlog::{NewLog, StoreName};
 use journal::{Receipt, SharedEntry};
-use rows::{Instant, Refusal, Schema};
+use rows::{Instant, Schema};
 use serving::{End, Gate, Place, Readings, Told, serve_session};
-use sessions::{LockedStore, Session};
+use sessions::LockedStore;
 use std::alloc::Global;
 use std::io;
 use std::io::{ErrorKind, Read, Write};
 use std::marker::Brand;
+use std::process::Abort;
 use std::sync::Wait;
 
 /// A gate that is open, or that gives up at one place.
@@ -118,8 +118,8 @@ fn entries_of<J: StoreName>(store: LockedStore<J>, receipts: Vec<Receipt<J>>) ->
     }
 }
 
-/// Serves a session, whose number is 3, round a store of the sample tables.
-fn serve<J: StoreName, R: Wait, I: Read, W: Write>(
+/// Serves a session, whose number is 3, round a store of these tables.
+fn serve<J: StoreName, R: Abort + Wait, I: Read, W: Write>(
     rt: &R,
     alloc: Global,
     schema: Schema,
@@ -127,57 +127,74 @@ fn serve<J: StoreName, R: Wait, I: Read, W: Write>(
     reader: &mut I,
     writer: &mut W,
     door: Door,
-) -> Result<Summary, Refusal>
+) -> Summary
     requires log { opened.seen.book ≡ J.book }
     requires tables { schema ≡ J.schema }
-    requires sample { schema ≡ sample }
 {
-    let store = LockedStore::<J>::new(alloc, schema, opened)?;
-    let session = Session::new(alloc, 3, Schema::sample(alloc)?)?;
+    let store = LockedStore::<J>::new(alloc, schema, opened).expect(rt, "there is memory");
+    let session = store
+        .session(alloc, 3)
+        .expect(rt, "the number is at most 64");
     let mut ticks = Ticks { next: 10 };
     let served = serve_session(
         rt, alloc, reader, writer, session, &store, &door, &mut ticks,
     );
-    Ok(Summary {
+    Summary {
         end: served.end,
         receipts: served.receipts.len(),
         told: receipts_told(served.told.as_slice()),
         lines: served.told.len(),
         entries: entries_of(store, served.receipts),
-    })
+    }
 }
 
-/// What comes of a session that is served over this reader and this writer.
-pub(crate) fn summary_of<R: Wait, I: Read, W: Write>(
+/// What comes of a session that is served over this reader and this writer, round a store of the sample tables.
+pub(crate) fn summary_of<R: Abort + Wait, I: Read, W: Write>(
     rt: &R,
     alloc: Global,
     reader: &mut I,
     writer: &mut W,
     door: Door,
-) -> Result<Summary, Refusal> {
-    let schema = Schema::sample(alloc)?;
+) -> Summary {
+    let schema = Schema::sample(alloc).expect(rt, "there is memory");
     serve::<Brand, _, _, _>(rt, alloc, schema, NewLog::new(), reader, writer, door)
 }
 
-/// What a session is sent for a text, and what comes of it.
-pub(crate) fn sent_for<R: Wait>(
+/// Asserts that a session reads a text to its end and is sent these replies, how many lines that were, and that it took so many receipts, which close the store.
+pub(crate) fn assert_sent<R: Abort + Wait>(
     rt: &R,
     alloc: Global,
-    text: &[u8],
-) -> Result<(Vec<u8>, Summary), Refusal> {
-    let mut reader = text;
+    text: &str,
+    replies: &str,
+    lines: usize,
+    receipts: usize,
+) {
+    let mut reader = text.as_bytes();
     let mut out = Vec::new(alloc);
-    let summary = summary_of(rt, alloc, &mut reader, &mut out, Door::Open)?;
-    Ok((out, summary))
-}
-
-/// A session that ended as `Closed` with so many lines and receipts, which close the store.
-pub(crate) fn closed(lines: usize, receipts: usize) -> Summary {
-    Summary {
+    let summary = summary_of(rt, alloc, &mut reader, &mut out, Door::Open);
+    assert_eq!(rt; out.as_slice(), replies.as_bytes());
+    let closed = Summary {
         end: End::Closed,
         receipts,
         told: receipts,
         lines,
         entries: Some(receipts),
-    }
+    };
+    assert_eq!(rt; summary, closed);
+}
+
+/// Asserts what was written until a session ended, why it ended, how many lines it had, and that it took so many receipts, which close the store.
+pub(crate) fn assert_ended(
+    rt: &impl Abort,
+    written: &[u8],
+    replies: &str,
+    summary: Summary,
+    end: End,
+    lines: usize,
+    receipts: usize,
+) {
+    assert_eq!(rt; written, replies.as_bytes());
+    assert!(rt; summary.end == end);
+    assert!(rt; summary.lines == lines);
+    assert!(rt; summary.receipts == receipts && summary.entries == Some(receipts));
 }

@@ -1,9 +1,8 @@
 //! What a session is sent for its lines.
-use crate::desk::{closed, sent_for};
-use std::test::Fail;
+use crate::desk::assert_sent;
 
 #[test]
-fn a_session_is_answered_line_by_line(rt: HostRuntime) -> Result<(), Fail> {
+fn a_session_is_answered_line_by_line(rt: HostRuntime) {
     let text = "BEGIN\n\
         INSERT INTO emp VALUES (1, 'Ann'), (2, null)\n\
         UPDATE emp SET name = 'Bea' WHERE no = 2\n\
@@ -20,62 +19,43 @@ fn a_session_is_answered_line_by_line(rt: HostRuntime) -> Result<(), Fail> {
         committed 10\n\
         rows 1\n\
         (2, 'Bea')\n";
-    let (sent, summary) = sent_for(&rt, rt.alloc(), text.as_bytes())?;
-    assert_eq!(rt; sent.as_slice(), replies.as_bytes());
-    assert_eq!(rt; summary, closed(7, 3));
-    Ok(())
+    assert_sent(&rt, rt.alloc(), text, replies, 7, 3);
 }
 
 #[test]
-fn a_select_alone_begins_and_rolls_back(rt: HostRuntime) -> Result<(), Fail> {
-    let (sent, summary) = sent_for(&rt, rt.alloc(), b"SELECT * FROM emp\nROLLBACK\n".as_slice())?;
-    assert_eq!(rt; sent.as_slice(), b"rows 0\nE4 no transaction\n".as_slice());
-    assert_eq!(rt; summary, closed(2, 1));
-    Ok(())
+fn a_select_alone_begins_and_rolls_back(rt: HostRuntime) {
+    let text = "SELECT * FROM emp\nROLLBACK\n";
+    assert_sent(&rt, rt.alloc(), text, "rows 0\nE4 no transaction\n", 2, 1);
 }
 
 #[test]
-fn what_is_no_line_of_a_session_is_refused(rt: HostRuntime) -> Result<(), Fail> {
+fn what_is_no_line_of_a_session_is_refused(rt: HostRuntime) {
     let text = "\n-- a comment\nBEGN\n3: BEGIN\nclock: 5\nSELECT * FROM nobody\nBEGIN;\n";
     let replies = "E1 syntax at 0\nE1 syntax at 0\nE1 syntax at 0\nE2 no table\nbegun 0\n";
-    let (sent, summary) = sent_for(&rt, rt.alloc(), text.as_bytes())?;
-    assert_eq!(rt; sent.as_slice(), replies.as_bytes());
-    assert_eq!(rt; summary, closed(7, 1));
-    Ok(())
+    assert_sent(&rt, rt.alloc(), text, replies, 7, 1);
 }
 
 #[test]
-fn a_last_line_wants_no_line_feed(rt: HostRuntime) -> Result<(), Fail> {
-    let (sent, summary) = sent_for(&rt, rt.alloc(), b"BEGIN\r\nROLLBACK".as_slice())?;
-    assert_eq!(rt; sent.as_slice(), b"begun 0\nrolled back\n".as_slice());
-    assert_eq!(rt; summary, closed(2, 1));
-    let (sent, summary) = sent_for(&rt, rt.alloc(), b"".as_slice())?;
-    assert!(rt; sent.is_empty());
-    assert_eq!(rt; summary, closed(0, 0));
-    Ok(())
+fn a_last_line_wants_no_line_feed(rt: HostRuntime) {
+    let replies = "begun 0\nrolled back\n";
+    assert_sent(&rt, rt.alloc(), "BEGIN\r\nROLLBACK", replies, 2, 1);
+    assert_sent(&rt, rt.alloc(), "", "", 0, 0);
 }
 
 #[test]
-fn a_line_that_is_too_long_is_refused_and_the_next_is_read(rt: HostRuntime) -> Result<(), Fail> {
-    let mut text = Vec::new(rt.alloc());
+fn a_line_that_is_too_long_is_refused_and_the_next_is_read(rt: HostRuntime) {
+    let mut text = String::new(rt.alloc());
     for _ in 0..8193usize {
-        text.push(b' ')?;
+        text.push_str(" ").expect(&rt, "there is memory");
     }
-    text.extend_from_slice(b"\nBEGIN\n".as_slice())?;
-    let (sent, summary) = sent_for(&rt, rt.alloc(), text.as_slice())?;
-    assert_eq!(rt; sent.as_slice(), b"E12 line too long\nbegun 0\n".as_slice());
-    assert_eq!(rt; summary, closed(2, 1));
-    Ok(())
+    text.push_str("\nBEGIN\n").expect(&rt, "there is memory");
+    let replies = "E12 line too long\nbegun 0\n";
+    assert_sent(&rt, rt.alloc(), text.as_str(), replies, 2, 1);
 }
 
 #[test]
-fn splits_take_receipts_and_a_migration_takes_none(rt: HostRuntime) -> Result<(), Fail> {
-    let text = b"SPLIT: KEY emp (5)\nSPLIT: TIME emp (1) AT 3\nMIGRATE:\nSPLIT: KEY emp ('x')\n";
-    let (sent, summary) = sent_for(&rt, rt.alloc(), text.as_slice())?;
-    assert_eq!(rt;
-        sent.as_slice(),
-        b"ok\nok\nok\nE3 bad row at column 1\n".as_slice()
-    );
-    assert_eq!(rt; summary, closed(4, 2));
-    Ok(())
+fn splits_take_receipts_and_a_migration_takes_none(rt: HostRuntime) {
+    let text = "SPLIT: KEY emp (5)\nSPLIT: TIME emp (1) AT 3\nMIGRATE:\nSPLIT: KEY emp ('x')\n";
+    let replies = "ok\nok\nok\nE3 bad row at column 1\n";
+    assert_sent(&rt, rt.alloc(), text, replies, 4, 2);
 }
