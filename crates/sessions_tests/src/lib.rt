@@ -1,4 +1,4 @@
-//! Tests of `sessions` by its public calls: sessions round one store.
+//! Tests of `sessions` and `serving` by their public calls: sessions round one store.
 #![tactic(auto)]
 
 #[cfg(test)]
@@ -8,9 +8,15 @@ mod closing_tests;
 #[cfg(test)]
 mod desk;
 #[cfg(test)]
+mod end_tests;
+#[cfg(test)]
+mod line_tests;
+#[cfg(test)]
 mod run_tests;
 #[cfg(test)]
 mod runs;
+#[cfg(test)]
+mod served;
 #[cfg(test)]
 mod store_tests;
 #[cfg(test)]

@@ -1,4 +1,4 @@
-use Rattle.serving_tests.proofs.desk.summary_of.Given as goal
+use Rattle.sessions_tests.proofs.served.summary_of.Given as goal
 
 -- the log that was just made, and the tables
 abbrev pub ghosts-serve : goal.ghosts-serve

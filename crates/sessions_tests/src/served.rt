@@ -1,8 +1,9 @@
 //! A session that is served round a store of its own.
 ghost use Rattle.std.specs.Prelude.{◌≡◌};
 
+use crate::runs::entries_with;
 use growlog::{NewLog, StoreName};
-use journal::{Receipt, SharedEntry};
+use journal::SharedEntry;
 use rows::{Instant, Schema};
 use serving::{End, Gate, Place, Readings, Told, serve_session};
 use sessions::LockedStore;
@@ -111,13 +112,6 @@ fn receipts_told(told: &[Told]) -> usize {
     sum
 }
 
-fn entries_of<J: StoreName>(store: LockedStore<J>, receipts: Vec<Receipt<J>>) -> Option<usize> {
-    match store.close(receipts) {
-        Ok(closed) => Some(closed.entries()),
-        Err(_) => None,
-    }
-}
-
 /// Serves a session, whose number is 3, round a store of these tables.
 fn serve<J: StoreName, R: Abort + Wait, I: Read, W: Write>(
     rt: &R,
@@ -144,7 +138,7 @@ fn serve<J: StoreName, R: Abort + Wait, I: Read, W: Write>(
         receipts: served.receipts.len(),
         told: receipts_told(served.told.as_slice()),
         lines: served.told.len(),
-        entries: entries_of(store, served.receipts),
+        entries: entries_with(store, served.receipts),
     }
 }
 

@@ -1,5 +1,5 @@
 //! What a session is sent for its lines.
-use crate::desk::assert_sent;
+use crate::served::assert_sent;
 
 #[test]
 fn a_session_is_answered_line_by_line(rt: HostRuntime) {

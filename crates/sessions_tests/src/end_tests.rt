@@ -1,5 +1,5 @@
 //! How served sessions end, and what is kept then.
-use crate::desk::{Cut, Door, Pipe, assert_ended, assert_sent, summary_of};
+use crate::served::{Cut, Door, Pipe, assert_ended, assert_sent, summary_of};
 use serving::{End, Place};
 use std::alloc::Global;
 
