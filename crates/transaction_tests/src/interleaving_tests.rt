@@ -3,7 +3,7 @@ use crate::interleaving_tests::Action::{
     Begin, Commit, Delete, DeleteBelow, Insert, InsertMany, InsertTwice, Migrate, Rename, Rollback,
     Select, SplitKey, SplitTime,
 };
-use crate::samples::{by, employee, key, one_row, sets};
+use crate::samples::{by, employee, key, many, one_row, sets};
 use histories::{Listing, Reply, Step};
 use interleaving::System;
 use rows::{Form, Instant, Keys, Operator, Refusal, Row, Rows, Schema, Sets, Shown, Value};
@@ -41,15 +41,6 @@ fn twice(rt: &impl Abort, alloc: Global, number: i64) -> Vec<Row> {
     let mut rows = one_row(rt, alloc, number, "a");
     let other = employee(rt, alloc, number, "b");
     rows.push(other).expect(rt, "there is memory");
-    rows
-}
-
-fn many(rt: &impl Abort, alloc: Global, count: i64) -> Vec<Row> {
-    let mut rows = Vec::new(alloc);
-    for number in 0..count {
-        let row = employee(rt, alloc, number, "x");
-        rows.push(row).expect(rt, "there is memory");
-    }
     rows
 }
 

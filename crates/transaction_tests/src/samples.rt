@@ -31,6 +31,16 @@ pub(crate) fn one_row(rt: &impl Abort, alloc: Global, number: i64, name: &str) -
     rows.expect(rt, "there is memory")
 }
 
+/// So many employees, from 0 on.
+pub(crate) fn many(rt: &impl Abort, alloc: Global, count: i64) -> Vec<Row> {
+    let mut rows = Vec::new(alloc);
+    for number in 0..count {
+        let row = employee(rt, alloc, number, "n");
+        rows.push(row).expect(rt, "there is memory");
+    }
+    rows
+}
+
 pub(crate) fn key(rt: &impl Abort, alloc: Global, number: i64) -> Key {
     let parts = vec![in alloc; Value::Int(number)];
     Key {

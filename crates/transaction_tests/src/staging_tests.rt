@@ -1,6 +1,6 @@
 //! Own writes over what was committed before.
 
-use crate::samples::{ann, by, employee, empty_tree, key, one_row, sets, staged, table};
+use crate::samples::{ann, by, empty_tree, key, many, one_row, sets, staged, table};
 use searchrange::range_of_table;
 use staging::Staged;
 use std::alloc::Global;
@@ -148,16 +148,6 @@ fn a_refused_insert_changes_nothing(rt: HostRuntime) {
     assert!(rt; desk.refuses(&rt, &one_row(&rt, rt.alloc(), 1, "Al"), there));
     assert!(rt; desk.refuses(&rt, &misnamed(&rt, rt.alloc(), 2), Refusal::BadRow(2)));
     assert!(rt; desk.count_changes(&rt) == 0);
-}
-
-/// So many employees.
-fn many(rt: &impl Abort, alloc: Global, count: i64) -> Vec<Row> {
-    let mut rows = Vec::new(alloc);
-    for number in 0..count {
-        let row = employee(rt, alloc, number, "n");
-        rows.push(row).expect(rt, "there is memory");
-    }
-    rows
 }
 
 #[test]
