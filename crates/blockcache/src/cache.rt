@@ -2,6 +2,7 @@
 ghost use Rattle.std.specs.Prelude.{◌≡◌, ◌≤◌, IfOk};
 ghost use Rattle.std.specs.NonZero.{non_zero_usize_get};
 ghost use Rattle.values.specs.Memory.{OnlyMemory};
+ghost use Rattle.eventlist.specs.Listing.{events_in};
 
 use crate::entry::Entry;
 use blocks::{Block, Blocks};
@@ -20,31 +21,33 @@ type Corner = (Instant, Vec<u8>);
 
 /// At most 16 blocks beside the nodes that they unpack to, those that were asked for last. An entry is found by the corner
 /// of its rectangle, which is short, and answers for a block of the same bytes alone: blocks of two trees may have one
-/// rectangle. Of blocks that have one corner the last is kept. In a tree no two have.
+/// rectangle. Of blocks that have one corner the last is kept. In a tree no two have. Until the first block is asked for
+/// the cache takes no memory.
 #[derive(Drop)]
 pub struct BlockCache {
     alloc: Global,
-    entries: LruCache<Corner, Entry>,
+    entries: Option<LruCache<Corner, Entry>>,
 }
 
 impl Model for BlockCache {
-    ghost use Rattle.std.specs.Prelude.{◌≡◌, ℕ, length};
+    ghost use Rattle.std.specs.Prelude.{◌≡◌, ℕ, length, IfSome, Some, None};
 
     ghost Value = { ℕ };
 
-    ghost view = { λ c. length c.entries.entries };
+    ghost view = { λ c. elim c.entries [ None ↦ 0 | Some kept ↦ length kept.entries ] };
 
-    ghost invariant = { λ c. c.entries.cap ≡ 16 };
+    ghost invariant = { λ c. IfSome c.entries (λ kept. kept.cap ≡ 16) };
 }
 
 impl BlockCache {
-    /// A cache of no blocks.
-    pub fn new(alloc: Global) -> Mem<BlockCache>
-        ensures ok { IfOk result (λ c. c ≡ 0) }
-        ensures err { OnlyMemory result }
+    /// A cache of no blocks. It takes no memory.
+    pub fn new(alloc: Global) -> BlockCache
+        ensures { result ≡ 0 }
     {
-        let entries = LruCache::new(alloc, most())?;
-        Ok(BlockCache { alloc, entries })
+        BlockCache {
+            alloc,
+            entries: None,
+        }
     }
 
     /// How many blocks the cache keeps: at most 16.
@@ -52,7 +55,10 @@ impl BlockCache {
         ensures is { result ≡ self.now }
         ensures most { result ≤ 16 }
     {
-        self.entries.len()
+        match &self.entries {
+            None => 0,
+            Some(entries) => entries.len(),
+        }
     }
 }
 
@@ -64,17 +70,39 @@ impl Blocks for BlockCache {
         from: Instant,
         to: Instant,
     ) -> Mem<Vec<SharedEvent>> {
-        let corner = corner_of(self.alloc, block.rect())?;
-        if let Some(entry) = self.entries.get(&corner) {
-            if entry.is_of(block) {
-                return entry.events(self.alloc, range, from, to);
-            }
+        if self.entries.is_none() {
+            self.entries = Some(LruCache::new(self.alloc, most())?);
         }
-        let entry = Entry::new(self.alloc, block)?;
-        let events = entry.events(self.alloc, range, from, to)?;
-        self.entries.put(corner, entry)?;
-        Ok(events)
+        match &mut self.entries {
+            None => unreachable!(),
+            Some(entries) => events_of(self.alloc, entries, block, range, from, to),
+        }
     }
+}
+
+/// The events of a block, whose entry is kept.
+fn events_of(
+    alloc: Global,
+    entries: &mut LruCache<Corner, Entry>,
+    block: &Block,
+    range: &KeyRange,
+    from: Instant,
+    to: Instant,
+) -> Mem<Vec<SharedEvent>>
+    ensures ok { IfOk result (λ v. v.items ≡ events_in block.now.node.events range.now from to) }
+    ensures room { entries.new.cap ≡ entries.old.cap }
+    ensures err { OnlyMemory result }
+{
+    let corner = corner_of(alloc, block.rect())?;
+    if let Some(entry) = entries.get(&corner) {
+        if entry.is_of(block) {
+            return entry.events(alloc, range, from, to);
+        }
+    }
+    let entry = Entry::new(alloc, block)?;
+    let events = entry.events(alloc, range, from, to)?;
+    entries.put(corner, entry)?;
+    Ok(events)
 }
 
 fn most() -> NonZeroUsize

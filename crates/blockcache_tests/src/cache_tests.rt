@@ -69,7 +69,7 @@ fn count_own<B: Blocks>(blocks: &mut B, alloc: Global) -> usize {
 #[test]
 fn seventeen_blocks_asked_for_twice_over_give_their_own_events(rt: HostRuntime) {
     let alloc = rt.alloc();
-    let mut cache = BlockCache::new(alloc).expect(&rt, "there is memory");
+    let mut cache = BlockCache::new(alloc);
     let own = count_own(&mut cache, alloc);
     assert!(rt; own == 34 && cache.len() == 16);
 }
@@ -89,7 +89,7 @@ fn count_turns<B: Blocks>(blocks: &mut B, alloc: Global) -> usize {
 #[test]
 fn two_blocks_of_one_rectangle_give_their_own_events(rt: HostRuntime) {
     let alloc = rt.alloc();
-    let mut cache = BlockCache::new(alloc).expect(&rt, "there is memory");
+    let mut cache = BlockCache::new(alloc);
     let own = count_turns(&mut cache, alloc);
     assert!(rt; own == 6 && cache.len() == 1);
 }
@@ -114,7 +114,7 @@ fn count_ranges<B: Blocks>(blocks: &mut B, alloc: Global) -> usize {
 #[test]
 fn a_block_gives_the_range_that_is_asked_for(rt: HostRuntime) {
     let alloc = rt.alloc();
-    let mut cache = BlockCache::new(alloc).expect(&rt, "there is memory");
+    let mut cache = BlockCache::new(alloc);
     let kept = count_ranges(&mut cache, alloc);
     let unpacked = count_ranges(&mut Unpacking::new(alloc), alloc);
     assert!(rt; kept == 5 && unpacked == 5 && cache.len() == 1);
