@@ -1,5 +1,9 @@
 pub mod NodeNumbers
 pub mod NodePut
+pub mod BacklogOrder
+pub mod BacklogKept
+pub mod BacklogFirst
+pub mod PackedKept
 pub mod LookupSteps
 pub mod LookupFound
 pub mod LookupNodes

@@ -7,11 +7,10 @@ use Rattle.keyrange.specs.Rect.{Area, has_point}
 use Rattle.keyrange.proofs.RectMeeting.{both}
 use Rattle.indexnode.specs.declared.reference.Reference.{Reference}
 use Rattle.indexnode.specs.declared.node.IndexNode.{IndexNode}
-use Rattle.datanode.specs.Node.{Node}
 use Rattle.treenodes.specs.declared.node.Child.{Child}
-use Rattle.treenodes.specs.declared.node.Child.TheVariants.{Data, Index}
-use Rattle.treenodes.specs.Node.{seen, References, TreeNode, IsAt, data_node}
-use Rattle.treenodes.specs.Tree.{RefersTo, IsIndex, whole, IsTree}
+use Rattle.treenodes.specs.declared.node.Child.TheVariants.{Data, Packed, Index}
+use Rattle.treenodes.specs.Node.{Content, Events, References, TreeNode, IsAt, IsDataNode, seen, content_of}
+use Rattle.treenodes.specs.Tree.{RefersTo, HasContent, IsIndex, whole, IsTree}
 use Rattle.treenodes.specs.Lookup.{IsLeafAt}
 
 pub record WalkedTo (nodes : List TreeNode) (key : List ℕ) (instant number visits : ℕ) : Type 0 where
@@ -81,21 +80,31 @@ module _ (nodes : List TreeNode) (key : List ℕ) (instant number visits : ℕ) 
     pub step_down : (r : Reference ℕ) → Contains x.references.items r → has_point r.rect key instant ≡ true → WalkedTo nodes key instant r.child (visits + 1)
     step_down r among holds = step nodes tree key instant number visits n.level x.rect x.references.items (shown_at nodes number n shown (Index x) at is same) w r among holds
 
-module _ (nodes : List TreeNode) (key : List ℕ) (instant number visits : ℕ) (n : TreeNode) (shown : Child) (d : Node) (at : slice_get nodes number ≡ Some n) (is : n ≡ seen n.level shown) (same : shown ≡ Data d) (tree : IsTree nodes) (w : WalkedTo nodes key instant number visits) where
-  pub data_there : IsAt nodes number (data_node d)
-  data_there =
-      let here = shown_at nodes number n shown (Data d) at is same in
-      let zero_level : n.level ≡ 0 = tree.contents number _ here in
-      here ∙ ap (λ l. Some (seen l (Data d))) zero_level
+-- what is no index node is a data node, packed or not
+pub is_data : (shown : Child) → ((x : IndexNode ℕ) → shown ≡ Index x → ⊥) → IsDataNode (content_of shown)
+is_data (Data n) other = tt
+is_data (Packed b) other = tt
+is_data (Index x) other = absurd (other x refl)
+
+pub bottom_of : (nodes : List TreeNode) (level : ℕ) (rect : Area) (content : Content) → IsDataNode content → HasContent nodes level rect content → level ≡ 0
+bottom_of nodes level rect (Events es) h has = has
+bottom_of nodes level rect (References rs) h has = absurd h
+
+module _ (nodes : List TreeNode) (key : List ℕ) (instant number visits : ℕ) (n : TreeNode) (shown : Child) (at : slice_get nodes number ≡ Some n) (is : n ≡ seen n.level shown) (other : (x : IndexNode ℕ) → shown ≡ Index x → ⊥) (tree : IsTree nodes) (w : WalkedTo nodes key instant number visits) where
+  data_here : IsDataNode n.content
+  data_here = subst (λ (p : TreeNode). IsDataNode p.content) (sym is) (is_data shown other)
+
+  bottom : n.level ≡ 0
+  bottom = bottom_of nodes n.level n.rect n.content data_here (tree.contents number n at)
 
   pub leaf_found : IsLeafAt nodes key instant number
-  leaf_found = record { leaf = record { node = data_node d; there = data_there; bottom = refl; is_data = tt }; holds = at_walked nodes key instant number visits (data_node d) data_there w }
+  leaf_found = record { leaf = record { node = n; there = at; bottom = bottom; is_data = data_here }; holds = at_walked nodes key instant number visits n at w }
 
   -- a data node is of level 0, and all levels above were visited
   pub all_visited : (root : TreeNode) → IsAt nodes 0 root → visits ≡ root.level + 1
   all_visited root first =
-      let one : w.node ≡ data_node d = cc (data_there) in
-      let zero_level : w.node.level ≡ 0 = ap (λ (p : TreeNode). p.level) one in
+      let one : w.node ≡ n = cc (at) in
+      let zero_level : w.node.level ≡ 0 = ap (λ (p : TreeNode). p.level) one ∙ bottom in
       let same_root : w.root ≡ root = cc in
       let levels : w.root.level ≡ root.level = ap (λ (p : TreeNode). p.level) same_root in
       omega (arith, w.counted)

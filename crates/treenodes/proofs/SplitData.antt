@@ -18,6 +18,18 @@ use Rattle.datanode.specs.Cut.{cut}
 use Rattle.datanode.proofs.CutMembers.{some_is}
 use Rattle.treenodes.proofs.NodeNumbers.{one_at}
 
+-- what is asked of a node that is split
+module _ (nodes : List TreeNode) (number : ℕ) (n : TreeNode) (at : IsAt nodes number n) where
+  pub key_of : (key : List ℕ) → CanSplitKey nodes number key → (n.rect.time.to ≡ None) × IsTrue (is_key_inside n.rect key)
+  key_of key can =
+      let same = one_at nodes number can.leaf.node n can.leaf.there at in
+      (subst (λ (q : TreeNode). q.rect.time.to ≡ None) same can.current, subst (λ (q : TreeNode). is_key_inside q.rect key ≡ true) same can.inside)
+
+  pub time_of : (instant : ℕ) → CanSplitTime nodes number instant → (n.rect.time.to ≡ None) × IsTrue (is_time_inside n.rect instant)
+  time_of instant can =
+      let same = one_at nodes number can.leaf.node n can.leaf.there at in
+      (subst (λ (q : TreeNode). q.rect.time.to ≡ None) same can.current, subst (λ (q : TreeNode). is_time_inside q.rect instant ≡ true) same can.inside)
+
 module _ (nodes : List TreeNode) (number : ℕ) (node a b : Node) (at : IsAt nodes number (data_node node)) where
   pub split_data : node.rect.time.to ≡ None → AreHalves node.rect a.rect b.rect → (n : TreeNode) → IsAt nodes number n → AreSplit nodes n (seen n.level (Data a)) (seen n.level (Data b))
   split_data current halves n here = subst (λ (n : TreeNode). AreSplit nodes n (seen n.level (Data a)) (seen n.level (Data b))) (one_at nodes number (data_node node) n at here) (record {
@@ -31,14 +43,10 @@ module _ (nodes : List TreeNode) (number : ℕ) (node a b : Node) (at : IsAt nod
 
   -- what is asked of the node
   pub key_in : (key : List ℕ) → CanSplitKey nodes number key → (node.rect.time.to ≡ None) × IsTrue (is_key_inside node.rect key)
-  key_in key can =
-      let same = one_at nodes number can.leaf.node (data_node node) can.leaf.there at in
-      (subst (λ (q : TreeNode). q.rect.time.to ≡ None) same can.current, subst (λ (q : TreeNode). is_key_inside q.rect key ≡ true) same can.inside)
+  key_in = key_of nodes number (data_node node) at
 
   pub time_in : (instant : ℕ) → CanSplitTime nodes number instant → (node.rect.time.to ≡ None) × IsTrue (is_time_inside node.rect instant)
-  time_in instant can =
-      let same = one_at nodes number can.leaf.node (data_node node) can.leaf.there at in
-      (subst (λ (q : TreeNode). q.rect.time.to ≡ None) same can.current, subst (λ (q : TreeNode). is_time_inside q.rect instant ≡ true) same can.inside)
+  time_in = time_of nodes number (data_node node) at
 
   -- both halves hold the map's cuts
   pub halves_hold : (m : List Event) → IsCutOf a m → IsCutOf b m → EndsBy (latest m) (Events a.events) a.rect.time.to → EndsBy (latest m) (Events b.events) b.rect.time.to → HoldCuts m (data_node a) (data_node b)
@@ -67,14 +75,14 @@ none_decides (Some t) = ((λ h. absurd (some_not h)), (λ h. absurd (not_none t 
 endless_inside : (from instant : ℕ) (to : Option ℕ) (u : Bool) → to ≡ None → (nat_lt from instant && (is_early instant to && u)) ≡ (nat_lt from instant && u)
 endless_inside from instant to u h = ap (λ o. nat_lt from instant && (is_early instant o && u)) h
 
-module _ (nodes : List TreeNode) (number : ℕ) (node : Node) (at : IsAt nodes number (data_node node)) (leaf : IsData nodes number) where
-  back : data_node node ≡ leaf.node
-  back = one_at nodes number (data_node node) leaf.node at leaf.there
+module _ (nodes : List TreeNode) (number : ℕ) (node : TreeNode) (at : IsAt nodes number node) (leaf : IsData nodes number) where
+  back : node ≡ leaf.node
+  back = one_at nodes number node leaf.node at leaf.there
 
   pub key_test : (key : List ℕ) → Decides (is_none node.rect.time.to && is_key_inside node.rect key) (CanSplitKey nodes number key)
   key_test key = Decides-like (is_none node.rect.time.to && is_key_inside node.rect key)
       (λ p. record { leaf = leaf; current = subst (λ (q : TreeNode). q.rect.time.to ≡ None) back p.0; inside = subst (λ (q : TreeNode). is_key_inside q.rect key ≡ true) back p.1 })
-      (λ can. key_in nodes number node node node at key can)
+      (λ can. key_of nodes number node at key can)
       (Decides-and (is_none node.rect.time.to) (is_key_inside node.rect key) (none_decides node.rect.time.to) ((λ h. h), (λ h. h)))
 
   pub time_test : (instant : ℕ) → Decides (is_none node.rect.time.to && (nat_lt node.rect.time.from instant && nat_le instant max_instant)) (CanSplitTime nodes number instant)
@@ -84,7 +92,7 @@ module _ (nodes : List TreeNode) (number : ℕ) (node : Node) (at : IsAt nodes n
         current = subst (λ (q : TreeNode). q.rect.time.to ≡ None) back p.0;
         inside = subst (λ (q : TreeNode). is_time_inside q.rect instant ≡ true) back (endless_inside node.rect.time.from instant node.rect.time.to (nat_le instant max_instant) p.0 ∙ p.1);
       })
-      (λ can. let k = time_in nodes number node node node at instant can in (k.0, sym (endless_inside node.rect.time.from instant node.rect.time.to (nat_le instant max_instant) k.0) ∙ k.1))
+      (λ can. let k = time_of nodes number node at instant can in (k.0, sym (endless_inside node.rect.time.from instant node.rect.time.to (nat_le instant max_instant) k.0) ∙ k.1))
       (Decides-and (is_none node.rect.time.to) (nat_lt node.rect.time.from instant && nat_le instant max_instant) (none_decides node.rect.time.to) ((λ h. h), (λ h. h)))
 
 -- ---- halves are parts

@@ -3,9 +3,10 @@ use Rattle.std.specs.Prelude.{◌≡◌, ℕ, List, [], Option, Some, None, leng
 use Rattle.values.specs.Event.{Event}
 use Rattle.keyrange.specs.Rect.{Area}
 use Rattle.datanode.specs.Node.{Node}
+use Rattle.blocks.specs.Packed.{Packed as Block}
 use Rattle.indexnode.specs.declared.reference.Reference.{Reference}
 use Rattle.treenodes.specs.declared.node.Child.{Child}
-use Rattle.treenodes.specs.declared.node.Child.TheVariants.{Data, Index}
+use Rattle.treenodes.specs.declared.node.Child.TheVariants.{Data, Packed, Index}
 
 -- a data node holds events, an index node references to the numbers of nodes
 pub data Content : Type 0 where
@@ -25,20 +26,41 @@ IsAt nodes number n = slice_get nodes number ≡ Some n
 
 abbrev pub rect_of : Child → Area
 rect_of (Data n) = n.rect
+rect_of (Packed b) = b.node.rect
 rect_of (Index x) = x.rect
 
 abbrev pub content_of : Child → Content
 content_of (Data n) = Events n.events
+content_of (Packed b) = Events b.node.events
 content_of (Index x) = References x.references.items
+
+-- its block, where it is packed
+abbrev pub packed_of : Child → Option (List ℕ)
+packed_of (Data n) = None
+packed_of (Packed b) = Some b.bytes
+packed_of (Index x) = None
 
 -- a child at a level, as contracts see it
 abbrev pub seen : ℕ → Child → TreeNode
-seen level child =
-    record { level = level; rect = rect_of child; content = content_of child; packed = None }
+seen level child = record {
+  level = level;
+  rect = rect_of child;
+  content = content_of child;
+  packed = packed_of child;
+}
 
 -- a data node, as a node of a tree
 abbrev pub data_node : Node → TreeNode
 data_node n = record { level = 0; rect = n.rect; content = Events n.events; packed = None }
+
+-- one that is packed
+abbrev pub packed_node : Block → TreeNode
+packed_node b = record {
+  level = 0;
+  rect = b.node.rect;
+  content = Events b.node.events;
+  packed = Some b.bytes;
+}
 
 abbrev pub IsDataNode : Content → Type 0
 IsDataNode (Events es) = Unit {0}

@@ -8,12 +8,11 @@ ghost use Rattle.treenodes.specs.Map.{HoldsMap, IsNext, changes};
 ghost use Rattle.treenodes.specs.Lookup.{IsLeafAt};
 ghost use Rattle.treenodes.specs.Event.{Takes, with_put};
 
-use crate::node::Slot;
-use slots::Slots;
+use crate::nodes::Nodes;
 use values::{Event, Mem};
 
 /// The nodes with an event in the data node at its point. A node that nobody shares is written in place.
-pub fn with_event(mut nodes: Slots<Slot>, number: usize, event: Event) -> Mem<Slots<Slot>>
+pub fn with_event(nodes: Nodes, number: usize, event: Event) -> Mem<Nodes>
     requires tree { IsTree nodes }
     requires holds { HoldsMap nodes (changes nodes) }
     requires next { IsNext (changes nodes) event }
@@ -25,6 +24,5 @@ pub fn with_event(mut nodes: Slots<Slot>, number: usize, event: Event) -> Mem<Sl
     ensures accepted { (n : TreeNode) → IsAt nodes number n → IfOk result (λ _. Takes n event) }
     ensures err { OnlyMemory result }
 {
-    nodes.update(number, event)?;
-    Ok(nodes)
+    nodes.with_event(number, event)
 }

@@ -2,49 +2,49 @@
 ghost use Rattle.std.specs.Prelude.{◌≡◌, ◌<◌, ◌++◌, ◌∷◌, [], List, IfOk, length, slice_set};
 ghost use Rattle.values.specs.Event.{Event as Change};
 ghost use Rattle.values.specs.Memory.{OnlyMemory};
-ghost use Rattle.treenodes.specs.Node.{TreeNode, IsAt, seen};
+ghost use Rattle.keyrange.specs.Rect.{IsArea};
+ghost use Rattle.treenodes.specs.Node.{TreeNode, IsAt, rect_of, seen};
 ghost use Rattle.treenodes.specs.Tree.{IsTree};
 ghost use Rattle.treenodes.specs.Map.{HoldsMap};
 ghost use Rattle.treenodes.specs.Lookup.{IsParent};
 ghost use Rattle.treenodes.specs.Split.{AreSplit, HoldCuts, Halved};
 
 use crate::node::{Child, Slot};
+use crate::nodes::Nodes;
 use indexnode::Reference;
-use slots::Slots;
 use std::alloc::Global;
 use values::Mem;
 
 /// The nodes with other ones at two numbers, and one more.
 fn placed(
-    mut nodes: Slots<Slot>,
+    nodes: Nodes,
     number: usize,
     first: Slot,
     parent: usize,
     above: Slot,
     second: Slot,
-) -> Mem<Slots<Slot>>
+) -> Mem<Nodes>
     requires number { number < length nodes }
     requires parent { parent < length nodes }
     ensures ok { IfOk result (λ s.
         s ≡ slice_set (slice_set nodes number first) parent above ++ second ∷ []) }
     ensures err { OnlyMemory result }
 {
-    nodes.set(number, first)?;
-    nodes.set(parent, above)?;
-    nodes.push(second)?;
-    Ok(nodes)
+    let nodes = nodes.with_slot(number, first)?;
+    let nodes = nodes.with_slot(parent, above)?;
+    nodes.with_last(second)
 }
 
 /// The nodes with other children at two numbers, and one more, at these levels.
 fn with_children(
     alloc: Global,
-    nodes: Slots<Slot>,
+    nodes: Nodes,
     numbers: (usize, usize),
     levels: (usize, usize),
     first: Child,
     above: Child,
     second: Child,
-) -> Mem<Slots<Slot>>
+) -> Mem<Nodes>
     requires number { numbers.0 < length nodes }
     requires parent { numbers.1 < length nodes }
     ensures ok { IfOk result (λ s.
@@ -58,16 +58,39 @@ fn with_children(
     placed(nodes, numbers.0, low, numbers.1, middle, high)
 }
 
+/// References to two children, at their numbers.
+fn references_to(
+    first: &Child,
+    low: usize,
+    second: &Child,
+    high: usize,
+) -> Mem<(Reference<usize>, Reference<usize>)>
+    ensures lower { IfOk result (λ r. r.0 ≡ record { rect = rect_of first.now; child = low }) }
+    ensures upper { IfOk result (λ r. r.1 ≡ record { rect = rect_of second.now; child = high }) }
+    ensures areas { IfOk result (λ r. IsArea r.0.rect × IsArea r.1.rect) }
+    ensures err { OnlyMemory result }
+{
+    let lower = Reference {
+        rect: first.rect().copy()?,
+        child: low,
+    };
+    let upper = Reference {
+        rect: second.rect().copy()?,
+        child: high,
+    };
+    Ok((lower, upper))
+}
+
 /// The nodes with two halves in the place of one: the first has its number, the second a new one, and both stand below
 /// its parent.
 pub(crate) fn with_halves(
     alloc: Global,
-    nodes: Slots<Slot>,
+    nodes: Nodes,
     parent: usize,
     number: usize,
     first: Child,
     second: Child,
-) -> Mem<Slots<Slot>>
+) -> Mem<Nodes>
     requires tree { IsTree nodes }
     requires parent { IsParent nodes parent number }
     requires split { (n : TreeNode) → IsAt nodes number n
@@ -82,14 +105,7 @@ pub(crate) fn with_halves(
     let slot = nodes.at(number);
     let level = slot.level();
     let above = nodes.at(parent);
-    let lower = Reference {
-        rect: first.rect().copy()?,
-        child: number,
-    };
-    let upper = Reference {
-        rect: second.rect().copy()?,
-        child: nodes.len(),
-    };
+    let (lower, upper) = references_to(&first, number, &second, nodes.len())?;
     let node = above
         .index()
         .with_references(slot.child().rect(), lower, upper)?;

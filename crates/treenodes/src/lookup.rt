@@ -1,18 +1,18 @@
 //! The way from the root to a data node.
-ghost use Rattle.std.specs.Prelude.{◌≡◌, ◌≤◌, ◌+◌, IfOk};
+ghost use Rattle.std.specs.Prelude.{◌≡◌, ◌≤◌, ◌+◌, IfOk, None};
 ghost use Rattle.values.specs.Memory.{OnlyMemory};
 ghost use Rattle.treenodes.specs.Node.{TreeNode, IsAt, data_node};
 ghost use Rattle.treenodes.specs.Tree.{IsTree};
 ghost use Rattle.treenodes.specs.Lookup.{IsData, IsLeafAt, IsWayTo};
 
-use crate::node::{Child, Slot};
+use crate::node::Child;
+use crate::nodes::Nodes;
 use datanode::DataNode;
-use slots::Slots;
 use std::alloc::Global;
 use values::{Instant, KeyBytes, Mem};
 
 /// The number of the data node at a point, and how many nodes the way to it visits, one a level.
-pub fn leaf_at(nodes: &Slots<Slot>, key: &KeyBytes, instant: Instant) -> (usize, usize)
+pub fn leaf_at(nodes: &Nodes, key: &KeyBytes, instant: Instant) -> (usize, usize)
     requires tree { IsTree nodes.now }
     requires instant { 1 ≤ instant }
     ensures leaf { IsLeafAt nodes.now key.now instant result.0 }
@@ -30,7 +30,7 @@ pub fn leaf_at(nodes: &Slots<Slot>, key: &KeyBytes, instant: Instant) -> (usize,
 }
 
 /// The numbers of the nodes from the root to the data node at a point.
-pub fn way(alloc: Global, nodes: &Slots<Slot>, key: &KeyBytes, instant: Instant) -> Mem<Vec<usize>>
+pub fn way(alloc: Global, nodes: &Nodes, key: &KeyBytes, instant: Instant) -> Mem<Vec<usize>>
     requires tree { IsTree nodes.now }
     requires instant { 1 ≤ instant }
     ensures way { IfOk result (λ v. IsWayTo nodes.now key.now instant v.items) }
@@ -48,13 +48,11 @@ pub fn way(alloc: Global, nodes: &Slots<Slot>, key: &KeyBytes, instant: Instant)
     Ok(way)
 }
 
-/// The data node of a number.
-pub fn data_at(nodes: &Slots<Slot>, number: usize) -> &DataNode
-    requires { IsData nodes.now number }
+/// The current data node of a number.
+pub fn current_at(nodes: &Nodes, number: usize) -> &DataNode
+    requires data { IsData nodes.now number }
+    requires current { (n : TreeNode) → IsAt nodes.now number n → n.rect.time.to ≡ None }
     ensures { IsAt nodes.now number (data_node result.now) }
 {
-    match nodes.at(number).child() {
-        Child::Data(node) => node,
-        Child::Index(_) => unreachable!(),
-    }
+    nodes.at(number).current()
 }

@@ -1,10 +1,12 @@
 //! A node with its level, which several lists share.
-ghost use Rattle.std.specs.Prelude.{◌≡◌, ℕ, IfOk, OnOk, OnErr};
+ghost use Rattle.std.specs.Prelude.{◌≡◌, ℕ, IfOk, OnOk, OnErr, None, IsTrue};
 ghost use Rattle.values.specs.Memory.{OnlyMemory};
 ghost use Rattle.keyrange.specs.Rect.{IsArea};
-ghost use Rattle.treenodes.specs.Node.{seen, rect_of, IsDataNode, IsIndexNode};
+ghost use Rattle.treenodes.specs.Node.{seen, rect_of, content_of, IsDataNode, IsIndexNode};
+ghost use Rattle.treenodes.specs.Backlog.{is_unpacked};
 ghost use Rattle.treenodes.specs.Event.{Takes, with_put};
 
+use blocks::Block;
 use datanode::DataNode;
 use indexnode::IndexNode;
 use keyrange::Rect;
@@ -14,10 +16,11 @@ use std::marker::Model;
 use std::sync::Arc;
 use values::{Event, Mem};
 
-/// A data node, or an index node whose references name nodes one level down.
+/// A data node, as it stands or as its block, or an index node whose references name nodes one level down.
 #[derive(Drop)]
 pub enum Child {
     Data(DataNode),
+    Packed(Block),
     Index(IndexNode<usize>),
 }
 
@@ -45,7 +48,24 @@ impl Child {
     {
         match self {
             Child::Data(node) => node.rect(),
+            Child::Packed(block) => block.rect(),
             Child::Index(node) => node.rect(),
+        }
+    }
+
+    /// The data node, which is current: a packed one has ended.
+    fn current(&self) -> &DataNode
+        requires data { IsDataNode (content_of self.now) }
+        requires current { (rect_of self.now).time.to ≡ None }
+        ensures { self.now ≡ Child.Data result.now }
+    {
+        match self {
+            Child::Data(node) => node,
+            Child::Packed(block) => {
+                let _rect = block.rect();
+                unreachable!()
+            }
+            Child::Index(_) => unreachable!(),
         }
     }
 
@@ -59,6 +79,10 @@ impl Child {
     {
         match self {
             Child::Data(node) => node.put(event),
+            Child::Packed(block) => {
+                let _rect = block.rect();
+                unreachable!()
+            }
             Child::Index(_) => unreachable!(),
         }
     }
@@ -85,15 +109,13 @@ impl Slot {
         &self.child
     }
 
-    /// The data node that stands here.
-    pub fn data(&self) -> &DataNode
-        requires { IsDataNode self.now.content }
+    /// The current data node that stands here.
+    pub fn current(&self) -> &DataNode
+        requires data { IsDataNode self.now.content }
+        requires current { self.now.rect.time.to ≡ None }
         ensures { self.now ≡ seen self.now.level (Child.Data result.now) }
     {
-        match self.child() {
-            Child::Data(node) => node,
-            Child::Index(_) => unreachable!(),
-        }
+        self.child().current()
     }
 
     /// The index node that stands here.
@@ -103,7 +125,28 @@ impl Slot {
     {
         match self.child() {
             Child::Index(node) => node,
-            Child::Data(_) => unreachable!(),
+            Child::Data(_) | Child::Packed(_) => unreachable!(),
+        }
+    }
+
+    /// Whether a data node of history stands here that is not packed.
+    pub fn is_unpacked(&self) -> bool
+        ensures { result ≡ is_unpacked self.now }
+    {
+        match self.child() {
+            Child::Data(node) => node.rect().time().to.is_some(),
+            Child::Packed(_) | Child::Index(_) => false,
+        }
+    }
+
+    /// The data node of history that stands here unpacked.
+    pub fn unpacked(&self) -> &DataNode
+        requires { IsTrue (is_unpacked self.now) }
+        ensures { self.now ≡ seen self.now.level (Child.Data result.now) }
+    {
+        match self.child() {
+            Child::Data(node) => node,
+            Child::Packed(_) | Child::Index(_) => unreachable!(),
         }
     }
 }
@@ -128,7 +171,7 @@ impl Update<Event> for Slot {
         if let Some(child) = Arc::get_mut(&mut self.child) {
             return child.put(event);
         }
-        let mut child = Child::Data(self.data().copy()?);
+        let mut child = Child::Data(self.current().copy()?);
         child.put(event)?;
         self.child = Arc::new(alloc, child)?;
         Ok(())

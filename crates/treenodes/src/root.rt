@@ -10,10 +10,11 @@ ghost use Rattle.treenodes.specs.Lookup.{IsParent};
 ghost use Rattle.treenodes.specs.Root.{root_over};
 
 use crate::node::{Child, Slot};
+use crate::nodes::Nodes;
 use datanode::DataNode;
 use indexnode::{IndexNode, Reference, single};
 use keyrange::{KeyRange, Rect, TimeRange};
-use slots::{Share, Slots};
+use slots::Share;
 use std::alloc::Global;
 use values::{KeyBytes, Mem};
 
@@ -32,19 +33,18 @@ pub fn whole(alloc: Global) -> Rect
 }
 
 /// A tree of one data node, without events.
-pub fn leaf_alone(alloc: Global) -> Mem<Slots<Slot>>
+pub fn leaf_alone(alloc: Global) -> Mem<Nodes>
     ensures sound { IfOk result (λ s. IsSound s 0) }
     ensures empty { IfOk result (λ s. changes s ≡ []) }
     ensures err { OnlyMemory result }
 {
     let node = DataNode::new(alloc, whole(alloc))?;
-    let mut nodes = Slots::new(alloc);
-    nodes.push(Slot::new(alloc, 0, Child::Data(node))?)?;
-    Ok(nodes)
+    let root = Slot::new(alloc, 0, Child::Data(node))?;
+    Nodes::new(alloc)?.with_last(root)
 }
 
 /// The nodes with a new root, whose one reference is to the old one, which has a new number.
-pub fn raised(alloc: Global, mut nodes: Slots<Slot>) -> Mem<Slots<Slot>>
+pub fn raised(alloc: Global, nodes: Nodes) -> Mem<Nodes>
     requires { IsTree nodes }
     ensures tree { IfOk result IsTree }
     ensures parent { IfOk result (λ s. IsParent s 0 (length nodes)) }
@@ -61,7 +61,6 @@ pub fn raised(alloc: Global, mut nodes: Slots<Slot>) -> Mem<Slots<Slot>>
     };
     let references = single(alloc, whole)?;
     let node = IndexNode::new(alloc, root.child().rect().copy()?, references)?;
-    nodes.set(0, Slot::new(alloc, root.level() + 1, Child::Index(node))?)?;
-    nodes.push(root)?;
-    Ok(nodes)
+    let top = Slot::new(alloc, root.level() + 1, Child::Index(node))?;
+    nodes.with_slot(0, top)?.with_last(root)
 }

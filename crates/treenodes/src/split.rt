@@ -14,11 +14,11 @@ ghost use Rattle.treenodes.specs.Lookup.{IsData, IsParent};
 ghost use Rattle.treenodes.specs.Split.{CanSplitKey, CanSplitTime, CanSplitIndexKey, CanSplitIndexTime, Halved, part, part_of};
 
 use crate::halves::with_halves;
-use crate::lookup::data_at;
-use crate::node::{Child, Slot};
+use crate::lookup::current_at;
+use crate::node::Child;
+use crate::nodes::Nodes;
 use keyrange::{Rect, TimeRange, is_before_end, is_below};
 use keysplit::split_key;
-use slots::Slots;
 use std::alloc::Global;
 use timesplit::split_time;
 use values::{Instant, KeyBytes, LAST, Mem};
@@ -38,29 +38,29 @@ fn is_time_splittable(time: TimeRange, instant: Instant) -> bool
 }
 
 /// Whether a data node can be split at a key: it is current, and the key is strictly inside.
-pub fn can_split_key(nodes: &Slots<Slot>, number: usize, key: &KeyBytes) -> bool
+pub fn can_split_key(nodes: &Nodes, number: usize, key: &KeyBytes) -> bool
     requires { IsData nodes.now number }
     ensures { IsTrue result ↔ CanSplitKey nodes.now number key.now }
 {
-    is_key_splittable(data_at(nodes, number).rect(), key)
+    is_key_splittable(nodes.at(number).child().rect(), key)
 }
 
 /// Whether a data node can be split at an instant: it is current, and the instant is after its start.
-pub fn can_split_time(nodes: &Slots<Slot>, number: usize, instant: Instant) -> bool
+pub fn can_split_time(nodes: &Nodes, number: usize, instant: Instant) -> bool
     requires { IsData nodes.now number }
     ensures { IsTrue result ↔ CanSplitTime nodes.now number instant }
 {
-    is_time_splittable(data_at(nodes, number).rect().time(), instant)
+    is_time_splittable(nodes.at(number).child().rect().time(), instant)
 }
 
 /// The nodes with a current data node split at a key.
 pub fn with_keys_split(
     alloc: Global,
-    nodes: Slots<Slot>,
+    nodes: Nodes,
     parent: usize,
     number: usize,
     key: &KeyBytes,
-) -> Mem<Slots<Slot>>
+) -> Mem<Nodes>
     requires tree { IsTree nodes }
     requires parent { IsParent nodes parent number }
     requires can { CanSplitKey nodes number key.now }
@@ -71,7 +71,7 @@ pub fn with_keys_split(
         Halved nodes s parent number (part n h.0) (part n h.1)) }
     ensures err { OnlyMemory result }
 {
-    let (below, above) = split_key(data_at(&nodes, number), key)?;
+    let (below, above) = split_key(current_at(&nodes, number), key)?;
     with_halves(
         alloc,
         nodes,
@@ -85,11 +85,11 @@ pub fn with_keys_split(
 /// The nodes with a current data node split at an instant.
 pub fn with_time_split(
     alloc: Global,
-    nodes: Slots<Slot>,
+    nodes: Nodes,
     parent: usize,
     number: usize,
     instant: Instant,
-) -> Mem<Slots<Slot>>
+) -> Mem<Nodes>
     requires tree { IsTree nodes }
     requires parent { IsParent nodes parent number }
     requires can { CanSplitTime nodes number instant }
@@ -101,7 +101,7 @@ pub fn with_time_split(
         Halved nodes s parent number (part n h.0) (part n h.1)) }
     ensures err { OnlyMemory result }
 {
-    let (past, now) = split_time(data_at(&nodes, number), instant)?;
+    let (past, now) = split_time(current_at(&nodes, number), instant)?;
     with_halves(
         alloc,
         nodes,
@@ -115,11 +115,11 @@ pub fn with_time_split(
 /// The nodes with a current index node split at a key.
 pub fn with_index_keys_split(
     alloc: Global,
-    nodes: Slots<Slot>,
+    nodes: Nodes,
     parent: usize,
     number: usize,
     key: &KeyBytes,
-) -> Mem<Slots<Slot>>
+) -> Mem<Nodes>
     requires tree { IsTree nodes }
     requires parent { IsParent nodes parent number }
     requires can { CanSplitIndexKey nodes number key.now }
@@ -146,11 +146,11 @@ pub fn with_index_keys_split(
 /// The nodes with a current index node split at an instant.
 pub fn with_index_time_split(
     alloc: Global,
-    nodes: Slots<Slot>,
+    nodes: Nodes,
     parent: usize,
     number: usize,
     instant: Instant,
-) -> Mem<Slots<Slot>>
+) -> Mem<Nodes>
     requires tree { IsTree nodes }
     requires parent { IsParent nodes parent number }
     requires can { CanSplitIndexTime nodes number instant }

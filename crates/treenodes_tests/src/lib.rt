@@ -1,4 +1,4 @@
-//! Tests of `treenodes` by its public calls: a tree that takes events, and nodes that are split by hand.
+//! Tests of `treenodes` by its public calls: a tree that takes events, and nodes that are split and packed by hand.
 #![tactic(auto)]
 
 #[cfg(test)]

@@ -1,5 +1,7 @@
-use Rattle.std.proofs.Common.{sym, ap, subst, ◌∙◌}
+use Rattle.std.proofs.Common.{ℕ, List, ◌∷◌, [], sym, ap, subst, ◌∙◌}
 use Rattle.std.specs.Prelude.{IfOk, None}
+use Rattle.indexnode.specs.declared.reference.Reference.{Reference}
+use Rattle.indexnode.specs.Replacement.{Replaced}
 use Rattle.keyrange.specs.Rect.{IsArea}
 use Rattle.treenodes.specs.Node.{TreeNode, References, seen}
 use Rattle.treenodes.specs.Tree.{IsTree}
@@ -22,15 +24,15 @@ pub with_references-requires-clause-halves : goal.with_references-requires-claus
 with_references-requires-clause-halves c =
     let slot = c.at-slot.result.now in
     halves_of c.args.nodes c.requires.tree c.args.parent c.args.number c.requires.parent slot c.at-above.result.now c.at-slot.ensures c.at-above.ensures c.index.result.now c.index.ensures c.args.first c.args.second
-    (c.requires.split slot c.at-slot.ensures) c.rect-3.result.now c.in_ok-copy.field-0 c.in_ok-copy-2.field-0
-    (c.rect-3.ensures.rect ∙ sym (ap (λ (q : TreeNode). q.rect) c.child.ensures)) (c.in_ok-copy.ensures.ok ∙ c.rect.ensures.rect) (c.in_ok-copy-2.ensures.ok ∙ c.rect-2.ensures.rect)
+    (c.requires.split slot c.at-slot.ensures) c.rect.result.now c.in_ok-lower.lower.rect c.in_ok-lower.upper.rect
+    (c.rect.ensures.rect ∙ sym (ap (λ (q : TreeNode). q.rect) c.child.ensures)) (λ t. (c.in_ok-lower.ensures.lower t).rect) (λ t. (c.in_ok-lower.ensures.upper t).rect)
 
 pub with_references-requires-clause-there : goal.with_references-requires-clause-there
 with_references-requires-clause-there c =
     let slot = c.at-slot.result.now in
     has_whole c.args.nodes c.requires.tree c.args.parent c.args.number c.requires.parent slot c.at-above.result.now c.at-slot.ensures c.at-above.ensures c.index.result.now c.index.ensures c.args.first c.args.second
-    (c.requires.split slot c.at-slot.ensures) c.rect-3.result.now c.in_ok-copy.field-0 c.in_ok-copy-2.field-0
-    (c.rect-3.ensures.rect ∙ sym (ap (λ (q : TreeNode). q.rect) c.child.ensures)) (c.in_ok-copy.ensures.ok ∙ c.rect.ensures.rect) (c.in_ok-copy-2.ensures.ok ∙ c.rect-2.ensures.rect)
+    (c.requires.split slot c.at-slot.ensures) c.rect.result.now c.in_ok-lower.lower.rect c.in_ok-lower.upper.rect
+    (c.rect.ensures.rect ∙ sym (ap (λ (q : TreeNode). q.rect) c.child.ensures)) (λ t. (c.in_ok-lower.ensures.lower t).rect) (λ t. (c.in_ok-lower.ensures.upper t).rect)
 
 pub with_children-requires-clause-number : goal.with_children-requires-clause-number
 with_children-requires-clause-number c = below_within c.args.nodes c.requires.tree c.args.parent c.args.number c.requires.parent
@@ -44,10 +46,12 @@ facts c =
     let node = c.in_ok-node.node in
     given c.with_children.result _ (HasHalves c.args.nodes c.args.parent c.args.number c.args.first c.args.second) c.with_children.ensures.ok
     (has_halves c.args.nodes c.requires.tree c.args.parent c.args.number c.requires.parent slot c.at-above.result.now c.at-slot.ensures c.at-above.ensures c.index.result.now c.index.ensures c.args.first c.args.second
-    (c.requires.split slot c.at-slot.ensures) c.rect-3.result.now c.in_ok-copy.field-0 c.in_ok-copy-2.field-0
-    (c.rect-3.ensures.rect ∙ sym (ap (λ (q : TreeNode). q.rect) c.child.ensures)) (c.in_ok-copy.ensures.ok ∙ c.rect.ensures.rect) (c.in_ok-copy-2.ensures.ok ∙ c.rect-2.ensures.rect)
-    (subst IsArea c.rect.ensures.rect c.rect.ensures.area) (subst IsArea c.rect-2.ensures.rect c.rect-2.ensures.area)
-    c.len.result c.len.ensures node.references.items c.in_ok-node.ensures.replaced c.in_ok-node.ensures.tiled c.in_ok-node.ensures.current c.in_ok-node.ensures.meet
+    (c.requires.split slot c.at-slot.ensures) c.rect.result.now c.in_ok-lower.lower.rect c.in_ok-lower.upper.rect
+    (c.rect.ensures.rect ∙ sym (ap (λ (q : TreeNode). q.rect) c.child.ensures)) (λ t. (c.in_ok-lower.ensures.lower t).rect) (λ t. (c.in_ok-lower.ensures.upper t).rect)
+    (subst IsArea (λ t. (c.in_ok-lower.ensures.lower t).rect) c.in_ok-lower.ensures.areas.0) (subst IsArea (λ t. (c.in_ok-lower.ensures.upper t).rect) c.in_ok-lower.ensures.areas.1)
+    c.len.result c.len.ensures node.references.items
+    (subst (λ (l : List (Reference ℕ)). Replaced c.rect.result.now l c.index.result.now.references.items node.references.items)
+    (λ t. record { rect = c.in_ok-lower.lower.rect; child = (c.in_ok-lower.ensures.lower t).child } ∷ record { rect = c.in_ok-lower.upper.rect; child = (c.in_ok-lower.ensures.upper t).child } ∷ []) c.in_ok-node.ensures.replaced) c.in_ok-node.ensures.tiled c.in_ok-node.ensures.current c.in_ok-node.ensures.meet
     (seen c.level-level.result c.args.first) (seen c.level-height.result (Index node)) (seen c.level-level.result c.args.second)
     (ap (λ l. seen l c.args.first) c.level-level.ensures)
     (λ t. record { level = c.level-height.ensures t; rect = c.in_ok-node.ensures.rect t; content = References node.references.items; packed = None })

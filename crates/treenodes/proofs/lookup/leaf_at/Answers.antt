@@ -22,8 +22,8 @@ loop-node-preserved c = step_down c.args.nodes.now c.args.key.now c.args.instant
 
 pub returns-clause-leaf : goal.returns-clause-leaf
 returns-clause-leaf c = leaf_found c.args.nodes.now c.args.key.now c.args.instant c.loop-node.number c.loop-node.visits
-    c.at.result.now c.child.result.now c.in_default.field-0 c.at.ensures c.child.ensures c.in_default.is c.requires.tree c.loop-node.invariant
+    c.at.result.now c.child.result.now c.at.ensures c.child.ensures c.in_default.not-Index c.requires.tree c.loop-node.invariant
 
 pub returns-clause-visits : goal.returns-clause-visits
 returns-clause-visits c = all_visited c.args.nodes.now c.args.key.now c.args.instant c.loop-node.number c.loop-node.visits
-    c.at.result.now c.child.result.now c.in_default.field-0 c.at.ensures c.child.ensures c.in_default.is c.requires.tree c.loop-node.invariant
+    c.at.result.now c.child.result.now c.at.ensures c.child.ensures c.in_default.not-Index c.requires.tree c.loop-node.invariant

@@ -25,4 +25,4 @@ loop-node-preserved c = way_on c.args.nodes.now c.requires.tree c.args.key.now c
 pub returns-clause-way : goal.returns-clause-way
 returns-clause-way c = way_ends c.args.nodes.now c.args.key.now c.args.instant c.loop-node.number c.loop-node.way.items c.loop-node.invariant
     (leaf_found c.args.nodes.now c.args.key.now c.args.instant c.loop-node.number (length c.loop-node.way.items)
-    c.at.result.now c.child.result.now c.in_default.field-0 c.at.ensures c.child.ensures c.in_default.is c.requires.tree c.loop-node.invariant.walked)
+    c.at.result.now c.child.result.now c.at.ensures c.child.ensures c.in_default.not-Index c.requires.tree c.loop-node.invariant.walked)

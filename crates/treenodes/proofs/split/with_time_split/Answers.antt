@@ -1,39 +1,43 @@
-use Rattle.std.proofs.Common.{inr, ◌∙◌}
+use Rattle.std.proofs.Common.{◌≡◌, None, inr, subst, ◌∙◌}
 use Rattle.keyrange.specs.Rect.{Area}
 use Rattle.keyrange.specs.Cut.{halves_by_time}
-use Rattle.treenodes.specs.Node.{data_node}
+use Rattle.treenodes.specs.Node.{TreeNode, data_node}
 use Rattle.treenodes.specs.Map.{latest}
 use Rattle.treenodes.specs.Split.{Halved, part}
+use Rattle.treenodes.proofs.NodeNumbers.{one_at}
 use Rattle.treenodes.proofs.LookupNodes.{cut_of}
 use Rattle.treenodes.proofs.HalvesParents.{weaker}
 use Rattle.treenodes.proofs.SplitData.{split_data, time_in, halves_hold, are_parts, alike, no_end, ends_by_time, this_end}
 use Rattle.treenodes.proofs.split.with_time_split.Goals as goal
 
-pub data_at-requires : goal.data_at-requires
-data_at-requires c = c.requires.can.leaf
+pub current_at-requires-clause-data : goal.current_at-requires-clause-data
+current_at-requires-clause-data c = c.requires.can.leaf
+
+pub current_at-requires-clause-current : goal.current_at-requires-clause-current
+current_at-requires-clause-current c = λ n at. subst (λ (q : TreeNode). q.rect.time.to ≡ None) (one_at c.args.nodes c.args.number c.requires.can.leaf.node n c.requires.can.leaf.there at) c.requires.can.current
 
 pub split_time-requires : goal.split_time-requires
-split_time-requires c = (time_in c.args.nodes c.args.number c.data_at.result.now c.data_at.result.now c.data_at.result.now c.data_at.ensures c.args.instant c.requires.can).1
+split_time-requires c = (time_in c.args.nodes c.args.number c.current_at.result.now c.current_at.result.now c.current_at.result.now c.current_at.ensures c.args.instant c.requires.can).1
 
 pub with_halves-requires-clause-split : goal.with_halves-requires-clause-split
 with_halves-requires-clause-split c =
-    let node = c.data_at.result.now in
-    split_data c.args.nodes c.args.number node c.in_ok-past.past c.in_ok-past.now c.data_at.ensures (time_in c.args.nodes c.args.number node node node c.data_at.ensures c.args.instant c.requires.can).0 (inr (c.args.instant, c.in_ok-past.ensures.parts))
+    let node = c.current_at.result.now in
+    split_data c.args.nodes c.args.number node c.in_ok-past.past c.in_ok-past.now c.current_at.ensures (time_in c.args.nodes c.args.number node node node c.current_at.ensures c.args.instant c.requires.can).0 (inr (c.args.instant, c.in_ok-past.ensures.parts))
 
 pub returns-clause-holds : goal.returns-clause-holds
 returns-clause-holds c = λ m holds before.
-    let node = c.data_at.result.now in
-    let current = (time_in c.args.nodes c.args.number node node node c.data_at.ensures c.args.instant c.requires.can).0 in
+    let node = c.current_at.result.now in
+    let current = (time_in c.args.nodes c.args.number node node node c.current_at.ensures c.args.instant c.requires.can).0 in
     let ends = ends_by_time node.rect c.in_ok-past.past.rect c.in_ok-past.now.rect c.args.instant c.in_ok-past.ensures.rects in
-    let cuts = c.in_ok-past.ensures.of_map m (cut_of c.args.nodes m holds c.args.number node c.data_at.ensures) in
-    c.with_halves.ensures.holds m (data_node node) holds c.data_at.ensures
-    (halves_hold c.args.nodes c.args.number node c.in_ok-past.past c.in_ok-past.now c.data_at.ensures m cuts.0 cuts.1 (this_end c.in_ok-past.past.events (latest m) c.args.instant c.in_ok-past.past.rect.time.to ends.0 before) (no_end c.in_ok-past.now.events (latest m) c.in_ok-past.now.rect.time.to (ends.1 ∙ current)))
+    let cuts = c.in_ok-past.ensures.of_map m (cut_of c.args.nodes m holds c.args.number node c.current_at.ensures) in
+    c.with_halves.ensures.holds m (data_node node) holds c.current_at.ensures
+    (halves_hold c.args.nodes c.args.number node c.in_ok-past.past c.in_ok-past.now c.current_at.ensures m cuts.0 cuts.1 (this_end c.in_ok-past.past.events (latest m) c.args.instant c.in_ok-past.past.rect.time.to ends.0 before) (no_end c.in_ok-past.now.events (latest m) c.in_ok-past.now.rect.time.to (ends.1 ∙ current)))
 
 pub returns-clause-halved : goal.returns-clause-halved
 returns-clause-halved c = λ n h at made.
-    let node = c.data_at.result.now in
-    let parts = are_parts c.args.nodes c.args.number node c.in_ok-past.past c.in_ok-past.now c.data_at.ensures (λ (r : Area). halves_by_time r c.args.instant) c.in_ok-past.ensures.rects c.in_ok-past.ensures.past c.in_ok-past.ensures.now n h at made in
+    let node = c.current_at.result.now in
+    let parts = are_parts c.args.nodes c.args.number node c.in_ok-past.past c.in_ok-past.now c.current_at.ensures (λ (r : Area). halves_by_time r c.args.instant) c.in_ok-past.ensures.rects c.in_ok-past.ensures.past c.in_ok-past.ensures.now n h at made in
     weaker c.with_halves.result
     (λ s. Halved c.args.nodes s c.args.parent c.args.number (data_node c.in_ok-past.past) (data_node c.in_ok-past.now)) (λ s. Halved c.args.nodes s c.args.parent c.args.number (part n h.0) (part n h.1))
     (λ s made. alike c.args.nodes s c.args.parent c.args.number _ _ _ _ parts.0 parts.1 made)
-    (c.with_halves.ensures.halved (data_node node) c.data_at.ensures)
+    (c.with_halves.ensures.halved (data_node node) c.current_at.ensures)

@@ -1,0 +1,5 @@
+use Rattle.treenodes.specs.Tree.{IsTree}
+use Rattle.treenodes_tests.proofs.node_tests.some_packed.Given as goal
+
+abbrev pub invariant-loop-number : goal.invariant-loop-number
+invariant-loop-number g l = IsTree l.nodes
