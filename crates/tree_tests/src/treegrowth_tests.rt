@@ -3,15 +3,14 @@ ghost use Rattle.std.specs.Prelude.{IfOk};
 ghost use Rattle.treenodes.specs.Sound.{IsSound};
 
 use crate::samples::{change, key};
-use slots::Slots;
 use std::alloc::Global;
 use std::process::Abort;
 use treegrowth::{key_split, time_split, with_commit};
-use treenodes::{Slot, leaf_alone};
+use treenodes::{Nodes, leaf_alone};
 use values::{Instant, Mem};
 
 /// A tree with one row of key 5, from instant 100 on.
-fn one_row(rt: &impl Abort, alloc: Global) -> Mem<Slots<Slot>>
+fn one_row(rt: &impl Abort, alloc: Global) -> Mem<Nodes>
     ensures { IfOk result (λ s. IsSound s 100) }
 {
     let mut events = Vec::new(alloc);
@@ -20,7 +19,7 @@ fn one_row(rt: &impl Abort, alloc: Global) -> Mem<Slots<Slot>>
 }
 
 /// How many nodes there are, or 0 where there is no tree.
-fn count_nodes(nodes: Option<Slots<Slot>>) -> usize {
+fn count_nodes(nodes: Option<Nodes>) -> usize {
     match nodes {
         Some(nodes) => nodes.len(),
         None => 0,
@@ -28,7 +27,7 @@ fn count_nodes(nodes: Option<Slots<Slot>>) -> usize {
 }
 
 /// How many nodes there are after a split at a key, or 0 where there is none.
-fn after_key_split(alloc: Global, nodes: &Slots<Slot>, number: u8) -> Option<usize>
+fn after_key_split(alloc: Global, nodes: &Nodes, number: u8) -> Option<usize>
     requires { IsSound nodes.now 100 }
 {
     let key = key(alloc, number)?;
@@ -36,7 +35,7 @@ fn after_key_split(alloc: Global, nodes: &Slots<Slot>, number: u8) -> Option<usi
 }
 
 /// How many nodes there are after a split at an instant, or 0 where there is none.
-fn after_time_split(alloc: Global, nodes: &Slots<Slot>, instant: Instant) -> Option<usize>
+fn after_time_split(alloc: Global, nodes: &Nodes, instant: Instant) -> Option<usize>
     requires { IsSound nodes.now 100 }
 {
     let key = key(alloc, 5)?;

@@ -97,6 +97,10 @@ pub can_leaf : (nodes : List TreeNode) (number : ℕ) (point : SplitPoint) → C
 can_leaf nodes number (Key key) can = can.leaf
 can_leaf nodes number (Time t) can = can.leaf
 
+pub can_current : (nodes : List TreeNode) (number : ℕ) (point : SplitPoint) → CanSplitAt nodes number point → (n : TreeNode) → IsAt nodes number n → n.rect.time.to ≡ None
+can_current nodes number (Key key) can n at = subst (λ (q : TreeNode). q.rect.time.to ≡ None) (one_at nodes number can.leaf.node n can.leaf.there at) can.current
+can_current nodes number (Time t) can n at = subst (λ (q : TreeNode). q.rect.time.to ≡ None) (one_at nodes number can.leaf.node n can.leaf.there at) can.current
+
 -- ---- an instant that is not after the last
 
 pub upto_is : (last : ℕ) (r : Area) (t : ℕ) → t ≤ last → halves_upto last r t ≡ halves_by_time r t

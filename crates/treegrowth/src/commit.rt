@@ -8,20 +8,19 @@ ghost use Rattle.treenodes.specs.Sound.{IsSound, IsTreeOf};
 ghost use Rattle.treegrowth.specs.Commit.{IsCommit, TakesCommit, put_each};
 
 use crate::leaf::relieved_leaf;
-use slots::Slots;
 use std::alloc::Global;
-use treenodes::{Slot, way, with_event};
+use treenodes::{Nodes, way, with_event};
 use values::{Event, Instant, Mem};
 
 /// The nodes with the events of a commit at an instant after the last one: by key, one a key. After each event a node
 /// that has too many is split, as at a time at which the last commit is the one before.
 pub fn with_commit(
     alloc: Global,
-    mut nodes: Slots<Slot>,
+    mut nodes: Nodes,
     last: Instant,
     instant: Instant,
     events: Vec<Event>,
-) -> Mem<Slots<Slot>>
+) -> Mem<Nodes>
     requires sound { IsSound nodes last }
     requires later { last < instant }
     requires upto { instant ≤ max_instant }
@@ -38,7 +37,7 @@ pub fn with_commit(
 }
 
 /// The nodes with one event of a commit after the last instant.
-fn with_change(alloc: Global, nodes: Slots<Slot>, last: Instant, event: Event) -> Mem<Slots<Slot>>
+fn with_change(alloc: Global, nodes: Nodes, last: Instant, event: Event) -> Mem<Nodes>
     requires kept { IsTreeOf nodes (changes nodes) }
     requires takes { TakesCommit (changes nodes) last event.at }
     requires next { IsNext (changes nodes) event }

@@ -17,9 +17,8 @@ ghost use Rattle.treegrowth.specs.Point.{CanSplitAt, IsReached, halves_at};
 
 use crate::point::{SplitPoint, overflow_point};
 use crate::relief::relieved;
-use slots::Slots;
 use std::alloc::Global;
-use treenodes::{Slot, data_at, raised, with_keys_split, with_time_split};
+use treenodes::{Nodes, current_at, raised, with_keys_split, with_time_split};
 use values::{Instant, Mem};
 
 /// The most events or references of a node.
@@ -28,11 +27,11 @@ pub(crate) const CAPACITY: usize = 64;
 /// The nodes with a data node within its capacity, which took an event of a commit after the last instant.
 pub(crate) fn relieved_leaf(
     alloc: Global,
-    nodes: Slots<Slot>,
+    nodes: Nodes,
     way: &[usize],
     depth: usize,
     last: Instant,
-) -> Mem<Slots<Slot>>
+) -> Mem<Nodes>
     requires tree { IsTree nodes }
     requires way { IsWayDown nodes way.now depth }
     requires others { HoldsAt (AreOthersSmall nodes) way.now depth }
@@ -42,7 +41,7 @@ pub(crate) fn relieved_leaf(
         → IfOk result (λ s. IsTreeOf s m) }
     ensures err { OnlyMemory result }
 {
-    let node = data_at(&nodes, way[depth]);
+    let node = current_at(&nodes, way[depth]);
     if node.len() <= CAPACITY {
         return Ok(nodes);
     }
@@ -53,11 +52,11 @@ pub(crate) fn relieved_leaf(
 /// The nodes with the data node at the end of a way split, and those above it within their capacity.
 pub(crate) fn with_leaf_split(
     alloc: Global,
-    nodes: Slots<Slot>,
+    nodes: Nodes,
     way: &[usize],
     depth: usize,
     point: &SplitPoint,
-) -> Mem<Slots<Slot>>
+) -> Mem<Nodes>
     requires tree { IsTree nodes }
     requires way { IsWayDown nodes way.now depth }
     requires splittable { HoldsAt (λ number. IsSplittable nodes number point.now) way.now depth }
@@ -77,7 +76,7 @@ pub(crate) fn with_leaf_split(
 }
 
 /// The nodes with a root that is a data node split, below a new one.
-fn with_root_split(alloc: Global, nodes: Slots<Slot>, point: &SplitPoint) -> Mem<Slots<Slot>>
+fn with_root_split(alloc: Global, nodes: Nodes, point: &SplitPoint) -> Mem<Nodes>
     requires tree { IsTree nodes }
     requires splittable { IsSplittable nodes 0 point.now }
     ensures kept { (m : List Change) → HoldsMap nodes m → IsReached m point.now
@@ -95,11 +94,11 @@ fn with_root_split(alloc: Global, nodes: Slots<Slot>, point: &SplitPoint) -> Mem
 /// The nodes with a data node split at a point.
 fn with_halves_at(
     alloc: Global,
-    nodes: Slots<Slot>,
+    nodes: Nodes,
     parent: usize,
     number: usize,
     point: &SplitPoint,
-) -> Mem<Slots<Slot>>
+) -> Mem<Nodes>
     requires tree { IsTree nodes }
     requires parent { IsParent nodes parent number }
     requires can { CanSplitAt nodes number point.now }

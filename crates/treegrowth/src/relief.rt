@@ -13,18 +13,12 @@ ghost use Rattle.treegrowth.specs.Point.{is_index_split_by_time};
 use crate::leaf::CAPACITY;
 use crate::point::STAY_LIMIT;
 use indexnode::IndexNode;
-use slots::Slots;
 use std::alloc::Global;
-use treenodes::{Slot, raised, with_index_keys_split, with_index_time_split};
+use treenodes::{Nodes, raised, with_index_keys_split, with_index_time_split};
 use values::{Instant, Mem};
 
 /// The nodes with an index node and those above it within their capacity, by splits up the way to the root.
-pub(crate) fn relieved(
-    alloc: Global,
-    nodes: Slots<Slot>,
-    way: &[usize],
-    depth: usize,
-) -> Mem<Slots<Slot>>
+pub(crate) fn relieved(alloc: Global, nodes: Nodes, way: &[usize], depth: usize) -> Mem<Nodes>
     requires tree { IsTree nodes }
     requires way { IsWayDown nodes way.now depth }
     requires others { HoldsAt (AreOthersSmall nodes) way.now depth }
@@ -45,7 +39,7 @@ pub(crate) fn relieved(
 }
 
 /// The nodes with a root that is split, below a new one.
-fn with_root_split(alloc: Global, nodes: Slots<Slot>) -> Mem<Slots<Slot>>
+fn with_root_split(alloc: Global, nodes: Nodes) -> Mem<Nodes>
     requires tree { IsTree nodes }
     requires others { AreOthersSmall nodes 0 }
     requires grown { IsOverfull nodes 0 }
@@ -60,12 +54,7 @@ fn with_root_split(alloc: Global, nodes: Slots<Slot>) -> Mem<Slots<Slot>>
 
 /// The nodes with an index node split. By time where one reference is current, or where the least start of a current one
 /// is after the node's start and at most 42 references stay; else at the middle key of the current references.
-fn with_index_split(
-    alloc: Global,
-    nodes: Slots<Slot>,
-    parent: usize,
-    number: usize,
-) -> Mem<Slots<Slot>>
+fn with_index_split(alloc: Global, nodes: Nodes, parent: usize, number: usize) -> Mem<Nodes>
     requires tree { IsTree nodes }
     requires parent { IsParent nodes parent number }
     requires grown { IsOverfull nodes number }

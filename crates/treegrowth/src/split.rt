@@ -12,18 +12,12 @@ ghost use Rattle.treegrowth.specs.Point.{CanSplitAt, IsReached, halves_at};
 
 use crate::leaf::with_leaf_split;
 use crate::point::SplitPoint;
-use slots::Slots;
 use std::alloc::Global;
-use treenodes::{Slot, can_split_key, can_split_time, data_at, way};
+use treenodes::{Nodes, can_split_key, can_split_time, current_at, way};
 use values::{Instant, KeyBytes, LAST, Mem};
 
 /// The nodes with the current data node of a key split there; None where the node begins at the key.
-pub fn key_split(
-    alloc: Global,
-    nodes: &Slots<Slot>,
-    last: Instant,
-    key: &KeyBytes,
-) -> Mem<Option<Slots<Slot>>>
+pub fn key_split(alloc: Global, nodes: &Nodes, last: Instant, key: &KeyBytes) -> Mem<Option<Nodes>>
     requires { IsSound nodes.now last }
     ensures sound { IfOk result (λ o. IfSome o (λ s. IsSound s last)) }
     ensures same { IfOk result (λ o. IfSome o (λ s. changes s ≡ changes nodes.now)) }
@@ -45,11 +39,11 @@ pub fn key_split(
 /// start, or after the last commit.
 pub fn time_split(
     alloc: Global,
-    nodes: &Slots<Slot>,
+    nodes: &Nodes,
     last: Instant,
     key: &KeyBytes,
     instant: Instant,
-) -> Mem<Option<Slots<Slot>>>
+) -> Mem<Option<Nodes>>
     requires { IsSound nodes.now last }
     ensures sound { IfOk result (λ o. IfSome o (λ s. IsSound s last)) }
     ensures same { IfOk result (λ o. IfSome o (λ s. changes s ≡ changes nodes.now)) }
@@ -73,11 +67,11 @@ pub fn time_split(
 /// A share of the nodes, with the data node at the end of a way split.
 fn with_split(
     alloc: Global,
-    nodes: &Slots<Slot>,
+    nodes: &Nodes,
     last: Instant,
     way: &[usize],
     point: &SplitPoint,
-) -> Mem<Slots<Slot>>
+) -> Mem<Nodes>
     requires sound { IsSound nodes.now last }
     requires way { IsWayDown nodes.now way.now (length way.now - 1) }
     requires can { HoldsAt (λ number. CanSplitAt nodes.now number point.now)
@@ -92,6 +86,6 @@ fn with_split(
 {
     let depth = way.len() - 1;
     // Who asks for the data node knows what stands there.
-    let _node = data_at(nodes, way[depth]);
+    let _node = current_at(nodes, way[depth]);
     with_leaf_split(alloc, nodes.share()?, way, depth, point)
 }

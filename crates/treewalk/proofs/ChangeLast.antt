@@ -1,22 +1,21 @@
 -- When a key was last changed, as a node at the key shows it.
 use Rattle.std.proofs.Common.{◌≡◌, ℕ, ◌-◌, ◌<◌, ◌≤◌, Bool, true, false, List, [], ◌∷◌, Option, Some, None, refl, sym, ap, subst, ◌∙◌, inl, inr, arith, if◌then◌else◌, nat_lt}
 use Rattle.std.specs.Prelude.{◌&&◌}
-use Rattle.std.proofs.lemmas.Bool.{and_parts, and_from, cases_lt, ltb-true}
+use Rattle.std.proofs.lemmas.Bool.{and_parts, and_from, cases_lt, ltb-true, lt-ltb}
 use Rattle.std.proofs.lemmas.Bool.Decides.{nat_tests}
 use Rattle.std.proofs.lemmas.List.Kept.{IsStrictlySortedBy-filter}
 use Rattle.values.specs.Event.{Event}
 use Rattle.values.specs.Events.{is_bytes, event_cmp, later, event_since}
 use Rattle.keyrange.specs.Rect.{Area, has_point}
 use Rattle.keyrange.specs.Range.{is_key_in}
-use Rattle.eventlist.specs.Place.{last_event}
+use Rattle.eventlist.specs.Place.{last_event, since}
+use Rattle.eventlist.proofs.PlaceFound.{since_last as since_last_event}
 use Rattle.eventlist.proofs.PlaceOrder.{same_bytes, is_own, is_lower}
 use Rattle.datanode.specs.Cut.{IsMap, in_cut, cut}
 use Rattle.datanode.specs.Node.{Node}
-use Rattle.treenodes.specs.Node.{TreeNode, IsAt, data_node}
-use Rattle.treenodes.specs.Lookup.{IsLeafAt}
-use Rattle.treenodes.specs.Map.{HoldsMap}
-use Rattle.treenodes.proofs.LookupNodes.{point_in}
+use Rattle.treenodes.specs.Map.{AreInstants}
 use Rattle.datanode.proofs.CutMembers.{In, In-filter, In-from_filter}
+use Rattle.datanode.proofs.CutOrder.{In_place}
 use Rattle.datanode.proofs.CutLaws.{IsTimeIn, in_cut_decides, time_decides, ends_earlier}
 use Rattle.datanode.proofs.LawsLast.{last_such, IsLastSuch, is_last_such, none_such, found_such, none_passes, later_is_above}
 
@@ -103,25 +102,34 @@ module _ (r : Area) (m : List Event) (map : IsMap m) (key : List ℕ) (instant :
             let le : e.at ≤ start = not_above start e.at above in
             none_later x i (same_bytes key x.key p.0) (omega arith)))))
 
--- the leaf at a point
-pub record Shows (m : List Event) (key : List ℕ) (instant : ℕ) (n : Node) : Type 0 where
-  pub events_are : n.events ≡ cut n.rect m
-  pub holds : has_point n.rect key instant ≡ true
-
-pub leaf_shows : (nodes : List TreeNode) (m : List Event) (key : List ℕ) (instant number : ℕ) (n : Node) → HoldsMap nodes m → IsLeafAt nodes key instant number → IsAt nodes number (data_node n) → Shows m key instant n
-leaf_shows nodes m key instant number n holds leaf at = record {
-  events_are = holds.cuts number (data_node n) at;
-  holds = point_in nodes key instant number (data_node n) leaf at;
-}
-
 -- ---- as the code goes
 
-module _ (nodes : List TreeNode) (m : List Event) (holds : HoldsMap nodes m) (key : List ℕ) (instant number : ℕ) (n : Node) (leaf : IsLeafAt nodes key instant number) (at : IsAt nodes number (data_node n)) (until : AreUntil m key instant) where
-  shows : Shows m key instant n
-  shows = leaf_shows nodes m key instant number n holds leaf at
+module _ (m : List Event) (map : IsMap m) (instants : AreInstants m) (key : List ℕ) (instant : ℕ) (n : Node) (point : has_point n.rect key instant ≡ true) (are : n.events ≡ cut n.rect m) (until : AreUntil m key instant) where
+  last_since : (o : Option ℕ) → o ≡ event_since n.events 0 key → o ≡ since 0 (last_event (cut n.rect m) key)
+  last_since o is = is ∙ ap (λ es. event_since es 0 key) are ∙ sym (since_last_event (cut n.rect m) 0 key (IsStrictlySortedBy-filter event_cmp (in_cut n.rect m) m map))
 
-  pub changed : (start : ℕ) (e : Event) (o : Option Event) → o ≡ last_event n.events key → o ≡ Some e → (if nat_lt start e.at then Some e.at else None) ≡ event_since m start key
-  changed start e o last is = since_last n.rect m holds.ordered key instant until shows.holds e (sym is ∙ last ∙ ap (λ es. last_event es key) shows.events_are) start
+  positive : (e : Event) → Some e ≡ last_event (cut n.rect m) key → 1 ≤ e.at
+  positive e last =
+      let place = In_place e e m (in_map n.rect m map key instant until point e last).0 in
+      subst (λ (x : Event). 1 ≤ x.at) place.2 (instants place.0 e place.1).0
 
-  pub earlier : (o : Option Event) → o ≡ last_event n.events key → o ≡ None → AreUntil m key (n.rect.time.from - 1)
-  earlier o last is = none_in n.rect m holds.ordered key instant until shows.holds (sym is ∙ last ∙ ap (λ es. last_event es key) shows.events_are)
+  pub changed : (start t : ℕ) (o : Option ℕ) → o ≡ event_since n.events 0 key → o ≡ Some t → (if nat_lt start t then Some t else None) ≡ event_since m start key
+  changed start t o is some = by (last_event (cut n.rect m) key) refl
+    where
+      by : (l : Option Event) → last_event (cut n.rect m) key ≡ l → (if nat_lt start t then Some t else None) ≡ event_since m start key
+      by None none = (let never : ◌≡◌ {A = Option ℕ} (Some t) None = sym some ∙ last_since o is ∙ ap (since 0) none in absurd (cc))
+      by (Some e) last =
+          let one = positive e (sym last) in
+          let at : ◌≡◌ {A = Option ℕ} (Some t) (Some e.at) = sym some ∙ last_since o is ∙ ap (since 0) last ∙ ap (λ b. if b then Some e.at else None) (lt-ltb 0 e.at one) in
+          let same : t ≡ e.at = cc in
+          ap (λ a. if nat_lt start a then Some a else None) same ∙ since_last n.rect m map key instant until point e (sym last) start
+
+  pub earlier : (o : Option ℕ) → o ≡ event_since n.events 0 key → o ≡ None → AreUntil m key (n.rect.time.from - 1)
+  earlier o is none = by (last_event (cut n.rect m) key) refl
+    where
+      by : (l : Option Event) → last_event (cut n.rect m) key ≡ l → AreUntil m key (n.rect.time.from - 1)
+      by None last = none_in n.rect m map key instant until point (sym last)
+      by (Some e) last =
+          let one = positive e (sym last) in
+          let never : ◌≡◌ {A = Option ℕ} None (Some e.at) = sym none ∙ last_since o is ∙ ap (since 0) last ∙ ap (λ b. if b then Some e.at else None) (lt-ltb 0 e.at one) in
+          absurd (cc)

@@ -1,5 +1,5 @@
 -- When a key changes next, as a node at the key shows it.
-use Rattle.std.proofs.Common.{◌≡◌, ℕ, ◌-◌, ◌+◌, ◌<◌, ◌≤◌, Bool, true, false, List, [], ◌∷◌, Option, Some, None, refl, sym, ap, subst, ◌∙◌, inl, inr, arith, if◌then◌else◌, nat_lt, Bor, option_copied}
+use Rattle.std.proofs.Common.{◌≡◌, ℕ, ◌-◌, ◌+◌, ◌<◌, ◌≤◌, Bool, true, false, List, [], ◌∷◌, Option, Some, None, refl, sym, ap, subst, ◌∙◌, inl, inr, arith, if◌then◌else◌, nat_lt}
 use Rattle.std.specs.Prelude.{◌&&◌, nat_le, is_some}
 use Rattle.std.proofs.lemmas.Bool.{and_parts, and_from, cases_lt, ltb-true, leb-true, lt-ltb, false≢true}
 use Rattle.std.proofs.lemmas.List.Kept.{IsStrictlySortedBy-filter}
@@ -50,7 +50,7 @@ module _ (key : List ℕ) (after : ℕ) where
       by false is (inl q) rest = absurd (false≢true (sym is ∙ ap such q ∙ such_is e f.same f.above))
       by false is (inr i) rest = rest i
 
-  first_found : (es : List Event) (t : ℕ) → IsMap es → event_after es after key ≡ Some t → (e : Event) × (IsFirst es key after e × (e.at ≡ t))
+  pub first_found : (es : List Event) (t : ℕ) → IsMap es → event_after es after key ≡ Some t → (e : Event) × (IsFirst es key after e × (e.at ≡ t))
   first_found [] t map h = cc
   first_found (d ∷ ds) t map h = by (such d) refl h (first_found ds t (sorted_tail event_cmp d ds map))
     where
@@ -95,7 +95,7 @@ module _ (key : List ℕ) (after : ℕ) where
       by true is rest = let s = is_such d is in absurd (h d (inl refl) s.0 s.1)
       by false is rest = rest
 
-  none_found : (es : List Event) → event_after es after key ≡ None → (x : Event) → In x es → key ≡ x.key → after < x.at → ⊥
+  pub none_found : (es : List Event) → event_after es after key ≡ None → (x : Event) → In x es → key ≡ x.key → after < x.at → ⊥
   none_found [] h x i same above = i
   none_found (d ∷ ds) h x i same above = by (such d) refl h i (λ k j. none_found ds k x j same above)
     where
@@ -270,7 +270,3 @@ module _ (m : List Event) (map : IsMap m) (key : List ℕ) (after : ℕ) (n : No
 -- above the last instant there is none
 pub none_late : (m : List Event) (key : List ℕ) (after last : ℕ) → ((x : Event) → In x m → x.at ≤ last) → last ≤ after → None ≡ event_after m after key
 none_late m key after last upto le = sym (none_is key after m (λ x i same above. (let until : x.at ≤ last = upto x i in omega arith)))
-
-pub some_copied : (o : Option (Bor Event)) → is_some (option_copied o) ≡ is_some o
-some_copied None = refl
-some_copied (Some e) = refl

@@ -17,6 +17,10 @@ use Rattle.treewalk.proofs.LevelNodes.{NodeAt, at_level, is_listed}
 
 -- ---- one leaf
 
+pub cut_of : (m : List Event) (rect : Area) (content : Content) → IsDataNode content → IsCut m rect content → events_of content ≡ cut rect m
+cut_of m rect (Events es) h is = is
+cut_of m rect (References rs) h is = absurd h
+
 module _ (nodes : List TreeNode) (tree : IsTree nodes) where
   pub are_leaves : (area : Area) (numbers : List ℕ) → AreMeeting nodes 0 area numbers → AreLeaves nodes numbers
   are_leaves area numbers are k d lt =
@@ -25,10 +29,6 @@ module _ (nodes : List TreeNode) (tree : IsTree nodes) where
 
   pub events_are : (number : ℕ) (n : TreeNode) → IsAt nodes number n → events_at nodes number ≡ events_of n.content
   events_are number n at = ap (λ (o : Option TreeNode). elim o [ None ↦ [] | Some n ↦ events_of n.content ]) at
-
-  cut_of : (m : List Event) (rect : Area) (content : Content) → IsDataNode content → IsCut m rect content → events_of content ≡ cut rect m
-  cut_of m rect (Events es) h is = is
-  cut_of m rect (References rs) h is = absurd h
 
   -- the events of a leaf are the cut of the map
   pub leaf_cut : (m : List Event) → HoldsMap nodes m → (number : ℕ) (n : TreeNode) → IsAt nodes number n → n.level ≡ 0 → events_at nodes number ≡ cut n.rect m

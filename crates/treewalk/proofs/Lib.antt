@@ -6,6 +6,7 @@ pub mod LevelSteps
 pub mod LevelChildren
 pub mod GatherSorted
 pub mod StandingCut
+pub mod LeafStanding
 pub mod GatherArea
 pub mod GatherLeaves
 pub mod GatherAlone
@@ -13,4 +14,5 @@ pub mod ListingRead
 pub mod ChangeLast
 pub mod ChangeNext
 pub mod ChangePlaced
+pub mod LeafKnown
 pub mod ShapeOrder

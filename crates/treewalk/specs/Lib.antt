@@ -1,4 +1,5 @@
 pub mod Level
+pub mod Leaf
 pub mod Ends
 pub mod Gather
 pub mod Shape

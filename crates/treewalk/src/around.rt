@@ -5,12 +5,11 @@ ghost use Rattle.treewalk.specs.Ends.{is_time_end_within, is_key_end_within, end
 ghost use Rattle.treewalk.specs.Level.{IsAround};
 
 use keyrange::{KeyRange, Rect, TimeRange, is_below};
-use slots::Slots;
-use treenodes::{Child, Slot};
+use treenodes::{Child, Nodes};
 
 /// The number of a node that has all points of a rectangle: the first on the way down from the root that is a data node,
 /// or of whose children none has them all. It takes no memory.
-pub(crate) fn node_around(nodes: &Slots<Slot>, rect: &Rect) -> usize
+pub(crate) fn node_around(nodes: &Nodes, rect: &Rect) -> usize
     requires { IsTree nodes.now }
     ensures { IsAround nodes.now rect.now result }
 {

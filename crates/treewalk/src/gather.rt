@@ -3,16 +3,18 @@ ghost use Rattle.std.specs.Prelude.{◌≡◌, IfOk};
 ghost use Rattle.values.specs.Memory.{OnlyMemory};
 ghost use Rattle.treenodes.specs.Tree.{IsTree};
 ghost use Rattle.treewalk.specs.Gather.{instants, area_between, asked, asked_of_all, AreGathered, AreGatheredIn};
+ghost use Rattle.treewalk.specs.Leaf.{node_in};
 ghost use Rattle.treewalk.specs.Level.{AreLeaves};
 
 use crate::around::node_around;
+use crate::leaf::leaf_of;
 use crate::level::leaves_below;
+use blocks::{Block, Blocks};
 use datanode::DataNode;
 use eventlist::standing;
 use keyrange::{KeyRange, Rect, TimeRange};
-use slots::Slots;
 use std::alloc::Global;
-use treenodes::{Child, Slot, data_at};
+use treenodes::{Child, Nodes};
 use values::{Instant, LAST, Mem, SharedEvent};
 
 /// What is asked of the events of a range of keys.
@@ -25,9 +27,10 @@ pub(crate) enum Query {
 }
 
 /// What is asked of the data nodes that have a point in question, one node after the other.
-pub(crate) fn gathered(
+pub(crate) fn gathered<B: Blocks>(
     alloc: Global,
-    nodes: &Slots<Slot>,
+    blocks: &mut B,
+    nodes: &Nodes,
     range: &KeyRange,
     query: Query,
 ) -> Mem<Vec<SharedEvent>>
@@ -38,14 +41,15 @@ pub(crate) fn gathered(
     let (from, to) = instants(query);
     match rect_between(range, from, to)? {
         None => Ok(Vec::new(alloc)),
-        Some(rect) => gathered_in(alloc, nodes, &rect, range, query),
+        Some(rect) => gathered_in(alloc, blocks, nodes, &rect, range, query),
     }
 }
 
 /// The same, where there are points in question. A leaf that has them all is asked alone, and no list is made of it.
-fn gathered_in(
+fn gathered_in<B: Blocks>(
     alloc: Global,
-    nodes: &Slots<Slot>,
+    blocks: &mut B,
+    nodes: &Nodes,
     rect: &Rect,
     range: &KeyRange,
     query: Query,
@@ -57,13 +61,12 @@ fn gathered_in(
     // Who reads the time knows that the ranges are not empty.
     let _time = rect.time();
     let number = node_around(nodes, rect);
-    match nodes.at(number).child() {
-        Child::Data(node) => asked_of(alloc, node, range, query),
-        Child::Index(_) => {
-            let leaves = leaves_below(alloc, nodes, number, rect)?;
-            gathered_of(alloc, nodes, &leaves, range, query)
-        }
+    let child = nodes.at(number).child();
+    if let Child::Index(_) = child {
+        let leaves = leaves_below(alloc, nodes, number, rect)?;
+        return gathered_of(alloc, blocks, nodes, &leaves, range, query);
     }
+    asked_of(alloc, blocks, child, range, query)
 }
 
 /// The first and the last instant in question.
@@ -90,9 +93,10 @@ fn rect_between(range: &KeyRange, from: Instant, to: Instant) -> Mem<Option<Rect
 }
 
 /// What is asked of the data nodes of some numbers, one after the other.
-fn gathered_of(
+fn gathered_of<B: Blocks>(
     alloc: Global,
-    nodes: &Slots<Slot>,
+    blocks: &mut B,
+    nodes: &Nodes,
     numbers: &[usize],
     range: &KeyRange,
     query: Query,
@@ -103,19 +107,63 @@ fn gathered_of(
 {
     let mut found = Vec::new(alloc);
     for number in numbers {
-        let mut more = asked_of(alloc, data_at(nodes, *number), range, query)?;
+        let mut more = asked_of(alloc, blocks, leaf_of(nodes, *number), range, query)?;
         found.append(&mut more)?;
     }
     Ok(found)
 }
 
 /// What is asked of a data node.
-fn asked_of(alloc: Global, node: &DataNode, range: &KeyRange, query: Query) -> Mem<Vec<SharedEvent>>
+fn asked_of<B: Blocks>(
+    alloc: Global,
+    blocks: &mut B,
+    child: &Child,
+    range: &KeyRange,
+    query: Query,
+) -> Mem<Vec<SharedEvent>>
+    ensures ok { IfOk result (λ v. v.items ≡ asked query range.now (node_in child.now).events) }
+    ensures err { OnlyMemory result }
+{
+    match child {
+        Child::Data(node) => asked_of_node(alloc, node, range, query),
+        Child::Packed(block) => asked_of_block(alloc, blocks, block, range, query),
+        Child::Index(_) => Ok(Vec::new(alloc)),
+    }
+}
+
+fn asked_of_node(
+    alloc: Global,
+    node: &DataNode,
+    range: &KeyRange,
+    query: Query,
+) -> Mem<Vec<SharedEvent>>
     ensures ok { IfOk result (λ v. v.items ≡ asked query range.now node.now.events) }
     ensures err { OnlyMemory result }
 {
     match query {
         Query::Between(from, to) => node.events_in(alloc, range, from, to),
         Query::At(instant) => standing(alloc, node.events(), range, instant),
+    }
+}
+
+/// What is asked of a block. Which row stands at an instant is seen by the events up to it.
+fn asked_of_block<B: Blocks>(
+    alloc: Global,
+    blocks: &mut B,
+    block: &Block,
+    range: &KeyRange,
+    query: Query,
+) -> Mem<Vec<SharedEvent>>
+    ensures ok { IfOk result (λ v. v.items ≡ asked query range.now block.now.node.events) }
+    ensures err { OnlyMemory result }
+{
+    match query {
+        Query::Between(from, to) => blocks.events(block, range, from, to),
+        Query::At(instant) => {
+            // Who asks for the bytes knows that they are a node's.
+            let _bytes = block.bytes();
+            let events = blocks.events(block, range, 0, instant)?;
+            standing(alloc, &events, range, instant)
+        }
     }
 }

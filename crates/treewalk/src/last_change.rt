@@ -5,22 +5,21 @@ ghost use Rattle.values.specs.Events.{event_since};
 ghost use Rattle.treenodes.specs.Tree.{IsTree};
 ghost use Rattle.treenodes.specs.Map.{HoldsMap};
 
-use slots::Slots;
-use treenodes::{Slot, data_at, leaf_at};
+use crate::leaf::{last_change_in, leaf};
+use treenodes::Nodes;
 use values::{Instant, KeyBytes, LAST};
 
 /// The latest instant above `start` that changed a key. A node that holds no event of the key tells nothing of the time
 /// before it began: a deletion is not carried.
-pub fn changed_since(nodes: &Slots<Slot>, key: &KeyBytes, start: Instant) -> Option<Instant>
+pub fn changed_since(nodes: &Nodes, key: &KeyBytes, start: Instant) -> Option<Instant>
     requires { IsTree nodes.now }
     ensures { (m : List Change) → HoldsMap nodes.now m → result ≡ event_since m start key.now }
 {
     let mut instant = LAST;
     while start < instant {
-        let (number, _) = leaf_at(nodes, key, instant);
-        let node = data_at(nodes, number);
-        if let Some(event) = node.latest(key) {
-            return above(start, event.at());
+        let node = leaf(nodes, key, instant);
+        if let Some(last) = last_change_in(node, key, 0) {
+            return above(start, last);
         }
         instant = node.rect().time().from - 1;
     }

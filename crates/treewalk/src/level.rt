@@ -9,9 +9,8 @@ ghost use Rattle.treewalk.specs.Level.{AreMeeting, AreIndexes, IsAround, IsBelow
 use crate::around::node_around;
 use indexnode::IndexNode;
 use keyrange::Rect;
-use slots::Slots;
 use std::alloc::Global;
-use treenodes::Slot;
+use treenodes::Nodes;
 use values::Mem;
 
 /// Adds the numbers of the children that meet a rectangle.
@@ -43,12 +42,7 @@ fn sort_numbers(numbers: &mut Vec<usize>)
 }
 
 /// The numbers of the children of some index nodes that meet a rectangle, each once and in order.
-fn level_below(
-    alloc: Global,
-    nodes: &Slots<Slot>,
-    numbers: &[usize],
-    rect: &Rect,
-) -> Mem<Vec<usize>>
+fn level_below(alloc: Global, nodes: &Nodes, numbers: &[usize], rect: &Rect) -> Mem<Vec<usize>>
     requires tree { IsTree nodes.now }
     requires indexes { AreIndexes nodes.now numbers.now }
     ensures ok { (level : ℕ) → IsBelowRoot nodes.now level
@@ -67,7 +61,7 @@ fn level_below(
 }
 
 /// The numbers of the data nodes that have a point of a rectangle, each once and in order.
-pub fn leaves_in(alloc: Global, nodes: &Slots<Slot>, rect: &Rect) -> Mem<Vec<usize>>
+pub fn leaves_in(alloc: Global, nodes: &Nodes, rect: &Rect) -> Mem<Vec<usize>>
     requires { IsTree nodes.now }
     ensures ok { IfOk result (λ v. AreMeeting nodes.now 0 rect.now v.items) }
     ensures err { OnlyMemory result }
@@ -79,7 +73,7 @@ pub fn leaves_in(alloc: Global, nodes: &Slots<Slot>, rect: &Rect) -> Mem<Vec<usi
 /// The same, where all of the rectangle lies in the node of a number.
 pub(crate) fn leaves_below(
     alloc: Global,
-    nodes: &Slots<Slot>,
+    nodes: &Nodes,
     number: usize,
     rect: &Rect,
 ) -> Mem<Vec<usize>>

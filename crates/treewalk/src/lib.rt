@@ -5,12 +5,14 @@ mod around;
 mod change_after;
 mod gather;
 mod last_change;
+mod leaf;
 mod level;
 mod listing;
 mod shape;
 
 pub use change_after::next_change;
 pub use last_change::changed_since;
+pub use leaf::row_in;
 pub use level::leaves_in;
 pub use listing::{events, standing};
 pub use shape::{NodeShape, Shape, tree_shape};

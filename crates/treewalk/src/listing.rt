@@ -10,18 +10,19 @@ ghost use Rattle.treenodes.specs.Tree.{IsTree};
 ghost use Rattle.treenodes.specs.Map.{HoldsMap};
 
 use crate::gather::{Query, gathered};
+use blocks::Blocks;
 use eventlist::sort_events;
 use keyrange::KeyRange;
-use slots::Slots;
 use std::alloc::Global;
-use treenodes::Slot;
+use treenodes::Nodes;
 use values::{Instant, LAST, Mem, SharedEvent};
 
 /// The events of a range of keys, from an instant to another and with it, by key and then by instant, each once however
 /// many nodes hold it.
-pub fn events(
+pub fn events<B: Blocks>(
     alloc: Global,
-    nodes: &Slots<Slot>,
+    blocks: &mut B,
+    nodes: &Nodes,
     range: &KeyRange,
     from: Instant,
     to: Instant,
@@ -32,16 +33,17 @@ pub fn events(
     ensures sorted { IfOk result (λ v. IsStrictlySortedBy event_cmp v.items) }
     ensures err { OnlyMemory result }
 {
-    let mut found = gathered(alloc, nodes, range, Query::Between(from, to))?;
+    let mut found = gathered(alloc, blocks, nodes, range, Query::Between(from, to))?;
     sort_events(&mut found)?;
     Ok(found)
 }
 
 /// By key: of each key of a range the event that shows its row at an instant, where it has one. It looks into the nodes
 /// at that instant alone.
-pub fn standing(
+pub fn standing<B: Blocks>(
     alloc: Global,
-    nodes: &Slots<Slot>,
+    blocks: &mut B,
+    nodes: &Nodes,
     range: &KeyRange,
     instant: Instant,
 ) -> Mem<Vec<SharedEvent>>
@@ -52,7 +54,7 @@ pub fn standing(
     ensures err { OnlyMemory result }
 {
     // No event is after the last instant.
-    let mut rows = gathered(alloc, nodes, range, Query::At(instant.min(LAST)))?;
+    let mut rows = gathered(alloc, blocks, nodes, range, Query::At(instant.min(LAST)))?;
     sort_events(&mut rows)?;
     Ok(rows)
 }

@@ -1,15 +1,14 @@
 //! A tree's shape: the rectangles of its nodes, and how much they hold.
-ghost use Rattle.std.specs.Prelude.{◌≡◌, IfOk, map};
+ghost use Rattle.std.specs.Prelude.{◌≡◌, IfOk, is_some, map};
 ghost use Rattle.values.specs.Memory.{OnlyMemory};
-ghost use Rattle.treenodes.specs.Node.{count_of, content_of};
+ghost use Rattle.treenodes.specs.Node.{count_of, content_of, packed_of};
 ghost use Rattle.treenodes.specs.Tree.{IsTree};
 ghost use Rattle.treewalk.specs.Shape.{IsShapeOf, node_shape, shape_cmp};
 
 use keyrange::Rect;
-use slots::Slots;
 use std::alloc::Global;
 use std::cmp::Ordering;
-use treenodes::{Child, Slot};
+use treenodes::{Child, Nodes, Slot};
 use values::Mem;
 
 /// A node's level, counted from the data nodes up, its rectangle, how many events or references it holds, and whether it
@@ -29,7 +28,7 @@ pub struct Shape {
 }
 
 /// The shape of a tree: each of its nodes once, whatever the number of its parents.
-pub fn tree_shape(alloc: Global, nodes: &Slots<Slot>) -> Mem<Shape>
+pub fn tree_shape(alloc: Global, nodes: &Nodes) -> Mem<Shape>
     requires { IsTree nodes.now }
     ensures ok { IfOk result (λ s. IsShapeOf nodes.now s.nodes.items) }
     ensures err { OnlyMemory result }
@@ -40,7 +39,7 @@ pub fn tree_shape(alloc: Global, nodes: &Slots<Slot>) -> Mem<Shape>
 }
 
 /// What a shape shows of each node, by their numbers.
-fn all_shapes(alloc: Global, nodes: &Slots<Slot>) -> Mem<Vec<NodeShape>>
+fn all_shapes(alloc: Global, nodes: &Nodes) -> Mem<Vec<NodeShape>>
     ensures ok { IfOk result (λ v. v.items ≡ map node_shape nodes.now) }
     ensures err { OnlyMemory result }
 {
@@ -60,7 +59,7 @@ fn node_shape(node: &Slot) -> Mem<NodeShape>
         level: node.level(),
         rect: node.child().rect().copy()?,
         count: count_of(node.child()),
-        packed: false,
+        packed: is_packed(node.child()),
     })
 }
 
@@ -70,7 +69,17 @@ fn count_of(child: &Child) -> usize
 {
     match child {
         Child::Data(node) => node.len(),
+        Child::Packed(block) => block.len(),
         Child::Index(node) => node.references().len(),
+    }
+}
+
+fn is_packed(child: &Child) -> bool
+    ensures { result ≡ is_some (packed_of child.now) }
+{
+    match child {
+        Child::Packed(_) => true,
+        Child::Data(_) | Child::Index(_) => false,
     }
 }
 

@@ -10,13 +10,13 @@ pub with_leaf_split-requires-clause-splittable : goal.with_leaf_split-requires-c
 with_leaf_split-requires-clause-splittable c = λ d.
     let nodes = c.args.nodes in
     let number = get_or c.args.way.now c.args.depth 0 in
-    let n = c.data_at-node.result.now in
+    let n = c.current_at-node.result.now in
     let g = c.requires.grown 0 in
-    let current = subst (λ (n : TreeNode). n.rect.time.to ≡ None) (one_at nodes number (data_node g.node) (data_node n) g.there c.data_at-node.ensures) g.grown.current in
+    let current = subst (λ (n : TreeNode). n.rect.time.to ≡ None) (one_at nodes number (data_node g.node) (data_node n) g.there c.current_at-node.ensures) g.grown.current in
     subst (λ i. IsSplittable nodes i c.in_ok-point.point) (get_or_default c.args.way.now c.args.depth 0 d c.requires.way.within) (record {
       node = n;
-      there = c.data_at-node.ensures;
+      there = c.current_at-node.ensures;
       others = c.requires.others 0;
-      can = can_of nodes number n c.data_at-node.ensures current c.in_ok-point.point c.in_ok-point.ensures.inside;
+      can = can_of nodes number n c.current_at-node.ensures current c.in_ok-point.point c.in_ok-point.ensures.inside;
       fit = c.in_ok-point.ensures.fit;
     })

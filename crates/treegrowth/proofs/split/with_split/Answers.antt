@@ -9,11 +9,14 @@ use Rattle.treegrowth.specs.Growth.{IsSplittable}
 use Rattle.treegrowth.specs.Leaves.{IsLeafSplit}
 use Rattle.treegrowth.specs.Point.{halves_at}
 use Rattle.treegrowth.proofs.CommitDue.{read_at, sound_after}
-use Rattle.treegrowth.proofs.SplitSteps.{splittable, can_leaf}
+use Rattle.treegrowth.proofs.SplitSteps.{splittable, can_leaf, can_current}
 use Rattle.treegrowth.proofs.split.with_split.Goals as goal
 
-pub data_at-node-requires : goal.data_at-node-requires
-data_at-node-requires c = can_leaf c.args.nodes.now (get_or c.args.way.now (length c.args.way.now - 1) 0) c.args.point.now (c.requires.can 0)
+pub current_at-node-requires-clause-data : goal.current_at-node-requires-clause-data
+current_at-node-requires-clause-data c = can_leaf c.args.nodes.now (get_or c.args.way.now (length c.args.way.now - 1) 0) c.args.point.now (c.requires.can 0)
+
+pub current_at-node-requires-clause-current : goal.current_at-node-requires-clause-current
+current_at-node-requires-clause-current c = can_current c.args.nodes.now (get_or c.args.way.now (length c.args.way.now - 1) 0) c.args.point.now (c.requires.can 0)
 
 pub with_leaf_split-requires-clause-splittable : goal.with_leaf_split-requires-clause-splittable
 with_leaf_split-requires-clause-splittable c = λ d.
@@ -26,7 +29,7 @@ with_leaf_split-requires-clause-splittable c = λ d.
     let same = c.in_ok-share.ensures.ok in
     let kept = c.requires.sound.kept in
     subst (λ i. IsSplittable shared i point) (get_or_default way depth 0 d c.requires.way.within)
-    (subst (λ s. IsSplittable s number point) (sym same) (splittable nodes number c.data_at-node.result.now c.data_at-node.ensures kept.small point (c.requires.can 0)))
+    (subst (λ s. IsSplittable s number point) (sym same) (splittable nodes number c.current_at-node.result.now c.current_at-node.ensures kept.small point (c.requires.can 0)))
 
 pub returns-clause-sound : goal.returns-clause-sound
 returns-clause-sound c =
@@ -66,10 +69,10 @@ returns-clause-leaves c = λ d n h at made.
     let shared = c.in_ok-share.field-0 in
     let same = c.in_ok-share.ensures.ok in
     let kept = c.requires.sound.kept in
-    let node = c.data_at-node.result.now in
+    let node = c.current_at-node.result.now in
     let here : IsAt nodes number n = subst (λ i. IsAt nodes i n) (get_or_default way depth d 0 c.requires.way.within) at in
-    let is : data_node node ≡ n = one_at nodes number (data_node node) n c.data_at-node.ensures here in
-    let there : IsAt shared number (data_node node) = subst (λ s. IsAt s number (data_node node)) (sym same) c.data_at-node.ensures in
+    let is : data_node node ≡ n = one_at nodes number (data_node node) n c.current_at-node.ensures here in
+    let there : IsAt shared number (data_node node) = subst (λ s. IsAt s number (data_node node)) (sym same) c.current_at-node.ensures in
     let rects = ap (λ (n : TreeNode). n.rect) is in
     weaker c.with_leaf_split.result (λ s. IsLeafSplit shared s node.rect h) (λ s. IsLeafSplit nodes s n.rect h)
     (λ s split. subst (λ a. IsLeafSplit a s n.rect h) same (subst (λ r. IsLeafSplit shared s r h) rects split))

@@ -2,7 +2,7 @@ use Rattle.std.proofs.Common.{Some, true, false, sym, ap, ◌∙◌, is_eq, arit
 use Rattle.values.specs.Event.{Event}
 use Rattle.values.specs.Events.{is_bytes}
 use Rattle.treewalk.proofs.ChangePlaced.{past_all, at_place}
-use Rattle.treewalk.proofs.change_after.first_above.Goals as goal
+use Rattle.treewalk.proofs.leaf.first_above.Goals as goal
 
 pub returns-then-place-events : goal.returns-then-place-events
 returns-then-place-events c = past_all c.args.key.now c.args.after c.args.events.now c.place_after-place.result c.place_after-place.ensures.first c.if-place-events.true
