@@ -1,3 +1,4 @@
 pub mod SameLists
 pub mod ViewLeaf
 pub mod TreeSplit
+pub mod PackingFound

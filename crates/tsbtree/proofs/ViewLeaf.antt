@@ -3,12 +3,17 @@ use Rattle.std.proofs.Common.{◌≡◌, ℕ, zero, suc, ◌<◌, ◌≤◌, Boo
 use Rattle.std.specs.Prelude.{◌&&◌, All, option_and_then}
 use Rattle.values.specs.Event.{Event}
 use Rattle.values.specs.Events.{is_bytes, later, event_until, row_until}
-use Rattle.datanode.specs.Node.{Node}
-use Rattle.treenodes.specs.Node.{TreeNode, IsAt, data_node}
-use Rattle.treenodes.specs.Map.{AreInstants, changes, latest}
+use Rattle.keyrange.specs.Rect.{has_point}
+use Rattle.treenodes.specs.declared.node.Child.{Child}
+use Rattle.treenodes.specs.Node.{TreeNode, IsAt, IsDataNode, content_of, rect_of, seen}
+use Rattle.treenodes.specs.Map.{AreInstants, IsCut, changes, latest}
 use Rattle.treenodes.specs.Lookup.{IsLeafAt}
 use Rattle.treenodes.specs.Sound.{IsSound}
-use Rattle.treenodes.proofs.LookupNodes.{cut_of, point_in}
+use Rattle.treenodes.proofs.LookupNodes.{point_in}
+use Rattle.treenodes.proofs.NodeNumbers.{one_at}
+use Rattle.treewalk.proofs.GatherLeaves.{cut_of}
+use Rattle.datanode.proofs.LawsLast.{shown_by_cut}
+use Rattle.treewalk.specs.Leaf.{node_in}
 use Rattle.tsbtree.specs.View.{TreeState, events}
 use Rattle.tsbtree.specs.Leaf.{IsLeafOf}
 
@@ -36,10 +41,27 @@ pub no_row : (c : TreeState) (nodes : List TreeNode) → nodes ≡ c.nodes → I
 no_row c nodes are sound key instant zeroth =
     sym (ap (row_until (events c) key) zeroth ∙ ap (option_and_then (λ e. e.row)) (none_until (events c) key (subst (λ ns. AreInstants (changes ns)) are sound.kept.holds.instants)))
 
-pub leaf_of_state : (c : TreeState) → IsSound c.nodes c.latest → (key : List ℕ) (instant number : ℕ) (n : Node) → IsLeafAt c.nodes key instant number → IsAt c.nodes number (data_node n) → IsLeafOf c key instant n
-leaf_of_state c sound key instant number n leaf at = record {
+pub leaf_of_state : (c : TreeState) → IsSound c.nodes c.latest → (key : List ℕ) (instant number : ℕ) (n : TreeNode) (child : Child) → IsLeafAt c.nodes key instant number → IsAt c.nodes number n → n ≡ seen n.level child → IsLeafOf c key instant child
+leaf_of_state c sound key instant number n child leaf at is = record {
   number = number;
-  there = at;
-  holds = point_in c.nodes key instant number (data_node n) leaf at;
-  cut = cut_of c.nodes (events c) sound.kept.holds number n at;
+  there = at ∙ ap Some (is ∙ ap (λ l. seen l child) level);
+  is_data = is_data;
+  holds = subst (λ (q : TreeNode). has_point q.rect key instant ≡ true) is (point_in c.nodes key instant number n leaf at);
+  cut = record {
+    ordered = sound.kept.holds.ordered;
+    events_are = cut_of (events c) (rect_of child) (content_of child) is_data (subst (λ (q : TreeNode). IsCut (events c) q.rect q.content) is (sound.kept.holds.cuts number n at));
+  };
 }
+  where
+    one : leaf.leaf.node ≡ n
+    one = one_at c.nodes number leaf.leaf.node n leaf.leaf.there at
+
+    level : n.level ≡ 0
+    level = sym (ap (λ (q : TreeNode). q.level) one) ∙ leaf.leaf.bottom
+
+    is_data : IsDataNode (content_of child)
+    is_data = subst (λ (q : TreeNode). IsDataNode q.content) is (subst (λ (q : TreeNode). IsDataNode q.content) one leaf.leaf.is_data)
+
+-- what the leaf shows is the map's
+pub row_of_leaf : (c : TreeState) (key : List ℕ) (instant : ℕ) (child : Child) → IsLeafOf c key instant child → row_until (node_in child).events key instant ≡ row_until (events c) key instant
+row_of_leaf c key instant child leaf = ap (λ es. row_until es key instant) leaf.cut.events_are ∙ shown_by_cut (rect_of child) (events c) key instant leaf.cut.ordered leaf.holds

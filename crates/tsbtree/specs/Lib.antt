@@ -1,3 +1,4 @@
 pub mod View
 pub mod Leaf
 pub mod Growth
+pub mod Packing

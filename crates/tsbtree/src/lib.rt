@@ -1,6 +1,7 @@
 //! The tree of all changes, and views of it.
 #![tactic(auto)]
 
+mod packing;
 mod same;
 mod tree;
 mod view;

@@ -1,12 +1,11 @@
 //! Whether nodes are equal, down to each row and each reference. None of it takes memory.
 ghost use Rattle.std.specs.Prelude.{◌≡◌, ◌↔◌, IsTrue, option_copied};
-ghost use Rattle.treenodes.specs.Node.{rect_of, content_of};
+ghost use Rattle.treenodes.specs.Node.{rect_of, content_of, packed_of};
 
 use datanode::DataNode;
 use indexnode::{IndexNode, Reference};
 use keyrange::Rect;
-use slots::Slots;
-use treenodes::{Child, Slot};
+use treenodes::{Child, Nodes, Slot};
 use values::{Event, Row, SharedEvent, Value};
 
 /// What can be compared as a whole.
@@ -31,8 +30,8 @@ fn are_same<T: Same>(first: &[T], second: &[T]) -> bool
 }
 
 /// Nodes at the same numbers.
-impl Same for Slots<Slot> {
-    fn is_same(&self, other: &Slots<Slot>) -> bool {
+impl Same for Nodes {
+    fn is_same(&self, other: &Nodes) -> bool {
         if self.len() != other.len() {
             return false;
         }
@@ -54,10 +53,12 @@ impl Same for Slot {
 fn is_same_child(first: &Child, second: &Child) -> bool
     ensures { IsTrue result
         ↔ ((rect_of first.now ≡ rect_of second.now)
-        × (content_of first.now ≡ content_of second.now)) }
+        × (content_of first.now ≡ content_of second.now)
+        × (packed_of first.now ≡ packed_of second.now)) }
 {
     match (first, second) {
         (Child::Data(one), Child::Data(other)) => one.is_same(other),
+        (Child::Packed(one), Child::Packed(other)) => one.is_same(other),
         (Child::Index(one), Child::Index(other)) => is_same_index(one, other),
         _ => false,
     }

@@ -7,13 +7,16 @@ ghost use Rattle.treegrowth.specs.Commit.{IsCommit};
 ghost use Rattle.treegrowth.specs.Leaves.{halves_upto};
 ghost use Rattle.tsbtree.specs.View.{last, IsEmpty, IsState};
 ghost use Rattle.tsbtree.specs.Growth.{Adds, HoldsSame, IsSplitAt};
+ghost use Rattle.tsbtree.specs.Packing.{IsInstalled};
 
+use crate::packing::number_of_node;
 use crate::view::View;
-use slots::Slots;
+use blocks::Block;
+use datanode::DataNode;
 use std::alloc::Global;
 use std::marker::Model;
 use treegrowth::{key_split, time_split, with_commit};
-use treenodes::{Slot, leaf_alone};
+use treenodes::{Nodes, leaf_alone, with_block};
 use values::{Event, Instant, KeyBytes, Mem};
 
 /// The tree of all changes. A change makes new nodes aside and puts them in place at once, so views stay as they are.
@@ -37,7 +40,7 @@ impl Tree {
         ensures ok { IfOk result IsEmpty }
         ensures err { OnlyMemory result }
     {
-        let view = View::of(leaf_alone(alloc)?, 0);
+        let view = View::of(alloc, leaf_alone(alloc)?, 0);
         Ok(Tree { alloc, view })
     }
 
@@ -72,7 +75,7 @@ impl Tree {
         }
         let nodes = self.view.nodes().share()?;
         let nodes = with_commit(self.alloc, nodes, self.view.last(), instant, changes)?;
-        self.view = View::of(nodes, instant);
+        self.view = View::of(self.alloc, nodes, instant);
         Ok(())
     }
 
@@ -104,8 +107,29 @@ impl Tree {
         Ok(self.put(nodes, last))
     }
 
+    /// Puts a block in the place of its node, where that stands unpacked: one of the same rectangle and the same events.
+    /// False where there is none; then, and where memory runs out, nothing has changed.
+    pub fn install(&mut self, node: &DataNode, block: Block) -> Mem<bool>
+        requires { block.node ≡ node.now }
+        ensures same { HoldsSame self.old self.new }
+        ensures installed { IfOk result (λ done. IsInstalled done self.old self.new block) }
+        ensures err { OnErr result (self.new ≡ self.old) }
+        ensures memory { OnlyMemory result }
+    {
+        // A block is of a node that has ended.
+        let _rect = block.rect();
+        let last = self.view.last();
+        let Some(number) = number_of_node(self.view.nodes(), node) else {
+            return Ok(false);
+        };
+        let nodes = self.view.nodes().share()?;
+        let nodes = with_block(self.alloc, nodes, number, block)?;
+        self.view = View::of(self.alloc, nodes, last);
+        Ok(true)
+    }
+
     /// Puts nodes in place, where there are some, and tells whether there are.
-    fn put(&mut self, nodes: Option<Slots<Slot>>, last: Instant) -> bool
+    fn put(&mut self, nodes: Option<Nodes>, last: Instant) -> bool
         requires { IfSome nodes (λ s. IsState s last) }
         ensures { MatchOption nodes
             ((result ≡ false) × (self.new ≡ self.old))
@@ -114,7 +138,7 @@ impl Tree {
         match nodes {
             None => false,
             Some(nodes) => {
-                self.view = View::of(nodes, last);
+                self.view = View::of(self.alloc, nodes, last);
                 true
             }
         }

@@ -1,31 +1,39 @@
 //! What was committed until an instant.
-ghost use Rattle.std.specs.Prelude.{◌≡◌, ◌↔◌, ◌≤◌, All, IfOk, IsTrue, option_copied};
+ghost use Rattle.std.specs.Prelude.{◌≡◌, ◌↔◌, ◌≤◌, All, IfOk, IfSome, IsTrue, MatchOption, option_copied};
 ghost use Rattle.std.specs.List.Sorted.{IsStrictlySortedBy};
 ghost use Rattle.values.specs.Commits.{max_instant};
 ghost use Rattle.values.specs.Events.{event_cmp, row_until, event_since};
 ghost use Rattle.values.specs.Memory.{OnlyMemory};
 ghost use Rattle.keyrange.specs.Range.{is_key_in};
 ghost use Rattle.eventlist.specs.Listing.{events_in, standing};
+ghost use Rattle.datanode.specs.Node.{Node};
+ghost use Rattle.blocks.specs.Block.{HasBlock};
+ghost use Rattle.treenodes.specs.Node.{TreeNode, data_node};
+ghost use Rattle.treenodes.specs.Backlog.{IsFirstWaiting, IsWaiting};
 ghost use Rattle.treenodes.specs.Sound.{IsSound};
+ghost use Rattle.treenodes.specs.Tree.{IsTree};
 ghost use Rattle.datanode.specs.NextChange.{event_after};
 ghost use Rattle.treewalk.specs.Shape.{IsShapeOf};
 ghost use Rattle.tsbtree.specs.View.{events, last, visits, IsState};
 ghost use Rattle.tsbtree.specs.Leaf.{IsLeafOf};
+ghost use Rattle.tsbtree.specs.Packing.{IsHistorical};
 
+use crate::packing::number_of;
 use crate::same::Same;
+use blocks::{Blocks, Unpacking};
 use datanode::DataNode;
-use keyrange::KeyRange;
-use slots::Slots;
-use std::alloc::{AllocError, Global};
+use keyrange::{KeyRange, Rect};
+use std::alloc::Global;
 use std::marker::Model;
-use treenodes::{Slot, data_at, leaf_at};
-use treewalk::{Shape, changed_since, events, next_change, standing, tree_shape};
+use treenodes::{Child, Nodes, leaf_at};
+use treewalk::{Shape, changed_since, events, next_change, row_in, standing, tree_shape};
 use values::{Instant, KeyBytes, Mem, Row, SharedEvent};
 
 /// The nodes of a tree as they were at one time. A view never changes; what it holds is shared with the tree.
 #[derive(Drop)]
 pub struct View {
-    nodes: Slots<Slot>,
+    alloc: Global,
+    nodes: Nodes,
     last: Instant,
 }
 
@@ -40,11 +48,11 @@ impl Model for View {
 }
 
 impl View {
-    pub(crate) fn of(nodes: Slots<Slot>, last: Instant) -> View
+    pub(crate) fn of(alloc: Global, nodes: Nodes, last: Instant) -> View
         requires { IsState nodes last }
         ensures { result ≡ record { nodes = nodes; latest = last } }
     {
-        View { nodes, last }
+        View { alloc, nodes, last }
     }
 
     /// The view: its nodes are a sound tree.
@@ -57,7 +65,7 @@ impl View {
         self
     }
 
-    pub(crate) fn nodes(&self) -> &Slots<Slot>
+    pub(crate) fn nodes(&self) -> &Nodes
         ensures are { result.now ≡ self.now.nodes }
         ensures sound { IsSound result.now (last self.now) }
     {
@@ -80,6 +88,7 @@ impl View {
         ensures err { OnlyMemory result }
     {
         Ok(View {
+            alloc: self.alloc,
             nodes: self.nodes.share()?,
             last: self.last,
         })
@@ -104,7 +113,7 @@ impl View {
             return Ok((None, 0));
         }
         let (number, visits) = leaf_at(nodes, key, instant);
-        let row = copy_of(data_at(nodes, number).at(key, instant))?;
+        let row = row_in(self.alloc, nodes.at(number).child(), key, instant)?;
         Ok((row, visits))
     }
 
@@ -123,7 +132,8 @@ impl View {
         next_change(&self.nodes, key, after)
     }
 
-    /// The events of a range of keys, from an instant to another and with it, by key and then by instant.
+    /// The events of a range of keys, from an instant to another and with it, by key and then by instant. Each block that
+    /// is in question is unpacked.
     pub fn events(
         &self,
         alloc: Global,
@@ -135,10 +145,27 @@ impl View {
         ensures sorted { IfOk result (λ v. IsStrictlySortedBy event_cmp v.items) }
         ensures err { OnlyMemory result }
     {
-        events(alloc, &self.nodes, range, from, to)
+        self.events_with(alloc, &mut Unpacking::new(alloc), range, from, to)
     }
 
-    /// By key: of each key of a range the event that shows its row at an instant, where it has one.
+    /// The same, where the events of blocks are given.
+    pub fn events_with<B: Blocks>(
+        &self,
+        alloc: Global,
+        blocks: &mut B,
+        range: &KeyRange,
+        from: Instant,
+        to: Instant,
+    ) -> Mem<Vec<SharedEvent>>
+        ensures ok { IfOk result (λ v. v.items ≡ events_in (events self.now) range.now from to) }
+        ensures sorted { IfOk result (λ v. IsStrictlySortedBy event_cmp v.items) }
+        ensures err { OnlyMemory result }
+    {
+        events(alloc, blocks, &self.nodes, range, from, to)
+    }
+
+    /// By key: of each key of a range the event that shows its row at an instant, where it has one. Each block that is in
+    /// question is unpacked.
     pub fn standing(
         &self,
         alloc: Global,
@@ -151,7 +178,24 @@ impl View {
         ensures ordered { IsStrictlySortedBy event_cmp (events self.now) }
         ensures err { OnlyMemory result }
     {
-        standing(alloc, &self.nodes, range, instant)
+        self.standing_with(alloc, &mut Unpacking::new(alloc), range, instant)
+    }
+
+    /// The same, where the events of blocks are given.
+    pub fn standing_with<B: Blocks>(
+        &self,
+        alloc: Global,
+        blocks: &mut B,
+        range: &KeyRange,
+        instant: Instant,
+    ) -> Mem<Vec<SharedEvent>>
+        ensures ok { IfOk result (λ v. v.items
+            ≡ standing (events self.now) (is_key_in range.now) instant) }
+        ensures sorted { IfOk result (λ v. IsStrictlySortedBy event_cmp v.items) }
+        ensures ordered { IsStrictlySortedBy event_cmp (events self.now) }
+        ensures err { OnlyMemory result }
+    {
+        standing(alloc, blocks, &self.nodes, range, instant)
     }
 
     /// Each node once: its level, its rectangle, and how much it holds.
@@ -162,21 +206,39 @@ impl View {
         tree_shape(alloc, &self.nodes)
     }
 
-    /// The data node whose rectangle has the point of a key and an instant.
-    pub fn leaf(&self, key: &KeyBytes, instant: Instant) -> &DataNode
+    /// The data node whose rectangle has the point of a key and an instant: as it stands, or its block.
+    pub fn leaf(&self, key: &KeyBytes, instant: Instant) -> &Child
         requires { 1 ≤ instant }
         ensures { IsLeafOf self.now key.now instant result.now }
     {
         let (number, _visits) = leaf_at(&self.nodes, key, instant);
-        data_at(&self.nodes, number)
+        self.nodes.at(number).child()
     }
-}
 
-fn copy_of(row: Option<&Row>) -> Result<Option<Row>, AllocError>
-    ensures { IfOk result (λ r. r ≡ option_copied row.entry) }
-{
-    match row {
-        None => Ok(None),
-        Some(row) => Ok(Some(row.clone()?)),
+    /// The first data node of history that is not packed: by the start of its time, then by its lower key. After a
+    /// rectangle it is the first that comes behind that one. The nodes of a view form a tree, so no two data nodes start at one point. It takes no memory.
+    pub fn unpacked(&self, after: Option<&Rect>) -> Option<&DataNode>
+        ensures first { MatchOption result
+            ((p : TreeNode) → IsWaiting self.now.nodes (option_copied after.entry) p → ⊥)
+            (λ n. IsFirstWaiting self.now.nodes (option_copied after.entry) (data_node n.now)) }
+        ensures block { IfSome result (λ n. HasBlock n.now) }
+        ensures tree { IsTree self.now.nodes }
+    {
+        match self.nodes().unpacked(after) {
+            None => None,
+            Some(slot) => Some(slot.unpacked()),
+        }
+    }
+
+    /// The data node of history of a rectangle, where it is not packed. It takes no memory.
+    pub fn historical(&self, rect: &Rect) -> Option<&DataNode>
+        ensures { MatchOption result
+            ((n : Node) → IsHistorical self.now.nodes rect.now n → ⊥)
+            (λ n. IsHistorical self.now.nodes rect.now n.now) }
+    {
+        match number_of(self.nodes(), rect) {
+            None => None,
+            Some(number) => Some(self.nodes.at(number).unpacked()),
+        }
     }
 }

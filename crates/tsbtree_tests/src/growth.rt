@@ -139,6 +139,14 @@ pub(crate) fn one_row(rt: &impl Abort, alloc: Global, value: i64) -> Mem<Tree> {
     Ok(tree)
 }
 
+/// Key 1 has one row at 100 and at 200, and the data node is split at 200.
+pub(crate) fn two_versions(rt: &impl Abort, alloc: Global, value: i64) -> Mem<Tree> {
+    let mut tree = one_row(rt, alloc, value)?;
+    put(rt, alloc, &mut tree, 200, 1, value)?;
+    assert!(rt; split_at(rt, alloc, &mut tree, 1, 200)?);
+    Ok(tree)
+}
+
 /// Keys 1 and 2 have rows from 100 on, and key 1 is deleted at 200.
 pub(crate) fn few_changes(rt: &impl Abort, alloc: Global) -> Mem<Tree> {
     let mut tree = Tree::new(alloc)?;

@@ -3,20 +3,18 @@ ghost use Rattle.std.specs.Prelude.{◌≡◌, ◌≤◌, IfOk, IfSome};
 ghost use Rattle.treenodes.specs.Sound.{IsSound};
 
 use crate::growth::{key, two_parents, two_rows};
-use datanode::DataNode;
-use slots::Slots;
 use std::alloc::Global;
 use std::marker::Model;
 use std::process::Abort;
 use std::test::Fail;
 use treegrowth::{key_split, time_split, with_commit};
-use treenodes::{Child, Slot, leaf_alone};
+use treenodes::{Child, Nodes, leaf_alone};
 use values::{Instant, KeyBytes, Mem};
 
 /// The nodes of a tree whose last commit was at 200.
 #[derive(Drop)]
 struct Grown {
-    nodes: Slots<Slot>,
+    nodes: Nodes,
 }
 
 impl Model for Grown {
@@ -32,7 +30,7 @@ impl Model for Grown {
 }
 
 /// Keys 10 and 40 are changed at 100.
-fn one_commit(rt: &impl Abort, alloc: Global) -> Mem<Slots<Slot>>
+fn one_commit(rt: &impl Abort, alloc: Global) -> Mem<Nodes>
     ensures { IfOk result (λ s. IsSound s 100) }
 {
     let events = two_rows(rt, alloc, 100, 10, 40)?;
@@ -47,7 +45,7 @@ fn two_commits(rt: &impl Abort, alloc: Global) -> Mem<Grown> {
 }
 
 impl Grown {
-    fn nodes(&self) -> &Slots<Slot>
+    fn nodes(&self) -> &Nodes
         ensures are { result.now ≡ self.now }
         ensures sound { IsSound result.now 200 }
     {
@@ -68,7 +66,7 @@ impl Grown {
         Ok(self.put(nodes))
     }
 
-    fn put(&mut self, nodes: Option<Slots<Slot>>) -> bool
+    fn put(&mut self, nodes: Option<Nodes>) -> bool
         requires { IfSome nodes (λ s. IsSound s 200) }
     {
         match nodes {
@@ -109,20 +107,28 @@ fn descend(grown: &Grown, key: &KeyBytes, at: Instant) -> usize {
 }
 
 /// Whether the node with a number is a data node with the rectangle of another, and as many events.
-fn is_leaf(grown: &Grown, number: usize, leaf: &DataNode) -> bool {
+fn is_leaf(grown: &Grown, number: usize, leaf: &Child) -> bool {
     match grown.nodes.get(number) {
         None => false,
-        Some(node) => match node.child() {
-            Child::Data(data) => is_alike(data, leaf),
-            Child::Index(_) => false,
-        },
+        Some(node) => is_alike(node.child(), leaf),
     }
 }
 
-fn is_alike(one: &DataNode, other: &DataNode) -> bool {
-    one.rect().keys() == other.rect().keys()
+fn is_alike(one: &Child, other: &Child) -> bool {
+    let count = count_of(one);
+    count.is_some()
+        && count == count_of(other)
+        && one.rect().keys() == other.rect().keys()
         && one.rect().time() == other.rect().time()
-        && one.len() == other.len()
+}
+
+/// How many events a data node has.
+fn count_of(child: &Child) -> Option<usize> {
+    match child {
+        Child::Data(node) => Some(node.len()),
+        Child::Packed(block) => Some(block.len()),
+        Child::Index(_) => None,
+    }
 }
 
 /// The number of the node that references lead to from the root.

@@ -1,12 +1,16 @@
-//! Tests of `tsbtree` by its public calls: trees that grow, and views that stay.
+//! Tests of `tsbtree` by its public calls: trees that grow, nodes that are packed, and views that stay.
 #![tactic(auto)]
 
+#[cfg(test)]
+mod answers;
 #[cfg(test)]
 mod growth;
 #[cfg(test)]
 mod leaf_tests;
 #[cfg(test)]
 mod lines;
+#[cfg(test)]
+mod packing_tests;
 #[cfg(test)]
 mod shape_tests;
 #[cfg(test)]

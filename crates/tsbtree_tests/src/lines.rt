@@ -17,17 +17,37 @@ pub(crate) fn begins_with(shape: &Shape, lines: &[Line]) -> bool {
     true
 }
 
-/// Whether a shape shows a node so at a place.
+/// Whether a shape shows a node so at a place, and not packed.
 pub(crate) fn is_line(shape: &Shape, place: usize, line: Line) -> bool {
+    is_shown(shape, place, line, false)
+}
+
+/// Whether a shape shows a packed node so at a place.
+pub(crate) fn is_packed_line(shape: &Shape, place: usize, line: Line) -> bool {
+    is_shown(shape, place, line, true)
+}
+
+fn is_shown(shape: &Shape, place: usize, line: Line, packed: bool) -> bool {
     match shape.nodes.get(place) {
         None => false,
         Some(node) => {
             height(shape).checked_sub(line.0) == Some(node.level)
                 && is_area(&node.rect, line)
                 && node.count == line.5
-                && !node.packed
+                && node.packed == packed
         }
     }
+}
+
+/// How many packed nodes a shape shows.
+pub(crate) fn count_packed(shape: &Shape) -> usize {
+    let mut count = 0usize;
+    for node in &shape.nodes {
+        if node.packed {
+            count = count.saturating_add(1);
+        }
+    }
+    count
 }
 
 fn is_area(rect: &Rect, line: Line) -> bool {

@@ -1,44 +1,13 @@
 //! What views answer, of trees with few changes and with many. A test keeps no tree: each helper makes its own.
+use crate::answers::{all_keys, count, found};
 use crate::growth::{
     few_changes, few_changes_split, grow, key, one_key, one_key_split, one_row, split_at,
 };
-use keyrange::KeyRange;
 use std::alloc::Global;
 use std::process::Abort;
 use std::test::Fail;
 use tsbtree::{Tree, View};
-use values::{Instant, KeyBytes, LAST, Mem, Row, Value};
-
-fn all_keys(alloc: Global) -> KeyRange {
-    KeyRange {
-        lo: KeyBytes::least(alloc),
-        hi: None,
-    }
-}
-
-/// How many events a view has.
-fn count(alloc: Global, view: &View) -> Mem<usize> {
-    Ok(view.events(alloc, &all_keys(alloc), 0, LAST)?.len())
-}
-
-/// The number in a key's row at an instant, and how many nodes were visited.
-fn found(
-    rt: &impl Abort,
-    alloc: Global,
-    view: &View,
-    number: u8,
-    at: Instant,
-) -> Mem<(Option<i64>, usize)> {
-    let (row, visits) = view.get(&key(rt, alloc, number)?, at)?;
-    Ok((row.as_ref().and_then(|row| number_in(row)), visits))
-}
-
-fn number_in(row: &Row) -> Option<i64> {
-    match row.values().first() {
-        Some(Value::Int(number)) => Some(*number),
-        _ => None,
-    }
-}
+use values::{Instant, LAST, Mem};
 
 /// The number in the row of key 1 after few changes.
 fn shown(rt: &impl Abort, alloc: Global, at: Instant) -> Mem<Option<i64>> {

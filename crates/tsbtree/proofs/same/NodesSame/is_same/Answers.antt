@@ -1,6 +1,6 @@
 use Rattle.std.proofs.Common.{refl, sym, ◌∙◌, arith}
 use Rattle.tsbtree.proofs.SameLists.{all_same}
-use Rattle.tsbtree.proofs.same.SlotsSlotSame.is_same.Goals as goal
+use Rattle.tsbtree.proofs.same.NodesSame.is_same.Goals as goal
 
 pub returns : goal.returns
 returns c =
