@@ -6,5 +6,6 @@ mod selection;
 mod standing;
 mod window;
 
+pub use blockcache::BlockCache;
 pub use selection::answer;
 pub use standing::{current_rows, rows_at};

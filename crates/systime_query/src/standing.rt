@@ -8,14 +8,17 @@ ghost use Rattle.systime_query.specs.Selection.{WhenShown};
 ghost use Rattle.systime_query.specs.Standing.{row_shown};
 
 use crate::period::is_taken;
+use blocks::Blocks;
 use searchrange::search_range;
 use std::alloc::Global;
 use tsbtree::View;
 use values::{Event, Instant, Keys, Mem, Row, SharedEvent, Table};
 
-/// By key: the rows of a table that a query as of an instant shows. The keys are of that table.
-pub fn rows_at(
+/// By key: the rows of a table that a query as of an instant shows. The keys are of that table. The events of packed
+/// nodes are those that `blocks` gives.
+pub fn rows_at<B: Blocks>(
     alloc: Global,
+    blocks: &mut B,
     view: &View,
     table: &Table,
     instant: Instant,
@@ -26,11 +29,12 @@ pub fn rows_at(
     ensures err { OnlyMemory result }
 {
     let range = search_range(alloc, table, keys)?;
-    let standing = view.standing(alloc, &range, instant)?;
+    let standing = view.standing_with(alloc, blocks, &range, instant)?;
     Ok(rows_shown(alloc, &standing, table, keys)?)
 }
 
 /// By key: the rows of a table that a query without a form of time shows, the current ones. The keys are of that table.
+/// No current row is in a packed node.
 pub fn current_rows(alloc: Global, view: &View, table: &Table, keys: &Keys) -> Mem<Vec<Row>>
     ensures ok { IfOk result (λ v. WhenShown view.now table.now keys.now (λ m.
         v.items ≡ shown_rows m table.now Plain keys.now)) }

@@ -9,6 +9,7 @@ ghost use Rattle.systime_query.specs.Selection.{next_of};
 ghost use Rattle.systime_query.specs.Window.{is_in_window, end_of, shown_in};
 
 use crate::period::{is_same, shown_of};
+use blocks::Blocks;
 use eventlist::sort_events;
 use keyrange::KeyRange;
 use std::alloc::Global;
@@ -17,8 +18,9 @@ use values::{Event, Form, Instant, Keys, Mem, SharedEvent, Shown, Table};
 
 /// The events of a range of keys whose rows stand at the first instant, and those after it up to the last, by key and
 /// then by instant.
-pub(crate) fn window_events(
+pub(crate) fn window_events<B: Blocks>(
     alloc: Global,
+    blocks: &mut B,
     view: &View,
     range: &KeyRange,
     first: Instant,
@@ -31,9 +33,9 @@ pub(crate) fn window_events(
     ensures ordered { IfOk result (λ _. IsStrictlySortedBy event_cmp (events view.now)) }
     ensures err { OnlyMemory result }
 {
-    let mut found = view.standing(alloc, range, first)?;
+    let mut found = view.standing_with(alloc, blocks, range, first)?;
     if first < last {
-        let mut later = view.events(alloc, range, first + 1, last)?;
+        let mut later = view.events_with(alloc, blocks, range, first + 1, last)?;
         found.append(&mut later)?;
     }
     sort_events(&mut found)?;

@@ -7,6 +7,7 @@ ghost use Rattle.systime_query.specs.Selection.{WhenShown};
 ghost use Rattle.transaction.specs.Listing.{as_listing, listing_in};
 
 use crate::open_transaction::OpenTransaction;
+use blocks::Blocks;
 use histories::Listing;
 use std::alloc::Global;
 use std::collections::BTreeMap;
@@ -16,7 +17,15 @@ use values::{Form, Key, Keys, Mem, Row, Rows, ShownRows, Table};
 
 impl OpenTransaction {
     /// What a query of a table shows: a plain one the rows that the transaction sees, any other what was committed until its start. The keys are of that table.
-    pub fn select(&self, alloc: Global, form: Form, table: &Table, keys: &Keys) -> Mem<Listing>
+    /// The events of packed nodes are those that `blocks` gives.
+    pub fn select<B: Blocks>(
+        &self,
+        alloc: Global,
+        blocks: &mut B,
+        form: Form,
+        table: &Table,
+        keys: &Keys,
+    ) -> Mem<Listing>
         ensures ok { IfOk result (λ l. WhenRead table.now self.now.view self.now.writes (λ schema m.
             keys.now.table ≡ table.now.number
             → l ≡ listing_in m self.now.writes table.now form keys.now)) }
@@ -28,15 +37,17 @@ impl OpenTransaction {
                 Ok(Listing::Rows(Rows::new(rows_of(alloc, found)?)))
             }
             Form::AsOf(_) | Form::FromTo(_, _) | Form::Between(_, _) => {
-                listing_of(alloc, &self.view, form, table, keys)
+                listing_of(alloc, blocks, &self.view, form, table, keys)
             }
         }
     }
 }
 
-/// What a query of a table shows of what was committed. The keys are of that table.
-pub fn listing_of(
+/// What a query of a table shows of what was committed. The keys are of that table. The events of packed nodes are
+/// those that `blocks` gives.
+pub fn listing_of<B: Blocks>(
     alloc: Global,
+    blocks: &mut B,
     view: &View,
     form: Form,
     table: &Table,
@@ -52,11 +63,11 @@ pub fn listing_of(
             Ok(Listing::Rows(Rows::new(rows)))
         }
         Form::AsOf(instant) => {
-            let rows = rows_at(alloc, view, table, instant, keys)?;
+            let rows = rows_at(alloc, blocks, view, table, instant, keys)?;
             Ok(Listing::Rows(Rows::new(rows)))
         }
         Form::FromTo(_, _) | Form::Between(_, _) => {
-            let shown = answer(alloc, view, table, form, keys)?;
+            let shown = answer(alloc, blocks, view, table, form, keys)?;
             Ok(Listing::Periods(ShownRows::new(shown)))
         }
     }
