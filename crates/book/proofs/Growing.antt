@@ -1,26 +1,26 @@
 -- A book with one entry more.
-use Rattle.std.proofs.Common.{◌≡◌, ◌≢◌, ℕ, ◌+◌, ◌<◌, ◌≤◌, ◌==◌, ◌||◌, List, [], ◌∷◌, ◌++◌, length, Option, Some, None, Bool, true, false, refl, sym, ap, ◌∙◌, arith, subst, Result, Ok, Err, OnOk, if◌then◌else◌}
-use Rattle.std.proofs.lemmas.Bool.Decides.{nat_tests}
+use Rattle.std.proofs.Common.{◌≡◌, ◌≢◌, ℕ, ◌+◌, ◌<◌, ◌==◌, ◌||◌, [], ◌∷◌, ◌++◌, length, Option, Some, None, Bool, true, false, refl, sym, ap, ◌∙◌, arith, subst, Result, Ok, Err, if◌then◌else◌}
 use Rattle.std.specs.List.Sorted.{IsStrictlySortedBy}
 use Rattle.values.specs.declared.key.Transaction.{Transaction}
 use Rattle.values.specs.declared.refusal.Refusal.{Refusal}
 use Rattle.values.specs.declared.refusal.Refusal.TheVariants.{Memory}
 use Rattle.values.specs.Tables.{Schema}
-use Rattle.values.specs.Log.{Log, Net, Changes, last, last_from, changes, add_net, point_cmp}
+use Rattle.values.specs.Log.{Log, Net, last, last_from, changes, point_cmp}
 use Rattle.values.specs.Commits.{outcome, after, log_after}
 use Rattle.values.specs.Events.{AreKeysIn, IsKeyIn}
 use Rattle.values.specs.declared.key.Point.{Point}
 use Rattle.std.proofs.lemmas.List.Elements.{All-nil}
 use Rattle.values.proofs.Now.{add_all-push}
+use Rattle.blocks.specs.Packed.{Packed}
 use Rattle.tsbtree.specs.View.{TreeState, last as view_last, IsEmpty}
 use Rattle.tsbtree.specs.Growth.{HoldsSame}
 use Rattle.staging.specs.View.{Holds}
 use Rattle.validation.specs.declared.cut.Cut.{Cut}
 use Rattle.journal.specs.declared.entry.Begun.{Begun}
 use Rattle.journal.specs.declared.entry.Entry.{Entry}
-use Rattle.journal.specs.declared.entry.Entry.TheVariants.{Begin, Commit, Split}
-use Rattle.journal.specs.Entries.{Entries, entry_at, start_of, log, has_entry_of, has_ended, is_open}
-use Rattle.journal.specs.Legal.{IsLegal, MayFollow, MayBegin, MayCommit}
+use Rattle.journal.specs.declared.entry.Entry.TheVariants.{Begin, Commit, Split, Install}
+use Rattle.journal.specs.Entries.{Entries, start_of, log, has_entry_of, has_ended, is_open}
+use Rattle.journal.specs.Legal.{IsLegal, MayFollow}
 use Rattle.book.specs.Book.{BookState, IsBook, most_entries, earlier_in, begin_entry, commit_entry}
 use Rattle.book.specs.Ending.{instant_of, ran_out, IsEnd, IsWritten}
 use Rattle.book.proofs.Naming.{IsFound, found, fresh, none_ahead}
@@ -82,6 +82,23 @@ was_split schema b new cut done is same few = record {
   clock = same.last_is ∙ is.clock;
   room = omega arith;
 }
+
+-- ---- an install
+
+pub was_installed : (schema : Schema) (b : BookState) (new : TreeState) (packed : Packed) (done : Bool) → IsBook schema b → HoldsSame b.engine new → length b.entries < most_entries
+    → IsBook schema (book new (Install packed.node.rect packed.bytes done ∷ b.entries))
+was_installed schema b new packed done is same few = record {
+  legal = (tt, is.legal);
+  holds = record { events_are = same.events_are ∙ is.holds.events_are; keys = is.holds.keys; in_order = is.holds.in_order };
+  clock = same.last_is ∙ is.clock;
+  room = omega arith;
+}
+
+-- as the calls tell it
+pub with_install : (schema : Schema) (b : BookState) (new : TreeState) (packed : Packed) (done : Bool) (put : Entry) (made grown : Entries) → IsBook schema b → HoldsSame b.engine new → length b.entries < most_entries
+    → made ≡ b.entries → put ≡ Install packed.node.rect packed.bytes done → grown ≡ put ∷ made → IsBook schema (book new grown)
+with_install schema b new packed done put made grown is holds few same entry grows =
+    subst (λ j. IsBook schema (book new j)) (sym (grows ∙ (λ k. entry k ∷ same k))) (was_installed schema b new packed done is holds few)
 
 -- ---- a commit
 

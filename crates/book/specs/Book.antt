@@ -5,13 +5,15 @@ use Rattle.values.specs.declared.refusal.Refusal.TheVariants.{JournalFull, Memor
 use Rattle.values.specs.Tables.{Schema}
 use Rattle.values.specs.Log.{Net, last, changes}
 use Rattle.values.specs.Commits.{outcome}
+use Rattle.blocks.specs.Packed.{Packed}
 use Rattle.tsbtree.specs.View.{TreeState, last as view_last}
+use Rattle.tsbtree.specs.Packing.{IsInstalled}
 use Rattle.staging.specs.View.{Holds}
 use Rattle.validation.specs.declared.cut.Cut.{Cut}
 use Rattle.validation.specs.Split.{IsSplit}
 use Rattle.journal.specs.declared.entry.Begun.{Begun}
 use Rattle.journal.specs.declared.entry.Entry.{Entry}
-use Rattle.journal.specs.declared.entry.Entry.TheVariants.{Begin, Commit, Split}
+use Rattle.journal.specs.declared.entry.Entry.TheVariants.{Begin, Commit, Split, Install}
 use Rattle.journal.specs.Entries.{Entries, log, has_entry_of}
 use Rattle.journal.specs.Legal.{IsLegal}
 
@@ -63,6 +65,12 @@ pub record IsSplitEntry (cut : Cut) (old new : TreeState) (e : Entry) : Type 0 w
   pub done : Bool
   pub entry_is : e ≡ Split cut done
   pub split : IsSplit cut old new done
+
+-- the entry of an install, which did to the tree what the entry says
+pub record IsInstallEntry (packed : Packed) (old new : TreeState) (e : Entry) : Type 0 where
+  pub done : Bool
+  pub entry_is : e ≡ Install packed.node.rect packed.bytes done
+  pub installed : IsInstalled done old new packed
 
 -- no refusal but want of room in the journal or in memory
 abbrev pub OnlyRoom : {T : Type 0} → Result T Refusal → Type 0

@@ -5,6 +5,7 @@ mod begin;
 mod book;
 mod closing;
 mod commit;
+mod install;
 mod split;
 
 pub use begin::Opening;

@@ -9,10 +9,12 @@ ghost use Rattle.values.specs.Memory.{OnlyMemory};
 ghost use Rattle.tsbtree.specs.View.{events, last, IsEmpty};
 ghost use Rattle.staging.specs.View.{Holds, Adds};
 ghost use Rattle.tsbtree.specs.Growth.{HoldsSame};
+ghost use Rattle.tsbtree.specs.Packing.{IsInstalled};
 ghost use Rattle.validation.specs.Outcome.{changed_in};
 ghost use Rattle.validation.specs.Split.{IsSplit};
 
 use crate::cut::Cut;
+use crate::packed::Packed;
 use commitclock::Clock;
 use staging::Net;
 use std::alloc::Global;
@@ -137,6 +139,18 @@ impl Engine {
             Cut::Key(key) => self.tree.key_split(key),
             Cut::Time(key, instant) => self.tree.time_split(key, *instant),
         }
+    }
+
+    /// Puts a block in the place of its node, where that is in the tree unpacked: one of the same rectangle and the same
+    /// events. False where there is none; then, and where memory runs out, nothing has changed.
+    pub fn install(&mut self, packed: Packed) -> Mem<bool>
+        ensures same { HoldsSame self.old self.new }
+        ensures installed { IfOk result (λ done. IsInstalled done self.old self.new packed) }
+        ensures err { OnErr result (self.new ≡ self.old) }
+        ensures memory { OnlyMemory result }
+    {
+        let (node, block) = packed.into_parts();
+        self.tree.install(&node, block)
     }
 
     /// Adds net changes at an instant after the last, as `validate` answers it. Where memory runs out nothing has changed.

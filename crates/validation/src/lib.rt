@@ -3,6 +3,10 @@
 
 mod cut;
 mod engine;
+mod job;
+mod packed;
 
 pub use cut::Cut;
 pub use engine::Engine;
+pub use job::{Job, find_job};
+pub use packed::{Packed, pack_job};

@@ -1,6 +1,4 @@
-use Rattle.std.proofs.Common.{◌≡◌, ap, ◌∙◌, sym, true}
-use Rattle.values.specs.Events.{AreKeysIn}
-use Rattle.journal.specs.Entries.{is_open}
+use Rattle.std.proofs.Common.{ap, ◌∙◌, sym}
 use Rattle.book.specs.Book.{BookState, commit_entry}
 use Rattle.book.proofs.Growing.{book, commit_entry_is, commit_fresh, commit_grows}
 use Rattle.book.proofs.book.Book.commit.Goals as goal
