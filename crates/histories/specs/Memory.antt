@@ -21,7 +21,7 @@ is_out_of_memory (Refused refusal) = is_memory refusal
 is_out_of_memory _ = false
 
 -- of a step that fits, by which sessions have a transaction open: BEGIN with one open, a write or
--- COMMIT with none, ROLLBACK, and MIGRATE
+-- COMMIT with none, and ROLLBACK
 abbrev pub takes_no_memory_by : (ℕ → Bool) → Step → Bool
 takes_no_memory_by has_open (Begin i) = has_open i
 takes_no_memory_by has_open (Insert i number rows) = not (has_open i)
@@ -32,7 +32,7 @@ takes_no_memory_by has_open (Commit i reading) = not (has_open i)
 takes_no_memory_by has_open (Rollback i) = true
 takes_no_memory_by has_open (SplitKey key) = false
 takes_no_memory_by has_open (SplitTime key instant) = false
-takes_no_memory_by has_open Migrate = true
+takes_no_memory_by has_open Migrate = false
 
 -- a step that takes no memory: one that does not fit, or one of these
 abbrev pub takes_no_memory : World → Step → Bool

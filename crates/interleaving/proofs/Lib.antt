@@ -4,3 +4,4 @@ pub mod Keeps
 pub mod Listed
 pub mod Stepped
 pub mod Written
+pub mod Migrated

@@ -1,2 +1,3 @@
-pub mod SplitStep
+pub mod MigrateStep
 pub mod SystemState
+pub mod TreeStep

@@ -3,6 +3,7 @@
 
 mod begin;
 mod commit;
+mod migrate;
 mod run;
 mod select;
 mod split;

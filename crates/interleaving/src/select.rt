@@ -12,18 +12,24 @@ use transaction::listing_of;
 
 impl System {
     /// What a query of a session shows.
-    pub(crate) fn select(&self, session: u8, form: Form, keys: &Keys) -> Mem<Reply>
+    pub(crate) fn select(&mut self, session: u8, form: Form, keys: &Keys) -> Mem<Reply>
         requires { session ≤ max_session }
         ensures ok { IfOk result (λ reply.
-            reply ≡ select_reply (world self.now) session form keys.now) }
+            reply ≡ select_reply (world self.old) session form keys.now) }
+        ensures same { self.new ≡ self.old }
         ensures memory { OnlyMemory result }
     {
         let Some(table) = self.schema.table_at(keys.table) else {
             return Ok(Reply::Refused(Refusal::NoTable));
         };
         let listing = match &self.sessions[session as usize] {
-            Some(transaction) => transaction.select(self.alloc, form, table, keys)?,
-            None => listing_of(self.alloc, self.engine.tree().current(), form, table, keys)?,
+            Some(transaction) => {
+                transaction.select(self.alloc, &mut self.cache, form, table, keys)?
+            }
+            None => {
+                let view = self.engine.tree().current();
+                listing_of(self.alloc, &mut self.cache, view, form, table, keys)?
+            }
         };
         Ok(Reply::Shown(listing))
     }

@@ -4,7 +4,7 @@ ghost use Rattle.values.specs.KeyEncoding.{bytes_of_key};
 ghost use Rattle.values.specs.Memory.{OnlyMemory};
 ghost use Rattle.histories.specs.Memory.{is_out_of_memory};
 ghost use Rattle.histories.specs.Misfit.{key_misfit};
-ghost use Rattle.interleaving.specs.SplitStep.{WasSplit};
+ghost use Rattle.interleaving.specs.TreeStep.{WasSplit};
 ghost use Rattle.interleaving.specs.SystemState.{world};
 
 use crate::system::System;

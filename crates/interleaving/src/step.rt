@@ -2,7 +2,7 @@
 ghost use Rattle.std.specs.Prelude.{◌≡◌, ◌≢◌, ◌∷◌, None, true, false, IfOk, IfErr};
 ghost use Rattle.histories.specs.Misfit.{misfit};
 ghost use Rattle.histories.specs.Turn.{turn_in};
-ghost use Rattle.interleaving.specs.SplitStep.{IsSplitStep};
+ghost use Rattle.interleaving.specs.TreeStep.{IsTreeStep};
 ghost use Rattle.interleaving.specs.SystemState.{world};
 ghost use Rattle.histories.specs.Memory.{is_out_of_memory, takes_no_memory};
 
@@ -15,14 +15,15 @@ impl System {
     ghost use Rattle.interleaving.specs.SystemState.{Stands};
 
     /// Takes a step. Where memory runs out nothing has changed, and the step may be taken again. A split that is done
-    /// puts the halves of the current data node of its key in the node's place, where its cut lies inside.
+    /// puts the halves of the current data node of its key in the node's place, where its cut lies inside. A migrate step
+    /// puts the block of the first unpacked data node of history in the node's place, where there is one.
     pub fn step(&mut self, step: Step) -> Reply
         ensures answers { (h : History) → Stands self.old h → result ≢ Reply.Refused Refusal.Memory
             → (result ≡ reply self.old.schema h step) × Stands self.new (step ∷ h) }
         ensures out_of_memory { (h : History) → Stands self.old h
             → result ≡ Reply.Refused Refusal.Memory → Stands self.new h }
         ensures schema { self.new.schema ≡ self.old.schema }
-        ensures split { result ≡ Reply.Done → IsSplitStep step self.old self.new }
+        ensures tree { result ≡ Reply.Done → IsTreeStep step self.old self.new }
         ensures no_memory { takes_no_memory (world self.old) step ≡ true
             → is_out_of_memory result ≡ false }
     {
@@ -38,7 +39,7 @@ impl System {
         ensures answered { is_out_of_memory result ≡ false
             → (result, world self.new) ≡ turn_in (world self.old) step.now }
         ensures out { is_out_of_memory result ≡ true → self.new ≡ self.old }
-        ensures split { result ≡ Reply.Done → IsSplitStep step.now self.old self.new }
+        ensures tree { result ≡ Reply.Done → IsTreeStep step.now self.old self.new }
         ensures no_memory { takes_no_memory (world self.old) step.now ≡ true
             → is_out_of_memory result ≡ false }
     {
@@ -52,7 +53,7 @@ impl System {
             Step::Rollback(session) => self.rollback(*session),
             Step::SplitKey(key) => self.split_key(key),
             Step::SplitTime(key, instant) => self.split_time(key, *instant),
-            Step::Migrate => Reply::Done,
+            Step::Migrate => self.migrate(),
         }
     }
 }

@@ -6,6 +6,7 @@ use histories::MAX_SESSION;
 use rows::{Mem, Schema};
 use std::alloc::Global;
 use std::marker::Model;
+use systime_query::BlockCache;
 use transaction::OpenTransaction;
 use treewalk::Shape;
 use tsbtree::Tree;
@@ -21,6 +22,8 @@ pub struct System {
     pub(crate) schema: Schema,
     pub(crate) engine: Engine,
     pub(crate) sessions: Vec<Option<OpenTransaction>>,
+    /// Unpacked blocks that were asked for last: no answer shows which.
+    pub(crate) cache: BlockCache,
 }
 
 impl Model for System {
@@ -57,6 +60,7 @@ impl System {
             schema,
             engine,
             sessions,
+            cache: BlockCache::new(alloc),
         })
     }
 
@@ -90,6 +94,7 @@ impl System {
             schema,
             engine: _engine,
             sessions: _sessions,
+            cache: _cache,
         } = self;
         schema
     }

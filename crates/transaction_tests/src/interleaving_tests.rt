@@ -360,3 +360,78 @@ fn a_split_shows_in_no_reply(rt: HostRuntime) {
     ];
     assert_replies(&rt, rt.alloc(), &turns);
 }
+
+/// How many nodes are packed.
+fn count_packed(rt: &impl Abort, system: &System) -> usize {
+    let shape = system.shape().expect(rt, "there is memory");
+    shape.nodes.iter().filter(|node| node.packed).count()
+}
+
+fn take(rt: &impl Abort, alloc: Global, system: &mut System, action: Action) -> Reply {
+    system.step(step_of(rt, alloc, action))
+}
+
+/// The names that employee 1 has, one after the other, and how a query shows them.
+const NAMES: [(&str, &str); 18] = [
+    ("a", "a "),
+    ("b", "b "),
+    ("c", "c "),
+    ("d", "d "),
+    ("e", "e "),
+    ("f", "f "),
+    ("g", "g "),
+    ("h", "h "),
+    ("i", "i "),
+    ("j", "j "),
+    ("k", "k "),
+    ("l", "l "),
+    ("m", "m "),
+    ("n", "n "),
+    ("o", "o "),
+    ("p", "p "),
+    ("q", "q "),
+    ("r", "r "),
+];
+
+/// Employee 1 has each name from its place on, in a data node of its own. All of these but the last are history.
+fn many_names(rt: &impl Abort, alloc: Global) -> System {
+    let mut system = System::new(alloc, schema(rt, alloc)).expect(rt, "there is memory");
+    let _begun = take(rt, alloc, &mut system, Begin(1));
+    let _inserted = take(rt, alloc, &mut system, Insert(1, 1, NAMES[0].0));
+    let _committed = take(rt, alloc, &mut system, Commit(1, 1));
+    for place in 1..18usize {
+        let at = place as u64 + 1;
+        let _begun = take(rt, alloc, &mut system, Begin(1));
+        let _renamed = take(rt, alloc, &mut system, Rename(1, 1, NAMES[place].0));
+        let _committed = take(rt, alloc, &mut system, Commit(1, at));
+        let _split = take(rt, alloc, &mut system, SplitTime(1, at));
+    }
+    system
+}
+
+#[test]
+fn a_migrate_step_packs_one_node_of_history(rt: HostRuntime) {
+    let alloc = rt.alloc();
+    let mut system = many_names(&rt, alloc);
+    for packed in [1, 2, 3] {
+        let migrated = take(&rt, alloc, &mut system, Migrate);
+        assert!(rt; is_told(&rt, alloc, &migrated, "ok"));
+        assert!(rt; count_packed(&rt, &system) == packed);
+    }
+}
+
+#[test]
+fn more_packed_nodes_than_the_cache_holds_answer_alike_twice(rt: HostRuntime) {
+    let alloc = rt.alloc();
+    let mut system = many_names(&rt, alloc);
+    for _ in 0..18 {
+        let _migrated = take(&rt, alloc, &mut system, Migrate);
+    }
+    assert!(rt; count_packed(&rt, &system) == 17);
+    for turn in 0..36usize {
+        let place = turn % 18;
+        let at = place as u64 + 1;
+        let shown = take(&rt, alloc, &mut system, Select(1, Form::AsOf(at)));
+        assert!(rt; is_told(&rt, alloc, &shown, NAMES[place].1), "as of {at}");
+    }
+}

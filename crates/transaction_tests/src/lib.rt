@@ -6,6 +6,8 @@ mod interleaving_tests;
 #[cfg(test)]
 mod open_transaction_tests;
 #[cfg(test)]
+mod packed_tests;
+#[cfg(test)]
 mod samples;
 #[cfg(test)]
 mod staging_tests;

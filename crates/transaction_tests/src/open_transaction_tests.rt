@@ -4,6 +4,7 @@ use crate::samples::{empty_tree, one_row, sets, table};
 use histories::Listing;
 use std::alloc::Global;
 use std::process::Abort;
+use systime_query::BlockCache;
 use transaction::{OpenTransaction, listing_of};
 use values::{Form, Keys};
 
@@ -37,7 +38,13 @@ fn count(listing: &Listing) -> usize {
 /// How many rows a query of a transaction shows.
 fn count_shown(rt: &impl Abort, alloc: Global, transaction: &OpenTransaction, form: Form) -> usize {
     let table = table(rt, alloc);
-    let listing = transaction.select(alloc, form, &table, &Keys::all(alloc, 1));
+    let listing = transaction.select(
+        alloc,
+        &mut BlockCache::new(alloc),
+        form,
+        &table,
+        &Keys::all(alloc, 1),
+    );
     count(&listing.expect(rt, "there is memory"))
 }
 
@@ -46,7 +53,14 @@ fn count_outside(rt: &impl Abort, alloc: Global) -> usize {
     let table = table(rt, alloc);
     let tree = empty_tree(rt, alloc);
     let keys = Keys::all(alloc, 1);
-    let listing = listing_of(alloc, tree.current(), Form::Plain, &table, &keys);
+    let listing = listing_of(
+        alloc,
+        &mut BlockCache::new(alloc),
+        tree.current(),
+        Form::Plain,
+        &table,
+        &keys,
+    );
     count(&listing.expect(rt, "there is memory"))
 }
 

@@ -5,7 +5,7 @@ use crate::samples::{ann, by, commit, hire, sets, staged, table};
 use staging::Net;
 use std::alloc::Global;
 use std::process::Abort;
-use systime_query::{answer, current_rows, rows_at};
+use systime_query::{BlockCache, answer, current_rows, rows_at};
 use tsbtree::{Tree, View};
 use values::{Form, Instant, Operator, Shown};
 
@@ -37,7 +37,14 @@ fn shown(
 ) -> Vec<Shown> {
     let table = table(rt, alloc);
     let keys = by(rt, alloc, operator, 1);
-    let shown = answer(alloc, tree.current(), &table, form, &keys);
+    let shown = answer(
+        alloc,
+        &mut BlockCache::new(alloc),
+        tree.current(),
+        &table,
+        form,
+        &keys,
+    );
     shown.expect(rt, "there is memory")
 }
 
@@ -116,7 +123,14 @@ fn each_key_shows_one_version_at_an_instant(rt: HostRuntime) {
 fn count_at(rt: &impl Abort, alloc: Global, tree: &Tree, at: Instant) -> usize {
     let table = table(rt, alloc);
     let keys = by(rt, alloc, Operator::AtLeast, 1);
-    let rows = rows_at(alloc, tree.current(), &table, at, &keys);
+    let rows = rows_at(
+        alloc,
+        &mut BlockCache::new(alloc),
+        tree.current(),
+        &table,
+        at,
+        &keys,
+    );
     rows.expect(rt, "there is memory").len()
 }
 

@@ -13,6 +13,6 @@ returns-clause-ok c =
           (λ schema m reads same. w.listing-is ∙ w.in_ok-listing-in-Some-index.ensures.ok schema m reads same)
       | in-None+in_ok-listing-in-None w ↦
           shows_now c.self.inside.schema c.self.inside.engine c.self.inside.sessions.items (world c.args.self.now) c.args.session c.in-Some.table.now c.args.form c.args.keys.now (ap world c.self.view_is) c.in-Some.ensures.is c.in-Some.ensures.good
-          c.index.result.now w.current.result.now c.match-index.listing c.self.invariant c.requires c.index.ensures w.in-None.is (w.current.ensures.is ∙ w.tree.ensures)
+          c.index.result.now w.current-view.result.now c.match-index.listing c.self.invariant c.requires c.index.ensures w.in-None.is (w.current-view.ensures.is ∙ w.tree.ensures)
           (λ schema m holds there same. w.listing-is ∙ w.in_ok-listing-in-None.ensures.ok schema m holds there same)
     ]
