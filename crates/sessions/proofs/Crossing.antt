@@ -11,8 +11,10 @@ use Rattle.slots.specs.contracts.slots.Slots as Slots
 use Rattle.slots.proofs.trie.Trie.TheLaws.TheKnot as knot
 use Rattle.treenodes.specs.contracts.node.Slot as Slot
 use Rattle.treenodes.proofs.node.Slot.TheSendSync as slot
+use Rattle.treenodes.specs.contracts.nodes.Nodes as Nodes
 use Rattle.tsbtree.specs.contracts.tree.Tree as Tree
 use Rattle.tsbtree.specs.contracts.view.View as View
+use Rattle.blockcache.proofs.cache.BlockCache.TheSendSync as cache
 use Rattle.staging.proofs.net.Net.TheSendSync as net
 use Rattle.staging.proofs.staged.Staged.TheSendSync as staged
 use Rattle.validation.specs.contracts.engine.Engine as Engine
@@ -37,11 +39,17 @@ slots_send = search (knot.crosses, slot.the_send, slot.the_sync, sendable, plain
 slots_sync : IsSync (Slots.the_row Slot.the_row)
 slots_sync = search (knot.crosses, slot.the_send, slot.the_sync, sendable, plain) depth 60 fits 20000
 
+nodes_send : IsSend Nodes.the_row
+nodes_send = search (slots_send, sendable, plain) depth 60 fits 20000
+
+nodes_sync : IsSync Nodes.the_row
+nodes_sync = search (slots_sync, sendable, plain) depth 60 fits 20000
+
 view_send : IsSend View.the_row
-view_send = search (slots_send, sendable, plain) depth 60 fits 20000
+view_send = search (nodes_send, sendable, plain) depth 60 fits 20000
 
 view_sync : IsSync View.the_row
-view_sync = search (slots_sync, sendable, plain) depth 60 fits 20000
+view_sync = search (nodes_sync, sendable, plain) depth 60 fits 20000
 
 -- ---- entries and receipts
 
@@ -63,7 +71,7 @@ running_send : IsSend Running.the_row
 running_send = search (transaction_send, sendable, plain) depth 60 fits 20000
 
 pub session_send : IsSend Session.the_row
-session_send = search (running_send, schema.the_send, sendable, plain) depth 60 fits 20000
+session_send = search (running_send, schema.the_send, cache.the_send, sendable, plain) depth 60 fits 20000
 
 -- ---- what stands under the lock
 

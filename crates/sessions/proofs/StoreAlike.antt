@@ -27,7 +27,7 @@ use Rattle.histories.proofs.Nows.{rows_now}
 use Rattle.histories.proofs.OpenTurns.{no_writes}
 use Rattle.histories.proofs.Prefixes.{opened_below}
 use Rattle.journal.specs.declared.entry.Entry.{Entry}
-use Rattle.journal.specs.declared.entry.Entry.TheVariants.{Begin, Commit, Split}
+use Rattle.journal.specs.declared.entry.Entry.TheVariants.{Begin, Commit, Split, Install}
 use Rattle.journal.specs.Entries.{Entries, entry_at, start_of, log as journal_log}
 use Rattle.journal.specs.Legal.{IsLegal, MayFollow, MayBegin, MayCommit}
 use Rattle.journal.proofs.Numbering.{IsWithin, entry_within}
@@ -35,7 +35,7 @@ use Rattle.book.specs.Book.{BookState}
 use Rattle.sessions.specs.SessionState.{RunningState, SessionState, WithWrites, own_in, with_transaction, with_writes, write_in}
 use Rattle.sessions.specs.Store.{begun_with}
 use Rattle.sessions.specs.OfHistory.{IsIn, own_at, seen_at}
-use Rattle.sessions.specs.StoreOfHistory.{BeganIn, IsBeside, Grows, IsOfAnother, IsSplitStep, entry_reply, BeginsAnswerAlike, CommitsAnswerAlike, SplitsAnswerAlike, RefusedAlike, OthersLeaveAlike, OwnStepsStayBeside}
+use Rattle.sessions.specs.StoreOfHistory.{BeganIn, IsBeside, Grows, IsOfAnother, IsSplitStep, entry_reply, BeginsAnswerAlike, CommitsAnswerAlike, SplitsAnswerAlike, InstallsAnswerAlike, RefusedAlike, OthersLeaveAlike, OwnStepsStayBeside}
 use Rattle.sessions.proofs.Writing.{state as session}
 use Rattle.sessions.proofs.AlikeEnded.{ended_none, in_range_fits}
 use Rattle.sessions.proofs.Alike.{writes_leave_alike}
@@ -269,6 +269,19 @@ pub splits_answer_alike : SplitsAnswerAlike
 splits_answer_alike s j h cut step e is at fits did = (
   ap entry_reply did.entry_is ∙ fit_reply s.schema h step Done fits (split_reply s.schema h cut step at),
   subst (λ e. IsBeside (e ∷ j) s (step ∷ h)) (sym did.entry_is) (split_beside s j h step cut did.done is at),
+)
+
+-- ---- an install
+
+pub installs_answer_alike : InstallsAnswerAlike
+installs_answer_alike s j h packed e at did = (
+  ap entry_reply did.entry_is ∙ fit_reply s.schema h Migrate Done refl refl,
+  subst (λ e. IsBeside (e ∷ j) s (Migrate ∷ h)) (sym did.entry_is) (record {
+    in_range = at.in_range;
+    log_is = at.log_is;
+    is_in = record { snapshot = refl; own_is = at.is_in.own_is };
+    began = began_stays (Install packed.node.rect packed.bytes did.done ∷ []) j s.schema h Migrate s.number s.transaction refl refl at.began;
+  }),
 )
 
 -- ---- refusals

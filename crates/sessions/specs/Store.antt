@@ -3,12 +3,13 @@ use Rattle.std.specs.Prelude.{◌≡◌, ◌⊎◌, ℕ, [], Option, Some, None,
 use Rattle.values.specs.declared.refusal.Refusal.{Refusal}
 use Rattle.values.specs.declared.refusal.Refusal.TheVariants.{NoTransaction, JournalFull, Memory}
 use Rattle.values.specs.Log.{Changes, Net}
+use Rattle.blocks.specs.Packed.{Packed}
 use Rattle.tsbtree.specs.View.{TreeState, last}
 use Rattle.staging.specs.View.{Holds}
 use Rattle.staging.specs.Own.{net_over}
 use Rattle.validation.specs.declared.cut.Cut.{Cut}
 use Rattle.journal.specs.declared.entry.Entry.{Entry}
-use Rattle.journal.specs.declared.entry.Entry.TheVariants.{Begin, Commit, Split}
+use Rattle.journal.specs.declared.entry.Entry.TheVariants.{Begin, Commit, Split, Install}
 use Rattle.sessions.specs.SessionState.{RunningState, SessionState}
 
 -- a transaction that has written nothing, by its begin's number, the entry before that it names, and its view
@@ -52,6 +53,11 @@ pub record IsCommitted (old new : SessionState) (reading number : ℕ) (e : Entr
 pub record IsSplitOf (cut : Cut) (e : Entry) : Type 0 where
   pub done : Bool
   pub entry_is : e ≡ Split cut done
+
+-- the entry holds the rectangle and the block of what was to be installed
+pub record IsInstallOf (packed : Packed) (e : Entry) : Type 0 where
+  pub done : Bool
+  pub entry_is : e ≡ Install packed.node.rect packed.bytes done
 
 -- no refusal but want of room, and that the transaction is not open at this store
 abbrev pub OnlyRoomOrNone : {T : Type 0} → Result T Refusal → Type 0

@@ -6,6 +6,7 @@ use Rattle.values.specs.declared.query.Keys.{Keys}
 use Rattle.values.specs.declared.refusal.Refusal.TheVariants.{InTransaction, NoTransaction}
 use Rattle.values.specs.Tables.{Schema}
 use Rattle.values.specs.KeyEncoding.{bytes_of_key}
+use Rattle.blocks.specs.Packed.{Packed}
 use Rattle.tsbtree.specs.View.{last as view_last}
 use Rattle.staging.specs.View.{Holds}
 use Rattle.validation.specs.declared.cut.Cut.{Cut}
@@ -13,7 +14,7 @@ use Rattle.validation.specs.declared.cut.Cut.TheVariants.{Key, Time}
 use Rattle.histories.specs.declared.step.Reply.{Reply}
 use Rattle.histories.specs.declared.step.Reply.TheVariants.{Begun, Done, Refused}
 use Rattle.histories.specs.declared.step.Step.{Step}
-use Rattle.histories.specs.declared.step.Step.TheVariants.{Begin as BeginStep, Commit as CommitStep, Rollback, Select, SplitKey, SplitTime}
+use Rattle.histories.specs.declared.step.Step.TheVariants.{Begin as BeginStep, Commit as CommitStep, Rollback, Select, SplitKey, SplitTime, Migrate}
 use Rattle.histories.specs.Misfit.{max_session, misfit}
 use Rattle.histories.specs.History.{History, begins, commit_reply, ends, is_write_of, log, reply, snap, writer}
 use Rattle.journal.specs.declared.entry.Entry.{Entry}
@@ -22,7 +23,7 @@ use Rattle.journal.specs.Entries.{Entries, entry_at, log as journal_log}
 use Rattle.book.specs.Book.{BookState, IsBook, Adds}
 use Rattle.sessions.specs.SessionState.{RunningState, SessionState, WithWrites, own_in, with_transaction, write_in}
 use Rattle.sessions.specs.OfHistory.{IsIn, seen_at}
-use Rattle.sessions.specs.Store.{IsBegun, IsCommitted, IsSplitOf}
+use Rattle.sessions.specs.Store.{IsBegun, IsCommitted, IsInstallOf, IsSplitOf}
 
 -- what the step is answered that the entry was made for
 abbrev pub entry_reply : Entry → Reply
@@ -81,6 +82,14 @@ SplitsAnswerAlike =
     (s : SessionState) (j : Entries) (h : History) (cut : Cut) (step : Step) (e : Entry)
     → IsBeside j s h → IsSplitStep cut step → misfit s.schema step ≡ None → IsSplitOf cut e
     → (entry_reply e ≡ reply s.schema h step) × IsBeside (e ∷ j) s (step ∷ h)
+
+-- an install answers what a MIGRATE does, whether its block took its place or not, and changes
+-- nothing of any session
+abbrev pub InstallsAnswerAlike : Type 0
+InstallsAnswerAlike =
+    (s : SessionState) (j : Entries) (h : History) (packed : Packed) (e : Entry)
+    → IsBeside j s h → IsInstallOf packed e
+    → (entry_reply e ≡ reply s.schema h Migrate) × IsBeside (e ∷ j) s (Migrate ∷ h)
 
 -- a BEGIN with one open and a COMMIT with none are refused as the history refuses them
 abbrev pub RefusedAlike : Type 0

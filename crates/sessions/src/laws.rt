@@ -1,6 +1,6 @@
 //! What the definitions of a session and of a store amount to.
 ghost use Rattle.sessions.specs.OfHistory.{GetsAnswerAlike, GetsAsListed, QueriesAnswerAlike, RollbacksAnswerAlike, WritesAnswerAlike, WritesLeaveAlike};
-ghost use Rattle.sessions.specs.StoreOfHistory.{BeginsAnswerAlike, CommitsAnswerAlike, OthersLeaveAlike, OwnStepsStayBeside, RefusedAlike, SplitsAnswerAlike};
+ghost use Rattle.sessions.specs.StoreOfHistory.{BeginsAnswerAlike, CommitsAnswerAlike, InstallsAnswerAlike, OthersLeaveAlike, OwnStepsStayBeside, RefusedAlike, SplitsAnswerAlike};
 
 /// A session whose view is a history's snapshot, and whose own writes are those of the history's transaction, answers what the history's replies are; after a write or a rollback it is so of the history with that step.
 pub fn sessions_answer_as_histories()
@@ -17,6 +17,7 @@ pub fn stores_answer_as_histories()
     ensures begins { BeginsAnswerAlike }
     ensures commits { CommitsAnswerAlike }
     ensures splits { SplitsAnswerAlike }
+    ensures installs { InstallsAnswerAlike }
     ensures refused { RefusedAlike }
     ensures others { OthersLeaveAlike }
     ensures own { OwnStepsStayBeside }

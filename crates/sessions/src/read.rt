@@ -26,11 +26,13 @@ impl Session {
         running.transaction.get(table, key)
     }
 
-    /// What a query of a table shows: a plain one the rows that the transaction sees, any other what was committed until its start. `NoTable`; `BadRow` where a value does not fit; `NoTransaction`.
-    pub fn select(&self, form: Form, keys: &Keys) -> Result<Listing, Refusal>
-        ensures answer { IsSelect self.now form keys.now result }
-        ensures no_memory { TakesNoMemory self.now
-            (misfit self.now.schema (Select self.now.number form keys.now)) result }
+    /// What a query of a table shows: a plain one the rows that the transaction sees, any other what was committed until its start. `NoTable`; `BadRow` where a value does not fit; `NoTransaction`. Nothing is changed
+    /// but which blocks the session keeps unpacked.
+    pub fn select(&mut self, form: Form, keys: &Keys) -> Result<Listing, Refusal>
+        ensures answer { IsSelect self.old form keys.now result }
+        ensures no_memory { TakesNoMemory self.old
+            (misfit self.old.schema (Select self.old.number form keys.now)) result }
+        ensures same { self.new ≡ self.old }
     {
         if let Some(refusal) = keys_misfit(&self.schema, self.number, keys) {
             return Err(refusal);
@@ -41,6 +43,8 @@ impl Session {
         let Some(table) = self.schema.table_at(keys.table) else {
             return Err(Refusal::NoTable);
         };
-        running.transaction.select(self.alloc, form, table, keys)
+        running
+            .transaction
+            .select(self.alloc, &mut self.cache, form, table, keys)
     }
 }

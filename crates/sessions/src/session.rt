@@ -13,6 +13,7 @@ use journal::{Begun, Receipt};
 use rows::{Instant, Refusal, Schema};
 use std::alloc::Global;
 use std::marker::Model;
+use systime_query::BlockCache;
 use transaction::OpenTransaction;
 
 /// A transaction that a session has open, and where it began.
@@ -38,6 +39,8 @@ pub struct Session {
     pub(crate) schema: Schema,
     pub(crate) receipt: u64,
     pub(crate) running: Option<Running>,
+    /// Unpacked blocks that were asked for last: no answer shows which.
+    pub(crate) cache: BlockCache,
 }
 
 impl Model for Session {
@@ -67,6 +70,7 @@ impl Session {
             schema,
             receipt: 0,
             running: None,
+            cache: BlockCache::new(alloc),
         })
     }
 

@@ -4,7 +4,7 @@ ghost use Rattle.values.specs.Memory.{OnlyMemory};
 ghost use Rattle.histories.specs.Misfit.{max_session};
 ghost use Rattle.journal.specs.Entries.{entry_at, numbers};
 ghost use Rattle.book.specs.Book.{IsBook, OnlyRoom};
-ghost use Rattle.sessions.specs.Store.{IsBegun, IsCommitted, IsSplitOf, OnlyRoomOrNone};
+ghost use Rattle.sessions.specs.Store.{IsBegun, IsCommitted, IsInstallOf, IsSplitOf, OnlyRoomOrNone};
 
 use crate::same_schema::is_same_schema;
 use crate::session::{Running, Session};
@@ -14,7 +14,7 @@ use journal::{Begun, Receipt, SharedEntry};
 use rows::{Instant, Mem, Refusal, Schema};
 use std::alloc::Global;
 use std::sync::{Mutex, Wait};
-use validation::Cut;
+use validation::{Cut, Packed};
 
 /// A store round which many threads run sessions. What its calls say they say if they return.
 #[derive(Drop)]
@@ -118,6 +118,14 @@ impl<J: StoreName> LockedStore<J> {
         ensures why { OnlyRoom result }
     {
         self.book.lock(rt).split(cut)
+    }
+
+    /// Puts a block in the place of its node, where that is in the tree unpacked: whether it was is in the receipt's entry, beside the node's rectangle and the block's bytes. `JournalFull` where no more entries may stand. After a refusal nothing has changed.
+    pub fn install<R: Wait>(&self, rt: &R, packed: Packed) -> Result<Receipt<J>, Refusal>
+        ensures install { IfOk result (λ r. IsInstallOf packed r.entry) }
+        ensures why { OnlyRoom result }
+    {
+        self.book.lock(rt).install(packed)
     }
 
     /// Closes the store where the receipts are those of its entries, one for each, in whatever order they come. It takes no memory.

@@ -10,6 +10,9 @@ returns-clause-commits c = alike.commits_answer_alike
 pub returns-clause-splits : goal.returns-clause-splits
 returns-clause-splits c = alike.splits_answer_alike
 
+pub returns-clause-installs : goal.returns-clause-installs
+returns-clause-installs c = alike.installs_answer_alike
+
 pub returns-clause-refused : goal.returns-clause-refused
 returns-clause-refused c = alike.refused_alike
 
