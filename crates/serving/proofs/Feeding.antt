@@ -6,7 +6,7 @@ use Rattle.std.proofs.lemmas.Bool.Decides.{nat_tests}
 use Rattle.std.proofs.lemmas.List.{take_more}
 use Rattle.std.specs.Io.KnownBytes.{Consumes, Keeps, IsAtEnd}
 use Rattle.std.proofs.KnownBytes.{Consumes-nil, Consumes-trans, Consumes-kept}
-use Rattle.lines.specs.Partial.{Fits, Partial, add_all, ended, has_byte, is_no_feed}
+use Rattle.lines.specs.Partial.{Partial, add_all, ended, has_byte, is_no_feed}
 use Rattle.lines.specs.Lines.{EndsLines, lines_from, lines_of}
 use Rattle.lines.proofs.Adding.{all_before, feed_behind}
 use Rattle.lines.proofs.Ending.{ends_none, ends_line, ends_join, ends_nothing}

@@ -1,5 +1,6 @@
 pub mod Feeding
 pub mod Joining
+pub mod Migrating
 pub mod Opening
 pub mod Refusing
 pub mod Starting

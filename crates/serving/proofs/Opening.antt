@@ -98,7 +98,7 @@ module _ (old new : SessionState) (n : ℕ) (e : Entry) (b : IsBegun old new n e
   }
 
   pub begin_stepped : (instant : ℕ) → instant ≡ unwrap_or (start_of new) 0 → old.transaction ≡ None
-      → IsStepped (Begin old.number) old new (record { given = Some (given_as n e); sent = Says (Begun instant) })
+      → IsStepped (Begin old.number) old new (record { given = Some (given_as n e); install = None; sent = Says (Begun instant) })
   begin_stepped instant is none = record {
     schema_is = ap (λ s. s.schema) b.session_is;
     number_is = ap (λ s. s.number) b.session_is;
@@ -110,7 +110,7 @@ module _ (old new : SessionState) (n : ℕ) (e : Entry) (b : IsBegun old new n e
 
 -- ---- the end of a transaction
 
-pub commit_stepped : (old new : SessionState) (reading n : ℕ) (e : Entry) → IsCommitted old new reading n e → IsStepped (Commit old.number 0) old new (record { given = Some (given_as n e); sent = Ending })
+pub commit_stepped : (old new : SessionState) (reading n : ℕ) (e : Entry) → IsCommitted old new reading n e → IsStepped (Commit old.number 0) old new (record { given = Some (given_as n e); install = None; sent = Ending })
 commit_stepped old new reading n e b = record {
   schema_is = ap (λ s. s.schema) b.session_is;
   number_is = ap (λ s. s.number) b.session_is;
@@ -139,7 +139,7 @@ abbrev pub rolled : Option RunningState → Reply
 rolled None = Refused NoTransaction
 rolled (Some t) = RolledBack
 
-pub rollback_stepped : (old new : SessionState) (reply : Reply) → reply ≡ rolled old.transaction → new ≡ with_transaction old None → IsStepped (Rollback old.number) old new (record { given = None; sent = Says reply })
+pub rollback_stepped : (old new : SessionState) (reply : Reply) → reply ≡ rolled old.transaction → new ≡ with_transaction old None → IsStepped (Rollback old.number) old new (record { given = None; install = None; sent = Says reply })
 rollback_stepped old new reply is left = record {
   schema_is = ap (λ s. s.schema) left;
   number_is = ap (λ s. s.number) left;
@@ -221,7 +221,7 @@ module _ (number : ℕ) (schema : Schema) (receipt : ℕ) (t : RunningState) (o 
 
 -- with a transaction open
 pub query_stepped : (s : SessionState) (form : Form) (keys : Keys) (sent : Sent) (ran : RunningState) → s.transaction ≡ Some ran → IsSentFor s form keys sent
-    → IsStepped (Select s.number form keys) s s (record { given = None; sent = sent })
+    → IsStepped (Select s.number form keys) s s (record { given = None; install = None; sent = sent })
 query_stepped s form keys sent ran there so = record {
   schema_is = refl;
   number_is = refl;
@@ -237,7 +237,7 @@ query_stepped s form keys sent ran there so = record {
 
 -- with none open: a begin, the query, and a rollback
 pub alone_stepped : (old between new : SessionState) (n : ℕ) (e : Entry) (form : Form) (keys : Keys) (sent : Sent) (b : IsBegun old between n e) → old.transaction ≡ None → IsSentFor between form keys sent
-    → new ≡ with_transaction between None → IsStepped (Select old.number form keys) old new (record { given = Some (given_as n e); sent = sent })
+    → new ≡ with_transaction between None → IsStepped (Select old.number form keys) old new (record { given = Some (given_as n e); install = None; sent = sent })
 alone_stepped old between new n e form keys sent b none so left = record {
   schema_is = ap (λ s. s.schema) left ∙ ap (λ s. s.schema) b.session_is;
   number_is = ap (λ s. s.number) left ∙ ap (λ s. s.number) b.session_is;

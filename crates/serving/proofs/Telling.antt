@@ -1,5 +1,5 @@
 -- A line that is served: what is sent for it, and what is told of it.
-use Rattle.std.proofs.Common.{◌≡◌, ◌≢◌, ℕ, List, [], ◌∷◌, ◌++◌, true, Option, Some, None, length, inl, inr, refl, sym, ap, ◌∙◌, subst}
+use Rattle.std.proofs.Common.{◌≡◌, ◌≢◌, ℕ, List, [], ◌∷◌, ◌++◌, ◌+◌, true, Option, Some, None, length, inl, inr, refl, sym, ap, ◌∙◌, subst}
 use Rattle.std.specs.Prelude.{◌⊎◌, Result, Ok, Err, OnOk, OnErr}
 use Rattle.std.proofs.KnownBytes.{Appends-nil}
 use Rattle.values.specs.declared.refusal.Refusal.{Refusal}
@@ -19,8 +19,8 @@ use Rattle.serving.specs.declared.answer.Sent.TheVariants.{Reply as Says, Ending
 use Rattle.serving.specs.declared.told.Told.{Told}
 use Rattle.serving.specs.Taken.{Given, Progress}
 use Rattle.serving.specs.Served.{Answers, IsAnswered, IsKept, IsRefusedLine, reading_takes, said}
-use Rattle.serving.specs.Serving.{AnswerState, IsAt, IsReplied, given_list, refused_of, reply_by, reply_of, sent_refusal, text_of}
-use Rattle.serving.specs.Account.{AccountState, IsBroken, Served, Writes, taken_by}
+use Rattle.serving.specs.Serving.{AnswerState, IsAt, IsReplied, given_list, given_of, taken_by, taken_of, refused_of, reply_by, reply_of, sent_refusal, text_of}
+use Rattle.serving.specs.Account.{AccountState, IsBroken, Served, Writes}
 use Rattle.serving.specs.Line.{IsBrokenStep, IsRead, IsTaken, IsTold, Sends}
 use Rattle.serving.proofs.Joining.{serves_one}
 use Rattle.serving.proofs.Refusing.{memory_or_reply, unless_is}
@@ -29,9 +29,11 @@ use Rattle.serving.proofs.Refusing.{memory_or_reply, unless_is}
 pub said_of : {A : Type 0} (r : Result A Refusal) (l x : A) (answer : Result A Refusal) → r ≡ Ok l → l ≡ x → UnlessMemory r answer → answer ≡ Ok x
 said_of r l x answer e f u = subst (λ r. UnlessMemory r answer) e u ∙ ap Ok f
 
-counted_given : (g : Option Given) → length (given_list g) ≡ taken_by g
-counted_given None = refl
-counted_given (Some g) = refl
+counted_given : (g h : Option Given) → length (given_list g ++ given_list h) ≡ taken_by g + taken_by h
+counted_given None None = refl
+counted_given None (Some h) = refl
+counted_given (Some g) None = refl
+counted_given (Some g) (Some h) = refl
 
 -- room was made, and nothing else
 pub record SameLists (a b : AccountState) : Type 0 where
@@ -79,16 +81,16 @@ module _ (line : Partial) (old : SessionState) (a m b : AccountState) (room : Sa
   }
 
   -- a step
-  kept_step : (step : Step) (given : Option Given) (sent : Sent) (p p' : Progress) → said schema i line ≡ Ok (Asks step) → IsReplied schema i step p (given_list given) (reply_by given sent) p'
-      → IsKept schema i (refused_of sent) line p (given_list given) (text_of (reply_by given sent)) p'
-  kept_step step given (Says reply) p p' is r = subst (λ s. Answers schema i s p (given_list given) (reply_text reply) p') (sym is) (record { reply = reply; taken = r; out_is = refl })
-  kept_step step given Ending p p' is r = subst (λ s. Answers schema i s p (given_list given) (text_of (reply_by given Ending)) p') (sym is) (record { reply = _; taken = r; out_is = refl })
-  kept_step step given (Denies refusal) p p' is r = record { refused = subst (λ s. IsRefusedLine schema i line s p (given_list given) refusal p') (sym is) r; out_is = refl }
+  kept_step : (step : Step) (all : List Given) (given : Option Given) (sent : Sent) (p p' : Progress) → said schema i line ≡ Ok (Asks step) → IsReplied schema i step p all (reply_by given sent) p'
+      → IsKept schema i (refused_of sent) line p all (text_of (reply_by given sent)) p'
+  kept_step step all given (Says reply) p p' is r = subst (λ s. Answers schema i s p all (reply_text reply) p') (sym is) (record { reply = reply; taken = r; out_is = refl })
+  kept_step step all given Ending p p' is r = subst (λ s. Answers schema i s p all (text_of (reply_by given Ending)) p') (sym is) (record { reply = _; taken = r; out_is = refl })
+  kept_step step all given (Denies refusal) p p' is r = record { refused = subst (λ s. IsRefusedLine schema i line s p all refusal p') (sym is) r; out_is = refl }
 
   taken_served : (new : SessionState) (step : Step) (answer : AnswerState) → said schema i line ≡ Ok (Asks step) → IsTaken step answer old new m b → Served (line ∷ []) (text_of (reply_of answer)) old new a b
   taken_served new step answer is t =
-      one new (record { taken = taken_by answer.given; refused = refused_of answer.sent }) (given_list answer.given) (text_of (reply_of answer)) t.told.told_is t.told.given_is t.stepped.schema_is t.stepped.number_is (λ p at.
-      let s = t.stepped.steps p at in (s.0, (s.1.0, record { counted = counted_given answer.given; kept = kept_step step answer.given answer.sent p s.0 is s.1.1 })))
+      one new (record { taken = taken_of answer; refused = refused_of answer.sent }) (given_of answer) (text_of (reply_of answer)) t.told.told_is t.told.given_is t.stepped.schema_is t.stepped.number_is (λ p at.
+      let s = t.stepped.steps p at in (s.0, (s.1.0, record { counted = counted_given answer.given answer.install; kept = kept_step step (given_of answer) answer.given answer.sent p s.0 is s.1.1 })))
 
   pub step_written : {E : Type 0} (r : Result (Unit {0}) E) (new : SessionState) (step : Step) (w v : Option (List ℕ)) → said schema i line ≡ Ok (Asks step) → OnOk r (Sends step old new m b w v) → OnOk r (Writes (line ∷ []) old new a b w v)
   step_written (Ok x) new step w v is s = record { out = text_of (reply_of s.answer); wrote = s.wrote; served = taken_served new step s.answer is s.taken }
@@ -122,16 +124,16 @@ module _ (line : Partial) (old : SessionState) (a m b : AccountState) (room : Sa
       by (inr f) = subst (λ s. IsKept schema i (refused_of s) line p [] (text_of (reply_by None s)) p) (sym f.1)
           (subst (λ s. Answers schema i s p [] (refusal_text refusal) p) (sym (unless_is refusal (said schema i line) f.0 read.unless)) (record { takes = refl; out_is = refl; left = refl }))
 
-  refusal_served : (refusal : Refusal) (answer : AnswerState) → answer ≡ record { given = None; sent = sent_refusal refusal } → IsRead schema i line (Err refusal) → IsTold answer m b → Served (line ∷ []) (text_of (reply_of answer)) old old a b
+  refusal_served : (refusal : Refusal) (answer : AnswerState) → answer ≡ record { given = None; install = None; sent = sent_refusal refusal } → IsRead schema i line (Err refusal) → IsTold answer m b → Served (line ∷ []) (text_of (reply_of answer)) old old a b
   refusal_served refusal answer is read told = subst (λ (x : AnswerState). IsTold x m b → Served (line ∷ []) (text_of (reply_of x)) old old a b) (sym is) (λ t.
       one old (record { taken = 0; refused = refused_of (sent_refusal refusal) }) [] (text_of (reply_by None (sent_refusal refusal))) t.told_is t.given_is refl refl (λ p at. (p, (at, record { counted = refl; kept = kept_refusal refusal p read })))) told
 
-  pub refusal_written : {E : Type 0} (r : Result (Unit {0}) E) (refusal : Refusal) (answer : AnswerState) (w v : Option (List ℕ)) → answer ≡ record { given = None; sent = sent_refusal refusal } → IsRead schema i line (Err refusal) → IsTold answer m b
+  pub refusal_written : {E : Type 0} (r : Result (Unit {0}) E) (refusal : Refusal) (answer : AnswerState) (w v : Option (List ℕ)) → answer ≡ record { given = None; install = None; sent = sent_refusal refusal } → IsRead schema i line (Err refusal) → IsTold answer m b
       → Puts w v r (text_of (reply_of answer)) → OnOk r (Writes (line ∷ []) old old a b w v)
   refusal_written (Ok x) refusal answer w v is read told puts = record { out = text_of (reply_of answer); wrote = puts; served = refusal_served refusal answer is read told }
   refusal_written (Err e) refusal answer w v is read told puts = tt
 
-  pub refusal_broken : {E : Type 0} (r : Result (Unit {0}) E) (refusal : Refusal) (answer : AnswerState) (w v : Option (List ℕ)) → answer ≡ record { given = None; sent = sent_refusal refusal } → IsRead schema i line (Err refusal) → IsTold answer m b
+  pub refusal_broken : {E : Type 0} (r : Result (Unit {0}) E) (refusal : Refusal) (answer : AnswerState) (w v : Option (List ℕ)) → answer ≡ record { given = None; install = None; sent = sent_refusal refusal } → IsRead schema i line (Err refusal) → IsTold answer m b
       → Puts w v r (text_of (reply_of answer)) → OnErr r (IsBroken (line ∷ []) old old a b w v)
   refusal_broken (Ok x) refusal answer w v is read told puts = tt
   refusal_broken (Err e) refusal answer w v is read told puts = inl (record { out = text_of (reply_of answer); wrote = puts; served = refusal_served refusal answer is read told })

@@ -59,7 +59,7 @@ module _ (number : ℕ) (schema : Schema) (receipt : ℕ) (step : Step) where
   Writes = (p : Progress) (given : List Given) (reply : Reply) (p' : Progress) → TakesWrite schema number step p given reply p' → Takes schema number step p given reply p'
 
   stepped : (t : Option RunningState) (w : Net) (result : Result ℕ Refusal) → Writes → IsWrite step (state t) (state (option_map (with_writes w) t)) result
-      → OnErr result (state (option_map (with_writes w) t) ≡ state t) → IsStepped step (state t) (state (option_map (with_writes w) t)) (record { given = None; sent = sent_for step result })
+      → OnErr result (state (option_map (with_writes w) t) ≡ state t) → IsStepped step (state t) (state (option_map (with_writes w) t)) (record { given = None; install = None; sent = sent_for step result })
   stepped t w result takes writes refused = record { schema_is = refl; number_is = refl; steps = λ p at. by result writes refused p at }
     where
       new : SessionState
@@ -92,7 +92,7 @@ module _ (number : ℕ) (schema : Schema) (receipt : ℕ) (step : Step) where
               (replied (Err r) writes (λ e. f.0 (ap refusal_in e)) p at)
 
 pub write_stepped : (step : Step) (old new : SessionState) (result : Result ℕ Refusal) → Writes old.number old.schema old.receipt step → IsWrite step old new result → WithWrites old new → OnErr result (new ≡ old)
-    → IsStepped step old new (record { given = None; sent = sent_for step result })
+    → IsStepped step old new (record { given = None; install = None; sent = sent_for step result })
 write_stepped step old new result takes writes rest refused =
-    subst (λ s. IsStepped step old s (record { given = None; sent = sent_for step result })) (sym rest.1)
+    subst (λ s. IsStepped step old s (record { given = None; install = None; sent = sent_for step result })) (sym rest.1)
     (stepped old.number old.schema old.receipt step old.transaction rest.0 result takes (subst (λ s. IsWrite step old s result) rest.1 writes) (subst (λ s. OnErr result (s ≡ old)) rest.1 refused))

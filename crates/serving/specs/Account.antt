@@ -1,5 +1,5 @@
 -- What is kept of the lines of a served session, and what serving some of them did.
-use Rattle.std.specs.Prelude.{◌≡◌, ◌⊎◌, ℕ, List, ◌++◌, Option, is_some, if◌then◌else◌}
+use Rattle.std.specs.Prelude.{◌≡◌, ◌⊎◌, ℕ, List, ◌++◌, Option}
 use Rattle.std.specs.Io.KnownBytes.{Appends, Keeps}
 use Rattle.statement.specs.Writer.{AppendsFront}
 use Rattle.lines.specs.Partial.{Partial}
@@ -15,9 +15,6 @@ pub record AccountState : Type 0 where
   pub told : List Told
   pub given : List Given
   pub room : ℕ
-
-abbrev pub taken_by : {A : Type 0} → Option A → ℕ
-taken_by receipt = if is_some receipt then 1 else 0
 
 -- some lines were served with this text: whatever the session had come to, it goes on from there
 pub record Served (lines : List Partial) (out : List ℕ) (old new : SessionState) (a b : AccountState)

@@ -11,8 +11,8 @@ use Rattle.statement.specs.Writer.{AppendsFront}
 use Rattle.lines.specs.Partial.{Partial}
 use Rattle.sessions.specs.SessionState.{SessionState}
 use Rattle.serving.specs.Served.{said, reading_takes}
-use Rattle.serving.specs.Serving.{AnswerState, IsStepped, given_list, refused_of, reply_of, text_of}
-use Rattle.serving.specs.Account.{AccountState, LeavesAll, taken_by}
+use Rattle.serving.specs.Serving.{AnswerState, IsStepped, given_of, taken_of, refused_of, reply_of, text_of}
+use Rattle.serving.specs.Account.{AccountState, LeavesAll}
 
 -- this was read of a line: memory may have run out where reading it takes some
 pub record IsRead (schema : Schema) (i : ℕ) (line : Partial) (r : Result Line Refusal) : Type 0 where
@@ -22,8 +22,8 @@ pub record IsRead (schema : Schema) (i : ℕ) (line : Partial) (r : Result Line 
 -- an answer was taken down
 pub record IsTold (answer : AnswerState) (a b : AccountState) : Type 0 where
   pub told_is : b.told
-      ≡ a.told ++ record { taken = taken_by answer.given; refused = refused_of answer.sent } ∷ []
-  pub given_is : b.given ≡ a.given ++ given_list answer.given
+      ≡ a.told ++ record { taken = taken_of answer; refused = refused_of answer.sent } ∷ []
+  pub given_is : b.given ≡ a.given ++ given_of answer
 
 -- a step was taken, and taken down
 pub record IsTaken (step : Step) (answer : AnswerState) (old new : SessionState) (a b : AccountState)

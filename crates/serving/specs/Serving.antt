@@ -1,10 +1,13 @@
 -- What a served session has come to, and what a step makes of it.
-use Rattle.std.specs.Prelude.{◌≡◌, ◌⊎◌, ℕ, List, [], ◌∷◌, Bool, Option, Some, None, Result, Ok, Err}
+use Rattle.std.specs.Option.{option_map}
+use Rattle.std.specs.Prelude.{◌≡◌, ◌⊎◌, ◌+◌, ◌++◌, ℕ, List, [], ◌∷◌, Bool, Option, Some, None, Result, Ok, Err, is_some, if◌then◌else◌}
 use Rattle.values.specs.declared.refusal.Refusal.{Refusal}
 use Rattle.values.specs.declared.refusal.Refusal.TheVariants.{Memory, JournalFull}
 use Rattle.values.specs.declared.query.Form.{Form}
 use Rattle.values.specs.declared.query.Keys.{Keys}
 use Rattle.values.specs.Tables.{Schema}
+use Rattle.values.specs.Log.{Changes}
+use Rattle.tsbtree.specs.View.{TreeState}
 use Rattle.staging.specs.View.{Holds}
 use Rattle.staging.specs.Own.{own}
 use Rattle.validation.specs.declared.cut.Cut.{Cut}
@@ -19,16 +22,27 @@ use Rattle.journal.specs.declared.entry.Entry.TheVariants.{Begin, Commit, Split,
 use Rattle.sessions.specs.SessionState.{IsSelect, RunningState, SessionState}
 use Rattle.serving.specs.declared.answer.Sent.{Sent}
 use Rattle.serving.specs.declared.answer.Sent.TheVariants.{Reply as Replies, Ending, Refused as Refuses}
-use Rattle.serving.specs.Taken.{Given, Opened, Progress, Takes, IsRefusedStep}
+use Rattle.serving.specs.Taken.{Given, IsServiceBegin, Opened, PacksFirst, Progress, Takes, IsRefusedStep}
 
--- how a step was answered: with the receipt that it took, if it took one
+-- how a step was answered: with the receipts that it took
 pub record AnswerState : Type 0 where
   pub given : Option Given
+  pub install : Option Given
   pub sent : Sent
 
 abbrev pub given_list : Option Given → List Given
 given_list None = []
 given_list (Some g) = g ∷ []
+
+-- the receipts of an answer, in order
+abbrev pub given_of : AnswerState → List Given
+given_of a = given_list a.given ++ given_list a.install
+
+abbrev pub taken_by : {A : Type 0} → Option A → ℕ
+taken_by receipt = if is_some receipt then 1 else 0
+
+abbrev pub taken_of : AnswerState → ℕ
+taken_of a = taken_by a.given + taken_by a.install
 
 -- how the commit of an entry ended
 abbrev pub ending_in : Entry → Reply
@@ -103,7 +117,7 @@ pub record IsStepped (step : Step) (old new : SessionState) (a : AnswerState) : 
   pub number_is : new.number ≡ old.number
   pub steps : (p : Progress) → IsAt old p
       → (p' : Progress)
-      × (IsAt new p' × IsReplied old.schema old.number step p (given_list a.given) (reply_of a) p')
+      × (IsAt new p' × IsReplied old.schema old.number step p (given_of a) (reply_of a) p')
 
 -- a cut was made, if it lies inside a node, and its receipt tells whether; or there was no room for it
 abbrev pub IsCutBy : Cut → Option Given → Result Reply Refusal → Type 0
@@ -111,3 +125,30 @@ IsCutBy cut None (Err refusal) = (refusal ≡ JournalFull) ⊎ (refusal ≡ Memo
 IsCutBy cut (Some g) (Ok reply) = (done : Bool) × ((g.entry ≡ Split cut done) × (reply ≡ Done))
 IsCutBy cut None (Ok reply) = ⊥
 IsCutBy cut (Some g) (Err refusal) = ⊥
+
+-- there was no room
+abbrev pub IsNoRoom : Refusal → Type 0
+IsNoRoom refusal = (refusal ≡ JournalFull) ⊎ (refusal ≡ Memory)
+
+abbrev pub MigrateEnds : TreeState → List Given → Result Reply Refusal → Type 0
+MigrateEnds view packed (Ok reply) = (reply ≡ Done) × PacksFirst view packed
+MigrateEnds view packed (Err refusal) = (packed ≡ []) × IsNoRoom refusal
+
+-- the service began, and what its begin shows was packed, or there was no room for it
+pub record Migrated (schema : Schema) (receipt : Given) (packed : List Given)
+    (reply : Result Reply Refusal) : Type 0 where
+  pub changes : Changes
+  pub view : TreeState
+  pub begins : IsServiceBegin schema changes view receipt
+  pub ends : MigrateEnds view packed reply
+
+abbrev pub IsMigrated : Schema → List Given → Result Reply Refusal → Type 0
+IsMigrated schema [] (Err refusal) = IsNoRoom refusal
+IsMigrated schema [] (Ok reply) = ⊥
+IsMigrated schema (receipt ∷ packed) reply = Migrated schema receipt packed reply
+
+-- what a begin shows was packed, or there was no room for it; where the entry is no begin nothing is said
+abbrev pub IsPackedOf : {A : Type 0} → (A → Given) → Entry → Result (Option A) Refusal → Type 0
+IsPackedOf f (Begin session earlier view) (Ok install) = PacksFirst view (given_list (option_map f install))
+IsPackedOf f (Begin session earlier view) (Err refusal) = IsNoRoom refusal
+IsPackedOf f e r = Unit {0}

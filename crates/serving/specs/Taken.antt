@@ -1,5 +1,5 @@
 -- How a step of a served session is taken: the receipts that it takes, its reply, and what it leaves.
-use Rattle.std.specs.Prelude.{◌≡◌, ℕ, List, [], ◌∷◌, Bool, true, false, Option, Some, None, Result, ◌==◌, ◌||◌, is_some, is_none, MatchOption}
+use Rattle.std.specs.Prelude.{◌≡◌, ℕ, List, [], ◌∷◌, Bool, true, false, Option, Some, None, Result, ◌==◌, ◌||◌, ◌⊎◌, is_some, is_none, MatchOption}
 use Rattle.std.specs.Option.{option_map}
 use Rattle.values.specs.declared.key.Key.{Key}
 use Rattle.values.specs.declared.table.Table.{Table}
@@ -13,6 +13,10 @@ use Rattle.values.specs.KeyEncoding.{bytes_of_key}
 use Rattle.values.specs.Log.{Changes, rows_after}
 use Rattle.values.specs.Versions.{answer}
 use Rattle.values.specs.Writes.{Own, net_of}
+use Rattle.datanode.specs.Node.{Node}
+use Rattle.blocks.specs.Block.{block_of}
+use Rattle.treenodes.specs.Node.{TreeNode, data_node}
+use Rattle.treenodes.specs.Backlog.{IsFirstWaiting, IsWaiting}
 use Rattle.tsbtree.specs.View.{TreeState, last}
 use Rattle.staging.specs.View.{Holds}
 use Rattle.staging.specs.Own.{own}
@@ -28,7 +32,7 @@ use Rattle.histories.specs.Misfit.{misfit, key_misfit}
 use Rattle.histories.specs.History.{commit_reply, rows_taken, written_reply}
 use Rattle.transaction.specs.Listing.{as_listing}
 use Rattle.journal.specs.declared.entry.Entry.{Entry}
-use Rattle.journal.specs.declared.entry.Entry.TheVariants.{Begin as Begins, Commit as Commits, Split as Splits}
+use Rattle.journal.specs.declared.entry.Entry.TheVariants.{Begin as Begins, Commit as Commits, Split as Splits, Install as Installs}
 use Rattle.sessions.specs.SessionState.{write_by}
 
 -- a receipt: an entry of the journal, and its number
@@ -76,14 +80,32 @@ pub record Replies (said : Reply) (p : Progress) (given : List Given) (reply : R
   pub reply_is : reply ≡ said
   pub left : p' ≡ p
 
-module _ (schema : Schema) (i : ℕ) where
-  -- the receipt of the session's begin, which sees these changes, and names its receipt before or none
-  pub record IsBegin (p : Progress) (m : Changes) (view : TreeState) (g : Given) : Type 0 where
-    pub earlier : ℕ
-    pub entry_is : g.entry ≡ Begins i earlier view
-    pub names : ((earlier == 0) || (earlier == p.receipt)) ≡ true
-    pub held : Holds schema view m
+-- the receipt of a session's begin, which sees these changes, and names its receipt before or none
+pub record IsBegin (schema : Schema) (i : ℕ) (p : Progress) (m : Changes) (view : TreeState)
+    (g : Given) : Type 0 where
+  pub earlier : ℕ
+  pub entry_is : g.entry ≡ Begins i earlier view
+  pub names : ((earlier == 0) || (earlier == p.receipt)) ≡ true
+  pub held : Holds schema view m
 
+-- the receipt of a begin of the service's own session, which has begun nothing before
+abbrev pub IsServiceBegin : Schema → Changes → TreeState → Given → Type 0
+IsServiceBegin schema m view g = IsBegin schema 0 (after 0 None) m view g
+
+-- the first data node of history that the view shows unpacked was packed; its receipt tells whether the block took its place
+pub record Packs (view : TreeState) (g : Given) : Type 0 where
+  pub node : Node
+  pub done : Bool
+  pub first : IsFirstWaiting view.nodes None (data_node node)
+  pub entry_is : g.entry ≡ Installs node.rect (block_of node) done
+
+-- that node was packed, where the view shows one
+abbrev pub PacksFirst : TreeState → List Given → Type 0
+PacksFirst view [] = (n : TreeNode) → IsWaiting view.nodes None n → ⊥
+PacksFirst view (g ∷ []) = Packs view g
+PacksFirst view (g ∷ h ∷ more) = ⊥
+
+module _ (schema : Schema) (i : ℕ) where
   -- BEGIN with none open
   pub record TakesBegin (p : Progress) (given : List Given) (reply : Reply) (p' : Progress) : Type 0
     where
@@ -91,7 +113,7 @@ module _ (schema : Schema) (i : ℕ) where
       pub changes : Changes
       pub view : TreeState
       pub takes : given ≡ receipt ∷ []
-      pub begins : IsBegin p changes view receipt
+      pub begins : IsBegin schema i p changes view receipt
       pub reply_is : reply ≡ Begun (last view)
       pub left : p' ≡ after receipt.number (Some (opened receipt.number changes))
 
@@ -112,7 +134,7 @@ module _ (schema : Schema) (i : ℕ) where
     pub changes : Changes
     pub view : TreeState
     pub takes : given ≡ receipt ∷ []
-    pub begins : IsBegin p changes view receipt
+    pub begins : IsBegin schema i p changes view receipt
     pub reply_is : reply ≡ query changes (own changes []) form keys
     pub left : p' ≡ after receipt.number None
 
@@ -153,6 +175,19 @@ module _ (schema : Schema) (i : ℕ) where
     | None ↦ TakesSplit cut p given reply p'
   ]
 
+  -- MIGRATE: a begin of the service's own session, and the install of the first data node of history that it shows unpacked
+  pub record TakesMigrate (p : Progress) (given : List Given) (reply : Reply) (p' : Progress)
+      : Type 0 where
+    pub receipt : Given
+    pub packed : List Given
+    pub changes : Changes
+    pub view : TreeState
+    pub takes : given ≡ receipt ∷ packed
+    pub begins : IsServiceBegin schema changes view receipt
+    pub packs : PacksFirst view packed
+    pub reply_is : reply ≡ Done
+    pub left : p' ≡ p
+
   -- how a step of the session is taken
   abbrev pub Takes : Step → Progress → List Given → Reply → Progress → Type 0
   Takes (Begin j) p given reply p' = MatchOption p.transaction
@@ -173,7 +208,7 @@ module _ (schema : Schema) (i : ℕ) where
   Takes (SplitKey key) p given reply p' = takes_split key (KeyCut (bytes_of_key key)) p given reply p'
   Takes (SplitTime key instant) p given reply p' =
       takes_split key (TimeCut (bytes_of_key key) instant) p given reply p'
-  Takes Migrate p given reply p' = Replies Done p given reply p'
+  Takes Migrate p given reply p' = TakesMigrate p given reply p'
 
   -- the step asks the store for an entry
   abbrev pub asks_store : Step → Option Opened → Bool
@@ -182,6 +217,7 @@ module _ (schema : Schema) (i : ℕ) where
   asks_store (Commit j reading) t = is_some t
   asks_store (SplitKey key) t = true
   asks_store (SplitTime key instant) t = true
+  asks_store Migrate t = true
   asks_store step t = false
 
   -- what the store may refuse a step for, beside want of memory: a full journal, and a COMMIT also for a transaction that is not open there
@@ -205,10 +241,28 @@ module _ (schema : Schema) (i : ℕ) where
     pub changes : Changes
     pub view : TreeState
     pub takes : given ≡ receipt ∷ []
-    pub begins : IsBegin p changes view receipt
+    pub begins : IsBegin schema i p changes view receipt
     pub refusal_is : refusal ≡ Memory
     pub left : p' ≡ after receipt.number None
 
+  -- a MIGRATE began, and there was no room for the block or for its entry
+  pub record IsLeftUnpacked (p : Progress) (given : List Given) (refusal : Refusal) (p' : Progress)
+      : Type 0 where
+    pub receipt : Given
+    pub changes : Changes
+    pub view : TreeState
+    pub takes : given ≡ receipt ∷ []
+    pub begins : IsServiceBegin schema changes view receipt
+    pub why : (refusal ≡ JournalFull) ⊎ (refusal ≡ Memory)
+    pub left : p' ≡ p
+
+  -- a step is refused after a receipt was taken
+  abbrev pub IsLeft : Step → Progress → List Given → Refusal → Progress → Type 0
+  IsLeft (Select j form keys) p given refusal p' =
+      (p.transaction ≡ None) × IsLeftUnread p given refusal p'
+  IsLeft Migrate p given refusal p' = IsLeftUnpacked p given refusal p'
+  IsLeft step p given refusal p' = ⊥
+
   abbrev pub IsRefusedStep : Step → Progress → List Given → Refusal → Progress → Type 0
-  IsRefusedStep step p (g ∷ given) refusal p' = (p.transaction ≡ None) × IsLeftUnread p (g ∷ given) refusal p'
+  IsRefusedStep step p (g ∷ given) refusal p' = IsLeft step p (g ∷ given) refusal p'
   IsRefusedStep step p [] refusal p' = IsTurnedAway step p [] refusal p'

@@ -1,7 +1,6 @@
 //! What is kept of the lines of a served session.
-ghost use Rattle.std.specs.Prelude.{◌≡◌, ◌<◌, ◌++◌, ◌∷◌, [], IfOk, OnOk, length};
+ghost use Rattle.std.specs.Prelude.{◌≡◌, ◌<◌, ◌+◌, ◌++◌, ◌∷◌, [], IfOk, OnOk, length};
 ghost use Rattle.values.specs.Memory.{OnlyMemory};
-ghost use Rattle.serving.specs.Account.{taken_by};
 
 use crate::told::Told;
 use growlog::StoreName;
@@ -27,14 +26,14 @@ impl<J: StoreName> Model for Account<J> {
       told = a.told.items;
       given = map (λ r. record { number = r.number; entry = r.entry }) a.receipts.items;
       room = min (vec_capacity a.told - vec_len a.told)
-          (vec_capacity a.receipts - vec_len a.receipts);
+          (vec_capacity a.receipts - vec_len a.receipts - 1);
     } };
 }
 
 impl<J: StoreName> Account<J> {
     ghost use Rattle.std.specs.Prelude.{map};
     ghost use Rattle.std.specs.Option.{option_map};
-    ghost use Rattle.serving.specs.Serving.{given_list};
+    ghost use Rattle.serving.specs.Serving.{given_list, taken_by};
 
     /// Of no lines.
     pub(crate) fn new(alloc: Global) -> Account<J>
@@ -47,7 +46,7 @@ impl<J: StoreName> Account<J> {
         }
     }
 
-    /// Makes room for one more line.
+    /// Makes room for one more line, which takes at most two receipts.
     pub(crate) fn reserve(&mut self) -> Mem<()>
         ensures ok { OnOk result (0 < self.new.room) }
         ensures told { self.new.told ≡ self.old.told }
@@ -55,25 +54,34 @@ impl<J: StoreName> Account<J> {
         ensures memory { OnlyMemory result }
     {
         self.told.reserve(1)?;
-        self.receipts.reserve(1)?;
+        self.receipts.reserve(2)?;
         Ok(())
     }
 
-    /// Takes down a line: the receipt that it took, if it took one, and why it was refused for want of room, if it was.
-    pub(crate) fn note(&mut self, receipt: Option<Receipt<J>>, refused: Option<Refusal>)
+    /// Takes down a line: the receipts that it took, and why it was refused for want of room, if it was.
+    pub(crate) fn note(
+        &mut self,
+        receipt: Option<Receipt<J>>,
+        install: Option<Receipt<J>>,
+        refused: Option<Refusal>,
+    )
         requires { 0 < self.old.room }
-        ensures told { self.new.told
-            ≡ self.old.told ++ record { taken = taken_by receipt; refused = refused } ∷ [] }
-        ensures given { self.new.given ≡ self.old.given ++ given_list
-            (option_map (λ r. record { number = r.number; entry = r.entry }) receipt) }
+        ensures told { self.new.told ≡ self.old.told
+            ++ record { taken = taken_by receipt + taken_by install; refused = refused } ∷ [] }
+        ensures given { self.new.given ≡ self.old.given
+            ++ (given_list (option_map (λ r. record { number = r.number; entry = r.entry }) receipt)
+            ++ given_list (option_map (λ r. record { number = r.number; entry = r.entry }) install)) }
     {
-        match receipt {
-            Some(receipt) => {
-                self.told.push_reserved(Told { taken: 1, refused });
-                self.receipts.push_reserved(receipt);
-            }
-            None => self.told.push_reserved(Told { taken: 0, refused }),
+        let mut taken = 0;
+        if let Some(receipt) = receipt {
+            self.receipts.push_reserved(receipt);
+            taken += 1;
         }
+        if let Some(install) = install {
+            self.receipts.push_reserved(install);
+            taken += 1;
+        }
+        self.told.push_reserved(Told { taken, refused });
     }
 
     /// The receipts, and what is told of each line.

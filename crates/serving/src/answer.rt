@@ -23,10 +23,11 @@ pub(crate) enum Sent {
     Refused(Refusal),
 }
 
-/// How a step was answered, with the receipt that it took, if it took one.
+/// How a step was answered, with the receipts that it took: that of a call of the store, if it made one, and then that of an install.
 #[derive(Drop)]
 pub(crate) struct Answer<J: StoreName> {
     pub(crate) receipt: Option<Receipt<J>>,
+    pub(crate) install: Option<Receipt<J>>,
     pub(crate) sent: Sent,
 }
 
@@ -38,46 +39,70 @@ impl<J: StoreName> Model for Answer<J> {
 
     ghost view = { λ a. record {
       given = option_map (λ r. record { number = r.number; entry = r.entry }) a.receipt;
+      install = option_map (λ r. record { number = r.number; entry = r.entry }) a.install;
       sent = a.sent;
     } };
 }
 
 impl<J: StoreName> Answer<J> {
-    ghost use Rattle.std.specs.Prelude.{None};
+    ghost use Rattle.std.specs.Prelude.{None, Some};
     ghost use Rattle.std.specs.Option.{option_map};
     ghost use Rattle.serving.specs.Serving.{refused_of, reply_of, text_of};
 
     /// A reply with no receipt.
     pub(crate) fn reply(reply: Reply) -> Answer<J>
-        ensures { result ≡ record { given = None; sent = Sent.Reply reply } }
+        ensures { result ≡ record { given = None; install = None; sent = Sent.Reply reply } }
     {
         Answer {
             receipt: None,
+            install: None,
             sent: Sent::Reply(reply),
         }
     }
 
     /// A refusal with no receipt.
     pub(crate) fn refused(refusal: Refusal) -> Answer<J>
-        ensures { result ≡ record { given = None; sent = Sent.Refused refusal } }
+        ensures { result ≡ record { given = None; install = None; sent = Sent.Refused refusal } }
     {
         Answer {
             receipt: None,
+            install: None,
             sent: Sent::Refused(refusal),
         }
     }
 
-    /// The receipt, and why the step was refused, if it was.
-    pub(crate) fn into_parts(self) -> (Option<Receipt<J>>, Option<Refusal>)
+    /// A reply with one receipt.
+    pub(crate) fn with_receipt(receipt: Receipt<J>, sent: Sent) -> Answer<J>
+        ensures { result ≡ record {
+          given = Some (record { number = receipt.number; entry = receipt.entry });
+          install = None;
+          sent = sent;
+        } }
+    {
+        Answer {
+            receipt: Some(receipt),
+            install: None,
+            sent,
+        }
+    }
+
+    /// The receipts, and why the step was refused, if it was.
+    pub(crate) fn into_parts(self) -> (Option<Receipt<J>>, Option<Receipt<J>>, Option<Refusal>)
         ensures receipt { option_map (λ r. record { number = r.number; entry = r.entry }) result.0
             ≡ self.given }
-        ensures refused { result.1 ≡ refused_of self.sent }
+        ensures install { option_map (λ r. record { number = r.number; entry = r.entry }) result.1
+            ≡ self.install }
+        ensures refused { result.2 ≡ refused_of self.sent }
     {
-        let Answer { receipt, sent } = self;
+        let Answer {
+            receipt,
+            install,
+            sent,
+        } = self;
         match sent {
-            Sent::Refused(refusal) => (receipt, Some(refusal)),
-            Sent::Reply(_) => (receipt, None),
-            Sent::Ending => (receipt, None),
+            Sent::Refused(refusal) => (receipt, install, Some(refusal)),
+            Sent::Reply(_) => (receipt, install, None),
+            Sent::Ending => (receipt, install, None),
         }
     }
 

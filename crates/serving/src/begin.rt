@@ -23,10 +23,10 @@ pub(crate) fn take_begin<J: StoreName, R: Wait>(
         return Answer::reply(Reply::Refused(Refusal::InTransaction));
     }
     match store.begin(rt, session) {
-        Ok(receipt) => Answer {
-            receipt: Some(receipt),
-            sent: Sent::Reply(Reply::Begun(session.start().unwrap_or(0))),
-        },
+        Ok(receipt) => {
+            let instant = session.start().unwrap_or(0);
+            Answer::with_receipt(receipt, Sent::Reply(Reply::Begun(instant)))
+        }
         Err(refusal) => Answer::refused(refusal),
     }
 }

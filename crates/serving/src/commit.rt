@@ -4,7 +4,7 @@ ghost use Rattle.histories.specs.declared.step.Step.TheVariants.{Commit, Rollbac
 ghost use Rattle.serving.specs.Serving.{IsStepped};
 
 use crate::answer::{Answer, Sent};
-use crate::gate::Readings;
+use crate::readings::Readings;
 use growlog::StoreName;
 use histories::Reply;
 use rows::Refusal;
@@ -25,10 +25,7 @@ pub(crate) fn take_commit<J: StoreName, R: Wait, C: Readings>(
         return Answer::reply(Reply::Refused(Refusal::NoTransaction));
     }
     match store.commit(rt, session, readings.reading()) {
-        Ok(receipt) => Answer {
-            receipt: Some(receipt),
-            sent: Sent::Ending,
-        },
+        Ok(receipt) => Answer::with_receipt(receipt, Sent::Ending),
         Err(refusal) => Answer::refused(refusal),
     }
 }

@@ -5,8 +5,9 @@ mod account;
 mod answer;
 mod begin;
 mod commit;
-mod gate;
+mod migrate;
 mod read;
+mod readings;
 mod serve;
 mod serve_line;
 mod service;
@@ -15,6 +16,6 @@ mod step;
 mod told;
 mod write;
 
-pub use gate::{Gate, Place, Readings};
+pub use readings::Readings;
 pub use serve::serve_session;
 pub use told::{End, Served, Told};

@@ -25,6 +25,7 @@ pub(crate) fn take_query<J: StoreName, R: Wait>(
     if session.start().is_some() {
         return Answer {
             receipt: None,
+            install: None,
             sent: listed(session.select(form, keys)),
         };
     }
@@ -33,10 +34,7 @@ pub(crate) fn take_query<J: StoreName, R: Wait>(
         Err(refusal) => return Answer::refused(refusal),
     };
     let sent = read_and_roll_back(session, form, keys);
-    Answer {
-        receipt: Some(receipt),
-        sent,
-    }
+    Answer::with_receipt(receipt, sent)
 }
 
 /// What a query shows in the open transaction, which then ends with no trace.

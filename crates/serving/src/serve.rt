@@ -9,10 +9,11 @@ ghost use Rattle.serving.specs.Served.{IsServed, IsServedInPart};
 ghost use Rattle.serving.specs.Taken.{after};
 
 use crate::account::Account;
-use crate::gate::{Gate, Readings};
+use crate::readings::Readings;
 use crate::serve_line::serve_line;
 use crate::service::Service;
 use crate::told::{End, Served};
+use gate::Gate;
 use growlog::StoreName;
 use lines::{LineBuffer, line_length};
 use sessions::{LockedStore, Session};

@@ -7,11 +7,12 @@ ghost use Rattle.serving.specs.Serving.{reply_of, text_of};
 
 use crate::account::Account;
 use crate::answer::Answer;
-use crate::gate::{Gate, Place, Readings};
+use crate::readings::Readings;
 use crate::service::Service;
 use crate::step::take_step;
 use crate::told::End;
 use crate::write::refused_write;
+use gate::{Gate, Place};
 use growlog::StoreName;
 use histories::Step;
 use lines::LineBuffer;
@@ -22,7 +23,7 @@ use std::alloc::Global;
 use std::io::Write;
 use std::sync::Wait;
 
-/// Serves a line: its step is taken, and what is sent for it written. A query first passes the gate, and a commit passes it when its reply is written.
+/// Serves a line: its step is taken, and what is sent for it written. A query first passes the gate, and a commit that ended a transaction passes it when its reply is written.
 pub(crate) fn serve_line<J: StoreName, R: Wait, C: Readings, G: Gate, W: Write>(
     service: &Service<'_, J, R, G>,
     readings: &mut C,
@@ -43,11 +44,11 @@ pub(crate) fn serve_line<J: StoreName, R: Wait, C: Readings, G: Gate, W: Write>(
     }
     match read(service.alloc, session, line) {
         Ok(Line::Nothing) => {
-            account.note(None, None);
+            account.note(None, None, None);
             Ok(())
         }
         Ok(Line::Clock(_)) => {
-            account.note(None, None);
+            account.note(None, None, None);
             Ok(())
         }
         Ok(Line::Step(step)) => { serve_step(service, readings, session, account, writer, &step) }
@@ -93,8 +94,9 @@ fn serve_step<J: StoreName, R: Wait, C: Readings, G: Gate, W: Write>(
         readings,
         step,
     );
+    let ended = is_commit(step) && answer.receipt.is_some();
     tell(account, writer, answer)?;
-    if is_commit(step)
+    if ended
         && !service
             .gate
             .pass(service.rt, session.number(), Place::Committed)
@@ -125,8 +127,8 @@ fn tell<J: StoreName, W: Write>(
     ensures why { IfErr result (λ e. e ≢ End.Closed) }
 {
     let wrote = answer.print(writer);
-    let (receipt, refused) = answer.into_parts();
-    account.note(receipt, refused);
+    let (receipt, install, refused) = answer.into_parts();
+    account.note(receipt, install, refused);
     match wrote {
         Ok(()) => Ok(()),
         Err(_) => Err(End::Write),

@@ -1,5 +1,5 @@
 //! What a session is served with.
-use crate::gate::Gate;
+use gate::Gate;
 use growlog::StoreName;
 use sessions::LockedStore;
 use std::alloc::Global;

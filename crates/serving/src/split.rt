@@ -56,13 +56,11 @@ pub(crate) fn take_time_split<J: StoreName, R: Wait>(
 }
 
 fn split<J: StoreName, R: Wait>(rt: &R, store: &LockedStore<J>, cut: Cut) -> Answer<J>
-    ensures { IsCutBy cut result.given (reply_of result) }
+    ensures given { IsCutBy cut result.given (reply_of result) }
+    ensures alone { result.install ≡ None }
 {
     match store.split(rt, cut) {
-        Ok(receipt) => Answer {
-            receipt: Some(receipt),
-            sent: Sent::Reply(Reply::Done),
-        },
+        Ok(receipt) => Answer::with_receipt(receipt, Sent::Reply(Reply::Done)),
         Err(refusal) => Answer::refused(refusal),
     }
 }

@@ -5,12 +5,13 @@ ghost use Rattle.serving.specs.Serving.{IsStepped};
 use crate::answer::Answer;
 use crate::begin::take_begin;
 use crate::commit::{take_commit, take_rollback};
-use crate::gate::Readings;
+use crate::migrate::take_migrate;
 use crate::read::take_query;
+use crate::readings::Readings;
 use crate::split::{take_key_split, take_time_split};
 use crate::write::{take_delete, take_insert, take_update};
 use growlog::StoreName;
-use histories::{Reply, Step};
+use histories::Step;
 use sessions::{LockedStore, Session};
 use std::alloc::Global;
 use std::sync::Wait;
@@ -37,6 +38,6 @@ pub(crate) fn take_step<J: StoreName, R: Wait, C: Readings>(
         Step::Rollback(_) => take_rollback(session),
         Step::SplitKey(key) => take_key_split(rt, alloc, store, session, key),
         Step::SplitTime(key, instant) => take_time_split(rt, alloc, store, session, key, *instant),
-        Step::Migrate => Answer::reply(Reply::Done),
+        Step::Migrate => take_migrate(rt, alloc, store, session),
     }
 }

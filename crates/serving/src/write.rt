@@ -45,7 +45,7 @@ pub(crate) fn take_delete<J: StoreName>(session: &mut Session, keys: &Keys) -> A
 
 /// A refusal of the definitions, or that memory ran out.
 pub(crate) fn refused_write<J: StoreName>(refusal: Refusal) -> Answer<J>
-    ensures { result ≡ record { given = None; sent = sent_refusal refusal } }
+    ensures { result ≡ record { given = None; install = None; sent = sent_refusal refusal } }
 {
     match refusal {
         Refusal::Memory => Answer::refused(Refusal::Memory),

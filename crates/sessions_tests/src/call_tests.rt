@@ -32,7 +32,7 @@ fn write_all(rt: &impl Abort, alloc: Global, session: &mut Session) -> (bool, us
     (seen, count(rt, alloc, session))
 }
 
-fn refuses_select(alloc: Global, session: &Session) -> bool {
+fn refuses_select(alloc: Global, session: &mut Session) -> bool {
     let shown = session.select(Form::Plain, &Keys::all(alloc, 1));
     matches!(shown, Err(Refusal::NoTransaction))
 }

@@ -119,7 +119,7 @@ pub(crate) fn count_in(listing: &Listing) -> usize {
 }
 
 /// How many employees the session sees.
-pub(crate) fn count(rt: &impl Abort, alloc: Global, session: &Session) -> usize {
+pub(crate) fn count(rt: &impl Abort, alloc: Global, session: &mut Session) -> usize {
     let listing = session.select(Form::Plain, &Keys::all(alloc, 1));
     count_in(&listing.expect(rt, "they are listed"))
 }

@@ -1,6 +1,7 @@
 //! How served sessions end, and what is kept then.
 use crate::served::{Cut, Door, Pipe, assert_ended, assert_sent, summary_of};
-use serving::{End, Place};
+use gate::Place;
+use serving::End;
 use std::alloc::Global;
 
 const HIRE: &[u8] = b"BEGIN\nINSERT INTO emp VALUES (1, 'Ann')\nCOMMIT\nSELECT * FROM emp\n";

@@ -10,6 +10,8 @@ mod desk;
 #[cfg(test)]
 mod end_tests;
 #[cfg(test)]
+mod install_tests;
+#[cfg(test)]
 mod line_tests;
 #[cfg(test)]
 mod run_tests;

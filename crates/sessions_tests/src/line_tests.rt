@@ -54,8 +54,34 @@ fn a_line_that_is_too_long_is_refused_and_the_next_is_read(rt: HostRuntime) {
 }
 
 #[test]
-fn splits_take_receipts_and_a_migration_takes_none(rt: HostRuntime) {
+fn splits_take_receipts_and_so_does_a_migration(rt: HostRuntime) {
     let text = "SPLIT: KEY emp (5)\nSPLIT: TIME emp (1) AT 3\nMIGRATE:\nSPLIT: KEY emp ('x')\n";
     let replies = "ok\nok\nok\nE3 bad row at column 1\n";
-    assert_sent(&rt, rt.alloc(), text, replies, 4, 2);
+    assert_sent(&rt, rt.alloc(), text, replies, 4, 3);
+}
+
+#[test]
+fn a_migration_has_a_second_receipt_where_there_is_history_to_pack(rt: HostRuntime) {
+    let text = "BEGIN\n\
+        INSERT INTO emp VALUES (1, 'a')\n\
+        COMMIT\n\
+        BEGIN\n\
+        UPDATE emp SET name = 'b' WHERE no = 1\n\
+        COMMIT\n\
+        SPLIT: TIME emp (1) AT 11\n\
+        MIGRATE:\n\
+        MIGRATE:\n\
+        SELECT * FROM emp FOR SYSTEM_TIME AS OF 10\n";
+    let replies = "begun 0\n\
+        inserted 1\n\
+        committed 10\n\
+        begun 10\n\
+        updated 1\n\
+        committed 11\n\
+        ok\n\
+        ok\n\
+        ok\n\
+        rows 1\n\
+        (1, 'a')\n";
+    assert_sent(&rt, rt.alloc(), text, replies, 10, 9);
 }

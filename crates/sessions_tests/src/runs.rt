@@ -8,6 +8,7 @@ use sessions::{LockedStore, Session};
 use std::alloc::Global;
 use std::process::Abort;
 use std::sync::Wait;
+use systime_query::BlockCache;
 use transaction::listing_of;
 
 /// How many transactions went as they should, and how many were committed.
@@ -180,7 +181,14 @@ pub(crate) struct Audit {
 fn audited(rt: &impl Abort, alloc: Global, closed: &Closed) -> Audit {
     let view = closed.tree().current();
     let table = Table::sample(alloc).expect(rt, "there is memory");
-    let listing = listing_of(alloc, view, Form::Plain, &table, &Keys::all(alloc, 1));
+    let listing = listing_of(
+        alloc,
+        &mut BlockCache::new(alloc),
+        view,
+        Form::Plain,
+        &table,
+        &Keys::all(alloc, 1),
+    );
     Audit {
         entries: closed.entries(),
         employees: count_in(&listing.expect(rt, "they are listed")),

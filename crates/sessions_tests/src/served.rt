@@ -2,10 +2,11 @@
 ghost use Rattle.std.specs.Prelude.{◌≡◌};
 
 use crate::runs::entries_with;
+use gate::{Gate, Place};
 use growlog::{NewLog, StoreName};
 use journal::SharedEntry;
 use rows::{Instant, Schema};
-use serving::{End, Gate, Place, Readings, Told, serve_session};
+use serving::{End, Readings, Told, serve_session};
 use sessions::LockedStore;
 use std::alloc::Global;
 use std::io;

@@ -30,10 +30,10 @@ fn seen_before_and_after<J: StoreName, R: Abort + Wait>(
     requires tables { schema ≡ J.schema }
 {
     let store = LockedStore::<J>::new(alloc, schema, opened).expect(rt, "there is memory");
-    let before = begun(rt, alloc, &store, 1);
+    let mut before = begun(rt, alloc, &store, 1);
     hire(rt, alloc, &store, 2);
-    let after = begun(rt, alloc, &store, 3);
-    (count(rt, alloc, &before), count(rt, alloc, &after))
+    let mut after = begun(rt, alloc, &store, 3);
+    (count(rt, alloc, &mut before), count(rt, alloc, &mut after))
 }
 
 #[test]

@@ -142,7 +142,7 @@ fn hire_and_count<J: StoreName, R: Abort + Wait>(
     insert(rt, alloc, &mut session, 1, "Ann");
     let _done = store.commit(rt, &mut session, 0).expect(rt, "it ends");
     let _again = store.begin(rt, &mut session).expect(rt, "it begins again");
-    count(rt, alloc, &session)
+    count(rt, alloc, &mut session)
 }
 
 /// How many employees two sessions see: one that began before the other committed an employee, and is read in a thread
@@ -151,11 +151,11 @@ fn count_in_threads<J: StoreName, R: Abort + Threads + Wait + Sync>(
     rt: &R,
     alloc: Global,
     store: &LockedStore<J>,
-    before: Session,
+    mut before: Session,
 ) -> (usize, usize) {
     thread::scope(thread::scope_env(), rt, |scope| {
         let after = scope.spawn(move || hire_and_count(rt, alloc, store));
-        let before = scope.spawn(move || count(rt, alloc, &before));
+        let before = scope.spawn(move || count(rt, alloc, &mut before));
         let after = after.expect(rt, "a thread starts").join(rt);
         (before.expect(rt, "a thread starts").join(rt), after)
     })

@@ -1,13 +1,17 @@
-use Rattle.std.proofs.Common.{sym, ap, ◌∙◌}
+use Rattle.std.proofs.Common.{None, sym, ap, subst, ◌∙◌}
 use Rattle.std.specs.Option.{is_some}
+use Rattle.histories.specs.declared.step.Step.TheVariants.{Select}
+use Rattle.sessions.specs.SessionState.{SessionState}
+use Rattle.serving.specs.Serving.{IsStepped}
 use Rattle.serving.proofs.Opening.{query_stepped, alone_stepped, is_running, not_open}
 use Rattle.serving.proofs.read.take_query.Goals as goal
 
 pub returns-then-is_some : goal.returns-then-is_some
 returns-then-is_some g c =
     let t = is_running c.args.session.now (ap is_some (sym c.start.ensures) ∙ sym c.is_some.ensures ∙ c.if-is_some.true) in
-    query_stepped c.args.session.now c.args.form c.args.keys.now c.listed.result t.0 t.1 (c.select.result, (c.select.ensures.answer, c.listed.ensures))
+    subst (λ (s : SessionState). IsStepped (Select c.args.session.now.number c.args.form c.args.keys.now) c.args.session.now s (record { given = None; install = None; sent = c.listed.result })) (sym c.select.ensures.same)
+    (query_stepped c.args.session.now c.args.form c.args.keys.now c.listed.result t.0 t.1 (c.select.result, (c.select.ensures.answer, c.listed.ensures)))
 
 pub returns : goal.returns
-returns g c = alone_stepped c.args.session.now c.begin.new.session c.read_and_roll_back-sent.new.session c.in-Ok.receipt.number c.in-Ok.receipt.entry c.args.form c.args.keys.now c.read_and_roll_back-sent.result c.in-Ok.ensures.begun
-    (not_open c.args.session.now (ap is_some (sym c.start.ensures) ∙ sym c.is_some.ensures ∙ c.if-is_some.false)) c.read_and_roll_back-sent.ensures.sent c.read_and_roll_back-sent.ensures.left
+returns g c = rw c.with_receipt.ensures (alone_stepped c.args.session.now c.begin.new.session c.read_and_roll_back-sent.new.session c.in-Ok.receipt.number c.in-Ok.receipt.entry c.args.form c.args.keys.now c.read_and_roll_back-sent.result c.in-Ok.ensures.begun
+    (not_open c.args.session.now (ap is_some (sym c.start.ensures) ∙ sym c.is_some.ensures ∙ c.if-is_some.false)) c.read_and_roll_back-sent.ensures.sent c.read_and_roll_back-sent.ensures.left)

@@ -1,0 +1,70 @@
+//! MIGRATE.
+ghost use Rattle.std.specs.Prelude.{◌≡◌};
+ghost use Rattle.histories.specs.declared.step.Step.TheVariants.{Migrate};
+ghost use Rattle.serving.specs.Serving.{IsMigrated, IsPackedOf, IsStepped, given_of, reply_of};
+
+use crate::answer::{Answer, Sent};
+use growlog::StoreName;
+use histories::Reply;
+use journal::{Entry, Receipt};
+use rows::Refusal;
+use sessions::{LockedStore, Session};
+use std::alloc::Global;
+use std::sync::Wait;
+use validation::{find_job, pack_job};
+
+/// Packs the first data node of history that a begin of the service's own session shows unpacked, where there is one. It is nothing to the session that asks.
+pub(crate) fn take_migrate<J: StoreName, R: Wait>(
+    rt: &R,
+    alloc: Global,
+    store: &LockedStore<J>,
+    session: &mut Session,
+) -> Answer<J>
+    requires { session.old.schema ≡ J.schema }
+    ensures { IsStepped Migrate session.old session.new result }
+{
+    migrate(rt, alloc, store)
+}
+
+/// Begins for the service, and packs what its begin shows.
+fn migrate<J: StoreName, R: Wait>(rt: &R, alloc: Global, store: &LockedStore<J>) -> Answer<J>
+    ensures { IsMigrated J.schema (given_of result) (reply_of result) }
+{
+    let mut service = match store.session(alloc, 0) {
+        Ok(service) => service,
+        Err(refusal) => return Answer::refused(refusal),
+    };
+    let receipt = match store.begin(rt, &mut service) {
+        Ok(receipt) => receipt,
+        Err(refusal) => return Answer::refused(refusal),
+    };
+    match pack_first(rt, alloc, store, &receipt) {
+        Ok(install) => Answer {
+            receipt: Some(receipt),
+            install,
+            sent: Sent::Reply(Reply::Done),
+        },
+        Err(refusal) => Answer::with_receipt(receipt, Sent::Refused(refusal)),
+    }
+}
+
+/// Packs the first data node of history that the begin of a receipt shows unpacked, where there is one, and installs it.
+fn pack_first<J: StoreName, R: Wait>(
+    rt: &R,
+    alloc: Global,
+    store: &LockedStore<J>,
+    receipt: &Receipt<J>,
+) -> Result<Option<Receipt<J>>, Refusal>
+    ensures { IsPackedOf (λ r. record { number = r.number; entry = r.entry }) receipt.now.entry result }
+{
+    let Entry::Begin { view, .. } = receipt.entry.entry() else {
+        return Ok(None);
+    };
+    match find_job(view, None)? {
+        None => Ok(None),
+        Some(job) => {
+            let packed = pack_job(alloc, job)?;
+            Ok(Some(store.install(rt, packed)?))
+        }
+    }
+}

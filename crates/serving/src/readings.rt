@@ -1,0 +1,8 @@
+//! The readings of the clock, which the one who serves hands in.
+use values::Instant;
+
+/// Readings of the clock.
+pub trait Readings {
+    /// The reading for the next commit.
+    fn reading(&mut self) -> Instant;
+}
