@@ -1,0 +1,5 @@
+use Rattle.migrator.proofs.Steps.{begins}
+use Rattle.migrator.proofs.round.Round.new.Goals as goal
+
+pub returns : goal.returns
+returns g c = begins g.N.RoundName.begin g.N.RoundName.shown c.new.result _ c.new.ensures c.requires

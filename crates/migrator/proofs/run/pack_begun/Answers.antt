@@ -1,0 +1,5 @@
+use Rattle.migrator.proofs.Begun.{part_alone}
+use Rattle.migrator.proofs.run.pack_begun.Goals as goal
+
+pub returns-in-Err-clause-part : goal.returns-in-Err-clause-part
+returns-in-Err-clause-part g c = part_alone _

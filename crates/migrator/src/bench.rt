@@ -1,0 +1,95 @@
+//! The workers, and the channels between them and the round.
+use crate::fault::Cause;
+use crate::name::RoundName;
+use crate::task::{Done, Task};
+use crossbeam_channel::{Receiver, Sender};
+use gate::{Gate, Place};
+use std::alloc::{AllocError, Global};
+use std::sync::Wait;
+
+/// What a worker answers: what it has packed, or why it has not, and then it has ended.
+pub(crate) type Answer<N> = Result<Done<N>, Cause>;
+
+/// The round's ends of the channels.
+#[derive(Drop)]
+pub(crate) struct Desk<N: RoundName> {
+    pub(crate) tasks: Sender<Task<N>, Global>,
+    pub(crate) answers: Receiver<Answer<N>, Global>,
+}
+
+impl<N: RoundName> Desk<N> {
+    /// Why all workers have ended, where no task can be sent any more: as the first says that has not packed.
+    pub(crate) fn why_ended<R: Wait>(&self, rt: &R) -> Cause {
+        for answer in self.answers.iter(rt) {
+            if let Err(cause) = answer {
+                return cause;
+            }
+        }
+        Cause::Worker
+    }
+}
+
+/// A worker's ends.
+#[derive(Drop)]
+pub(crate) struct Bench<N: RoundName> {
+    who: u8,
+    tasks: Receiver<Task<N>, Global>,
+    answers: Sender<Answer<N>, Global>,
+}
+
+/// The ends of a round and of its workers, numbered from 1. Both channels hold as many messages as there are workers: while no more tasks are without an answer, no end waits for room.
+pub(crate) fn make_ends<N: RoundName>(
+    alloc: Global,
+    workers: u8,
+) -> Result<(Desk<N>, Vec<Bench<N>>), AllocError> {
+    let room = usize::from(workers);
+    let (to_workers, tasks) = crossbeam_channel::bounded::<Task<N>, Global>(alloc, room)?;
+    let (to_round, answers) = crossbeam_channel::bounded::<Answer<N>, Global>(alloc, room)?;
+    let mut benches = Vec::with_capacity(alloc, room)?;
+    for place in 0..workers {
+        let bench = Bench {
+            who: place + 1,
+            tasks: tasks.clone()?,
+            answers: to_round.clone()?,
+        };
+        benches.push(bench).map_err(AllocError::from)?;
+    }
+    let desk = Desk {
+        tasks: to_workers,
+        answers,
+    };
+    Ok((desk, benches))
+}
+
+/// Answers each task that comes, until there are no more, or until one is not packed.
+pub(crate) fn work<N: RoundName, R: Wait, G: Gate>(
+    rt: &R,
+    alloc: Global,
+    gate: &G,
+    bench: Bench<N>,
+) {
+    for task in bench.tasks.iter(rt) {
+        let answer = answer(rt, alloc, gate, bench.who, task);
+        let goes_on = answer.is_ok();
+        if bench.answers.send(rt, answer).is_err() || !goes_on {
+            return;
+        }
+    }
+}
+
+/// Passes the gate, and packs.
+fn answer<N: RoundName, R: Wait, G: Gate>(
+    rt: &R,
+    alloc: Global,
+    gate: &G,
+    who: u8,
+    task: Task<N>,
+) -> Answer<N> {
+    if !gate.pass(rt, who, Place::Pack) {
+        return Err(Cause::Gate);
+    }
+    match task.pack(alloc) {
+        Ok(done) => Ok(done),
+        Err(_) => Err(Cause::Memory),
+    }
+}

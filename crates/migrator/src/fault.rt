@@ -1,0 +1,41 @@
+//! How a round is broken off.
+use growlog::StoreName;
+use journal::Receipt;
+use rows::Refusal;
+use std::alloc::AllocError;
+
+/// Why a round was broken off.
+#[derive(Clone, Copy, Debug, PartialEq, Eq)]
+pub enum Cause {
+    /// Memory ran out, or a thread could not be made.
+    Memory,
+    /// The journal is full.
+    Full,
+    /// The workers have ended, or a result is of a rectangle that was not asked for or has come before. Also that the session is of other tables than the store.
+    Worker,
+    /// The gate gave up.
+    Gate,
+}
+
+/// A round that was broken off, with the receipts that it took until then.
+#[derive(Drop)]
+pub struct MigrateFault<J: StoreName> {
+    pub cause: Cause,
+    pub receipts: Vec<Receipt<J>>,
+}
+
+impl From<AllocError> for Cause {
+    fn from(_: AllocError) -> Cause {
+        Cause::Memory
+    }
+}
+
+impl From<Refusal> for Cause {
+    fn from(refusal: Refusal) -> Cause {
+        match refusal {
+            Refusal::Memory => Cause::Memory,
+            Refusal::JournalFull => Cause::Full,
+            _ => Cause::Worker,
+        }
+    }
+}

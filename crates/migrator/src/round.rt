@@ -1,0 +1,204 @@
+//! A round under way.
+ghost use Rattle.std.specs.Prelude.{◌≡◌, ◌<◌, ◌∷◌, [], IfErr, IfOk, MatchOption, None, OnErr, OnOk, false, length, map};
+ghost use Rattle.migrator.specs.Round.{IsOver, IsPart, IsUnderWay, IsWhole};
+
+use crate::asked::Asked;
+use crate::bench::Desk;
+use crate::fault::{Cause, MigrateFault};
+use crate::name::RoundName;
+use crate::task::{Done, Task};
+use growlog::StoreName;
+use journal::Receipt;
+use keyrange::Rect;
+use sessions::LockedStore;
+use std::alloc::Global;
+use std::sync::Wait;
+use tsbtree::View;
+use validation::find_job;
+
+/// What a round has asked for, and its receipts so far.
+#[derive(Drop)]
+pub(crate) struct Round<J: StoreName> {
+    /// The rectangle of the node that was asked for last.
+    pub(crate) after: Option<Rect>,
+    pub(crate) asked: Asked,
+    pub(crate) receipts: Vec<Receipt<J>>,
+}
+
+impl<J: StoreName> Round<J> {
+    /// A round that has asked for nothing yet, with the receipt of its begin.
+    pub(crate) fn new<N: RoundName>(alloc: Global, receipts: Vec<Receipt<J>>) -> Round<J>
+        requires { map (λ r. (r.number, r.entry)) receipts.items ≡ N.begin ∷ [] }
+        ensures { IsUnderWay N.begin N.shown result.after result.asked
+            (map (λ r. (r.number, r.entry)) result.receipts.items) }
+    {
+        Round {
+            after: None,
+            asked: Asked::new(alloc),
+            receipts,
+        }
+    }
+
+    /// The task of packing the next node that the view shows unpacked, where there is one: from then on it counts as asked for.
+    fn next<N: RoundName>(&mut self, view: &View) -> Result<Option<Task<N>>, Cause>
+        requires view { view.now ≡ N.shown }
+        requires under { IsUnderWay N.begin N.shown self.old.after self.old.asked
+            (map (λ r. (r.number, r.entry)) self.old.receipts.items) }
+        ensures under { IsUnderWay N.begin N.shown self.new.after self.new.asked
+            (map (λ r. (r.number, r.entry)) self.new.receipts.items) }
+        ensures none { IfOk result (λ found. MatchOption found
+            (IsOver N.shown self.new.after) (λ _. Unit {0})) }
+    {
+        let Some(job) = find_job(view, self.after.as_ref())? else {
+            return Ok(None);
+        };
+        let rect = job.rect().copy()?;
+        let after = job.rect().copy()?;
+        self.asked.push(rect)?;
+        self.after = Some(after);
+        Ok(Some(Task::new(job)))
+    }
+
+    /// Asks a worker for the next node that the view shows unpacked, and says whether there is one.
+    fn ask<N: RoundName, R: Wait>(
+        &mut self,
+        rt: &R,
+        view: &View,
+        desk: &Desk<N>,
+    ) -> Result<bool, Cause>
+        requires view { view.now ≡ N.shown }
+        requires under { IsUnderWay N.begin N.shown self.old.after self.old.asked
+            (map (λ r. (r.number, r.entry)) self.old.receipts.items) }
+        ensures under { IsUnderWay N.begin N.shown self.new.after self.new.asked
+            (map (λ r. (r.number, r.entry)) self.new.receipts.items) }
+        ensures none { IfOk result (λ asked. asked ≡ false → IsOver N.shown self.new.after) }
+    {
+        match self.next::<N>(view)? {
+            None => Ok(false),
+            Some(task) => match desk.tasks.send(rt, task) {
+                Ok(()) => Ok(true),
+                Err(_) => Err(desk.why_ended(rt)),
+            },
+        }
+    }
+
+    /// Asks for the next node where fewer than so many are without an answer, and says whether it did.
+    fn ask_within<N: RoundName, R: Wait>(
+        &mut self,
+        rt: &R,
+        view: &View,
+        room: usize,
+        desk: &Desk<N>,
+    ) -> Result<bool, Cause>
+        requires room { 0 < room }
+        requires view { view.now ≡ N.shown }
+        requires under { IsUnderWay N.begin N.shown self.old.after self.old.asked
+            (map (λ r. (r.number, r.entry)) self.old.receipts.items) }
+        ensures under { IsUnderWay N.begin N.shown self.new.after self.new.asked
+            (map (λ r. (r.number, r.entry)) self.new.receipts.items) }
+        ensures none { IfOk result (λ asked. asked ≡ false → length self.new.asked ≡ 0
+            → IsOver N.shown self.new.after) }
+    {
+        if self.asked.len() >= room {
+            return Ok(false);
+        }
+        self.ask(rt, view, desk)
+    }
+
+    /// Waits for an answer, and installs what was packed.
+    fn take_in<N: RoundName, R: Wait>(
+        &mut self,
+        rt: &R,
+        store: &LockedStore<J>,
+        desk: &Desk<N>,
+    ) -> Result<(), Cause>
+        requires under { IsUnderWay N.begin N.shown self.old.after self.old.asked
+            (map (λ r. (r.number, r.entry)) self.old.receipts.items) }
+        ensures under { IsUnderWay N.begin N.shown self.new.after self.new.asked
+            (map (λ r. (r.number, r.entry)) self.new.receipts.items) }
+    {
+        match desk.answers.recv(rt) {
+            Ok(Ok(done)) => self.install(rt, store, done),
+            Ok(Err(cause)) => Err(cause),
+            Err(_) => Err(Cause::Worker),
+        }
+    }
+
+    /// Installs what was packed, where it was asked for and has not come before.
+    fn install<N: RoundName, R: Wait>(
+        &mut self,
+        rt: &R,
+        store: &LockedStore<J>,
+        done: Done<N>,
+    ) -> Result<(), Cause>
+        requires under { IsUnderWay N.begin N.shown self.old.after self.old.asked
+            (map (λ r. (r.number, r.entry)) self.old.receipts.items) }
+        ensures under { IsUnderWay N.begin N.shown self.new.after self.new.asked
+            (map (λ r. (r.number, r.entry)) self.new.receipts.items) }
+    {
+        let Some(place) = self.asked.place_of(done.rect()) else {
+            return Err(Cause::Worker);
+        };
+        self.receipts.reserve(1)?;
+        let receipt = store.install(rt, done.into_packed())?;
+        self.receipts.push_reserved(receipt);
+        self.asked.remove(place);
+        Ok(())
+    }
+
+    /// Asks for all nodes that the view shows unpacked, at most so many at a time, and installs what comes.
+    fn pack<N: RoundName, R: Wait>(
+        &mut self,
+        rt: &R,
+        store: &LockedStore<J>,
+        view: &View,
+        room: usize,
+        desk: &Desk<N>,
+    ) -> Result<(), Cause>
+        requires room { 0 < room }
+        requires view { view.now ≡ N.shown }
+        requires under { IsUnderWay N.begin N.shown self.old.after self.old.asked
+            (map (λ r. (r.number, r.entry)) self.old.receipts.items) }
+        ensures ok { OnOk result (IsWhole N.begin N.shown (map (λ r. (r.number, r.entry)) self.new.receipts.items)) }
+        ensures err { OnErr result (IsPart N.begin N.shown (map (λ r. (r.number, r.entry)) self.new.receipts.items)) }
+    {
+        for _ in rt.forever() {
+            if self.ask_within(rt, view, room, desk)? {
+                continue;
+            }
+            if self.asked.len() == 0 {
+                return Ok(());
+            }
+            self.take_in(rt, store, desk)?;
+        }
+        // Not reached: the loop does not end by itself.
+        Err(Cause::Worker)
+    }
+
+    /// The receipts of the round, once all is installed.
+    pub(crate) fn run<N: RoundName, R: Wait>(
+        self,
+        rt: &R,
+        store: &LockedStore<J>,
+        view: &View,
+        room: usize,
+        desk: Desk<N>,
+    ) -> Result<Vec<Receipt<J>>, MigrateFault<J>>
+        requires room { 0 < room }
+        requires view { view.now ≡ N.shown }
+        requires under { IsUnderWay N.begin N.shown self.after self.asked
+            (map (λ r. (r.number, r.entry)) self.receipts.items) }
+        ensures ok { IfOk result (λ rs. IsWhole N.begin N.shown (map (λ r. (r.number, r.entry)) rs.items)) }
+        ensures err { IfErr result (λ f.
+            IsPart N.begin N.shown (map (λ r. (r.number, r.entry)) f.receipts.items)) }
+    {
+        let mut round = self;
+        match round.pack(rt, store, view, room, &desk) {
+            Ok(()) => Ok(round.receipts),
+            Err(cause) => Err(MigrateFault {
+                cause,
+                receipts: round.receipts,
+            }),
+        }
+    }
+}
