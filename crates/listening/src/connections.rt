@@ -4,10 +4,13 @@ ghost use Rattle.book.specs.Book.{IsBook};
 ghost use Rattle.journal.specs.Entries.{entry_at};
 
 use crate::clock::Microseconds;
+use crate::migration::{Call, WakingGate, run_rounds};
 use book::Closed;
+use crossbeam_channel::Sender;
+use gate::Gate;
 use growlog::StoreName;
 use journal::Receipt;
-use serving::{Gate, serve_session};
+use serving::serve_session;
 use sessions::LockedStore;
 use std::alloc::{AllocError, Global};
 use std::io::BufWriter;
@@ -79,15 +82,22 @@ where
     R: Net<Listener = TcpListener, Stream = TcpStream> + Clock + Threads + Wait + Sync,
     G: Gate + Sync,
 {
-    let mut receipts = Vec::new(alloc);
-    thread::scope(thread::scope_env(), rt, |scope| {
+    let (calls, called) = crossbeam_channel::unbounded::<Call, Global>(alloc)?;
+    thread::scope(thread::scope_env(), rt, move |scope| {
+        let Ok(rounds) = scope.spawn(move || run_rounds(rt, alloc, store, gate, called)) else {
+            return Err(ListenFault::Memory);
+        };
+        let mut receipts = Vec::new(alloc);
         let mut handles = Vec::with_capacity(alloc, sessions as usize)?;
         for turn in 0..sessions {
             let number = turn + 1;
             let Ok((stream, _peer)) = listener.accept() else {
                 return Err(ListenFault::Socket);
             };
-            match scope.spawn(move || serve_stream(rt, alloc, store, gate, &stream, number)) {
+            let calls = calls.clone()?;
+            match scope.spawn(move || serve_stream(
+                rt, alloc, store, gate, calls, &stream, number,
+            )) {
                 Ok(handle) => handles.push(handle).map_err(AllocError::from)?,
                 Err(_) => return Err(ListenFault::Memory),
             }
@@ -97,9 +107,13 @@ where
                 receipts.push(receipt).map_err(AllocError::from)?;
             }
         }
-        Ok(())
-    })?;
-    Ok(receipts)
+        // Nobody calls any more, so the rounds come to their end.
+        drop(calls);
+        for receipt in rounds.join(rt)? {
+            receipts.push(receipt).map_err(AllocError::from)?;
+        }
+        Ok(receipts)
+    })
 }
 
 /// The receipts that a connection's session took.
@@ -108,6 +122,7 @@ fn serve_stream<J: StoreName, R: Clock + Wait, G: Gate>(
     alloc: Global,
     store: &LockedStore<J>,
     gate: &G,
+    calls: Sender<Call, Global>,
     stream: &TcpStream,
     number: u8,
 ) -> Vec<Receipt<J>> {
@@ -121,6 +136,7 @@ fn serve_stream<J: StoreName, R: Clock + Wait, G: Gate>(
     };
     let mut reader = stream;
     let mut readings = Microseconds { rt };
+    let gate = WakingGate::new(gate, calls);
     let served = serve_session(
         rt,
         alloc,
@@ -128,7 +144,7 @@ fn serve_stream<J: StoreName, R: Clock + Wait, G: Gate>(
         &mut writer,
         session,
         store,
-        gate,
+        &gate,
         &mut readings,
     );
     served.receipts

@@ -1,16 +1,17 @@
 //! Sessions over sockets of 127.0.0.1: each connection is served in a thread of its own, round one store.
 #![tactic(auto)]
 
+mod always_open;
 mod clock;
 mod connections;
-mod gate;
 mod loading;
+mod migration;
 mod server;
 mod socket;
 
+pub use always_open::AlwaysOpen;
 pub use clock::Microseconds;
 pub use connections::{ListenFault, listen};
-pub use gate::AlwaysOpen;
 pub use loading::{Loaded, load_into};
 pub use server::{Plan, ServerFault, TableRows, serve};
 pub use socket::bind;

@@ -14,8 +14,8 @@ ghost use Rattle.book.specs.Book.{IsBook};
 ghost use Rattle.serving.specs.Taken.{Given};
 ghost use Rattle.listening.specs.Server.{EndsAfter, HasFirst, HasListened, HasNoFirst, HasReported, HasServed, HasStopped, IsClosedWith, IsExportOf, IsOther, StopsListening, StopsLate, versions_text};
 
+use crate::always_open::AlwaysOpen;
 use crate::connections::{ListenFault, listen};
-use crate::gate::AlwaysOpen;
 use crate::loading::load_into;
 use crate::socket::bind;
 use book::Closed;
@@ -31,7 +31,7 @@ use std::net::{Net, TcpListener, TcpStream};
 use std::sync::Wait;
 use std::thread::Threads;
 use std::time::Clock;
-use systime_query::answer;
+use systime_query::{BlockCache, answer};
 
 /// Why a server stopped before its end.
 #[derive(Debug, Drop)]
@@ -292,6 +292,14 @@ fn versions_of(alloc: Global, closed: &Closed, table: &Table) -> Mem<Vec<Shown>>
     ensures err { OnlyMemory result }
 {
     let keys = Keys::all(alloc, table.number);
+    let mut cache = BlockCache::new(alloc);
     let view = closed.tree().current();
-    answer(alloc, view, table, Form::Between(0, LAST), &keys)
+    answer(
+        alloc,
+        &mut cache,
+        view,
+        table,
+        Form::Between(0, LAST),
+        &keys,
+    )
 }

@@ -1,5 +1,5 @@
 //! Clients that send lines and read what they are sent.
-use std::alloc::Global;
+use std::alloc::{AllocError, Global};
 use std::io;
 use std::io::{Read, Write};
 use std::net::{Net, OpenStream, Shutdown, TcpListener, TcpStream};
@@ -16,6 +16,8 @@ pub(crate) enum Play {
     Held,
     /// The first breaks off in the middle of a transaction and of a line.
     Broken,
+    /// The first splits a node, and then has committed 16 times.
+    Busy,
 }
 
 /// What two clients were sent.
@@ -28,6 +30,9 @@ const LOOK: &[u8] = b"SELECT * FROM emp\nCOMMIT\n";
 const RENAME: &[u8] = b"BEGIN\nUPDATE emp SET name = 'Eve' WHERE no = 1\nCOMMIT\n";
 
 const HALF: &[u8] = b"BEGIN\nINSERT INTO emp VALUES (3, 'Joe')\nCOM";
+
+const SPLIT: &[u8] =
+    b"BEGIN\nUPDATE emp SET name = 'Eve' WHERE no = 1\nCOMMIT\nSPLIT: TIME emp (1) AT 101\n";
 
 /// Reads to the end of what a client is sent.
 fn read_all(alloc: Global, stream: &TcpStream) -> io::Result<Vec<u8>> {
@@ -99,6 +104,15 @@ fn break_off<R: Net<Listener = TcpListener, Stream = TcpStream>>(
     read_some(alloc, &stream)
 }
 
+/// A commit and a split behind it, and 15 commits more.
+fn busy_text(alloc: Global) -> Result<Vec<u8>, AllocError> {
+    let mut text = Vec::from_slice(alloc, SPLIT)?;
+    for _ in 0..15u8 {
+        text.extend_from_slice(b"BEGIN\nCOMMIT\n".as_slice())?;
+    }
+    Ok(text)
+}
+
 /// What two clients are sent.
 pub(crate) fn run_play<R: Net<Listener = TcpListener, Stream = TcpStream>>(
     rt: &R,
@@ -114,6 +128,10 @@ pub(crate) fn run_play<R: Net<Listener = TcpListener, Stream = TcpStream>>(
         Play::Held => ask_while_another_commits(rt, alloc, port),
         Play::Broken => {
             let first = break_off(rt, alloc, port)?;
+            Ok((first, ask(rt, alloc, port, LOOK)?))
+        }
+        Play::Busy => {
+            let first = ask(rt, alloc, port, busy_text(alloc)?.as_slice())?;
             Ok((first, ask(rt, alloc, port, LOOK)?))
         }
     }

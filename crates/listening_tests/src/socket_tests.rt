@@ -2,11 +2,11 @@
 ghost use Rattle.std.specs.Prelude.{◌≡◌};
 
 use crate::client::{Play, Sent, run_play};
+use gate::{Gate, Place};
 use growlog::{NewLog, StoreName};
 use journal::{Receipt, SharedEntry};
 use listening::{AlwaysOpen, ListenFault, bind, listen};
 use rows::{Chars, Refusal, Row, Schema, Value};
-use serving::{Gate, Place};
 use sessions::LockedStore;
 use std::alloc::Global;
 use std::marker::Brand;
@@ -154,6 +154,18 @@ fn a_read_goes_on_while_another_commits(rt: HostRuntime) -> Result<(), Fail> {
     let first = "begun 100\nrows 1\n(1, 'Ann')\n";
     assert!(rt; are_sent(&sent, first, "begun 100\nupdated 1\ncommitted "));
     assert_eq!(rt; entries, 5);
+    Ok(())
+}
+
+#[test]
+fn a_round_packs_after_the_16th_commit_of_a_session(rt: HostRuntime) -> Result<(), Fail> {
+    let served = serve_new(&rt, rt.alloc(), &AlwaysOpen, Play::Busy);
+    let (sent, entries) = served.expect(&rt, "the store closes");
+    let (_, second) = sent.expect(&rt, "both clients are answered");
+    let all = b"rows 1\n(1, 'Eve')\nE4 no transaction\n".as_slice();
+    assert_eq!(rt; second.as_slice(), all);
+    // 17 transactions, the split, the query, and the round's begin and install.
+    assert_eq!(rt; entries, 2 * 17 + 1 + 1 + 2);
     Ok(())
 }
 

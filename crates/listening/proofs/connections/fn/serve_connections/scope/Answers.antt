@@ -16,3 +16,16 @@ spawn-requires-send-T g c κs = λ within.
     let named : IsSend g.row.J = search (rules, c.requires) parts 8 in
     let handle : IsSync g.row.R = search (rules, c.requires) parts 8 in
     search (receipt_send, receipt_field_send, sendable, crosses) depth 60 fits 20000
+
+pub spawn-requires-in-loop-turn-send-F : goal.spawn-requires-in-loop-turn-send-F
+spawn-requires-in-loop-turn-send-F g c κs = λ within.
+    let named : IsSend g.row.J = search (rules, c.requires) parts 8 in
+    let handle : IsSync g.row.R = search (rules, c.requires) parts 8 in
+    let gate : IsSync g.row.G = search (rules, c.requires) parts 8 in
+    search (store_sync, sendable, crosses) depth 60 fits 20000
+
+pub spawn-requires-in-loop-turn-send-T : goal.spawn-requires-in-loop-turn-send-T
+spawn-requires-in-loop-turn-send-T g c κs = λ within.
+    let named : IsSend g.row.J = search (rules, c.requires) parts 8 in
+    let handle : IsSync g.row.R = search (rules, c.requires) parts 8 in
+    search (receipt_send, receipt_field_send, sendable, crosses) depth 60 fits 20000

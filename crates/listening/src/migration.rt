@@ -1,0 +1,106 @@
+//! Rounds of the migrator beside the sessions.
+ghost use Rattle.std.specs.Prelude.{◌≡◌, None};
+
+use crossbeam_channel::{Receiver, Sender};
+use gate::{Gate, Place};
+use growlog::StoreName;
+use journal::Receipt;
+use migrator::run_migrator;
+use sessions::{LockedStore, Session};
+use std::alloc::{AllocError, Global};
+use std::cell::Cell;
+use std::sync::Wait;
+use std::thread::Threads;
+
+/// The commits of a session after which a round is called for.
+const COMMITS: u8 = 16;
+
+/// The workers of a round.
+const WORKERS: u8 = 2;
+
+/// A call for a round.
+#[derive(Clone, Copy)]
+pub(crate) struct Call;
+
+/// A session's way through the gate, which calls for a round after each 16th commit of the session.
+#[derive(Drop)]
+pub(crate) struct WakingGate<'a, G: Gate> {
+    gate: &'a G,
+    calls: Sender<Call, Global>,
+    commits: Cell<u8>,
+}
+
+impl<'a, G: Gate> WakingGate<'a, G> {
+    pub(crate) fn new(gate: &'a G, calls: Sender<Call, Global>) -> WakingGate<'a, G> {
+        WakingGate {
+            gate,
+            calls,
+            commits: Cell::new(0),
+        }
+    }
+
+    /// Counts a commit. Where a call takes memory and there is none, there is no round, which no reply shows.
+    fn count<R: Wait>(&self, rt: &R) {
+        let commits = self.commits.get().saturating_add(1);
+        if commits < COMMITS {
+            self.commits.set(commits);
+            return;
+        }
+        self.commits.set(0);
+        let _ = self.calls.send(rt, Call);
+    }
+}
+
+impl<G: Gate> Gate for WakingGate<'_, G> {
+    fn pass<R: Wait>(&self, rt: &R, who: u8, place: Place) -> bool {
+        if place == Place::Committed {
+            self.count(rt);
+        }
+        self.gate.pass(rt, who, place)
+    }
+}
+
+/// Runs a round for each call, until there can be no more; the answer is all receipts that were taken.
+pub(crate) fn run_rounds<J, R, G>(
+    rt: &R,
+    alloc: Global,
+    store: &LockedStore<J>,
+    gate: &G,
+    calls: Receiver<Call, Global>,
+) -> Result<Vec<Receipt<J>>, AllocError>
+where
+    J: StoreName,
+    R: Threads + Wait + Sync,
+    G: Gate + Sync,
+{
+    let mut receipts = Vec::new(alloc);
+    let Ok(mut service) = store.session(alloc, 0) else {
+        return Err(AllocError);
+    };
+    for _call in calls.iter(rt) {
+        let mut taken = run_round(rt, alloc, store, &mut service, gate);
+        receipts.append(&mut taken)?;
+    }
+    Ok(receipts)
+}
+
+/// The receipts of one round, also of one that was broken off.
+fn run_round<J, R, G>(
+    rt: &R,
+    alloc: Global,
+    store: &LockedStore<J>,
+    service: &mut Session,
+    gate: &G,
+) -> Vec<Receipt<J>>
+where
+    J: StoreName,
+    R: Threads + Wait + Sync,
+    G: Gate + Sync,
+    requires { service.old.transaction ≡ None }
+    ensures { service.new.transaction ≡ None }
+{
+    match run_migrator(rt, alloc, store, service, WORKERS, gate) {
+        Ok(receipts) => receipts,
+        Err(fault) => fault.receipts,
+    }
+}
