@@ -1,7 +1,7 @@
 //! What is asked of a cache, block after block.
 
 use blockcache::BlockCache;
-use blocks::{Block, Blocks, Unpacking};
+use blocks::{Block, Blocks, InPlace};
 use bytes::Bytes;
 use keyrange::KeyRange;
 use std::alloc::Global;
@@ -94,7 +94,8 @@ fn two_blocks_of_one_rectangle_give_their_own_events(rt: HostRuntime) {
     assert!(rt; own == 6 && cache.len() == 1);
 }
 
-/// How many ranges of a block's keys and instants are answered as they should be, of five.
+/// How many ranges of a block's keys and instants are answered as they should be, of five. A cache reads the first in
+/// place, unpacks the block at the second, and has its node for the others.
 fn count_ranges<B: Blocks>(blocks: &mut B, alloc: Global) -> usize {
     let mut right = 0usize;
     for (lower, since, expected) in [
@@ -116,6 +117,6 @@ fn a_block_gives_the_range_that_is_asked_for(rt: HostRuntime) {
     let alloc = rt.alloc();
     let mut cache = BlockCache::new(alloc);
     let kept = count_ranges(&mut cache, alloc);
-    let unpacked = count_ranges(&mut Unpacking::new(alloc), alloc);
-    assert!(rt; kept == 5 && unpacked == 5 && cache.len() == 1);
+    let in_place = count_ranges(&mut InPlace::new(alloc), alloc);
+    assert!(rt; kept == 5 && in_place == 5 && cache.len() == 1);
 }

@@ -145,3 +145,7 @@ one_block a b n p q = p.bytes_are ∙ sym q.bytes_are
 pub if_ok : {T E : Type 0} (r : Result T E) (P Q S : T → Type 0) → ((x : T) → P x → Q x → S x) → IfOk r P → IfOk r Q → IfOk r S
 if_ok (Ok x) P Q S f p q = f x p q
 if_ok (Err e) P Q S f p q = tt
+
+pub weaker : {T E : Type 0} (r : Result T E) (P Q : T → Type 0) → ((x : T) → P x → Q x) → IfOk r P → IfOk r Q
+weaker (Ok x) P Q f p = f x p
+weaker (Err e) P Q f p = tt

@@ -8,3 +8,5 @@ pub mod GatherSteps
 pub mod InPlaceFinds
 pub mod PackedReads
 pub mod InPlaceNext
+pub mod ListingSteps
+pub mod ListingFinds

@@ -4,5 +4,6 @@ pub mod Rect
 pub mod Block
 pub mod Gather
 pub mod InPlace
+pub mod Listing
 pub mod Laws
 pub mod Packed

@@ -86,7 +86,7 @@ fn past_row_tagged(tag: u8, bytes: &[u8]) -> Option<&[u8]>
 }
 
 /// The bytes behind an event's row, or behind the mark that it has none.
-fn past_row_field(bytes: &[u8]) -> Option<&[u8]>
+pub(crate) fn past_row_field(bytes: &[u8]) -> Option<&[u8]>
     ensures { option_copied result ≡ past_row_field bytes.now }
 {
     let (tag, rest) = byte_from(bytes)?;
@@ -158,7 +158,7 @@ fn first_place<'a>(
 
 /// How many events a block has, and the bytes from the first on.
 #[tactic(auto, unfolding(crate::specs::InPlace::events_place))]
-fn events_place(bytes: &[u8]) -> Taken<'_, u8>
+pub(crate) fn events_place(bytes: &[u8]) -> Taken<'_, u8>
     ensures { Takes (λ n. n) result (events_place bytes.now) }
 {
     let rest = mark_from(bytes)?;

@@ -4,18 +4,20 @@ ghost use Rattle.values.specs.Memory.{OnlyMemory};
 ghost use Rattle.values.specs.Events.{row_until, event_since};
 ghost use Rattle.values.specs.Event.{Event as Change};
 ghost use Rattle.keyrange.specs.Rect.{IsArea, has_point};
+ghost use Rattle.eventlist.specs.Listing.{events_in};
 ghost use Rattle.datanode.specs.Node.{Node, IsCutOf};
 ghost use Rattle.datanode.specs.NextChange.{event_after};
 ghost use Rattle.blocks.specs.Block.{block_of, HasBlock, IsHeldNode, IsBlockOf};
 
 use crate::block::{pack, unpack};
 use crate::in_place::{at, changed_since, event_count, next_change};
+use crate::listing::events_in;
 use bytes::Bytes;
 use datanode::DataNode;
-use keyrange::Rect;
+use keyrange::{KeyRange, Rect};
 use std::alloc::Global;
 use std::marker::Model;
-use values::{Instant, KeyBytes, Mem, Row};
+use values::{Instant, KeyBytes, Mem, Row, SharedEvent};
 
 /// A data node of history as its block. The rectangle stands beside the bytes, so that asking for it reads none of
 /// them.
@@ -121,6 +123,21 @@ impl Block {
         ensures { result ≡ event_after self.now.node.events after key.now }
     {
         next_change(self.bytes.as_slice(), key, after)
+    }
+
+    /// The events of a range of keys, from an instant to another and with it, carried ones too. No other event is made.
+    pub fn events_in(
+        &self,
+        alloc: Global,
+        range: &KeyRange,
+        from: Instant,
+        to: Instant,
+    ) -> Mem<Vec<SharedEvent>>
+        ensures ok { IfOk result (λ v.
+            v.items ≡ events_in self.now.node.events range.now from to) }
+        ensures err { OnlyMemory result }
+    {
+        events_in(alloc, self.bytes.as_slice(), range, from, to)
     }
 
     /// An equal block, which shares the bytes.

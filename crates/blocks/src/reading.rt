@@ -23,19 +23,19 @@ pub trait Blocks {
         ensures err { OnlyMemory result };
 }
 
-/// Unpacks each block that is asked for, and keeps none.
+/// Reads each block in place, and keeps nothing.
 #[derive(Drop)]
-pub struct Unpacking {
+pub struct InPlace {
     alloc: Global,
 }
 
-impl Unpacking {
-    pub fn new(alloc: Global) -> Unpacking {
-        Unpacking { alloc }
+impl InPlace {
+    pub fn new(alloc: Global) -> InPlace {
+        InPlace { alloc }
     }
 }
 
-impl Blocks for Unpacking {
+impl Blocks for InPlace {
     fn events(
         &mut self,
         block: &Block,
@@ -43,8 +43,6 @@ impl Blocks for Unpacking {
         from: Instant,
         to: Instant,
     ) -> Mem<Vec<SharedEvent>> {
-        block
-            .unpack(self.alloc)?
-            .events_in(self.alloc, range, from, to)
+        block.events_in(self.alloc, range, from, to)
     }
 }

@@ -5,10 +5,11 @@ use blocks::{Block, has_block};
 use bytes::Bytes;
 use datanode::DataNode;
 use eventlist::event_since;
+use keyrange::KeyRange;
 use std::alloc::Global;
 use std::process::Abort;
 use std::test::Fail;
-use values::{Instant, KeyBytes, Mem, Row};
+use values::{Instant, KeyBytes, Mem, Row, SharedEvent};
 
 fn block_of(alloc: Global, bytes: &[u8]) -> Mem<Option<Block>> {
     let bytes = Vec::from_slice(alloc, bytes)?;
@@ -170,5 +171,74 @@ fn the_next_change_is_found_in_place(rt: HostRuntime) -> Result<(), Fail> {
             "key {number} after {after}"
         );
     }
+    Ok(())
+}
+
+/// The keys from a number on, and below another where it is at most 8.
+fn keys_between(rt: &impl Abort, alloc: Global, from: u8, to: u8) -> Mem<KeyRange> {
+    let hi = if to <= 8 {
+        Some(key(rt, alloc, to)?)
+    } else {
+        None
+    };
+    Ok(KeyRange {
+        lo: key(rt, alloc, from)?,
+        hi,
+    })
+}
+
+/// Whether two lists have the same events: keys and instants, and rows of one width.
+fn are_alike(listed: &[SharedEvent], of_node: &[SharedEvent]) -> bool {
+    let mut others = of_node.iter();
+    for event in listed {
+        match others.next() {
+            Some(other) if event == other => {
+                if width(event.event().row()) != width(other.event().row()) {
+                    return false;
+                }
+            }
+            _ => return false,
+        }
+    }
+    others.next().is_none()
+}
+
+/// For how many windows of instants a block and its node list the same events of a range.
+fn count_windows(alloc: Global, block: &Block, node: &DataNode, range: &KeyRange) -> Mem<usize> {
+    let instants = [0, 100, 199, 200, 249, 250, 299, u64::MAX];
+    let mut count = 0usize;
+    for from in instants {
+        for to in instants {
+            let listed = block.events_in(alloc, range, from, to)?;
+            let of_node = node.events_in(alloc, range, from, to)?;
+            if are_alike(&listed, &of_node) {
+                count = count.saturating_add(1);
+            }
+        }
+    }
+    Ok(count)
+}
+
+/// For how many ranges of keys and windows of instants a block and the node that it unpacks to list the same events.
+fn count_listed(rt: &impl Abort, alloc: Global, bytes: &[u8]) -> Mem<Option<usize>> {
+    let Some(block) = block_of(alloc, bytes)? else {
+        return Ok(None);
+    };
+    let node = block.unpack(alloc)?;
+    let mut count = 0usize;
+    for from in 0..8u8 {
+        for to in 1..10u8 {
+            let range = keys_between(rt, alloc, from, to)?;
+            count = count.saturating_add(count_windows(alloc, &block, &node, &range)?);
+        }
+    }
+    Ok(Some(count))
+}
+
+#[test]
+fn a_packed_node_lists_what_the_node_that_it_unpacks_to_lists(rt: HostRuntime) -> Result<(), Fail> {
+    let alloc = rt.alloc();
+    assert_eq!(rt; count_listed(&rt, alloc, first_block())?, Some(4608));
+    assert_eq!(rt; count_listed(&rt, alloc, carrying_block())?, Some(4608));
     Ok(())
 }

@@ -7,7 +7,7 @@ ghost use Rattle.treenodes.specs.Tree.{IsTree};
 ghost use Rattle.treenodes.specs.Map.{HoldsMap, changes, latest};
 
 use crate::samples::{all, all_keys, change, count, key};
-use blocks::{Block, Unpacking, has_block};
+use blocks::{Block, InPlace, has_block};
 use std::alloc::Global;
 use std::process::Abort;
 use treenodes::{
@@ -106,7 +106,7 @@ fn some(rt: &impl Abort, alloc: Global, is_packed: bool) -> Nodes
 fn count_events(alloc: Global, nodes: &Nodes, from: Instant, to: Instant) -> Option<usize>
     requires { IsTree nodes.now }
 {
-    let mut blocks = Unpacking::new(alloc);
+    let mut blocks = InPlace::new(alloc);
     count(events(alloc, &mut blocks, nodes, &all_keys(alloc), from, to))
 }
 
@@ -130,7 +130,7 @@ fn a_carried_event_is_listed_once(rt: HostRuntime) {
 fn count_standing(alloc: Global, nodes: &Nodes, at: Instant) -> Option<usize>
     requires { IsTree nodes.now }
 {
-    let mut blocks = Unpacking::new(alloc);
+    let mut blocks = InPlace::new(alloc);
     count(standing(alloc, &mut blocks, nodes, &all_keys(alloc), at))
 }
 

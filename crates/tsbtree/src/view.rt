@@ -20,7 +20,7 @@ ghost use Rattle.tsbtree.specs.Packing.{IsHistorical};
 
 use crate::packing::number_of;
 use crate::same::Same;
-use blocks::{Blocks, Unpacking};
+use blocks::{Blocks, InPlace};
 use datanode::DataNode;
 use keyrange::{KeyRange, Rect};
 use std::alloc::Global;
@@ -133,7 +133,7 @@ impl View {
     }
 
     /// The events of a range of keys, from an instant to another and with it, by key and then by instant. Each block that
-    /// is in question is unpacked.
+    /// is in question is read in place.
     pub fn events(
         &self,
         alloc: Global,
@@ -145,7 +145,7 @@ impl View {
         ensures sorted { IfOk result (λ v. IsStrictlySortedBy event_cmp v.items) }
         ensures err { OnlyMemory result }
     {
-        self.events_with(alloc, &mut Unpacking::new(alloc), range, from, to)
+        self.events_with(alloc, &mut InPlace::new(alloc), range, from, to)
     }
 
     /// The same, where the events of blocks are given.
@@ -165,7 +165,7 @@ impl View {
     }
 
     /// By key: of each key of a range the event that shows its row at an instant, where it has one. Each block that is in
-    /// question is unpacked.
+    /// question is read in place.
     pub fn standing(
         &self,
         alloc: Global,
@@ -178,7 +178,7 @@ impl View {
         ensures ordered { IsStrictlySortedBy event_cmp (events self.now) }
         ensures err { OnlyMemory result }
     {
-        self.standing_with(alloc, &mut Unpacking::new(alloc), range, instant)
+        self.standing_with(alloc, &mut InPlace::new(alloc), range, instant)
     }
 
     /// The same, where the events of blocks are given.

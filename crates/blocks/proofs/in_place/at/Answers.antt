@@ -1,6 +1,4 @@
-use Rattle.std.proofs.Common.{◌≡◌, List, true, Option, Some, None, ◌∙◌, rules, IfOk}
-use Rattle.std.specs.declared.result.Result.{Result}
-use Rattle.std.specs.declared.result.Result.TheVariants.{Ok, Err}
+use Rattle.std.proofs.Common.{◌≡◌, List, true, Option, Some, None, ◌∙◌, rules}
 use Rattle.values.specs.Log.{Row}
 use Rattle.values.specs.Events.{row_until}
 use Rattle.datanode.specs.Node.{Node, IsCutOf}
@@ -9,6 +7,7 @@ use Rattle.values.specs.Event.{Event}
 use Rattle.blocks.specs.Event.{row_field_from}
 use Rattle.blocks.specs.Block.{IsBlockOf}
 use Rattle.blocks.specs.InPlace.{place_in, row_of_field}
+use Rattle.blocks.proofs.BlockReads.{weaker}
 use Rattle.blocks.proofs.InPlaceFinds.{no_row_until, row_until_found, row_of_map}
 use Rattle.blocks.proofs.in_place.at.Goals as goal
 
@@ -21,10 +20,6 @@ pub returns-in-None-clause-of_map : goal.returns-in-None-clause-of_map
 returns-in-None-clause-of_map c n m b is point =
     let none : place_in c.args.bytes.now c.args.key.now 0 c.args.instant ≡ None = search rules in
     no_row_until c.args.bytes.now c.args.key.now c.args.instant none n b ∙ row_of_map n m c.args.key.now c.args.instant is point
-
-weaker : {T E : Type 0} (r : Result T E) (P Q : T → Type 0) → ((x : T) → P x → Q x) → IfOk r P → IfOk r Q
-weaker (Ok x) P Q f p = f x p
-weaker (Err e) P Q f p = tt
 
 pub returns-in-Some-clause-ok : goal.returns-in-Some-clause-ok
 returns-in-Some-clause-ok c =
