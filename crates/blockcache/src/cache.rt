@@ -19,10 +19,11 @@ const MOST: usize = 16;
 /// The first instant and the lower key of a block's rectangle.
 type Corner = (Instant, Vec<u8>);
 
-/// At most 16 blocks beside the nodes that they unpack to, those that were asked for last. An entry is found by the corner
-/// of its rectangle, which is short, and answers for a block of the same bytes alone: blocks of two trees may have one
-/// rectangle. Of blocks that have one corner the last is kept. In a tree no two have. Until the first block is asked for
-/// the cache takes no memory.
+/// At most 16 blocks, those that were asked for last. What is asked of a block for the first time is read in place; where
+/// it is asked for again, while it is kept, it is unpacked, and its node is kept beside it. So a query that comes to many
+/// blocks once unpacks none. An entry is found by the corner of its rectangle, which is short, and answers for a block of
+/// the same bytes alone: blocks of two trees may have one rectangle. Of blocks that have one corner the last is kept. In
+/// a tree no two have. Until the first block is asked for the cache takes no memory.
 #[derive(Drop)]
 pub struct BlockCache {
     alloc: Global,
@@ -96,13 +97,15 @@ fn events_of(
     let corner = corner_of(alloc, block.rect())?;
     if let Some(entry) = entries.get(&corner) {
         if entry.is_of(block) {
-            return entry.events(alloc, range, from, to);
+            if let Some(node) = entry.node() {
+                return node.events_in(alloc, range, from, to);
+            }
+            entries.put(corner, Entry::unpacked(alloc, block)?)?;
+            return block.events_in(alloc, range, from, to);
         }
     }
-    let entry = Entry::new(alloc, block)?;
-    let events = entry.events(alloc, range, from, to)?;
-    entries.put(corner, entry)?;
-    Ok(events)
+    entries.put(corner, Entry::packed(block)?)?;
+    block.events_in(alloc, range, from, to)
 }
 
 fn most() -> NonZeroUsize

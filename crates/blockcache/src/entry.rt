@@ -1,40 +1,47 @@
-//! A block and its node.
-ghost use Rattle.std.specs.Prelude.{◌≡◌, ◌↔◌, IsTrue, IfOk};
+//! A block that was asked for, and its node once it was asked for again.
+ghost use Rattle.std.specs.Prelude.{◌≡◌, ◌↔◌, IsTrue, IfOk, IfSome, option_copied};
 ghost use Rattle.values.specs.Memory.{OnlyMemory};
-ghost use Rattle.eventlist.specs.Listing.{events_in};
 
 use blocks::Block;
 use datanode::DataNode;
-use keyrange::KeyRange;
 use std::alloc::Global;
 use std::marker::Model;
-use values::{Instant, Mem, SharedEvent};
+use values::Mem;
 
-/// A block beside the node that it unpacks to.
+/// A block, and the node that it unpacks to, or none as long as the block was not unpacked.
 #[derive(Drop)]
 pub struct Entry {
     block: Block,
-    node: DataNode,
+    node: Option<DataNode>,
 }
 
 impl Model for Entry {
-    ghost use Rattle.std.specs.Prelude.{◌≡◌};
+    ghost use Rattle.std.specs.Prelude.{◌≡◌, IfSome};
     ghost use Rattle.blocks.specs.Packed.{Packed};
 
     ghost Value = { Packed };
 
     ghost view = { λ e. e.block };
 
-    ghost invariant = { λ e. e.node ≡ e.block.node };
+    ghost invariant = { λ e. IfSome e.node (λ node. node ≡ e.block.node) };
 }
 
 impl Entry {
-    /// The entry of a block, with which it shares the bytes.
-    pub(crate) fn new(alloc: Global, block: &Block) -> Mem<Entry>
+    /// The entry of a block that is not unpacked. It shares the block's bytes.
+    pub(crate) fn packed(block: &Block) -> Mem<Entry>
         ensures ok { IfOk result (λ e. e ≡ block.now) }
         ensures err { OnlyMemory result }
     {
-        let node = block.unpack(alloc)?;
+        let block = block.copy()?;
+        Ok(Entry { block, node: None })
+    }
+
+    /// The entry of a block that is unpacked. It shares the block's bytes.
+    pub(crate) fn unpacked(alloc: Global, block: &Block) -> Mem<Entry>
+        ensures ok { IfOk result (λ e. e ≡ block.now) }
+        ensures err { OnlyMemory result }
+    {
+        let node = Some(block.unpack(alloc)?);
         let block = block.copy()?;
         Ok(Entry { block, node })
     }
@@ -46,17 +53,10 @@ impl Entry {
         self.block.is_same(block)
     }
 
-    /// The events of the block's node of a range of keys, from an instant to another and with it, carried ones too.
-    pub(crate) fn events(
-        &self,
-        alloc: Global,
-        range: &KeyRange,
-        from: Instant,
-        to: Instant,
-    ) -> Mem<Vec<SharedEvent>>
-        ensures ok { IfOk result (λ v. v.items ≡ events_in self.now.node.events range.now from to) }
-        ensures err { OnlyMemory result }
+    /// The block's node, where it was unpacked.
+    pub(crate) fn node(&self) -> Option<&DataNode>
+        ensures { IfSome (option_copied result) (λ node. node ≡ self.now.node) }
     {
-        self.node.events_in(alloc, range, from, to)
+        self.node.as_ref()
     }
 }
