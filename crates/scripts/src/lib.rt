@@ -2,7 +2,5 @@
 #![tactic(auto)]
 
 mod script;
-#[cfg(test)]
-mod tests;
 
 pub use script::{RunFault, lead, run_script, run_script_after, run_script_in};

@@ -3,3 +3,5 @@
 
 #[cfg(test)]
 mod first_tests;
+#[cfg(test)]
+mod stream_tests;

@@ -1,7 +1,7 @@
 //! Scripts run over readers and writers that give and take few bytes, and that fail.
-use crate::{RunFault, run_script};
 use histories::Step;
 use rows::Schema;
+use scripts::{RunFault, run_script};
 use statement::print_reply;
 use std::alloc::AllocError;
 use std::io;
