@@ -3,19 +3,29 @@ use crate::growth::key;
 use keyrange::KeyRange;
 use std::alloc::Global;
 use std::process::Abort;
-use tsbtree::View;
-use values::{Instant, KeyBytes, LAST, Mem, Row, Value};
+use tsbtree::{Tree, View};
+use values::{Instant, KeyBytes, LAST, Mem, Row, SharedEvent, Value};
 
-pub(crate) fn all_keys(alloc: Global) -> KeyRange {
+fn all_keys(alloc: Global) -> KeyRange {
     KeyRange {
         lo: KeyBytes::least(alloc),
         hi: None,
     }
 }
 
-/// How many events a view has.
-pub(crate) fn count(alloc: Global, view: &View) -> Mem<usize> {
-    Ok(view.events(alloc, &all_keys(alloc), 0, LAST)?.len())
+/// How many events there are.
+fn length(rt: &impl Abort, events: Mem<Vec<SharedEvent>>) -> usize {
+    events.expect(rt, "there is memory").len()
+}
+
+/// How many events of all keys a view has from an instant on.
+pub(crate) fn count(rt: &impl Abort, alloc: Global, view: &View, from: Instant) -> usize {
+    length(rt, view.events(alloc, &all_keys(alloc), from, LAST))
+}
+
+/// How many rows of all keys stand in a view at an instant.
+fn count_standing(rt: &impl Abort, alloc: Global, view: &View, at: Instant) -> usize {
+    length(rt, view.standing(alloc, &all_keys(alloc), at))
 }
 
 /// The number in a key's row at an instant, and how many nodes were visited.
@@ -25,14 +35,47 @@ pub(crate) fn found(
     view: &View,
     number: u8,
     at: Instant,
-) -> Mem<(Option<i64>, usize)> {
-    let (row, visits) = view.get(&key(rt, alloc, number)?, at)?;
-    Ok((row.as_ref().and_then(|row| number_in(row)), visits))
+) -> (Option<i64>, usize) {
+    let found = view.get(&key(rt, alloc, number), at);
+    let (row, visits) = found.expect(rt, "there is memory");
+    (number_in(row.as_ref()), visits)
 }
 
-fn number_in(row: &Row) -> Option<i64> {
-    match row.values().first() {
+fn number_in(row: Option<&Row>) -> Option<i64> {
+    match row?.values().first() {
         Some(Value::Int(number)) => Some(*number),
         _ => None,
     }
+}
+
+/// The number in a key's row at an instant, when the key was last changed after it and when it is next, how many events
+/// there are from it on, and how many rows stand.
+pub(crate) type Answers = (Option<i64>, Option<Instant>, Option<Instant>, usize, usize);
+
+pub(crate) fn answers(
+    rt: &impl Abort,
+    alloc: Global,
+    view: &View,
+    number: u8,
+    at: Instant,
+) -> Answers {
+    let key = key(rt, alloc, number);
+    (
+        found(rt, alloc, view, number, at).0,
+        view.changed_since(&key, at),
+        view.next_change(&key, at),
+        count(rt, alloc, view, at),
+        count_standing(rt, alloc, view, at),
+    )
+}
+
+/// The same of a tree.
+pub(crate) fn answers_of(
+    rt: &impl Abort,
+    alloc: Global,
+    tree: Tree,
+    number: u8,
+    at: Instant,
+) -> Answers {
+    answers(rt, alloc, tree.current(), number, at)
 }

@@ -1,5 +1,5 @@
-//! Trees that grow.
-ghost use Rattle.std.specs.Prelude.{◌<◌, ◌≤◌, ◌↔◌, IfOk, IsTrue, length};
+//! Trees that grow. The run ends where memory runs out.
+ghost use Rattle.std.specs.Prelude.{◌<◌, ◌≤◌, ◌↔◌, IsTrue, length};
 ghost use Rattle.values.specs.Commits.{max_instant};
 ghost use Rattle.treegrowth.specs.Commit.{IsCommit};
 ghost use Rattle.tsbtree.specs.View.{last};
@@ -7,33 +7,29 @@ ghost use Rattle.tsbtree.specs.View.{last};
 use std::alloc::Global;
 use std::process::Abort;
 use tsbtree::Tree;
-use values::{Event, Instant, KeyBytes, LAST, Mem, Row, Value};
+use values::{Event, Instant, KeyBytes, LAST, Row, Value};
 
-pub(crate) fn key(rt: &impl Abort, alloc: Global, number: u8) -> Mem<KeyBytes> {
-    let bytes = vec![in alloc; 1, 128, 0, 0, 0, 0, 0, 0, number]?;
-    Ok(KeyBytes::new(bytes).expect(rt, "nine bytes are few"))
+pub(crate) fn key(rt: &impl Abort, alloc: Global, number: u8) -> KeyBytes {
+    let bytes = vec![in alloc; 1, 128, 0, 0, 0, 0, 0, 0, number];
+    let key = KeyBytes::new(bytes.expect(rt, "there is memory"));
+    key.expect(rt, "nine bytes are few")
 }
 
-/// A key's row from an instant on.
-fn change(rt: &impl Abort, alloc: Global, number: u8, at: Instant, value: i64) -> Mem<Event> {
-    let row = Row::new(vec![in alloc; Value::Int(value)]?);
-    let made = Event::new(key(rt, alloc, number)?, at, row);
-    Ok(made.expect(rt, "the key is not empty"))
+fn row(rt: &impl Abort, alloc: Global, value: i64) -> Option<Row> {
+    Row::new(vec![in alloc; Value::Int(value)].expect(rt, "there is memory"))
 }
 
-fn deletion(rt: &impl Abort, alloc: Global, number: u8, at: Instant) -> Mem<Event> {
-    let made = Event::new(key(rt, alloc, number)?, at, None);
-    Ok(made.expect(rt, "the key is not empty"))
+fn event(rt: &impl Abort, alloc: Global, number: u8, at: Instant, row: Option<Row>) -> Event {
+    let made = Event::new(key(rt, alloc, number), at, row);
+    made.expect(rt, "the key is not empty")
 }
 
 /// One change of an instant, to be committed.
-fn one_event(rt: &impl Abort, alloc: Global, at: Instant, event: Event) -> Mem<Vec<Event>>
-    ensures commit { IfOk result (λ v. IsCommit at v.items) }
+fn one_event(rt: &impl Abort, alloc: Global, at: Instant, event: Event) -> Vec<Event>
+    ensures commit { IsCommit at result.items }
 {
     assert!(rt; event.at() == at);
-    let mut events = Vec::new(alloc);
-    events.push(event)?;
-    Ok(events)
+    vec![in alloc; event].expect(rt, "there is memory")
 }
 
 /// Two changes of an instant, by key, to be committed.
@@ -43,31 +39,22 @@ fn two_events(
     at: Instant,
     first: Event,
     second: Event,
-) -> Mem<Vec<Event>>
-    ensures commit { IfOk result (λ v. IsCommit at v.items) }
-    ensures two { IfOk result (λ v. 0 < length v.items) }
+) -> Vec<Event>
+    ensures commit { IsCommit at result.items }
+    ensures two { 0 < length result.items }
 {
     assert!(rt; first.at() == at && second.at() == at);
     assert!(rt; first.order(&second).is_lt());
-    let mut events = Vec::new(alloc);
-    events.push(first)?;
-    events.push(second)?;
-    Ok(events)
+    vec![in alloc; first, second].expect(rt, "there is memory")
 }
 
 /// Rows 5 and 6 of two keys from an instant on, to be committed.
-pub(crate) fn two_rows(
-    rt: &impl Abort,
-    alloc: Global,
-    at: Instant,
-    low: u8,
-    high: u8,
-) -> Mem<Vec<Event>>
-    ensures commit { IfOk result (λ v. IsCommit at v.items) }
-    ensures two { IfOk result (λ v. 0 < length v.items) }
+pub(crate) fn two_rows(rt: &impl Abort, alloc: Global, at: Instant, low: u8, high: u8) -> Vec<Event>
+    ensures commit { IsCommit at result.items }
+    ensures two { 0 < length result.items }
 {
-    let first = change(rt, alloc, low, at, 5)?;
-    let second = change(rt, alloc, high, at, 6)?;
+    let first = event(rt, alloc, low, at, row(rt, alloc, 5));
+    let second = event(rt, alloc, high, at, row(rt, alloc, 6));
     two_events(rt, alloc, at, first, second)
 }
 
@@ -78,37 +65,29 @@ fn is_next(tree: &Tree, at: Instant) -> bool
 }
 
 /// Commits rows of two keys.
-fn put_two(
-    rt: &impl Abort,
-    alloc: Global,
-    tree: &mut Tree,
-    at: Instant,
-    low: u8,
-    high: u8,
-) -> Mem<()> {
+fn put_two(rt: &impl Abort, alloc: Global, tree: &mut Tree, at: Instant, low: u8, high: u8) {
     assert!(rt; is_next(tree, at));
-    tree.apply(at, two_rows(rt, alloc, at, low, high)?)
+    let done = tree.apply(at, two_rows(rt, alloc, at, low, high));
+    done.expect(rt, "there is memory");
+}
+
+/// Commits an event.
+fn commit(rt: &impl Abort, alloc: Global, tree: &mut Tree, at: Instant, event: Event) {
+    assert!(rt; is_next(tree, at));
+    let done = tree.apply(at, one_event(rt, alloc, at, event));
+    done.expect(rt, "there is memory");
 }
 
 /// Commits a row of a key.
-fn put(
-    rt: &impl Abort,
-    alloc: Global,
-    tree: &mut Tree,
-    at: Instant,
-    number: u8,
-    value: i64,
-) -> Mem<()> {
-    assert!(rt; is_next(tree, at));
-    let event = change(rt, alloc, number, at, value)?;
-    tree.apply(at, one_event(rt, alloc, at, event)?)
+fn put(rt: &impl Abort, alloc: Global, tree: &mut Tree, at: Instant, number: u8, value: i64) {
+    let change = event(rt, alloc, number, at, row(rt, alloc, value));
+    commit(rt, alloc, tree, at, change);
 }
 
 /// Commits that a key is deleted.
-fn delete(rt: &impl Abort, alloc: Global, tree: &mut Tree, at: Instant, number: u8) -> Mem<()> {
-    assert!(rt; is_next(tree, at));
-    let event = deletion(rt, alloc, number, at)?;
-    tree.apply(at, one_event(rt, alloc, at, event)?)
+fn delete(rt: &impl Abort, alloc: Global, tree: &mut Tree, at: Instant, number: u8) {
+    let deletion = event(rt, alloc, number, at, None);
+    commit(rt, alloc, tree, at, deletion);
 }
 
 /// Splits the current data node of a key at an instant, where it can be.
@@ -118,94 +97,96 @@ pub(crate) fn split_at(
     tree: &mut Tree,
     number: u8,
     at: Instant,
-) -> Mem<bool> {
-    tree.time_split(&key(rt, alloc, number)?, at)
+) -> bool {
+    let done = tree.time_split(&key(rt, alloc, number), at);
+    done.expect(rt, "there is memory")
 }
 
 /// Splits the current data node of a key there, where it can be.
-pub(crate) fn split_before(
-    rt: &impl Abort,
-    alloc: Global,
-    tree: &mut Tree,
-    number: u8,
-) -> Mem<bool> {
-    tree.key_split(&key(rt, alloc, number)?)
+pub(crate) fn split_before(rt: &impl Abort, alloc: Global, tree: &mut Tree, number: u8) -> bool {
+    let done = tree.key_split(&key(rt, alloc, number));
+    done.expect(rt, "there is memory")
+}
+
+/// A tree with no commit.
+pub(crate) fn new_tree(rt: &impl Abort, alloc: Global) -> Tree {
+    Tree::new(alloc).expect(rt, "there is memory")
 }
 
 /// One row of key 1.
-pub(crate) fn one_row(rt: &impl Abort, alloc: Global, value: i64) -> Mem<Tree> {
-    let mut tree = Tree::new(alloc)?;
-    put(rt, alloc, &mut tree, 100, 1, value)?;
-    Ok(tree)
+pub(crate) fn one_row(rt: &impl Abort, alloc: Global, value: i64) -> Tree {
+    let mut tree = new_tree(rt, alloc);
+    put(rt, alloc, &mut tree, 100, 1, value);
+    tree
 }
 
 /// Key 1 has one row at 100 and at 200, and the data node is split at 200.
-pub(crate) fn two_versions(rt: &impl Abort, alloc: Global, value: i64) -> Mem<Tree> {
-    let mut tree = one_row(rt, alloc, value)?;
-    put(rt, alloc, &mut tree, 200, 1, value)?;
-    assert!(rt; split_at(rt, alloc, &mut tree, 1, 200)?);
-    Ok(tree)
+pub(crate) fn two_versions(rt: &impl Abort, alloc: Global, value: i64) -> Tree {
+    let mut tree = one_row(rt, alloc, value);
+    put(rt, alloc, &mut tree, 200, 1, value);
+    assert!(rt; split_at(rt, alloc, &mut tree, 1, 200));
+    tree
 }
 
 /// Keys 1 and 2 have rows from 100 on, and key 1 is deleted at 200.
-pub(crate) fn few_changes(rt: &impl Abort, alloc: Global) -> Mem<Tree> {
-    let mut tree = Tree::new(alloc)?;
-    put_two(rt, alloc, &mut tree, 100, 1, 2)?;
-    delete(rt, alloc, &mut tree, 200, 1)?;
-    Ok(tree)
+pub(crate) fn few_changes(rt: &impl Abort, alloc: Global) -> Tree {
+    let mut tree = new_tree(rt, alloc);
+    put_two(rt, alloc, &mut tree, 100, 1, 2);
+    delete(rt, alloc, &mut tree, 200, 1);
+    tree
 }
 
 /// The same, split at instants.
-pub(crate) fn few_changes_split(rt: &impl Abort, alloc: Global, instants: &[Instant]) -> Mem<Tree> {
-    let mut tree = few_changes(rt, alloc)?;
+pub(crate) fn few_changes_split(rt: &impl Abort, alloc: Global, instants: &[Instant]) -> Tree {
+    let mut tree = few_changes(rt, alloc);
     for at in instants {
-        assert!(rt; split_at(rt, alloc, &mut tree, 1, *at)?);
+        assert!(rt; split_at(rt, alloc, &mut tree, 1, *at));
     }
-    Ok(tree)
+    tree
 }
 
 /// Key 1 is changed at 65 instants.
-pub(crate) fn one_key(rt: &impl Abort, alloc: Global) -> Mem<Tree> {
-    let mut tree = Tree::new(alloc)?;
+pub(crate) fn one_key(rt: &impl Abort, alloc: Global) -> Tree {
+    let mut tree = new_tree(rt, alloc);
     for at in 1..66u64 {
-        put(rt, alloc, &mut tree, at, 1, 7)?;
+        put(rt, alloc, &mut tree, at, 1, 7);
     }
-    Ok(tree)
+    tree
 }
 
 /// The same, and at each instant but the first the data node is split there.
-pub(crate) fn one_key_split(rt: &impl Abort, alloc: Global) -> Mem<Tree> {
-    let mut tree = Tree::new(alloc)?;
+pub(crate) fn one_key_split(rt: &impl Abort, alloc: Global) -> Tree {
+    let mut tree = new_tree(rt, alloc);
     for at in 1..66u64 {
-        put(rt, alloc, &mut tree, at, 1, 7)?;
-        assert!(rt; split_at(rt, alloc, &mut tree, 1, at)? == (at > 1));
+        put(rt, alloc, &mut tree, at, 1, 7);
+        assert!(rt; split_at(rt, alloc, &mut tree, 1, at) == (at > 1));
     }
-    Ok(tree)
+    tree
 }
 
 /// Keys 10 and 40 are changed at two instants, the data node is split at the second, and then at many keys: a historical
 /// node has two parents.
-pub(crate) fn two_parents(rt: &impl Abort, alloc: Global) -> Mem<Tree> {
-    let mut tree = Tree::new(alloc)?;
-    put_two(rt, alloc, &mut tree, 100, 10, 40)?;
-    put_two(rt, alloc, &mut tree, 200, 10, 40)?;
-    assert!(rt; split_at(rt, alloc, &mut tree, 10, 200)?);
+pub(crate) fn two_parents(rt: &impl Abort, alloc: Global) -> Tree {
+    let mut tree = new_tree(rt, alloc);
+    put_two(rt, alloc, &mut tree, 100, 10, 40);
+    put_two(rt, alloc, &mut tree, 200, 10, 40);
+    assert!(rt; split_at(rt, alloc, &mut tree, 10, 200));
     for number in 2..65u8 {
-        assert!(rt; split_before(rt, alloc, &mut tree, number)?);
+        assert!(rt; split_before(rt, alloc, &mut tree, number));
     }
-    Ok(tree)
+    tree
 }
 
 /// 45 keys are inserted, and changed in turn.
-pub(crate) fn many_keys(rt: &impl Abort, alloc: Global) -> Mem<Tree> {
-    let mut tree = Tree::new(alloc)?;
+pub(crate) fn many_keys(rt: &impl Abort, alloc: Global) -> Tree {
+    let mut tree = new_tree(rt, alloc);
     for number in 1..46u8 {
-        put(rt, alloc, &mut tree, u64::from(number), number, 1)?;
+        put(rt, alloc, &mut tree, u64::from(number), number, 1);
     }
     for at in 46..161u8 {
-        put(rt, alloc, &mut tree, u64::from(at), turn(at), 2)?;
+        put(rt, alloc, &mut tree, u64::from(at), turn(at), 2);
     }
-    Ok(tree)
+    tree
 }
 
 /// Which of 45 keys is changed at an instant.
@@ -215,9 +196,8 @@ fn turn(at: u8) -> u8 {
 }
 
 /// Changes 50 keys in turn at 1,000 instants after 200.
-pub(crate) fn grow(rt: &impl Abort, alloc: Global, tree: &mut Tree) -> Mem<()> {
+pub(crate) fn grow(rt: &impl Abort, alloc: Global, tree: &mut Tree) {
     for at in 201..1201u64 {
-        put(rt, alloc, tree, at, (at % 50) as u8, 9)?;
+        put(rt, alloc, tree, at, (at % 50) as u8, 9);
     }
-    Ok(())
 }

@@ -1,15 +1,15 @@
 //! The references of index nodes lead to the data node that a view lends.
-ghost use Rattle.std.specs.Prelude.{◌≡◌, ◌≤◌, IfOk, IfSome};
+ghost use Rattle.std.specs.Prelude.{◌≡◌, ◌≤◌, IfSome};
 ghost use Rattle.treenodes.specs.Sound.{IsSound};
 
 use crate::growth::{key, two_parents, two_rows};
 use std::alloc::Global;
 use std::marker::Model;
 use std::process::Abort;
-use std::test::Fail;
 use treegrowth::{key_split, time_split, with_commit};
 use treenodes::{Child, Nodes, leaf_alone};
-use values::{Instant, KeyBytes, Mem};
+use tsbtree::Tree;
+use values::{Instant, KeyBytes};
 
 /// The nodes of a tree whose last commit was at 200.
 #[derive(Drop)]
@@ -30,18 +30,21 @@ impl Model for Grown {
 }
 
 /// Keys 10 and 40 are changed at 100.
-fn one_commit(rt: &impl Abort, alloc: Global) -> Mem<Nodes>
-    ensures { IfOk result (λ s. IsSound s 100) }
+fn one_commit(rt: &impl Abort, alloc: Global) -> Nodes
+    ensures { IsSound result 100 }
 {
-    let events = two_rows(rt, alloc, 100, 10, 40)?;
-    with_commit(alloc, leaf_alone(alloc)?, 0, 100, events)
+    let events = two_rows(rt, alloc, 100, 10, 40);
+    let leaf = leaf_alone(alloc).expect(rt, "there is memory");
+    with_commit(alloc, leaf, 0, 100, events).expect(rt, "there is memory")
 }
 
 /// And at 200.
-fn two_commits(rt: &impl Abort, alloc: Global) -> Mem<Grown> {
-    let events = two_rows(rt, alloc, 200, 10, 40)?;
-    let nodes = with_commit(alloc, one_commit(rt, alloc)?, 100, 200, events)?;
-    Ok(Grown { nodes })
+fn two_commits(rt: &impl Abort, alloc: Global) -> Grown {
+    let events = two_rows(rt, alloc, 200, 10, 40);
+    let nodes = with_commit(alloc, one_commit(rt, alloc), 100, 200, events);
+    Grown {
+        nodes: nodes.expect(rt, "there is memory"),
+    }
 }
 
 impl Grown {
@@ -53,17 +56,15 @@ impl Grown {
     }
 
     /// Splits the current data node of a key at 200.
-    fn split_at_200(&mut self, rt: &impl Abort, alloc: Global, number: u8) -> Mem<bool> {
-        let key = key(rt, alloc, number)?;
-        let nodes = time_split(alloc, &self.nodes, 200, &key, 200)?;
-        Ok(self.put(nodes))
+    fn split_at_200(&mut self, rt: &impl Abort, alloc: Global, number: u8) -> bool {
+        let nodes = time_split(alloc, &self.nodes, 200, &key(rt, alloc, number), 200);
+        self.put(nodes.expect(rt, "there is memory"))
     }
 
     /// Splits the current data node of a key there.
-    fn split_before(&mut self, rt: &impl Abort, alloc: Global, number: u8) -> Mem<bool> {
-        let key = key(rt, alloc, number)?;
-        let nodes = key_split(alloc, &self.nodes, 200, &key)?;
-        Ok(self.put(nodes))
+    fn split_before(&mut self, rt: &impl Abort, alloc: Global, number: u8) -> bool {
+        let nodes = key_split(alloc, &self.nodes, 200, &key(rt, alloc, number));
+        self.put(nodes.expect(rt, "there is memory"))
     }
 
     fn put(&mut self, nodes: Option<Nodes>) -> bool
@@ -80,13 +81,13 @@ impl Grown {
 }
 
 /// The nodes of the tree whose historical node has two parents.
-fn nodes_of_two_parents(rt: &impl Abort, alloc: Global) -> Mem<Grown> {
-    let mut grown = two_commits(rt, alloc)?;
-    assert!(rt; grown.split_at_200(rt, alloc, 10)?);
+fn nodes_of_two_parents(rt: &impl Abort, alloc: Global) -> Grown {
+    let mut grown = two_commits(rt, alloc);
+    assert!(rt; grown.split_at_200(rt, alloc, 10));
     for number in 2..65u8 {
-        assert!(rt; grown.split_before(rt, alloc, number)?);
+        assert!(rt; grown.split_before(rt, alloc, number));
     }
-    Ok(grown)
+    grown
 }
 
 /// The number of the node that references lead to, from the root down.
@@ -132,39 +133,47 @@ fn count_of(child: &Child) -> Option<usize> {
 }
 
 /// The number of the node that references lead to from the root.
-fn place(rt: &impl Abort, alloc: Global, number: u8, at: Instant) -> Mem<usize> {
-    let grown = nodes_of_two_parents(rt, alloc)?;
-    Ok(descend(&grown, &key(rt, alloc, number)?, at))
+fn place(rt: &impl Abort, alloc: Global, grown: Grown, number: u8, at: Instant) -> usize {
+    descend(&grown, &key(rt, alloc, number), at)
 }
 
 /// The start of the data node that a view lends at a point, where references lead to it.
-fn start_of_leaf(rt: &impl Abort, alloc: Global, number: u8, at: Instant) -> Mem<Option<Instant>>
+fn start_of_leaf(
+    rt: &impl Abort,
+    alloc: Global,
+    grown: Grown,
+    tree: Tree,
+    number: u8,
+    at: Instant,
+) -> Option<Instant>
     requires { 1 ≤ at }
 {
-    let grown = nodes_of_two_parents(rt, alloc)?;
-    let tree = two_parents(rt, alloc)?;
-    let key = key(rt, alloc, number)?;
+    let key = key(rt, alloc, number);
     let leaf = tree.current().leaf(&key, at);
     if is_leaf(&grown, descend(&grown, &key, at), leaf) {
-        return Ok(Some(leaf.rect().time().from));
+        return Some(leaf.rect().time().from);
     }
-    Ok(None)
+    None
 }
 
 #[test]
-fn references_lead_to_the_leaf_of_a_point(rt: HostRuntime) -> Result<(), Fail> {
-    for number in [10, 40] {
-        assert_eq!(rt; start_of_leaf(&rt, rt.alloc(), number, 150)?, Some(1));
-        assert_eq!(rt; start_of_leaf(&rt, rt.alloc(), number, 200)?, Some(200));
+fn references_lead_to_the_leaf_of_a_point(rt: HostRuntime) {
+    for (number, at, from) in [(10, 150, 1), (10, 200, 200), (40, 150, 1), (40, 200, 200)] {
+        let grown = nodes_of_two_parents(&rt, rt.alloc());
+        let tree = two_parents(&rt, rt.alloc());
+        let found = start_of_leaf(&rt, rt.alloc(), grown, tree, number, at);
+        assert!(rt; found == Some(from), "key {number} at {at}");
     }
-    Ok(())
+}
+
+/// Whether references lead to one data node for both keys.
+fn is_one_place(rt: &impl Abort, alloc: Global, at: Instant) -> bool {
+    let low = place(rt, alloc, nodes_of_two_parents(rt, alloc), 10, at);
+    low == place(rt, alloc, nodes_of_two_parents(rt, alloc), 40, at)
 }
 
 #[test]
-fn the_leaf_of_two_keys_is_one_before_the_split(rt: HostRuntime) -> Result<(), Fail> {
-    let low = place(&rt, rt.alloc(), 10, 150)?;
-    assert_eq!(rt; place(&rt, rt.alloc(), 40, 150)?, low);
-    let low = place(&rt, rt.alloc(), 10, 200)?;
-    assert!(rt; place(&rt, rt.alloc(), 40, 200)? != low);
-    Ok(())
+fn the_leaf_of_two_keys_is_one_before_the_split(rt: HostRuntime) {
+    assert!(rt; is_one_place(&rt, rt.alloc(), 150));
+    assert!(rt; !is_one_place(&rt, rt.alloc(), 200));
 }

@@ -1,11 +1,18 @@
 //! How a shape shows its nodes.
 use keyrange::Rect;
+use std::alloc::Global;
+use std::process::Abort;
 use treewalk::Shape;
+use tsbtree::Tree;
 use values::{Instant, KeyBytes};
 
 /// A node: the level from the root down, the lower and the upper key, or 0, the start and the end, and how much the node
 /// holds.
 pub(crate) type Line = (usize, u8, u8, Instant, Option<Instant>, usize);
+
+pub(crate) fn shape_of(rt: &impl Abort, alloc: Global, tree: Tree) -> Shape {
+    tree.current().shape(alloc).expect(rt, "there is memory")
+}
 
 /// Whether a shape begins with some lines.
 pub(crate) fn begins_with(shape: &Shape, lines: &[Line]) -> bool {

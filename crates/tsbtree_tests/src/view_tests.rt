@@ -1,22 +1,20 @@
 //! What views answer, of trees with few changes and with many. A test keeps no tree: each helper makes its own.
-use crate::answers::{all_keys, count, found};
+use crate::answers::{answers_of, count, found};
 use crate::growth::{
-    few_changes, few_changes_split, grow, key, one_key, one_key_split, one_row, split_at,
+    few_changes, few_changes_split, grow, new_tree, one_key, one_key_split, one_row, split_at,
 };
 use std::alloc::Global;
 use std::process::Abort;
-use std::test::Fail;
 use tsbtree::{Tree, View};
-use values::{Instant, LAST, Mem};
+use values::{Instant, LAST};
 
 /// The number in the row of key 1 after few changes.
-fn shown(rt: &impl Abort, alloc: Global, at: Instant) -> Mem<Option<i64>> {
-    let tree = few_changes(rt, alloc)?;
-    Ok(found(rt, alloc, tree.current(), 1, at)?.0)
+fn shown(rt: &impl Abort, alloc: Global, at: Instant) -> Option<i64> {
+    answers_of(rt, alloc, few_changes(rt, alloc), 1, at).0
 }
 
 #[test]
-fn a_row_stands_until_its_key_is_changed(rt: HostRuntime) -> Result<(), Fail> {
+fn a_row_stands_until_its_key_is_changed(rt: HostRuntime) {
     for (at, value) in [
         (0, None),
         (99, None),
@@ -25,75 +23,63 @@ fn a_row_stands_until_its_key_is_changed(rt: HostRuntime) -> Result<(), Fail> {
         (200, None),
         (u64::MAX, None),
     ] {
-        assert_eq!(rt; shown(&rt, rt.alloc(), at)?, value, "at {at}");
+        assert!(rt; shown(&rt, rt.alloc(), at) == value, "at {at}");
     }
-    Ok(())
 }
 
 /// When a key was last changed above an instant, over a split.
-fn changed(rt: &impl Abort, alloc: Global, number: u8, start: Instant) -> Mem<Option<Instant>> {
-    let tree = few_changes_split(rt, alloc, &[150])?;
-    let key = key(rt, alloc, number)?;
-    Ok(tree.current().changed_since(&key, start))
+fn changed(rt: &impl Abort, alloc: Global, number: u8, start: Instant) -> Option<Instant> {
+    let tree = few_changes_split(rt, alloc, &[150]);
+    answers_of(rt, alloc, tree, number, start).1
 }
 
 #[test]
-fn changes_are_found_over_a_split(rt: HostRuntime) -> Result<(), Fail> {
+fn changes_are_found_over_a_split(rt: HostRuntime) {
     for (number, start, at) in [
         (1, 99, Some(200)),
         (1, 200, None),
         (2, 99, Some(100)),
         (2, 100, None),
     ] {
-        let found = changed(&rt, rt.alloc(), number, start)?;
-        assert_eq!(rt; found, at, "key {number} since {start}");
+        let found = changed(&rt, rt.alloc(), number, start);
+        assert!(rt; found == at, "key {number} since {start}");
     }
-    Ok(())
 }
 
 /// How many rows stand at an instant, over a split.
-fn count_standing(rt: &impl Abort, alloc: Global, at: Instant) -> Mem<usize> {
-    let tree = few_changes_split(rt, alloc, &[150])?;
-    let standing = tree.current().standing(alloc, &all_keys(alloc), at)?;
-    Ok(standing.len())
+fn standing(rt: &impl Abort, alloc: Global, at: Instant) -> usize {
+    let tree = few_changes_split(rt, alloc, &[150]);
+    answers_of(rt, alloc, tree, 1, at).4
 }
 
 #[test]
-fn rows_are_listed_over_a_split(rt: HostRuntime) -> Result<(), Fail> {
+fn rows_are_listed_over_a_split(rt: HostRuntime) {
     for (at, rows) in [(99, 0), (100, 2), (199, 2), (200, 1)] {
-        assert_eq!(rt; count_standing(&rt, rt.alloc(), at)?, rows, "at {at}");
+        assert!(rt; standing(&rt, rt.alloc(), at) == rows, "at {at}");
     }
-    Ok(())
 }
 
-/// How many events a tree of one key has, after its node was split.
-fn count_of_one_key(rt: &impl Abort, alloc: Global) -> Mem<usize> {
-    let tree = one_key(rt, alloc)?;
-    count(alloc, tree.current())
-}
-
-/// How many events there are after few changes and a split.
-fn count_of_few(rt: &impl Abort, alloc: Global) -> Mem<usize> {
-    let tree = few_changes_split(rt, alloc, &[150])?;
-    count(alloc, tree.current())
+/// How many events a tree has.
+fn count_of(rt: &impl Abort, alloc: Global, tree: Tree) -> usize {
+    answers_of(rt, alloc, tree, 1, 0).3
 }
 
 #[test]
-fn a_split_keeps_all_events(rt: HostRuntime) -> Result<(), Fail> {
-    assert_eq!(rt; count_of_one_key(&rt, rt.alloc())?, 65);
-    assert_eq!(rt; count_of_few(&rt, rt.alloc())?, 3);
-    Ok(())
+fn a_split_keeps_all_events(rt: HostRuntime) {
+    let one = one_key(&rt, rt.alloc());
+    assert!(rt; count_of(&rt, rt.alloc(), one) == 65);
+    let few = few_changes_split(&rt, rt.alloc(), &[150]);
+    assert!(rt; count_of(&rt, rt.alloc(), few) == 3);
 }
 
 /// When a key is changed next, over several splits.
-fn next(rt: &impl Abort, alloc: Global, number: u8, after: Instant) -> Mem<Option<Instant>> {
-    let tree = few_changes_split(rt, alloc, &[120, 140, 160, 180, 200])?;
-    let key = key(rt, alloc, number)?;
-    Ok(tree.current().next_change(&key, after))
+fn next(rt: &impl Abort, alloc: Global, number: u8, after: Instant) -> Option<Instant> {
+    let tree = few_changes_split(rt, alloc, &[120, 140, 160, 180, 200]);
+    answers_of(rt, alloc, tree, number, after).2
 }
 
 #[test]
-fn the_next_change_is_found_over_splits(rt: HostRuntime) -> Result<(), Fail> {
+fn the_next_change_is_found_over_splits(rt: HostRuntime) {
     for (number, after, at) in [
         (1, 0, Some(100)),
         (1, 100, Some(200)),
@@ -103,101 +89,104 @@ fn the_next_change_is_found_over_splits(rt: HostRuntime) -> Result<(), Fail> {
         (2, 100, None),
         (3, 0, None),
     ] {
-        let found = next(&rt, rt.alloc(), number, after)?;
-        assert_eq!(rt; found, at, "key {number} after {after}");
+        let found = next(&rt, rt.alloc(), number, after);
+        assert!(rt; found == at, "key {number} after {after}");
     }
-    Ok(())
 }
 
 /// A tree of one to three levels.
-fn of_levels(rt: &impl Abort, alloc: Global, levels: usize) -> Mem<Tree> {
+fn of_levels(rt: &impl Abort, alloc: Global, levels: usize) -> Tree {
     match levels {
-        1 => Tree::new(alloc),
+        1 => new_tree(rt, alloc),
         2 => one_key(rt, alloc),
         _ => one_key_split(rt, alloc),
     }
 }
 
 /// How many nodes a look-up of key 1 visits.
-fn visits(rt: &impl Abort, alloc: Global, levels: usize, at: Instant) -> Mem<usize> {
-    let tree = of_levels(rt, alloc, levels)?;
-    Ok(found(rt, alloc, tree.current(), 1, at)?.1)
+fn visits(rt: &impl Abort, alloc: Global, levels: usize, at: Instant) -> usize {
+    let tree = of_levels(rt, alloc, levels);
+    found(rt, alloc, tree.current(), 1, at).1
 }
 
 #[test]
-fn a_look_up_visits_one_node_of_each_level(rt: HostRuntime) -> Result<(), Fail> {
+fn a_look_up_visits_one_node_of_each_level(rt: HostRuntime) {
     for levels in 1..4usize {
         for at in [1, 64, 65, LAST] {
-            assert_eq!(rt; visits(&rt, rt.alloc(), levels, at)?, levels, "at {at}");
+            assert!(rt; visits(&rt, rt.alloc(), levels, at) == levels, "at {at}");
         }
-        assert_eq!(rt; visits(&rt, rt.alloc(), levels, 0)?, 0);
+        assert!(rt; visits(&rt, rt.alloc(), levels, 0) == 0);
     }
-    Ok(())
 }
 
 /// What a view answers: the instant of the last commit, the number in the row of key 2, how many events there are, and
 /// how many nodes.
 type Answers = (Instant, Option<i64>, usize, usize);
 
-fn answers(rt: &impl Abort, alloc: Global, view: &View) -> Mem<Answers> {
-    let number = found(rt, alloc, view, 2, LAST)?.0;
-    let nodes = view.shape(alloc)?.nodes.len();
-    Ok((view.last(), number, count(alloc, view)?, nodes))
+fn answers(rt: &impl Abort, alloc: Global, view: &View) -> Answers {
+    let number = found(rt, alloc, view, 2, LAST).0;
+    let shape = view.shape(alloc).expect(rt, "there is memory");
+    (
+        view.last(),
+        number,
+        count(rt, alloc, view, 0),
+        shape.nodes.len(),
+    )
 }
 
 /// A share of a view of a tree.
-fn share_of(tree: &Tree) -> Mem<View> {
-    tree.view()?.share()
+fn share_of(rt: &impl Abort, tree: &Tree) -> View {
+    let view = tree.view().expect(rt, "there is memory");
+    view.share().expect(rt, "there is memory")
 }
 
 /// What a view answers after 1,000 commits, and what the tree does.
-fn kept_and_current(rt: &impl Abort, alloc: Global) -> Mem<(Answers, Answers)> {
-    let mut tree = few_changes(rt, alloc)?;
-    let view = share_of(&tree)?;
-    grow(rt, alloc, &mut tree)?;
-    let kept = answers(rt, alloc, &view)?;
-    Ok((kept, answers(rt, alloc, tree.current())?))
+fn kept_and_current(rt: &impl Abort, alloc: Global) -> (Answers, Answers) {
+    let mut tree = few_changes(rt, alloc);
+    let view = share_of(rt, &tree);
+    grow(rt, alloc, &mut tree);
+    (
+        answers(rt, alloc, &view),
+        answers(rt, alloc, tree.current()),
+    )
 }
 
 #[test]
-fn a_view_stays_while_the_tree_takes_commits(rt: HostRuntime) -> Result<(), Fail> {
-    let (kept, current) = kept_and_current(&rt, rt.alloc())?;
-    assert_eq!(rt; kept, (200, Some(6), 3, 1));
-    assert_eq!(rt; (current.0, current.1, current.2), (1200, Some(9), 1003));
-    assert!(rt; current.3 > 20, "{} nodes", current.3);
-    Ok(())
+fn a_view_stays_while_the_tree_takes_commits(rt: HostRuntime) {
+    let (kept, current) = kept_and_current(&rt, rt.alloc());
+    assert!(rt; kept == (200, Some(6), 3, 1));
+    let (last, number, events, nodes) = current;
+    assert!(rt; last == 1200 && number == Some(9) && events == 1003);
+    assert!(rt; nodes > 20, "{nodes} nodes");
 }
 
-/// Whether trees of one history have the same view.
-fn is_same_again(rt: &impl Abort, alloc: Global) -> Mem<bool> {
-    let tree = few_changes(rt, alloc)?;
-    Ok(tree.current().same(few_changes(rt, alloc)?.current()))
+/// Whether trees have the same view.
+fn are_same(one: Tree, other: Tree) -> bool {
+    one.current().same(other.current())
 }
 
 /// Whether a view is that of the tree after a split.
-fn is_same_after_split(rt: &impl Abort, alloc: Global) -> Mem<bool> {
-    let mut tree = few_changes(rt, alloc)?;
-    let view = tree.view()?;
-    assert!(rt; split_at(rt, alloc, &mut tree, 1, 150)?);
-    Ok(view.same(tree.current()))
+fn is_same_after_split(rt: &impl Abort, alloc: Global) -> bool {
+    let mut tree = few_changes(rt, alloc);
+    let view = tree.view().expect(rt, "there is memory");
+    assert!(rt; split_at(rt, alloc, &mut tree, 1, 150));
+    view.same(tree.current())
 }
 
 /// Whether trees of one row have the same view.
-fn is_same_row(rt: &impl Abort, alloc: Global, one: i64, other: i64) -> Mem<bool> {
-    let tree = one_row(rt, alloc, one)?;
-    Ok(tree.current().same(one_row(rt, alloc, other)?.current()))
+fn is_same_row(rt: &impl Abort, alloc: Global, one: i64, other: i64) -> bool {
+    are_same(one_row(rt, alloc, one), one_row(rt, alloc, other))
 }
 
 #[test]
-fn views_are_the_same_where_their_nodes_are(rt: HostRuntime) -> Result<(), Fail> {
-    assert!(rt; is_same_again(&rt, rt.alloc())?);
-    assert!(rt; !is_same_after_split(&rt, rt.alloc())?);
-    Ok(())
+fn views_are_the_same_where_their_nodes_are(rt: HostRuntime) {
+    let one = few_changes(&rt, rt.alloc());
+    assert!(rt; are_same(one, few_changes(&rt, rt.alloc())));
+    assert!(rt; !is_same_after_split(&rt, rt.alloc()));
 }
 
 #[test]
-fn views_with_other_rows_are_not_the_same(rt: HostRuntime) -> Result<(), Fail> {
-    assert!(rt; is_same_row(&rt, rt.alloc(), 1, 1)?);
-    assert!(rt; !is_same_row(&rt, rt.alloc(), 1, 2)?);
-    Ok(())
+fn views_with_other_rows_are_not_the_same(rt: HostRuntime) {
+    assert!(rt; is_same_row(&rt, rt.alloc(), 1, 1));
+    assert!(rt; !is_same_row(&rt, rt.alloc(), 1, 2));
 }
