@@ -1,6 +1,6 @@
 //! Packed nodes, made of a node and of bytes, answer as the node does.
 
-use crate::samples::{before, carrying_block, current, first_block, key, put_row};
+use crate::samples::{carrying_block, first_block, first_node, key};
 use blocks::{Block, has_block};
 use bytes::Bytes;
 use datanode::DataNode;
@@ -8,69 +8,74 @@ use eventlist::event_since;
 use keyrange::KeyRange;
 use std::alloc::Global;
 use std::process::Abort;
-use std::test::Fail;
-use values::{Instant, KeyBytes, Mem, Row, SharedEvent};
+use values::{Instant, KeyBytes, Row, SharedEvent};
 
-fn block_of(alloc: Global, bytes: &[u8]) -> Mem<Option<Block>> {
-    let bytes = Vec::from_slice(alloc, bytes)?;
-    Block::from_bytes(alloc, Bytes::from_vec(bytes)?)
+fn found_block(rt: &impl Abort, alloc: Global, bytes: &[u8]) -> Option<Block> {
+    let bytes = Vec::from_slice(alloc, bytes).expect(rt, "there is memory");
+    let bytes = Bytes::from_vec(bytes).expect(rt, "there is memory");
+    Block::from_bytes(alloc, bytes).expect(rt, "there is memory")
+}
+
+/// The block that bytes are.
+fn block_of(rt: &impl Abort, alloc: Global, bytes: &[u8]) -> Block {
+    found_block(rt, alloc, bytes).expect(rt, "the bytes are a block")
+}
+
+/// The block of a node that has one.
+fn pack_of(rt: &impl Abort, alloc: Global, node: &DataNode) -> Block {
+    if !has_block(node) {
+        panic!(rt; "the node has no block");
+    }
+    Block::pack(alloc, node).expect(rt, "there is memory")
 }
 
 /// The block of the node whose block was worked out by hand.
-fn packed_first(rt: &impl Abort, alloc: Global) -> Mem<Option<Block>> {
-    let mut node = current(rt, alloc)?;
-    put_row(rt, alloc, &mut node, 1, 100)?;
-    let node = before(rt, &node, 200)?;
-    if !has_block(&node) {
-        return Ok(None);
-    }
-    Ok(Some(Block::pack(alloc, &node)?))
+fn packed_first(rt: &impl Abort, alloc: Global) -> Block {
+    let node = first_node(rt, alloc);
+    pack_of(rt, alloc, &node)
 }
 
-/// Whether two blocks are the same, with the bytes given, and end at 200.
-fn are_first(one: Option<Block>, other: Option<Block>) -> bool {
-    match (one, other) {
-        (Some(one), Some(other)) => {
-            one.is_same(&other)
-                && one.bytes().as_slice() == first_block()
-                && one.rect().time().to == Some(200)
-        }
-        _ => false,
-    }
+/// Whether a block is the same as that of the bytes given, has these bytes, and ends at 200.
+fn is_first(rt: &impl Abort, alloc: Global, block: &Block) -> bool {
+    block.bytes().as_slice() == first_block()
+        && block.rect().time().to == Some(200)
+        && block.is_same(&block_of(rt, alloc, first_block()))
 }
 
 #[test]
-fn a_node_is_packed_to_the_block_that_its_bytes_make(rt: HostRuntime) -> Result<(), Fail> {
-    let alloc = rt.alloc();
-    let packed = packed_first(&rt, alloc)?;
-    assert!(rt; are_first(packed, block_of(alloc, first_block())?));
-    Ok(())
+fn a_node_is_packed_to_the_block_that_its_bytes_make(rt: HostRuntime) {
+    assert!(rt; is_first(&rt, rt.alloc(), &packed_first(&rt, rt.alloc())));
+}
+
+/// Whether bytes are a block, and then one that is the same as another.
+fn is_same_block(rt: &impl Abort, alloc: Global, whole: &Block, bytes: &[u8]) -> Option<bool> {
+    let block = found_block(rt, alloc, bytes)?;
+    Some(block.is_same(whole))
+}
+
+/// How many prefixes of bytes are blocks, and how many of these are the same as a block.
+fn count_same(rt: &impl Abort, alloc: Global, whole: &Block, bytes: &[u8]) -> (usize, usize) {
+    let mut blocks = 0usize;
+    let mut same = 0usize;
+    for length in 0..=bytes.len() {
+        if let Some(is_same) = is_same_block(rt, alloc, whole, bytes.split_at(length).0) {
+            blocks = blocks.saturating_add(1);
+            same = same.saturating_add(is_same as usize);
+        }
+    }
+    (blocks, same)
 }
 
 /// How many prefixes of a block are blocks, and how many of these are it.
-fn count_prefixes(alloc: Global, bytes: &[u8]) -> Mem<(usize, usize)> {
-    let mut blocks = 0usize;
-    let mut same = 0usize;
-    let Some(whole) = block_of(alloc, bytes)? else {
-        return Ok((0, 0));
-    };
-    for length in 0..=bytes.len() {
-        if let Some(block) = block_of(alloc, bytes.split_at(length).0)? {
-            blocks = blocks.saturating_add(1);
-            if block.is_same(&whole) {
-                same = same.saturating_add(1);
-            }
-        }
-    }
-    Ok((blocks, same))
+fn count_prefixes(rt: &impl Abort, alloc: Global, bytes: &[u8]) -> (usize, usize) {
+    let whole = block_of(rt, alloc, bytes);
+    count_same(rt, alloc, &whole, bytes)
 }
 
 #[test]
-fn of_the_prefixes_of_a_block_it_alone_is_one(rt: HostRuntime) -> Result<(), Fail> {
-    let alloc = rt.alloc();
-    assert_eq!(rt; count_prefixes(alloc, first_block())?, (1, 1));
-    assert_eq!(rt; count_prefixes(alloc, carrying_block())?, (1, 1));
-    Ok(())
+fn of_the_prefixes_of_a_block_it_alone_is_one(rt: HostRuntime) {
+    assert!(rt; count_prefixes(&rt, rt.alloc(), first_block()) == (1, 1));
+    assert!(rt; count_prefixes(&rt, rt.alloc(), carrying_block()) == (1, 1));
 }
 
 /// The instant of a key's first event above another, among the events of a node.
@@ -95,62 +100,74 @@ fn width(row: Option<&Row>) -> usize {
 /// Whether a block and its node have a row of one width of a key at an instant, and one last and one next change after
 /// it.
 fn agree(
+    rt: &impl Abort,
     alloc: Global,
     block: &Block,
     node: &DataNode,
     key: &KeyBytes,
     instant: Instant,
-) -> Mem<bool> {
-    let row = block.at(alloc, key, instant)?;
-    let last = block.changed_since(key, instant);
-    let next = block.next_change(key, instant);
-    Ok(
-        width(row.as_ref()) == width(node.at(key, instant))
-            && last == event_since(node.events(), key, instant)
-            && next == first_above(node, key, instant),
-    )
+) -> bool {
+    let row = block.at(alloc, key, instant).expect(rt, "there is memory");
+    width(row.as_ref()) == width(node.at(key, instant))
+        && block.changed_since(key, instant) == event_since(node.events(), key, instant)
+        && block.next_change(key, instant) == first_above(node, key, instant)
+}
+
+/// At how many instants a block and its node agree on a key.
+fn count_of_key(
+    rt: &impl Abort,
+    alloc: Global,
+    block: &Block,
+    node: &DataNode,
+    number: u8,
+) -> usize {
+    let key = key(rt, alloc, number);
+    let mut count = 0usize;
+    for instant in 0..400 {
+        if agree(rt, alloc, block, node, &key, instant) {
+            count = count.saturating_add(1);
+        }
+    }
+    count
+}
+
+/// For how many keys and instants a block and a node with as many events agree.
+fn count_both(rt: &impl Abort, alloc: Global, block: &Block, node: &DataNode) -> usize {
+    assert!(rt; block.len() == node.len());
+    let mut count = 0usize;
+    for number in 0..8 {
+        count = count.saturating_add(count_of_key(rt, alloc, block, node, number));
+    }
+    count
+}
+
+/// The node that a copy of a block unpacks to.
+fn node_of_copy(rt: &impl Abort, alloc: Global, block: &Block) -> DataNode {
+    let copy = block.copy().expect(rt, "there is memory");
+    copy.unpack(alloc).expect(rt, "there is memory")
 }
 
 /// For how many keys and instants a block and the node that its copy unpacks to agree.
-fn count_agreed(rt: &impl Abort, alloc: Global, bytes: &[u8]) -> Mem<Option<usize>> {
-    let Some(block) = block_of(alloc, bytes)? else {
-        return Ok(None);
-    };
-    let node = block.copy()?.unpack(alloc)?;
-    if block.len() != node.len() {
-        return Ok(None);
-    }
-    let mut count = 0usize;
-    for number in 0..8 {
-        let key = key(rt, alloc, number)?;
-        for instant in 0..400 {
-            if agree(alloc, &block, &node, &key, instant)? {
-                count = count.saturating_add(1);
-            }
-        }
-    }
-    Ok(Some(count))
+fn count_agreed(rt: &impl Abort, alloc: Global, bytes: &[u8]) -> usize {
+    let block = block_of(rt, alloc, bytes);
+    let node = node_of_copy(rt, alloc, &block);
+    count_both(rt, alloc, &block, &node)
 }
 
 #[test]
-fn a_packed_node_answers_as_the_node_that_it_unpacks_to(rt: HostRuntime) -> Result<(), Fail> {
-    let alloc = rt.alloc();
-    assert_eq!(rt; count_agreed(&rt, alloc, first_block())?, Some(3200));
-    assert_eq!(rt; count_agreed(&rt, alloc, carrying_block())?, Some(3200));
-    Ok(())
+fn a_packed_node_answers_as_the_node_that_it_unpacks_to(rt: HostRuntime) {
+    assert!(rt; count_agreed(&rt, rt.alloc(), first_block()) == 3200);
+    assert!(rt; count_agreed(&rt, rt.alloc(), carrying_block()) == 3200);
 }
 
 /// A key's next change after an instant in the block with a carried event.
-fn next(alloc: Global, key: &KeyBytes, after: Instant) -> Mem<Option<Instant>> {
-    match block_of(alloc, carrying_block())? {
-        None => Ok(None),
-        Some(block) => Ok(block.next_change(key, after)),
-    }
+fn next(rt: &impl Abort, alloc: Global, key: &KeyBytes, after: Instant) -> Option<Instant> {
+    let block = block_of(rt, alloc, carrying_block());
+    block.next_change(key, after)
 }
 
 #[test]
-fn the_next_change_is_found_in_place(rt: HostRuntime) -> Result<(), Fail> {
-    let alloc = rt.alloc();
+fn the_next_change_is_found_in_place(rt: HostRuntime) {
     let cases = [
         (1, 0, None),
         (2, 0, Some(100)),
@@ -164,27 +181,22 @@ fn the_next_change_is_found_in_place(rt: HostRuntime) -> Result<(), Fail> {
         (5, 0, None),
     ];
     for (number, after, change) in cases {
-        let key = key(&rt, alloc, number)?;
-        assert_eq!(rt;
-            next(alloc, &key, after)?,
-            change,
-            "key {number} after {after}"
-        );
+        let found = next(&rt, rt.alloc(), &key(&rt, rt.alloc(), number), after);
+        assert!(rt; found == change, "key {number} after {after}");
     }
-    Ok(())
 }
 
 /// The keys from a number on, and below another where it is at most 8.
-fn keys_between(rt: &impl Abort, alloc: Global, from: u8, to: u8) -> Mem<KeyRange> {
+fn keys_between(rt: &impl Abort, alloc: Global, from: u8, to: u8) -> KeyRange {
     let hi = if to <= 8 {
-        Some(key(rt, alloc, to)?)
+        Some(key(rt, alloc, to))
     } else {
         None
     };
-    Ok(KeyRange {
-        lo: key(rt, alloc, from)?,
+    KeyRange {
+        lo: key(rt, alloc, from),
         hi,
-    })
+    }
 }
 
 /// Whether two lists have the same events: keys and instants, and rows of one width.
@@ -203,42 +215,70 @@ fn are_alike(listed: &[SharedEvent], of_node: &[SharedEvent]) -> bool {
     others.next().is_none()
 }
 
+/// Whether a block and its node list the same events of a range and of a window of instants.
+fn list_alike(
+    rt: &impl Abort,
+    alloc: Global,
+    block: &Block,
+    node: &DataNode,
+    range: &KeyRange,
+    window: (Instant, Instant),
+) -> bool {
+    let listed = block.events_in(alloc, range, window.0, window.1);
+    let listed = listed.expect(rt, "there is memory");
+    let of_node = node.events_in(alloc, range, window.0, window.1);
+    let of_node = of_node.expect(rt, "there is memory");
+    are_alike(&listed, &of_node)
+}
+
 /// For how many windows of instants a block and its node list the same events of a range.
-fn count_windows(alloc: Global, block: &Block, node: &DataNode, range: &KeyRange) -> Mem<usize> {
+fn count_windows(
+    rt: &impl Abort,
+    alloc: Global,
+    block: &Block,
+    node: &DataNode,
+    range: &KeyRange,
+) -> usize {
     let instants = [0, 100, 199, 200, 249, 250, 299, u64::MAX];
     let mut count = 0usize;
     for from in instants {
         for to in instants {
-            let listed = block.events_in(alloc, range, from, to)?;
-            let of_node = node.events_in(alloc, range, from, to)?;
-            if are_alike(&listed, &of_node) {
+            if list_alike(rt, alloc, block, node, range, (from, to)) {
                 count = count.saturating_add(1);
             }
         }
     }
-    Ok(count)
+    count
 }
 
-/// For how many ranges of keys and windows of instants a block and the node that it unpacks to list the same events.
-fn count_listed(rt: &impl Abort, alloc: Global, bytes: &[u8]) -> Mem<Option<usize>> {
-    let Some(block) = block_of(alloc, bytes)? else {
-        return Ok(None);
-    };
-    let node = block.unpack(alloc)?;
+/// For how many ranges of keys from a number on, and windows of instants, a block and its node list the same events.
+fn count_ranges(rt: &impl Abort, alloc: Global, block: &Block, node: &DataNode, from: u8) -> usize {
+    let mut count = 0usize;
+    for to in 1..10u8 {
+        let range = keys_between(rt, alloc, from, to);
+        count = count.saturating_add(count_windows(rt, alloc, block, node, &range));
+    }
+    count
+}
+
+/// For how many ranges of keys and windows of instants a block and its node list the same events.
+fn count_all(rt: &impl Abort, alloc: Global, block: &Block, node: &DataNode) -> usize {
     let mut count = 0usize;
     for from in 0..8u8 {
-        for to in 1..10u8 {
-            let range = keys_between(rt, alloc, from, to)?;
-            count = count.saturating_add(count_windows(alloc, &block, &node, &range)?);
-        }
+        count = count.saturating_add(count_ranges(rt, alloc, block, node, from));
     }
-    Ok(Some(count))
+    count
+}
+
+/// The same of a block and the node that it unpacks to.
+fn count_listed(rt: &impl Abort, alloc: Global, bytes: &[u8]) -> usize {
+    let block = block_of(rt, alloc, bytes);
+    let node = block.unpack(alloc).expect(rt, "there is memory");
+    count_all(rt, alloc, &block, &node)
 }
 
 #[test]
-fn a_packed_node_lists_what_the_node_that_it_unpacks_to_lists(rt: HostRuntime) -> Result<(), Fail> {
-    let alloc = rt.alloc();
-    assert_eq!(rt; count_listed(&rt, alloc, first_block())?, Some(4608));
-    assert_eq!(rt; count_listed(&rt, alloc, carrying_block())?, Some(4608));
-    Ok(())
+fn a_packed_node_lists_what_the_node_that_it_unpacks_to_lists(rt: HostRuntime) {
+    assert!(rt; count_listed(&rt, rt.alloc(), first_block()) == 4608);
+    assert!(rt; count_listed(&rt, rt.alloc(), carrying_block()) == 4608);
 }

@@ -5,7 +5,7 @@ use datanode::DataNode;
 use keyrange::{KeyRange, Rect, TimeRange};
 use std::alloc::Global;
 use std::process::Abort;
-use values::{Chars, Event, Instant, KeyBytes, Mem, Row, Value};
+use values::{Chars, Event, Instant, KeyBytes, Row, Value};
 
 /// All keys from 1 to 200: key 1 has the row (1, 'Ann') from 100 on.
 pub(crate) fn first_block() -> &'static [u8]
@@ -35,9 +35,9 @@ pub(crate) fn carrying_block() -> &'static [u8]
 }
 
 /// The key of a table's row whose key is this number.
-pub(crate) fn key(rt: &impl Abort, alloc: Global, number: u8) -> Mem<KeyBytes> {
-    let bytes = vec![in alloc; 1, 128, 0, 0, 0, 0, 0, 0, number]?;
-    Ok(KeyBytes::new(bytes).expect(rt, "nine bytes are few"))
+pub(crate) fn key(rt: &impl Abort, alloc: Global, number: u8) -> KeyBytes {
+    let bytes = vec![in alloc; 1, 128, 0, 0, 0, 0, 0, 0, number];
+    KeyBytes::new(bytes.expect(rt, "there is memory")).expect(rt, "nine bytes are few")
 }
 
 pub(crate) fn event(
@@ -54,30 +54,28 @@ pub(crate) fn event(
 }
 
 /// A node of all keys from 1 on.
-pub(crate) fn current(rt: &impl Abort, alloc: Global) -> Mem<DataNode> {
+pub(crate) fn current(rt: &impl Abort, alloc: Global) -> DataNode {
     let keys = KeyRange {
         lo: KeyBytes::least(alloc),
         hi: None,
     };
     let time = TimeRange { from: 1, to: None };
-    DataNode::new(
-        alloc,
-        Rect::new(keys, time).expect(rt, "there are instants"),
-    )
+    let rect = Rect::new(keys, time).expect(rt, "there are instants");
+    DataNode::new(alloc, rect).expect(rt, "there is memory")
 }
 
 /// Puts an event, where the node accepts it.
-pub(crate) fn put(node: &mut DataNode, event: Event) -> Mem<()> {
+pub(crate) fn put(rt: &impl Abort, node: &mut DataNode, event: Event) {
     if node.accepts(&event) {
-        node.put(event)?;
+        node.put(event).expect(rt, "there is memory");
     }
-    Ok(())
 }
 
 /// The row (1, 'Ann').
-fn ann(alloc: Global) -> Mem<Vec<Value>> {
-    let name = Value::Text(Chars::copy_of(alloc, "Ann")?);
-    Ok(vec![in alloc; Value::Int(1), name]?)
+fn ann(rt: &impl Abort, alloc: Global) -> Vec<Value> {
+    let name = Chars::copy_of(alloc, "Ann").expect(rt, "the name is short");
+    let values = vec![in alloc; Value::Int(1), Value::Text(name)];
+    values.expect(rt, "there is memory")
 }
 
 /// Puts a row of a key.
@@ -87,10 +85,10 @@ pub(crate) fn put_row(
     node: &mut DataNode,
     number: u8,
     at: Instant,
-) -> Mem<()> {
-    let values = ann(alloc)?;
-    let key = key(rt, alloc, number)?;
-    put(node, event(rt, key, at, Some(values)))
+) {
+    let values = ann(rt, alloc);
+    let key = key(rt, alloc, number);
+    put(rt, node, event(rt, key, at, Some(values)));
 }
 
 /// Puts the deletion of a key.
@@ -100,21 +98,34 @@ pub(crate) fn put_deletion(
     node: &mut DataNode,
     number: u8,
     at: Instant,
-) -> Mem<()> {
-    let key = key(rt, alloc, number)?;
-    put(node, event(rt, key, at, None))
+) {
+    let key = key(rt, alloc, number);
+    put(rt, node, event(rt, key, at, None));
+}
+
+fn part_before(rt: &impl Abort, node: &DataNode, instant: Instant) -> DataNode {
+    let halves = node.rect().cut_time(instant);
+    let halves = halves.expect(rt, "there is memory");
+    let (past, _now) = halves.expect(rt, "the instant is inside");
+    node.part(past).expect(rt, "there is memory")
 }
 
 /// The part of a node before an instant.
-pub(crate) fn before(rt: &impl Abort, node: &DataNode, instant: Instant) -> Mem<DataNode> {
-    let halves = node.rect().cut_time(instant)?;
-    let (past, _now) = halves.expect(rt, "the instant is inside");
-    node.part(past)
+pub(crate) fn before(rt: &impl Abort, node: DataNode, instant: Instant) -> DataNode {
+    part_before(rt, &node, instant)
 }
 
 /// The part of a node from an instant on.
-pub(crate) fn since(rt: &impl Abort, node: &DataNode, instant: Instant) -> Mem<DataNode> {
-    let halves = node.rect().cut_time(instant)?;
+pub(crate) fn since(rt: &impl Abort, node: &DataNode, instant: Instant) -> DataNode {
+    let halves = node.rect().cut_time(instant);
+    let halves = halves.expect(rt, "there is memory");
     let (_past, now) = halves.expect(rt, "the instant is inside");
-    node.part(now)
+    node.part(now).expect(rt, "there is memory")
+}
+
+/// The node whose block was worked out by hand.
+pub(crate) fn first_node(rt: &impl Abort, alloc: Global) -> DataNode {
+    let mut node = current(rt, alloc);
+    put_row(rt, alloc, &mut node, 1, 100);
+    before(rt, node, 200)
 }
