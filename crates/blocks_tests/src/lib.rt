@@ -1,8 +1,10 @@
-//! Tests of `blocks` by its public calls.
+//! Tests of `blocks` and `blockcache` by their public calls.
 #![tactic(auto)]
 
 #[cfg(test)]
 mod bytes_tests;
+#[cfg(test)]
+mod cache_tests;
 #[cfg(test)]
 mod packed_tests;
 #[cfg(test)]

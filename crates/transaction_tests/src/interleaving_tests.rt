@@ -7,7 +7,7 @@ use crate::samples::{by, employee, key, many, one_row, sets};
 use histories::{Listing, Reply, Step};
 use interleaving::System;
 use rows::{Form, Instant, Keys, Operator, Refusal, Row, Rows, Schema, Sets, Shown, Value};
-use std::alloc::{AllocError, Global};
+use std::alloc::Global;
 use std::process::Abort;
 
 /// A step on the table of employees: its session, and what it is about.
@@ -82,8 +82,8 @@ fn steps_of(rt: &impl Abort, alloc: Global, turns: &[Turn]) -> Vec<Step> {
 
 /// Asserts that an empty system gives each action its reply.
 fn assert_replies(rt: &impl Abort, alloc: Global, turns: &[Turn]) {
-    let steps = steps_of(rt, alloc, turns);
-    let replies = System::run(alloc, schema(rt, alloc), steps).expect(rt, "there is memory");
+    let replies = System::run(alloc, schema(rt, alloc), steps_of(rt, alloc, turns));
+    let replies = replies.expect(rt, "there is memory");
     assert!(rt; replies.len() == turns.len());
     for (i, reply) in replies.iter().enumerate() {
         assert!(rt; is_told(rt, alloc, reply, turns[i].1), "at step {i}");
@@ -91,25 +91,33 @@ fn assert_replies(rt: &impl Abort, alloc: Global, turns: &[Turn]) {
 }
 
 fn is_told(rt: &impl Abort, alloc: Global, reply: &Reply, wanted: &str) -> bool {
-    let text = text_of(alloc, reply).expect(rt, "there is memory");
-    text.as_str() == wanted
+    text_of(rt, alloc, reply).as_str() == wanted
 }
 
 /// A reply in one line.
-fn text_of(alloc: Global, reply: &Reply) -> Result<String, AllocError> {
+fn text_of(rt: &impl Abort, alloc: Global, reply: &Reply) -> String {
     match reply {
-        Reply::Begun(start) => format!(in alloc; "begun {start}"),
-        Reply::Inserted(count) => format!(in alloc; "inserted {count}"),
-        Reply::Updated(count) => format!(in alloc; "updated {count}"),
-        Reply::Deleted(count) => format!(in alloc; "deleted {count}"),
-        Reply::Committed(None) => format!(in alloc; "committed nothing"),
-        Reply::Committed(Some(instant)) => format!(in alloc; "committed {instant}"),
-        Reply::RolledBack => format!(in alloc; "rolled back"),
-        Reply::Done => format!(in alloc; "ok"),
-        Reply::Refused(refusal) => format!(in alloc; "{}", why(refusal)),
-        Reply::Shown(Listing::Rows(rows)) => rows_told(alloc, rows.items()),
-        Reply::Shown(Listing::Periods(shown)) => periods_told(alloc, shown.items()),
+        Reply::Begun(start) => numbered(rt, alloc, "begun", *start),
+        Reply::Inserted(count) => numbered(rt, alloc, "inserted", *count as u64),
+        Reply::Updated(count) => numbered(rt, alloc, "updated", *count as u64),
+        Reply::Deleted(count) => numbered(rt, alloc, "deleted", *count as u64),
+        Reply::Committed(None) => worded(rt, alloc, "committed nothing"),
+        Reply::Committed(Some(instant)) => numbered(rt, alloc, "committed", *instant),
+        Reply::RolledBack => worded(rt, alloc, "rolled back"),
+        Reply::Done => worded(rt, alloc, "ok"),
+        Reply::Refused(refusal) => worded(rt, alloc, why(refusal)),
+        Reply::Shown(Listing::Rows(rows)) => rows_told(rt, alloc, rows.items()),
+        Reply::Shown(Listing::Periods(shown)) => periods_told(rt, alloc, shown.items()),
     }
+}
+
+fn numbered(rt: &impl Abort, alloc: Global, word: &str, number: u64) -> String {
+    let text = format!(in alloc; "{word} {number}");
+    text.expect(rt, "there is memory")
+}
+
+fn worded(rt: &impl Abort, alloc: Global, words: &str) -> String {
+    String::from_str(alloc, words).expect(rt, "there is memory")
 }
 
 fn why(refusal: &Refusal) -> &'static str {
@@ -126,253 +134,301 @@ fn why(refusal: &Refusal) -> &'static str {
     }
 }
 
-fn rows_told(alloc: Global, rows: &[Row]) -> Result<String, AllocError> {
+fn rows_told(rt: &impl Abort, alloc: Global, rows: &[Row]) -> String {
     let mut text = String::new(alloc);
     for row in rows {
-        push_row(&mut text, row)?;
+        push_row(rt, &mut text, row);
     }
-    Ok(text)
+    text
 }
 
-fn periods_told(alloc: Global, shown: &[Shown]) -> Result<String, AllocError> {
+fn periods_told(rt: &impl Abort, alloc: Global, shown: &[Shown]) -> String {
     let mut text = String::new(alloc);
     for version in shown {
-        push_row(&mut text, &version.row)?;
-        let from = version.from;
-        match version.to {
-            Some(to) => text.push_str(format!(in alloc; "{from}-{to} ")?.as_str())?,
-            None => text.push_str(format!(in alloc; "{from}- ")?.as_str())?,
-        }
+        push_row(rt, &mut text, &version.row);
+        push_period(rt, alloc, &mut text, version.from, version.to);
     }
-    Ok(text)
+    text
 }
 
-fn push_row(text: &mut String, row: &Row) -> Result<(), AllocError> {
-    if let [_, Value::Text(name)] = row.values() {
-        text.push_str(name.text())?;
-    }
-    text.push_str(" ")
+fn push(rt: &impl Abort, text: &mut String, more: &str) {
+    text.push_str(more).expect(rt, "there is memory");
 }
+
+/// The name in a row.
+fn push_row(rt: &impl Abort, text: &mut String, row: &Row) {
+    if let [_, Value::Text(name)] = row.values() {
+        push(rt, text, name.text());
+    }
+    push(rt, text, " ");
+}
+
+fn push_period(
+    rt: &impl Abort,
+    alloc: Global,
+    text: &mut String,
+    from: Instant,
+    to: Option<Instant>,
+) {
+    let period = match to {
+        Some(to) => format!(in alloc; "{from}-{to} "),
+        None => format!(in alloc; "{from}- "),
+    };
+    push(rt, text, period.expect(rt, "there is memory").as_str());
+}
+
+/// A version that ends where the next begins.
+const PERIODS: &[Turn] = &[
+    (Begin(1), "begun 0"),
+    (Insert(1, 1, "Ann"), "inserted 1"),
+    (Commit(1, 100), "committed 100"),
+    (Begin(1), "begun 100"),
+    (Rename(1, 1, "Bea"), "updated 1"),
+    (Commit(1, 200), "committed 200"),
+    (Select(1, Form::AsOf(99)), ""),
+    (Select(1, Form::AsOf(100)), "Ann "),
+    (Select(1, Form::AsOf(199)), "Ann "),
+    (Select(1, Form::AsOf(200)), "Bea "),
+    (Select(1, Form::FromTo(100, 200)), "Ann 100-200 "),
+    (Select(1, Form::Between(100, 200)), "Ann 100-200 Bea 200- "),
+    (Select(1, Form::FromTo(150, 150)), ""),
+    (Select(1, Form::Between(200, 200)), "Bea 200- "),
+    (Select(1, Form::FromTo(300, 100)), ""),
+    (Select(1, Form::Plain), "Bea "),
+];
 
 #[test]
 fn a_version_is_closed_at_its_start_and_open_at_its_end(rt: HostRuntime) {
-    let turns = [
-        (Begin(1), "begun 0"),
-        (Insert(1, 1, "Ann"), "inserted 1"),
-        (Commit(1, 100), "committed 100"),
-        (Begin(1), "begun 100"),
-        (Rename(1, 1, "Bea"), "updated 1"),
-        (Commit(1, 200), "committed 200"),
-        (Select(1, Form::AsOf(99)), ""),
-        (Select(1, Form::AsOf(100)), "Ann "),
-        (Select(1, Form::AsOf(199)), "Ann "),
-        (Select(1, Form::AsOf(200)), "Bea "),
-        (Select(1, Form::FromTo(100, 200)), "Ann 100-200 "),
-        (Select(1, Form::Between(100, 200)), "Ann 100-200 Bea 200- "),
-        (Select(1, Form::FromTo(150, 150)), ""),
-        (Select(1, Form::Between(200, 200)), "Bea 200- "),
-        (Select(1, Form::FromTo(300, 100)), ""),
-        (Select(1, Form::Plain), "Bea "),
-    ];
-    assert_replies(&rt, rt.alloc(), &turns);
+    assert_replies(&rt, rt.alloc(), PERIODS);
 }
+
+/// The second reading is before the first commit.
+const CLOCK_BACK: &[Turn] = &[
+    (Begin(1), "begun 0"),
+    (Insert(1, 1, "Ann"), "inserted 1"),
+    (Commit(1, 200), "committed 200"),
+    (Begin(1), "begun 200"),
+    (Insert(1, 2, "Cy"), "inserted 1"),
+    (Commit(1, 50), "committed 201"),
+];
 
 #[test]
 fn a_clock_that_runs_back_still_gives_a_later_instant(rt: HostRuntime) {
-    let turns = [
-        (Begin(1), "begun 0"),
-        (Insert(1, 1, "Ann"), "inserted 1"),
-        (Commit(1, 200), "committed 200"),
-        (Begin(1), "begun 200"),
-        (Insert(1, 2, "Cy"), "inserted 1"),
-        (Commit(1, 50), "committed 201"),
-    ];
-    assert_replies(&rt, rt.alloc(), &turns);
+    assert_replies(&rt, rt.alloc(), CLOCK_BACK);
 }
+
+/// Two transactions change one row.
+const FIRST_COMMITTER: &[Turn] = &[
+    (Begin(1), "begun 0"),
+    (Insert(1, 1, "Ann"), "inserted 1"),
+    (Commit(1, 200), "committed 200"),
+    (Begin(1), "begun 200"),
+    (Begin(2), "begun 200"),
+    (Rename(1, 1, "Cat"), "updated 1"),
+    (Rename(2, 1, "Dan"), "updated 1"),
+    (Commit(1, 0), "committed 201"),
+    (Commit(2, 0), "conflict"),
+    (Commit(2, 0), "no transaction"),
+    (Select(2, Form::Plain), "Cat "),
+];
 
 #[test]
 fn the_first_committer_wins(rt: HostRuntime) {
-    let turns = [
-        (Begin(1), "begun 0"),
-        (Insert(1, 1, "Ann"), "inserted 1"),
-        (Commit(1, 200), "committed 200"),
-        (Begin(1), "begun 200"),
-        (Begin(2), "begun 200"),
-        (Rename(1, 1, "Cat"), "updated 1"),
-        (Rename(2, 1, "Dan"), "updated 1"),
-        (Commit(1, 0), "committed 201"),
-        (Commit(2, 0), "conflict"),
-        (Commit(2, 0), "no transaction"),
-        (Select(2, Form::Plain), "Cat "),
-    ];
-    assert_replies(&rt, rt.alloc(), &turns);
+    assert_replies(&rt, rt.alloc(), FIRST_COMMITTER);
 }
+
+/// Two transactions change two rows.
+const OTHER_KEYS: &[Turn] = &[
+    (Begin(1), "begun 0"),
+    (Insert(1, 1, "Ann"), "inserted 1"),
+    (Commit(1, 100), "committed 100"),
+    (Begin(1), "begun 100"),
+    (Insert(1, 2, "Cy"), "inserted 1"),
+    (Commit(1, 200), "committed 200"),
+    (Begin(1), "begun 200"),
+    (Begin(2), "begun 200"),
+    (Rename(1, 2, "x"), "updated 1"),
+    (Rename(2, 1, "y"), "updated 1"),
+    (Commit(1, 0), "committed 201"),
+    (Commit(2, 0), "committed 202"),
+];
 
 #[test]
 fn two_that_write_other_keys_both_commit(rt: HostRuntime) {
-    let turns = [
-        (Begin(1), "begun 0"),
-        (Insert(1, 1, "Ann"), "inserted 1"),
-        (Commit(1, 100), "committed 100"),
-        (Begin(1), "begun 100"),
-        (Insert(1, 2, "Cy"), "inserted 1"),
-        (Commit(1, 200), "committed 200"),
-        (Begin(1), "begun 200"),
-        (Begin(2), "begun 200"),
-        (Rename(1, 2, "x"), "updated 1"),
-        (Rename(2, 1, "y"), "updated 1"),
-        (Commit(1, 0), "committed 201"),
-        (Commit(2, 0), "committed 202"),
-    ];
-    assert_replies(&rt, rt.alloc(), &turns);
+    assert_replies(&rt, rt.alloc(), OTHER_KEYS);
 }
+
+/// A row is inserted and deleted in one transaction.
+const COMES_AND_GOES: &[Turn] = &[
+    (Begin(1), "begun 0"),
+    (Insert(1, 9, "tmp"), "inserted 1"),
+    (Delete(1, 9), "deleted 1"),
+    (Commit(1, 100), "committed nothing"),
+    (Begin(1), "begun 0"),
+];
 
 #[test]
 fn a_key_that_comes_and_goes_leaves_nothing(rt: HostRuntime) {
-    let turns = [
-        (Begin(1), "begun 0"),
-        (Insert(1, 9, "tmp"), "inserted 1"),
-        (Delete(1, 9), "deleted 1"),
-        (Commit(1, 100), "committed nothing"),
-        (Begin(1), "begun 0"),
-    ];
-    assert_replies(&rt, rt.alloc(), &turns);
+    assert_replies(&rt, rt.alloc(), COMES_AND_GOES);
 }
+
+/// A row is deleted by one transaction and changed by another.
+const DELETION: &[Turn] = &[
+    (Begin(1), "begun 0"),
+    (Insert(1, 1, "Ann"), "inserted 1"),
+    (Commit(1, 100), "committed 100"),
+    (Begin(1), "begun 100"),
+    (Begin(2), "begun 100"),
+    (Delete(2, 1), "deleted 1"),
+    (Commit(2, 210), "committed 210"),
+    (Rename(1, 1, "Fay"), "updated 1"),
+    (Commit(1, 220), "conflict"),
+    (Select(1, Form::FromTo(1, 1000)), "Ann 100-210 "),
+];
 
 #[test]
 fn a_deletion_conflicts_too(rt: HostRuntime) {
-    let turns = [
-        (Begin(1), "begun 0"),
-        (Insert(1, 1, "Ann"), "inserted 1"),
-        (Commit(1, 100), "committed 100"),
-        (Begin(1), "begun 100"),
-        (Begin(2), "begun 100"),
-        (Delete(2, 1), "deleted 1"),
-        (Commit(2, 210), "committed 210"),
-        (Rename(1, 1, "Fay"), "updated 1"),
-        (Commit(1, 220), "conflict"),
-        (Select(1, Form::FromTo(1, 1000)), "Ann 100-210 "),
-    ];
-    assert_replies(&rt, rt.alloc(), &turns);
+    assert_replies(&rt, rt.alloc(), DELETION);
 }
+
+/// A transaction queries what it wrote.
+const OWN_WRITES: &[Turn] = &[
+    (Begin(1), "begun 0"),
+    (Insert(1, 1, "Ann"), "inserted 1"),
+    (Commit(1, 100), "committed 100"),
+    (Begin(1), "begun 100"),
+    (Insert(1, 5, "Gus"), "inserted 1"),
+    (Begin(1), "in transaction"),
+    (Insert(1, 2, "Cy"), "inserted 1"),
+    (Commit(1, 0), "committed 101"),
+    (Begin(1), "begun 101"),
+    (Begin(2), "begun 101"),
+    (Insert(1, 6, "Hal"), "inserted 1"),
+    (Rename(2, 1, "Bea"), "updated 1"),
+    (Commit(2, 0), "committed 102"),
+    (Select(1, Form::Plain), "Ann Cy Gus Hal "),
+    (Select(1, Form::AsOf(102)), "Ann Cy Gus "),
+    (
+        Select(1, Form::FromTo(1, 1000)),
+        "Ann 100- Cy 101- Gus 101- ",
+    ),
+    (Select(2, Form::Plain), "Bea Cy Gus "),
+    (Rollback(1), "rolled back"),
+    (Select(1, Form::Plain), "Bea Cy Gus "),
+];
 
 #[test]
 fn own_writes_show_in_plain_queries_alone(rt: HostRuntime) {
-    let turns = [
-        (Begin(1), "begun 0"),
-        (Insert(1, 1, "Ann"), "inserted 1"),
-        (Commit(1, 100), "committed 100"),
-        (Begin(1), "begun 100"),
-        (Insert(1, 5, "Gus"), "inserted 1"),
-        (Begin(1), "in transaction"),
-        (Insert(1, 2, "Cy"), "inserted 1"),
-        (Commit(1, 0), "committed 101"),
-        (Begin(1), "begun 101"),
-        (Begin(2), "begun 101"),
-        (Insert(1, 6, "Hal"), "inserted 1"),
-        (Rename(2, 1, "Bea"), "updated 1"),
-        (Commit(2, 0), "committed 102"),
-        (Select(1, Form::Plain), "Ann Cy Gus Hal "),
-        (Select(1, Form::AsOf(102)), "Ann Cy Gus "),
-        (
-            Select(1, Form::FromTo(1, 1000)),
-            "Ann 100- Cy 101- Gus 101- ",
-        ),
-        (Select(2, Form::Plain), "Bea Cy Gus "),
-        (Rollback(1), "rolled back"),
-        (Select(1, Form::Plain), "Bea Cy Gus "),
-    ];
-    assert_replies(&rt, rt.alloc(), &turns);
+    assert_replies(&rt, rt.alloc(), OWN_WRITES);
 }
+
+/// The first commit takes the last instant.
+const CLOCK_END: &[Turn] = &[
+    (Begin(1), "begun 0"),
+    (Insert(1, 1, "Ann"), "inserted 1"),
+    (
+        Commit(1, 999_999_999_999_999_999),
+        "committed 999999999999999999",
+    ),
+    (Begin(1), "begun 999999999999999999"),
+    (Rename(1, 1, "Bea"), "updated 1"),
+    (Commit(1, 0), "clock end"),
+    (Commit(1, 0), "no transaction"),
+];
 
 #[test]
 fn the_last_instant_ends_the_clock(rt: HostRuntime) {
-    let turns = [
-        (Begin(1), "begun 0"),
-        (Insert(1, 1, "Ann"), "inserted 1"),
-        (
-            Commit(1, 999_999_999_999_999_999),
-            "committed 999999999999999999",
-        ),
-        (Begin(1), "begun 999999999999999999"),
-        (Rename(1, 1, "Bea"), "updated 1"),
-        (Commit(1, 0), "clock end"),
-        (Commit(1, 0), "no transaction"),
-    ];
-    assert_replies(&rt, rt.alloc(), &turns);
+    assert_replies(&rt, rt.alloc(), CLOCK_END);
 }
+
+/// Statements that are refused.
+const REFUSALS: &[Turn] = &[
+    (Insert(1, 1, "Ann"), "no transaction"),
+    (Begin(65), "no session"),
+    (Begin(1), "begun 0"),
+    (Begin(1), "in transaction"),
+    (InsertTwice(1, 1), "duplicate key"),
+    (Select(1, Form::Plain), ""),
+    (Migrate, "ok"),
+];
 
 #[test]
 fn a_refused_statement_changes_nothing(rt: HostRuntime) {
-    let turns = [
-        (Insert(1, 1, "Ann"), "no transaction"),
-        (Begin(65), "no session"),
-        (Begin(1), "begun 0"),
-        (Begin(1), "in transaction"),
-        (InsertTwice(1, 1), "duplicate key"),
-        (Select(1, Form::Plain), ""),
-        (Migrate, "ok"),
-    ];
-    assert_replies(&rt, rt.alloc(), &turns);
+    assert_replies(&rt, rt.alloc(), REFUSALS);
 }
+
+/// One key more than a transaction may write.
+const MANY_WRITES: &[Turn] = &[
+    (Begin(1), "begun 0"),
+    (InsertMany(1, 1000), "inserted 1000"),
+    (Insert(1, 1000, "y"), "too many writes"),
+    (DeleteBelow(1, 400), "deleted 400"),
+    (Commit(1, 7), "committed 7"),
+];
 
 #[test]
 fn a_transaction_writes_a_thousand_keys_and_no_more(rt: HostRuntime) {
-    let turns = [
-        (Begin(1), "begun 0"),
-        (InsertMany(1, 1000), "inserted 1000"),
-        (Insert(1, 1000, "y"), "too many writes"),
-        (DeleteBelow(1, 400), "deleted 400"),
-        (Commit(1, 7), "committed 7"),
-    ];
-    assert_replies(&rt, rt.alloc(), &turns);
+    assert_replies(&rt, rt.alloc(), MANY_WRITES);
 }
 
-/// How many nodes the tree of a system has after these actions.
-fn count_nodes(rt: &impl Abort, alloc: Global, turns: &[Turn]) -> usize {
-    let mut system = System::new(alloc, schema(rt, alloc)).expect(rt, "there is memory");
-    for step in steps_of(rt, alloc, turns) {
-        let _reply = system.step(step);
+fn new_system(rt: &impl Abort, alloc: Global) -> System {
+    System::new(alloc, schema(rt, alloc)).expect(rt, "there is memory")
+}
+
+/// Takes steps, whose replies are not looked at.
+fn take(rt: &impl Abort, alloc: Global, system: &mut System, actions: &[Action]) {
+    for action in actions {
+        let _reply = system.step(step_of(rt, alloc, *action));
     }
-    system.shape().expect(rt, "there is memory").nodes.len()
+}
+
+/// How many nodes the tree of a system has, and how many of these are packed.
+fn count_nodes(rt: &impl Abort, system: &System) -> (usize, usize) {
+    let shape = system.shape().expect(rt, "there is memory");
+    let mut packed = 0usize;
+    for node in &shape.nodes {
+        packed = packed.saturating_add(node.packed as usize);
+    }
+    (shape.nodes.len(), packed)
+}
+
+/// A row is committed, and its node is split at an instant and at a key.
+const SPLITS: &[Action] = &[
+    Begin(1),
+    Insert(1, 1, "Ann"),
+    Commit(1, 100),
+    SplitTime(1, 100),
+    SplitKey(1),
+];
+
+/// How many nodes there are after these splits.
+fn count_split(rt: &impl Abort, alloc: Global) -> usize {
+    let mut system = new_system(rt, alloc);
+    take(rt, alloc, &mut system, SPLITS);
+    count_nodes(rt, &system).0
 }
 
 #[test]
 fn a_split_step_splits_a_node(rt: HostRuntime) {
-    let turns = [
-        (Begin(1), "begun 0"),
-        (Insert(1, 1, "Ann"), "inserted 1"),
-        (Commit(1, 100), "committed 100"),
-        (SplitTime(1, 100), "ok"),
-        (SplitKey(1), "ok"),
-    ];
-    assert!(rt; count_nodes(&rt, rt.alloc(), &turns) == 4);
+    assert!(rt; count_split(&rt, rt.alloc()) == 4);
 }
+
+/// A query after a split.
+const SPLIT_UNSEEN: &[Turn] = &[
+    (Begin(1), "begun 0"),
+    (Insert(1, 1, "Ann"), "inserted 1"),
+    (Commit(1, 100), "committed 100"),
+    (SplitTime(1, 100), "ok"),
+    (Select(1, Form::FromTo(1, 1000)), "Ann 100- "),
+];
 
 #[test]
 fn a_split_shows_in_no_reply(rt: HostRuntime) {
-    let turns = [
-        (Begin(1), "begun 0"),
-        (Insert(1, 1, "Ann"), "inserted 1"),
-        (Commit(1, 100), "committed 100"),
-        (SplitTime(1, 100), "ok"),
-        (Select(1, Form::FromTo(1, 1000)), "Ann 100- "),
-    ];
-    assert_replies(&rt, rt.alloc(), &turns);
-}
-
-/// How many nodes are packed.
-fn count_packed(rt: &impl Abort, system: &System) -> usize {
-    let shape = system.shape().expect(rt, "there is memory");
-    shape.nodes.iter().filter(|node| node.packed).count()
-}
-
-fn take(rt: &impl Abort, alloc: Global, system: &mut System, action: Action) -> Reply {
-    system.step(step_of(rt, alloc, action))
+    assert_replies(&rt, rt.alloc(), SPLIT_UNSEEN);
 }
 
 /// The names that employee 1 has, one after the other, and how a query shows them.
-const NAMES: [(&str, &str); 18] = [
+const NAMES: &[(&str, &str)] = &[
     ("a", "a "),
     ("b", "b "),
     ("c", "c "),
@@ -393,45 +449,88 @@ const NAMES: [(&str, &str); 18] = [
     ("r", "r "),
 ];
 
+/// Employee 1 gets a name in a data node of its own.
+fn rename(rt: &impl Abort, alloc: Global, system: &mut System, at: Instant, name: &'static str) {
+    let actions = [
+        Begin(1),
+        Rename(1, 1, name),
+        Commit(1, at),
+        SplitTime(1, at),
+    ];
+    take(rt, alloc, system, &actions);
+}
+
 /// Employee 1 has each name from its place on, in a data node of its own. All of these but the last are history.
 fn many_names(rt: &impl Abort, alloc: Global) -> System {
-    let mut system = System::new(alloc, schema(rt, alloc)).expect(rt, "there is memory");
-    let _begun = take(rt, alloc, &mut system, Begin(1));
-    let _inserted = take(rt, alloc, &mut system, Insert(1, 1, NAMES[0].0));
-    let _committed = take(rt, alloc, &mut system, Commit(1, 1));
-    for place in 1..18usize {
-        let at = place as u64 + 1;
-        let _begun = take(rt, alloc, &mut system, Begin(1));
-        let _renamed = take(rt, alloc, &mut system, Rename(1, 1, NAMES[place].0));
-        let _committed = take(rt, alloc, &mut system, Commit(1, at));
-        let _split = take(rt, alloc, &mut system, SplitTime(1, at));
+    let mut system = new_system(rt, alloc);
+    take(
+        rt,
+        alloc,
+        &mut system,
+        &[Begin(1), Insert(1, 1, "a"), Commit(1, 1)],
+    );
+    let mut at = 1;
+    for (name, _) in NAMES {
+        if at > 1 {
+            rename(rt, alloc, &mut system, at, name);
+        }
+        at = at.saturating_add(1);
     }
     system
 }
 
+/// Whether a system replies so to an action.
+fn replies(
+    rt: &impl Abort,
+    alloc: Global,
+    system: &mut System,
+    action: Action,
+    wanted: &str,
+) -> bool {
+    let reply = system.step(step_of(rt, alloc, action));
+    is_told(rt, alloc, &reply, wanted)
+}
+
+/// Employee 1 with many names, after so many migrate steps.
+fn migrated(rt: &impl Abort, alloc: Global, steps: usize) -> System {
+    let mut system = many_names(rt, alloc);
+    for _ in 0..steps {
+        assert!(rt; replies(rt, alloc, &mut system, Migrate, "ok"));
+    }
+    system
+}
+
+/// How many nodes are packed after so many migrate steps.
+fn count_packed(rt: &impl Abort, alloc: Global, steps: usize) -> usize {
+    count_nodes(rt, &migrated(rt, alloc, steps)).1
+}
+
 #[test]
 fn a_migrate_step_packs_one_node_of_history(rt: HostRuntime) {
-    let alloc = rt.alloc();
-    let mut system = many_names(&rt, alloc);
-    for packed in [1, 2, 3] {
-        let migrated = take(&rt, alloc, &mut system, Migrate);
-        assert!(rt; is_told(&rt, alloc, &migrated, "ok"));
-        assert!(rt; count_packed(&rt, &system) == packed);
+    for steps in 1..4usize {
+        assert!(rt; count_packed(&rt, rt.alloc(), steps) == steps);
     }
+}
+
+/// Asserts that each name is shown at its instant.
+fn assert_names(rt: &impl Abort, alloc: Global, system: &mut System) {
+    let mut at = 1;
+    for (_, shown) in NAMES {
+        let query = Select(1, Form::AsOf(at));
+        assert!(rt; replies(rt, alloc, system, query, shown), "as of {at}");
+        at = at.saturating_add(1);
+    }
+}
+
+/// Asserts the same twice over, of history that is packed.
+fn assert_names_twice(rt: &impl Abort, alloc: Global) {
+    let mut system = migrated(rt, alloc, 18);
+    assert_names(rt, alloc, &mut system);
+    assert_names(rt, alloc, &mut system);
 }
 
 #[test]
 fn more_packed_nodes_than_the_cache_holds_answer_alike_twice(rt: HostRuntime) {
-    let alloc = rt.alloc();
-    let mut system = many_names(&rt, alloc);
-    for _ in 0..18 {
-        let _migrated = take(&rt, alloc, &mut system, Migrate);
-    }
-    assert!(rt; count_packed(&rt, &system) == 17);
-    for turn in 0..36usize {
-        let place = turn % 18;
-        let at = place as u64 + 1;
-        let shown = take(&rt, alloc, &mut system, Select(1, Form::AsOf(at)));
-        assert!(rt; is_told(&rt, alloc, &shown, NAMES[place].1), "as of {at}");
-    }
+    assert!(rt; count_packed(&rt, rt.alloc(), 18) == 17);
+    assert_names_twice(&rt, rt.alloc());
 }

@@ -6,7 +6,7 @@ use std::alloc::Global;
 use std::process::Abort;
 use systime_query::BlockCache;
 use transaction::{OpenTransaction, listing_of};
-use values::{Form, Keys};
+use values::{Form, Keys, Mem};
 
 /// A transaction over nothing committed.
 fn begun(rt: &impl Abort, alloc: Global) -> OpenTransaction {
@@ -19,7 +19,8 @@ fn with_ann(rt: &impl Abort, alloc: Global) -> OpenTransaction {
     let table = table(rt, alloc);
     let rows = one_row(rt, alloc, 1, "Ann");
     let mut transaction = begun(rt, alloc);
-    assert!(rt; transaction.insert(&table, &rows) == Ok(1));
+    let inserted = transaction.insert(&table, &rows);
+    assert!(rt; inserted.expect(rt, "it is inserted") == 1);
     transaction
 }
 
@@ -28,24 +29,25 @@ fn a_transaction_begins_at_the_last_commit(rt: HostRuntime) {
     assert!(rt; with_ann(&rt, rt.alloc()).start() == 0);
 }
 
-fn count(listing: &Listing) -> usize {
-    match listing {
+/// How many rows are listed.
+fn count(rt: &impl Abort, listing: Mem<Listing>) -> usize {
+    match listing.expect(rt, "there is memory") {
         Listing::Rows(rows) => rows.items().len(),
         Listing::Periods(shown) => shown.items().len(),
     }
 }
 
-/// How many rows a query of a transaction shows.
-fn count_shown(rt: &impl Abort, alloc: Global, transaction: &OpenTransaction, form: Form) -> usize {
+/// How many rows a query of a transaction shows that has inserted an employee.
+fn count_shown(rt: &impl Abort, alloc: Global, form: Form) -> usize {
     let table = table(rt, alloc);
-    let listing = transaction.select(
+    let listing = with_ann(rt, alloc).select(
         alloc,
         &mut BlockCache::new(alloc),
         form,
         &table,
         &Keys::all(alloc, 1),
     );
-    count(&listing.expect(rt, "there is memory"))
+    count(rt, listing)
 }
 
 /// How many rows a query shows outside any transaction.
@@ -61,19 +63,20 @@ fn count_outside(rt: &impl Abort, alloc: Global) -> usize {
         &table,
         &keys,
     );
-    count(&listing.expect(rt, "there is memory"))
+    count(rt, listing)
 }
+
+/// Forms of a query, and how many rows each shows of the one that was inserted.
+const FORMS: &[(Form, usize)] = &[
+    (Form::Plain, 1),
+    (Form::AsOf(1), 0),
+    (Form::Between(0, 9), 0),
+];
 
 #[test]
 fn a_transaction_reads_its_own_writes_in_a_plain_query_alone(rt: HostRuntime) {
-    let transaction = with_ann(&rt, rt.alloc());
-    for (form, shown) in [
-        (Form::Plain, 1),
-        (Form::AsOf(1), 0),
-        (Form::Between(0, 9), 0),
-    ] {
-        let count = count_shown(&rt, rt.alloc(), &transaction, form);
-        assert!(rt; count == shown, "{form:?}");
+    for (form, shown) in FORMS {
+        assert!(rt; count_shown(&rt, rt.alloc(), *form) == *shown, "{form:?}");
     }
     assert!(rt; count_outside(&rt, rt.alloc()) == 0);
 }
@@ -98,12 +101,19 @@ fn delete_all(rt: &impl Abort, alloc: Global, transaction: &mut OpenTransaction)
     met.expect(rt, "they are deleted")
 }
 
+/// How many rows an update or a deletion of all rows meets, and how many changes it leaves.
+fn changed(rt: &impl Abort, alloc: Global, is_deletion: bool) -> (usize, usize) {
+    let mut transaction = with_ann(rt, alloc);
+    let met = if is_deletion {
+        delete_all(rt, alloc, &mut transaction)
+    } else {
+        update_all(rt, alloc, &mut transaction)
+    };
+    (met, count_changes(rt, &transaction))
+}
+
 #[test]
 fn a_transaction_changes_what_it_wrote(rt: HostRuntime) {
-    let mut transaction = with_ann(&rt, rt.alloc());
-    assert!(rt; update_all(&rt, rt.alloc(), &mut transaction) == 1);
-    assert!(rt; count_changes(&rt, &transaction) == 1);
-    let mut transaction = with_ann(&rt, rt.alloc());
-    assert!(rt; delete_all(&rt, rt.alloc(), &mut transaction) == 1);
-    assert!(rt; count_changes(&rt, &transaction) == 0);
+    assert!(rt; changed(&rt, rt.alloc(), false) == (1, 1));
+    assert!(rt; changed(&rt, rt.alloc(), true) == (1, 0));
 }

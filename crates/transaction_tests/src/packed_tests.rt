@@ -1,44 +1,37 @@
 //! Nodes of history are found, packed and installed.
 
-use staging::{Net, Staged};
+use crate::validation_tests::{begin, empty_engine, instant_of, is_split};
 use std::alloc::Global;
-use validation::{Cut, Engine, Packed, find_job, pack_job};
-use values::{Instant, KeyBytes, Mem, Refusal, Row, Table, Value};
+use std::process::Abort;
+use tsbtree::View;
+use validation::{Engine, Job, Packed, find_job, pack_job};
+use values::{Instant, Mem};
 
-/// The net change of a transaction that inserts an employee without a name.
-fn insertion(alloc: Global, engine: &Engine, number: i64) -> Mem<Net> {
-    let values = vec![in alloc; Value::Int(number), Value::Null]?;
-    let row = Row::new(values).ok_or(Refusal::BadRow(2))?;
-    let view = engine.begin()?;
-    let mut staged = Staged::new(alloc)?;
-    staged.insert(&view, &Table::sample(alloc)?, &[row])?;
-    Ok(staged.net(&view)?)
-}
-
-/// Commits an employee at an instant, and splits the one current node there.
-fn commit_and_split(alloc: Global, engine: &mut Engine, number: i64, at: Instant) -> Mem<bool> {
-    let net = insertion(alloc, engine, number)?;
-    let start = engine.last();
-    engine.commit(start, net, at)?;
-    engine.split(&Cut::Time(KeyBytes::least(alloc), at))
+/// Commits the insertion of an employee at an instant, and splits the one current node there.
+fn commit_and_split(rt: &impl Abort, alloc: Global, engine: &mut Engine, number: i64, at: Instant) {
+    let view = begin(rt, engine);
+    assert!(rt; instant_of(rt, alloc, engine, &view, number, at) == Some(at));
+    assert!(rt; is_split(rt, alloc, engine, at));
 }
 
 /// Two nodes of history: one from 1 to 100 without events, and one from 100 to 200 with the first employee's.
-fn with_history(alloc: Global) -> Mem<Engine> {
-    let mut engine = Engine::new(alloc)?;
-    for (number, at) in [(1, 100), (2, 200)] {
-        commit_and_split(alloc, &mut engine, number, at)?;
-    }
-    Ok(engine)
+fn with_history(rt: &impl Abort, alloc: Global) -> Engine {
+    let mut engine = empty_engine(rt, alloc);
+    commit_and_split(rt, alloc, &mut engine, 1, 100);
+    commit_and_split(rt, alloc, &mut engine, 2, 200);
+    engine
+}
+
+/// A job that must be found.
+fn found(rt: &impl Abort, job: Mem<Option<Job>>) -> Job {
+    let job = job.expect(rt, "there is memory");
+    job.expect(rt, "a node is unpacked")
 }
 
 /// The first node that is to be packed, packed.
-fn pack_first(alloc: Global, engine: &Engine) -> Mem<Option<Packed>> {
-    let view = engine.begin()?;
-    match find_job(&view, None)? {
-        None => Ok(None),
-        Some(job) => Ok(Some(pack_job(alloc, job)?)),
-    }
+fn pack_first(rt: &impl Abort, alloc: Global, engine: &Engine) -> Packed {
+    let job = found(rt, find_job(&begin(rt, engine), None));
+    pack_job(alloc, job).expect(rt, "there is memory")
 }
 
 /// Whether it is a node from an instant with so many events, as its block is.
@@ -48,36 +41,63 @@ fn is_of(packed: &Packed, from: Instant, events: usize) -> bool {
         && packed.block().len() == events
 }
 
-/// Whether a packed node is installed, and then a copy of it.
-fn install_twice(engine: &mut Engine, packed: Packed) -> Mem<(bool, bool)> {
-    let copy = packed.copy()?;
-    let first = engine.install(packed)?;
-    Ok((first, engine.install(copy)?))
+fn install(rt: &impl Abort, engine: &mut Engine, packed: Packed) -> bool {
+    engine.install(packed).expect(rt, "there is memory")
+}
+
+/// Packs a node from an instant with so many events: whether it is installed, and then a copy of it.
+fn install_twice(
+    rt: &impl Abort,
+    alloc: Global,
+    engine: &mut Engine,
+    from: Instant,
+    events: usize,
+) -> (bool, bool) {
+    let packed = pack_first(rt, alloc, engine);
+    assert!(rt; is_of(&packed, from, events));
+    let copy = packed.copy().expect(rt, "there is memory");
+    (install(rt, engine, packed), install(rt, engine, copy))
+}
+
+/// Whether a node of history is unpacked.
+fn is_unpacked(rt: &impl Abort, engine: &Engine) -> bool {
+    let left = find_job(&begin(rt, engine), None);
+    left.expect(rt, "there is memory").is_some()
+}
+
+/// Whether a node of history is left when both are packed, each of which is installed once.
+fn is_left(rt: &impl Abort, alloc: Global) -> bool {
+    let mut engine = with_history(rt, alloc);
+    assert!(rt; install_twice(rt, alloc, &mut engine, 1, 0) == (true, false));
+    assert!(rt; install_twice(rt, alloc, &mut engine, 100, 1) == (true, false));
+    is_unpacked(rt, &engine)
 }
 
 #[test]
 fn each_node_of_history_is_installed_once(rt: HostRuntime) {
-    let alloc = rt.alloc();
-    let mut engine = with_history(alloc).expect(&rt, "a tree with history");
-    for (from, events) in [(1, 0), (100, 1)] {
-        let found = pack_first(alloc, &engine).expect(&rt, "memory");
-        let packed = found.expect(&rt, "a node is unpacked");
-        assert!(rt; is_of(&packed, from, events));
-        let installed = install_twice(&mut engine, packed);
-        assert!(rt; matches!(installed, Ok((true, false))));
-    }
-    assert!(rt; matches!(pack_first(alloc, &engine), Ok(None)));
+    assert!(rt; !is_left(&rt, rt.alloc()));
+}
+
+/// The node that is to be packed after that of a job.
+fn job_after(rt: &impl Abort, view: &View, job: &Job) -> Option<Job> {
+    let found = find_job(view, Some(job.rect()));
+    found.expect(rt, "there is memory")
+}
+
+fn start(job: &Job) -> Instant {
+    job.rect().time().from
+}
+
+/// The starts of the first node that is to be packed and of the one after it, and whether there is one more.
+fn starts(rt: &impl Abort, alloc: Global) -> (Instant, Instant, bool) {
+    let view = begin(rt, &with_history(rt, alloc));
+    let first = found(rt, find_job(&view, None));
+    let second = job_after(rt, &view, &first).expect(rt, "another node is unpacked");
+    let is_more = job_after(rt, &view, &second).is_some();
+    (start(&first), start(&second), is_more)
 }
 
 #[test]
 fn jobs_are_found_in_turn(rt: HostRuntime) {
-    let engine = with_history(rt.alloc()).expect(&rt, "a tree with history");
-    let view = engine.begin().expect(&rt, "memory");
-    let found = find_job(&view, None).expect(&rt, "memory");
-    let first = found.expect(&rt, "a node is unpacked");
-    let found = find_job(&view, Some(first.rect())).expect(&rt, "memory");
-    let second = found.expect(&rt, "another node is unpacked");
-    assert!(rt; first.rect().time().from == 1);
-    assert!(rt; second.rect().time().from == 100);
-    assert!(rt; matches!(find_job(&view, Some(second.rect())), Ok(None)));
+    assert!(rt; starts(&rt, rt.alloc()) == (1, 100, false));
 }

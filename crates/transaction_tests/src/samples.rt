@@ -1,14 +1,11 @@
 //! Employees, and trees in which they were committed. The run ends where memory does.
-ghost use Rattle.std.specs.Prelude.{◌≤◌};
 ghost use Rattle.values.specs.Tables.{IsTable};
 
 use staging::{Net, Staged};
 use std::alloc::Global;
 use std::process::Abort;
 use tsbtree::{Tree, View};
-use values::{
-    Chars, Comparison, Instant, Key, Keys, Mem, Operator, Refusal, Row, Set, Table, Value, Values,
-};
+use values::{Chars, Comparison, Instant, Key, Keys, Operator, Row, Set, Table, Value, Values};
 
 /// The table of employees.
 pub(crate) fn table(rt: &impl Abort, alloc: Global) -> Table
@@ -84,19 +81,15 @@ pub(crate) fn insertion(
     let rows = one_row(rt, alloc, number, name);
     let mut staged = staged(rt, alloc);
     let inserted = staged.insert(view, &table(rt, alloc), &rows);
-    assert!(rt; inserted == Ok(1));
+    assert!(rt; inserted.expect(rt, "it is inserted") == 1);
     staged.net(view).expect(rt, "there is memory")
 }
 
 /// Puts net changes into a tree, at an instant after its last.
-pub(crate) fn commit(alloc: Global, tree: &mut Tree, at: Instant, net: Net) -> Mem<()>
-    requires { at ≤ 1000 }
-{
-    if tree.current().last() >= at {
-        return Err(Refusal::ClockEnd);
-    }
-    let events = net.into_events(alloc, at)?;
-    tree.apply(at, events)
+pub(crate) fn commit(rt: &impl Abort, alloc: Global, tree: &mut Tree, at: Instant, net: Net) {
+    assert!(rt; tree.current().last() < at && at <= 1000);
+    let events = net.into_events(alloc, at).expect(rt, "there is memory");
+    tree.apply(at, events).expect(rt, "there is memory");
 }
 
 /// Inserts an employee in a transaction of its own, and commits it.
@@ -107,11 +100,9 @@ pub(crate) fn hire(
     at: Instant,
     number: i64,
     name: &str,
-)
-    requires { at ≤ 1000 }
-{
+) {
     let net = insertion(rt, alloc, tree.current(), number, name);
-    commit(alloc, tree, at, net).expect(rt, "there is memory, and the instant is later");
+    commit(rt, alloc, tree, at, net);
 }
 
 pub(crate) fn empty_tree(rt: &impl Abort, alloc: Global) -> Tree {

@@ -1,6 +1,6 @@
 //! Own writes over what was committed before.
 
-use crate::samples::{ann, by, empty_tree, key, many, one_row, sets, staged, table};
+use crate::samples::{ann, by, employee, empty_tree, key, many, one_row, sets, staged, table};
 use searchrange::range_of_table;
 use staging::Staged;
 use std::alloc::Global;
@@ -18,9 +18,9 @@ fn count_standing(rt: &impl Abort, alloc: Global, table: u8, instant: Instant) -
 
 #[test]
 fn a_commit_puts_the_rows_of_its_table_at_its_instant(rt: HostRuntime) {
-    for (table, instant, count) in [(1, 99, 0), (1, 100, 1), (2, 100, 0)] {
-        let found = count_standing(&rt, rt.alloc(), table, instant);
-        assert!(rt; found == count, "table {table} at {instant}");
+    for (table, instant, count) in &[(1, 99, 0), (1, 100, 1), (2, 100, 0)] {
+        let found = count_standing(&rt, rt.alloc(), *table, *instant);
+        assert!(rt; found == *count, "table {table} at {instant}");
     }
 }
 
@@ -75,6 +75,12 @@ impl Desk {
         self.count_inserted(rt, &rows)
     }
 
+    /// How many rows are inserted of so many employees, from 0 on.
+    fn hire_many(&mut self, rt: &impl Abort, count: i64) -> usize {
+        let rows = many(rt, self.alloc, count);
+        self.count_inserted(rt, &rows)
+    }
+
     /// How many rows a deletion of an employee deletes.
     fn count_deleted(&mut self, rt: &impl Abort, number: i64) -> usize {
         let keys = by(rt, self.alloc, Operator::Equal, number);
@@ -104,9 +110,35 @@ impl Desk {
         net.expect(rt, "there is memory").changes().len()
     }
 
-    /// Whether an insertion is refused for this.
-    fn refuses(&mut self, rt: &impl Abort, rows: &[Row], refusal: Refusal) -> bool {
-        self.insert(rt, rows) == Err(refusal)
+    /// Whether the insertion of one employee is refused for this.
+    fn refuses(&mut self, rt: &impl Abort, row: Row, refusal: Refusal) -> bool {
+        let rows = vec![in self.alloc; row].expect(rt, "there is memory");
+        self.insert(rt, &rows) == Err(refusal)
+    }
+
+    /// Whether an employee is refused since the number is there.
+    fn refuses_number(&mut self, rt: &impl Abort, number: i64) -> bool {
+        let there = Refusal::DuplicateKey(key(rt, self.alloc, number));
+        self.refuses(rt, employee(rt, self.alloc, number, "Al"), there)
+    }
+
+    /// Whether an employee with a number for a name is refused.
+    fn refuses_misnamed(&mut self, rt: &impl Abort, number: i64) -> bool {
+        self.refuses(rt, misnamed(rt, self.alloc, number), Refusal::BadRow(2))
+    }
+
+    /// Whether one employee more is too many.
+    fn refuses_more(&mut self, rt: &impl Abort, number: i64) -> bool {
+        self.refuses(
+            rt,
+            employee(rt, self.alloc, number, "n"),
+            Refusal::TooManyWrites,
+        )
+    }
+
+    /// Whether a deletion of all rows of a table is refused, since there is no such table.
+    fn refuses_table(&mut self, rt: &impl Abort, number: u8) -> bool {
+        self.delete(rt, &Keys::all(self.alloc, number)) == Err(Refusal::NoTable)
     }
 }
 
@@ -135,33 +167,28 @@ fn a_key_that_is_absent_before_and_after_is_no_change(rt: HostRuntime) {
 }
 
 /// An employee with a number for a name.
-fn misnamed(rt: &impl Abort, alloc: Global, number: i64) -> Vec<Row> {
+fn misnamed(rt: &impl Abort, alloc: Global, number: i64) -> Row {
     let values = vec![in alloc; Value::Int(number), Value::Int(number)];
-    let row = Row::new(values.expect(rt, "there is memory")).expect(rt, "two values are few");
-    vec![in alloc; row].expect(rt, "there is memory")
+    Row::new(values.expect(rt, "there is memory")).expect(rt, "two values are few")
 }
 
 #[test]
 fn a_refused_insert_changes_nothing(rt: HostRuntime) {
     let mut desk = desk_of_ann(&rt, rt.alloc());
-    let there = Refusal::DuplicateKey(key(&rt, rt.alloc(), 1));
-    assert!(rt; desk.refuses(&rt, &one_row(&rt, rt.alloc(), 1, "Al"), there));
-    assert!(rt; desk.refuses(&rt, &misnamed(&rt, rt.alloc(), 2), Refusal::BadRow(2)));
+    assert!(rt; desk.refuses_number(&rt, 1));
+    assert!(rt; desk.refuses_misnamed(&rt, 2));
     assert!(rt; desk.count_changes(&rt) == 0);
 }
 
 #[test]
 fn a_transaction_writes_1000_keys_at_most(rt: HostRuntime) {
-    let rows = many(&rt, rt.alloc(), 1000);
     let mut desk = desk_of_none(&rt, rt.alloc());
-    assert!(rt; desk.count_inserted(&rt, &rows) == 1000);
-    let more = one_row(&rt, rt.alloc(), 1000, "n");
-    assert!(rt; desk.refuses(&rt, &more, Refusal::TooManyWrites));
+    assert!(rt; desk.hire_many(&rt, 1000) == 1000);
+    assert!(rt; desk.refuses_more(&rt, 1000));
 }
 
 #[test]
 fn keys_of_another_table_are_refused(rt: HostRuntime) {
     let mut desk = desk_of_none(&rt, rt.alloc());
-    let other = Keys::all(rt.alloc(), 2);
-    assert!(rt; desk.delete(&rt, &other) == Err(Refusal::NoTable));
+    assert!(rt; desk.refuses_table(&rt, 2));
 }

@@ -1,5 +1,4 @@
 //! Two employees over time.
-ghost use Rattle.std.specs.Prelude.{◌≤◌};
 
 use crate::samples::{ann, by, commit, hire, sets, staged, table};
 use staging::Net;
@@ -15,7 +14,7 @@ fn renaming(rt: &impl Abort, alloc: Global, view: &View) -> Net {
     let sets = sets(rt, alloc, "Bea");
     let mut staged = staged(rt, alloc);
     let renamed = staged.update(view, &table(rt, alloc), &one, &sets);
-    assert!(rt; renamed == Ok(1));
+    assert!(rt; renamed.expect(rt, "it is renamed") == 1);
     staged.net(view).expect(rt, "there is memory")
 }
 
@@ -23,7 +22,7 @@ fn renaming(rt: &impl Abort, alloc: Global, view: &View) -> Net {
 fn ann_then_bea(rt: &impl Abort, alloc: Global) -> Tree {
     let mut tree = ann(rt, alloc);
     let net = renaming(rt, alloc, tree.current());
-    commit(alloc, &mut tree, 200, net).expect(rt, "there is memory, and the instant is later");
+    commit(rt, alloc, &mut tree, 200, net);
     tree
 }
 
@@ -59,38 +58,33 @@ fn has(shown: &[Shown], from: Instant, to: Option<Instant>) -> bool {
 }
 
 /// Whether a query shows just these of the two versions: number 1 as Ann, and as Bea.
-fn shows(
-    rt: &impl Abort,
-    alloc: Global,
-    tree: &Tree,
-    form: Form,
-    has_ann: bool,
-    has_bea: bool,
-) -> bool {
-    let shown = shown(rt, alloc, tree, form, Operator::AtMost);
+fn shows(rt: &impl Abort, alloc: Global, form: Form, has_ann: bool, has_bea: bool) -> bool {
+    let tree = ann_then_bea(rt, alloc);
+    let shown = shown(rt, alloc, &tree, form, Operator::AtMost);
     has(&shown, 100, Some(200)) == has_ann
         && has(&shown, 200, None) == has_bea
         && shown.len() == has_ann as usize + has_bea as usize
 }
 
+/// Forms of a query, and which of the two versions each shows.
+const FORMS: &[(Form, bool, bool)] = &[
+    (Form::Plain, false, true),
+    (Form::AsOf(99), false, false),
+    (Form::AsOf(100), true, false),
+    (Form::AsOf(199), true, false),
+    (Form::AsOf(200), false, true),
+    (Form::FromTo(100, 200), true, false),
+    (Form::FromTo(150, 150), false, false),
+    (Form::Between(100, 200), true, true),
+    (Form::Between(200, 200), false, true),
+    (Form::Between(201, 200), false, false),
+];
+
 #[test]
 fn a_version_is_closed_at_its_start_and_open_at_its_end(rt: HostRuntime) {
-    let tree = ann_then_bea(&rt, rt.alloc());
-    let cases = [
-        (Form::Plain, false, true),
-        (Form::AsOf(99), false, false),
-        (Form::AsOf(100), true, false),
-        (Form::AsOf(199), true, false),
-        (Form::AsOf(200), false, true),
-        (Form::FromTo(100, 200), true, false),
-        (Form::FromTo(150, 150), false, false),
-        (Form::Between(100, 200), true, true),
-        (Form::Between(200, 200), false, true),
-        (Form::Between(201, 200), false, false),
-    ];
-    for (form, has_ann, has_bea) in cases {
+    for (form, has_ann, has_bea) in FORMS {
         assert!(rt;
-            shows(&rt, rt.alloc(), &tree, form, has_ann, has_bea),
+            shows(&rt, rt.alloc(), *form, *has_ann, *has_bea),
             "{form:?}"
         );
     }
@@ -103,24 +97,31 @@ fn two(rt: &impl Abort, alloc: Global) -> Tree {
     tree
 }
 
+/// How many versions a query of two employees shows.
+fn count_shown(rt: &impl Abort, alloc: Global, form: Form) -> usize {
+    let tree = two(rt, alloc);
+    shown(rt, alloc, &tree, form, Operator::AtLeast).len()
+}
+
+/// Forms of a query, and how many versions each shows.
+const COUNTS: &[(Form, usize)] = &[
+    (Form::Plain, 2),
+    (Form::AsOf(99), 0),
+    (Form::AsOf(299), 1),
+    (Form::AsOf(300), 2),
+    (Form::Between(1, 300), 3),
+];
+
 #[test]
 fn each_key_shows_one_version_at_an_instant(rt: HostRuntime) {
-    let tree = two(&rt, rt.alloc());
-    let cases = [
-        (Form::Plain, 2),
-        (Form::AsOf(99), 0),
-        (Form::AsOf(299), 1),
-        (Form::AsOf(300), 2),
-        (Form::Between(1, 300), 3),
-    ];
-    for (form, count) in cases {
-        let shown = shown(&rt, rt.alloc(), &tree, form, Operator::AtLeast);
-        assert!(rt; shown.len() == count, "{form:?}");
+    for (form, count) in COUNTS {
+        assert!(rt; count_shown(&rt, rt.alloc(), *form) == *count, "{form:?}");
     }
 }
 
 /// How many employees there were at an instant.
-fn count_at(rt: &impl Abort, alloc: Global, tree: &Tree, at: Instant) -> usize {
+fn count_at(rt: &impl Abort, alloc: Global, at: Instant) -> usize {
+    let tree = two(rt, alloc);
     let table = table(rt, alloc);
     let keys = by(rt, alloc, Operator::AtLeast, 1);
     let rows = rows_at(
@@ -135,7 +136,8 @@ fn count_at(rt: &impl Abort, alloc: Global, tree: &Tree, at: Instant) -> usize {
 }
 
 /// How many employees there are.
-fn count_now(rt: &impl Abort, alloc: Global, tree: &Tree) -> usize {
+fn count_now(rt: &impl Abort, alloc: Global) -> usize {
+    let tree = two(rt, alloc);
     let table = table(rt, alloc);
     let keys = by(rt, alloc, Operator::AtLeast, 1);
     let rows = current_rows(alloc, tree.current(), &table, &keys);
@@ -144,9 +146,8 @@ fn count_now(rt: &impl Abort, alloc: Global, tree: &Tree) -> usize {
 
 #[test]
 fn rows_at_an_instant_are_those_that_stand(rt: HostRuntime) {
-    let tree = two(&rt, rt.alloc());
-    for (at, count) in [(99, 0), (100, 1), (299, 1), (300, 2)] {
-        assert!(rt; count_at(&rt, rt.alloc(), &tree, at) == count, "at {at}");
+    for (at, count) in &[(99, 0), (100, 1), (299, 1), (300, 2)] {
+        assert!(rt; count_at(&rt, rt.alloc(), *at) == *count, "at {at}");
     }
-    assert!(rt; count_now(&rt, rt.alloc(), &tree) == 2);
+    assert!(rt; count_now(&rt, rt.alloc()) == 2);
 }

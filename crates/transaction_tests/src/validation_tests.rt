@@ -7,15 +7,15 @@ use tsbtree::View;
 use validation::{Cut, Engine};
 use values::{Instant, KeyBytes, Mem, Refusal};
 
-fn empty_engine(rt: &impl Abort, alloc: Global) -> Engine {
+pub(crate) fn empty_engine(rt: &impl Abort, alloc: Global) -> Engine {
     Engine::new(alloc).expect(rt, "there is memory")
 }
 
-fn begin(rt: &impl Abort, engine: &Engine) -> View {
+pub(crate) fn begin(rt: &impl Abort, engine: &Engine) -> View {
     engine.begin().expect(rt, "there is memory")
 }
 
-/// Commits the insertion of an employee, over the view of a transaction that began at 0.
+/// Commits the insertion of an employee, over the view of its transaction.
 fn hire(
     rt: &impl Abort,
     alloc: Global,
@@ -25,11 +25,11 @@ fn hire(
     reading: Instant,
 ) -> Mem<Option<Instant>> {
     let net = insertion(rt, alloc, view, number, "Ann");
-    engine.commit(0, net, reading)
+    engine.commit(view.last(), net, reading)
 }
 
 /// When the insertion of an employee is committed.
-fn instant_of(
+pub(crate) fn instant_of(
     rt: &impl Abort,
     alloc: Global,
     engine: &mut Engine,
@@ -66,18 +66,16 @@ fn the_first_committer_wins(rt: HostRuntime) {
 fn other_keys_both_commit(rt: HostRuntime) {
     let mut engine = empty_engine(&rt, rt.alloc());
     let view = begin(&rt, &engine);
-    for (number, reading, instant) in [(1, 100, 100), (2, 50, 101)] {
-        let end = instant_of(&rt, rt.alloc(), &mut engine, &view, number, reading);
-        assert!(rt; end == Some(instant), "number {number}");
-    }
+    assert!(rt; instant_of(&rt, rt.alloc(), &mut engine, &view, 1, 100) == Some(100));
+    assert!(rt; instant_of(&rt, rt.alloc(), &mut engine, &view, 2, 50) == Some(101));
     assert!(rt; view.last() == 0);
     assert!(rt; begin(&rt, &engine).last() == 101);
 }
 
 /// When a transaction with no change is committed.
 fn instant_of_nothing(rt: &impl Abort, alloc: Global, engine: &mut Engine) -> Option<Instant> {
-    let view = begin(rt, engine);
-    let nothing = staged(rt, alloc).net(&view).expect(rt, "there is memory");
+    let nothing = staged(rt, alloc).net(&begin(rt, engine));
+    let nothing = nothing.expect(rt, "there is memory");
     engine.commit(0, nothing, 100).expect(rt, "it is committed")
 }
 
@@ -88,13 +86,17 @@ fn no_change_takes_no_instant(rt: HostRuntime) {
     assert!(rt; engine.last() == 0);
 }
 
+/// Whether the current node of an engine is split at an instant.
+pub(crate) fn is_split(rt: &impl Abort, alloc: Global, engine: &mut Engine, at: Instant) -> bool {
+    let cut = Cut::Time(KeyBytes::least(alloc), at);
+    engine.split(&cut).expect(rt, "there is memory")
+}
+
 #[test]
 fn a_node_is_split_once_at_an_instant(rt: HostRuntime) {
     let mut engine = empty_engine(&rt, rt.alloc());
     let view = begin(&rt, &engine);
     assert!(rt; instant_of(&rt, rt.alloc(), &mut engine, &view, 1, 100) == Some(100));
-    let cut = Cut::Time(KeyBytes::least(rt.alloc()), 100);
-    for split in [true, false] {
-        assert!(rt; engine.split(&cut).expect(&rt, "there is memory") == split);
-    }
+    assert!(rt; is_split(&rt, rt.alloc(), &mut engine, 100));
+    assert!(rt; !is_split(&rt, rt.alloc(), &mut engine, 100));
 }

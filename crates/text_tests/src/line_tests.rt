@@ -1,9 +1,9 @@
 use histories::Step;
 use rows::Schema;
 use statement::{Line, read_line};
-use std::alloc::{AllocError, Global};
+use std::alloc::Global;
+use std::fmt::Write;
 use std::process::Abort;
-use std::test::Fail;
 use values::{Comparison, Form, Instant, Key, Keys, Operator, Refusal, Row, Rows, Value};
 
 /// Lines, and the byte of the first token that cannot stand.
@@ -517,15 +517,17 @@ fn a_line_that_does_not_fit_names_the_first_reason(rt: HostRuntime) {
 }
 
 /// A comparison with a text of so many bytes.
-fn compared(alloc: Global, bytes: usize) -> Result<String, AllocError> {
-    let text = "k".repeat(alloc, bytes)?;
-    format!(in alloc; "1: SELECT * FROM t WHERE k < '{text}'")
+fn compared(rt: &impl Abort, alloc: Global, bytes: usize) -> String {
+    let text = "k".repeat(alloc, bytes).expect(rt, "there is memory");
+    let line = format!(in alloc; "1: SELECT * FROM t WHERE k < '{text}'");
+    line.expect(rt, "there is memory")
 }
 
 /// A row with a text of so many bytes in its key.
-fn inserted(alloc: Global, bytes: usize) -> Result<String, AllocError> {
-    let text = "k".repeat(alloc, bytes)?;
-    format!(in alloc; "1: INSERT INTO t VALUES ('{text}', 1, TRUE)")
+fn inserted(rt: &impl Abort, alloc: Global, bytes: usize) -> String {
+    let text = "k".repeat(alloc, bytes).expect(rt, "there is memory");
+    let line = format!(in alloc; "1: INSERT INTO t VALUES ('{text}', 1, TRUE)");
+    line.expect(rt, "there is memory")
 }
 
 /// Whether a line is read if its key fits, and else refused for the first column.
@@ -538,32 +540,32 @@ fn key_is_told(alloc: Global, line: &[u8], schema: &Schema, fits: bool) -> bool 
 }
 
 #[test]
-fn a_text_of_a_key_has_200_bytes_at_most(rt: HostRuntime) -> Result<(), Fail> {
+fn a_text_of_a_key_has_200_bytes_at_most(rt: HostRuntime) {
     let alloc = rt.alloc();
     let schema = schema(&rt, alloc);
     for (bytes, fits) in [(200, true), (201, false)] {
-        let line = compared(alloc, bytes)?;
+        let line = compared(&rt, alloc, bytes);
         assert!(rt;
             key_is_told(alloc, line.as_bytes(), &schema, fits),
             "{bytes}"
         );
-        let line = inserted(alloc, bytes)?;
+        let line = inserted(&rt, alloc, bytes);
         assert!(rt;
             key_is_told(alloc, line.as_bytes(), &schema, fits),
             "{bytes}"
         );
     }
-    Ok(())
 }
 
 /// A COMMIT after so many blanks.
-fn late_commit(alloc: Global, blanks: usize, end: &str) -> Result<String, AllocError> {
-    let blank = " ".repeat(alloc, blanks)?;
-    format!(in alloc; "1:{blank}COMMIT{end}")
+fn late_commit(rt: &impl Abort, alloc: Global, blanks: usize, end: &str) -> String {
+    let blank = " ".repeat(alloc, blanks).expect(rt, "there is memory");
+    let line = format!(in alloc; "1:{blank}COMMIT{end}");
+    line.expect(rt, "there is memory")
 }
 
 #[test]
-fn a_line_has_8192_bytes_at_most(rt: HostRuntime) -> Result<(), Fail> {
+fn a_line_has_8192_bytes_at_most(rt: HostRuntime) {
     let alloc = rt.alloc();
     let schema = schema(&rt, alloc);
     for (blanks, end, too_long) in [
@@ -574,7 +576,7 @@ fn a_line_has_8192_bytes_at_most(rt: HostRuntime) -> Result<(), Fail> {
         (8185, "\n", true),
         (8185, "", true),
     ] {
-        let line = late_commit(alloc, blanks, end)?;
+        let line = late_commit(&rt, alloc, blanks, end);
         let line = line.as_bytes();
         let is_read = kind_at(alloc, line, &schema, 0) == "commit at 0";
         assert!(rt; is_read != too_long, "{blanks}");
@@ -583,7 +585,6 @@ fn a_line_has_8192_bytes_at_most(rt: HostRuntime) -> Result<(), Fail> {
             "{blanks}"
         );
     }
-    Ok(())
 }
 
 #[test]
@@ -667,8 +668,7 @@ fn comparisons_keep_their_operators(rt: HostRuntime) {
         (Operator::AtLeast, 5),
     ];
     let comparisons = keys.comparisons.items();
-    assert_eq!(rt; keys.table, 2);
-    assert_eq!(rt; comparisons.len(), 6);
+    assert!(rt; keys.table == 2 && comparisons.len() == 6);
     for (comparison, (operator, number)) in comparisons.iter().zip(operators) {
         assert!(rt; has_number(comparison, operator, number), "{number}");
     }
@@ -745,45 +745,42 @@ const REST: &str =
     PERIOD FOR SYSTEM_TIME (s, e), PRIMARY KEY (c1)) WITH SYSTEM VERSIONING; ";
 
 /// Sixteen tables of sixteen columns each.
-fn widest_schema(alloc: Global) -> Result<String, AllocError> {
+fn widest_schema(rt: &impl Abort, alloc: Global) -> String {
     let mut text = String::new(alloc);
     for table in 1..17u8 {
-        let name = format!(in alloc; "CREATE TABLE t{table} (")?;
-        text.push_str(&name)?;
+        write!(text, "CREATE TABLE t{table} (").expect(rt, "there is memory");
         for column in 1..17u8 {
-            let column = format!(in alloc; "c{column} INT, ")?;
-            text.push_str(&column)?;
+            write!(text, "c{column} INT, ").expect(rt, "there is memory");
         }
-        text.push_str(REST)?;
+        text.push_str(REST).expect(rt, "there is memory");
     }
-    Ok(text)
+    text
 }
 
 /// So many rows of the last table.
-fn longest_insert(alloc: Global, rows: u8) -> Result<String, AllocError> {
-    let mut line = format!(in alloc;
-        "64: INSERT INTO t16 VALUES (0,1,1,1,1,1,1,1,1,1,1,1,1,1,1,1)"
-    )?;
+fn longest_insert(rt: &impl Abort, alloc: Global, rows: u8) -> String {
+    let mut line = String::new(alloc);
+    let pushed = line.push_str("64: INSERT INTO t16 VALUES (0,1,1,1,1,1,1,1,1,1,1,1,1,1,1,1)");
+    pushed.expect(rt, "there is memory");
     for row in 1..rows {
-        let row = format!(in alloc; ",({row},1,1,1,1,1,1,1,1,1,1,1,1,1,1,1)")?;
-        line.push_str(&row)?;
+        let pushed = write!(line, ",({row},1,1,1,1,1,1,1,1,1,1,1,1,1,1,1)");
+        pushed.expect(rt, "there is memory");
     }
-    Ok(line)
+    line
 }
 
 #[test]
-fn a_long_insert_into_a_wide_schema_is_never_out_of_memory(rt: HostRuntime) -> Result<(), Fail> {
+fn a_long_insert_into_a_wide_schema_is_never_out_of_memory(rt: HostRuntime) {
     let alloc = rt.alloc();
-    let text = widest_schema(alloc)?;
+    let text = widest_schema(&rt, alloc);
     let schema = Schema::read(alloc, text.as_bytes()).expect(&rt, "it is a schema");
-    assert_eq!(rt; schema.tables().len(), 16);
-    let line = longest_insert(alloc, 101)?;
+    assert!(rt; schema.tables().len() == 16);
+    let line = longest_insert(&rt, alloc, 101);
     let (session, table, rows) = rows_of(alloc, line.as_bytes(), &schema).expect(
         &rt,
         "it is an INSERT",
     );
     assert!(rt; session == 64 && table == 16 && rows.items().len() == 101);
-    Ok(())
 }
 
 #[test]

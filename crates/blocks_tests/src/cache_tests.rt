@@ -5,22 +5,25 @@ use blocks::{Block, Blocks, InPlace};
 use bytes::Bytes;
 use keyrange::KeyRange;
 use std::alloc::Global;
-use std::test::*;
-use values::{Instant, KeyBytes, Mem};
+use std::process::Abort;
+use values::{Instant, KeyBytes};
 
 /// The block of all keys from an instant to another, with one event: key 1 has a row of one number from `at` on.
-fn block_of(alloc: Global, from: u8, to: u8, at: u8) -> Mem<Option<Block>> {
+fn block_of(rt: &impl Abort, alloc: Global, from: u8, to: u8, at: u8) -> Block {
     let bytes = &[
         84, 83, 66, 49, 0, 0, 0, 0, 0, 0, 0, 0, 0, 0, from, 0, 0, 0, 0, 0, 0, 0, to, 1, 0, 9, 1,
         128, 0, 0, 0, 0, 0, 0, 1, 0, 0, 0, 0, 0, 0, 0, at, 1, 1, 1, 0, 0, 0, 0, 0, 0, 0, 7,
     ];
-    Block::from_bytes(alloc, Bytes::copy_from_slice(alloc, bytes)?)
+    let bytes = Bytes::copy_from_slice(alloc, bytes).expect(rt, "there is memory");
+    let block = Block::from_bytes(alloc, bytes).expect(rt, "there is memory");
+    block.expect(rt, "the bytes are a block")
 }
 
 /// The keys from the key of one byte on.
-fn keys_from(alloc: Global, lower: u8) -> Mem<Option<KeyRange>> {
-    let lower = KeyBytes::new(Vec::from_slice(alloc, &[lower])?);
-    Ok(lower.map(|lo| KeyRange { lo, hi: None }))
+fn keys_from(rt: &impl Abort, alloc: Global, lower: u8) -> KeyRange {
+    let bytes = Vec::from_slice(alloc, &[lower]).expect(rt, "there is memory");
+    let lo = KeyBytes::new(bytes).expect(rt, "one byte is few");
+    KeyRange { lo, hi: None }
 }
 
 /// The instant of the one event that is given of a block; None where there is not one.
@@ -42,24 +45,24 @@ fn given<B: Blocks>(
 
 /// The instant of the one event of keys from a byte on that is given of a block: the block is made anew.
 fn asked<B: Blocks>(
+    rt: &impl Abort,
     blocks: &mut B,
     alloc: Global,
     (from, to, at): (u8, u8, u8),
     lower: u8,
     since: Instant,
 ) -> Option<Instant> {
-    match (block_of(alloc, from, to, at), keys_from(alloc, lower)) {
-        (Ok(Some(block)), Ok(Some(range))) => given(blocks, &block, &range, since, u64::MAX),
-        _ => None,
-    }
+    let block = block_of(rt, alloc, from, to, at);
+    let range = keys_from(rt, alloc, lower);
+    given(blocks, &block, &range, since, u64::MAX)
 }
 
 /// How many of 17 blocks, asked for in order twice over, are answered by their own event.
-fn count_own<B: Blocks>(blocks: &mut B, alloc: Global) -> usize {
+fn count_own<B: Blocks>(rt: &impl Abort, blocks: &mut B, alloc: Global) -> usize {
     let mut own = 0usize;
     for round in 0..34u8 {
         let at = round % 17 + 1;
-        if asked(blocks, alloc, (at, at + 1, at), 0, 0) == Some(at as Instant) {
+        if asked(rt, blocks, alloc, (at, at + 1, at), 0, 0) == Some(at as Instant) {
             own = own.saturating_add(1);
         }
     }
@@ -70,16 +73,16 @@ fn count_own<B: Blocks>(blocks: &mut B, alloc: Global) -> usize {
 fn seventeen_blocks_asked_for_twice_over_give_their_own_events(rt: HostRuntime) {
     let alloc = rt.alloc();
     let mut cache = BlockCache::new(alloc);
-    let own = count_own(&mut cache, alloc);
+    let own = count_own(&rt, &mut cache, alloc);
     assert!(rt; own == 34 && cache.len() == 16);
 }
 
 /// How often two blocks of one rectangle, asked for in turn, are answered by their own event.
-fn count_turns<B: Blocks>(blocks: &mut B, alloc: Global) -> usize {
+fn count_turns<B: Blocks>(rt: &impl Abort, blocks: &mut B, alloc: Global) -> usize {
     let mut own = 0usize;
     for turn in 0..6u8 {
         let at = turn % 2 + 1;
-        if asked(blocks, alloc, (1, 3, at), 0, 0) == Some(at as Instant) {
+        if asked(rt, blocks, alloc, (1, 3, at), 0, 0) == Some(at as Instant) {
             own = own.saturating_add(1);
         }
     }
@@ -90,13 +93,13 @@ fn count_turns<B: Blocks>(blocks: &mut B, alloc: Global) -> usize {
 fn two_blocks_of_one_rectangle_give_their_own_events(rt: HostRuntime) {
     let alloc = rt.alloc();
     let mut cache = BlockCache::new(alloc);
-    let own = count_turns(&mut cache, alloc);
+    let own = count_turns(&rt, &mut cache, alloc);
     assert!(rt; own == 6 && cache.len() == 1);
 }
 
 /// How many ranges of a block's keys and instants are answered as they should be, of five. A cache reads the first in
 /// place, unpacks the block at the second, and has its node for the others.
-fn count_ranges<B: Blocks>(blocks: &mut B, alloc: Global) -> usize {
+fn count_ranges<B: Blocks>(rt: &impl Abort, blocks: &mut B, alloc: Global) -> usize {
     let mut right = 0usize;
     for (lower, since, expected) in [
         (0, 0, Some(5)),
@@ -105,7 +108,7 @@ fn count_ranges<B: Blocks>(blocks: &mut B, alloc: Global) -> usize {
         (2, 0, None),
         (0, 5, Some(5)),
     ] {
-        if asked(blocks, alloc, (5, 9, 5), lower, since) == expected {
+        if asked(rt, blocks, alloc, (5, 9, 5), lower, since) == expected {
             right = right.saturating_add(1);
         }
     }
@@ -116,7 +119,7 @@ fn count_ranges<B: Blocks>(blocks: &mut B, alloc: Global) -> usize {
 fn a_block_gives_the_range_that_is_asked_for(rt: HostRuntime) {
     let alloc = rt.alloc();
     let mut cache = BlockCache::new(alloc);
-    let kept = count_ranges(&mut cache, alloc);
-    let in_place = count_ranges(&mut InPlace::new(alloc), alloc);
+    let kept = count_ranges(&rt, &mut cache, alloc);
+    let in_place = count_ranges(&rt, &mut InPlace::new(alloc), alloc);
     assert!(rt; kept == 5 && in_place == 5 && cache.len() == 1);
 }

@@ -1,19 +1,21 @@
 //! Files of CSV.
 use interchange::load_rows;
 use rows::Schema;
-use std::test::Fail;
-use values::{Mem, Refusal, Row, Table, Value};
+use std::alloc::Global;
+use std::process::Abort;
+use values::{Refusal, Row, Table, Value};
 
-fn load(rt: &HostRuntime, bytes: &[u8]) -> Mem<Vec<Row>> {
-    let table = Table::sample(rt.alloc())?;
-    load_rows(rt.alloc(), bytes, &table)
+/// The rows of a file for the sample table.
+fn load(rt: &impl Abort, alloc: Global, bytes: &[u8]) -> Result<Vec<Row>, Refusal> {
+    let table = Table::sample(alloc).expect(rt, "there is memory");
+    load_rows(alloc, bytes, &table)
 }
 
-/// The column at which a file is refused.
-fn refused_at(rt: &HostRuntime, bytes: &[u8]) -> Option<usize> {
-    match load(rt, bytes) {
-        Err(Refusal::BadRow(column)) => Some(column),
-        _ => None,
+/// Whether a file is refused at a column.
+fn is_refused_at(rt: &impl Abort, alloc: Global, bytes: &[u8], column: usize) -> bool {
+    match load(rt, alloc, bytes) {
+        Err(Refusal::BadRow(at)) => at == column,
+        _ => false,
     }
 }
 
@@ -33,7 +35,7 @@ fn a_header_names_user_columns_each_once(rt: HostRuntime) {
         b"no,name,sys_start,sys_end\n1,Ann,100,200\n",
     ];
     for bytes in files {
-        assert_eq!(rt; refused_at(&rt, bytes), Some(0), "{bytes:?}");
+        assert!(rt; is_refused_at(&rt, rt.alloc(), bytes, 0), "{bytes:?}");
     }
 }
 
@@ -46,7 +48,7 @@ fn a_record_is_as_wide_as_the_header(rt: HostRuntime) {
         b"no,name\nx,\xff,y\n",
     ];
     for bytes in files {
-        assert_eq!(rt; refused_at(&rt, bytes), Some(0), "{bytes:?}");
+        assert!(rt; is_refused_at(&rt, rt.alloc(), bytes, 0), "{bytes:?}");
     }
 }
 
@@ -69,13 +71,13 @@ fn the_first_column_at_fault_is_named(rt: HostRuntime) {
         (b"no,name\n1,Ann\n2,\xff\nx,Cy\n", 2),
     ];
     for (bytes, column) in files {
-        assert_eq!(rt; refused_at(&rt, bytes), Some(column), "{bytes:?}");
+        assert!(rt; is_refused_at(&rt, rt.alloc(), bytes, column), "{bytes:?}");
     }
 }
 
 /// The number in the first row's first column.
-fn number(rt: &HostRuntime, bytes: &[u8]) -> Option<i64> {
-    let rows = load(rt, bytes).ok()?;
+fn number(rt: &impl Abort, alloc: Global, bytes: &[u8]) -> Option<i64> {
+    let rows = load(rt, alloc, bytes).expect(rt, "the file has rows");
     match rows.first()?.values().first()? {
         Value::Int(number) => Some(*number),
         _ => None,
@@ -93,15 +95,13 @@ fn numbers_are_of_64_bits(rt: HostRuntime) {
         (b"name,no\n,-9223372036854775808\n", i64::MIN),
     ];
     for (bytes, found) in files {
-        assert_eq!(rt; number(&rt, bytes), Some(found), "{bytes:?}");
+        assert!(rt; number(&rt, rt.alloc(), bytes) == Some(found), "{bytes:?}");
     }
 }
 
 /// Whether the first row has this name.
-fn has_name(rt: &HostRuntime, bytes: &[u8], name: &str) -> bool {
-    let Ok(rows) = load(rt, bytes) else {
-        return false;
-    };
+fn has_name(rt: &impl Abort, alloc: Global, bytes: &[u8], name: &str) -> bool {
+    let rows = load(rt, alloc, bytes).expect(rt, "the file has rows");
     match rows.first() {
         Some(row) => match row.values().get(1) {
             Some(Value::Text(text)) => text.text() == name,
@@ -125,12 +125,18 @@ fn texts_are_the_fields_of_the_records(rt: HostRuntime) {
         (b"no,Name\n1,Zo\xc3\xab", "Zo\u{eb}"),
     ];
     for (bytes, name) in files {
-        assert!(rt; has_name(&rt, bytes, name), "{bytes:?}");
+        assert!(rt; has_name(&rt, rt.alloc(), bytes, name), "{bytes:?}");
     }
 }
 
+/// The number of rows of a file.
+fn row_count(rt: &impl Abort, alloc: Global, bytes: &[u8]) -> usize {
+    let rows = load(rt, alloc, bytes).expect(rt, "the file has rows");
+    rows.len()
+}
+
 #[test]
-fn rows_are_counted_from_the_second_record_on(rt: HostRuntime) -> Result<(), Fail> {
+fn rows_are_counted_from_the_second_record_on(rt: HostRuntime) {
     let files: [(&[u8], usize); 4] = [
         (b"no", 0),
         (b"no,name\n", 0),
@@ -138,9 +144,8 @@ fn rows_are_counted_from_the_second_record_on(rt: HostRuntime) -> Result<(), Fai
         (b"no\n1\n2\n3", 3),
     ];
     for (bytes, count) in files {
-        assert_eq!(rt; load(&rt, bytes)?.len(), count, "{bytes:?}");
+        assert!(rt; row_count(&rt, rt.alloc(), bytes) == count, "{bytes:?}");
     }
-    Ok(())
 }
 
 /// A table with a column of each type.
@@ -148,13 +153,18 @@ const TYPES: &[u8] = b"CREATE TABLE t (k TEXT PRIMARY KEY, n INT NOT NULL, f BOO
     s TIMESTAMP GENERATED ALWAYS AS ROW START, e TIMESTAMP GENERATED ALWAYS AS ROW END,\
     PERIOD FOR SYSTEM_TIME (s, e)) WITH SYSTEM VERSIONING";
 
-/// The rows of a file for this table, or the column at which it is refused.
-fn typed(rt: &HostRuntime, bytes: &[u8]) -> Option<Result<Vec<Row>, usize>> {
-    let schema = Schema::read(rt.alloc(), TYPES).ok()?;
-    match load_rows(rt.alloc(), bytes, schema.table_at(1)?) {
-        Ok(rows) => Some(Ok(rows)),
-        Err(Refusal::BadRow(column)) => Some(Err(column)),
-        Err(_) => None,
+/// The rows of a file for this table.
+fn typed(rt: &impl Abort, alloc: Global, bytes: &[u8]) -> Result<Vec<Row>, Refusal> {
+    let schema = Schema::read(alloc, TYPES).expect(rt, "it is a schema");
+    let table = schema.table_at(1).expect(rt, "there is a table");
+    load_rows(alloc, bytes, table)
+}
+
+/// Whether a file for this table is refused at a column.
+fn is_typed_refused_at(rt: &impl Abort, alloc: Global, bytes: &[u8], column: usize) -> bool {
+    match typed(rt, alloc, bytes) {
+        Err(Refusal::BadRow(at)) => at == column,
+        _ => false,
     }
 }
 
@@ -170,31 +180,32 @@ fn columns_of_each_type_refuse_by_their_numbers(rt: HostRuntime) {
     ];
     for (bytes, column) in files {
         assert!(rt;
-            matches!(typed(&rt, bytes), Some(Err(at)) if at == column),
+            is_typed_refused_at(&rt, rt.alloc(), bytes, column),
             "{bytes:?}"
         );
     }
 }
 
+/// The truth in the first row's third column, or none where it is NULL; nothing where the file has another value there.
+fn truth(rt: &impl Abort, alloc: Global, bytes: &[u8]) -> Option<Option<bool>> {
+    let rows = typed(rt, alloc, bytes).expect(rt, "the file has rows");
+    match rows.first()?.values().get(2)? {
+        Value::Bool(truth) => Some(Some(*truth)),
+        Value::Null => Some(None),
+        _ => None,
+    }
+}
+
 #[test]
 fn truths_are_written_in_any_case_and_empty_fields_are_null(rt: HostRuntime) {
-    let files: [(&[u8], Value); 5] = [
-        (b"k,n,f\na,1,true\n", Value::Bool(true)),
-        (b"k,n,f\na,1,TRUE\n", Value::Bool(true)),
-        (b"k,n,f\na,1,False\n", Value::Bool(false)),
-        (b"k,n,f\na,1,\n", Value::Null),
-        (b"k,n\n,1\n", Value::Null),
+    let files: [(&[u8], Option<bool>); 5] = [
+        (b"k,n,f\na,1,true\n", Some(true)),
+        (b"k,n,f\na,1,TRUE\n", Some(true)),
+        (b"k,n,f\na,1,False\n", Some(false)),
+        (b"k,n,f\na,1,\n", None),
+        (b"k,n\n,1\n", None),
     ];
     for (bytes, found) in files {
-        let Some(Ok(rows)) = typed(&rt, bytes) else {
-            assert!(rt; false, "{bytes:?}");
-            return;
-        };
-        assert!(rt;
-            rows.as_slice()
-                .first()
-                .is_some_and(|row| row.values().get(2) == Some(&found)),
-            "{bytes:?}"
-        );
+        assert!(rt; truth(&rt, rt.alloc(), bytes) == Some(found), "{bytes:?}");
     }
 }

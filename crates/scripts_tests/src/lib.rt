@@ -1,7 +1,0 @@
-//! Tests of `scripts` by its public calls.
-#![tactic(auto)]
-
-#[cfg(test)]
-mod first_tests;
-#[cfg(test)]
-mod stream_tests;

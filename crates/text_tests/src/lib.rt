@@ -1,0 +1,13 @@
+//! Tests of `statement`, `scripts` and `interchange` by their public calls.
+#![tactic(auto)]
+
+#[cfg(test)]
+mod export_tests;
+#[cfg(test)]
+mod first_tests;
+#[cfg(test)]
+mod line_tests;
+#[cfg(test)]
+mod load_tests;
+#[cfg(test)]
+mod stream_tests;
