@@ -1,22 +1,12 @@
 //! The program `tsvd`: system-versioned tables from the command line and over TCP.
 #![tactic(auto)]
 
-mod fault;
 mod greeting;
-mod load;
-mod output;
-mod program;
-mod schema_file;
-mod server;
-mod table_export;
-#[cfg(test)]
-mod tests;
-mod words;
 
-use crate::fault::{Fault, tell};
 use crate::greeting::Greeter;
-use crate::program::program;
-use crate::words::WordsFault;
+use command_line::fault::{Fault, tell};
+use command_line::program::program;
+use command_line::words::WordsFault;
 use std::env;
 use std::io::{BufWriter, ErrorKind};
 use std::process::ExitCode;

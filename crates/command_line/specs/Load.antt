@@ -1,0 +1,126 @@
+-- What is loaded before a script, and what is written for it.
+use Rattle.std.specs.Prelude.{◌≡◌, ◌⊎◌, ℕ, List, [], ◌∷◌, Option, Some, None, Result, Ok, Err, length}
+use Rattle.std.specs.Io.KnownBytes.{Appends, Keeps}
+use Rattle.clap.specs.Words.{Text}
+use Rattle.values.specs.declared.table.Table.{Table}
+use Rattle.values.specs.declared.refusal.Refusal.{Refusal}
+use Rattle.values.specs.declared.refusal.Refusal.TheVariants.{NoTable, Memory as OutOfMemory}
+use Rattle.values.specs.Log.{Row, last}
+use Rattle.values.specs.Names.{table_number}
+use Rattle.values.specs.Tables.{Schema, IsTable, table_at}
+use Rattle.histories.specs.declared.step.Step.{Step}
+use Rattle.histories.specs.declared.step.Step.TheVariants.{Begin, Insert, Commit}
+use Rattle.histories.specs.History.{History, log}
+use Rattle.statement.specs.Writer.{AppendsFront}
+use Rattle.interleaving.specs.SystemState.{SystemState, Stands}
+use Rattle.interchange.specs.Load.{Loads}
+use Rattle.interchange.specs.Report.{loaded_text}
+use Rattle.scripts.specs.First.{history_of, first_refusal}
+use Rattle.command_line.specs.declared.fault.Fault.{Fault}
+use Rattle.command_line.specs.declared.fault.Fault.TheVariants.{Load, Read, Write, Memory}
+use Rattle.command_line.specs.Words.{name_in}
+
+-- the table with a name
+pub record IsNamed (schema : Schema) (name : Text) (table : Table) : Type 0 where
+  pub number_is : table_number schema name ≡ Some table.number
+  pub table_is : table_at schema table.number ≡ Some table
+  pub good : IsTable table.number table
+
+-- one transaction of session 0 inserts the rows at reading 0; without rows there is none
+abbrev pub steps_of : ℕ → List Row → List Step
+steps_of number [] = []
+steps_of number (row ∷ rows) =
+    Begin 0 ∷ Insert 0 number (row ∷ rows) ∷ Commit 0 0 ∷ []
+
+-- what some file's rows are for the table that the text of --load names, with its number, or why it
+-- has none
+pub record FileSays (schema : Schema) (text : Text) (number : ℕ) (r : Result (List Row) Refusal)
+    : Type 0 where
+  pub table : Table
+  pub is_named : IsNamed schema (name_in text) table
+  pub number_is : table.number ≡ number
+  pub bytes : List ℕ
+  pub loads : Loads table bytes r
+
+-- the rows of some file, whose steps leave a history: none of them is refused
+pub record IsLoad (schema : Schema) (text : Text) (first : History) : Type 0 where
+  pub number : ℕ
+  pub rows : List Row
+  pub says : FileSays schema text number (Ok rows)
+  pub taken : first_refusal schema [] (steps_of number rows) ≡ None
+  pub leaves : first ≡ history_of (steps_of number rows)
+
+pub record HasWrittenLoad (schema : Schema) (text : Text) (first : History)
+    (old new : Option (List ℕ)) : Type 0 where
+  pub load : IsLoad schema text first
+  pub wrote : Appends old new (loaded_text (length load.rows) (last (log schema first)))
+
+-- what was loaded, where that is asked for: this is the history, and it was reported
+abbrev pub HasLoaded : Schema → Option Text → History → (old new : Option (List ℕ)) → Type 0
+HasLoaded schema None first old new = (first ≡ []) × Keeps old new
+HasLoaded schema (Some text) first old new = HasWrittenLoad schema text first old new
+
+-- the rows of some file, of whose steps this is the first refusal
+pub record IsRefusedLoad (schema : Schema) (text : Text) (refusal : Refusal) : Type 0 where
+  pub number : ℕ
+  pub rows : List Row
+  pub says : FileSays schema text number (Ok rows)
+  pub refused : first_refusal schema [] (steps_of number rows) ≡ Some refusal
+
+-- why nothing is loaded: memory ran out, there is no such table, some file has no rows for it, or
+-- its rows are refused
+abbrev pub IsNoLoad : Schema → Text → Refusal → Type 0
+IsNoLoad schema text refusal =
+    (refusal ≡ OutOfMemory)
+    ⊎ (((refusal ≡ NoTable) × (table_number schema (name_in text) ≡ None))
+    ⊎ (((number : ℕ) × FileSays schema text number (Err refusal)) ⊎ IsRefusedLoad schema text refusal))
+
+-- the writer failed in the report
+pub record IsHalfReported (schema : Schema) (text : Text) (old new : Option (List ℕ)) : Type 0 where
+  pub first : History
+  pub load : IsLoad schema text first
+  pub wrote : AppendsFront old new (loaded_text (length load.rows) (last (log schema first)))
+
+-- what a fault of a load leaves: nothing was written, unless the writer failed
+abbrev pub Unloaded : Fault → Schema → Option Text → (old new : Option (List ℕ)) → Type 0
+Unloaded Memory schema text old new = Keeps old new
+Unloaded Read schema (Some text) old new = Keeps old new
+Unloaded (Load refusal) schema (Some text) old new = IsNoLoad schema text refusal × Keeps old new
+Unloaded Write schema (Some text) old new = IsHalfReported schema text old new
+Unloaded fault schema text old new = ⊥
+
+-- a store that has what was loaded
+pub record IsLed (schema : Schema) (text : Option Text) (s : SystemState)
+    (old new : Option (List ℕ)) : Type 0 where
+  pub first : History
+  pub loaded : HasLoaded schema text first old new
+  pub stands : Stands s first
+  pub schema_is : s.schema ≡ schema
+
+-- ---- what the parts of a load leave
+
+-- why a table's file has no rows: it cannot be read, or this is what it says
+abbrev pub IsUnread : Fault → Table → Type 0
+IsUnread Read table = Unit {0}
+IsUnread (Load refusal) table =
+    (refusal ≡ OutOfMemory) ⊎ ((bytes : List ℕ) × Loads table bytes (Err refusal))
+IsUnread fault table = ⊥
+
+-- why there are no rows for a text
+abbrev pub HasNoRows : Fault → Schema → Text → Type 0
+HasNoRows Read schema text = Unit {0}
+HasNoRows (Load refusal) schema text = IsNoLoad schema text refusal
+HasNoRows fault schema text = ⊥
+
+-- why rows are not loaded
+abbrev pub IsUntaken : Fault → Schema → ℕ → List Row → Type 0
+IsUntaken Memory schema number rows = Unit {0}
+IsUntaken (Load refusal) schema number rows =
+    (refusal ≡ OutOfMemory) ⊎ (first_refusal schema [] (steps_of number rows) ≡ Some refusal)
+IsUntaken fault schema number rows = ⊥
+
+-- a report was not written whole
+abbrev pub IsUntold : Fault → (text : List ℕ) → (old new : Option (List ℕ)) → Type 0
+IsUntold Memory text old new = Keeps old new
+IsUntold Write text old new = AppendsFront old new text
+IsUntold fault text old new = ⊥

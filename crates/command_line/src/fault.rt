@@ -1,0 +1,134 @@
+//! Why the program stops before its end. Each text is written here alone, but for those of refusals.
+ghost use Rattle.std.specs.Prelude.{◌≡◌, true, false};
+ghost use Rattle.command_line.specs.Fault.{is_of_words, of_export, of_load, of_run, of_schema, of_server};
+
+use crate::words::WordsFault;
+use interchange::ExportFault;
+use listening::{ListenFault, ServerFault};
+use rows::{Refusal, SchemaFault};
+use scripts::RunFault;
+use statement::print_refusal;
+use std::io::Write;
+use thiserror::Error;
+
+/// A fault of a stream, of a file, of a socket, of a schema, of a load, of an export or of memory.
+pub const FAULT: u8 = 1;
+
+/// Words that are none of the program's.
+pub const WORDS: u8 = 2;
+
+/// Why the program stops before its end, as standard error tells it.
+#[derive(Debug, Drop, Error)]
+pub enum Fault {
+    #[error(transparent)]
+    Words(WordsFault),
+    #[error("schema: syntax at {0}")]
+    SchemaSyntax(usize),
+    #[error("schema: bad table {0}")]
+    BadTable(usize),
+    #[error("schema: memory")]
+    SchemaMemory,
+    #[error("export: E2 no table")]
+    NoExport,
+    /// Behind this text stands the refusal's own.
+    #[error("load: ")]
+    Load(Refusal),
+    #[error("read fault")]
+    Read,
+    #[error("write fault")]
+    Write,
+    #[error("socket fault")]
+    Socket,
+    /// The receipts of the sessions are not those of the store's entries, one for each.
+    #[error("not closed")]
+    NotClosed,
+    #[error("memory")]
+    Memory,
+}
+
+pub fn schema_fault(fault: SchemaFault) -> Fault
+    ensures { result ≡ of_schema fault }
+{
+    match fault {
+        SchemaFault::Syntax(at) => Fault::SchemaSyntax(at),
+        SchemaFault::BadTable(number) => Fault::BadTable(number),
+        SchemaFault::Memory => Fault::SchemaMemory,
+    }
+}
+
+pub fn run_fault(fault: RunFault) -> Fault
+    ensures { result ≡ of_run fault }
+{
+    match fault {
+        RunFault::First(_) => Fault::Memory,
+        RunFault::Read => Fault::Read,
+        RunFault::Write => Fault::Write,
+        RunFault::Memory => Fault::Memory,
+    }
+}
+
+/// The fault of the steps of a load.
+pub fn load_fault(fault: RunFault) -> Fault
+    ensures { result ≡ of_load fault }
+{
+    match fault {
+        RunFault::First(refusal) => Fault::Load(refusal),
+        _ => Fault::Memory,
+    }
+}
+
+pub fn export_fault(fault: ExportFault) -> Fault
+    ensures { result ≡ of_export fault }
+{
+    match fault {
+        ExportFault::Write => Fault::Write,
+        ExportFault::Memory => Fault::Memory,
+    }
+}
+
+pub fn server_fault(fault: ServerFault) -> Fault
+    ensures { result ≡ of_server fault }
+{
+    match fault {
+        ServerFault::Load(refusal) => Fault::Load(refusal),
+        ServerFault::Write => Fault::Write,
+        ServerFault::Listen(ListenFault::Socket) => Fault::Socket,
+        ServerFault::Listen(ListenFault::Memory) => Fault::Memory,
+        ServerFault::Listen(ListenFault::NotClosed) => Fault::NotClosed,
+    }
+}
+
+impl Fault {
+    /// The program's status at this fault.
+    fn status(&self) -> u8
+        ensures words { is_of_words self.now ≡ true → result ≡ WORDS }
+        ensures other { is_of_words self.now ≡ false → result ≡ FAULT }
+    {
+        match self {
+            Fault::Words(_) => WORDS,
+            _ => FAULT,
+        }
+    }
+}
+
+/// Reports a fault on standard error, and gives its status.
+pub fn tell<E: Write>(err: &mut E, fault: &Fault) -> u8
+    ensures words { is_of_words fault.now ≡ true → result ≡ WORDS }
+    ensures other { is_of_words fault.now ≡ false → result ≡ FAULT }
+{
+    // Nobody is left to be told where standard error fails too.
+    match fault {
+        // The texts of words end their last line themselves.
+        Fault::Words(words) => {
+            let _ = write!(err, "{words}");
+        }
+        Fault::Load(refusal) => {
+            let _ = write!(err, "{fault}");
+            let _ = print_refusal(err, refusal);
+        }
+        _ => {
+            let _ = writeln!(err, "{fault}");
+        }
+    }
+    fault.status()
+}

@@ -1,0 +1,240 @@
+//! Rows of a file that are loaded before the script.
+ghost use Rattle.std.specs.Prelude.{◌≡◌, IfOk, IfErr, IfSome, None, Some, Ok, Err, OnOk, [], length, option_map, List, ℕ};
+ghost use Rattle.std.specs.Io.KnownBytes.{Appends};
+ghost use Rattle.clap.specs.Words.{Text};
+ghost use Rattle.values.specs.Names.{table_number};
+ghost use Rattle.values.specs.Tables.{IsTable};
+ghost use Rattle.values.specs.Log.{last};
+ghost use Rattle.values.specs.declared.refusal.Refusal.{Refusal as Why};
+ghost use Rattle.histories.specs.History.{History, log};
+ghost use Rattle.interleaving.specs.SystemState.{Stands};
+ghost use Rattle.interchange.specs.Load.{Loads};
+ghost use Rattle.interchange.specs.Report.{loaded_text};
+ghost use Rattle.scripts.specs.First.{history_of, first_refusal};
+ghost use Rattle.command_line.specs.Words.{name_in};
+ghost use Rattle.command_line.specs.Load.{IsLed, IsNamed, FileSays, HasNoRows, IsUnread, IsUntaken, IsUntold, Unloaded, steps_of};
+
+use crate::fault::{Fault, load_fault};
+use crate::output::put;
+use histories::Step;
+use interchange::{load_rows, loaded_line};
+use interleaving::System;
+use listening::TableRows;
+use rows::{Instant, Mem, Refusal, Row, Rows, Schema, Table};
+use scripts::lead;
+use std::alloc::Global;
+use std::fs::File;
+use std::io;
+use std::io::{ErrorKind, Read, Write};
+use std::rt::Files;
+
+/// The table's name in the text of `--load`, up to the first `=`.
+fn name_of(text: &str) -> &str
+    ensures { result.now ≡ name_in text.now }
+{
+    match text.split_once('=') {
+        Some((name, _file)) => name,
+        None => text,
+    }
+}
+
+/// The file in the text of `--load`, behind the first `=`.
+fn file_of(text: &str) -> &str {
+    match text.split_once('=') {
+        Some((_name, file)) => file,
+        None => "",
+    }
+}
+
+/// The table with a name.
+fn table_named<'a>(schema: &'a Schema, name: &str) -> Option<&'a Table>
+    ensures some { IfSome result (λ t. IsNamed schema.now name.now t.now) }
+    ensures none { result ≡ None → table_number schema.now name.now ≡ None }
+{
+    match schema.table(name.as_bytes()) {
+        Some(number) => schema.table_at(number),
+        None => None,
+    }
+}
+
+/// The bytes of a file.
+fn bytes_of<R: AllocGlobal + Files>(rt: &R, file: &str) -> io::Result<Vec<u8>> {
+    let mut bytes = Vec::new(rt.alloc());
+    File::open(rt, file)?.read_to_end(&mut bytes)?;
+    Ok(bytes)
+}
+
+fn file_fault(error: &io::Error) -> Fault
+    ensures { (table : Table) → IsUnread result table }
+{
+    match error.kind() {
+        ErrorKind::OutOfMemory => Fault::Load(Refusal::Memory),
+        _ => Fault::Read,
+    }
+}
+
+/// The rows that a file's bytes write for a table.
+fn rows_in(alloc: Global, table: &Table, bytes: &[u8]) -> Result<Vec<Row>, Fault>
+    requires good { IsTable table.now.number table.now }
+    ensures ok { IfOk result (λ rows. Loads table.now bytes.now (Ok rows.items)) }
+    ensures err { IfErr result (λ fault. IsUnread fault table.now) }
+{
+    match load_rows(alloc, bytes, table) {
+        Ok(rows) => Ok(rows),
+        Err(refusal) => Err(Fault::Load(refusal)),
+    }
+}
+
+/// The rows that a file writes for a table.
+fn table_rows<R: AllocGlobal + Files>(rt: &R, table: &Table, file: &str) -> Result<Vec<Row>, Fault>
+    requires good { IsTable table.now.number table.now }
+    ensures ok { IfOk result (λ rows. (bytes : List ℕ) × Loads table.now bytes (Ok rows.items)) }
+    ensures err { IfErr result (λ fault. IsUnread fault table.now) }
+{
+    match bytes_of(rt, file) {
+        Ok(bytes) => rows_in(rt.alloc(), table, bytes.as_slice()),
+        Err(error) => Err(file_fault(&error)),
+    }
+}
+
+/// The rows that the text of `--load` asks for, with their table's number.
+pub fn rows_for<R: AllocGlobal + Files>(
+    rt: &R,
+    text: &str,
+    schema: &Schema,
+) -> Result<TableRows, Fault>
+    ensures ok { IfOk result (λ r. FileSays schema.now text.now r.number (Ok r.rows.items)) }
+    ensures err { IfErr result (λ fault. HasNoRows fault schema.now text.now) }
+{
+    let Some(table) = table_named(schema, name_of(text)) else {
+        return Err(Fault::Load(Refusal::NoTable));
+    };
+    match table_rows(rt, table, file_of(text)) {
+        Ok(rows) => Ok(TableRows {
+            number: table.number,
+            rows,
+        }),
+        Err(fault) => Err(fault),
+    }
+}
+
+/// One transaction of the service's session that inserts the rows at reading 0; none where there are none.
+fn steps_of(alloc: Global, loaded: TableRows) -> Mem<Vec<Step>>
+    ensures { IfOk result (λ v. v.items ≡ steps_of loaded.number loaded.rows.items) }
+{
+    if loaded.rows.is_empty() {
+        return Ok(Vec::new(alloc));
+    }
+    let insert = Step::Insert(0, loaded.number, Rows::new(loaded.rows));
+    Ok(vec![in alloc; Step::Begin(0), insert, Step::Commit(0, 0)]?)
+}
+
+/// A store with these rows.
+fn store_of(alloc: Global, schema: Schema, loaded: TableRows) -> Result<System, Fault>
+    ensures stands { IfOk result (λ s.
+        Stands s (history_of (steps_of loaded.number loaded.rows.items))) }
+    ensures schema { IfOk result (λ s. s.schema ≡ schema) }
+    ensures taken { OnOk result (
+        first_refusal schema [] (steps_of loaded.number loaded.rows.items) ≡ None) }
+    ensures err { IfErr result (λ fault. IsUntaken fault schema loaded.number loaded.rows.items) }
+{
+    match steps_of(alloc, loaded) {
+        Ok(steps) => match lead(alloc, schema, steps) {
+            Ok(system) => Ok(system),
+            Err(fault) => Err(load_fault(fault)),
+        },
+        Err(_) => Err(Fault::Load(Refusal::Memory)),
+    }
+}
+
+/// The last commit instant, 0 where there is none.
+fn last_instant(system: &System) -> Instant
+    ensures { (h : History) → Stands system.now h → result ≡ last (log system.now.schema h) }
+{
+    system.tree().current().last()
+}
+
+/// Writes how many rows were loaded, and at which instant.
+fn report<O: Write>(alloc: Global, out: &mut O, count: usize, instant: Instant) -> Result<(), Fault>
+    ensures ok { OnOk result (
+        Appends (O.contents out.old) (O.contents out.new) (loaded_text count instant)) }
+    ensures err { IfErr result (λ fault. IsUntold fault (loaded_text count instant)
+        (O.contents out.old) (O.contents out.new)) }
+{
+    match loaded_line(alloc, count, instant) {
+        Ok(text) => put(out, text.as_slice()),
+        Err(_) => Err(Fault::Memory),
+    }
+}
+
+fn count_of(loaded: &TableRows) -> usize
+    ensures { result ≡ length loaded.now.rows.items }
+{
+    loaded.rows.as_slice().len()
+}
+
+/// Loads the rows that the text of `--load` asks for, and reports them.
+fn load_rows_of<O: Write>(
+    alloc: Global,
+    out: &mut O,
+    schema: Schema,
+    loaded: TableRows,
+) -> Result<System, Fault>
+    ensures ok { IfOk result (λ s. (text : Text)
+        → FileSays schema text loaded.number (Ok loaded.rows.items)
+        → IsLed schema (Some text) s (O.contents out.old) (O.contents out.new)) }
+    ensures err { IfErr result (λ fault. (text : Text)
+        → FileSays schema text loaded.number (Ok loaded.rows.items)
+        → Unloaded fault schema (Some text) (O.contents out.old) (O.contents out.new)) }
+{
+    let count = count_of(&loaded);
+    let system = match store_of(alloc, schema, loaded) {
+        Ok(system) => system,
+        Err(fault) => return Err(fault),
+    };
+    match report(alloc, out, count, last_instant(&system)) {
+        Ok(()) => Ok(system),
+        Err(fault) => Err(fault),
+    }
+}
+
+/// Loads a file.
+fn load_file<R: AllocGlobal + Files, O: Write>(
+    rt: &R,
+    text: &str,
+    out: &mut O,
+    schema: Schema,
+) -> Result<System, Fault>
+    ensures ok { IfOk result (λ s. IsLed schema (Some text.now) s
+        (O.contents out.old) (O.contents out.new)) }
+    ensures err { IfErr result (λ fault. Unloaded fault schema (Some text.now)
+        (O.contents out.old) (O.contents out.new)) }
+{
+    match rows_for(rt, text, &schema) {
+        Ok(loaded) => load_rows_of(rt.alloc(), out, schema, loaded),
+        Err(fault) => Err(fault),
+    }
+}
+
+/// The store before the script: with the rows of a file, where one is to be loaded, in one
+/// transaction of session 0. How many they are and their instant are written then.
+pub fn load<R: AllocGlobal + Files, O: Write>(
+    rt: &R,
+    text: Option<&str>,
+    out: &mut O,
+    schema: Schema,
+) -> Result<System, Fault>
+    ensures ok { IfOk result (λ s. IsLed schema (option_map (λ text. text.now) text.entry) s
+        (O.contents out.old) (O.contents out.new)) }
+    ensures err { IfErr result (λ fault. Unloaded fault schema
+        (option_map (λ text. text.now) text.entry)
+        (O.contents out.old) (O.contents out.new)) }
+{
+    match text {
+        Some(text) => load_file(rt, text, out, schema),
+        None => match System::new(rt.alloc(), schema) {
+            Ok(system) => Ok(system),
+            Err(_) => Err(Fault::Memory),
+        },
+    }
+}

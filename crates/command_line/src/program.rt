@@ -1,0 +1,334 @@
+//! What the program does with its words and streams.
+ghost use Rattle.std.specs.Prelude.{◌≡◌, ◌≤◌, ℕ, List, IfOk, IfErr, OnOk, map, option_map, true, false};
+ghost use Rattle.std.specs.Io.KnownBytes.{Appends};
+ghost use Rattle.clap.specs.Words.{IsAmong, Text, kind_of};
+ghost use Rattle.histories.specs.History.{History};
+ghost use Rattle.interleaving.specs.SystemState.{Stands};
+ghost use Rattle.listening.specs.Server.{IsExportOf};
+ghost use Rattle.command_line.specs.Words.{Refuses, asked_of, faults};
+ghost use Rattle.command_line.specs.Program.{Halts, HaltsAt, HaltsMode, HaltsOn, HasAnswered, HasDone, HasRun, HasRunAll, HasRunMode, HasRunOn, IsComplete, IsDone, IsFaulty, IsRefused, IsStuck, IsUnanswered, IsUnshown, Leaves};
+ghost use Rattle.command_line.specs.Fault.{is_of_words, outcome_of};
+
+use crate::fault::{FAULT, Fault, WORDS, run_fault, tell};
+use crate::load::load;
+use crate::output::put;
+use crate::schema_file::schema_of;
+use crate::server::run_server;
+use crate::table_export::{export_number, export_table};
+use crate::words;
+use crate::words::{Mode, Options, WordsFault};
+use clap::error::ErrorKind;
+use interleaving::System;
+use listening::Plan;
+use rows::Schema;
+use scripts::{RunFault, run_script_in};
+use std::alloc::Global;
+use std::convert::AsStr;
+use std::fs::File;
+use std::io::{Read, Write};
+use std::net::{Net, TcpListener, TcpStream};
+use std::rt::Files;
+use std::sync::Wait;
+use std::thread::Threads;
+use std::time::Clock;
+
+/// All was done. Refused lines are replies, and no faults.
+pub const DONE: u8 = 0;
+
+/// Runs the program: reads a script over a schema, each from standard input or from a file as the
+/// words ask for, and writes its transcript, or serves connections; before it the rows of a file may
+/// be loaded, and after it a table may be exported. The answer is the status: 0 done, 1 a fault, 2 words that are refused; a
+/// fault is reported on standard error. Help and the version are written like other output.
+pub fn program<R, S, I, O, E>(rt: &R, words: &[S], reader: &mut I, out: &mut O, err: &mut E) -> u8
+where
+    R: AllocGlobal
+        + Files
+        + Net<Listener = TcpListener, Stream = TcpStream>
+        + Clock
+        + Threads
+        + Wait
+        + Sync,
+    S: AsStr,
+    I: Read,
+    O: Write,
+    E: Write,
+    ensures done { result ≡ DONE → IsDone (map S.text words.now)
+        (I.remaining reader.old) (I.remaining reader.new)
+        (O.contents out.old) (O.contents out.new) }
+    ensures words { result ≡ WORDS → IsRefused (map S.text words.now)
+        (I.remaining reader.old) (I.remaining reader.new)
+        (O.contents out.old) (O.contents out.new) }
+    ensures fault { result ≡ FAULT → IsFaulty (map S.text words.now)
+        (I.remaining reader.old) (I.remaining reader.new)
+        (O.contents out.old) (O.contents out.new) }
+    ensures status { result ≤ WORDS }
+{
+    match run(rt, words, reader, out) {
+        Ok(()) => DONE,
+        Err(fault) => tell(err, &fault),
+    }
+}
+
+/// Runs the program up to its first fault: of the words, of the schema, of the table to be exported,
+/// of the load, of the script, of the export.
+fn run<R, S, I, O>(rt: &R, words: &[S], reader: &mut I, out: &mut O) -> Result<(), Fault>
+where
+    R: AllocGlobal
+        + Files
+        + Net<Listener = TcpListener, Stream = TcpStream>
+        + Clock
+        + Threads
+        + Wait
+        + Sync,
+    S: AsStr,
+    I: Read,
+    O: Write,
+    ensures done { OnOk result (IsDone (map S.text words.now)
+        (I.remaining reader.old) (I.remaining reader.new)
+        (O.contents out.old) (O.contents out.new)) }
+    ensures words { IfErr result (λ fault. is_of_words fault ≡ true
+        → IsRefused (map S.text words.now)
+        (I.remaining reader.old) (I.remaining reader.new)
+        (O.contents out.old) (O.contents out.new)) }
+    ensures fault { IfErr result (λ fault. is_of_words fault ≡ false
+        → IsFaulty (map S.text words.now)
+        (I.remaining reader.old) (I.remaining reader.new)
+        (O.contents out.old) (O.contents out.new)) }
+{
+    match words::words(rt.alloc(), words) {
+        Ok(options) => run_options(rt, options, reader, out),
+        Err(fault) => answer(rt.alloc(), out, fault),
+    }
+}
+
+/// Writes the text of help or of the version.
+fn show<O: Write>(alloc: Global, out: &mut O, error: &clap::Error) -> Result<(), Fault>
+    ensures ok { OnOk result ((text : List ℕ)
+        × Appends (O.contents out.old) (O.contents out.new) text) }
+    ensures err { IfErr result (λ fault.
+        IsUnshown fault (O.contents out.old) (O.contents out.new)) }
+{
+    match format!(in alloc; "{error}") {
+        Ok(text) => put(out, text.as_str().as_bytes()),
+        Err(_) => Err(Fault::Memory),
+    }
+}
+
+/// Help and the version are no faults: they are written as asked for.
+fn answer_clap<O: Write>(alloc: Global, out: &mut O, error: clap::Error) -> Result<(), Fault>
+    ensures ok { OnOk result ((words : List Text) → IsAmong (kind_of error) (faults words)
+        → HasAnswered words (O.contents out.old) (O.contents out.new)) }
+    ensures err { IfErr result (λ fault. (words : List Text)
+        → IsAmong (kind_of error) (faults words)
+        → IsUnanswered fault words (O.contents out.old) (O.contents out.new)) }
+{
+    match error.kind() {
+        ErrorKind::DisplayHelp => show(alloc, out, &error),
+        ErrorKind::DisplayVersion => show(alloc, out, &error),
+        _ => Err(Fault::Words(WordsFault::Clap(error))),
+    }
+}
+
+/// What words come to that are not taken.
+fn answer<O: Write>(alloc: Global, out: &mut O, fault: WordsFault) -> Result<(), Fault>
+    ensures ok { OnOk result ((words : List Text) → Refuses words fault
+        → HasAnswered words (O.contents out.old) (O.contents out.new)) }
+    ensures err { IfErr result (λ stop. (words : List Text) → Refuses words fault
+        → IsUnanswered stop words (O.contents out.old) (O.contents out.new)) }
+{
+    match fault {
+        WordsFault::Clap(error) => answer_clap(alloc, out, error),
+        WordsFault::Words(text) => Err(Fault::Words(WordsFault::Words(text))),
+        WordsFault::Memory => Err(Fault::Memory),
+    }
+}
+
+/// Runs what is asked for.
+fn run_options<R, I, O>(
+    rt: &R,
+    options: Options<'_>,
+    reader: &mut I,
+    out: &mut O,
+) -> Result<(), Fault>
+where
+    R: AllocGlobal
+        + Files
+        + Net<Listener = TcpListener, Stream = TcpStream>
+        + Clock
+        + Threads
+        + Wait
+        + Sync,
+    I: Read,
+    O: Write,
+    ensures done { OnOk result (IsComplete (asked_of options.entry)
+        (I.remaining reader.old) (I.remaining reader.new)
+        (O.contents out.old) (O.contents out.new)) }
+    ensures stuck { IfErr result (λ fault. IsStuck fault (asked_of options.entry)
+        (I.remaining reader.old) (I.remaining reader.new)
+        (O.contents out.old) (O.contents out.new)) }
+{
+    match schema_of(rt, options.schema) {
+        Ok(schema) => run_over(rt, options, reader, out, schema),
+        Err(fault) => Err(fault),
+    }
+}
+
+/// Runs what is asked for over a schema: the table to be exported is looked up first.
+fn run_over<R, I, O>(
+    rt: &R,
+    options: Options<'_>,
+    reader: &mut I,
+    out: &mut O,
+    schema: Schema,
+) -> Result<(), Fault>
+where
+    R: AllocGlobal
+        + Files
+        + Net<Listener = TcpListener, Stream = TcpStream>
+        + Clock
+        + Threads
+        + Wait
+        + Sync,
+    I: Read,
+    O: Write,
+    ensures done { OnOk result (HasDone (asked_of options.entry) schema
+        (I.remaining reader.old) (I.remaining reader.new)
+        (O.contents out.old) (O.contents out.new)) }
+    ensures halts { IfErr result (λ fault. Halts fault (asked_of options.entry) schema
+        (I.remaining reader.old) (I.remaining reader.new)
+        (O.contents out.old) (O.contents out.new)) }
+{
+    match export_number(&schema, options.export) {
+        Ok(number) => run_mode(rt, options, number, reader, out, schema),
+        Err(fault) => Err(fault),
+    }
+}
+
+/// Runs a script or a server.
+fn run_mode<R, I, O>(
+    rt: &R,
+    options: Options<'_>,
+    number: Option<u8>,
+    reader: &mut I,
+    out: &mut O,
+    schema: Schema,
+) -> Result<(), Fault>
+where
+    R: AllocGlobal
+        + Files
+        + Net<Listener = TcpListener, Stream = TcpStream>
+        + Clock
+        + Threads
+        + Wait
+        + Sync,
+    I: Read,
+    O: Write,
+    requires export { IsExportOf schema number }
+    ensures done { OnOk result (HasRunMode (asked_of options.entry).mode
+        (asked_of options.entry).load number schema
+        (I.remaining reader.old) (I.remaining reader.new)
+        (O.contents out.old) (O.contents out.new)) }
+    ensures halts { IfErr result (λ fault. HaltsMode fault (asked_of options.entry).mode
+        (asked_of options.entry).load number schema
+        (I.remaining reader.old) (I.remaining reader.new)
+        (O.contents out.old) (O.contents out.new)) }
+{
+    match options.mode {
+        Mode::Script(file) => run_all(rt, options.load, file, number, reader, out, schema),
+        Mode::Listen { port, sessions } => {
+            let plan = Plan {
+                port,
+                sessions,
+                export: number,
+            };
+            run_server(rt, options.load, plan, reader, out, schema)
+        }
+    }
+}
+
+/// The load, then the script, then the export.
+fn run_all<R: AllocGlobal + Files, I: Read, O: Write>(
+    rt: &R,
+    text: Option<&str>,
+    file: Option<&str>,
+    number: Option<u8>,
+    reader: &mut I,
+    out: &mut O,
+    schema: Schema,
+) -> Result<(), Fault>
+    ensures done { OnOk result (HasRunAll (option_map (λ text. text.now) text.entry)
+        (option_map (λ text. text.now) file.entry) number schema
+        (I.remaining reader.old) (I.remaining reader.new)
+        (O.contents out.old) (O.contents out.new)) }
+    ensures halts { IfErr result (λ fault. HaltsAt fault (option_map (λ text. text.now) text.entry)
+        (option_map (λ text. text.now) file.entry) number schema
+        (I.remaining reader.old) (I.remaining reader.new)
+        (O.contents out.old) (O.contents out.new)) }
+{
+    match load(rt, text, out, schema) {
+        Ok(system) => run_on(rt, file, number, reader, out, system),
+        Err(fault) => Err(fault),
+    }
+}
+
+/// The script over a store, then the export.
+fn run_on<R: AllocGlobal + Files, I: Read, O: Write>(
+    rt: &R,
+    file: Option<&str>,
+    number: Option<u8>,
+    reader: &mut I,
+    out: &mut O,
+    system: System,
+) -> Result<(), Fault>
+    ensures done { OnOk result ((h : History) → Stands system h
+        → HasRunOn (option_map (λ text. text.now) file.entry) number system.schema h
+        (I.remaining reader.old) (I.remaining reader.new)
+        (O.contents out.old) (O.contents out.new)) }
+    ensures halts { IfErr result (λ fault. (h : History) → Stands system h
+        → HaltsOn fault (option_map (λ text. text.now) file.entry) number system.schema h
+        (I.remaining reader.old) (I.remaining reader.new)
+        (O.contents out.old) (O.contents out.new)) }
+{
+    match run_script_of(rt, file, reader, out, system) {
+        Ok(system) => export_table(rt.alloc(), out, number, system),
+        Err(fault) => Err(fault),
+    }
+}
+
+/// Runs the script of a file, or of standard input where no file is named, over a store.
+fn run_script_of<R: AllocGlobal + Files, I: Read, O: Write>(
+    rt: &R,
+    file: Option<&str>,
+    reader: &mut I,
+    out: &mut O,
+    system: System,
+) -> Result<System, Fault>
+    ensures done { IfOk result (λ s. (h : History) → Stands system h
+        → HasRun (option_map (λ text. text.now) file.entry) system.schema h s
+        (I.remaining reader.old) (I.remaining reader.new)
+        (O.contents out.old) (O.contents out.new)) }
+    ensures schema { IfOk result (λ s. (h : History) → Stands system h
+        → s.schema ≡ system.schema) }
+    ensures fault { IfErr result (λ fault. (h : History) → Stands system h
+        → Leaves fault (option_map (λ text. text.now) file.entry) system.schema h
+        (I.remaining reader.old) (I.remaining reader.new)
+        (O.contents out.old) (O.contents out.new)) }
+{
+    match file {
+        Some(path) => match File::open(rt, path) {
+            Ok(mut script) => finish(run_script_in(rt.alloc(), system, &mut script, out)),
+            Err(_) => Err(Fault::Read),
+        },
+        None => finish(run_script_in(rt.alloc(), system, reader, out)),
+    }
+}
+
+/// What a run comes to: a fault is reported as it is.
+fn finish(ran: Result<System, RunFault>) -> Result<System, Fault>
+    ensures { result ≡ outcome_of ran }
+{
+    match ran {
+        Ok(system) => Ok(system),
+        Err(stopped) => Err(run_fault(stopped)),
+    }
+}
