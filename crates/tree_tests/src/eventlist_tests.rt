@@ -1,10 +1,8 @@
-//! Lists of a few events. A helper answers None where memory runs out.
-ghost use Rattle.std.specs.Prelude.{◌≡◌, IfSome, IfOk};
+//! Lists of a few events.
 ghost use Rattle.std.specs.List.Sorted.{IsStrictlySortedBy};
-ghost use Rattle.values.specs.KeyEncoding.{IsShortKey};
 ghost use Rattle.values.specs.Events.{event_cmp};
 
-use crate::samples::{count, row};
+use crate::samples::{count, event, key, row};
 use eventlist::{
     event_since, event_until, events_in, is_overtaken, last_event, of_range, place_after,
     place_behind_key, place_of, place_of_key, place_until, put_event, sort_events, split_first_key,
@@ -12,119 +10,110 @@ use eventlist::{
 };
 use keyrange::KeyRange;
 use std::alloc::Global;
-use values::{Event, Instant, Key, KeyBytes, SharedEvent, Value, Values, key_bytes};
+use std::process::Abort;
+use values::{Instant, KeyBytes, SharedEvent};
 
-fn key(alloc: Global, table: u8, number: i64) -> Option<Key>
-    ensures { IfSome result IsShortKey }
-{
-    Some(Key {
-        table,
-        parts: Values::new(vec![in alloc; Value::Int(number)].ok()?),
-    })
-}
-
-fn bytes(alloc: Global, table: u8, number: i64) -> Option<KeyBytes> {
-    key_bytes(alloc, &key(alloc, table, number)?).ok()
+/// The key of a table's row whose key is this number.
+fn bytes(rt: &impl Abort, alloc: Global, table: u8, number: u8) -> KeyBytes {
+    let bytes = vec![in alloc; table, 128, 0, 0, 0, 0, 0, 0, number];
+    KeyBytes::new(bytes.expect(rt, "there is memory")).expect(rt, "nine bytes are few")
 }
 
 /// The keys of table 0, 1 or 2.
-fn keys_of_table(alloc: Global, table: u8) -> Option<KeyRange> {
-    let lo = KeyBytes::new(vec![in alloc; table].ok()?)?;
-    let hi = KeyBytes::new(vec![in alloc; table.wrapping_add(1)].ok()?)?;
-    Some(KeyRange { lo, hi: Some(hi) })
+fn keys_of_table(rt: &impl Abort, alloc: Global, table: u8) -> KeyRange {
+    KeyRange {
+        lo: key(rt, alloc, table),
+        hi: Some(key(rt, alloc, table.wrapping_add(1))),
+    }
 }
 
-fn event(alloc: Global, table: u8, number: i64, at: Instant, there: bool) -> Option<Event> {
-    let row = if there { Some(row(alloc)?) } else { None };
-    Event::new(bytes(alloc, table, number)?, at, row)
+/// A row of a key from an instant on, or its deletion.
+fn change(rt: &impl Abort, alloc: Global, key: KeyBytes, at: Instant, there: bool) -> SharedEvent {
+    let row = if there { Some(row(rt, alloc)) } else { None };
+    let event = SharedEvent::new(alloc, event(rt, key, at, row));
+    event.expect(rt, "there is memory")
 }
 
 fn put(
+    rt: &impl Abort,
     alloc: Global,
     events: &mut Vec<SharedEvent>,
     table: u8,
-    number: i64,
+    number: u8,
     at: Instant,
     there: bool,
-) -> Option<()>
+)
     requires { IsStrictlySortedBy event_cmp events.old.items }
     ensures { IsStrictlySortedBy event_cmp events.new.items }
 {
-    let event = event(alloc, table, number, at, there)?;
-    put_event(events, SharedEvent::new(alloc, event).ok()?).ok()
+    let key = bytes(rt, alloc, table, number);
+    let done = put_event(events, change(rt, alloc, key, at, there));
+    done.expect(rt, "there is memory");
 }
 
 /// Of table 1 the keys 1 (a row at 100, deleted at 200) and 2 (a row at 150), of table 2 the key 1 (a row at 50).
 #[tactic(auto, using(eventlist::proofs::PlaceOrder::sorted_none))]
-fn some(alloc: Global) -> Option<Vec<SharedEvent>>
-    ensures { IfSome result (λ v. IsStrictlySortedBy event_cmp v.items) }
+fn some(rt: &impl Abort, alloc: Global) -> Vec<SharedEvent>
+    ensures { IsStrictlySortedBy event_cmp result.items }
 {
     let mut events = Vec::new(alloc);
-    put(alloc, &mut events, 2, 1, 50, true)?;
-    put(alloc, &mut events, 1, 2, 150, true)?;
-    put(alloc, &mut events, 1, 1, 200, false)?;
-    put(alloc, &mut events, 1, 1, 100, true)?;
-    Some(events)
+    put(rt, alloc, &mut events, 2, 1, 50, true);
+    put(rt, alloc, &mut events, 1, 2, 150, true);
+    put(rt, alloc, &mut events, 1, 1, 200, false);
+    put(rt, alloc, &mut events, 1, 1, 100, true);
+    events
 }
 
 /// The places before a key of table 1 and behind it.
-fn key_places(alloc: Global, events: &[SharedEvent], number: i64) -> Option<(usize, usize)>
-    requires { IsStrictlySortedBy event_cmp events.now }
-{
-    let key = bytes(alloc, 1, number)?;
-    Some((place_of_key(events, &key), place_behind_key(events, &key)))
+fn key_places(rt: &impl Abort, alloc: Global, number: u8) -> (usize, usize) {
+    let events = some(rt, alloc);
+    let key = bytes(rt, alloc, 1, number);
+    (place_of_key(&events, &key), place_behind_key(&events, &key))
 }
 
 /// The place after the events of key 1 of table 1 until an instant, and the key's last change if it is later.
 fn place_and_change_after(
+    rt: &impl Abort,
     alloc: Global,
-    events: &[SharedEvent],
     instant: Instant,
-) -> Option<(usize, Option<Instant>)>
-    requires { IsStrictlySortedBy event_cmp events.now }
-{
-    let key = bytes(alloc, 1, 1)?;
-    let place = place_after(events, &key, instant);
-    Some((place, event_since(events, &key, instant)))
+) -> (usize, Option<Instant>) {
+    let events = some(rt, alloc);
+    let key = bytes(rt, alloc, 1, 1);
+    let place = place_after(&events, &key, instant);
+    (place, event_since(&events, &key, instant))
 }
 
 #[test]
 fn places_are_before_and_behind_a_key(rt: HostRuntime) {
-    let events = some(rt.alloc()).expect(&rt, "there is memory");
-    assert!(rt; key_places(rt.alloc(), &events, 1) == Some((0, 2)));
+    assert!(rt; key_places(&rt, rt.alloc(), 1) == (0, 2));
     for (instant, place, change) in [(199, 1, Some(200)), (200, 2, None)] {
-        let found = place_and_change_after(rt.alloc(), &events, instant);
-        assert!(rt; found == Some((place, change)), "after {instant}");
+        let found = place_and_change_after(&rt, rt.alloc(), instant);
+        assert!(rt; found == (place, change), "after {instant}");
     }
 }
 
 /// The instant of the last event of key 1 of table 1 until another; 0 where it has none.
-fn last_until(alloc: Global, events: &[SharedEvent], at: Instant) -> Option<Instant>
-    requires { IsStrictlySortedBy event_cmp events.now }
-{
-    let key = bytes(alloc, 1, 1)?;
-    match event_until(events, &key, at) {
-        Some(event) => Some(event.at()),
-        None => Some(0),
+fn last_until(rt: &impl Abort, alloc: Global, at: Instant) -> Instant {
+    let events = some(rt, alloc);
+    match event_until(&events, &bytes(rt, alloc, 1, 1), at) {
+        Some(event) => event.at(),
+        None => 0,
     }
 }
 
 /// The instant of that key's last event.
-fn last(alloc: Global, events: &[SharedEvent]) -> Option<Instant>
-    requires { IsStrictlySortedBy event_cmp events.now }
-{
-    let key = bytes(alloc, 1, 1)?;
-    Some(last_event(events, &key)?.at())
+fn last(rt: &impl Abort, alloc: Global) -> Instant {
+    let events = some(rt, alloc);
+    let event = last_event(&events, &bytes(rt, alloc, 1, 1));
+    event.expect(rt, "there is an event").at()
 }
 
 #[test]
 fn a_keys_last_event_is_found_by_its_instant(rt: HostRuntime) {
-    let events = some(rt.alloc()).expect(&rt, "there is memory");
     for (at, found) in [(99, 0), (100, 100), (199, 100), (200, 200)] {
-        let last = last_until(rt.alloc(), &events, at);
-        assert!(rt; last == Some(found), "at {at}");
+        assert!(rt; last_until(&rt, rt.alloc(), at) == found, "at {at}");
     }
-    assert!(rt; last(rt.alloc(), &events) == Some(200));
+    assert!(rt; last(&rt, rt.alloc()) == 200);
 }
 
 /// The place of the second event.
@@ -134,70 +123,76 @@ fn second_place(events: &[SharedEvent]) -> Option<usize>
     Some(place_of(events, events.get(1)?.event()))
 }
 
+/// The place of the second event, and how many events there are with another at its point, and with one more after it.
+fn second_and_counts(rt: &impl Abort, alloc: Global) -> (Option<usize>, usize, usize) {
+    let mut events = some(rt, alloc);
+    let second = second_place(&events);
+    put(rt, alloc, &mut events, 1, 1, 200, true);
+    let count = events.len();
+    put(rt, alloc, &mut events, 1, 1, 201, true);
+    (second, count, events.len())
+}
+
 #[test]
 fn an_event_takes_the_place_of_one_of_its_point(rt: HostRuntime) {
-    let mut events = some(rt.alloc()).expect(&rt, "there is memory");
-    assert!(rt; second_place(&events) == Some(1));
-    assert!(rt; put(rt.alloc(), &mut events, 1, 1, 200, true).is_some());
-    assert!(rt; events.len() == 4);
-    assert!(rt; put(rt.alloc(), &mut events, 1, 1, 201, true).is_some());
-    assert!(rt; events.len() == 5);
+    assert!(rt; second_and_counts(&rt, rt.alloc()) == (Some(1), 4, 5));
 }
 
 /// How many events there are of key 2 of table 1 and above, from an instant to another.
-fn count_listed(alloc: Global, events: &[SharedEvent], from: Instant, to: Instant) -> Option<usize>
-    requires { IsStrictlySortedBy event_cmp events.now }
-{
+fn count_listed(rt: &impl Abort, alloc: Global, from: Instant, to: Instant) -> usize {
+    let events = some(rt, alloc);
     let range = KeyRange {
-        lo: bytes(alloc, 1, 2)?,
+        lo: bytes(rt, alloc, 1, 2),
         hi: None,
     };
-    count(events_in(alloc, events, &range, from, to))
+    count(rt, events_in(alloc, &events, &range, from, to))
 }
 
 #[test]
 fn events_of_a_range_are_listed(rt: HostRuntime) {
-    let events = some(rt.alloc()).expect(&rt, "there is memory");
-    assert!(rt; count_listed(rt.alloc(), &events, 1, 150) == Some(2));
-    assert!(rt; count_listed(rt.alloc(), &events, 51, 149) == Some(0));
+    assert!(rt; count_listed(&rt, rt.alloc(), 1, 150) == 2);
+    assert!(rt; count_listed(&rt, rt.alloc(), 51, 149) == 0);
 }
 
 /// How many rows of table 1 there are at an instant.
-fn count_standing(alloc: Global, events: &[SharedEvent], at: Instant) -> Option<usize>
-    requires { IsStrictlySortedBy event_cmp events.now }
-{
-    let range = keys_of_table(alloc, 1)?;
-    count(standing(alloc, events, &range, at))
+fn count_standing(rt: &impl Abort, alloc: Global, at: Instant) -> usize {
+    let events = some(rt, alloc);
+    let range = keys_of_table(rt, alloc, 1);
+    count(rt, standing(alloc, &events, &range, at))
 }
 
 fn first_is_overtaken(events: &[SharedEvent], at: Instant) -> Option<bool> {
     Some(is_overtaken(events.get(0)?.event(), at, events.get(1)))
 }
 
-#[test]
-fn rows_stand_until_the_next_event_of_their_key(rt: HostRuntime) {
-    let events = some(rt.alloc()).expect(&rt, "there is memory");
-    for (at, count) in [(99, 0), (100, 1), (150, 2), (199, 2), (200, 1)] {
-        let found = count_standing(rt.alloc(), &events, at);
-        assert!(rt; found == Some(count), "at {at}");
-    }
-    assert!(rt; first_is_overtaken(&events, 199) == Some(false));
-    assert!(rt; first_is_overtaken(&events, 200) == Some(true));
+/// Whether the first event is overtaken at 199 and at 200.
+fn is_overtaken_at_both(rt: &impl Abort, alloc: Global) -> (Option<bool>, Option<bool>) {
+    let events = some(rt, alloc);
+    (
+        first_is_overtaken(&events, 199),
+        first_is_overtaken(&events, 200),
+    )
 }
 
-fn count_of_table(alloc: Global, events: &[SharedEvent], table: u8) -> Option<usize>
-    requires { IsStrictlySortedBy event_cmp events.now }
-{
-    let range = keys_of_table(alloc, table)?;
-    Some(of_range(events, &range).len())
+#[test]
+fn rows_stand_until_the_next_event_of_their_key(rt: HostRuntime) {
+    for (at, count) in [(99, 0), (100, 1), (150, 2), (199, 2), (200, 1)] {
+        assert!(rt; count_standing(&rt, rt.alloc(), at) == count, "at {at}");
+    }
+    assert!(rt; is_overtaken_at_both(&rt, rt.alloc()) == (Some(false), Some(true)));
+}
+
+fn count_of_table(rt: &impl Abort, alloc: Global, table: u8) -> usize {
+    let events = some(rt, alloc);
+    let range = keys_of_table(rt, alloc, table);
+    of_range(&events, &range).len()
 }
 
 #[test]
 fn the_events_of_a_range_stand_together(rt: HostRuntime) {
-    let events = some(rt.alloc()).expect(&rt, "there is memory");
     for (table, count) in [(0u8, 0), (1, 3), (2, 1)] {
-        let found = count_of_table(rt.alloc(), &events, table);
-        assert!(rt; found == Some(count), "of table {table}");
+        let found = count_of_table(&rt, rt.alloc(), table);
+        assert!(rt; found == count, "of table {table}");
     }
 }
 
@@ -212,36 +207,45 @@ fn first_key_sizes(events: &[SharedEvent]) -> Option<(usize, usize, usize)>
     Some((first.len(), place_until(first, 199), others.len()))
 }
 
-#[test]
-fn a_list_is_split_behind_its_first_key(rt: HostRuntime) {
-    let events = some(rt.alloc()).expect(&rt, "there is memory");
-    assert!(rt; first_key_sizes(&events) == Some((2, 1, 2)));
+fn sizes(rt: &impl Abort, alloc: Global) -> Option<(usize, usize, usize)> {
+    first_key_sizes(&some(rt, alloc))
 }
 
-fn share(events: &[SharedEvent], place: usize) -> Option<SharedEvent> {
-    events.get(place)?.share().ok()
+#[test]
+fn a_list_is_split_behind_its_first_key(rt: HostRuntime) {
+    assert!(rt; sizes(&rt, rt.alloc()) == Some((2, 1, 2)));
+}
+
+fn share(rt: &impl Abort, events: &[SharedEvent], place: usize) -> SharedEvent {
+    let event = events.get(place).expect(rt, "the place is inside");
+    event.share().expect(rt, "there is memory")
 }
 
 /// The events at places, in that order.
-fn at_places(alloc: Global, events: &[SharedEvent], places: &[usize]) -> Option<Vec<SharedEvent>> {
+fn at_places(
+    rt: &impl Abort,
+    alloc: Global,
+    events: &[SharedEvent],
+    places: &[usize],
+) -> Vec<SharedEvent> {
     let mut found = Vec::new(alloc);
     for place in places {
-        found.push(share(events, *place)?).ok()?;
+        let done = found.push(share(rt, events, *place));
+        done.expect(rt, "there is memory");
     }
-    Some(found)
+    found
 }
 
 /// Whether the events at places are all events in their order, once they are sorted.
-fn are_all_when_sorted(alloc: Global, events: &[SharedEvent], places: &[usize]) -> Option<bool> {
-    let mut found = at_places(alloc, events, places)?;
-    sort_events(&mut found).ok()?;
-    Some(found.as_slice() == events)
+fn are_all_when_sorted(rt: &impl Abort, alloc: Global, places: &[usize]) -> bool {
+    let events = some(rt, alloc);
+    let mut found = at_places(rt, alloc, &events, places);
+    sort_events(&mut found).expect(rt, "there is memory");
+    found.as_slice() == events.as_slice()
 }
 
 #[test]
 fn events_of_several_lists_are_put_in_order_once_each(rt: HostRuntime) {
-    let events = some(rt.alloc()).expect(&rt, "there is memory");
     let places = [3, 1, 0, 2, 1, 3];
-    let are_all = are_all_when_sorted(rt.alloc(), &events, &places);
-    assert!(rt; are_all == Some(true));
+    assert!(rt; are_all_when_sorted(&rt, rt.alloc(), places.as_slice()));
 }

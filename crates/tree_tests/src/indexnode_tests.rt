@@ -1,6 +1,6 @@
 //! A node of all keys from instant 1 on: a historical reference before instant 200, and two current ones from it on that
-//! meet at key 33. A helper answers None where memory runs out.
-ghost use Rattle.std.specs.Prelude.{◌≡◌, None, IfSome, IfOk, All};
+//! meet at key 33.
+ghost use Rattle.std.specs.Prelude.{◌≡◌, None, All};
 ghost use Rattle.keyrange.specs.Rect.{IsInside};
 ghost use Rattle.keyrange.specs.Cut.{AreHalves};
 ghost use Rattle.indexnode.specs.Node.{Tiles};
@@ -12,26 +12,31 @@ use indexnode::{IndexNode, Reference, pair, single};
 use keyrange::Rect;
 use slots::Share;
 use std::alloc::Global;
+use std::process::Abort;
 use values::{Instant, KeyBytes, Mem};
 
-/// The halves of a rectangle at a key; None where it is not strictly inside.
-fn key_halves(area: &Rect, cut: &KeyBytes) -> Option<(Rect, Rect)>
-    ensures { IfSome result (λ h. AreHalves area.now h.0 h.1) }
+/// The halves of a rectangle at a key strictly inside.
+fn key_halves(rt: &impl Abort, area: &Rect, cut: &KeyBytes) -> (Rect, Rect)
+    ensures { AreHalves area.now result.0 result.1 }
 {
-    area.cut_key(cut).ok()?
+    let Ok(Some(halves)) = area.cut_key(cut) else {
+        panic!(rt; "the key is inside")
+    };
+    halves
 }
 
 /// References to a child for each half of a rectangle.
 fn two_references<C: Drop>(
+    rt: &impl Abort,
     alloc: Global,
     area: &Rect,
     halves: (Rect, Rect),
     first: C,
     second: C,
-) -> Option<Vec<Reference<C>>>
+) -> Vec<Reference<C>>
     requires { AreHalves area.now halves.0 halves.1 }
-    ensures tiles { IfSome result (λ v. Tiles area.now v.items) }
-    ensures inside { IfSome result (λ v. All (λ r. IsInside r.rect area.now) v.items) }
+    ensures tiles { Tiles area.now result.items }
+    ensures inside { All (λ r. IsInside r.rect area.now) result.items }
 {
     let first = Reference {
         rect: halves.0,
@@ -41,50 +46,53 @@ fn two_references<C: Drop>(
         rect: halves.1,
         child: second,
     };
-    match pair(alloc, first, second) {
-        Ok(references) => Some(references),
-        Err(_) => None,
-    }
+    let Ok(references) = pair(alloc, first, second) else {
+        panic!(rt; "there is memory")
+    };
+    references
 }
 
 /// The node over a historical child and a current one.
-fn two_children<C: Drop>(alloc: Global, historical: C, current: C) -> Option<IndexNode<C>>
-    ensures { IfSome result (λ n.
-        Tiles n.rect n.references.items × AreCurrentIn n.rect n.references.items) }
+fn two_children<C: Drop>(rt: &impl Abort, alloc: Global, historical: C, current: C) -> IndexNode<C>
+    ensures tiled { Tiles result.rect result.references.items }
+    ensures current { AreCurrentIn result.rect result.references.items }
 {
-    let area = all(alloc, 1, None)?;
-    let halves = time_halves(&area, 200)?;
-    let references = two_references(alloc, &area, halves, historical, current)?;
-    match IndexNode::new(alloc, area, references) {
-        Ok(node) => Some(node),
-        Err(_) => None,
-    }
+    let area = all(rt, alloc, 1, None);
+    let halves = time_halves(rt, &area, 200);
+    let references = two_references(rt, alloc, &area, halves, historical, current);
+    let Ok(node) = IndexNode::new(alloc, area, references) else {
+        panic!(rt; "there is memory")
+    };
+    node
 }
 
-/// The node with two children that meet at key 33 in the place of the current one.
-fn with_two_current<C: Drop>(
+/// Puts two children that meet at key 33 in the place of the current one of a node.
+fn put_two_current<C: Drop>(
+    rt: &impl Abort,
     alloc: Global,
-    mut node: IndexNode<C>,
+    node: &mut IndexNode<C>,
     low: C,
     high: C,
-) -> Option<IndexNode<C>>
-    requires tiled { Tiles node.rect node.references.items }
-    requires current { AreCurrentIn node.rect node.references.items }
-    ensures { IfSome result (λ n.
-        Tiles n.rect n.references.items × AreCurrentIn n.rect n.references.items) }
+)
+    requires tiled { Tiles node.old.rect node.old.references.items }
+    requires current { AreCurrentIn node.old.rect node.old.references.items }
+    ensures tiled { Tiles node.new.rect node.new.references.items }
+    ensures current { AreCurrentIn node.new.rect node.new.references.items }
 {
-    let area = all(alloc, 200, None)?;
-    let halves = key_halves(&area, &key(alloc, 33)?)?;
-    let references = two_references(alloc, &area, halves, low, high)?;
-    node.replace(&area, references).ok()?;
-    Some(node)
+    let area = all(rt, alloc, 200, None);
+    let halves = key_halves(rt, &area, &key(rt, alloc, 33));
+    let references = two_references(rt, alloc, &area, halves, low, high);
+    let done = node.replace(&area, references);
+    assert!(rt; done.expect(rt, "there is memory"));
 }
 
-fn numbers(alloc: Global) -> Option<IndexNode<usize>>
-    ensures { IfSome result (λ n.
-        Tiles n.rect n.references.items × AreCurrentIn n.rect n.references.items) }
+fn numbers(rt: &impl Abort, alloc: Global) -> IndexNode<usize>
+    ensures tiled { Tiles result.rect result.references.items }
+    ensures current { AreCurrentIn result.rect result.references.items }
 {
-    with_two_current(alloc, two_children(alloc, 1, 7)?, 2, 3)
+    let mut node = two_children(rt, alloc, 1, 7);
+    put_two_current(rt, alloc, &mut node, 2, 3);
+    node
 }
 
 /// The numbers below a node, a digit for each.
@@ -96,40 +104,32 @@ fn digits(node: &IndexNode<usize>) -> usize {
     digits
 }
 
-fn count_meeting(
-    alloc: Global,
-    node: &IndexNode<usize>,
-    from: Instant,
-    to: Option<Instant>,
-) -> Option<usize> {
-    let area = all(alloc, from, to)?;
-    count(node.meeting(alloc, &area))
+fn count_meeting(rt: &impl Abort, alloc: Global, from: Instant, to: Option<Instant>) -> usize {
+    let node = numbers(rt, alloc);
+    count(rt, node.meeting(alloc, &all(rt, alloc, from, to)))
 }
 
 #[test]
 fn references_that_meet_a_rectangle_are_found(rt: HostRuntime) {
-    let node = numbers(rt.alloc()).expect(&rt, "there is memory");
     for (from, to, count) in [(150, Some(250), 3), (150, Some(200), 1), (200, None, 2)] {
-        let found = count_meeting(rt.alloc(), &node, from, to);
-        assert!(rt; found == Some(count), "from {from}");
+        let found = count_meeting(&rt, rt.alloc(), from, to);
+        assert!(rt; found == count, "from {from}");
     }
 }
 
 /// The child at a point, or 0 where the node has no such point.
-fn child_at(alloc: Global, node: &IndexNode<usize>, number: u8, instant: Instant) -> Option<usize>
-    requires { Tiles node.now.rect node.now.references.items }
-{
-    let key = key(alloc, number)?;
+fn child_at(rt: &impl Abort, alloc: Global, number: u8, instant: Instant) -> usize {
+    let node = numbers(rt, alloc);
+    let key = key(rt, alloc, number);
     if node.rect().contains(&key, instant) {
-        Some(node.find(&key, instant).child)
+        node.find(&key, instant).child
     } else {
-        Some(0)
+        0
     }
 }
 
 #[test]
 fn a_point_has_one_reference(rt: HostRuntime) {
-    let node = numbers(rt.alloc()).expect(&rt, "there is memory");
     for (number, instant, child) in [
         (33, 0, 0),
         (33, 1, 1),
@@ -139,76 +139,96 @@ fn a_point_has_one_reference(rt: HostRuntime) {
         (33, 200, 3),
         (255, 9000, 3),
     ] {
-        let found = child_at(rt.alloc(), &node, number, instant);
-        assert!(rt; found == Some(child), "{number} at {instant}");
+        let found = child_at(&rt, rt.alloc(), number, instant);
+        assert!(rt; found == child, "{number} at {instant}");
     }
 }
 
-/// The halves at the middle key; None where there is no such split.
+/// The halves at the middle key.
 fn halves_by_key<C: Share + Drop>(
+    rt: &impl Abort,
     alloc: Global,
     node: &IndexNode<C>,
-) -> Option<(IndexNode<C>, IndexNode<C>)>
+) -> (IndexNode<C>, IndexNode<C>)
     requires tiled { Tiles node.now.rect node.now.references.items }
     requires current { AreCurrentIn node.now.rect node.now.references.items }
 {
-    if node.current_count() < 2 {
-        return None;
-    }
-    let cut = node.middle_key(alloc).ok()??;
-    node.split_key(&cut).ok()
+    assert!(rt; node.current_count() >= 2);
+    let Ok(Some(cut)) = node.middle_key(alloc) else {
+        panic!(rt; "there is a middle key")
+    };
+    node.split_key(&cut).expect(rt, "there is memory")
 }
 
 /// The numbers below both halves.
-fn digits_of_halves(halves: Option<(IndexNode<usize>, IndexNode<usize>)>) -> (usize, usize) {
-    match halves {
-        Some((first, second)) => (digits(&first), digits(&second)),
-        None => (0, 0),
-    }
+fn digits_of(halves: (IndexNode<usize>, IndexNode<usize>)) -> (usize, usize) {
+    (digits(&halves.0), digits(&halves.1))
+}
+
+fn digits_by_key(rt: &impl Abort, alloc: Global) -> (usize, usize) {
+    digits_of(halves_by_key(rt, alloc, &numbers(rt, alloc)))
 }
 
 #[test]
 fn both_halves_of_a_split_by_key_have_what_crosses_it(rt: HostRuntime) {
-    let node = numbers(rt.alloc()).expect(&rt, "there is memory");
-    let halves = halves_by_key(rt.alloc(), &node);
-    assert!(rt; digits_of_halves(halves) == (12, 13));
+    assert!(rt; digits_by_key(&rt, rt.alloc()) == (12, 13));
 }
 
-/// The halves at the least start of a current reference; None where there is no such split.
-fn halves_by_time(node: &IndexNode<usize>) -> Option<(IndexNode<usize>, IndexNode<usize>)> {
-    let cut = node.least_current_start()?;
+/// The halves at the least start of a current reference.
+fn halves_by_time(
+    rt: &impl Abort,
+    node: &IndexNode<usize>,
+) -> (IndexNode<usize>, IndexNode<usize>) {
+    let Some(cut) = node.least_current_start() else {
+        panic!(rt; "there is a current reference")
+    };
     let time = node.rect().time();
-    if time.from >= cut || time.to.is_some() {
-        return None;
-    }
-    node.split_time(cut).ok()
+    assert!(rt; time.from < cut && time.to.is_none());
+    node.split_time(cut).expect(rt, "there is memory")
+}
+
+fn digits_by_time(rt: &impl Abort, alloc: Global) -> (usize, usize) {
+    digits_of(halves_by_time(rt, &numbers(rt, alloc)))
+}
+
+/// The least start of a current reference, how many of these there are, and how many stay at 200 and at 199.
+fn counts(rt: &impl Abort, alloc: Global) -> (Option<Instant>, usize, usize, usize) {
+    let node = numbers(rt, alloc);
+    (
+        node.least_current_start(),
+        node.current_count(),
+        node.stay_count(200),
+        node.stay_count(199),
+    )
 }
 
 #[test]
 fn a_split_by_time_parts_the_past_from_the_current_ones(rt: HostRuntime) {
-    let node = numbers(rt.alloc()).expect(&rt, "there is memory");
-    assert!(rt; node.least_current_start() == Some(200));
-    assert!(rt; node.current_count() == 2);
-    assert!(rt; node.stay_count(200) == 2);
-    assert!(rt; node.stay_count(199) == 3);
-    assert!(rt; digits_of_halves(halves_by_time(&node)) == (1, 23));
+    assert!(rt; counts(&rt, rt.alloc()) == (Some(200), 2, 2, 3));
+    assert!(rt; digits_by_time(&rt, rt.alloc()) == (1, 23));
 }
 
 /// Whether two halves at 100 took the place of a reference of all keys from 1 to an instant.
-fn replace(alloc: Global, node: &mut IndexNode<usize>, to: Instant) -> Option<bool> {
-    let area = all(alloc, 1, Some(to))?;
-    let halves = time_halves(&area, 100)?;
-    let references = two_references(alloc, &area, halves, 8, 9)?;
-    node.replace(&area, references).ok()
+fn replace(rt: &impl Abort, alloc: Global, node: &mut IndexNode<usize>, to: Instant) -> bool {
+    let area = all(rt, alloc, 1, Some(to));
+    let halves = time_halves(rt, &area, 100);
+    let references = two_references(rt, alloc, &area, halves, 8, 9);
+    let done = node.replace(&area, references);
+    done.expect(rt, "there is memory")
+}
+
+/// The same to 150 and then to 200, each with the numbers below the node then.
+fn replaced(rt: &impl Abort, alloc: Global) -> ((bool, usize), (bool, usize)) {
+    let mut node = numbers(rt, alloc);
+    let first = replace(rt, alloc, &mut node, 150);
+    let kept = digits(&node);
+    let second = replace(rt, alloc, &mut node, 200);
+    ((first, kept), (second, digits(&node)))
 }
 
 #[test]
 fn references_take_the_place_of_the_one_that_has_the_rectangle(rt: HostRuntime) {
-    let mut node = numbers(rt.alloc()).expect(&rt, "there is memory");
-    for (to, done, children) in [(150, false, 123), (200, true, 8923)] {
-        assert!(rt; replace(rt.alloc(), &mut node, to) == Some(done), "to {to}");
-        assert!(rt; digits(&node) == children, "to {to}");
-    }
+    assert!(rt; replaced(&rt, rt.alloc()) == ((false, 123), (true, 8923)));
 }
 
 /// A child that is not a number.
@@ -231,12 +251,19 @@ fn named_leaf(name: u64, is_packed: bool) -> Leaf {
     Leaf { name, is_packed }
 }
 
-fn leaves(alloc: Global) -> Option<IndexNode<Leaf>>
-    ensures { IfSome result (λ n.
-        Tiles n.rect n.references.items × AreCurrentIn n.rect n.references.items) }
+fn leaves(rt: &impl Abort, alloc: Global) -> IndexNode<Leaf>
+    ensures tiled { Tiles result.rect result.references.items }
+    ensures current { AreCurrentIn result.rect result.references.items }
 {
-    let node = two_children(alloc, named_leaf(1, true), named_leaf(7, false))?;
-    with_two_current(alloc, node, named_leaf(2, false), named_leaf(3, false))
+    let mut node = two_children(rt, alloc, named_leaf(1, true), named_leaf(7, false));
+    put_two_current(
+        rt,
+        alloc,
+        &mut node,
+        named_leaf(2, false),
+        named_leaf(3, false),
+    );
+    node
 }
 
 /// The sum of the names below a node, and how many are packed.
@@ -250,48 +277,72 @@ fn sums(node: &IndexNode<Leaf>) -> (u64, usize) {
     (names, packed)
 }
 
+fn leaf_halves(rt: &impl Abort, alloc: Global) -> (IndexNode<Leaf>, IndexNode<Leaf>) {
+    halves_by_key(rt, alloc, &leaves(rt, alloc))
+}
+
 /// The sums of both halves at the middle key.
-fn sums_of_halves(alloc: Global, node: &IndexNode<Leaf>) -> Option<((u64, usize), (u64, usize))>
-    requires tiled { Tiles node.now.rect node.now.references.items }
-    requires current { AreCurrentIn node.now.rect node.now.references.items }
-{
-    match halves_by_key(alloc, node) {
-        Some((below, above)) => Some((sums(&below), sums(&above))),
-        None => None,
-    }
+fn sums_by_key(rt: &impl Abort, alloc: Global) -> ((u64, usize), (u64, usize)) {
+    let halves = leaf_halves(rt, alloc);
+    (sums(&halves.0), sums(&halves.1))
 }
 
 #[test]
 fn each_half_has_each_reference_with_its_child(rt: HostRuntime) {
-    let node = leaves(rt.alloc()).expect(&rt, "there is memory");
-    assert!(rt; sums_of_halves(rt.alloc(), &node) == Some(((3, 1), (4, 1))));
+    assert!(rt; sums_by_key(&rt, rt.alloc()) == ((3, 1), (4, 1)));
+}
+
+fn copy(rt: &impl Abort, area: &Rect) -> Rect
+    ensures { result ≡ area.now }
+{
+    let Ok(copy) = area.copy() else {
+        panic!(rt; "there is memory")
+    };
+    copy
+}
+
+fn node_over<C: Drop>(
+    rt: &impl Abort,
+    alloc: Global,
+    area: Rect,
+    references: Vec<Reference<C>>,
+) -> IndexNode<C>
+    requires { Tiles area references.items }
+    ensures rect { result.rect ≡ area }
+    ensures references { result.references.items ≡ references.items }
+{
+    let Ok(node) = IndexNode::new(alloc, area, references) else {
+        panic!(rt; "there is memory")
+    };
+    node
 }
 
 /// A node over one child.
-fn one_child(alloc: Global, area: &Rect) -> Mem<IndexNode<usize>>
-    ensures { IfOk result (λ n. HasRect area.now n.references.items) }
+fn one_child(rt: &impl Abort, alloc: Global, area: &Rect) -> IndexNode<usize>
+    ensures { HasRect area.now result.references.items }
 {
-    let reference = Reference {
-        rect: area.copy()?,
-        child: 5,
+    let rect = copy(rt, area);
+    let Ok(references) = single(alloc, Reference { rect, child: 5 }) else {
+        panic!(rt; "there is memory")
     };
-    let references = single(alloc, reference)?;
-    let node = IndexNode::new(alloc, area.copy()?, references)?;
-    Ok(node)
+    node_over(rt, alloc, copy(rt, area), references)
+}
+
+/// How many references it has.
+fn count_of_one(rt: &impl Abort, alloc: Global) -> usize {
+    let area = all(rt, alloc, 1, None);
+    one_child(rt, alloc, &area).references().len()
 }
 
 #[test]
 fn one_reference_tiles_its_rectangle(rt: HostRuntime) {
-    let area = all(rt.alloc(), 1, None).expect(&rt, "there is memory");
-    let node = one_child(rt.alloc(), &area).ok();
-    let node = node.expect(&rt, "there is memory");
-    assert!(rt; node.references().len() == 1);
+    assert!(rt; count_of_one(&rt, rt.alloc()) == 1);
 }
 
 /// A node over one child, with two halves in its place.
-fn halves_over_one(alloc: Global) -> Option<IndexNode<usize>> {
-    let area = all(alloc, 1, None)?;
-    let (before, after) = time_halves(&area, 100)?;
+fn halves_over_one(rt: &impl Abort, alloc: Global) -> IndexNode<usize> {
+    let area = all(rt, alloc, 1, None);
+    let (before, after) = time_halves(rt, &area, 100);
     let first = Reference {
         rect: before,
         child: 6,
@@ -300,24 +351,25 @@ fn halves_over_one(alloc: Global) -> Option<IndexNode<usize>> {
         rect: after,
         child: 7,
     };
-    match one_child(alloc, &area) {
-        Ok(node) => node.with_references(&area, first, second).ok(),
-        Err(_) => None,
-    }
+    let node = one_child(rt, alloc, &area).with_references(&area, first, second);
+    node.expect(rt, "there is memory")
+}
+
+fn digits_over_one(rt: &impl Abort, alloc: Global) -> usize {
+    digits(&halves_over_one(rt, alloc))
 }
 
 #[test]
 fn halves_take_the_place_of_their_whole_in_a_copy(rt: HostRuntime) {
-    let node = halves_over_one(rt.alloc()).expect(&rt, "there is memory");
-    assert!(rt; digits(&node) == 67);
+    assert!(rt; digits_over_one(&rt, rt.alloc()) == 67);
 }
 
-fn copied(alloc: Global) -> Option<IndexNode<usize>> {
-    numbers(alloc)?.copy().ok()
+fn digits_of_copy(rt: &impl Abort, alloc: Global) -> usize {
+    let copy = numbers(rt, alloc).copy();
+    digits(&copy.expect(rt, "there is memory"))
 }
 
 #[test]
 fn a_copy_has_the_same_children(rt: HostRuntime) {
-    let node = copied(rt.alloc()).expect(&rt, "there is memory");
-    assert!(rt; digits(&node) == 123);
+    assert!(rt; digits_of_copy(&rt, rt.alloc()) == 123);
 }

@@ -1,29 +1,39 @@
-//! Rectangles worked out by hand. A helper answers None where memory runs out.
+//! Rectangles worked out by hand.
 
-use crate::samples::all;
+use crate::samples::{all, time_halves};
 use keyrange::{KeyRange, Rect, TimeRange};
 use std::alloc::Global;
+use std::process::Abort;
 use values::{Instant, KeyBytes, LAST};
 
-fn key(alloc: Global, text: &[u8]) -> Option<KeyBytes> {
-    KeyBytes::new(text.to_vec(alloc).ok()?)
+fn key(rt: &impl Abort, alloc: Global, text: &[u8]) -> KeyBytes {
+    let bytes = text.to_vec(alloc).expect(rt, "there is memory");
+    KeyBytes::new(bytes).expect(rt, "the text is short")
+}
+
+/// The upper key of a range; no bytes are no end.
+fn end(rt: &impl Abort, alloc: Global, text: &[u8]) -> Option<KeyBytes> {
+    if text.is_empty() {
+        None
+    } else {
+        Some(key(rt, alloc, text))
+    }
 }
 
 /// Whether two ranges are a rectangle; no upper key is no end.
 fn is_rect(
+    rt: &impl Abort,
     alloc: Global,
     lo: &[u8],
     hi: &[u8],
     from: Instant,
     to: Option<Instant>,
-) -> Option<bool> {
-    let lo = key(alloc, lo)?;
-    let hi = if hi.is_empty() {
-        None
-    } else {
-        Some(key(alloc, hi)?)
+) -> bool {
+    let keys = KeyRange {
+        lo: key(rt, alloc, lo),
+        hi: end(rt, alloc, hi),
     };
-    Some(Rect::new(KeyRange { lo, hi }, TimeRange { from, to }).is_some())
+    Rect::new(keys, TimeRange { from, to }).is_some()
 }
 
 #[test]
@@ -40,75 +50,88 @@ fn a_rectangle_has_a_key_and_an_instant(rt: HostRuntime) {
         (b"", b"", LAST + 1, None, false),
     ];
     for (lo, hi, from, to, is_one) in cases {
-        assert!(rt;
-            is_rect(rt.alloc(), lo, hi, from, to) == Some(is_one),
-            "from {from}"
-        );
+        let found = is_rect(&rt, rt.alloc(), lo, hi, from, to);
+        assert!(rt; found == is_one, "from {from}");
     }
 }
 
 /// The halves of all keys at instant 200.
-fn time_halves(alloc: Global) -> Option<(Rect, Rect)> {
-    all(alloc, 1, None)?.cut_time(200).ok()?
+fn halves_at_200(rt: &impl Abort, alloc: Global) -> (Rect, Rect) {
+    time_halves(rt, &all(rt, alloc, 1, None), 200)
 }
 
-/// Whether each of those halves has a point of a key.
-fn in_time_halves(alloc: Global, instant: Instant) -> Option<(bool, bool)> {
-    let key = key(alloc, b"m")?;
-    let (past, now) = time_halves(alloc)?;
-    Some((past.contains(&key, instant), now.contains(&key, instant)))
+/// Whether each half has a point of a key.
+fn in_halves(
+    rt: &impl Abort,
+    alloc: Global,
+    halves: &(Rect, Rect),
+    text: &[u8],
+    instant: Instant,
+) -> (bool, bool) {
+    let key = key(rt, alloc, text);
+    (
+        halves.0.contains(&key, instant),
+        halves.1.contains(&key, instant),
+    )
 }
 
-fn time_halves_meet(alloc: Global) -> Option<bool> {
-    let (past, now) = time_halves(alloc)?;
-    Some(past.meets(&now))
+/// The same of the halves at instant 200 and the key `m`, and whether they meet.
+fn in_time_halves(rt: &impl Abort, alloc: Global, instant: Instant) -> ((bool, bool), bool) {
+    let halves = halves_at_200(rt, alloc);
+    let found = in_halves(rt, alloc, &halves, b"m", instant);
+    (found, halves.0.meets(&halves.1))
 }
 
 #[test]
 fn a_cut_by_time_parts_the_instants(rt: HostRuntime) {
-    assert!(rt; in_time_halves(rt.alloc(), 199) == Some((true, false)));
-    assert!(rt; in_time_halves(rt.alloc(), 200) == Some((false, true)));
-    assert!(rt; time_halves_meet(rt.alloc()) == Some(false));
+    assert!(rt; in_time_halves(&rt, rt.alloc(), 199) == ((true, false), false));
+    assert!(rt; in_time_halves(&rt, rt.alloc(), 200) == ((false, true), false));
+}
+
+fn halves_by_key(rt: &impl Abort, area: &Rect, key: &KeyBytes) -> (Rect, Rect) {
+    let halves = area.cut_key(key).expect(rt, "there is memory");
+    halves.expect(rt, "the key is inside")
 }
 
 /// The halves of all keys at the key `m`.
-fn key_halves(alloc: Global) -> Option<(Rect, Rect)> {
-    all(alloc, 1, None)?.cut_key(&key(alloc, b"m")?).ok()?
+fn halves_at_m(rt: &impl Abort, alloc: Global) -> (Rect, Rect) {
+    halves_by_key(rt, &all(rt, alloc, 1, None), &key(rt, alloc, b"m"))
 }
 
-/// Whether each of those halves has a point of a key.
-fn in_key_halves(alloc: Global, text: &[u8]) -> Option<(bool, bool)> {
-    let key = key(alloc, text)?;
-    let (below, above) = key_halves(alloc)?;
-    Some((below.contains(&key, 7), above.contains(&key, 7)))
-}
-
-fn key_halves_meet(alloc: Global) -> Option<bool> {
-    let (below, above) = key_halves(alloc)?;
-    Some(below.meets(&above))
+/// Whether each of those halves has a point of a key, and whether they meet.
+fn in_key_halves(rt: &impl Abort, alloc: Global, text: &[u8]) -> ((bool, bool), bool) {
+    let halves = halves_at_m(rt, alloc);
+    let found = in_halves(rt, alloc, &halves, text, 7);
+    (found, halves.0.meets(&halves.1))
 }
 
 #[test]
 fn a_cut_by_key_parts_the_keys(rt: HostRuntime) {
-    assert!(rt; in_key_halves(rt.alloc(), b"l") == Some((true, false)));
-    assert!(rt; in_key_halves(rt.alloc(), b"m") == Some((false, true)));
-    assert!(rt; key_halves_meet(rt.alloc()) == Some(false));
+    assert!(rt; in_key_halves(&rt, rt.alloc(), b"l") == ((true, false), false));
+    assert!(rt; in_key_halves(&rt, rt.alloc(), b"m") == ((false, true), false));
 }
 
-/// Whether a copy of all keys has halves at its least key.
-fn is_cut_at_least_key(alloc: Global) -> Option<bool> {
-    let copy = all(alloc, 1, None)?.copy().ok()?;
-    Some(copy.cut_key(&KeyBytes::least(alloc)).ok()?.is_some())
+/// A copy of all keys.
+fn copy(rt: &impl Abort, alloc: Global) -> Rect {
+    let copy = all(rt, alloc, 1, None).copy();
+    copy.expect(rt, "there is memory")
 }
 
-/// Whether a copy of all keys has halves at an instant.
-fn is_cut_at(alloc: Global, instant: Instant) -> Option<bool> {
-    let copy = all(alloc, 1, None)?.copy().ok()?;
-    Some(copy.cut_time(instant).ok()?.is_some())
+/// Whether a rectangle has halves at its least key.
+fn is_cut_at_least_key(rt: &impl Abort, alloc: Global, area: &Rect) -> bool {
+    let halves = area.cut_key(&KeyBytes::least(alloc));
+    halves.expect(rt, "there is memory").is_some()
+}
+
+/// Whether a rectangle has halves at an instant.
+fn is_cut_at(rt: &impl Abort, area: &Rect, instant: Instant) -> bool {
+    let halves = area.cut_time(instant);
+    halves.expect(rt, "there is memory").is_some()
 }
 
 #[test]
 fn a_cut_at_the_start_gives_none(rt: HostRuntime) {
-    assert!(rt; is_cut_at_least_key(rt.alloc()) == Some(false));
-    assert!(rt; is_cut_at(rt.alloc(), 1) == Some(false));
+    let area = copy(&rt, rt.alloc());
+    assert!(rt; !is_cut_at_least_key(&rt, rt.alloc(), &area));
+    assert!(rt; !is_cut_at(&rt, &area, 1));
 }

@@ -1,39 +1,54 @@
-//! Middle keys worked out by hand. A helper answers None where memory runs out.
+//! Middle keys worked out by hand.
 
 use crate::samples::{empty_node, put};
 use datanode::DataNode;
 use keysplit::{middle_key, split_key};
 use std::alloc::Global;
+use std::process::Abort;
 use values::{Instant, KeyBytes};
 
-/// A node of all keys, with events of each key at the instants from 1 to its count.
-fn node(alloc: Global, counts: &[(u8, Instant)]) -> Option<DataNode> {
-    let mut node = empty_node(alloc)?;
-    for (number, count) in counts {
-        for at in 1..=*count {
-            put(alloc, &mut node, *number, at, false)?;
-        }
+/// Puts events of a key at the instants from 1 to a count.
+fn put_all(rt: &impl Abort, alloc: Global, node: &mut DataNode, number: u8, count: Instant) {
+    for at in 1..=count {
+        assert!(rt; put(rt, alloc, node, number, at, false));
     }
-    Some(node)
 }
 
-fn first_byte(key: &KeyBytes) -> Option<u8> {
-    key.bytes().first().copied()
+/// A node of all keys, with events of each key at the instants from 1 to its count.
+fn node(rt: &impl Abort, alloc: Global, counts: &[(u8, Instant)]) -> DataNode {
+    let mut node = empty_node(rt, alloc);
+    for (number, count) in counts {
+        put_all(rt, alloc, &mut node, *number, *count);
+    }
+    node
 }
 
-/// The middle key's byte, and how many events the halves there hold; zeros where there is no such key.
-fn split(alloc: Global, counts: &[(u8, Instant)]) -> Option<(u8, usize, usize)> {
-    let node = node(alloc, counts)?;
+fn first_byte(key: &KeyBytes) -> u8 {
+    key.bytes().first().copied().unwrap_or(0)
+}
+
+/// The middle key's byte, and how many events the halves there hold; zeros where there is no such key. None where a node
+/// has too few events.
+fn split(rt: &impl Abort, node: &DataNode) -> Option<(u8, usize, usize)> {
     if node.len() < 33 {
         return None;
     }
-    match middle_key(&node) {
+    match middle_key(node) {
         None => Some((0, 0, 0)),
         Some(middle) => {
-            let (below, above) = split_key(&node, middle).ok()?;
-            Some((first_byte(middle)?, below.len(), above.len()))
+            let halves = split_key(node, middle).expect(rt, "there is memory");
+            Some((first_byte(middle), halves.0.len(), halves.1.len()))
         }
     }
+}
+
+/// The same of a node with events of each key at the instants from 1 to its count.
+fn split_of(
+    rt: &impl Abort,
+    alloc: Global,
+    counts: &[(u8, Instant)],
+) -> Option<(u8, usize, usize)> {
+    split(rt, &node(rt, alloc, counts))
 }
 
 #[test]
@@ -45,25 +60,26 @@ fn a_middle_key_is_that_of_place_32_or_the_next(rt: HostRuntime) {
         (&[(1, 10), (2, 10), (3, 45)], (3, 20, 45)),
     ];
     for (counts, halves) in cases {
-        assert!(rt; split(rt.alloc(), counts) == Some(halves));
+        assert!(rt; split_of(&rt, rt.alloc(), counts) == Some(halves));
     }
 }
 
 #[test]
 fn a_key_at_the_cut_goes_to_the_right(rt: HostRuntime) {
-    assert!(rt; split(rt.alloc(), &[(1, 32), (2, 1)]) == Some((2, 32, 1)));
+    let halves = split_of(&rt, rt.alloc(), &[(1, 32), (2, 1)]);
+    assert!(rt; halves == Some((2, 32, 1)));
 }
 
 /// The same of a node with one event for each of 65 keys.
-fn split_of_65_keys(alloc: Global) -> Option<(u8, usize, usize)> {
-    let mut counts = Vec::new(alloc);
+fn split_of_65_keys(rt: &impl Abort, alloc: Global) -> Option<(u8, usize, usize)> {
+    let mut node = empty_node(rt, alloc);
     for number in 1..66u8 {
-        counts.push((number, 1)).ok()?;
+        put_all(rt, alloc, &mut node, number, 1);
     }
-    split(alloc, &counts)
+    split(rt, &node)
 }
 
 #[test]
 fn a_node_of_one_event_a_key_is_halved(rt: HostRuntime) {
-    assert!(rt; split_of_65_keys(rt.alloc()) == Some((33, 32, 33)));
+    assert!(rt; split_of_65_keys(&rt, rt.alloc()) == Some((33, 32, 33)));
 }

@@ -1,4 +1,4 @@
-//! Tests of small crates of the tree by their public calls, a file for each crate.
+//! Tests of crates of the tree by their public calls, a file for each crate.
 #![tactic(auto)]
 
 #[cfg(test)]
@@ -21,5 +21,9 @@ mod slots_tests;
 mod timesplit_tests;
 #[cfg(test)]
 mod treegrowth_tests;
+#[cfg(test)]
+mod treenodes_tests;
+#[cfg(test)]
+mod trees;
 #[cfg(test)]
 mod treewalk_tests;

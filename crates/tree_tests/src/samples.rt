@@ -1,5 +1,5 @@
-//! Keys, rectangles and events that several files of tests are made of; None where memory runs out.
-ghost use Rattle.std.specs.Prelude.{◌≡◌, IfSome};
+//! Keys, rectangles and events that several files of tests are made of. The run ends where memory runs out.
+ghost use Rattle.std.specs.Prelude.{◌≡◌};
 ghost use Rattle.keyrange.specs.Cut.{PartsTime};
 
 use datanode::DataNode;
@@ -8,8 +8,9 @@ use std::alloc::Global;
 use std::process::Abort;
 use values::{Event, Instant, KeyBytes, Mem, Row, Value};
 
-pub(crate) fn key(alloc: Global, number: u8) -> Option<KeyBytes> {
-    KeyBytes::new(vec![in alloc; number].ok()?)
+pub(crate) fn key(rt: &impl Abort, alloc: Global, number: u8) -> KeyBytes {
+    let bytes = vec![in alloc; number].expect(rt, "there is memory");
+    KeyBytes::new(bytes).expect(rt, "one byte is short")
 }
 
 pub(crate) fn all_keys(alloc: Global) -> KeyRange {
@@ -20,71 +21,79 @@ pub(crate) fn all_keys(alloc: Global) -> KeyRange {
 }
 
 /// All keys, from an instant to another.
-pub(crate) fn all(alloc: Global, from: Instant, to: Option<Instant>) -> Option<Rect>
-    ensures { IfSome result (λ r. r.time.to ≡ to) }
+pub(crate) fn all(rt: &impl Abort, alloc: Global, from: Instant, to: Option<Instant>) -> Rect
+    ensures { result.time.to ≡ to }
 {
-    Rect::new(all_keys(alloc), TimeRange { from, to })
+    let Some(area) = Rect::new(all_keys(alloc), TimeRange { from, to }) else {
+        panic!(rt; "the instants are a range")
+    };
+    area
 }
 
-/// The halves of a rectangle at an instant; None where it is not strictly inside.
-pub(crate) fn time_halves(area: &Rect, cut: Instant) -> Option<(Rect, Rect)>
-    ensures { IfSome result (λ h. PartsTime area.now h.0 h.1 cut) }
+/// The halves of a rectangle at an instant strictly inside.
+pub(crate) fn time_halves(rt: &impl Abort, area: &Rect, cut: Instant) -> (Rect, Rect)
+    ensures { PartsTime area.now result.0 result.1 cut }
 {
-    area.cut_time(cut).ok()?
+    let Ok(Some(halves)) = area.cut_time(cut) else {
+        panic!(rt; "the instant is inside")
+    };
+    halves
 }
 
-pub(crate) fn row(alloc: Global) -> Option<Row> {
-    Row::new(vec![in alloc; Value::Int(1)].ok()?)
+pub(crate) fn row(rt: &impl Abort, alloc: Global) -> Row {
+    let values = vec![in alloc; Value::Int(1)].expect(rt, "there is memory");
+    Row::new(values).expect(rt, "a number can be stored")
+}
+
+/// A change of a key at an instant, to a row or to none.
+pub(crate) fn event(rt: &impl Abort, key: KeyBytes, at: Instant, row: Option<Row>) -> Event
+    ensures { result.at ≡ at }
+{
+    let Some(event) = Event::new(key, at, row) else {
+        panic!(rt; "the key has a byte")
+    };
+    event
 }
 
 /// A row of a key from an instant on, or its deletion.
-pub(crate) fn event(alloc: Global, number: u8, at: Instant, there: bool) -> Option<Event>
-    ensures { IfSome result (λ e. e.at ≡ at) }
-{
-    let row = if there { Some(row(alloc)?) } else { None };
-    Event::new(key(alloc, number)?, at, row)
-}
-
-/// The same, where there is memory for it.
 pub(crate) fn change(rt: &impl Abort, alloc: Global, number: u8, at: Instant, there: bool) -> Event
     ensures { result.at ≡ at }
 {
-    event(alloc, number, at, there).expect(rt, "there is memory")
+    let row = if there { Some(row(rt, alloc)) } else { None };
+    event(rt, key(rt, alloc, number), at, row)
 }
 
 /// A node of all keys from instant 1 on.
-pub(crate) fn empty_node(alloc: Global) -> Option<DataNode> {
-    DataNode::new(alloc, all(alloc, 1, None)?).ok()
+pub(crate) fn empty_node(rt: &impl Abort, alloc: Global) -> DataNode {
+    DataNode::new(alloc, all(rt, alloc, 1, None)).expect(rt, "there is memory")
 }
 
 /// Whether the node took a row of a key from an instant on, or its deletion.
 pub(crate) fn put(
+    rt: &impl Abort,
     alloc: Global,
     node: &mut DataNode,
     number: u8,
     at: Instant,
     there: bool,
-) -> Option<bool> {
-    let event = event(alloc, number, at, there)?;
+) -> bool {
+    let event = change(rt, alloc, number, at, there);
     if !node.accepts(&event) {
-        return Some(false);
+        return false;
     }
-    node.put(event).ok()?;
-    Some(true)
+    node.put(event).expect(rt, "there is memory");
+    true
 }
 
 /// A node in which key 1 has a row at 100, and its deletion at 200.
-pub(crate) fn sample_node(alloc: Global) -> Option<DataNode> {
-    let mut node = empty_node(alloc)?;
-    put(alloc, &mut node, 1, 100, true)?;
-    put(alloc, &mut node, 1, 200, false)?;
-    Some(node)
+pub(crate) fn sample_node(rt: &impl Abort, alloc: Global) -> DataNode {
+    let mut node = empty_node(rt, alloc);
+    assert!(rt; put(rt, alloc, &mut node, 1, 100, true));
+    assert!(rt; put(rt, alloc, &mut node, 1, 200, false));
+    node
 }
 
 /// How many items a list has.
-pub(crate) fn count<T: Drop>(list: Mem<Vec<T>>) -> Option<usize> {
-    match list {
-        Ok(items) => Some(items.len()),
-        Err(_) => None,
-    }
+pub(crate) fn count<T: Drop>(rt: &impl Abort, list: Mem<Vec<T>>) -> usize {
+    list.expect(rt, "there is memory").len()
 }

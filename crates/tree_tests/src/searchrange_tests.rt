@@ -1,8 +1,9 @@
-//! Ranges worked out by hand. A helper answers None where memory runs out.
+//! Ranges worked out by hand.
 
 use keyrange::KeyRange;
 use searchrange::{range_of_table, search_range};
 use std::alloc::Global;
+use std::process::Abort;
 use values::{
     Chars, Column, ColumnType, Comparison, KeyBytes, Keys, Operator, Sequence, Table, Value,
 };
@@ -27,21 +28,62 @@ fn number(operator: Operator, number: i64) -> Comparison {
     }
 }
 
-/// Whether the comparisons leave this range of the sample table, whose key is a number.
-fn leave(alloc: Global, comparisons: Vec<Comparison>, lo: &[u8], hi: &[u8]) -> Option<bool> {
+/// A list of one comparison.
+fn one(rt: &impl Abort, alloc: Global, comparison: Comparison) -> Vec<Comparison> {
+    let comparisons = vec![in alloc; comparison];
+    comparisons.expect(rt, "there is memory")
+}
+
+/// A list of two comparisons.
+fn two(rt: &impl Abort, alloc: Global, first: Comparison, second: Comparison) -> Vec<Comparison> {
+    let comparisons = vec![in alloc; first, second];
+    comparisons.expect(rt, "there is memory")
+}
+
+/// The range that comparisons leave of a table.
+fn range_left(
+    rt: &impl Abort,
+    alloc: Global,
+    table: &Table,
+    number: u8,
+    comparisons: Vec<Comparison>,
+) -> KeyRange {
     let keys = Keys {
-        table: 1,
+        table: number,
         comparisons: Sequence::new(comparisons),
     };
-    let table = Table::sample(alloc).ok()?;
-    let range = search_range(alloc, &table, &keys).ok()?;
-    Some(is_range(&range, lo, hi))
+    let range = search_range(alloc, table, &keys);
+    range.expect(rt, "there is memory")
+}
+
+/// The sample table, whose key is a number.
+fn sample(rt: &impl Abort, alloc: Global) -> Table {
+    Table::sample(alloc).expect(rt, "there is memory")
+}
+
+/// Whether the comparisons leave this range of the sample table.
+fn leave(
+    rt: &impl Abort,
+    alloc: Global,
+    comparisons: Vec<Comparison>,
+    lo: &[u8],
+    hi: &[u8],
+) -> bool {
+    let table = sample(rt, alloc);
+    is_range(&range_left(rt, alloc, &table, 1, comparisons), lo, hi)
 }
 
 /// Whether one comparison with a number leaves this range.
-fn leaves(alloc: Global, operator: Operator, bound: i64, lo: &[u8], hi: &[u8]) -> Option<bool> {
-    let comparisons = vec![in alloc; number(operator, bound)].ok()?;
-    leave(alloc, comparisons, lo, hi)
+fn leaves(
+    rt: &impl Abort,
+    alloc: Global,
+    operator: Operator,
+    bound: i64,
+    lo: &[u8],
+    hi: &[u8],
+) -> bool {
+    let comparisons = one(rt, alloc, number(operator, bound));
+    leave(rt, alloc, comparisons, lo, hi)
 }
 
 const TABLE: &[u8] = b"\x01";
@@ -50,10 +92,9 @@ const NEXT_TABLE: &[u8] = b"\x02";
 
 #[test]
 fn an_equal_number_leaves_its_key(rt: HostRuntime) {
-    let alloc = rt.alloc();
     let lo = b"\x01\x80\x00\x00\x00\x00\x00\x00\x01";
     let hi = b"\x01\x80\x00\x00\x00\x00\x00\x00\x02";
-    assert!(rt; leaves(alloc, Operator::Equal, 1, lo, hi) == Some(true));
+    assert!(rt; leaves(&rt, rt.alloc(), Operator::Equal, 1, lo, hi));
 }
 
 #[test]
@@ -64,10 +105,8 @@ fn a_lower_bound_is_a_start(rt: HostRuntime) {
         (Operator::AtLeast, 2, two),
         (Operator::Above, i64::MAX, NEXT_TABLE),
     ] {
-        assert!(rt;
-            leaves(rt.alloc(), operator, bound, lo, NEXT_TABLE) == Some(true),
-            "from {bound}"
-        );
+        let is_left = leaves(&rt, rt.alloc(), operator, bound, lo, NEXT_TABLE);
+        assert!(rt; is_left, "from {bound}");
     }
 }
 
@@ -80,90 +119,101 @@ fn an_upper_bound_is_an_end(rt: HostRuntime) {
         (Operator::Below, 6, six),
         (Operator::AtMost, 255, after_255),
     ] {
-        assert!(rt;
-            leaves(rt.alloc(), operator, bound, TABLE, hi) == Some(true),
-            "to {bound}"
-        );
+        let is_left = leaves(&rt, rt.alloc(), operator, bound, TABLE, hi);
+        assert!(rt; is_left, "to {bound}");
     }
 }
 
 /// Whether the comparisons `> 5` and `< 3` leave this range.
-fn contrary_leave(alloc: Global, lo: &[u8], hi: &[u8]) -> Option<bool> {
+fn contrary_leave(rt: &impl Abort, alloc: Global, lo: &[u8], hi: &[u8]) -> bool {
     let above = number(Operator::Above, 5);
-    let comparisons = vec![in alloc; above, number(Operator::Below, 3)].ok()?;
-    leave(alloc, comparisons, lo, hi)
+    let comparisons = two(rt, alloc, above, number(Operator::Below, 3));
+    leave(rt, alloc, comparisons, lo, hi)
 }
 
 #[test]
 fn bounds_that_no_number_meets_leave_an_empty_range(rt: HostRuntime) {
     let six = b"\x01\x80\x00\x00\x00\x00\x00\x00\x06";
     let three = b"\x01\x80\x00\x00\x00\x00\x00\x00\x03";
-    assert!(rt; contrary_leave(rt.alloc(), six, three) == Some(true));
+    assert!(rt; contrary_leave(&rt, rt.alloc(), six, three));
 }
 
 /// Whether `= 1` and `= TRUE`, which no number can be compared with, leave this range.
-fn refused_leave(alloc: Global, lo: &[u8], hi: &[u8]) -> Option<bool> {
+fn refused_leave(rt: &impl Abort, alloc: Global, lo: &[u8], hi: &[u8]) -> bool {
     let wrong_type = Comparison {
         column: 1,
         operator: Operator::Equal,
         value: Value::Bool(true),
     };
-    let comparisons = vec![in alloc; number(Operator::Equal, 1), wrong_type].ok()?;
-    leave(alloc, comparisons, lo, hi)
+    let comparisons = two(rt, alloc, number(Operator::Equal, 1), wrong_type);
+    leave(rt, alloc, comparisons, lo, hi)
 }
 
 #[test]
 fn refused_comparisons_leave_the_table(rt: HostRuntime) {
-    assert!(rt; refused_leave(rt.alloc(), TABLE, NEXT_TABLE) == Some(true));
+    assert!(rt; refused_leave(&rt, rt.alloc(), TABLE, NEXT_TABLE));
 }
 
-fn column(alloc: Global, name: &str, of: ColumnType) -> Option<Column> {
-    Some(Column {
-        name: Chars::copy_of(alloc, name).ok()?,
+fn text(rt: &impl Abort, alloc: Global, text: &str) -> Chars {
+    Chars::copy_of(alloc, text).expect(rt, "there is memory")
+}
+
+fn column(rt: &impl Abort, alloc: Global, name: &str, of: ColumnType) -> Column {
+    Column {
+        name: text(rt, alloc, name),
         of,
         not_null: true,
-    })
+    }
 }
 
 /// The columns of table 255.
-fn columns(alloc: Global) -> Option<Vec<Column>> {
-    let number = column(alloc, "no", ColumnType::Int)?;
-    vec![in alloc; number, column(alloc, "name", ColumnType::Varchar(10))?].ok()
+fn columns(rt: &impl Abort, alloc: Global) -> Vec<Column> {
+    let number = column(rt, alloc, "no", ColumnType::Int);
+    let name = column(rt, alloc, "name", ColumnType::Varchar(10));
+    let columns = vec![in alloc; number, name];
+    columns.expect(rt, "there is memory")
 }
 
 /// Table 255, whose key is a name and a number.
-fn two_columns(alloc: Global) -> Option<Table> {
-    let columns = columns(alloc)?;
-    let sample = Table::sample(alloc).ok()?;
-    Some(Table {
+fn two_columns(rt: &impl Abort, alloc: Global) -> Table {
+    let key = vec![in alloc; 2, 1].expect(rt, "there is memory");
+    Table {
         number: 255,
-        name: sample.name,
-        columns: Sequence::new(columns),
-        key: Sequence::new(vec![in alloc; 2, 1].ok()?),
-        row_start: sample.row_start,
-        row_end: sample.row_end,
-    })
+        name: text(rt, alloc, "emp"),
+        columns: Sequence::new(columns(rt, alloc)),
+        key: Sequence::new(key),
+        row_start: text(rt, alloc, "sys_start"),
+        row_end: text(rt, alloc, "sys_end"),
+    }
 }
 
 /// Whether the comparisons leave this range of table 255.
-fn leave_255(alloc: Global, comparisons: Vec<Comparison>, lo: &[u8], hi: &[u8]) -> Option<bool> {
-    let keys = Keys {
-        table: 255,
-        comparisons: Sequence::new(comparisons),
-    };
-    let range = search_range(alloc, &two_columns(alloc)?, &keys).ok()?;
-    Some(is_range(&range, lo, hi))
+fn leave_255(
+    rt: &impl Abort,
+    alloc: Global,
+    comparisons: Vec<Comparison>,
+    lo: &[u8],
+    hi: &[u8],
+) -> bool {
+    let table = two_columns(rt, alloc);
+    is_range(&range_left(rt, alloc, &table, 255, comparisons), lo, hi)
 }
 
 /// Whether the name `a`, compared so, and a number of at least 2 leave this range of table 255.
-fn name_and_number_leave(alloc: Global, operator: Operator, lo: &[u8], hi: &[u8]) -> Option<bool> {
+fn name_and_number_leave(
+    rt: &impl Abort,
+    alloc: Global,
+    operator: Operator,
+    lo: &[u8],
+    hi: &[u8],
+) -> bool {
     let name = Comparison {
         column: 2,
         operator,
-        value: Value::Text(Chars::copy_of(alloc, "a").ok()?),
+        value: Value::Text(text(rt, alloc, "a")),
     };
-    let comparisons = vec![in alloc; number(Operator::AtLeast, 2), name].ok()?;
-    leave_255(alloc, comparisons, lo, hi)
+    let comparisons = two(rt, alloc, number(Operator::AtLeast, 2), name);
+    leave_255(rt, alloc, comparisons, lo, hi)
 }
 
 #[test]
@@ -175,39 +225,41 @@ fn a_column_narrows_behind_equal_ones_alone(rt: HostRuntime) {
         (Operator::Equal, a_and_2, after_a),
         (Operator::AtLeast, a, b"".as_slice()),
     ] {
-        assert!(rt; name_and_number_leave(rt.alloc(), operator, lo, hi) == Some(true));
+        assert!(rt; name_and_number_leave(&rt, rt.alloc(), operator, lo, hi));
     }
 }
 
 /// Whether a number of 2 leaves this range of table 255.
-fn later_column_leaves(alloc: Global, lo: &[u8], hi: &[u8]) -> Option<bool> {
-    let comparisons = vec![in alloc; number(Operator::Equal, 2)].ok()?;
-    leave_255(alloc, comparisons, lo, hi)
+fn later_column_leaves(rt: &impl Abort, alloc: Global, lo: &[u8], hi: &[u8]) -> bool {
+    let comparisons = one(rt, alloc, number(Operator::Equal, 2));
+    leave_255(rt, alloc, comparisons, lo, hi)
 }
 
 #[test]
 fn a_later_column_alone_leaves_the_table(rt: HostRuntime) {
-    let leaves = later_column_leaves(rt.alloc(), b"\xff", b"");
-    assert!(rt; leaves == Some(true));
+    assert!(rt; later_column_leaves(&rt, rt.alloc(), b"\xff", b""));
 }
 
 /// The range that keys of table 2 leave of table 1.
-fn range_of_other_keys(alloc: Global) -> Option<KeyRange> {
+fn range_of_other_keys(rt: &impl Abort, alloc: Global) -> KeyRange {
     let comparison = number(Operator::Equal, 2);
-    let keys = Keys::of_comparison(alloc, 2, comparison).ok()?;
-    search_range(alloc, &Table::sample(alloc).ok()?, &keys).ok()
+    let keys = Keys::of_comparison(alloc, 2, comparison);
+    let keys = keys.expect(rt, "there is memory");
+    let range = search_range(alloc, &sample(rt, alloc), &keys);
+    range.expect(rt, "there is memory")
 }
 
-fn others_leave_table(alloc: Global) -> Option<bool> {
-    Some(range_of_other_keys(alloc)? == range_of_table(alloc, 1).ok()?)
+fn others_leave_table(rt: &impl Abort, alloc: Global) -> bool {
+    let range = range_of_table(alloc, 1).expect(rt, "there is memory");
+    range_of_other_keys(rt, alloc) == range
 }
 
-fn others_leave(alloc: Global, lo: &[u8], hi: &[u8]) -> Option<bool> {
-    Some(is_range(&range_of_other_keys(alloc)?, lo, hi))
+fn others_leave(rt: &impl Abort, alloc: Global, lo: &[u8], hi: &[u8]) -> bool {
+    is_range(&range_of_other_keys(rt, alloc), lo, hi)
 }
 
 #[test]
 fn keys_of_another_table_leave_the_table(rt: HostRuntime) {
-    assert!(rt; others_leave_table(rt.alloc()) == Some(true));
-    assert!(rt; others_leave(rt.alloc(), TABLE, NEXT_TABLE) == Some(true));
+    assert!(rt; others_leave_table(&rt, rt.alloc()));
+    assert!(rt; others_leave(&rt, rt.alloc(), TABLE, NEXT_TABLE));
 }

@@ -1,15 +1,16 @@
-//! Lists of numbers: what stands where, and what a share keeps. A helper answers None where memory runs out.
+//! Lists of numbers: what stands where, and what a share keeps.
 use slots::{Share, Slots, Update};
 use std::alloc::Global;
+use std::process::Abort;
 use values::Mem;
 
 /// The numbers below a bound, in order.
-fn numbers(alloc: Global, bound: usize) -> Option<Slots<usize>> {
+fn numbers(rt: &impl Abort, alloc: Global, bound: usize) -> Slots<usize> {
     let mut list = Slots::new(alloc);
     for number in 0..bound {
-        list.push(number).ok()?;
+        list.push(number).expect(rt, "there is memory");
     }
-    Some(list)
+    list
 }
 
 fn number_at(list: &Slots<usize>, place: usize) -> Option<usize> {
@@ -37,90 +38,112 @@ fn has_in_all(list: &Slots<usize>, bound: usize, number: usize) -> bool {
 }
 
 /// Puts a number in each place of a list.
-fn fill(list: &mut Slots<usize>, number: usize) -> Option<()> {
+fn fill(rt: &impl Abort, list: &mut Slots<usize>, number: usize) {
     for place in 0..list.len() {
         if place < list.len() {
-            list.set(place, number).ok()?;
+            list.set(place, number).expect(rt, "there is memory");
         }
     }
-    Some(())
+}
+
+fn share(rt: &impl Abort, list: &Slots<usize>) -> Slots<usize> {
+    list.share().expect(rt, "there is memory")
 }
 
 /// How long a list of numbers is, and whether it has them in order.
-fn four_levels(alloc: Global) -> Option<(usize, bool)> {
-    let list = numbers(alloc, 4200)?;
-    Some((list.len(), has_all_below(&list, 4200)))
+fn four_levels(rt: &impl Abort, alloc: Global) -> (usize, bool) {
+    let list = numbers(rt, alloc, 4200);
+    (list.len(), has_all_below(&list, 4200))
 }
 
 #[test]
 fn a_list_of_four_levels_has_each_item_in_its_place(rt: HostRuntime) {
-    assert!(rt; four_levels(rt.alloc()) == Some((4200, true)));
+    assert!(rt; four_levels(&rt, rt.alloc()) == (4200, true));
+}
+
+/// Whether a list has its last number and one in the middle, and has nothing behind it.
+fn has_grown(list: &Slots<usize>, last: usize) -> bool {
+    number_at(list, last) == Some(last)
+        && number_at(list, last / 2) == Some(last / 2)
+        && number_at(list, last.saturating_add(1)).is_none()
 }
 
 /// Whether a list has each number once it is added, keeps one in the middle, and has nothing behind it.
-fn grows(alloc: Global, bound: usize) -> Option<bool> {
+fn grows(rt: &impl Abort, alloc: Global, bound: usize) -> bool {
     let mut list = Slots::new(alloc);
     for number in 0..bound {
-        list.push(number).ok()?;
-        let has_last = number_at(&list, number) == Some(number);
-        let has_middle = number_at(&list, number / 2) == Some(number / 2);
-        if !has_last || !has_middle || number_at(&list, number + 1).is_some() {
-            return Some(false);
+        list.push(number).expect(rt, "there is memory");
+        if !has_grown(&list, number) {
+            return false;
         }
     }
-    Some(true)
+    true
 }
 
 #[test]
 fn a_list_grows_over_full_nodes(rt: HostRuntime) {
     assert!(rt; Slots::<usize>::new(rt.alloc()).len() == 0);
-    assert!(rt; grows(rt.alloc(), 300) == Some(true));
+    assert!(rt; grows(&rt, rt.alloc(), 300));
 }
 
-/// How long a list and its share are once the list has changed, and whether each has what it should.
-fn changed_beside_share(alloc: Global) -> Option<(usize, usize, bool, bool)> {
-    let mut list = numbers(alloc, 300)?;
-    let before = list.share().ok()?;
-    fill(&mut list, 7)?;
-    list.push(8).ok()?;
-    let is_kept = has_all_below(&before, 300);
-    let is_changed = has_in_all(&list, 300, 7) && number_at(&list, 300) == Some(8);
-    Some((before.len(), list.len(), is_kept, is_changed))
+/// Puts 7 in each place of a list of 300 numbers, and 8 behind them: whether it then has these alone.
+fn is_changed(rt: &impl Abort, list: &mut Slots<usize>) -> bool {
+    fill(rt, list, 7);
+    list.push(8).expect(rt, "there is memory");
+    list.len() == 301 && has_in_all(list, 300, 7) && number_at(list, 300) == Some(8)
+}
+
+/// Whether a list has changed so, how long its share then is, and whether that has all numbers.
+fn changed_beside_share(rt: &impl Abort, alloc: Global) -> (bool, usize, bool) {
+    let mut list = numbers(rt, alloc, 300);
+    let before = share(rt, &list);
+    let is_changed = is_changed(rt, &mut list);
+    (is_changed, before.len(), has_all_below(&before, 300))
 }
 
 #[test]
 fn a_share_keeps_what_was_there(rt: HostRuntime) {
-    assert!(rt; changed_beside_share(rt.alloc()) == Some((300, 301, true, true)));
+    assert!(rt; changed_beside_share(&rt, rt.alloc()) == (true, 300, true));
 }
 
 /// The last numbers of a list, of its share, and of a share of that one, once both shares were filled.
-fn filled_shares(alloc: Global) -> Option<(usize, usize, usize)> {
-    let list = numbers(alloc, 40)?;
-    let mut first = list.share().ok()?;
-    let mut second = first.share().ok()?;
-    fill(&mut first, 1)?;
-    fill(&mut second, 2)?;
-    Some((
-        number_at(&list, 39)?,
-        number_at(&first, 39)?,
-        number_at(&second, 39)?,
-    ))
+type Last = (Option<usize>, Option<usize>, Option<usize>);
+
+fn filled_shares(rt: &impl Abort, alloc: Global) -> Last {
+    let list = numbers(rt, alloc, 40);
+    let mut first = share(rt, &list);
+    let mut second = share(rt, &first);
+    fill(rt, &mut first, 1);
+    fill(rt, &mut second, 2);
+    (
+        number_at(&list, 39),
+        number_at(&first, 39),
+        number_at(&second, 39),
+    )
 }
 
 #[test]
 fn a_share_changes_by_itself(rt: HostRuntime) {
-    assert!(rt; filled_shares(rt.alloc()) == Some((39, 1, 2)));
+    assert!(rt; filled_shares(&rt, rt.alloc()) == (Some(39), Some(1), Some(2)));
 }
 
-/// Whether a list has each number in the end, where a growth that is refused changes nothing and is tried again.
+fn is_added(list: &mut Slots<usize>, number: usize) -> bool {
+    list.push(number).is_ok()
+}
+
+/// Whether a list takes the number that it is long, where a growth that is refused changes nothing and is tried again.
+fn is_added_at_last(list: &mut Slots<usize>, number: usize) -> bool {
+    is_added(list, number) || (list.len() == number && is_added(list, number))
+}
+
+/// Whether a list takes each number so, and has each in the end.
 fn grown_after_refusals(alloc: Global, bound: usize) -> bool {
     let mut list = Slots::new(alloc);
+    let mut has_grown = true;
     for number in 0..bound {
-        if list.push(number).is_err() && (list.len() != number || list.push(number).is_err()) {
-            return false;
-        }
+        has_grown = is_added_at_last(&mut list, number) && has_grown;
     }
-    has_all_below(&list, bound)
+    has_grown && has_all_below(&list, bound)
 }
 
 #[test]
@@ -158,49 +181,49 @@ impl Update<usize> for Mark {
     }
 }
 
-fn marks(alloc: Global, bound: usize) -> Option<Slots<Mark>> {
+fn marks(rt: &impl Abort, alloc: Global, bound: usize) -> Slots<Mark> {
     let mut list = Slots::new(alloc);
     for number in 0..bound {
-        list.push(Mark { number }).ok()?;
+        list.push(Mark { number }).expect(rt, "there is memory");
     }
-    Some(list)
+    list
 }
 
-fn mark_at(list: &Slots<Mark>, place: usize) -> Option<usize> {
-    Some(list.get(place)?.number)
-}
-
-fn update_at(list: &mut Slots<Mark>, place: usize, number: usize) -> Option<()> {
-    if place < list.len() {
-        list.update(place, number).ok()?;
+fn is_mark(list: &Slots<Mark>, place: usize, number: usize) -> bool {
+    match list.get(place) {
+        None => false,
+        Some(mark) => mark.number == number,
     }
-    Some(())
 }
 
-/// Three marks of a list.
-fn three_marks(list: &Slots<Mark>) -> Option<(usize, usize, usize)> {
-    Some((mark_at(list, 16)?, mark_at(list, 17)?, mark_at(list, 299)?))
+fn update_at(rt: &impl Abort, list: &mut Slots<Mark>, place: usize, number: usize) {
+    assert!(rt; place < list.len());
+    list.update(place, number).expect(rt, "there is memory");
 }
 
-/// A list of marks of which one was updated, and its share after two updates more.
-fn updated(alloc: Global) -> Option<(Slots<Mark>, Slots<Mark>)> {
-    let mut list = marks(alloc, 300)?;
-    update_at(&mut list, 17, 1000)?;
-    let before = list.share().ok()?;
-    update_at(&mut list, 17, 2000)?;
-    update_at(&mut list, 299, 3000)?;
-    Some((before, list))
+/// Whether a list has these marks at 16, 17 and 299.
+fn has_marks(list: &Slots<Mark>, marks: (usize, usize, usize)) -> bool {
+    is_mark(list, 16, marks.0) && is_mark(list, 17, marks.1) && is_mark(list, 299, marks.2)
 }
 
-/// Three marks of the share, then of the list.
-fn updated_marks(alloc: Global) -> Option<((usize, usize, usize), (usize, usize, usize))> {
-    let (before, list) = updated(alloc)?;
-    Some((three_marks(&before)?, three_marks(&list)?))
+/// Whether a share of a list of marks, of which one was updated, and the list after two updates more have these marks.
+fn are_updated(
+    rt: &impl Abort,
+    alloc: Global,
+    was: (usize, usize, usize),
+    is: (usize, usize, usize),
+) -> (bool, bool) {
+    let mut list = marks(rt, alloc, 300);
+    update_at(rt, &mut list, 17, 1000);
+    let before = list.share().expect(rt, "there is memory");
+    update_at(rt, &mut list, 17, 2000);
+    update_at(rt, &mut list, 299, 3000);
+    (has_marks(&before, was), has_marks(&list, is))
 }
 
 #[test]
 fn an_item_is_changed_and_a_share_keeps_it(rt: HostRuntime) {
     let was = (16, 1000, 299);
     let is = (16, 2000, 3000);
-    assert!(rt; updated_marks(rt.alloc()) == Some((was, is)));
+    assert!(rt; are_updated(&rt, rt.alloc(), was, is) == (true, true));
 }

@@ -1,10 +1,11 @@
-//! Splits worked out by hand. A helper answers None where memory runs out.
+//! Splits worked out by hand.
 ghost use Rattle.std.specs.Prelude.{IsTrue};
 ghost use Rattle.keyrange.specs.Cut.{is_time_inside};
 
 use crate::samples::{empty_node, put, sample_node};
 use datanode::DataNode;
 use std::alloc::Global;
+use std::process::Abort;
 use timesplit::{split_time, stay_count};
 use values::{Instant, LAST};
 
@@ -16,45 +17,45 @@ fn is_inside(node: &DataNode, instant: Instant) -> bool
     time.from < instant && time.to.is_none() && instant <= LAST
 }
 
-fn halves(node: &DataNode, instant: Instant) -> Option<(DataNode, DataNode)> {
-    if is_inside(node, instant) {
-        split_time(node, instant).ok()
-    } else {
-        None
-    }
+fn halves(rt: &impl Abort, node: &DataNode, instant: Instant) -> (DataNode, DataNode) {
+    assert!(rt; is_inside(node, instant));
+    split_time(node, instant).expect(rt, "there is memory")
 }
 
-/// How many events both halves hold, and how many stay.
-fn sizes(node: &DataNode, instant: Instant) -> Option<(usize, usize, usize)> {
-    match halves(node, instant) {
-        Some((past, now)) => Some((past.len(), now.len(), stay_count(node, instant))),
-        None => None,
-    }
+/// How many events both halves hold, how many stay, the end of the first half and the start of the second.
+type Halves = (usize, usize, usize, Option<Instant>, Instant);
+
+fn sizes_and_ends(rt: &impl Abort, node: &DataNode, instant: Instant) -> Halves {
+    let halves = halves(rt, node, instant);
+    (
+        halves.0.len(),
+        halves.1.len(),
+        stay_count(node, instant),
+        halves.0.rect().time().to,
+        halves.1.rect().time().from,
+    )
+}
+
+/// The same of the sample.
+fn sample_halves(rt: &impl Abort, alloc: Global, instant: Instant) -> Halves {
+    sizes_and_ends(rt, &sample_node(rt, alloc), instant)
 }
 
 #[test]
 fn a_row_stays_in_the_past_and_is_carried_and_a_deletion_is_not(rt: HostRuntime) {
-    let node = sample_node(rt.alloc()).expect(&rt, "there is memory");
     for (instant, past, now) in [(150, 1, 2), (200, 1, 1), (250, 2, 0)] {
+        let (before, since, staying, _end, _start) = sample_halves(&rt, rt.alloc(), instant);
         assert!(rt;
-            sizes(&node, instant) == Some((past, now, now)),
+            (before, since, staying) == (past, now, now),
             "at {instant}"
         );
     }
 }
 
-/// The end of the first half, and the start of the second.
-fn ends(node: &DataNode, instant: Instant) -> Option<(Option<Instant>, Instant)> {
-    match halves(node, instant) {
-        Some((past, now)) => Some((past.rect().time().to, now.rect().time().from)),
-        None => None,
-    }
-}
-
 #[test]
 fn halves_end_and_begin_at_the_instant(rt: HostRuntime) {
-    let node = sample_node(rt.alloc()).expect(&rt, "there is memory");
-    assert!(rt; ends(&node, 150) == Some((Some(150), 150)));
+    let (_before, _since, _staying, end, start) = sample_halves(&rt, rt.alloc(), 150);
+    assert!(rt; (end, start) == (Some(150), 150));
 }
 
 /// A change of a key's byte at an instant, to a row or to none, and where the node is split after it.
@@ -66,34 +67,37 @@ fn with_size(sizes: usize, size: usize) -> usize {
     sizes.saturating_mul(100).saturating_add(size)
 }
 
-/// The node with a change, after its split, and the sizes with that of the historical half.
+/// Splits a node at an instant; how many events the historical half has.
+fn split(rt: &impl Abort, node: &mut DataNode, instant: Instant) -> usize {
+    let (past, now) = halves(rt, node, instant);
+    *node = now;
+    past.len()
+}
+
+/// Puts a change, and splits the node after it where that is wanted: the sizes with that of the historical half.
 fn changed(
+    rt: &impl Abort,
     alloc: Global,
-    mut node: DataNode,
+    node: &mut DataNode,
     sizes: usize,
     change: Change,
-) -> Option<(DataNode, usize)> {
-    if !put(alloc, &mut node, change.0, change.1, change.2)? {
-        return None;
-    }
+) -> usize {
+    assert!(rt; put(rt, alloc, node, change.0, change.1, change.2));
     match change.3 {
-        None => Some((node, sizes)),
-        Some(instant) => {
-            let (past, now) = halves(&node, instant)?;
-            Some((now, with_size(sizes, past.len())))
-        }
+        None => sizes,
+        Some(instant) => with_size(sizes, split(rt, node, instant)),
     }
 }
 
 /// How many events the nodes hold, two digits for each, the historical ones first and then the current one, of changes
 /// that come one after another.
-fn shape(alloc: Global, changes: &[Change]) -> Option<usize> {
+fn shape(rt: &impl Abort, alloc: Global, changes: &[Change]) -> usize {
     let mut sizes: usize = 0;
-    let mut node = empty_node(alloc)?;
+    let mut node = empty_node(rt, alloc);
     for change in changes {
-        (node, sizes) = changed(alloc, node, sizes, *change)?;
+        sizes = changed(rt, alloc, &mut node, sizes, *change);
     }
-    Some(with_size(sizes, node.len()))
+    with_size(sizes, node.len())
 }
 
 #[test]
@@ -105,7 +109,7 @@ fn a_deletion_is_left_behind(rt: HostRuntime) {
         Change(1, 210, false, None),
         Change(3, 220, true, Some(220)),
     ];
-    assert!(rt; shape(rt.alloc(), &changes) == Some(4_02));
+    assert!(rt; shape(&rt, rt.alloc(), &changes) == 4_02);
 }
 
 #[test]
@@ -116,20 +120,21 @@ fn a_row_that_stands_is_carried_from_node_to_node(rt: HostRuntime) {
         Change(2, 300, true, Some(300)),
         Change(2, 400, true, Some(400)),
     ];
-    assert!(rt; shape(rt.alloc(), &changes) == Some(1_02_02_02));
+    assert!(rt; shape(&rt, rt.alloc(), &changes) == 1_02_02_02);
 }
 
 /// The shape of 101 changes of one key, split at 64 after that of 65.
-fn one_key_shape(alloc: Global) -> Option<usize> {
-    let mut changes = Vec::new(alloc);
+fn one_key_shape(rt: &impl Abort, alloc: Global) -> usize {
+    let mut sizes: usize = 0;
+    let mut node = empty_node(rt, alloc);
     for at in 1..102u64 {
         let split = if at == 65 { Some(64) } else { None };
-        changes.push(Change(1, at, true, split)).ok()?;
+        sizes = changed(rt, alloc, &mut node, sizes, Change(1, at, true, split));
     }
-    shape(alloc, &changes)
+    with_size(sizes, node.len())
 }
 
 #[test]
 fn one_key_fills_a_node_and_is_split_at_the_instant_before(rt: HostRuntime) {
-    assert!(rt; one_key_shape(rt.alloc()) == Some(63_38));
+    assert!(rt; one_key_shape(&rt, rt.alloc()) == 63_38);
 }

@@ -1,5 +1,5 @@
 use Rattle.treenodes.specs.Tree.{IsTree}
-use Rattle.treenodes_tests.proofs.node_tests.some_packed.Given as goal
+use Rattle.tree_tests.proofs.treenodes_tests.some_packed.Given as goal
 
 abbrev pub invariant-loop-number : goal.invariant-loop-number
 invariant-loop-number g l = IsTree l.nodes

@@ -1,0 +1,256 @@
+//! A tree that takes two events, and nodes that are split and packed by hand.
+ghost use Rattle.std.specs.Prelude.{◌≡◌, ◌≤◌};
+ghost use Rattle.treenodes.specs.Tree.{IsTree};
+ghost use Rattle.treenodes.specs.Lookup.{IsParent, IsData};
+
+use crate::samples::{change, key};
+use crate::trees::{grown, halved, leaf, packed, time_split};
+use std::alloc::Global;
+use std::process::Abort;
+use treenodes::{Nodes, Slot, can_split_key, leaf_at, way, with_keys_split};
+use treewalk::row_in;
+use values::{Instant, KeyBytes};
+
+/// The root with a row of key 1 from 100 on, and one of key 2 from 200 on.
+fn two_rows(rt: &impl Abort, alloc: Global) -> Nodes
+    ensures { IsTree result }
+{
+    let nodes = grown(rt, leaf(rt, alloc), change(rt, alloc, 1, 100, true));
+    grown(rt, nodes, change(rt, alloc, 2, 200, true))
+}
+
+/// Its data node split at an instant, below a new root.
+fn two_halves(rt: &impl Abort, alloc: Global, instant: Instant) -> Nodes
+    ensures { IsTree result }
+{
+    halved(rt, alloc, two_rows(rt, alloc), instant)
+}
+
+/// The numbers of the root and of the data node at a point, which is below the root.
+fn below_root(
+    rt: &impl Abort,
+    alloc: Global,
+    nodes: &Nodes,
+    key: &KeyBytes,
+    at: Instant,
+) -> (usize, usize)
+    requires tree { IsTree nodes.now }
+    requires instant { 1 ≤ at }
+    ensures parent { IsParent nodes.now result.0 result.1 }
+    ensures data { IsData nodes.now result.1 }
+{
+    let (number, _visits) = leaf_at(nodes, key, at);
+    let Ok(way) = way(alloc, nodes, key, at) else {
+        panic!(rt; "there is memory")
+    };
+    assert!(rt; way.len() == 2 && way[1] == number);
+    (way[0], number)
+}
+
+/// The current half split at key 2.
+fn three_parts(rt: &impl Abort, alloc: Global) -> Nodes
+    ensures { IsTree result }
+{
+    let nodes = two_halves(rt, alloc, 200);
+    let key = key(rt, alloc, 2);
+    let (root, number) = below_root(rt, alloc, &nodes, &key, 250);
+    if can_split_key(&nodes, number, &key) {
+        let Ok(nodes) = with_keys_split(alloc, nodes, root, number, &key) else {
+            panic!(rt; "there is memory")
+        };
+        nodes
+    } else {
+        panic!(rt; "the node can be split there")
+    }
+}
+
+/// The data node of two rows split at 150, below a new root, and again at 200: nodes 1 and 2 are of history.
+fn two_of_history(rt: &impl Abort, alloc: Global) -> Nodes
+    ensures { IsTree result }
+{
+    let nodes = two_halves(rt, alloc, 150);
+    let (root, number) = below_root(rt, alloc, &nodes, &key(rt, alloc, 1), 200);
+    time_split(rt, alloc, nodes, root, number, 200)
+}
+
+/// The same, with those of some numbers packed that can be.
+fn some_packed(rt: &impl Abort, alloc: Global, from: usize, to: usize) -> Nodes
+    ensures { IsTree result }
+{
+    let mut nodes = two_of_history(rt, alloc);
+    for number in from..to {
+        nodes = packed(rt, alloc, nodes, number);
+    }
+    nodes
+}
+
+/// Whether a key has a row at an instant.
+fn has_row(rt: &impl Abort, alloc: Global, nodes: &Nodes, number: u8, at: Instant) -> bool
+    requires tree { IsTree nodes.now }
+    requires instant { 1 ≤ at }
+{
+    let key = key(rt, alloc, number);
+    let (leaf, _visits) = leaf_at(nodes, &key, at);
+    let slot = nodes.get(leaf).expect(rt, "there is such a node");
+    let row = row_in(alloc, slot.child(), &key, at);
+    row.expect(rt, "there is memory").is_some()
+}
+
+/// How many nodes the tree of two rows has, and whether a key has a row at an instant.
+fn count_and_row(rt: &impl Abort, alloc: Global, number: u8, at: Instant) -> (usize, bool)
+    requires { 1 ≤ at }
+{
+    let nodes = two_rows(rt, alloc);
+    (nodes.len(), has_row(rt, alloc, &nodes, number, at))
+}
+
+#[test]
+fn a_row_stands_from_its_instant_on(rt: HostRuntime) {
+    for (number, at, there) in [
+        (1, 99, false),
+        (1, 100, true),
+        (2, 199, false),
+        (2, 200, true),
+    ] {
+        let found = count_and_row(&rt, rt.alloc(), number, at);
+        assert!(rt; found == (1, there), "{number} at {at}");
+    }
+}
+
+fn share(rt: &impl Abort, nodes: &Nodes) -> Nodes
+    ensures { result ≡ nodes.now }
+{
+    let Ok(share) = nodes.share() else {
+        panic!(rt; "there is memory")
+    };
+    share
+}
+
+/// How many nodes a share of the tree of two rows has, and how many the tree that is split thereafter, if key 2 has a
+/// row in both.
+fn counts_of_both(rt: &impl Abort, alloc: Global) -> Option<(usize, usize)> {
+    let nodes = two_rows(rt, alloc);
+    let before = share(rt, &nodes);
+    let after = halved(rt, alloc, nodes, 200);
+    if has_row(rt, alloc, &before, 2, 200) && has_row(rt, alloc, &after, 2, 200) {
+        Some((before.len(), after.len()))
+    } else {
+        None
+    }
+}
+
+#[test]
+fn a_share_keeps_its_nodes(rt: HostRuntime) {
+    assert!(rt; counts_of_both(&rt, rt.alloc()) == Some((1, 3)));
+}
+
+/// The number of the data node of a key at an instant, and how many nodes lead to it, in the tree of two halves.
+fn place_in_halves(rt: &impl Abort, alloc: Global, number: u8, at: Instant) -> (usize, usize)
+    requires { 1 ≤ at }
+{
+    let nodes = two_halves(rt, alloc, 200);
+    leaf_at(&nodes, &key(rt, alloc, number), at)
+}
+
+#[test]
+fn a_raised_root_is_split(rt: HostRuntime) {
+    for (number, at, found) in [(1, 199, (1, 2)), (1, 200, (2, 2)), (2, 250, (2, 2))] {
+        let place = place_in_halves(&rt, rt.alloc(), number, at);
+        assert!(rt; place == found, "{number} at {at}");
+    }
+}
+
+/// The same at 250 in the tree of three parts.
+fn place_in_parts(rt: &impl Abort, alloc: Global, number: u8) -> (usize, usize) {
+    let nodes = three_parts(rt, alloc);
+    leaf_at(&nodes, &key(rt, alloc, number), 250)
+}
+
+/// Whether the way to key 2 goes from the root to node 3.
+fn is_way_from_root(rt: &impl Abort, alloc: Global) -> bool {
+    let nodes = three_parts(rt, alloc);
+    let way = way(alloc, &nodes, &key(rt, alloc, 2), 250);
+    way.expect(rt, "there is memory").as_slice() == [0, 3].as_slice()
+}
+
+#[test]
+fn a_leaf_below_the_root_is_split(rt: HostRuntime) {
+    for (number, found) in [(1, (2, 2)), (2, (3, 2))] {
+        let place = place_in_parts(&rt, rt.alloc(), number);
+        assert!(rt; place == found, "{number}");
+    }
+    assert!(rt; is_way_from_root(&rt, rt.alloc()));
+}
+
+/// When a node starts; 0 where there is none.
+fn start(slot: Option<&Slot>) -> Instant {
+    match slot {
+        None => 0,
+        Some(slot) => slot.child().rect().time().from,
+    }
+}
+
+/// When the first unpacked node of history starts, and when the next one does; 0 where there is none.
+fn first_starts(nodes: &Nodes) -> (Instant, Instant) {
+    match nodes.unpacked(None) {
+        None => (0, 0),
+        Some(first) => {
+            let rect = first.child().rect();
+            (rect.time().from, start(nodes.unpacked(Some(rect))))
+        }
+    }
+}
+
+/// The same, with those of some numbers packed that can be.
+fn starts_left(rt: &impl Abort, alloc: Global, from: usize, to: usize) -> (Instant, Instant) {
+    first_starts(&some_packed(rt, alloc, from, to))
+}
+
+#[test]
+fn a_packed_node_is_on_the_list_no_more(rt: HostRuntime) {
+    for (from, to, starts) in [
+        (0, 0, (1, 150)),
+        (0, 1, (1, 150)),
+        (1, 2, (150, 0)),
+        (2, 3, (1, 0)),
+        (3, 4, (1, 150)),
+        (1, 3, (0, 0)),
+    ] {
+        let found = starts_left(&rt, rt.alloc(), from, to);
+        assert!(rt; found == starts, "from {from} to {to}");
+    }
+}
+
+/// Whether a key has a row at an instant, with both nodes of history packed.
+fn has_packed_row(rt: &impl Abort, alloc: Global, number: u8, at: Instant) -> bool
+    requires { 1 ≤ at }
+{
+    has_row(rt, alloc, &some_packed(rt, alloc, 1, 3), number, at)
+}
+
+#[test]
+fn a_row_is_read_off_the_block_of_its_node(rt: HostRuntime) {
+    for (number, at, there) in [
+        (1, 99, false),
+        (1, 100, true),
+        (1, 150, true),
+        (2, 199, false),
+        (2, 200, true),
+    ] {
+        let found = has_packed_row(&rt, rt.alloc(), number, at);
+        assert!(rt; found == there, "{number} at {at}");
+    }
+}
+
+/// When the first unpacked nodes start of a share, and of the nodes of which one was packed thereafter.
+fn starts_of_both(rt: &impl Abort, alloc: Global) -> (Instant, Instant) {
+    let nodes = two_of_history(rt, alloc);
+    let before = share(rt, &nodes);
+    let after = packed(rt, alloc, nodes, 1);
+    (start(before.unpacked(None)), start(after.unpacked(None)))
+}
+
+#[test]
+fn a_share_keeps_its_unpacked_node(rt: HostRuntime) {
+    assert!(rt; starts_of_both(&rt, rt.alloc()) == (1, 150));
+}
