@@ -1,14 +1,14 @@
-//! Clients that send lines and read what they are sent.
-use std::alloc::{AllocError, Global};
-use std::io;
+//! Clients that send lines and read what they are sent. The run ends where a socket fails.
+use std::alloc::Global;
 use std::io::{Read, Write};
 use std::net::{Net, OpenStream, Shutdown, TcpListener, TcpStream};
+use std::process::Abort;
 
 /// The reads that a client makes at most.
 const READS: u64 = 1_000_000;
 
 /// What two clients do, of which the first connects first.
-#[derive(Clone, Copy, PartialEq, Eq)]
+#[derive(Clone, Copy)]
 pub(crate) enum Play {
     /// The second connects when the first has all its replies.
     InTurn,
@@ -34,105 +34,111 @@ const HALF: &[u8] = b"BEGIN\nINSERT INTO emp VALUES (3, 'Joe')\nCOM";
 const SPLIT: &[u8] =
     b"BEGIN\nUPDATE emp SET name = 'Eve' WHERE no = 1\nCOMMIT\nSPLIT: TIME emp (1) AT 101\n";
 
-/// Reads to the end of what a client is sent.
-fn read_all(alloc: Global, stream: &TcpStream) -> io::Result<Vec<u8>> {
+/// Reads the next bytes that a client is sent, behind those that it has; how many there are.
+fn read_some(rt: &impl Abort, stream: &TcpStream, sent: &mut Vec<u8>) -> usize {
     let mut reader = stream;
-    let mut all = Vec::new(alloc);
     let mut chunk = [0u8; 4096];
+    let n = reader.read(&mut chunk).expect(rt, "the client reads");
+    let some = chunk.split_at(n).0;
+    sent.extend_from_slice(some).expect(rt, "there is memory");
+    n
+}
+
+/// Reads to the end of what a client is sent.
+fn read_all(rt: &impl Abort, stream: &TcpStream, sent: &mut Vec<u8>) {
     for _ in 0..READS {
-        let n = reader.read(&mut chunk)?;
-        if n == 0 {
+        if read_some(rt, stream, sent) == 0 {
             break;
         }
-        all.extend_from_slice(chunk.split_at(n).0)?;
     }
-    Ok(all)
 }
 
-/// Reads the next bytes that a client is sent.
-fn read_some(alloc: Global, stream: &TcpStream) -> io::Result<Vec<u8>> {
-    let mut reader = stream;
-    let mut chunk = [0u8; 4096];
-    let n = reader.read(&mut chunk)?;
-    let mut some = Vec::new(alloc);
-    some.extend_from_slice(chunk.split_at(n).0)?;
-    Ok(some)
-}
-
-fn send(stream: &TcpStream, text: &[u8]) -> io::Result<()> {
+fn send(rt: &impl Abort, stream: &TcpStream, text: &[u8]) {
     let mut writer = stream;
-    writer.write_all(text)
+    writer.write_all(text).expect(rt, "the client writes");
+}
+
+/// Ends what a client sends, and reads all that comes back.
+fn end(rt: &impl Abort, stream: &TcpStream, sent: &mut Vec<u8>) {
+    stream
+        .shutdown(Shutdown::Write)
+        .expect(rt, "the client ends");
+    read_all(rt, stream, sent);
+}
+
+/// A client that has sent a text.
+fn connect<R: Abort + Net<Listener = TcpListener, Stream = TcpStream>>(
+    rt: &R,
+    port: u16,
+    text: &[u8],
+) -> TcpStream {
+    let stream = TcpStream::connect(rt, ("127.0.0.1", port)).expect(rt, "the client connects");
+    send(rt, &stream, text);
+    stream
 }
 
 /// Sends a text and its end, and reads all that comes back.
-fn ask<R: Net<Listener = TcpListener, Stream = TcpStream>>(
+fn ask<R: Abort + Net<Listener = TcpListener, Stream = TcpStream>>(
     rt: &R,
     alloc: Global,
     port: u16,
     text: &[u8],
-) -> io::Result<Vec<u8>> {
-    let stream = TcpStream::connect(rt, ("127.0.0.1", port))?;
-    send(&stream, text)?;
-    stream.shutdown(Shutdown::Write)?;
-    read_all(alloc, &stream)
+) -> Vec<u8> {
+    let stream = connect(rt, port, text);
+    let mut sent = Vec::new(alloc);
+    end(rt, &stream, &mut sent);
+    sent
 }
 
 /// A client asks for rows, another commits meanwhile, and then the first is answered.
-fn ask_while_another_commits<R: Net<Listener = TcpListener, Stream = TcpStream>>(
+fn ask_while_another_commits<R: Abort + Net<Listener = TcpListener, Stream = TcpStream>>(
     rt: &R,
     alloc: Global,
     port: u16,
-) -> io::Result<Sent> {
-    let first = TcpStream::connect(rt, ("127.0.0.1", port))?;
-    send(&first, b"BEGIN\n".as_slice())?;
-    let mut sent = read_some(alloc, &first)?;
-    send(&first, b"SELECT * FROM emp\n".as_slice())?;
-    let second = ask(rt, alloc, port, RENAME)?;
-    first.shutdown(Shutdown::Write)?;
-    sent.extend_from_slice(read_all(alloc, &first)?.as_slice())?;
-    Ok((sent, second))
+) -> Sent {
+    let first = connect(rt, port, b"BEGIN\n");
+    let mut sent = Vec::new(alloc);
+    read_some(rt, &first, &mut sent);
+    send(rt, &first, b"SELECT * FROM emp\n");
+    let second = ask(rt, alloc, port, RENAME);
+    end(rt, &first, &mut sent);
+    (sent, second)
 }
 
 /// A client that goes away after half a line.
-fn break_off<R: Net<Listener = TcpListener, Stream = TcpStream>>(
+fn break_off<R: Abort + Net<Listener = TcpListener, Stream = TcpStream>>(
     rt: &R,
     alloc: Global,
     port: u16,
-) -> io::Result<Vec<u8>> {
-    let stream = TcpStream::connect(rt, ("127.0.0.1", port))?;
-    send(&stream, HALF)?;
-    read_some(alloc, &stream)
+) -> Vec<u8> {
+    let stream = connect(rt, port, HALF);
+    let mut sent = Vec::new(alloc);
+    read_some(rt, &stream, &mut sent);
+    sent
 }
 
 /// A commit and a split behind it, and 15 commits more.
-fn busy_text(alloc: Global) -> Result<Vec<u8>, AllocError> {
-    let mut text = Vec::from_slice(alloc, SPLIT)?;
+fn busy_text(rt: &impl Abort, alloc: Global) -> Vec<u8> {
+    let mut text = Vec::from_slice(alloc, SPLIT).expect(rt, "there is memory");
     for _ in 0..15u8 {
-        text.extend_from_slice(b"BEGIN\nCOMMIT\n".as_slice())?;
+        text.extend_from_slice(b"BEGIN\nCOMMIT\n")
+            .expect(rt, "there is memory");
     }
-    Ok(text)
+    text
 }
 
 /// What two clients are sent.
-pub(crate) fn run_play<R: Net<Listener = TcpListener, Stream = TcpStream>>(
+pub(crate) fn run_play<R: Abort + Net<Listener = TcpListener, Stream = TcpStream>>(
     rt: &R,
     alloc: Global,
     port: u16,
     play: Play,
-) -> io::Result<Sent> {
-    match play {
-        Play::InTurn => {
-            let first = ask(rt, alloc, port, HIRE)?;
-            Ok((first, ask(rt, alloc, port, LOOK)?))
-        }
-        Play::Held => ask_while_another_commits(rt, alloc, port),
-        Play::Broken => {
-            let first = break_off(rt, alloc, port)?;
-            Ok((first, ask(rt, alloc, port, LOOK)?))
-        }
-        Play::Busy => {
-            let first = ask(rt, alloc, port, busy_text(alloc)?.as_slice())?;
-            Ok((first, ask(rt, alloc, port, LOOK)?))
-        }
-    }
+) -> Sent {
+    let first = match play {
+        Play::Held => return ask_while_another_commits(rt, alloc, port),
+        Play::InTurn => ask(rt, alloc, port, HIRE),
+        Play::Broken => break_off(rt, alloc, port),
+        Play::Busy => ask(rt, alloc, port, busy_text(rt, alloc).as_slice()),
+    };
+    (first, ask(rt, alloc, port, LOOK))
 }

@@ -7,3 +7,7 @@ mod client;
 mod server_tests;
 #[cfg(test)]
 mod socket_tests;
+#[cfg(test)]
+mod staff;
+#[cfg(test)]
+mod wanted;

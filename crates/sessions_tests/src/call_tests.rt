@@ -1,26 +1,15 @@
 //! UPDATE, DELETE, ROLLBACK and a split.
-ghost use Rattle.std.specs.Prelude.{◌≡◌};
-
-use crate::desk::{begun, count, delete, insert, key, sees, set_name};
-use growlog::{NewLog, StoreName};
-use journal::{Entry, SharedEntry};
-use rows::{Form, KeyBytes, Keys, Refusal, Schema};
+use crate::desk::{Desk, count, delete, insert, is_no_transaction, key, sees, set_name};
+use crate::scene::{Audit, Scene, play};
+use crate::steps::{begin, split};
+use growlog::StoreName;
+use journal::Receipt;
+use rows::{Form, KeyBytes, Keys};
 use sessions::{LockedStore, Session};
 use std::alloc::Global;
-use std::marker::Brand;
 use std::process::Abort;
 use std::sync::Wait;
 use validation::Cut;
-
-/// Whether a split was done.
-fn was_split(entry: &Entry) -> Option<bool> {
-    match entry {
-        Entry::Split { done, .. } => Some(*done),
-        Entry::Begin { .. } => None,
-        Entry::Commit { .. } => None,
-        Entry::Install { .. } => None,
-    }
-}
 
 /// An open transaction writes: whether the new name is seen, and how many rows are seen after a deletion.
 fn write_all(rt: &impl Abort, alloc: Global, session: &mut Session) -> (bool, usize) {
@@ -34,79 +23,63 @@ fn write_all(rt: &impl Abort, alloc: Global, session: &mut Session) -> (bool, us
 
 fn refuses_select(alloc: Global, session: &mut Session) -> bool {
     let shown = session.select(Form::Plain, &Keys::all(alloc, 1));
-    matches!(shown, Err(Refusal::NoTransaction))
+    is_no_transaction(shown.err())
 }
 
 fn refuses_get(rt: &impl Abort, alloc: Global, session: &Session) -> bool {
     let found = session.get(&key(rt, alloc, 1));
-    matches!(found, Err(Refusal::NoTransaction))
+    is_no_transaction(found.err())
 }
 
 /// Whether a session has no transaction open, as its calls answer.
 fn is_idle(rt: &impl Abort, alloc: Global, session: &mut Session) -> bool {
     refuses_select(alloc, session)
         && refuses_get(rt, alloc, session)
-        && matches!(session.rollback(), Err(Refusal::NoTransaction))
+        && is_no_transaction(session.rollback().err())
 }
 
-/// What the writes of a session come to, and whether it is idle after its rollback.
-fn call_all<J: StoreName, R: Abort + Wait>(
+/// A session writes, and is idle after its rollback.
+pub(crate) fn make_calls<J: StoreName, R: Abort + Wait>(
     rt: &R,
     alloc: Global,
-    schema: Schema,
-    opened: NewLog<SharedEntry>,
-) -> ((bool, usize), bool)
-    requires log { opened.seen.book ≡ J.book }
-    requires tables { schema ≡ J.schema }
-{
-    let store = LockedStore::<J>::new(alloc, schema, opened).expect(rt, "there is memory");
-    let mut session = begun(rt, alloc, &store, 1);
-    let written = write_all(rt, alloc, &mut session);
+    store: &LockedStore<J>,
+    desk: &mut Desk,
+    receipts: &mut Vec<Receipt<J>>,
+) -> Audit {
+    let session = &mut desk.first;
+    begin(rt, store, session, receipts);
+    assert!(rt; write_all(rt, alloc, session) == (true, 1));
     session.rollback().expect(rt, "a transaction is open");
-    (written, is_idle(rt, alloc, &mut session))
+    assert!(rt; is_idle(rt, alloc, session));
+    (1, 0, 0)
 }
 
 #[test]
 fn a_session_writes_and_rolls_back(rt: HostRuntime) {
-    let schema = Schema::sample(rt.alloc()).expect(&rt, "there is memory");
-    let (written, idle) = call_all::<Brand, _>(&rt, rt.alloc(), schema, NewLog::new());
-    assert!(rt; written == (true, 1));
-    assert!(rt; idle);
+    play(&rt, rt.alloc(), Scene::Calls);
 }
 
-/// Whether a split at these key bytes is done.
-fn split_at<J: StoreName, R: Abort + Wait>(
-    rt: &R,
-    store: &LockedStore<J>,
-    key: KeyBytes,
-) -> Option<bool> {
-    let receipt = store
-        .split(rt, Cut::Key(key))
-        .expect(rt, "it has a receipt");
-    was_split(receipt.entry.entry())
+/// Key bytes that the one node of a store has inside it.
+fn inside(rt: &impl Abort, alloc: Global) -> KeyBytes {
+    let bytes = vec![in alloc; 1, 5].expect(rt, "there is memory");
+    KeyBytes::new(bytes).expect(rt, "two bytes are few")
 }
 
-/// Whether the one node of a store is split at a key, and then at its least key.
-fn split_twice<J: StoreName, R: Abort + Wait>(
+/// The one node of a store is split at a key inside it, and not at its least key.
+pub(crate) fn split_twice<J: StoreName, R: Abort + Wait>(
     rt: &R,
     alloc: Global,
-    schema: Schema,
-    opened: NewLog<SharedEntry>,
-) -> (Option<bool>, Option<bool>)
-    requires log { opened.seen.book ≡ J.book }
-    requires tables { schema ≡ J.schema }
-{
-    let store = LockedStore::<J>::new(alloc, schema, opened).expect(rt, "there is memory");
-    let bytes = vec![in alloc; 1, 5].expect(rt, "there is memory");
-    let key = KeyBytes::new(bytes).expect(rt, "two bytes are few");
-    let inside = split_at(rt, &store, key);
-    (inside, split_at(rt, &store, KeyBytes::least(alloc)))
+    store: &LockedStore<J>,
+    receipts: &mut Vec<Receipt<J>>,
+) -> Audit {
+    let at_key = Cut::Key(inside(rt, alloc));
+    assert!(rt; split(rt, store, at_key, receipts) == Some(true));
+    let at_least = Cut::Key(KeyBytes::least(alloc));
+    assert!(rt; split(rt, store, at_least, receipts) == Some(false));
+    (2, 0, 0)
 }
 
 #[test]
 fn a_store_splits_a_node_at_a_key_inside_it(rt: HostRuntime) {
-    let schema = Schema::sample(rt.alloc()).expect(&rt, "there is memory");
-    let (inside, at_least) = split_twice::<Brand, _>(&rt, rt.alloc(), schema, NewLog::new());
-    assert!(rt; inside == Some(true));
-    assert!(rt; at_least == Some(false));
+    play(&rt, rt.alloc(), Scene::Splits);
 }

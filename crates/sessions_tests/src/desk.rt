@@ -1,11 +1,11 @@
 //! Employees, and what a session does and sees of them. The run ends where a call that must succeed does not.
-use growlog::StoreName;
 use histories::Listing;
-use rows::{Chars, Comparison, Form, Key, Keys, Operator, Row, Schema, Set, Value, Values};
-use sessions::{LockedStore, Session};
+use rows::{
+    Chars, Comparison, Form, Key, Keys, Operator, Refusal, Row, Schema, Set, Value, Values,
+};
+use sessions::Session;
 use std::alloc::Global;
 use std::process::Abort;
-use std::sync::Wait;
 
 fn text(rt: &impl Abort, alloc: Global, name: &str) -> Value {
     Value::Text(Chars::copy_of(alloc, name).expect(rt, "the name is short"))
@@ -30,16 +30,22 @@ pub(crate) fn session(rt: &impl Abort, alloc: Global, number: u8) -> Session {
     Session::new(alloc, number, schema).expect(rt, "the number is upto 64")
 }
 
-/// A session that has begun.
-pub(crate) fn begun<J: StoreName, R: Abort + Wait>(
-    rt: &R,
-    alloc: Global,
-    store: &LockedStore<J>,
-    number: u8,
-) -> Session {
-    let mut session = session(rt, alloc, number);
-    let _receipt = store.begin(rt, &mut session).expect(rt, "it begins");
-    session
+/// The service's session and sessions 1 to 3, of the sample tables.
+#[derive(Drop)]
+pub(crate) struct Desk {
+    pub(crate) service: Session,
+    pub(crate) first: Session,
+    pub(crate) second: Session,
+    pub(crate) third: Session,
+}
+
+pub(crate) fn open_desk(rt: &impl Abort, alloc: Global) -> Desk {
+    Desk {
+        service: session(rt, alloc, 0),
+        first: session(rt, alloc, 1),
+        second: session(rt, alloc, 2),
+        third: session(rt, alloc, 3),
+    }
 }
 
 /// How many employees are inserted of one.
@@ -122,4 +128,9 @@ pub(crate) fn count_in(listing: &Listing) -> usize {
 pub(crate) fn count(rt: &impl Abort, alloc: Global, session: &mut Session) -> usize {
     let listing = session.select(Form::Plain, &Keys::all(alloc, 1));
     count_in(&listing.expect(rt, "they are listed"))
+}
+
+/// Whether it is the refusal of a call with no transaction open.
+pub(crate) fn is_no_transaction(refusal: Option<Refusal>) -> bool {
+    matches!(refusal, Some(Refusal::NoTransaction))
 }

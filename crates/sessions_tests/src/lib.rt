@@ -1,4 +1,4 @@
-//! Tests of `sessions` and `serving` by their public calls: sessions round one store.
+//! Tests of `sessions`, `serving` and `migrator` by their public calls: sessions and rounds round one store.
 #![tactic(auto)]
 
 #[cfg(test)]
@@ -10,15 +10,21 @@ mod desk;
 #[cfg(test)]
 mod end_tests;
 #[cfg(test)]
+mod gates;
+#[cfg(test)]
 mod install_tests;
 #[cfg(test)]
 mod line_tests;
 #[cfg(test)]
+mod round_tests;
+#[cfg(test)]
 mod run_tests;
 #[cfg(test)]
-mod runs;
+mod scene;
 #[cfg(test)]
 mod served;
+#[cfg(test)]
+mod steps;
 #[cfg(test)]
 mod store_tests;
 #[cfg(test)]

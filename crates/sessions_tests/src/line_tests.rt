@@ -1,16 +1,39 @@
 //! What a session is sent for its lines.
-use crate::served::assert_sent;
+use crate::scene::{Audit, Scene, play};
+use crate::served::{Case, NONE};
+use serving::End;
+use std::alloc::Global;
+use std::process::Abort;
 
-#[test]
-fn a_session_is_answered_line_by_line(rt: HostRuntime) {
-    let text = "BEGIN\n\
+/// What is shown, what a session reads to its end, what it is sent, how many lines that are, how many reads of 1,000 are
+/// left, and what the store shows then.
+type Dialogue<'a> = (&'static str, &'a str, &'static str, usize, usize, Audit);
+
+fn case_of<'a>(dialogue: Dialogue<'a>) -> Case<'a> {
+    let (what, text, replies, lines, reads_left, shows) = dialogue;
+    Case {
+        what,
+        text,
+        limits: NONE,
+        replies,
+        end: End::Closed,
+        lines,
+        reads_left,
+        shows,
+    }
+}
+
+const LINES: &[Dialogue<'static>] = &[
+    (
+        "lines of each kind",
+        "BEGIN\n\
         INSERT INTO emp VALUES (1, 'Ann'), (2, null)\n\
         UPDATE emp SET name = 'Bea' WHERE no = 2\n\
         DELETE FROM emp WHERE no = 1\n\
         SELECT * FROM emp\n\
         COMMIT\n\
-        SELECT * FROM emp FOR SYSTEM_TIME AS OF 10\n";
-    let replies = "begun 0\n\
+        SELECT * FROM emp FOR SYSTEM_TIME AS OF 10\n",
+        "begun 0\n\
         inserted 2\n\
         updated 1\n\
         deleted 1\n\
@@ -18,51 +41,47 @@ fn a_session_is_answered_line_by_line(rt: HostRuntime) {
         (2, 'Bea')\n\
         committed 10\n\
         rows 1\n\
-        (2, 'Bea')\n";
-    assert_sent(&rt, rt.alloc(), text, replies, 7, 3);
-}
-
-#[test]
-fn a_select_alone_begins_and_rolls_back(rt: HostRuntime) {
-    let text = "SELECT * FROM emp\nROLLBACK\n";
-    assert_sent(&rt, rt.alloc(), text, "rows 0\nE4 no transaction\n", 2, 1);
-}
-
-#[test]
-fn what_is_no_line_of_a_session_is_refused(rt: HostRuntime) {
-    let text = "\n-- a comment\nBEGN\n3: BEGIN\nclock: 5\nSELECT * FROM nobody\nBEGIN;\n";
-    let replies = "E1 syntax at 0\nE1 syntax at 0\nE1 syntax at 0\nE2 no table\nbegun 0\n";
-    assert_sent(&rt, rt.alloc(), text, replies, 7, 1);
-}
-
-#[test]
-fn a_last_line_wants_no_line_feed(rt: HostRuntime) {
-    let replies = "begun 0\nrolled back\n";
-    assert_sent(&rt, rt.alloc(), "BEGIN\r\nROLLBACK", replies, 2, 1);
-    assert_sent(&rt, rt.alloc(), "", "", 0, 0);
-}
-
-#[test]
-fn a_line_that_is_too_long_is_refused_and_the_next_is_read(rt: HostRuntime) {
-    let mut text = String::new(rt.alloc());
-    for _ in 0..8193usize {
-        text.push_str(" ").expect(&rt, "there is memory");
-    }
-    text.push_str("\nBEGIN\n").expect(&rt, "there is memory");
-    let replies = "E12 line too long\nbegun 0\n";
-    assert_sent(&rt, rt.alloc(), text.as_str(), replies, 2, 1);
-}
-
-#[test]
-fn splits_take_receipts_and_so_does_a_migration(rt: HostRuntime) {
-    let text = "SPLIT: KEY emp (5)\nSPLIT: TIME emp (1) AT 3\nMIGRATE:\nSPLIT: KEY emp ('x')\n";
-    let replies = "ok\nok\nok\nE3 bad row at column 1\n";
-    assert_sent(&rt, rt.alloc(), text, replies, 4, 3);
-}
-
-#[test]
-fn a_migration_has_a_second_receipt_where_there_is_history_to_pack(rt: HostRuntime) {
-    let text = "BEGIN\n\
+        (2, 'Bea')\n",
+        7,
+        998,
+        (3, 1, 10),
+    ),
+    (
+        "a SELECT alone begins and rolls back",
+        "SELECT * FROM emp\nROLLBACK\n",
+        "rows 0\nE4 no transaction\n",
+        2,
+        998,
+        (1, 0, 0),
+    ),
+    (
+        "what is no line of a session is refused",
+        "\n-- a comment\nBEGN\n3: BEGIN\nclock: 5\nSELECT * FROM nobody\nBEGIN;\n",
+        "E1 syntax at 0\nE1 syntax at 0\nE1 syntax at 0\nE2 no table\nbegun 0\n",
+        7,
+        998,
+        (1, 0, 0),
+    ),
+    (
+        "a last line wants no line feed",
+        "BEGIN\r\nROLLBACK",
+        "begun 0\nrolled back\n",
+        2,
+        998,
+        (1, 0, 0),
+    ),
+    ("no line", "", "", 0, 999, (0, 0, 0)),
+    (
+        "splits take receipts and so does a migration",
+        "SPLIT: KEY emp (5)\nSPLIT: TIME emp (1) AT 3\nMIGRATE:\nSPLIT: KEY emp ('x')\n",
+        "ok\nok\nok\nE3 bad row at column 1\n",
+        4,
+        998,
+        (3, 0, 0),
+    ),
+    (
+        "a migration has a second receipt where there is history to pack",
+        "BEGIN\n\
         INSERT INTO emp VALUES (1, 'a')\n\
         COMMIT\n\
         BEGIN\n\
@@ -71,8 +90,8 @@ fn a_migration_has_a_second_receipt_where_there_is_history_to_pack(rt: HostRunti
         SPLIT: TIME emp (1) AT 11\n\
         MIGRATE:\n\
         MIGRATE:\n\
-        SELECT * FROM emp FOR SYSTEM_TIME AS OF 10\n";
-    let replies = "begun 0\n\
+        SELECT * FROM emp FOR SYSTEM_TIME AS OF 10\n",
+        "begun 0\n\
         inserted 1\n\
         committed 10\n\
         begun 10\n\
@@ -82,6 +101,34 @@ fn a_migration_has_a_second_receipt_where_there_is_history_to_pack(rt: HostRunti
         ok\n\
         ok\n\
         rows 1\n\
-        (1, 'a')\n";
-    assert_sent(&rt, rt.alloc(), text, replies, 10, 9);
+        (1, 'a')\n",
+        10,
+        998,
+        (9, 1, 11),
+    ),
+];
+
+#[test]
+fn a_session_is_answered_line_by_line(rt: HostRuntime) {
+    for dialogue in LINES {
+        play(&rt, rt.alloc(), Scene::Serve(&case_of(*dialogue)));
+    }
+}
+
+/// A line of 8,193 spaces, and a begin.
+fn long_text(rt: &impl Abort, alloc: Global) -> String {
+    let mut text = String::new(alloc);
+    for _ in 0..8193usize {
+        text.push(' ').expect(rt, "there is memory");
+    }
+    text.push_str("\nBEGIN\n").expect(rt, "there is memory");
+    text
+}
+
+#[test]
+fn a_line_that_is_too_long_is_refused_and_the_next_is_read(rt: HostRuntime) {
+    let text = long_text(&rt, rt.alloc());
+    let replies = "E12 line too long\nbegun 0\n";
+    let dialogue = ("a long line", text.as_str(), replies, 2, 996, (1, 0, 0));
+    play(&rt, rt.alloc(), Scene::Serve(&case_of(dialogue)));
 }

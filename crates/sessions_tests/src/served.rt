@@ -1,32 +1,62 @@
 //! A session that is served round a store of its own.
-ghost use Rattle.std.specs.Prelude.{◌≡◌};
-
-use crate::runs::entries_with;
+use crate::scene::Audit;
 use gate::{Gate, Place};
-use growlog::{NewLog, StoreName};
-use journal::SharedEntry;
-use rows::{Instant, Schema};
-use serving::{End, Readings, Told, serve_session};
+use growlog::StoreName;
+use journal::Receipt;
+use rows::Instant;
+use serving::{End, Readings, Served, Told, serve_session};
 use sessions::LockedStore;
 use std::alloc::Global;
 use std::io;
 use std::io::{ErrorKind, Read, Write};
-use std::marker::Brand;
 use std::process::Abort;
 use std::sync::Wait;
 
-/// A gate that is open, or that gives up at one place.
-#[derive(Clone, Copy, PartialEq, Eq)]
-pub(crate) enum Door {
-    Open,
-    ShutAt(Place),
+/// A session that is served: what it reads, how far that and its replies can go, what is written until it ends, why it
+/// ends, how many lines it has then, how many reads it had left, and what the store shows that is closed with its receipts.
+#[derive(Clone, Copy)]
+pub(crate) struct Case<'a> {
+    pub(crate) what: &'static str,
+    pub(crate) text: &'a str,
+    pub(crate) limits: Limits,
+    pub(crate) replies: &'static str,
+    pub(crate) end: End,
+    pub(crate) lines: usize,
+    pub(crate) reads_left: usize,
+    pub(crate) shows: Audit,
+}
+
+/// How many bytes are read at most at a call, and the calls after which the reader fails; how many bytes are written and
+/// how often they are passed on until the writer fails; and where the gate gives up.
+#[derive(Clone, Copy)]
+pub(crate) struct Limits {
+    pub(crate) most: usize,
+    pub(crate) reads: usize,
+    pub(crate) room: usize,
+    pub(crate) flushes: usize,
+    pub(crate) shut: Option<Place>,
+}
+
+/// Nothing fails.
+pub(crate) const NONE: Limits = Limits {
+    most: 10_000,
+    reads: 1000,
+    room: 10_000,
+    flushes: 1000,
+    shut: None,
+};
+
+/// A gate that gives up at one place, or at none.
+#[derive(Clone, Copy)]
+struct Door {
+    shut: Option<Place>,
 }
 
 impl Gate for Door {
     fn pass<R: Wait>(&self, _rt: &R, _session: u8, place: Place) -> bool {
-        match self {
-            Door::Open => true,
-            Door::ShutAt(shut) => *shut != place,
+        match self.shut {
+            None => true,
+            Some(shut) => shut != place,
         }
     }
 }
@@ -47,13 +77,13 @@ impl Readings for Ticks {
 
 /// A reader that gives at most so many bytes at a call, and fails at the call after so many.
 #[derive(Drop)]
-pub(crate) struct Cut<'a> {
-    pub(crate) rest: &'a [u8],
-    pub(crate) most: usize,
-    pub(crate) calls: usize,
+struct Source<'a> {
+    rest: &'a [u8],
+    most: usize,
+    calls: usize,
 }
 
-impl Read for Cut<'_> {
+impl Read for Source<'_> {
     fn read(&mut self, buf: &mut [u8]) -> io::Result<usize> {
         if self.calls == 0 {
             return Err(io::Error::from(ErrorKind::Other));
@@ -69,10 +99,10 @@ impl Read for Cut<'_> {
 
 /// A writer that takes so many bytes, passes them on so many times, and then fails.
 #[derive(Drop)]
-pub(crate) struct Pipe {
-    pub(crate) taken: Vec<u8>,
-    pub(crate) room: usize,
-    pub(crate) flushes: usize,
+struct Pipe {
+    taken: Vec<u8>,
+    room: usize,
+    flushes: usize,
 }
 
 impl Write for Pipe {
@@ -95,14 +125,21 @@ impl Write for Pipe {
     }
 }
 
-/// What a served session came to: why it ended, how many receipts it took and how many are told of, how many lines, and how many entries the store closes with.
-#[derive(Clone, Copy, Debug, PartialEq, Eq)]
-pub(crate) struct Summary {
-    pub(crate) end: End,
-    pub(crate) receipts: usize,
-    pub(crate) told: usize,
-    pub(crate) lines: usize,
-    pub(crate) entries: Option<usize>,
+/// Serves a session whose number is 3.
+fn serve<J: StoreName, R: Abort + Wait>(
+    rt: &R,
+    alloc: Global,
+    store: &LockedStore<J>,
+    shut: Option<Place>,
+    reader: &mut Source<'_>,
+    writer: &mut Pipe,
+) -> Served<J> {
+    let session = store
+        .session(alloc, 3)
+        .expect(rt, "the number is at most 64");
+    let door = Door { shut };
+    let mut ticks = Ticks { next: 10 };
+    serve_session(rt, alloc, reader, writer, session, store, &door, &mut ticks)
 }
 
 fn receipts_told(told: &[Told]) -> usize {
@@ -113,83 +150,37 @@ fn receipts_told(told: &[Told]) -> usize {
     sum
 }
 
-/// Serves a session, whose number is 3, round a store of these tables.
-fn serve<J: StoreName, R: Abort + Wait, I: Read, W: Write>(
-    rt: &R,
-    alloc: Global,
-    schema: Schema,
-    opened: NewLog<SharedEntry>,
-    reader: &mut I,
-    writer: &mut W,
-    door: Door,
-) -> Summary
-    requires log { opened.seen.book ≡ J.book }
-    requires tables { schema ≡ J.schema }
-{
-    let store = LockedStore::<J>::new(alloc, schema, opened).expect(rt, "there is memory");
-    let session = store
-        .session(alloc, 3)
-        .expect(rt, "the number is at most 64");
-    let mut ticks = Ticks { next: 10 };
-    let served = serve_session(
-        rt, alloc, reader, writer, session, &store, &door, &mut ticks,
-    );
-    Summary {
-        end: served.end,
-        receipts: served.receipts.len(),
-        told: receipts_told(served.told.as_slice()),
-        lines: served.told.len(),
-        entries: entries_with(store, served.receipts),
-    }
+/// Whether a session that is served ended as its case says.
+fn is_ended<J: StoreName>(case: &Case<'_>, served: &Served<J>) -> bool {
+    served.end == case.end
+        && served.told.len() == case.lines
+        && receipts_told(served.told.as_slice()) == case.shows.0
+        && served.receipts.len() == case.shows.0
 }
 
-/// What comes of a session that is served over this reader and this writer, round a store of the sample tables.
-pub(crate) fn summary_of<R: Abort + Wait, I: Read, W: Write>(
+/// Serves the session of a case: it is sent the replies of the case, leaves as many reads, and ends as the case says.
+pub(crate) fn serve_case<J: StoreName, R: Abort + Wait>(
     rt: &R,
     alloc: Global,
-    reader: &mut I,
-    writer: &mut W,
-    door: Door,
-) -> Summary {
-    let schema = Schema::sample(alloc).expect(rt, "there is memory");
-    serve::<Brand, _, _, _>(rt, alloc, schema, NewLog::new(), reader, writer, door)
-}
-
-/// Asserts that a session reads a text to its end and is sent these replies, how many lines that were, and that it took so many receipts, which close the store.
-pub(crate) fn assert_sent<R: Abort + Wait>(
-    rt: &R,
-    alloc: Global,
-    text: &str,
-    replies: &str,
-    lines: usize,
-    receipts: usize,
-) {
-    let mut reader = text.as_bytes();
-    let mut out = Vec::new(alloc);
-    let summary = summary_of(rt, alloc, &mut reader, &mut out, Door::Open);
-    assert_eq!(rt; out.as_slice(), replies.as_bytes());
-    let closed = Summary {
-        end: End::Closed,
-        receipts,
-        told: receipts,
-        lines,
-        entries: Some(receipts),
+    store: &LockedStore<J>,
+    case: &Case<'_>,
+    receipts: &mut Vec<Receipt<J>>,
+) -> Audit {
+    let limits = case.limits;
+    let mut reader = Source {
+        rest: case.text.as_bytes(),
+        most: limits.most,
+        calls: limits.reads,
     };
-    assert_eq!(rt; summary, closed);
-}
-
-/// Asserts what was written until a session ended, why it ended, how many lines it had, and that it took so many receipts, which close the store.
-pub(crate) fn assert_ended(
-    rt: &impl Abort,
-    written: &[u8],
-    replies: &str,
-    summary: Summary,
-    end: End,
-    lines: usize,
-    receipts: usize,
-) {
-    assert_eq!(rt; written, replies.as_bytes());
-    assert!(rt; summary.end == end);
-    assert!(rt; summary.lines == lines);
-    assert!(rt; summary.receipts == receipts && summary.entries == Some(receipts));
+    let mut writer = Pipe {
+        taken: Vec::new(alloc),
+        room: limits.room,
+        flushes: limits.flushes,
+    };
+    let served = serve(rt, alloc, store, limits.shut, &mut reader, &mut writer);
+    let is_sent = writer.taken.as_slice() == case.replies.as_bytes();
+    let is_so = is_sent && reader.calls == case.reads_left && is_ended(case, &served);
+    assert!(rt; is_so, "{}", case.what);
+    *receipts = served.receipts;
+    case.shows
 }

@@ -1,5 +1,0 @@
-use Rattle.migrator_tests.proofs.round_tests.a_round_packs_all_and_the_next_has_nothing_to_pack.Given as goal
-
--- the log that was just made, and the tables
-abbrev pub ghosts-run_two : goal.ghosts-run_two
-ghosts-run_two g a = record { book = a.opened.seen.book; schema = a.schema }

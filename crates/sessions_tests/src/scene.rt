@@ -1,0 +1,165 @@
+//! Scenes round a store that is made for each, and what the store shows when it is closed.
+ghost use Rattle.std.specs.Prelude.{◌≡◌};
+
+use crate::call_tests::{make_calls, split_twice};
+use crate::closing_tests::read_back;
+use crate::desk::{Desk, count_in, open_desk};
+use crate::install_tests::install_twice;
+use crate::round_tests::{pack_all, pack_in_two, pack_together};
+use crate::run_tests::{hire_by_two, name_by_two};
+use crate::served::{Case, serve_case};
+use crate::store_tests::{commit_elsewhere, count_beside};
+use crate::thread_tests::{hire_in_threads, keep_view, name_in_threads};
+use book::Closed;
+use growlog::{NewLog, StoreName};
+use journal::{Receipt, SharedEntry};
+use rows::{Form, Keys, Schema, Table};
+use sessions::{LockedStore, Unclosed};
+use std::alloc::Global;
+use std::marker::Brand;
+use std::process::Abort;
+use std::sync::Wait;
+use std::thread::Threads;
+use systime_query::BlockCache;
+use transaction::listing_of;
+
+/// What a closed store shows: how many entries, how many employees, and the instant of the last commit.
+pub(crate) type Audit = (usize, usize, u64);
+
+/// What is done round a store: the scenes of the tests.
+#[derive(Clone, Copy)]
+pub(crate) enum Scene<'a> {
+    Calls,
+    Splits,
+    ReadBack,
+    InstallTwice,
+    HireByTwo,
+    NameByTwo,
+    BesideEachOther,
+    Elsewhere,
+    HireInThreads,
+    NameInThreads,
+    OldView,
+    PackAll,
+    PackInTwo,
+    TwoPackers,
+    Serve(&'a Case<'a>),
+}
+
+fn audit_of(rt: &impl Abort, alloc: Global, closed: &Closed) -> Audit {
+    let view = closed.tree().current();
+    let table = Table::sample(alloc).expect(rt, "there is memory");
+    let mut cache = BlockCache::new(alloc);
+    let keys = Keys::all(alloc, 1);
+    let listing = listing_of(alloc, &mut cache, view, Form::Plain, &table, &keys);
+    let employees = count_in(&listing.expect(rt, "they are listed"));
+    (closed.entries(), employees, view.last())
+}
+
+/// Closes a store and looks at what it shows; none where it does not close.
+pub(crate) fn closed_with<J: StoreName>(
+    rt: &impl Abort,
+    alloc: Global,
+    store: LockedStore<J>,
+    receipts: Vec<Receipt<J>>,
+) -> Option<Audit> {
+    match store.close(receipts) {
+        Ok(closed) => Some(audit_of(rt, alloc, &closed)),
+        Err(_) => None,
+    }
+}
+
+/// Closes a store with one receipt more than those with which it must not close; none where it does, or does not close in
+/// the end.
+fn closed_at_last<J: StoreName>(
+    rt: &impl Abort,
+    alloc: Global,
+    store: LockedStore<J>,
+    receipts: Vec<Receipt<J>>,
+    last: Receipt<J>,
+) -> Option<Audit> {
+    let Err(Unclosed { store, receipts }) = store.close(receipts) else {
+        return None;
+    };
+    let mut receipts = receipts;
+    receipts.push(last).expect(rt, "there is memory");
+    closed_with(rt, alloc, store, receipts)
+}
+
+/// Closes a store with these receipts, but first tries to without the last one. None where it closes without it, or does
+/// not close with all.
+fn closed_in_two<J: StoreName>(
+    rt: &impl Abort,
+    alloc: Global,
+    store: LockedStore<J>,
+    mut receipts: Vec<Receipt<J>>,
+) -> Option<Audit> {
+    match receipts.pop() {
+        None => closed_with(rt, alloc, store, receipts),
+        Some(last) => closed_at_last(rt, alloc, store, receipts, last),
+    }
+}
+
+/// Plays a scene, whose receipts are kept: what the store must show that is closed with them.
+fn play_at<J: StoreName, R: Abort + Threads + Wait + Sync>(
+    rt: &R,
+    alloc: Global,
+    store: &LockedStore<J>,
+    scene: Scene<'_>,
+    desk: &mut Desk,
+    receipts: &mut Vec<Receipt<J>>,
+) -> Audit {
+    match scene {
+        Scene::Calls => make_calls(rt, alloc, store, desk, receipts),
+        Scene::Splits => split_twice(rt, alloc, store, receipts),
+        Scene::ReadBack => read_back(rt, alloc, store, desk, receipts),
+        Scene::InstallTwice => install_twice(rt, alloc, store, desk, receipts),
+        Scene::HireByTwo => hire_by_two(rt, alloc, store, desk, receipts),
+        Scene::NameByTwo => name_by_two(rt, alloc, store, desk, receipts),
+        Scene::BesideEachOther => count_beside(rt, alloc, store, desk, receipts),
+        Scene::Elsewhere => commit_elsewhere(rt, alloc, store, desk, receipts),
+        Scene::HireInThreads => hire_in_threads(rt, alloc, store, receipts),
+        Scene::NameInThreads => name_in_threads(rt, alloc, store, receipts),
+        Scene::OldView => keep_view(rt, alloc, store, receipts),
+        Scene::PackAll => pack_all(rt, alloc, store, desk, receipts),
+        Scene::PackInTwo => pack_in_two(rt, alloc, store, desk, receipts),
+        Scene::TwoPackers => pack_together(rt, alloc, store, desk, receipts),
+        Scene::Serve(case) => serve_case(rt, alloc, store, case, receipts),
+    }
+}
+
+/// The same with sessions that are new.
+fn play_with<J: StoreName, R: Abort + Threads + Wait + Sync>(
+    rt: &R,
+    alloc: Global,
+    store: &LockedStore<J>,
+    scene: Scene<'_>,
+    receipts: &mut Vec<Receipt<J>>,
+) -> Audit {
+    let mut desk = open_desk(rt, alloc);
+    play_at(rt, alloc, store, scene, &mut desk, receipts)
+}
+
+/// Plays a scene round a store of these tables, and closes it.
+fn play_round<J: StoreName, R: Abort + Threads + Wait + Sync>(
+    rt: &R,
+    alloc: Global,
+    schema: Schema,
+    opened: NewLog<SharedEntry>,
+    scene: Scene<'_>,
+)
+    requires log { opened.seen.book ≡ J.book }
+    requires tables { schema ≡ J.schema }
+{
+    let store = LockedStore::<J>::new(alloc, schema, opened).expect(rt, "there is memory");
+    let mut receipts = Vec::new(alloc);
+    let wanted = play_with(rt, alloc, &store, scene, &mut receipts);
+    assert!(rt; closed_in_two(rt, alloc, store, receipts) == Some(wanted));
+}
+
+/// Plays a scene round a new store of the sample tables. The store must not close with all receipts of the scene but the
+/// last one, and then close with all, and show what it must.
+pub(crate) fn play<R: Abort + Threads + Wait + Sync>(rt: &R, alloc: Global, scene: Scene<'_>) {
+    let schema = Schema::sample(alloc).expect(rt, "there is memory");
+    play_round::<Brand, _>(rt, alloc, schema, NewLog::new(), scene);
+}
