@@ -1,6 +1,6 @@
 -- The first of what is to be packed.
-use Rattle.std.proofs.Common.{◌≡◌, ℕ, ◌+◌, ◌-◌, ◌<◌, ◌≤◌, Bool, true, false, List, length, get_or, Option, Some, None, refl, sym, ap, subst, ◌∙◌, inl, inr, arith}
-use Rattle.std.specs.Prelude.{slice_get, slice_index, IsTrue}
+use Rattle.std.proofs.Common.{◌≡◌, ℕ, ◌-◌, ◌<◌, ◌≤◌, Bool, true, false, List, length, Option, Some, None, refl, sym, ap, subst, ◌∙◌, inl, inr, arith}
+use Rattle.std.specs.Prelude.{slice_index, IsTrue}
 use Rattle.std.specs.List.Sorted.{IsPartitionPoint}
 use Rattle.std.specs.Cmp.{tied_itself, ranks}
 use Rattle.std.specs.Ordering.{MatchOrdering, nat_cmp, ordering_then, ordering_reverse, is_lt}
@@ -11,7 +11,7 @@ use Rattle.std.proofs.lemmas.List.{get_or_default}
 use Rattle.std.proofs.lemmas.Option.{slice_get_within}
 use Rattle.keyrange.specs.Rect.{Area}
 use Rattle.treenodes.specs.Node.{TreeNode, IsAt}
-use Rattle.treenodes.specs.Backlog.{is_unpacked, start_cmp, turn_cmp, comes_after, IsUnpackedAt, IsBacklog, IsBehind, AreBehind, IsWaiting, IsFirstWaiting, IsFirstWaitingAt}
+use Rattle.treenodes.specs.Backlog.{start_cmp, turn_cmp, comes_after, IsUnpackedAt, IsBacklog, IsBehind, AreBehind, IsWaiting, IsFirstWaitingAt}
 use Rattle.treenodes.proofs.NodeNumbers.{one_at}
 use Rattle.treenodes.proofs.BacklogOrder.{start_total, is_less, later_is}
 

@@ -20,7 +20,7 @@ use Rattle.treenodes.specs.declared.node.Child.{Child}
 use Rattle.treenodes.specs.declared.node.Child.TheVariants.{Index}
 use Rattle.treenodes.specs.Map.{HoldsMap}
 use Rattle.keyrange.specs.Cut.{AreHalves}
-use Rattle.treenodes.specs.Split.{AreSplit, HoldCuts, Halved}
+use Rattle.treenodes.specs.Split.{AreSplit, HoldCuts, Halved, HasHalves}
 use Rattle.treenodes.proofs.HalvesTree.{in_parent, split_tree, split_holds, halved}
 use Rattle.treenodes.proofs.NodeNumbers.{one_at}
 
@@ -62,12 +62,6 @@ module _ (nodes : List TreeNode) (tree : IsTree nodes) (p c : ℕ) (h : IsParent
 
   pub has_rect : (n : TreeNode) → IsAt nodes c n → HasRect n.rect (references_of h.node.content)
   has_rect n at = (h.refers.0, h.refers.1, h.refers.2, h.refers.3, refers.same ∙ ap (λ (q : TreeNode). q.rect) (one_at nodes c refers.node n below_there at))
-
--- what comes of a split
-pub record HasHalves (nodes : List TreeNode) (p c : ℕ) (first second : Child) (result : List TreeNode) : Type 0 where
-  pub tree : IsTree result
-  pub holds : (m : List Event) (n : TreeNode) → HoldsMap nodes m → IsAt nodes c n → HoldCuts m (seen n.level first) (seen n.level second) → HoldsMap result m
-  pub halved : (n : TreeNode) → IsAt nodes c n → Halved nodes result p c (seen n.level first) (seen n.level second)
 
 -- ---- what the code knows of a node that it splits
 
@@ -120,3 +114,14 @@ module _ (nodes : List TreeNode) (tree : IsTree nodes) (p c : ℕ) (h : IsParent
 
       pub has_halves : (low middle high : TreeNode) → low ≡ seen slot.level first → middle ≡ record { level = top.level; rect = x.rect; content = References rs'; packed = None } → high ≡ seen slot.level second → HasHalves nodes p c first second (set (set nodes c low) p middle ++ high ∷ [])
       has_halves low middle high a b d = subst (HasHalves nodes p c first second) (λ t. set (set nodes c (sym a t)) p (sym b t) ++ sym d t ∷ []) (record { tree = tree_after; holds = holds_after; halved = halved_after })
+
+    -- the index node that a replacement of the reference gives
+    pub comes : {E : Type 0} (area_first : IsArea (rect_of first)) (area_second : IsArea (rect_of second)) (n : ℕ) (n_is : n ≡ length nodes) (r : Result (IndexNode ℕ) E) → IfOk r (λ y. y.rect ≡ x.rect)
+        → IfOk r (λ y. Replaced whole (record { rect = lo; child = c } ∷ record { rect = hi; child = n } ∷ []) x.references.items y.references.items)
+        → (Tiles x.rect x.references.items → IfOk r (λ y. Tiles x.rect y.references.items))
+        → (whole.time.to ≡ None → AreCurrentIn x.rect x.references.items → IfOk r (λ y. AreCurrentIn x.rect y.references.items))
+        → (IsInside whole x.rect → AllMeet x.rect x.references.items → IfOk r (λ y. AllMeet x.rect y.references.items))
+        → IfOk r (λ y. HasHalves nodes p c first second (set (set nodes c (seen slot.level first)) p (seen top.level (Index y)) ++ seen slot.level second ∷ []))
+    comes area_first area_second n n_is (Ok y) rect_is replaced tiled current meet =
+        has_halves area_first area_second n n_is y.references.items replaced tiled current meet _ _ _ refl (λ t. record { level = top.level; rect = rect_is t; content = References y.references.items; packed = None }) refl
+    comes area_first area_second n n_is (Err e) rect_is replaced tiled current meet = tt

@@ -7,10 +7,11 @@ use Rattle.datanode.specs.Node.{Node}
 use Rattle.datanode.specs.Cut.{cut}
 use Rattle.indexnode.specs.declared.reference.Reference.{Reference}
 use Rattle.indexnode.specs.Split.{IsBeforeCurrent, IsUncrossed}
-use Rattle.treenodes.specs.Node.{TreeNode, References, IsAt, IsIndexNode, data_node, references_of}
-use Rattle.treenodes.specs.Tree.{HasContent}
+use Rattle.treenodes.specs.Node.{TreeNode, References, IsAt, IsIndexNode, data_node, references_of, seen}
+use Rattle.treenodes.specs.Tree.{HasContent, IsTree}
+use Rattle.treenodes.specs.declared.node.Child.{Child}
 use Rattle.treenodes.specs.Lookup.{IsData}
-use Rattle.treenodes.specs.Map.{IsCut, EndsBy, latest}
+use Rattle.treenodes.specs.Map.{IsCut, HoldsMap, EndsBy, latest}
 
 -- a current data node with the key strictly inside
 pub record CanSplitKey (nodes : List TreeNode) (number : ℕ) (key : List ℕ) : Type 0 where
@@ -77,6 +78,21 @@ pub record Halved (before after : List TreeNode) (parent number : ℕ) (first se
   pub above : TreeNode
   pub above_there : IsAt after parent above
   pub as_before : (p : TreeNode) → IsAt before parent p → IsLonger p above
+
+-- what comes of two halves in the place of a node: still a tree, which holds each map of which they hold the cuts
+pub record HasHalves
+    (before : List TreeNode)
+    (parent number : ℕ)
+    (first second : Child)
+    (after : List TreeNode)
+    : Type 0 where
+  pub tree : IsTree after
+  pub holds :
+      (m : List Event) (n : TreeNode) → HoldsMap before m → IsAt before number n
+      → HoldCuts m (seen n.level first) (seen n.level second) → HoldsMap after m
+  pub halved :
+      (n : TreeNode) → IsAt before number n
+      → Halved before after parent number (seen n.level first) (seen n.level second)
 
 -- what a rectangle inside a data node holds of it
 abbrev pub part : Node → Area → TreeNode

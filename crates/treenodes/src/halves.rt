@@ -7,11 +7,11 @@ ghost use Rattle.treenodes.specs.Node.{TreeNode, IsAt, rect_of, seen};
 ghost use Rattle.treenodes.specs.Tree.{IsTree};
 ghost use Rattle.treenodes.specs.Map.{HoldsMap};
 ghost use Rattle.treenodes.specs.Lookup.{IsParent};
-ghost use Rattle.treenodes.specs.Split.{AreSplit, HoldCuts, Halved};
+ghost use Rattle.treenodes.specs.Split.{AreSplit, HoldCuts, Halved, HasHalves};
 
 use crate::node::{Child, Slot};
 use crate::nodes::Nodes;
-use indexnode::Reference;
+use indexnode::{IndexNode, Reference};
 use std::alloc::Global;
 use values::Mem;
 
@@ -81,6 +81,33 @@ fn references_to(
     Ok((lower, upper))
 }
 
+/// The parent of a node with references to two halves in the place of the one to the node. The nodes with it and the
+/// halves are what is wanted.
+fn parent_of_halves(
+    nodes: &Nodes,
+    parent: usize,
+    number: usize,
+    first: &Child,
+    second: &Child,
+) -> Mem<IndexNode<usize>>
+    requires tree { IsTree nodes.now }
+    requires parent { IsParent nodes.now parent number }
+    requires split { (n : TreeNode) → IsAt nodes.now number n
+        → AreSplit nodes.now n (seen n.level first.now) (seen n.level second.now) }
+    ensures ok { (n above : TreeNode) → IsAt nodes.now number n → IsAt nodes.now parent above
+        → IfOk result (λ x. HasHalves nodes.now parent number first.now second.now
+        (slice_set (slice_set nodes.now number (seen n.level first.now)) parent
+        (seen above.level (Child.Index x)) ++ seen n.level second.now ∷ [])) }
+    ensures err { OnlyMemory result }
+{
+    let slot = nodes.at(number);
+    let above = nodes.at(parent);
+    let (lower, upper) = references_to(first, number, second, nodes.len())?;
+    above
+        .index()
+        .with_references(slot.child().rect(), lower, upper)
+}
+
 /// The nodes with two halves in the place of one: the first has its number, the second a new one, and both stand below
 /// its parent.
 pub(crate) fn with_halves(
@@ -102,19 +129,15 @@ pub(crate) fn with_halves(
         → HoldCuts m (seen n.level first) (seen n.level second) → IfOk result (λ s. HoldsMap s m) }
     ensures err { OnlyMemory result }
 {
+    let node = parent_of_halves(&nodes, parent, number, &first, &second)?;
     let slot = nodes.at(number);
-    let level = slot.level();
     let above = nodes.at(parent);
-    let (lower, upper) = references_to(&first, number, &second, nodes.len())?;
-    let node = above
-        .index()
-        .with_references(slot.child().rect(), lower, upper)?;
-    let height = above.level();
+    let levels = (slot.level(), above.level());
     with_children(
         alloc,
         nodes,
         (number, parent),
-        (level, height),
+        levels,
         first,
         Child::Index(node),
         second,

@@ -1,5 +1,4 @@
 use Rattle.std.proofs.Common.{refl, sym, ap, subst, ◌∙◌, option_copied}
-use Rattle.std.specs.Prelude.{slice_index}
 use Rattle.treenodes.specs.Backlog.{IsBacklog}
 use Rattle.treenodes.proofs.BacklogFirst.{nobody, somebody}
 use Rattle.treenodes.proofs.backlog.Backlog.first.Goals as goal

@@ -1,4 +1,4 @@
-use Rattle.std.proofs.Common.{ℕ, List, Option, sym, subst, option_copied}
+use Rattle.std.proofs.Common.{ℕ, List, Option, subst, option_copied}
 use Rattle.std.specs.Prelude.{MatchOption}
 use Rattle.std.proofs.lemmas.Option.{slice_get_within}
 use Rattle.treenodes.specs.Node.{TreeNode}
