@@ -3,8 +3,6 @@
 
 mod log;
 mod prefix;
-#[cfg(test)]
-mod tests;
 
 pub use log::{Log, NewLog, StoreName};
 pub use prefix::Prefix;

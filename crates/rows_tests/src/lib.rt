@@ -1,4 +1,4 @@
-//! Tests of `values` and `rows` by their public calls: events, keys, rows, and texts of schemas.
+//! Tests of `values`, `tokens` and `rows` by their public calls: events, keys, rows, tokens, and texts of schemas.
 #![tactic(auto)]
 
 #[cfg(test)]
@@ -11,3 +11,5 @@ mod row_tests;
 mod samples;
 #[cfg(test)]
 mod schema_tests;
+#[cfg(test)]
+mod token_tests;

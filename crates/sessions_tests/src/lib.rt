@@ -16,6 +16,8 @@ mod install_tests;
 #[cfg(test)]
 mod line_tests;
 #[cfg(test)]
+mod log_tests;
+#[cfg(test)]
 mod round_tests;
 #[cfg(test)]
 mod run_tests;

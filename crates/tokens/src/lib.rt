@@ -4,8 +4,6 @@
 mod digit;
 mod name;
 mod token;
-#[cfg(test)]
-mod token_tests;
 mod word;
 
 pub use digit::split_digits;

@@ -2,6 +2,8 @@
 #![tactic(auto)]
 
 #[cfg(test)]
+mod commitclock_tests;
+#[cfg(test)]
 mod interleaving_tests;
 #[cfg(test)]
 mod open_transaction_tests;

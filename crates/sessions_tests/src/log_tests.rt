@@ -1,9 +1,8 @@
 //! Prefixes of one log.
 ghost use Rattle.std.specs.Prelude.{◌≡◌};
 
-use crate::{NewLog, StoreName};
+use growlog::{NewLog, StoreName};
 use std::marker::Brand;
-use std::test::Fail;
 
 /// How long two prefixes are: one to which three entries were added, and one that was taken after the first and to
 /// which none can be added any more.
@@ -28,7 +27,6 @@ fn lengths<J: StoreName>(opened: NewLog<u8>) -> (u64, u64)
 }
 
 #[test]
-fn entries_are_added_to_the_whole_log_alone(rt: HostRuntime) -> Result<(), Fail> {
+fn entries_are_added_to_the_whole_log_alone(rt: HostRuntime) {
     assert_eq!(rt; lengths::<Brand>(NewLog::new()), (3, 1));
-    Ok(())
 }

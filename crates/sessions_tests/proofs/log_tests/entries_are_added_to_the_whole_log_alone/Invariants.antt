@@ -1,5 +1,5 @@
 use Rattle.std.proofs.Common.{[]}
-use Rattle.growlog.proofs.tests.entries_are_added_to_the_whole_log_alone.Given as goal
+use Rattle.sessions_tests.proofs.log_tests.entries_are_added_to_the_whole_log_alone.Given as goal
 
 -- the log that was just made
 abbrev pub ghosts-lengths : goal.ghosts-lengths
