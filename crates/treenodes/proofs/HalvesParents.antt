@@ -9,18 +9,15 @@ use Rattle.std.proofs.lemmas.Option.{slice_get_within}
 use Rattle.keyrange.specs.Rect.{Area, IsInside, IsArea}
 use Rattle.indexnode.specs.declared.reference.Reference.{Reference}
 use Rattle.indexnode.specs.Replacement.{HasRect, Replaced}
-use Rattle.treenodes.specs.Node.{Content, Events, References, TreeNode, IsIndexNode, IsAt, seen, rect_of, references_of}
+use Rattle.treenodes.specs.Node.{Content, Events, References, TreeNode, IsIndexNode, IsAt, seen, references_of}
 use Rattle.treenodes.specs.Tree.{RefersTo, IsIndex, HasContent, IsTree}
 use Rattle.treenodes.specs.Lookup.{IsParent}
-use Rattle.values.specs.Event.{Event}
 use Rattle.indexnode.specs.declared.node.IndexNode.{IndexNode}
 use Rattle.indexnode.specs.Node.{Tiles, AllMeet}
 use Rattle.indexnode.specs.Split.{AreCurrentIn}
-use Rattle.treenodes.specs.declared.node.Child.{Child}
 use Rattle.treenodes.specs.declared.node.Child.TheVariants.{Index}
-use Rattle.treenodes.specs.Map.{HoldsMap}
 use Rattle.keyrange.specs.Cut.{AreHalves}
-use Rattle.treenodes.specs.Split.{AreSplit, HoldCuts, Halved, HasHalves}
+use Rattle.treenodes.specs.Split.{AreSplit, HasHalves}
 use Rattle.treenodes.proofs.HalvesTree.{in_parent, split_tree, split_holds, halved}
 use Rattle.treenodes.proofs.NodeNumbers.{one_at}
 
@@ -65,8 +62,8 @@ module _ (nodes : List TreeNode) (tree : IsTree nodes) (p c : ℕ) (h : IsParent
 
 -- ---- what the code knows of a node that it splits
 
-module _ (nodes : List TreeNode) (tree : IsTree nodes) (p c : ℕ) (h : IsParent nodes p c) (slot top : TreeNode) (at_c : IsAt nodes c slot) (at_top : IsAt nodes p top) (x : IndexNode ℕ) (is : top ≡ seen top.level (Index x)) (first second : Child)
-    (split : AreSplit nodes slot (seen slot.level first) (seen slot.level second)) where
+module _ (nodes : List TreeNode) (tree : IsTree nodes) (p c : ℕ) (h : IsParent nodes p c) (slot top : TreeNode) (at_c : IsAt nodes c slot) (at_top : IsAt nodes p top) (x : IndexNode ℕ) (is : top ≡ seen top.level (Index x)) (first second : TreeNode)
+    (split : AreSplit nodes slot first second) where
   at_p : IsAt nodes p (record { level = top.level; rect = x.rect; content = References x.references.items; packed = None })
   at_p = at_top ∙ ap Some is
 
@@ -76,52 +73,41 @@ module _ (nodes : List TreeNode) (tree : IsTree nodes) (p c : ℕ) (h : IsParent
   names_it : Any (λ (r : Reference ℕ). r.child ≡ c) x.references.items
   names_it = subst (Any (λ (r : Reference ℕ). r.child ≡ c)) (sym references_are) h.refers
 
-  module _ (whole lo hi : Area) (whole_is : whole ≡ slot.rect) (lo_is : lo ≡ rect_of first) (hi_is : hi ≡ rect_of second) where
+  module _ (whole lo hi : Area) (whole_is : whole ≡ slot.rect) (lo_is : lo ≡ first.rect) (hi_is : hi ≡ second.rect) where
     pub halves_of : AreHalves whole lo hi
-    halves_of = subst (λ a. AreHalves a lo hi) (sym whole_is) (subst (λ b. AreHalves slot.rect b hi) (sym lo_is) (subst (AreHalves slot.rect (rect_of first)) (sym hi_is) split.halves))
+    halves_of = subst (λ a. AreHalves a lo hi) (sym whole_is) (subst (λ b. AreHalves slot.rect b hi) (sym lo_is) (subst (AreHalves slot.rect first.rect) (sym hi_is) split.halves))
 
     pub has_whole : HasRect whole x.references.items
     has_whole = subst (HasRect whole) (sym references_are) (subst (λ a. HasRect a (references_of h.node.content)) (sym whole_is) (has_rect nodes tree p c h slot at_c))
 
-    module _ (area_first : IsArea (rect_of first)) (area_second : IsArea (rect_of second)) (n : ℕ) (n_is : n ≡ length nodes) (rs' : List (Reference ℕ)) (replaced : Replaced whole (record { rect = lo; child = c } ∷ record { rect = hi; child = n } ∷ []) x.references.items rs')
+    module _ (area_first : IsArea first.rect) (area_second : IsArea second.rect) (n : ℕ) (n_is : n ≡ length nodes) (rs' : List (Reference ℕ)) (replaced : Replaced whole (record { rect = lo; child = c } ∷ record { rect = hi; child = n } ∷ []) x.references.items rs')
         (tiled : Tiles x.rect x.references.items → Tiles x.rect rs') (current : whole.time.to ≡ None → AreCurrentIn x.rect x.references.items → AreCurrentIn x.rect rs') (meet : IsInside whole x.rect → AllMeet x.rect x.references.items → AllMeet x.rect rs') where
       index : IsIndex nodes top.level x.rect x.references.items
       index = tree.contents p _ at_p
 
       lies : IsInside whole x.rect
-      lies = subst (λ a. IsInside a x.rect) (sym whole_is) (in_parent nodes tree c p slot (seen slot.level first) (seen slot.level second) at_c split top.level x.rect x.references.items rs' at_p names_it)
+      lies = subst (λ a. IsInside a x.rect) (sym whole_is) (in_parent nodes tree c p slot first second at_c split top.level x.rect x.references.items rs' at_p names_it)
 
-      placed_as : Replaced slot.rect (record { rect = rect_of first; child = c } ∷ record { rect = rect_of second; child = length nodes } ∷ []) x.references.items rs'
-      placed_as = subst (λ k. Replaced slot.rect (record { rect = rect_of first; child = c } ∷ record { rect = rect_of second; child = k } ∷ []) x.references.items rs') n_is
-          (subst (λ b. Replaced slot.rect (record { rect = rect_of first; child = c } ∷ record { rect = b; child = n } ∷ []) x.references.items rs') hi_is
+      placed_as : Replaced slot.rect (record { rect = first.rect; child = c } ∷ record { rect = second.rect; child = length nodes } ∷ []) x.references.items rs'
+      placed_as = subst (λ k. Replaced slot.rect (record { rect = first.rect; child = c } ∷ record { rect = second.rect; child = k } ∷ []) x.references.items rs') n_is
+          (subst (λ b. Replaced slot.rect (record { rect = first.rect; child = c } ∷ record { rect = b; child = n } ∷ []) x.references.items rs') hi_is
           (subst (λ b. Replaced slot.rect (record { rect = b; child = c } ∷ record { rect = hi; child = n } ∷ []) x.references.items rs') lo_is
           (subst (λ a. Replaced a (record { rect = lo; child = c } ∷ record { rect = hi; child = n } ∷ []) x.references.items rs') whole_is replaced)))
 
       abbrev pub split_nodes : List TreeNode
-      split_nodes = set (set nodes c (seen slot.level first)) p (record { level = top.level; rect = x.rect; content = References rs'; packed = None }) ++ seen slot.level second ∷ []
+      split_nodes = set (set nodes c first) p (record { level = top.level; rect = x.rect; content = References rs'; packed = None }) ++ second ∷ []
 
       tree_after : IsTree split_nodes
-      tree_after = split_tree nodes tree c p slot (seen slot.level first) (seen slot.level second) at_c split top.level x.rect x.references.items rs' at_p names_it area_first area_second
+      tree_after = split_tree nodes tree c p slot first second at_c split top.level x.rect x.references.items rs' at_p names_it area_first area_second
           (tiled index.tiled) (meet lies index.meet) (current (ap (λ (a : Area). a.time.to) whole_is ∙ split.current) index.inside) placed_as
 
-      holds_after : (m : List Event) (n : TreeNode) → HoldsMap nodes m → IsAt nodes c n → HoldCuts m (seen n.level first) (seen n.level second) → HoldsMap split_nodes m
-      holds_after m n holds at cuts = split_holds nodes tree c p slot (seen slot.level first) (seen slot.level second) at_c split top.level x.rect x.references.items rs' at_p names_it m holds
-          (subst (λ (q : TreeNode). HoldCuts m (seen q.level first) (seen q.level second)) (one_at nodes c n slot at at_c) cuts)
+      has_halves : HasHalves nodes p c first second split_nodes
+      has_halves = record {
+        tree = tree_after;
+        holds = λ m holds cuts. split_holds nodes tree c p slot first second at_c split top.level x.rect x.references.items rs' at_p names_it m holds cuts;
+        halved = halved nodes tree c p slot first second at_c split top.level x.rect x.references.items rs' at_p names_it _ refl placed_as;
+      }
 
-      halved_after : (n : TreeNode) → IsAt nodes c n → Halved nodes split_nodes p c (seen n.level first) (seen n.level second)
-      halved_after n at = subst (λ (q : TreeNode). Halved nodes split_nodes p c (seen q.level first) (seen q.level second)) (one_at nodes c slot n at_c at)
-          (halved nodes tree c p slot (seen slot.level first) (seen slot.level second) at_c split top.level x.rect x.references.items rs' at_p names_it _ refl placed_as)
-
-      pub has_halves : (low middle high : TreeNode) → low ≡ seen slot.level first → middle ≡ record { level = top.level; rect = x.rect; content = References rs'; packed = None } → high ≡ seen slot.level second → HasHalves nodes p c first second (set (set nodes c low) p middle ++ high ∷ [])
-      has_halves low middle high a b d = subst (HasHalves nodes p c first second) (λ t. set (set nodes c (sym a t)) p (sym b t) ++ sym d t ∷ []) (record { tree = tree_after; holds = holds_after; halved = halved_after })
-
-    -- the index node that a replacement of the reference gives
-    pub comes : {E : Type 0} (area_first : IsArea (rect_of first)) (area_second : IsArea (rect_of second)) (n : ℕ) (n_is : n ≡ length nodes) (r : Result (IndexNode ℕ) E) → IfOk r (λ y. y.rect ≡ x.rect)
-        → IfOk r (λ y. Replaced whole (record { rect = lo; child = c } ∷ record { rect = hi; child = n } ∷ []) x.references.items y.references.items)
-        → (Tiles x.rect x.references.items → IfOk r (λ y. Tiles x.rect y.references.items))
-        → (whole.time.to ≡ None → AreCurrentIn x.rect x.references.items → IfOk r (λ y. AreCurrentIn x.rect y.references.items))
-        → (IsInside whole x.rect → AllMeet x.rect x.references.items → IfOk r (λ y. AllMeet x.rect y.references.items))
-        → IfOk r (λ y. HasHalves nodes p c first second (set (set nodes c (seen slot.level first)) p (seen top.level (Index y)) ++ seen slot.level second ∷ []))
-    comes area_first area_second n n_is (Ok y) rect_is replaced tiled current meet =
-        has_halves area_first area_second n n_is y.references.items replaced tiled current meet _ _ _ refl (λ t. record { level = top.level; rect = rect_is t; content = References y.references.items; packed = None }) refl
-    comes area_first area_second n n_is (Err e) rect_is replaced tiled current meet = tt
+      -- with the index node of the code
+      pub comes : (y : IndexNode ℕ) → y.rect ≡ x.rect → rs' ≡ y.references.items → HasHalves nodes p c first second (set (set nodes c first) p (seen top.level (Index y)) ++ second ∷ [])
+      comes y rect_is same = subst (HasHalves nodes p c first second) (λ t. set (set nodes c first) p (record { level = top.level; rect = sym rect_is t; content = References (same t); packed = None }) ++ second ∷ []) has_halves

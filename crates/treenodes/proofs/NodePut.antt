@@ -13,6 +13,6 @@ put_shown (Ok a) level old new kept self e put is shown = put level ∙ ap (λ n
 put_shown (Err a) level old new kept self e put is shown = put
 
 -- or in a copy
-pub put_copied : (level : ℕ) (n copy : Node) (new kept put : Child) (self : TreeNode) (e : Event) → seen level kept ≡ self → seen level kept ≡ seen level (Data n) → copy ≡ n → ((l : ℕ) → seen l put ≡ with_put (seen l (Data copy)) e) → new ≡ put → seen level new ≡ with_put self e
-put_copied level n copy new kept put self e shown is copied done made =
-    ap (seen level) made ∙ done level ∙ ap (λ q. with_put q e) (ap (λ n. seen level (Data n)) copied ∙ sym is ∙ shown)
+pub put_copied : (level : ℕ) (n : Node) (new kept put : Child) (self : TreeNode) (e : Event) → seen level kept ≡ self → seen level kept ≡ seen level (Data n) → ((l : ℕ) → seen l put ≡ with_put (seen l (Data n)) e) → new ≡ put → seen level new ≡ with_put self e
+put_copied level n new kept put self e shown is done made =
+    ap (seen level) made ∙ done level ∙ ap (λ q. with_put q e) (sym is ∙ shown)

@@ -7,9 +7,8 @@ use Rattle.datanode.specs.Node.{Node}
 use Rattle.datanode.specs.Cut.{cut}
 use Rattle.indexnode.specs.declared.reference.Reference.{Reference}
 use Rattle.indexnode.specs.Split.{IsBeforeCurrent, IsUncrossed}
-use Rattle.treenodes.specs.Node.{TreeNode, References, IsAt, IsIndexNode, data_node, references_of, seen}
+use Rattle.treenodes.specs.Node.{TreeNode, References, IsAt, IsIndexNode, data_node, references_of}
 use Rattle.treenodes.specs.Tree.{HasContent, IsTree}
-use Rattle.treenodes.specs.declared.node.Child.{Child}
 use Rattle.treenodes.specs.Lookup.{IsData}
 use Rattle.treenodes.specs.Map.{IsCut, HoldsMap, EndsBy, latest}
 
@@ -83,16 +82,13 @@ pub record Halved (before after : List TreeNode) (parent number : ℕ) (first se
 pub record HasHalves
     (before : List TreeNode)
     (parent number : ℕ)
-    (first second : Child)
+    (first second : TreeNode)
     (after : List TreeNode)
     : Type 0 where
   pub tree : IsTree after
   pub holds :
-      (m : List Event) (n : TreeNode) → HoldsMap before m → IsAt before number n
-      → HoldCuts m (seen n.level first) (seen n.level second) → HoldsMap after m
-  pub halved :
-      (n : TreeNode) → IsAt before number n
-      → Halved before after parent number (seen n.level first) (seen n.level second)
+      (m : List Event) → HoldsMap before m → HoldCuts m first second → HoldsMap after m
+  pub halved : Halved before after parent number first second
 
 -- what a rectangle inside a data node holds of it
 abbrev pub part : Node → Area → TreeNode

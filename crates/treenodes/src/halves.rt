@@ -3,7 +3,7 @@ ghost use Rattle.std.specs.Prelude.{◌≡◌, ◌<◌, ◌++◌, ◌∷◌, [],
 ghost use Rattle.values.specs.Event.{Event as Change};
 ghost use Rattle.values.specs.Memory.{OnlyMemory};
 ghost use Rattle.keyrange.specs.Rect.{IsArea};
-ghost use Rattle.treenodes.specs.Node.{TreeNode, IsAt, rect_of, seen};
+ghost use Rattle.treenodes.specs.Node.{TreeNode, IsAt, seen};
 ghost use Rattle.treenodes.specs.Tree.{IsTree};
 ghost use Rattle.treenodes.specs.Map.{HoldsMap};
 ghost use Rattle.treenodes.specs.Lookup.{IsParent};
@@ -11,7 +11,7 @@ ghost use Rattle.treenodes.specs.Split.{AreSplit, HoldCuts, Halved, HasHalves};
 
 use crate::node::{Child, Slot};
 use crate::nodes::Nodes;
-use indexnode::{IndexNode, Reference};
+use indexnode::Reference;
 use std::alloc::Global;
 use values::Mem;
 
@@ -35,77 +35,66 @@ fn placed(
     nodes.with_last(second)
 }
 
-/// The nodes with other children at two numbers, and one more, at these levels.
-fn with_children(
-    alloc: Global,
-    nodes: Nodes,
-    numbers: (usize, usize),
-    levels: (usize, usize),
-    first: Child,
-    above: Child,
-    second: Child,
-) -> Mem<Nodes>
-    requires number { numbers.0 < length nodes }
-    requires parent { numbers.1 < length nodes }
-    ensures ok { IfOk result (λ s.
-        s ≡ slice_set (slice_set nodes numbers.0 (seen levels.0 first)) numbers.1
-        (seen levels.1 above) ++ seen levels.0 second ∷ []) }
+/// Two children, as nodes of a level.
+fn slots_of(alloc: Global, level: usize, first: Child, second: Child) -> Mem<(Slot, Slot)>
+    ensures first { IfOk result (λ s. s.0 ≡ seen level first) }
+    ensures second { IfOk result (λ s. s.1 ≡ seen level second) }
     ensures err { OnlyMemory result }
 {
-    let low = Slot::new(alloc, levels.0, first)?;
-    let middle = Slot::new(alloc, levels.1, above)?;
-    let high = Slot::new(alloc, levels.0, second)?;
-    placed(nodes, numbers.0, low, numbers.1, middle, high)
+    let first = Slot::new(alloc, level, first)?;
+    let second = Slot::new(alloc, level, second)?;
+    Ok((first, second))
 }
 
-/// References to two children, at their numbers.
+/// References to two nodes, at their numbers.
 fn references_to(
-    first: &Child,
+    first: &Slot,
     low: usize,
-    second: &Child,
+    second: &Slot,
     high: usize,
 ) -> Mem<(Reference<usize>, Reference<usize>)>
-    ensures lower { IfOk result (λ r. r.0 ≡ record { rect = rect_of first.now; child = low }) }
-    ensures upper { IfOk result (λ r. r.1 ≡ record { rect = rect_of second.now; child = high }) }
+    ensures lower { IfOk result (λ r. r.0 ≡ record { rect = first.now.rect; child = low }) }
+    ensures upper { IfOk result (λ r. r.1 ≡ record { rect = second.now.rect; child = high }) }
     ensures areas { IfOk result (λ r. IsArea r.0.rect × IsArea r.1.rect) }
     ensures err { OnlyMemory result }
 {
     let lower = Reference {
-        rect: first.rect().copy()?,
+        rect: first.child().rect().copy()?,
         child: low,
     };
     let upper = Reference {
-        rect: second.rect().copy()?,
+        rect: second.child().rect().copy()?,
         child: high,
     };
     Ok((lower, upper))
 }
 
-/// The parent of a node with references to two halves in the place of the one to the node. The nodes with it and the
-/// halves are what is wanted.
+/// The parent of a node, with references to two halves in the place of the one to the node: what comes of it, once the
+/// halves stand at the node's number and at the one after the last, is told of it here.
 fn parent_of_halves(
+    alloc: Global,
     nodes: &Nodes,
     parent: usize,
     number: usize,
-    first: &Child,
-    second: &Child,
-) -> Mem<IndexNode<usize>>
+    first: &Slot,
+    second: &Slot,
+) -> Mem<Slot>
     requires tree { IsTree nodes.now }
     requires parent { IsParent nodes.now parent number }
     requires split { (n : TreeNode) → IsAt nodes.now number n
-        → AreSplit nodes.now n (seen n.level first.now) (seen n.level second.now) }
-    ensures ok { (n above : TreeNode) → IsAt nodes.now number n → IsAt nodes.now parent above
-        → IfOk result (λ x. HasHalves nodes.now parent number first.now second.now
-        (slice_set (slice_set nodes.now number (seen n.level first.now)) parent
-        (seen above.level (Child.Index x)) ++ seen n.level second.now ∷ [])) }
+        → AreSplit nodes.now n first.now second.now }
+    ensures ok { IfOk result (λ above.
+        HasHalves nodes.now parent number first.now second.now
+        (slice_set (slice_set nodes.now number first.now) parent above ++ second.now ∷ [])) }
     ensures err { OnlyMemory result }
 {
     let slot = nodes.at(number);
     let above = nodes.at(parent);
     let (lower, upper) = references_to(first, number, second, nodes.len())?;
-    above
+    let node = above
         .index()
-        .with_references(slot.child().rect(), lower, upper)
+        .with_references(slot.child().rect(), lower, upper)?;
+    Slot::new(alloc, above.level(), Child::Index(node))
 }
 
 /// The nodes with two halves in the place of one: the first has its number, the second a new one, and both stand below
@@ -129,17 +118,8 @@ pub(crate) fn with_halves(
         → HoldCuts m (seen n.level first) (seen n.level second) → IfOk result (λ s. HoldsMap s m) }
     ensures err { OnlyMemory result }
 {
-    let node = parent_of_halves(&nodes, parent, number, &first, &second)?;
-    let slot = nodes.at(number);
-    let above = nodes.at(parent);
-    let levels = (slot.level(), above.level());
-    with_children(
-        alloc,
-        nodes,
-        (number, parent),
-        levels,
-        first,
-        Child::Index(node),
-        second,
-    )
+    let level = nodes.at(number).level();
+    let (low, high) = slots_of(alloc, level, first, second)?;
+    let above = parent_of_halves(alloc, &nodes, parent, number, &low, &high)?;
+    placed(nodes, number, low, parent, above, high)
 }

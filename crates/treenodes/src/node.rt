@@ -161,6 +161,18 @@ impl Share for Slot {
     }
 }
 
+/// A data node with an event, beside one that stays as it is.
+fn copy_with(node: &DataNode, event: Event) -> Mem<Child>
+    requires { Takes (seen 0 (Child.Data node.now)) event }
+    ensures ok { IfOk result (λ child. (level : ℕ) →
+        seen level child ≡ with_put (seen level (Child.Data node.now)) event) }
+    ensures err { OnlyMemory result }
+{
+    let mut child = Child::Data(node.copy()?);
+    child.put(event)?;
+    Ok(child)
+}
+
 /// An event is put into a data node, in place where nobody shares the node.
 impl Update<Event> for Slot {
     ghost can_update = { Takes };
@@ -171,8 +183,7 @@ impl Update<Event> for Slot {
         if let Some(child) = Arc::get_mut(&mut self.child) {
             return child.put(event);
         }
-        let mut child = Child::Data(self.current().copy()?);
-        child.put(event)?;
+        let child = copy_with(self.current(), event)?;
         self.child = Arc::new(alloc, child)?;
         Ok(())
     }

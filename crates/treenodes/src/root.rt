@@ -43,6 +43,22 @@ pub fn leaf_alone(alloc: Global) -> Mem<Nodes>
     Nodes::new(alloc)?.with_last(root)
 }
 
+/// A node over a root, with one reference: to the root, under another number.
+fn above(alloc: Global, root: &Slot, level: usize, number: usize) -> Mem<Slot>
+    requires { level ≡ root.now.level + 1 }
+    ensures ok { IfOk result (λ s. s ≡ root_over root.now number) }
+    ensures err { OnlyMemory result }
+{
+    let rect = root.child().rect();
+    let whole = Reference {
+        rect: rect.copy()?,
+        child: number,
+    };
+    let references = single(alloc, whole)?;
+    let node = IndexNode::new(alloc, rect.copy()?, references)?;
+    Slot::new(alloc, level, Child::Index(node))
+}
+
 /// The nodes with a new root, whose one reference is to the old one, which has a new number.
 pub fn raised(alloc: Global, nodes: Nodes) -> Mem<Nodes>
     requires { IsTree nodes }
@@ -55,12 +71,6 @@ pub fn raised(alloc: Global, nodes: Nodes) -> Mem<Nodes>
 {
     let number = nodes.len();
     let root = nodes.at(0).share()?;
-    let whole = Reference {
-        rect: root.child().rect().copy()?,
-        child: number,
-    };
-    let references = single(alloc, whole)?;
-    let node = IndexNode::new(alloc, root.child().rect().copy()?, references)?;
-    let top = Slot::new(alloc, root.level() + 1, Child::Index(node))?;
+    let top = above(alloc, &root, root.level() + 1, number)?;
     nodes.with_slot(0, top)?.with_last(root)
 }

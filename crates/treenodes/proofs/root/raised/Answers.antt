@@ -1,7 +1,9 @@
-use Rattle.std.proofs.Common.{◌≡◌, ◌++◌, ◌∷◌, [], length, set, Some, sym, ap, ◌∙◌}
+use Rattle.std.proofs.Common.{◌≡◌, ℕ, ◌++◌, ◌∷◌, [], length, set, Some, refl, sym, ap, ◌∙◌}
 use Rattle.std.specs.Prelude.{IfOk}
 use Rattle.std.proofs.lemmas.Option.{slice_get_within}
-use Rattle.treenodes.specs.Node.{TreeNode}
+use Rattle.indexnode.specs.declared.reference.Reference.{Reference}
+use Rattle.indexnode.proofs.SplitMeeting.{one_meets}
+use Rattle.indexnode.proofs.ListPairs.{one_tiles, one_inside}
 use Rattle.treenodes.specs.Tree.{IsTree}
 use Rattle.treenodes.specs.Map.{HoldsMap}
 use Rattle.treenodes.specs.Lookup.{IsParent}
@@ -14,13 +16,15 @@ pub at-requires : goal.at-requires
 at-requires c = slice_get_within c.args.nodes 0 c.requires.root.root c.requires.root.first
 
 facts : (c : goal.After-with_last) → IfOk c.with_last.result (IsRaised c.args.nodes)
-facts c = weaker c.with_last.result (λ s. s ≡ c.in_ok-with_slot.field-0 ++ c.in_ok-root.root ∷ []) (IsRaised c.args.nodes)
-    (λ s made. is_raised c.args.nodes c.requires c.in_ok-root.root (c.at.ensures ∙ ap Some (sym c.in_ok-root.ensures.ok)) c.in_ok-copy.field-0 c.len-number.result c.in_ok-references.references.items
-    (c.in_ok-copy.ensures.ok ∙ c.rect.ensures.rect ∙ sym (ap (λ (q : TreeNode). q.rect) c.child.ensures)) c.len-number.ensures
-    c.in_ok-references.ensures.are c.in_ok-references.ensures.tiles c.in_ok-references.ensures.inside c.in_ok-references.ensures.meet
-    c.level.result c.in_ok-node.node.rect c.in_ok-node.node.references.items c.in_ok-top.top s c.level.ensures
-    (c.in_ok-node.ensures.rect ∙ c.in_ok-copy-2.ensures.ok ∙ c.rect-2.ensures.rect ∙ sym (ap (λ (q : TreeNode). q.rect) c.child-2.ensures)) c.in_ok-node.ensures.references c.in_ok-top.ensures.ok
-    (made ∙ ap (λ l. l ++ c.in_ok-root.root ∷ []) c.in_ok-with_slot.ensures.ok))
+facts c =
+    let root = c.in_ok-root.root in
+    let whole : Reference ℕ = record { rect = root.rect; child = c.len-number.result } in
+    let at_root = c.at.ensures ∙ ap Some (sym c.in_ok-root.ensures.ok) in
+    weaker c.with_last.result (λ s. s ≡ c.in_ok-with_slot.field-0 ++ root ∷ []) (IsRaised c.args.nodes)
+    (λ s made. is_raised c.args.nodes c.requires root at_root root.rect c.len-number.result (whole ∷ []) refl c.len-number.ensures
+    refl (one_tiles whole (whole ∷ []) refl) (one_inside whole (whole ∷ []) refl) (λ outer lies. one_meets outer whole (whole ∷ []) (c.requires.areas 0 root at_root) lies refl)
+    root.level root.rect (whole ∷ []) c.in_ok-top.top s refl refl refl c.in_ok-top.ensures.ok
+    (made ∙ ap (λ l. l ++ root ∷ []) c.in_ok-with_slot.ensures.ok))
     c.with_last.ensures.ok
 
 pub returns-clause-tree : goal.returns-clause-tree

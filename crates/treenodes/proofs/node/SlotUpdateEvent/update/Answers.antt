@@ -7,4 +7,4 @@ returns-in-Some-clause-ok c = put_shown c.put.result c.self.inside.level c.in-So
 
 pub returns-clause-ok : goal.returns-clause-ok
 returns-clause-ok c =
-    put_copied c.self.inside.level c.current.result.now c.in_ok-copy.field-0 (arc_value c.in_ok-self-inside.field-0) (arc_value c.self.inside.child) c.put-2.new.self c.args.self.now c.args.event c.self.view_is c.current.ensures c.in_ok-copy.ensures.ok c.in_ok-put.ensures.ok c.in_ok-self-inside.ensures.ok
+    put_copied c.self.inside.level c.current.result.now (arc_value c.in_ok-self-inside.field-0) (arc_value c.self.inside.child) c.in_ok-child.child c.args.self.now c.args.event c.self.view_is c.current.ensures c.in_ok-child.ensures.ok c.in_ok-self-inside.ensures.ok
