@@ -16,6 +16,7 @@ use Rattle.journal.specs.declared.entry.Entry.{Entry}
 use Rattle.journal.specs.declared.entry.Entry.TheVariants.{Begin, Commit, Split, Install}
 use Rattle.journal.specs.Entries.{Entries, log, has_entry_of}
 use Rattle.journal.specs.Legal.{IsLegal}
+use Rattle.book.specs.declared.book.Outcomes.{Outcomes}
 
 -- what was committed, and the entries, the newest first
 pub record BookState : Type 0 where
@@ -71,6 +72,10 @@ pub record IsInstallEntry (packed : Packed) (old new : TreeState) (e : Entry) : 
   pub done : Bool
   pub entry_is : e ≡ Install packed.node.rect packed.bytes done
   pub installed : IsInstalled done old new packed
+
+-- the entry of a step that is done or not
+abbrev pub entry_of : Outcomes → Bool → Entry
+entry_of outcomes done = if done then outcomes.done.0 else outcomes.left.0
 
 -- no refusal but want of room in the journal or in memory
 abbrev pub OnlyRoom : {T : Type 0} → Result T Refusal → Type 0

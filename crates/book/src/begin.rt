@@ -1,13 +1,16 @@
 //! A begin.
 ghost use Rattle.std.specs.Prelude.{◌≡◌, ◌<◌, [], Err, IfOk, OnErr, length};
 ghost use Rattle.values.specs.Memory.{OnlyMemory};
+ghost use Rattle.journal.specs.declared.entry.Entry.TheVariants.{Begin};
 ghost use Rattle.book.specs.Book.{Adds, IsBook, OnlyRoom, begin_entry, begun_now, most_entries};
 
 use crate::book::{Book, make_room, twice};
 use growlog::StoreName;
-use journal::{Begun, Entry, Receipt};
+use journal::{Begun, Entry, Receipt, SharedEntry};
+use std::alloc::Global;
 use transaction::OpenTransaction;
-use values::Refusal;
+use validation::Engine;
+use values::{Mem, Refusal};
 
 /// A transaction that begins: what its session keeps of the begin, the begin's receipt, and the transaction.
 #[derive(Drop)]
@@ -42,14 +45,8 @@ impl<J: StoreName> Book<J> {
         } else {
             0
         };
-        let transaction = OpenTransaction::begin(self.alloc, self.engine.begin()?)?;
-        let view = self.engine.begin()?;
-        let entry = Entry::Begin {
-            session,
-            earlier,
-            view,
-        };
-        let (entry, kept) = twice(self.alloc, entry)?;
+        let (entry, kept) = begin_entry(self.alloc, &self.engine, session, earlier)?;
+        let transaction = opened(self.alloc, &self.engine)?;
         let receipt = self.journal.push(entry, kept);
         let begun = Begun {
             number: receipt.number,
@@ -62,4 +59,32 @@ impl<J: StoreName> Book<J> {
             transaction,
         })
     }
+}
+
+/// The entry of a begin, twice.
+fn begin_entry(
+    alloc: Global,
+    engine: &Engine,
+    session: u8,
+    earlier: u64,
+) -> Mem<(SharedEntry, SharedEntry)>
+    ensures is { IfOk result (λ pair. pair.0 ≡ Begin session earlier engine.now) }
+    ensures twice { IfOk result (λ pair. pair.1 ≡ Begin session earlier engine.now) }
+    ensures memory { OnlyMemory result }
+{
+    let view = engine.begin()?;
+    let entry = Entry::Begin {
+        session,
+        earlier,
+        view,
+    };
+    twice(alloc, entry)
+}
+
+/// A transaction that sees all that was committed.
+fn opened(alloc: Global, engine: &Engine) -> Mem<OpenTransaction>
+    ensures ok { IfOk result (λ o. o ≡ record { view = engine.now; writes = [] }) }
+    ensures memory { OnlyMemory result }
+{
+    OpenTransaction::begin(alloc, engine.begin()?)
 }

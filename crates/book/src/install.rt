@@ -1,11 +1,11 @@
 //! An install of a packed node, which changes nothing that was committed.
-ghost use Rattle.std.specs.Prelude.{◌≡◌, ◌<◌, Err, IfOk, OnErr, length};
+ghost use Rattle.std.specs.Prelude.{◌≡◌, ◌<◌, Bool, Err, IfOk, OnErr, length};
 ghost use Rattle.values.specs.Memory.{OnlyMemory};
 ghost use Rattle.tsbtree.specs.Growth.{HoldsSame};
 ghost use Rattle.journal.specs.declared.entry.Entry.TheVariants.{Install};
-ghost use Rattle.book.specs.Book.{Adds, IsBook, IsInstallEntry, OnlyRoom, most_entries};
+ghost use Rattle.book.specs.Book.{Adds, IsBook, IsInstallEntry, OnlyRoom, entry_of, most_entries};
 
-use crate::book::{Book, make_room, twice};
+use crate::book::{Book, Outcomes, make_room, note, twice};
 use growlog::StoreName;
 use journal::{Entry, Receipt, SharedEntry};
 use std::alloc::Global;
@@ -27,16 +27,22 @@ impl<J: StoreName> Book<J> {
         ensures refused { OnErr result (self.new ≡ self.old) }
     {
         make_room(&mut self.journal)?;
-        let (done, done_kept) = install_entry(self.alloc, &packed, true)?;
-        let (left, left_kept) = install_entry(self.alloc, &packed, false)?;
-        // Which entry it is can be told only after the install, and then no memory is taken.
+        let outcomes = install_outcomes(self.alloc, &packed)?;
         let is_done = self.engine.install(packed)?;
-        Ok(if is_done {
-            self.journal.push(done, done_kept)
-        } else {
-            self.journal.push(left, left_kept)
-        })
+        Ok(note(&mut self.journal, outcomes, is_done))
     }
+}
+
+/// The entries of an install.
+fn install_outcomes(alloc: Global, packed: &Packed) -> Mem<Outcomes>
+    ensures are { IfOk result (λ o. (done : Bool) →
+        entry_of o done ≡ Install packed.now.node.rect packed.now.bytes done) }
+    ensures twice { IfOk result (λ o. (o.done.1 ≡ o.done.0) × (o.left.1 ≡ o.left.0)) }
+    ensures memory { OnlyMemory result }
+{
+    let done = install_entry(alloc, packed, true)?;
+    let left = install_entry(alloc, packed, false)?;
+    Ok(Outcomes { done, left })
 }
 
 /// The entry of an install, twice.

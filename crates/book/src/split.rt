@@ -1,11 +1,11 @@
 //! A split of a node, which changes nothing that was committed.
-ghost use Rattle.std.specs.Prelude.{◌≡◌, ◌<◌, Err, IfOk, OnErr, length};
+ghost use Rattle.std.specs.Prelude.{◌≡◌, ◌<◌, Bool, Err, IfOk, OnErr, length};
 ghost use Rattle.values.specs.Memory.{OnlyMemory};
 ghost use Rattle.tsbtree.specs.Growth.{HoldsSame};
 ghost use Rattle.journal.specs.declared.entry.Entry.TheVariants.{Split};
-ghost use Rattle.book.specs.Book.{Adds, IsBook, IsSplitEntry, OnlyRoom, most_entries};
+ghost use Rattle.book.specs.Book.{Adds, IsBook, IsSplitEntry, OnlyRoom, entry_of, most_entries};
 
-use crate::book::{Book, make_room, twice};
+use crate::book::{Book, Outcomes, make_room, note, twice};
 use growlog::StoreName;
 use journal::{Entry, Receipt, SharedEntry};
 use std::alloc::Global;
@@ -27,16 +27,21 @@ impl<J: StoreName> Book<J> {
         ensures refused { OnErr result (self.new ≡ self.old) }
     {
         make_room(&mut self.journal)?;
-        let (done, done_kept) = split_entry(self.alloc, &cut, true)?;
-        let (left, left_kept) = split_entry(self.alloc, &cut, false)?;
-        // Which entry it is can be told only after the split, and then no memory is taken.
+        let outcomes = split_outcomes(self.alloc, &cut)?;
         let is_done = self.engine.split(&cut)?;
-        Ok(if is_done {
-            self.journal.push(done, done_kept)
-        } else {
-            self.journal.push(left, left_kept)
-        })
+        Ok(note(&mut self.journal, outcomes, is_done))
     }
+}
+
+/// The entries of a split.
+fn split_outcomes(alloc: Global, cut: &Cut) -> Mem<Outcomes>
+    ensures are { IfOk result (λ o. (done : Bool) → entry_of o done ≡ Split cut.now done) }
+    ensures twice { IfOk result (λ o. (o.done.1 ≡ o.done.0) × (o.left.1 ≡ o.left.0)) }
+    ensures memory { OnlyMemory result }
+{
+    let done = split_entry(alloc, cut, true)?;
+    let left = split_entry(alloc, cut, false)?;
+    Ok(Outcomes { done, left })
 }
 
 /// The entry of a split, twice.
