@@ -1,9 +1,9 @@
 -- Unpacked data nodes of a tree start apart.
-use Rattle.std.proofs.Common.{◌≡◌, ℕ, ◌+◌, ◌-◌, ◌<◌, ◌≤◌, Bool, true, false, List, [], ◌∷◌, ◌++◌, length, get_or, Some, None, refl, sym, ap, subst, ◌∙◌, inl, inr, arith}
+use Rattle.std.proofs.Common.{◌≡◌, ℕ, ◌+◌, ◌<◌, true, List, [], ◌∷◌, ◌++◌, length, get_or, None, refl, sym, ap, subst, ◌∙◌, inl, inr, arith}
 use Rattle.std.specs.Prelude.{◌&&◌, is_some, is_none}
 use Rattle.std.specs.List.Sorted.{IsStrictlySortedBy}
 use Rattle.std.specs.FinMap.{nat_cmp-IsAntisymmetric, slice_cmp-IsAntisymmetric}
-use Rattle.std.specs.Ordering.{nat_cmp, ordering_then, ordering_reverse, is_lt}
+use Rattle.std.specs.Ordering.{nat_cmp, ordering_then}
 use Rattle.std.specs.declared.cmp.Ordering.{Ordering}
 use Rattle.std.specs.declared.cmp.Ordering.TheVariants.{Less, Equal, Greater}
 use Rattle.std.proofs.lemmas.Bool.{and_from, and_parts, cases_lt, leb-true}
@@ -11,12 +11,12 @@ use Rattle.std.proofs.lemmas.List.{get_or_append_left, get_or_push, length_push}
 use Rattle.std.proofs.lemmas.Map.Keys.{Less-from_sorted, sorted_from_all_adjacent}
 use Rattle.values.specs.Commits.{max_instant}
 use Rattle.values.specs.Events.{bytes_cmp}
-use Rattle.keyrange.specs.Rect.{Area, Common, IsArea, has_point}
+use Rattle.keyrange.specs.Rect.{Area, Common, IsArea}
 use Rattle.keyrange.specs.Range.{is_key_in, is_time_in}
 use Rattle.keyrange.proofs.RectInside.{facts_of, first_instant_in, first_key_in}
 use Rattle.treenodes.specs.Node.{Content, Events, References, TreeNode, IsAt}
 use Rattle.treenodes.specs.Tree.{HasContent, IsTree}
-use Rattle.treenodes.specs.Backlog.{IsWaiting, is_data, is_unpacked, start_cmp}
+use Rattle.treenodes.specs.Backlog.{IsWaiting, is_data, start_cmp}
 use Rattle.treenodes.proofs.BacklogOrder.{start_total}
 use Rattle.treenodes.proofs.NodeNumbers.{one_at}
 

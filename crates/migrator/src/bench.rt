@@ -69,12 +69,23 @@ pub(crate) fn work<N: RoundName, R: Wait, G: Gate>(
     bench: Bench<N>,
 ) {
     for task in bench.tasks.iter(rt) {
-        let answer = answer(rt, alloc, gate, bench.who, task);
-        let goes_on = answer.is_ok();
-        if bench.answers.send(rt, answer).is_err() || !goes_on {
+        if !take(rt, alloc, gate, &bench, task) {
             return;
         }
     }
+}
+
+/// Answers a task, and says whether the worker goes on.
+fn take<N: RoundName, R: Wait, G: Gate>(
+    rt: &R,
+    alloc: Global,
+    gate: &G,
+    bench: &Bench<N>,
+    task: Task<N>,
+) -> bool {
+    let answer = answer(rt, alloc, gate, bench.who, task);
+    let goes_on = answer.is_ok();
+    bench.answers.send(rt, answer).is_ok() && goes_on
 }
 
 /// Passes the gate, and packs.

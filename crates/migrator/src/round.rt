@@ -1,5 +1,5 @@
 //! A round under way.
-ghost use Rattle.std.specs.Prelude.{◌≡◌, ◌<◌, ◌∷◌, [], IfErr, IfOk, MatchOption, None, OnErr, OnOk, false, length, map};
+ghost use Rattle.std.specs.Prelude.{◌≡◌, ◌<◌, ◌++◌, ◌∷◌, [], IfErr, IfOk, MatchOption, None, OnErr, OnOk, Some, false, length, map};
 ghost use Rattle.migrator.specs.Round.{IsOver, IsPart, IsUnderWay, IsWhole};
 
 use crate::asked::Asked;
@@ -52,11 +52,22 @@ impl<J: StoreName> Round<J> {
         let Some(job) = find_job(view, self.after.as_ref())? else {
             return Ok(None);
         };
-        let rect = job.rect().copy()?;
-        let after = job.rect().copy()?;
-        self.asked.push(rect)?;
-        self.after = Some(after);
+        self.count(job.rect())?;
         Ok(Some(Task::new(job)))
+    }
+
+    /// Counts the node of a rectangle as asked for.
+    fn count(&mut self, rect: &Rect) -> Result<(), Cause>
+        ensures asked { OnOk result (self.new.asked ≡ self.old.asked ++ rect.now ∷ []) }
+        ensures after { OnOk result (self.new.after ≡ Some rect.now) }
+        ensures receipts { self.new.receipts ≡ self.old.receipts }
+        ensures refused { OnErr result (self.new ≡ self.old) }
+    {
+        let asked = rect.copy()?;
+        let after = rect.copy()?;
+        self.asked.push(asked)?;
+        self.after = Some(after);
+        Ok(())
     }
 
     /// Asks a worker for the next node that the view shows unpacked, and says whether there is one.

@@ -1,7 +1,12 @@
 //! The store: the book under its lock.
 ghost use Rattle.std.specs.Prelude.{◌≡◌, ◌≢◌, ◌<◌, ◌≤◌, ◌⊎◌, All, Err, IfErr, IfOk, IsPermutation, IsSome, None, OnErr, Some, length, map};
+ghost use Rattle.values.specs.Events.{AreKeysIn};
+ghost use Rattle.values.specs.Log.{Changes};
 ghost use Rattle.values.specs.Memory.{OnlyMemory};
+ghost use Rattle.values.specs.Tables.{Schema as Tables};
 ghost use Rattle.histories.specs.Misfit.{max_session};
+ghost use Rattle.staging.specs.Own.{net_over};
+ghost use Rattle.staging.specs.View.{Holds};
 ghost use Rattle.journal.specs.Entries.{entry_at, numbers};
 ghost use Rattle.book.specs.Book.{IsBook, OnlyRoom};
 ghost use Rattle.sessions.specs.Store.{IsBegun, IsCommitted, IsInstallOf, IsSplitOf, OnlyRoomOrNone};
@@ -12,8 +17,10 @@ use book::{Book, Closed, Opening};
 use growlog::{NewLog, StoreName};
 use journal::{Begun, Receipt, SharedEntry};
 use rows::{Instant, Mem, Refusal, Schema};
+use staging::Net;
 use std::alloc::Global;
 use std::sync::{Mutex, Wait};
+use transaction::OpenTransaction;
 use validation::{Cut, Packed};
 
 /// A store round which many threads run sessions. What its calls say they say if they return.
@@ -29,6 +36,21 @@ pub struct LockedStore<J: StoreName> {
 pub struct Unclosed<J: StoreName> {
     pub store: LockedStore<J>,
     pub receipts: Vec<Receipt<J>>,
+}
+
+/// The net changes of a transaction, twice.
+fn nets(transaction: &OpenTransaction) -> Mem<(Net, Net)>
+    ensures ok { IfOk result (λ nets. (schema : Tables) (m : Changes)
+        → Holds schema transaction.now.view m → AreKeysIn schema transaction.now.writes
+        → nets.0 ≡ net_over m transaction.now.writes) }
+    ensures keys { IfOk result (λ nets. (schema : Tables)
+        → AreKeysIn schema transaction.now.writes → AreKeysIn schema nets.0) }
+    ensures twice { IfOk result (λ nets. nets.1 ≡ nets.0) }
+    ensures err { OnlyMemory result }
+{
+    let net = transaction.net()?;
+    let changes = net.copy()?;
+    Ok((net, changes))
 }
 
 impl<J: StoreName> LockedStore<J> {
@@ -100,8 +122,7 @@ impl<J: StoreName> LockedStore<J> {
         let Some(running) = &session.running else {
             return Err(Refusal::NoTransaction);
         };
-        let net = running.transaction.net()?;
-        let changes = net.copy()?;
+        let (net, changes) = nets(&running.transaction)?;
         let begun = running.begun;
         let receipt = self
             .book
