@@ -25,12 +25,22 @@ pub struct MigrateFault<J: StoreName> {
 }
 
 impl From<AllocError> for Cause {
+    ghost use Rattle.std.specs.Prelude.{◌≡◌};
+    ghost use Rattle.migrator.specs.declared.fault.Cause.TheVariants.{Memory};
+
+    ghost from_gives = { λ _ cause. cause ≡ Memory };
+
     fn from(_: AllocError) -> Cause {
         Cause::Memory
     }
 }
 
 impl From<Refusal> for Cause {
+    ghost use Rattle.std.specs.Prelude.{◌≡◌};
+    ghost use Rattle.migrator.specs.Fault.{cause_of};
+
+    ghost from_gives = { λ refusal cause. cause ≡ cause_of refusal };
+
     fn from(refusal: Refusal) -> Cause {
         match refusal {
             Refusal::Memory => Cause::Memory,
