@@ -40,7 +40,7 @@ pub fn load_into<J: StoreName, R: Wait>(
     }
     let mut session = store.session(alloc, 0)?;
     let begun = store.begin(rt, &mut session)?;
-    load_begun(rt, alloc, store, session, begun, table, rows)
+    load_begun(rt, alloc, store, &mut session, begun, table, rows)
 }
 
 /// Inserts rows in a transaction that has just begun, and commits it.
@@ -48,17 +48,16 @@ fn load_begun<J: StoreName, R: Wait>(
     rt: &R,
     alloc: Global,
     store: &LockedStore<J>,
-    session: Session,
+    session: &mut Session,
     begun: Receipt<J>,
     table: u8,
     rows: &[Row],
 ) -> Result<Loaded<J>, Refusal>
-    requires begun { IsBegun (unbegun J.schema) session begun.number begun.entry }
+    requires begun { IsBegun (unbegun J.schema) session.old begun.number begun.entry }
     ensures ok { IfOk result (λ l. IsLoadedBy J.schema table rows.now
         (map (λ r. record { number = r.number; entry = r.entry }) l.receipts.items) l.instant) }
     ensures err { IfErr result (IsUnloaded J.schema table rows.now) }
 {
-    let mut session = session;
     match session.insert(table, rows) {
         Ok(_) => commit_begun(rt, alloc, store, session, begun),
         Err(refusal) => Err(refusal),
@@ -70,18 +69,17 @@ fn commit_begun<J: StoreName, R: Wait>(
     rt: &R,
     alloc: Global,
     store: &LockedStore<J>,
-    session: Session,
+    session: &mut Session,
     begun: Receipt<J>,
 ) -> Result<Loaded<J>, Refusal>
-    requires tables { session.schema ≡ J.schema }
-    requires open { IsSome session.transaction }
-    ensures ok { IfOk result (λ l. HasEnded session
+    requires tables { session.old.schema ≡ J.schema }
+    requires open { IsSome session.old.transaction }
+    ensures ok { IfOk result (λ l. HasEnded session.old
         (record { number = begun.number; entry = begun.entry })
         (map (λ r. record { number = r.number; entry = r.entry }) l.receipts.items) l.instant) }
     ensures err { OnlyRoomOrNone result }
 {
-    let mut session = session;
-    let done = store.commit(rt, &mut session, 0)?;
+    let done = store.commit(rt, session, 0)?;
     let instant = commit_instant(done.entry.entry())?;
     let receipts = pair(alloc, begun, done)?;
     Ok(Loaded { receipts, instant })

@@ -134,6 +134,11 @@ abbrev pub MigrateEnds : TreeState → List Given → Result Reply Refusal → T
 MigrateEnds view packed (Ok reply) = (reply ≡ Done) × PacksFirst view packed
 MigrateEnds view packed (Err refusal) = (packed ≡ []) × IsNoRoom refusal
 
+-- the service began, and this is the receipt
+abbrev pub HasServiceBegun : Schema → Given → Type 0
+HasServiceBegun schema receipt =
+    (changes : Changes) × (view : TreeState) × IsServiceBegin schema changes view receipt
+
 -- the service began, and what its begin shows was packed, or there was no room for it
 pub record Migrated (schema : Schema) (receipt : Given) (packed : List Given)
     (reply : Result Reply Refusal) : Type 0 where

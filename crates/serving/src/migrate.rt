@@ -1,7 +1,7 @@
 //! MIGRATE.
-ghost use Rattle.std.specs.Prelude.{◌≡◌};
+ghost use Rattle.std.specs.Prelude.{◌≡◌, IfErr, IfOk};
 ghost use Rattle.histories.specs.declared.step.Step.TheVariants.{Migrate};
-ghost use Rattle.serving.specs.Serving.{IsMigrated, IsPackedOf, IsStepped, given_of, reply_of};
+ghost use Rattle.serving.specs.Serving.{HasServiceBegun, IsMigrated, IsNoRoom, IsPackedOf, IsStepped, given_of, reply_of};
 
 use crate::answer::{Answer, Sent};
 use growlog::StoreName;
@@ -30,13 +30,9 @@ pub(crate) fn take_migrate<J: StoreName, R: Wait>(
 fn migrate<J: StoreName, R: Wait>(rt: &R, alloc: Global, store: &LockedStore<J>) -> Answer<J>
     ensures { IsMigrated J.schema (given_of result) (reply_of result) }
 {
-    let mut service = match store.session(alloc, 0) {
-        Ok(service) => service,
-        Err(refusal) => return Answer::refused(refusal),
-    };
-    let receipt = match store.begin(rt, &mut service) {
+    let receipt = match begin_service(rt, alloc, store) {
         Ok(receipt) => receipt,
-        Err(refusal) => return Answer::refused(refusal),
+        Err(refusal) => return Answer::refusal(refusal),
     };
     match pack_first(rt, alloc, store, &receipt) {
         Ok(install) => Answer {
@@ -48,6 +44,20 @@ fn migrate<J: StoreName, R: Wait>(rt: &R, alloc: Global, store: &LockedStore<J>)
     }
 }
 
+/// The receipt of a begin of the service's own session, whose view is in the receipt's entry.
+fn begin_service<J: StoreName, R: Wait>(
+    rt: &R,
+    alloc: Global,
+    store: &LockedStore<J>,
+) -> Result<Receipt<J>, Refusal>
+    ensures ok { IfOk result (λ r.
+        HasServiceBegun J.schema (record { number = r.number; entry = r.entry })) }
+    ensures err { IfErr result IsNoRoom }
+{
+    let mut service = store.session(alloc, 0)?;
+    store.begin(rt, &mut service)
+}
+
 /// Packs the first data node of history that the begin of a receipt shows unpacked, where there is one, and installs it.
 fn pack_first<J: StoreName, R: Wait>(
     rt: &R,
@@ -55,7 +65,8 @@ fn pack_first<J: StoreName, R: Wait>(
     store: &LockedStore<J>,
     receipt: &Receipt<J>,
 ) -> Result<Option<Receipt<J>>, Refusal>
-    ensures { IsPackedOf (λ r. record { number = r.number; entry = r.entry }) receipt.now.entry result }
+    ensures { IsPackedOf (λ r. record { number = r.number; entry = r.entry })
+        receipt.now.entry result }
 {
     let Entry::Begin { view, .. } = receipt.entry.entry() else {
         return Ok(None);
