@@ -11,7 +11,7 @@ use Rattle.values.specs.Events.{AreKeysIn, IsKeyIn}
 use Rattle.values.specs.declared.key.Point.{Point}
 use Rattle.std.proofs.lemmas.List.Elements.{All-nil}
 use Rattle.values.proofs.Now.{add_all-push}
-use Rattle.blocks.specs.Packed.{Packed}
+use Rattle.blocks.specs.PackedNode.{Packed}
 use Rattle.tsbtree.specs.View.{TreeState, last as view_last, IsEmpty}
 use Rattle.tsbtree.specs.Growth.{HoldsSame}
 use Rattle.staging.specs.View.{Holds}

@@ -5,7 +5,7 @@ use Rattle.values.specs.declared.refusal.Refusal.TheVariants.{JournalFull, Memor
 use Rattle.values.specs.Tables.{Schema}
 use Rattle.values.specs.Log.{Net, last, changes}
 use Rattle.values.specs.Commits.{outcome}
-use Rattle.blocks.specs.Packed.{Packed}
+use Rattle.blocks.specs.PackedNode.{Packed}
 use Rattle.tsbtree.specs.View.{TreeState, last as view_last}
 use Rattle.tsbtree.specs.Packing.{IsInstalled}
 use Rattle.staging.specs.View.{Holds}
@@ -16,7 +16,6 @@ use Rattle.journal.specs.declared.entry.Entry.{Entry}
 use Rattle.journal.specs.declared.entry.Entry.TheVariants.{Begin, Commit, Split, Install}
 use Rattle.journal.specs.Entries.{Entries, log, has_entry_of}
 use Rattle.journal.specs.Legal.{IsLegal}
-use Rattle.book.specs.declared.book.Outcomes.{Outcomes}
 
 -- what was committed, and the entries, the newest first
 pub record BookState : Type 0 where
@@ -72,10 +71,6 @@ pub record IsInstallEntry (packed : Packed) (old new : TreeState) (e : Entry) : 
   pub done : Bool
   pub entry_is : e ≡ Install packed.node.rect packed.bytes done
   pub installed : IsInstalled done old new packed
-
--- the entry of a step that is done or not
-abbrev pub entry_of : Outcomes → Bool → Entry
-entry_of outcomes done = if done then outcomes.done.0 else outcomes.left.0
 
 -- no refusal but want of room in the journal or in memory
 abbrev pub OnlyRoom : {T : Type 0} → Result T Refusal → Type 0

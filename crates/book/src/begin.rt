@@ -46,7 +46,7 @@ impl<J: StoreName> Book<J> {
             0
         };
         let (entry, kept) = begin_entry(self.alloc, &self.engine, session, earlier)?;
-        let transaction = opened(self.alloc, &self.engine)?;
+        let transaction = begin_transaction(self.alloc, &self.engine)?;
         let receipt = self.journal.push(entry, kept);
         let begun = Begun {
             number: receipt.number,
@@ -82,7 +82,7 @@ fn begin_entry(
 }
 
 /// A transaction that sees all that was committed.
-fn opened(alloc: Global, engine: &Engine) -> Mem<OpenTransaction>
+fn begin_transaction(alloc: Global, engine: &Engine) -> Mem<OpenTransaction>
     ensures ok { IfOk result (λ o. o ≡ record { view = engine.now; writes = [] }) }
     ensures memory { OnlyMemory result }
 {

@@ -1,12 +1,11 @@
 //! The book.
-ghost use Rattle.std.specs.Prelude.{◌≡◌, ◌≢◌, ◌<◌, ◌+◌, ◌∷◌, [], Bool, false, IfErr, IfOk, OnErr, OnOk, Err, length};
+ghost use Rattle.std.specs.Prelude.{◌≡◌, ◌<◌, [], Err, IfOk, OnOk, length};
 ghost use Rattle.values.specs.Memory.{OnlyMemory};
 ghost use Rattle.tsbtree.specs.View.{IsEmpty};
-ghost use Rattle.journal.specs.Entries.{has_ended};
-ghost use Rattle.book.specs.Book.{IsBook, OnlyRoom, entry_of, most_entries};
+ghost use Rattle.book.specs.Book.{IsBook, OnlyRoom, most_entries};
 
 use growlog::{NewLog, StoreName};
-use journal::{Entry, Journal, Receipt, SharedEntry};
+use journal::{Entry, Journal, SharedEntry};
 use std::alloc::Global;
 use std::marker::Model;
 use tsbtree::Tree;
@@ -31,7 +30,8 @@ impl<J: StoreName> Model for Book<J> {
 
     ghost view = { λ b. record { engine = b.engine; entries = b.journal.entries } };
 
-    ghost invariant = { λ b. IsBook J.schema (record { engine = b.engine; entries = b.journal.entries }) };
+    ghost invariant = { λ b.
+        IsBook J.schema (record { engine = b.engine; entries = b.journal.entries }) };
 }
 
 impl<J: StoreName> Book<J> {
@@ -77,35 +77,6 @@ pub(crate) fn make_room<J: StoreName>(journal: &mut Journal<J>) -> Result<(), Re
         return Err(Refusal::JournalFull);
     }
     journal.reserve()
-}
-
-/// The entries of a step that is done or not, each twice. Which of them stands is known only after the step, and then no
-/// memory is taken.
-#[derive(Drop)]
-pub(crate) struct Outcomes {
-    pub(crate) done: (SharedEntry, SharedEntry),
-    pub(crate) left: (SharedEntry, SharedEntry),
-}
-
-/// Adds the entry of a step, for which there is room.
-pub(crate) fn note<J: StoreName>(
-    journal: &mut Journal<J>,
-    outcomes: Outcomes,
-    is_done: bool,
-) -> Receipt<J>
-    requires room { 0 < journal.old.room }
-    requires done { outcomes.done.1 ≡ outcomes.done.0 }
-    requires left { outcomes.left.1 ≡ outcomes.left.0 }
-    requires fresh { (done : Bool) → has_ended (entry_of outcomes done ∷ journal.old.entries)
-        (length journal.old.entries + 1) ≡ false }
-    requires few { length journal.old.entries < most_entries }
-    ensures entries { journal.new.entries ≡ entry_of outcomes is_done ∷ journal.old.entries }
-    ensures number { result.number ≡ length journal.new.entries }
-    ensures entry { result.entry ≡ entry_of outcomes is_done }
-{
-    let Outcomes { done, left } = outcomes;
-    let (entry, kept) = if is_done { done } else { left };
-    journal.push(entry, kept)
 }
 
 /// An entry, of which the journal keeps one share and the receipt the other.

@@ -3,18 +3,20 @@ ghost use Rattle.std.specs.Prelude.{◌≡◌, ◌<◌, Bool, Err, IfOk, OnErr, 
 ghost use Rattle.values.specs.Memory.{OnlyMemory};
 ghost use Rattle.tsbtree.specs.Growth.{HoldsSame};
 ghost use Rattle.journal.specs.declared.entry.Entry.TheVariants.{Install};
-ghost use Rattle.book.specs.Book.{Adds, IsBook, IsInstallEntry, OnlyRoom, entry_of, most_entries};
+ghost use Rattle.book.specs.Book.{Adds, IsBook, IsInstallEntry, OnlyRoom, most_entries};
+ghost use Rattle.book.specs.Outcomes.{entry_of};
 
-use crate::book::{Book, Outcomes, make_room, note, twice};
+use crate::book::{Book, make_room, twice};
+use crate::outcomes::{Outcomes, note};
 use growlog::StoreName;
 use journal::{Entry, Receipt, SharedEntry};
 use std::alloc::Global;
-use validation::Packed;
+use validation::PackedNode;
 use values::{Mem, Refusal};
 
 impl<J: StoreName> Book<J> {
     /// Puts a block in the place of its node, where that is in the tree unpacked: whether it was is in the entry, beside the node's rectangle and the block's bytes. `JournalFull` where no more entries may stand. After a refusal nothing has changed.
-    pub fn install(&mut self, packed: Packed) -> Result<Receipt<J>, Refusal>
+    pub fn install(&mut self, packed: PackedNode) -> Result<Receipt<J>, Refusal>
         ensures entry { IfOk result (λ r.
             IsInstallEntry packed self.old.engine self.new.engine r.entry) }
         ensures adds { IfOk result (λ r. Adds r.entry r.number self.old self.new) }
@@ -34,7 +36,7 @@ impl<J: StoreName> Book<J> {
 }
 
 /// The entries of an install.
-fn install_outcomes(alloc: Global, packed: &Packed) -> Mem<Outcomes>
+fn install_outcomes(alloc: Global, packed: &PackedNode) -> Mem<Outcomes>
     ensures are { IfOk result (λ o. (done : Bool) →
         entry_of o done ≡ Install packed.now.node.rect packed.now.bytes done) }
     ensures twice { IfOk result (λ o. (o.done.1 ≡ o.done.0) × (o.left.1 ≡ o.left.0)) }
@@ -46,7 +48,7 @@ fn install_outcomes(alloc: Global, packed: &Packed) -> Mem<Outcomes>
 }
 
 /// The entry of an install, twice.
-fn install_entry(alloc: Global, packed: &Packed, done: bool) -> Mem<(SharedEntry, SharedEntry)>
+fn install_entry(alloc: Global, packed: &PackedNode, done: bool) -> Mem<(SharedEntry, SharedEntry)>
     ensures is { IfOk result (λ pair.
         pair.0 ≡ Install packed.now.node.rect packed.now.bytes done) }
     ensures twice { IfOk result (λ pair.

@@ -6,6 +6,7 @@ mod book;
 mod closing;
 mod commit;
 mod install;
+mod outcomes;
 mod split;
 
 pub use begin::Opening;

@@ -3,9 +3,11 @@ ghost use Rattle.std.specs.Prelude.{◌≡◌, ◌<◌, Bool, Err, IfOk, OnErr, 
 ghost use Rattle.values.specs.Memory.{OnlyMemory};
 ghost use Rattle.tsbtree.specs.Growth.{HoldsSame};
 ghost use Rattle.journal.specs.declared.entry.Entry.TheVariants.{Split};
-ghost use Rattle.book.specs.Book.{Adds, IsBook, IsSplitEntry, OnlyRoom, entry_of, most_entries};
+ghost use Rattle.book.specs.Book.{Adds, IsBook, IsSplitEntry, OnlyRoom, most_entries};
+ghost use Rattle.book.specs.Outcomes.{entry_of};
 
-use crate::book::{Book, Outcomes, make_room, note, twice};
+use crate::book::{Book, make_room, twice};
+use crate::outcomes::{Outcomes, note};
 use growlog::StoreName;
 use journal::{Entry, Receipt, SharedEntry};
 use std::alloc::Global;

@@ -1,5 +1,5 @@
 use Rattle.journal.specs.declared.entry.Entry.TheVariants.{Install}
-use Rattle.book.specs.Book.{entry_of}
+use Rattle.book.specs.Outcomes.{entry_of}
 use Rattle.book.proofs.Growing.{book, fresh_as, with_install}
 use Rattle.book.proofs.book.Book.install.Goals as goal
 

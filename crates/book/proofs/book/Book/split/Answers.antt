@@ -1,5 +1,5 @@
 use Rattle.journal.specs.declared.entry.Entry.TheVariants.{Split}
-use Rattle.book.specs.Book.{entry_of}
+use Rattle.book.specs.Outcomes.{entry_of}
 use Rattle.book.proofs.Growing.{fresh_as}
 use Rattle.book.proofs.book.Book.split.Goals as goal
 

@@ -1,8 +1,8 @@
 use Rattle.std.proofs.Common.{◌≡◌, ◌+◌, ◌∷◌, length, true, false, sym, subst}
 use Rattle.journal.specs.declared.entry.Entry.{Entry}
 use Rattle.journal.specs.Entries.{has_ended}
-use Rattle.book.proofs.book.note.Goals as goal
-use Rattle.book.proofs.book.note.Goals.{then-is_done, else-is_done}
+use Rattle.book.proofs.outcomes.note.Goals as goal
+use Rattle.book.proofs.outcomes.note.Goals.{then-is_done, else-is_done}
 
 pub push-requires-clause-fresh : goal.push-requires-clause-fresh
 push-requires-clause-fresh g c κs h =
