@@ -100,11 +100,11 @@ fn events_of(
             if let Some(node) = entry.node() {
                 return node.events_in(alloc, range, from, to);
             }
-            entries.put(corner, Entry::unpacked(alloc, block)?)?;
+            entries.put(corner, Entry::unpack(alloc, block)?)?;
             return block.events_in(alloc, range, from, to);
         }
     }
-    entries.put(corner, Entry::packed(block)?)?;
+    entries.put(corner, Entry::new(block)?)?;
     block.events_in(alloc, range, from, to)
 }
 

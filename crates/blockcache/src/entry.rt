@@ -17,7 +17,7 @@ pub struct Entry {
 
 impl Model for Entry {
     ghost use Rattle.std.specs.Prelude.{◌≡◌, IfSome};
-    ghost use Rattle.blocks.specs.Packed.{Packed};
+    ghost use Rattle.blocks.specs.PackedNode.{Packed};
 
     ghost Value = { Packed };
 
@@ -28,7 +28,7 @@ impl Model for Entry {
 
 impl Entry {
     /// The entry of a block that is not unpacked. It shares the block's bytes.
-    pub(crate) fn packed(block: &Block) -> Mem<Entry>
+    pub(crate) fn new(block: &Block) -> Mem<Entry>
         ensures ok { IfOk result (λ e. e ≡ block.now) }
         ensures err { OnlyMemory result }
     {
@@ -37,7 +37,7 @@ impl Entry {
     }
 
     /// The entry of a block that is unpacked. It shares the block's bytes.
-    pub(crate) fn unpacked(alloc: Global, block: &Block) -> Mem<Entry>
+    pub(crate) fn unpack(alloc: Global, block: &Block) -> Mem<Entry>
         ensures ok { IfOk result (λ e. e ≡ block.now) }
         ensures err { OnlyMemory result }
     {

@@ -3,7 +3,7 @@ use Rattle.std.proofs.Common.{◌≡◌, ◌↔◌, ℕ, List, Bool, IsTrue, sym
 use Rattle.keyrange.specs.Rect.{Area}
 use Rattle.datanode.specs.Node.{Node}
 use Rattle.blocks.specs.Block.{IsBlockOf}
-use Rattle.blocks.specs.Packed.{Packed, events_taken, events_at, events_of_block, packed_of, IsPacked}
+use Rattle.blocks.specs.PackedNode.{Packed, events_taken, events_at, events_of_block, packed_of, IsPacked}
 use Rattle.blocks.proofs.BlockReads.{block_reads, one_node, one_block}
 use Rattle.blocks.proofs.InPlaceFinds.{count_of_block}
 

@@ -6,4 +6,4 @@ pub mod Gather
 pub mod InPlace
 pub mod Listing
 pub mod Laws
-pub mod Packed
+pub mod PackedNode

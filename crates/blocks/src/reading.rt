@@ -3,7 +3,7 @@ ghost use Rattle.std.specs.Prelude.{◌≡◌, IfOk};
 ghost use Rattle.values.specs.Memory.{OnlyMemory};
 ghost use Rattle.eventlist.specs.Listing.{events_in};
 
-use crate::packed::Block;
+use crate::packed_node::Block;
 use keyrange::KeyRange;
 use std::alloc::Global;
 use values::{Instant, Mem, SharedEvent};

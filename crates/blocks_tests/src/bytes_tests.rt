@@ -121,7 +121,7 @@ fn nothing_may_follow_a_block(rt: HostRuntime) {
 
 /// The block with carried events with parts of it in another place: from the first, from the second and from the third
 /// place on.
-fn turned(rt: &impl Abort, alloc: Global, places: (usize, usize, usize)) -> Vec<u8> {
+fn exchange_parts(rt: &impl Abort, alloc: Global, places: (usize, usize, usize)) -> Vec<u8> {
     let (one, two, three) = places;
     let block = carrying_block();
     let mut bytes = Vec::new(alloc);
@@ -137,7 +137,7 @@ fn turned(rt: &impl Abort, alloc: Global, places: (usize, usize, usize)) -> Vec<
 
 /// Whether the block turned so is as long as it was, and no block.
 fn is_broken(rt: &impl Abort, alloc: Global, places: (usize, usize, usize)) -> bool {
-    let bytes = turned(rt, alloc, places);
+    let bytes = exchange_parts(rt, alloc, places);
     bytes.len() == carrying_block().len() && is_block(rt, alloc, bytes.as_slice()).is_none()
 }
 

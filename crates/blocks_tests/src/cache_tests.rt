@@ -27,7 +27,7 @@ fn keys_from(rt: &impl Abort, alloc: Global, lower: u8) -> KeyRange {
 }
 
 /// The instant of the one event that is given of a block; None where there is not one.
-fn given<B: Blocks>(
+fn event_between<B: Blocks>(
     blocks: &mut B,
     block: &Block,
     range: &KeyRange,
@@ -44,7 +44,7 @@ fn given<B: Blocks>(
 }
 
 /// The instant of the one event of keys from a byte on that is given of a block: the block is made anew.
-fn asked<B: Blocks>(
+fn event_of_block<B: Blocks>(
     rt: &impl Abort,
     blocks: &mut B,
     alloc: Global,
@@ -54,7 +54,7 @@ fn asked<B: Blocks>(
 ) -> Option<Instant> {
     let block = block_of(rt, alloc, from, to, at);
     let range = keys_from(rt, alloc, lower);
-    given(blocks, &block, &range, since, u64::MAX)
+    event_between(blocks, &block, &range, since, u64::MAX)
 }
 
 /// How many of 17 blocks, asked for in order twice over, are answered by their own event.
@@ -62,7 +62,7 @@ fn count_own<B: Blocks>(rt: &impl Abort, blocks: &mut B, alloc: Global) -> usize
     let mut own = 0usize;
     for round in 0..34u8 {
         let at = round % 17 + 1;
-        if asked(rt, blocks, alloc, (at, at + 1, at), 0, 0) == Some(at as Instant) {
+        if event_of_block(rt, blocks, alloc, (at, at + 1, at), 0, 0) == Some(at as Instant) {
             own = own.saturating_add(1);
         }
     }
@@ -82,7 +82,7 @@ fn count_turns<B: Blocks>(rt: &impl Abort, blocks: &mut B, alloc: Global) -> usi
     let mut own = 0usize;
     for turn in 0..6u8 {
         let at = turn % 2 + 1;
-        if asked(rt, blocks, alloc, (1, 3, at), 0, 0) == Some(at as Instant) {
+        if event_of_block(rt, blocks, alloc, (1, 3, at), 0, 0) == Some(at as Instant) {
             own = own.saturating_add(1);
         }
     }
@@ -108,7 +108,7 @@ fn count_ranges<B: Blocks>(rt: &impl Abort, blocks: &mut B, alloc: Global) -> us
         (2, 0, None),
         (0, 5, Some(5)),
     ] {
-        if asked(rt, blocks, alloc, (5, 9, 5), lower, since) == expected {
+        if event_of_block(rt, blocks, alloc, (5, 9, 5), lower, since) == expected {
             right = right.saturating_add(1);
         }
     }

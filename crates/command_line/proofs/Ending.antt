@@ -10,7 +10,7 @@ use Rattle.command_line.specs.declared.words.Options.{Options}
 use Rattle.command_line.specs.declared.words.WordsFault.{WordsFault}
 use Rattle.command_line.specs.declared.fault.Fault.{Fault}
 use Rattle.command_line.specs.declared.fault.Fault.TheVariants.{Words, SchemaSyntax, BadTable, SchemaMemory, NoExport, Load, Read, Write, Socket, NotClosed, Memory}
-use Rattle.listening.specs.declared.connections.ListenFault.TheVariants as listen
+use Rattle.listening.specs.declared.connection.ListenFault.TheVariants as listen
 use Rattle.listening.specs.declared.server.ServerFault.{ServerFault}
 use Rattle.listening.specs.declared.server.ServerFault.TheVariants as server
 use Rattle.command_line.specs.Fault.{is_of_words, of_server}

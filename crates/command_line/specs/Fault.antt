@@ -4,9 +4,9 @@ use Rattle.scripts.specs.declared.script.RunFault.{RunFault}
 use Rattle.scripts.specs.declared.script.RunFault.TheVariants as run
 use Rattle.rows.specs.declared.schema_reading.SchemaFault.{SchemaFault}
 use Rattle.rows.specs.declared.schema_reading.SchemaFault.TheVariants as schema
-use Rattle.interchange.specs.declared.versions.ExportFault.{ExportFault}
-use Rattle.interchange.specs.declared.versions.ExportFault.TheVariants as export
-use Rattle.listening.specs.declared.connections.ListenFault.TheVariants as listen
+use Rattle.interchange.specs.declared.version.ExportFault.{ExportFault}
+use Rattle.interchange.specs.declared.version.ExportFault.TheVariants as export
+use Rattle.listening.specs.declared.connection.ListenFault.TheVariants as listen
 use Rattle.listening.specs.declared.server.ServerFault.{ServerFault}
 use Rattle.listening.specs.declared.server.ServerFault.TheVariants as server
 use Rattle.command_line.specs.declared.fault.Fault.{Fault}

@@ -9,12 +9,12 @@ ghost use Rattle.command_line.specs.Words.{Refuses, asked_of, faults};
 ghost use Rattle.command_line.specs.Program.{Halts, HaltsAt, HaltsMode, HaltsOn, HasAnswered, HasDone, HasRun, HasRunAll, HasRunMode, HasRunOn, IsComplete, IsDone, IsFaulty, IsRefused, IsStuck, IsUnanswered, IsUnshown, Leaves};
 ghost use Rattle.command_line.specs.Fault.{is_of_words, outcome_of};
 
+use crate::export::{export_number, export_table};
 use crate::fault::{FAULT, Fault, WORDS, run_fault, tell};
 use crate::load::load;
 use crate::output::put;
 use crate::schema_file::schema_of;
 use crate::server::run_server;
-use crate::table_export::{export_number, export_table};
 use crate::words;
 use crate::words::{Mode, Options, WordsFault};
 use clap::error::ErrorKind;

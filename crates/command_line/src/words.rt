@@ -136,7 +136,7 @@ fn bare<'a>(alloc: Global) -> Command<'a>
 }
 
 /// The command with the options of what is read.
-fn reading<'a>(alloc: Global) -> Result<Command<'a>, AllocError>
+fn reading_command<'a>(alloc: Global) -> Result<Command<'a>, AllocError>
     ensures { IfOk result (λ c. app_of c ≡ reading) }
 {
     bare(alloc)
@@ -145,12 +145,12 @@ fn reading<'a>(alloc: Global) -> Result<Command<'a>, AllocError>
 }
 
 /// The same with the options of a server.
-fn serving<'a>(alloc: Global) -> Result<Command<'a>, AllocError>
+fn serving_command<'a>(alloc: Global) -> Result<Command<'a>, AllocError>
     ensures { IfOk result (λ c. app_of c ≡ serving) }
 {
     let listen = "Serves sessions over TCP at this port of 127.0.0.1; 0: one that is free";
     let sessions = "Ends when this many connections, 1 to 64, have come and ended";
-    reading(alloc)?
+    reading_command(alloc)?
         .arg(option(alloc, "listen", "PORT", listen))?
         .arg(option(alloc, "sessions", "NUMBER", sessions))
 }
@@ -160,7 +160,7 @@ fn tsvd<'a>(alloc: Global) -> Result<Command<'a>, AllocError>
 {
     let load = "First loads the rows of this CSV file in one transaction";
     let export = "Last writes this table with all its versions as CSV";
-    serving(alloc)?
+    serving_command(alloc)?
         .arg(option(alloc, "load", "TABLE=FILE", load))?
         .arg(option(alloc, "export", "TABLE", export))
 }
@@ -178,7 +178,7 @@ fn texts_of<'a>(matches: &ArgMatches<'a>) -> Texts<'a>
     }
 }
 
-fn refused(error: clap::Error) -> WordsFault
+fn fault_from(error: clap::Error) -> WordsFault
     ensures { (words : List Text) → HasKind (faults words) error → Refuses words result }
 {
     match error.kind() {
@@ -284,6 +284,6 @@ pub fn words<'a, S: AsStr>(alloc: Global, words: &'a [S]) -> Result<Options<'a>,
     };
     match command.try_get_matches_from(words) {
         Ok(matches) => options_of(texts_of(&matches)),
-        Err(error) => Err(refused(error)),
+        Err(error) => Err(fault_from(error)),
     }
 }

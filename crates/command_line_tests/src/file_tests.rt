@@ -114,7 +114,7 @@ fn a_text_that_is_no_schema_is_told(rt: HostRuntime) {
 }
 
 /// A schema in a text of so many bytes: the sample, and spaces.
-fn padded<R: AllocGlobal + Abort>(rt: &R, length: usize) -> Vec<u8> {
+fn padded_schema<R: AllocGlobal + Abort>(rt: &R, length: usize) -> Vec<u8> {
     let text = SAMPLE.as_bytes().to_vec(rt.alloc());
     let mut text = text.expect(rt, "there is memory");
     for _ in text.len()..length {
@@ -132,7 +132,7 @@ fn a_schema_has_at_most_65536_bytes(rt: HostRuntime) {
         (200_000, FAULT, "", "schema: syntax at 65536\n"),
     ];
     for (length, status, out, err) in cases {
-        let schema = file(&rt, "tsvd-long", padded(&rt, length).as_slice());
+        let schema = file(&rt, "tsvd-long", padded_schema(&rt, length).as_slice());
         let due = Due { status, out, err };
         assert!(rt;
             leaves_with(&rt, "--schema=", schema, None, "1: BEGIN\n", due),

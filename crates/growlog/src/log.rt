@@ -91,7 +91,7 @@ impl<E> NewLog<E> {
     }
 
     /// The log of a store, and the prefix without entries.
-    pub fn named<J: StoreName>(self) -> (Log<E, J>, Prefix<E, J>)
+    pub fn for_store<J: StoreName>(self) -> (Log<E, J>, Prefix<E, J>)
         requires { self.seen.book ≡ J.book }
         ensures { result.1 ≡ [] }
     {

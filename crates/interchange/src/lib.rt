@@ -5,9 +5,9 @@ mod field;
 mod load;
 mod record;
 mod report;
-mod versions;
+mod version;
 
 pub use field::whole_within;
 pub use load::load_rows;
 pub use report::{loaded_line, numbered_line, put_whole};
-pub use versions::{ExportFault, export};
+pub use version::{ExportFault, export};

@@ -2,7 +2,7 @@
 use Rattle.std.specs.Prelude.{MatchOption}
 use Rattle.std.proofs.Common.{◌≡◌, Bool, true, false, Option, Some, None, slice_set, sym, refl, subst, inl, inr}
 use Rattle.blocks.specs.Block.{block_of}
-use Rattle.blocks.specs.Packed.{Packed}
+use Rattle.blocks.specs.PackedNode.{Packed}
 use Rattle.datanode.specs.Node.{Node}
 use Rattle.treenodes.specs.Node.{TreeNode, IsAt, data_node, packed_node}
 use Rattle.treenodes.specs.Backlog.{IsWaiting, IsFirstWaiting}

@@ -42,7 +42,7 @@ impl<J: StoreName> Journal<J> {
         requires { opened.seen.book ≡ J.book }
         ensures { result.entries ≡ [] }
     {
-        let (log, prefix) = opened.named::<J>();
+        let (log, prefix) = opened.for_store::<J>();
         Journal {
             entries: Vec::new(alloc),
             ended: Vec::new(alloc),
@@ -115,7 +115,8 @@ impl<J: StoreName> Journal<J> {
     pub fn push(&mut self, entry: SharedEntry, kept: SharedEntry) -> Receipt<J>
         requires room { 0 < self.old.room }
         requires same { kept ≡ entry }
-        requires fresh { has_ended (entry ∷ self.old.entries) (length self.old.entries + 1) ≡ false }
+        requires fresh { has_ended (entry ∷ self.old.entries)
+            (length self.old.entries + 1) ≡ false }
         requires few { length self.old.entries < 2 ^ 62 }
         ensures entries { self.new.entries ≡ entry ∷ self.old.entries }
         ensures number { result.number ≡ length self.new.entries }

@@ -3,7 +3,7 @@
 
 mod always_open;
 mod clock;
-mod connections;
+mod connection;
 mod loading;
 mod migration;
 mod server;
@@ -11,7 +11,7 @@ mod socket;
 
 pub use always_open::AlwaysOpen;
 pub use clock::Microseconds;
-pub use connections::{ListenFault, listen};
+pub use connection::{ListenFault, listen};
 pub use loading::{Loaded, load_into};
 pub use server::{Plan, ServerFault, TableRows, serve};
 pub use socket::bind;

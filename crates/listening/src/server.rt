@@ -15,7 +15,7 @@ ghost use Rattle.serving.specs.Taken.{Given};
 ghost use Rattle.listening.specs.Server.{EndsAfter, HasFirst, HasListened, HasNoFirst, HasReported, HasServed, HasStopped, IsClosedWith, IsExportOf, IsOther, StopsListening, StopsLate, versions_text};
 
 use crate::always_open::AlwaysOpen;
-use crate::connections::{ListenFault, listen};
+use crate::connection::{ListenFault, listen};
 use crate::loading::load_into;
 use crate::socket::bind;
 use book::Closed;

@@ -49,7 +49,7 @@ where
 }
 
 /// How a server ended that loads Ann and Bea with these numbers, if any, and whether what it wrote is so.
-fn served<R>(
+fn serve_with_rows<R>(
     rt: &R,
     alloc: Global,
     numbers: Option<(i64, i64)>,
@@ -73,19 +73,19 @@ fn rows_are_loaded_before_a_server_listens(rt: HostRuntime) {
         "loaded 2 at 1\nlistening ",
         "\nclosed 2\nno,name,sys_start,sys_end\n1,Ann,1,forever\n2,Bea,1,forever\n",
     );
-    let found = served(&rt, rt.alloc(), Some((1, 2)), wanted);
+    let found = serve_with_rows(&rt, rt.alloc(), Some((1, 2)), wanted);
     assert!(rt; found == (Some(true), true));
 }
 
 #[test]
 fn a_server_without_rows_has_no_entries(rt: HostRuntime) {
     let wanted = Wanted::Within("listening ", "\nclosed 0\nno,name,sys_start,sys_end\n");
-    let found = served(&rt, rt.alloc(), None, wanted);
+    let found = serve_with_rows(&rt, rt.alloc(), None, wanted);
     assert!(rt; found == (Some(true), true));
 }
 
 #[test]
 fn rows_with_one_key_are_refused_and_nothing_is_written(rt: HostRuntime) {
-    let found = served(&rt, rt.alloc(), Some((1, 1)), Wanted::Whole(""));
+    let found = serve_with_rows(&rt, rt.alloc(), Some((1, 1)), Wanted::Whole(""));
     assert!(rt; found == (Some(false), true));
 }

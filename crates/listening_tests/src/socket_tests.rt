@@ -122,7 +122,7 @@ where
 }
 
 /// Whether the first client is sent what is wanted, and whether the second is, and how many entries the store closes with.
-fn served<R, G>(
+fn serve_two_clients<R, G>(
     rt: &R,
     alloc: Global,
     gate: &G,
@@ -154,7 +154,7 @@ fn two_clients_are_sessions_of_one_store(rt: HostRuntime) {
         ),
         Wanted::Whole("rows 2\n(1, 'Ann')\n(2, 'Bea')\nE4 no transaction\n"),
     );
-    let found = served(&rt, rt.alloc(), &AlwaysOpen, Play::InTurn, wanted);
+    let found = serve_two_clients(&rt, rt.alloc(), &AlwaysOpen, Play::InTurn, wanted);
     assert!(rt; found == (true, true, 6));
 }
 
@@ -167,7 +167,7 @@ fn a_read_goes_on_while_another_commits(rt: HostRuntime) {
         Wanted::Whole("begun 100\nrows 1\n(1, 'Ann')\n"),
         Wanted::Within("begun 100\nupdated 1\ncommitted ", ""),
     );
-    let found = served(&rt, rt.alloc(), &gate, Play::Held, wanted);
+    let found = serve_two_clients(&rt, rt.alloc(), &gate, Play::Held, wanted);
     assert!(rt; found == (true, true, 5));
 }
 
@@ -177,7 +177,7 @@ fn a_round_packs_after_the_16th_commit_of_a_session(rt: HostRuntime) {
         ANY,
         Wanted::Whole("rows 1\n(1, 'Eve')\nE4 no transaction\n"),
     );
-    let found = served(&rt, rt.alloc(), &AlwaysOpen, Play::Busy, wanted);
+    let found = serve_two_clients(&rt, rt.alloc(), &AlwaysOpen, Play::Busy, wanted);
     // 17 transactions, the split, the query, and the round's begin and install.
     assert!(rt; found == (true, true, 2 * 17 + 1 + 1 + 2));
 }
@@ -188,7 +188,7 @@ fn a_client_that_breaks_off_harms_no_other(rt: HostRuntime) {
         ANY,
         Wanted::Whole("rows 1\n(1, 'Ann')\nE4 no transaction\n"),
     );
-    let found = served(&rt, rt.alloc(), &AlwaysOpen, Play::Broken, wanted);
+    let found = serve_two_clients(&rt, rt.alloc(), &AlwaysOpen, Play::Broken, wanted);
     assert!(rt; found == (true, true, 4));
 }
 
@@ -198,6 +198,6 @@ fn a_gate_that_gives_up_ends_its_session_alone(rt: HostRuntime) {
         Wanted::Within("begun 100\ninserted 1\ncommitted ", ""),
         Wanted::Whole(""),
     );
-    let found = served(&rt, rt.alloc(), &Shut, Play::InTurn, wanted);
+    let found = serve_two_clients(&rt, rt.alloc(), &Shut, Play::InTurn, wanted);
     assert!(rt; found == (true, true, 4));
 }

@@ -18,7 +18,7 @@ use Rattle.treenodes.specs.Backlog.{IsBehind, IsFirstWaiting, IsWaiting, start_c
 use Rattle.treenodes.proofs.BacklogOrder.{start_total}
 use Rattle.tsbtree.specs.View.{TreeState}
 use Rattle.blocks.specs.Block.{block_of}
-use Rattle.blocks.specs.Packed.{Packed}
+use Rattle.blocks.specs.PackedNode.{Packed}
 use Rattle.journal.specs.declared.entry.Entry.{Entry}
 use Rattle.journal.specs.declared.entry.Entry.TheVariants.{Install}
 use Rattle.sessions.specs.Store.{IsInstallOf}

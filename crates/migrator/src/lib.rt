@@ -1,10 +1,10 @@
 //! The migrator: a round packs all data nodes of history that one view shows unpacked, by several workers.
 #![tactic(auto)]
 
-mod asked;
 mod bench;
 mod fault;
 mod name;
+mod request_list;
 mod round;
 mod run;
 mod task;

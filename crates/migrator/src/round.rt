@@ -2,10 +2,10 @@
 ghost use Rattle.std.specs.Prelude.{◌≡◌, ◌<◌, ◌++◌, ◌∷◌, [], IfErr, IfOk, MatchOption, None, OnErr, OnOk, Some, false, length, map};
 ghost use Rattle.migrator.specs.Round.{IsOver, IsPart, IsUnderWay, IsWhole};
 
-use crate::asked::Asked;
 use crate::bench::Desk;
 use crate::fault::{Cause, MigrateFault};
 use crate::name::RoundName;
+use crate::request_list::RequestList;
 use crate::task::{Done, Task};
 use growlog::StoreName;
 use journal::Receipt;
@@ -21,7 +21,7 @@ use validation::find_job;
 pub(crate) struct Round<J: StoreName> {
     /// The rectangle of the node that was asked for last.
     pub(crate) after: Option<Rect>,
-    pub(crate) asked: Asked,
+    pub(crate) asked: RequestList,
     pub(crate) receipts: Vec<Receipt<J>>,
 }
 
@@ -34,7 +34,7 @@ impl<J: StoreName> Round<J> {
     {
         Round {
             after: None,
-            asked: Asked::new(alloc),
+            asked: RequestList::new(alloc),
             receipts,
         }
     }
@@ -170,8 +170,10 @@ impl<J: StoreName> Round<J> {
         requires view { view.now ≡ N.shown }
         requires under { IsUnderWay N.begin N.shown self.old.after self.old.asked
             (map (λ r. (r.number, r.entry)) self.old.receipts.items) }
-        ensures ok { OnOk result (IsWhole N.begin N.shown (map (λ r. (r.number, r.entry)) self.new.receipts.items)) }
-        ensures err { OnErr result (IsPart N.begin N.shown (map (λ r. (r.number, r.entry)) self.new.receipts.items)) }
+        ensures ok { OnOk result (IsWhole N.begin N.shown
+            (map (λ r. (r.number, r.entry)) self.new.receipts.items)) }
+        ensures err { OnErr result (IsPart N.begin N.shown
+            (map (λ r. (r.number, r.entry)) self.new.receipts.items)) }
     {
         for _ in rt.forever() {
             if self.ask_within(rt, view, room, desk)? {
@@ -199,7 +201,8 @@ impl<J: StoreName> Round<J> {
         requires view { view.now ≡ N.shown }
         requires under { IsUnderWay N.begin N.shown self.after self.asked
             (map (λ r. (r.number, r.entry)) self.receipts.items) }
-        ensures ok { IfOk result (λ rs. IsWhole N.begin N.shown (map (λ r. (r.number, r.entry)) rs.items)) }
+        ensures ok { IfOk result (λ rs.
+            IsWhole N.begin N.shown (map (λ r. (r.number, r.entry)) rs.items)) }
         ensures err { IfErr result (λ f.
             IsPart N.begin N.shown (map (λ r. (r.number, r.entry)) f.receipts.items)) }
     {

@@ -146,7 +146,8 @@ where
     requires some { 0 < workers }
     requires view { view.now ≡ N.shown }
     requires begun { map (λ r. (r.number, r.entry)) receipts.items ≡ N.begin ∷ [] }
-    ensures ok { IfOk result (λ rs. IsWhole N.begin N.shown (map (λ r. (r.number, r.entry)) rs.items)) }
+    ensures ok { IfOk result (λ rs.
+        IsWhole N.begin N.shown (map (λ r. (r.number, r.entry)) rs.items)) }
     ensures err { IfErr result (λ f.
         IsPart N.begin N.shown (map (λ r. (r.number, r.entry)) f.receipts.items)) }
 {
@@ -165,7 +166,8 @@ where
             requires view { view.now ≡ N.shown }
             requires under { IsUnderWay N.begin N.shown round.after round.asked
                 (map (λ r. (r.number, r.entry)) round.receipts.items) }
-            ensures ok { IfOk result (λ rs. IsWhole N.begin N.shown (map (λ r. (r.number, r.entry)) rs.items)) }
+            ensures ok { IfOk result (λ rs.
+                IsWhole N.begin N.shown (map (λ r. (r.number, r.entry)) rs.items)) }
             ensures err { IfErr result (λ f.
                 IsPart N.begin N.shown (map (λ r. (r.number, r.entry)) f.receipts.items)) }
         {

@@ -8,7 +8,7 @@ use crate::name::RoundName;
 use keyrange::Rect;
 use std::alloc::Global;
 use std::marker::{Model, PhantomData};
-use validation::{Job, Packed, pack_job};
+use validation::{Job, PackedNode, pack_job};
 use values::Mem;
 
 /// A node that a worker is to pack. Its type keeps that the round's view shows it unpacked.
@@ -34,18 +34,18 @@ impl<N: RoundName> Model for Task<N> {
 /// A node that was packed. Its type keeps that the round's view shows it unpacked, and that the block is its block.
 #[derive(Drop)]
 pub(crate) struct Done<N: RoundName> {
-    packed: Packed,
+    packed: PackedNode,
     of: PhantomData<N>,
 }
 
 impl<N: RoundName> Model for Done<N> {
     ghost use Rattle.std.specs.Prelude.{◌≡◌, None};
     ghost use Rattle.blocks.specs.Block.{block_of};
-    ghost use Rattle.blocks.specs.Packed.{Packed as PackedNode};
+    ghost use Rattle.blocks.specs.PackedNode.{Packed};
     ghost use Rattle.treenodes.specs.Node.{data_node};
     ghost use Rattle.treenodes.specs.Backlog.{IsWaiting};
 
-    ghost Value = { PackedNode };
+    ghost Value = { Packed };
 
     ghost view = { λ d. d.packed };
 
@@ -84,7 +84,7 @@ impl<N: RoundName> Done<N> {
     }
 
     /// The node and its block.
-    pub(crate) fn into_packed(self) -> Packed
+    pub(crate) fn into_packed(self) -> PackedNode
         ensures packed { result ≡ self }
         ensures unpacked { IsWaiting N.shown.nodes None (data_node result.node) }
         ensures block { result.bytes ≡ block_of result.node }

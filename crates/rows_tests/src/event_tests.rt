@@ -36,13 +36,13 @@ fn a_copied_event_is_equal(rt: HostRuntime) {
     assert!(rt; copy_is_that(&rt, rt.alloc()));
 }
 
-fn shared(rt: &impl Abort, alloc: Global, event: Event) -> SharedEvent {
+fn share_of(rt: &impl Abort, alloc: Global, event: Event) -> SharedEvent {
     SharedEvent::new(alloc, event).expect(rt, "there is memory")
 }
 
 /// Whether a shared event and its share are that event.
 fn shares_are_that(rt: &impl Abort, alloc: Global) -> (bool, bool) {
-    let first = shared(rt, alloc, event(rt, alloc));
+    let first = share_of(rt, alloc, event(rt, alloc));
     let second = first.share().expect(rt, "there is memory");
     (is_that(first.event()), is_that(second.event()))
 }
@@ -59,7 +59,7 @@ const POINTS: &[(&[u8], Instant)] = &[(b"b", 1), (b"a", 9), (b"a", 2), (b"b", 1)
 fn in_order(rt: &impl Abort, alloc: Global) -> Vec<SharedEvent> {
     let mut events = Vec::new(alloc);
     for (key, at) in POINTS {
-        let event = shared(rt, alloc, event_at(rt, alloc, key, *at));
+        let event = share_of(rt, alloc, event_at(rt, alloc, key, *at));
         events.push(event).expect(rt, "there is memory");
     }
     events.sort().expect(rt, "there is memory");

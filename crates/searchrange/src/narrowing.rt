@@ -53,7 +53,7 @@ fn range_of_keys(alloc: Global, table: &Table, keys: &Keys) -> Mem<KeyRange>
 {
     let range = range_of_table(alloc, table.number)?;
     if can_narrow(table, keys) {
-        Ok(narrowed(alloc, table, keys.comparisons.items(), range)?)
+        Ok(narrow(alloc, table, keys.comparisons.items(), range)?)
     } else {
         Ok(range)
     }
@@ -66,13 +66,14 @@ fn can_narrow(table: &Table, keys: &Keys) -> bool
 }
 
 /// The range narrowed by the comparisons on leading key columns.
-fn narrowed(
+fn narrow(
     alloc: Global,
     table: &Table,
     comparisons: &[Comparison],
     range: KeyRange,
 ) -> Result<KeyRange, AllocError>
-    ensures { IfOk result (λ r. r ≡ narrowed_from table.now comparisons.now 0 (table.now.number ∷ []) table.now.key range) }
+    ensures { IfOk result (λ r. r ≡ narrowed_from
+        table.now comparisons.now 0 (table.now.number ∷ []) table.now.key range) }
 {
     let mut prefix = vec![in alloc; table.number]?;
     let mut range = range;

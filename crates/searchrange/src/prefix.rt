@@ -5,7 +5,8 @@ use std::alloc::{AllocError, Global};
 
 /// The least bytes above all that begin with these; none where all are 255.
 pub(crate) fn next_prefix(alloc: Global, prefix: &[u8]) -> Result<Option<Vec<u8>>, AllocError>
-    ensures { IfOk result (λ next. option_map (λ bytes. bytes.items) next ≡ next_prefix prefix.now) }
+    ensures { IfOk result (λ next.
+        option_map (λ bytes. bytes.items) next ≡ next_prefix prefix.now) }
 {
     let mut front = prefix;
     while let [others @ .., byte] = front {

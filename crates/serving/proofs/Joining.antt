@@ -6,9 +6,9 @@ use Rattle.values.specs.Tables.{Schema}
 use Rattle.statement.proofs.Fronts.{front_then}
 use Rattle.lines.specs.Partial.{Partial}
 use Rattle.sessions.specs.SessionState.{SessionState}
-use Rattle.serving.specs.declared.told.Told.{Told}
+use Rattle.serving.specs.declared.served_session.Told.{Told}
 use Rattle.serving.specs.Taken.{Given, Progress}
-use Rattle.serving.specs.Served.{IsAnswered, Serves}
+use Rattle.serving.specs.ServedSession.{IsAnswered, Serves}
 use Rattle.serving.specs.Account.{AccountState, Served, Writes, WritesFront, LeavesAll}
 
 module _ (schema : Schema) (i : ℕ) where

@@ -2,9 +2,9 @@
 use Rattle.std.proofs.Common.{◌≡◌, ℕ, List, [], ◌++◌, Option, None, refl, sym, ap, ◌∙◌, subst}
 use Rattle.lines.specs.Partial.{Partial}
 use Rattle.sessions.specs.SessionState.{RunningState, SessionState}
-use Rattle.serving.specs.declared.told.Told.{Told}
+use Rattle.serving.specs.declared.served_session.Told.{Told}
 use Rattle.serving.specs.Taken.{Given, Progress, after}
-use Rattle.serving.specs.Served.{Serves, IsServed, IsServedInPart}
+use Rattle.serving.specs.ServedSession.{Serves, IsServed, IsServedInPart}
 use Rattle.serving.specs.Serving.{IsAt, IsOpenAs}
 use Rattle.serving.specs.Account.{AccountState, Served}
 use Rattle.serving.specs.Ends.{Ends, EndsInPart}

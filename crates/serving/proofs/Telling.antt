@@ -16,9 +16,9 @@ use Rattle.lines.specs.Partial.{Partial}
 use Rattle.sessions.specs.SessionState.{SessionState}
 use Rattle.serving.specs.declared.answer.Sent.{Sent}
 use Rattle.serving.specs.declared.answer.Sent.TheVariants.{Reply as Says, Ending, Refused as Denies}
-use Rattle.serving.specs.declared.told.Told.{Told}
+use Rattle.serving.specs.declared.served_session.Told.{Told}
 use Rattle.serving.specs.Taken.{Given, Progress}
-use Rattle.serving.specs.Served.{Answers, IsAnswered, IsKept, IsRefusedLine, reading_takes, said}
+use Rattle.serving.specs.ServedSession.{Answers, IsAnswered, IsKept, IsRefusedLine, reading_takes, said}
 use Rattle.serving.specs.Serving.{AnswerState, IsAt, IsReplied, given_list, given_of, taken_by, taken_of, refused_of, reply_by, reply_of, sent_refusal, text_of}
 use Rattle.serving.specs.Account.{AccountState, IsBroken, Served, Writes}
 use Rattle.serving.specs.Line.{IsBrokenStep, IsRead, IsTaken, IsTold, Sends}

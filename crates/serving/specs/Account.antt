@@ -5,9 +5,9 @@ use Rattle.statement.specs.Writer.{AppendsFront}
 use Rattle.lines.specs.Partial.{Partial}
 use Rattle.lines.specs.Lines.{EndsLines, lines_from}
 use Rattle.sessions.specs.SessionState.{SessionState}
-use Rattle.serving.specs.declared.told.Told.{Told}
+use Rattle.serving.specs.declared.served_session.Told.{Told}
 use Rattle.serving.specs.Taken.{Given, Progress}
-use Rattle.serving.specs.Served.{Serves}
+use Rattle.serving.specs.ServedSession.{Serves}
 use Rattle.serving.specs.Serving.{IsAt}
 
 -- what is told of each line, the receipts that the lines took, and for how many more there is room

@@ -2,5 +2,5 @@ pub mod Account
 pub mod Line
 pub mod Ends
 pub mod Serving
-pub mod Served
+pub mod ServedSession
 pub mod Taken

@@ -10,7 +10,7 @@ use Rattle.statement.specs.Memory.{UnlessMemory}
 use Rattle.statement.specs.Writer.{AppendsFront}
 use Rattle.lines.specs.Partial.{Partial}
 use Rattle.sessions.specs.SessionState.{SessionState}
-use Rattle.serving.specs.Served.{said, reading_takes}
+use Rattle.serving.specs.ServedSession.{said, reading_takes}
 use Rattle.serving.specs.Serving.{AnswerState, IsStepped, given_of, taken_of, refused_of, reply_of, text_of}
 use Rattle.serving.specs.Account.{AccountState, LeavesAll}
 

@@ -2,7 +2,7 @@
 ghost use Rattle.std.specs.Prelude.{◌≡◌, ◌<◌, ◌+◌, ◌++◌, ◌∷◌, [], IfOk, OnOk, length};
 ghost use Rattle.values.specs.Memory.{OnlyMemory};
 
-use crate::told::Told;
+use crate::served_session::Told;
 use growlog::StoreName;
 use journal::Receipt;
 use rows::{Mem, Refusal};
@@ -70,7 +70,8 @@ impl<J: StoreName> Account<J> {
             ++ record { taken = taken_by receipt + taken_by install; refused = refused } ∷ [] }
         ensures given { self.new.given ≡ self.old.given
             ++ (given_list (option_map (λ r. record { number = r.number; entry = r.entry }) receipt)
-            ++ given_list (option_map (λ r. record { number = r.number; entry = r.entry }) install)) }
+            ++ given_list (option_map
+            (λ r. record { number = r.number; entry = r.entry }) install)) }
     {
         let mut taken = 0;
         if let Some(receipt) = receipt {

@@ -61,7 +61,7 @@ impl<J: StoreName> Answer<J> {
     }
 
     /// A refusal with no receipt.
-    pub(crate) fn refused(refusal: Refusal) -> Answer<J>
+    pub(crate) fn refusal(refusal: Refusal) -> Answer<J>
         ensures { result ≡ record { given = None; install = None; sent = Sent.Refused refusal } }
     {
         Answer {

@@ -27,6 +27,6 @@ pub(crate) fn take_begin<J: StoreName, R: Wait>(
             let instant = session.start().unwrap_or(0);
             Answer::with_receipt(receipt, Sent::Reply(Reply::Begun(instant)))
         }
-        Err(refusal) => Answer::refused(refusal),
+        Err(refusal) => Answer::refusal(refusal),
     }
 }

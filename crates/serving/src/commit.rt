@@ -26,7 +26,7 @@ pub(crate) fn take_commit<J: StoreName, R: Wait, C: Readings>(
     }
     match store.commit(rt, session, readings.reading()) {
         Ok(receipt) => Answer::with_receipt(receipt, Sent::Ending),
-        Err(refusal) => Answer::refused(refusal),
+        Err(refusal) => Answer::refusal(refusal),
     }
 }
 

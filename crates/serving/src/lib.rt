@@ -10,12 +10,12 @@ mod read;
 mod readings;
 mod serve;
 mod serve_line;
+mod served_session;
 mod service;
 mod split;
 mod step;
-mod told;
 mod write;
 
 pub use readings::Readings;
 pub use serve::serve_session;
-pub use told::{End, Served, Told};
+pub use served_session::{End, Served, Told};

@@ -26,12 +26,12 @@ pub(crate) fn take_query<J: StoreName, R: Wait>(
         return Answer {
             receipt: None,
             install: None,
-            sent: listed(session.select(form, keys)),
+            sent: sent_listing(session.select(form, keys)),
         };
     }
     let receipt = match store.begin(rt, session) {
         Ok(receipt) => receipt,
-        Err(refusal) => return Answer::refused(refusal),
+        Err(refusal) => return Answer::refusal(refusal),
     };
     let sent = read_and_roll_back(session, form, keys);
     Answer::with_receipt(receipt, sent)
@@ -42,7 +42,7 @@ fn read_and_roll_back(session: &mut Session, form: Form, keys: &Keys) -> Sent
     ensures sent { IsSentFor session.old form keys.now result }
     ensures left { session.new ≡ with_transaction session.old None }
 {
-    let sent = listed(session.select(form, keys));
+    let sent = sent_listing(session.select(form, keys));
     match session.rollback() {
         Ok(()) => sent,
         Err(_) => sent,
@@ -50,7 +50,7 @@ fn read_and_roll_back(session: &mut Session, form: Form, keys: &Keys) -> Sent
 }
 
 /// What is sent for a query.
-fn listed(listing: Result<Listing, Refusal>) -> Sent
+fn sent_listing(listing: Result<Listing, Refusal>) -> Sent
     ensures { result ≡ sent_listing listing }
 {
     match listing {

@@ -5,14 +5,14 @@ ghost use Rattle.lines.specs.Partial.{Fits};
 ghost use Rattle.lines.specs.Lines.{lines_from};
 ghost use Rattle.serving.specs.Account.{Breaks, Feeds, IsBroken, Writes};
 ghost use Rattle.serving.specs.Ends.{Ends, EndsInPart};
-ghost use Rattle.serving.specs.Served.{IsServed, IsServedInPart};
+ghost use Rattle.serving.specs.ServedSession.{IsServed, IsServedInPart};
 ghost use Rattle.serving.specs.Taken.{after};
 
 use crate::account::Account;
 use crate::readings::Readings;
 use crate::serve_line::serve_line;
+use crate::served_session::{End, Served};
 use crate::service::Service;
-use crate::told::{End, Served};
 use gate::Gate;
 use growlog::StoreName;
 use lines::{LineBuffer, line_length};

@@ -31,7 +31,7 @@ pub(crate) fn take_key_split<J: StoreName, R: Wait>(
     }
     match fitting_key_bytes(alloc, session.schema(), key) {
         Ok(bytes) => split(rt, store, Cut::Key(bytes)),
-        Err(refusal) => Answer::refused(refusal),
+        Err(refusal) => Answer::refusal(refusal),
     }
 }
 
@@ -51,7 +51,7 @@ pub(crate) fn take_time_split<J: StoreName, R: Wait>(
     }
     match fitting_key_bytes(alloc, session.schema(), key) {
         Ok(bytes) => split(rt, store, Cut::Time(bytes, instant)),
-        Err(refusal) => Answer::refused(refusal),
+        Err(refusal) => Answer::refusal(refusal),
     }
 }
 
@@ -61,7 +61,7 @@ fn split<J: StoreName, R: Wait>(rt: &R, store: &LockedStore<J>, cut: Cut) -> Ans
 {
     match store.split(rt, cut) {
         Ok(receipt) => Answer::with_receipt(receipt, Sent::Reply(Reply::Done)),
-        Err(refusal) => Answer::refused(refusal),
+        Err(refusal) => Answer::refusal(refusal),
     }
 }
 

@@ -25,7 +25,8 @@ pub(crate) fn take_update<J: StoreName>(
     keys: &Keys,
     sets: &[Set],
 ) -> Answer<J>
-    ensures { IsStepped (Update session.old.number keys.now sets.now) session.old session.new result }
+    ensures { IsStepped (Update session.old.number keys.now sets.now)
+        session.old session.new result }
 {
     match session.update(keys, sets) {
         Ok(count) => Answer::reply(Reply::Updated(count)),
@@ -48,7 +49,7 @@ pub(crate) fn refused_write<J: StoreName>(refusal: Refusal) -> Answer<J>
     ensures { result ≡ record { given = None; install = None; sent = sent_refusal refusal } }
 {
     match refusal {
-        Refusal::Memory => Answer::refused(Refusal::Memory),
+        Refusal::Memory => Answer::refusal(Refusal::Memory),
         other => Answer::reply(Reply::Refused(other)),
     }
 }

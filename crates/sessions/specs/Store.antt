@@ -3,7 +3,7 @@ use Rattle.std.specs.Prelude.{◌≡◌, ◌⊎◌, ℕ, [], Option, Some, None,
 use Rattle.values.specs.declared.refusal.Refusal.{Refusal}
 use Rattle.values.specs.declared.refusal.Refusal.TheVariants.{NoTransaction, JournalFull, Memory}
 use Rattle.values.specs.Log.{Changes, Net}
-use Rattle.blocks.specs.Packed.{Packed}
+use Rattle.blocks.specs.PackedNode.{Packed}
 use Rattle.tsbtree.specs.View.{TreeState, last}
 use Rattle.staging.specs.View.{Holds}
 use Rattle.staging.specs.Own.{net_over}

@@ -6,7 +6,7 @@ use Rattle.values.specs.declared.query.Keys.{Keys}
 use Rattle.values.specs.declared.refusal.Refusal.TheVariants.{InTransaction, NoTransaction}
 use Rattle.values.specs.Tables.{Schema}
 use Rattle.values.specs.KeyEncoding.{bytes_of_key}
-use Rattle.blocks.specs.Packed.{Packed}
+use Rattle.blocks.specs.PackedNode.{Packed}
 use Rattle.tsbtree.specs.View.{last as view_last}
 use Rattle.staging.specs.View.{Holds}
 use Rattle.validation.specs.declared.cut.Cut.{Cut}

@@ -28,7 +28,11 @@ impl Model for Running {
 
     ghost Value = { RunningState };
 
-    ghost view = { λ r. record { begun = r.begun; view = r.transaction.view; writes = r.transaction.writes } };
+    ghost view = { λ r. record {
+      begun = r.begun;
+      view = r.transaction.view;
+      writes = r.transaction.writes;
+    } };
 }
 
 /// A session of a store, with a transaction open or none. It belongs to no store: what it began at one is not open at another.
@@ -48,7 +52,12 @@ impl Model for Session {
 
     ghost Value = { SessionState };
 
-    ghost view = { λ s. record { number = s.number; schema = s.schema; receipt = s.receipt; transaction = s.running } };
+    ghost view = { λ s. record {
+      number = s.number;
+      schema = s.schema;
+      receipt = s.receipt;
+      transaction = s.running;
+    } };
 
     ghost invariant = { λ s. IsSession s.number s.schema s.running };
 }

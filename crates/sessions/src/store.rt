@@ -21,7 +21,7 @@ use staging::Net;
 use std::alloc::Global;
 use std::sync::{Mutex, Wait};
 use transaction::OpenTransaction;
-use validation::{Cut, Packed};
+use validation::{Cut, PackedNode};
 
 /// A store round which many threads run sessions. What its calls say they say if they return.
 #[derive(Drop)]
@@ -142,7 +142,7 @@ impl<J: StoreName> LockedStore<J> {
     }
 
     /// Puts a block in the place of its node, where that is in the tree unpacked: whether it was is in the receipt's entry, beside the node's rectangle and the block's bytes. `JournalFull` where no more entries may stand. After a refusal nothing has changed.
-    pub fn install<R: Wait>(&self, rt: &R, packed: Packed) -> Result<Receipt<J>, Refusal>
+    pub fn install<R: Wait>(&self, rt: &R, packed: PackedNode) -> Result<Receipt<J>, Refusal>
         ensures install { IfOk result (λ r. IsInstallOf packed r.entry) }
         ensures why { OnlyRoom result }
     {

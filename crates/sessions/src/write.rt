@@ -33,7 +33,8 @@ impl Session {
     /// Sets columns of the rows whose keys meet all comparisons, and answers how many. `NoTable`; `BadRow` where a value does not fit; `NoTransaction`;
     /// `TooManyWrites` where the transaction would have written over 1,000 keys. After a refusal nothing has changed.
     pub fn update(&mut self, keys: &Keys, sets: &[Set]) -> Result<usize, Refusal>
-        ensures answers { IsWrite (Update self.old.number keys.now sets.now) self.old self.new result }
+        ensures answers { IsWrite (Update self.old.number keys.now sets.now)
+            self.old self.new result }
         ensures no_memory { TakesNoMemory self.old
             (misfit self.old.schema (Update self.old.number keys.now sets.now)) result }
         ensures rest { WithWrites self.old self.new }

@@ -8,14 +8,14 @@ use sessions::LockedStore;
 use std::alloc::Global;
 use std::process::Abort;
 use std::sync::Wait;
-use validation::{Packed, find_job, pack_job};
+use validation::{PackedNode, find_job, pack_job};
 
 /// The first node of history that the last receipt shows unpacked, which is a begin, with its block.
 fn pack_first<J: StoreName>(
     rt: &impl Abort,
     alloc: Global,
     receipts: &[Receipt<J>],
-) -> Option<Packed> {
+) -> Option<PackedNode> {
     let Entry::Begin { view, .. } = receipts.last()?.entry.entry() else {
         return None;
     };
@@ -27,7 +27,7 @@ fn pack_first<J: StoreName>(
 fn install<J: StoreName, R: Abort + Wait>(
     rt: &R,
     store: &LockedStore<J>,
-    packed: Packed,
+    packed: PackedNode,
     receipts: &mut Vec<Receipt<J>>,
 ) -> Option<bool> {
     let receipt = store.install(rt, packed).expect(rt, "it has a receipt");

@@ -9,7 +9,7 @@ use std::marker::Brand;
 fn lengths<J: StoreName>(opened: NewLog<u8>) -> (u64, u64)
     requires { opened.seen.book ≡ J.book }
 {
-    let (log, mut whole) = opened.named::<J>();
+    let (log, mut whole) = opened.for_store::<J>();
     let mut added = whole.add(&log, &1);
     let mut early = whole.again();
     for entry in 2..4u8 {

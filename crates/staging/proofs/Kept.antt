@@ -26,7 +26,7 @@ use Rattle.values.specs.Order.{value_cmp, key_cmp}
 use Rattle.values.specs.OrderLaws.{value_cmp_total}
 use Rattle.values.specs.Log.{Net, Row}
 use Rattle.values.specs.Versions.{compares, holds, matches}
-use Rattle.staging.specs.Bounds.{is_first, is_of_first, bounds_below, bounds_above, is_from_value, is_first_below, IsLeast, IsPast}
+use Rattle.staging.specs.Bound.{is_first, is_of_first, bounds_below, bounds_above, is_from_value, is_first_below, IsLeast, IsPast}
 
 clash : false ≡ true → ⊥
 clash e = cc

@@ -1,4 +1,4 @@
-pub mod Bounds
+pub mod Bound
 pub mod View
 pub mod Own
 pub mod Net

@@ -1,7 +1,7 @@
 //! A transaction's own writes over what was committed when it began.
 #![tactic(auto)]
 
-mod bounds;
+mod bound;
 mod delete;
 mod insert;
 mod net;

@@ -22,7 +22,7 @@ ghost use Rattle.staging.specs.View.{Holds};
 ghost use Rattle.staging.specs.Own.{WhenRead, rows_seen, net_over};
 ghost use Rattle.staging.specs.Staged.{put_all, put_back_one, put_back, put_answer, row_in, sees, first_seen, row_taken, rows_in, net_in};
 
-use crate::bounds::{is_past, least_key};
+use crate::bound::{is_past, least_key};
 use crate::net::Net;
 use searchrange::search_range;
 use std::alloc::{AllocError, Global};

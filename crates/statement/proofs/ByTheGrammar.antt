@@ -13,7 +13,7 @@ use Rattle.tokens.specs.Token.{Read}
 use Rattle.statement.specs.Token.{is_blank, next}
 use Rattle.statement.specs.Line.{is_nothing, written_at, meaning_of, body_says}
 use Rattle.tokens.specs.Run.{Ends}
-use Rattle.statement.specs.Served.{served_at, served_body_says}
+use Rattle.statement.specs.ServedLine.{served_at, served_body_says}
 use Rattle.statement.specs.Grammar.{Blanks, IsNothing, IsLine, IsServedLine}
 use Rattle.statement.specs.GrammarLaws.{Lines, LinesAreRead, LinesSayOneThing, NothingIsRead, IsRefused, OnlyLinesAreRead, FaultsAreAtTokens}
 use Rattle.statement.proofs.Gaps.{blanks_before, next_is}

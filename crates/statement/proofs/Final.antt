@@ -12,7 +12,7 @@ use Rattle.statement.specs.declared.line.Line.TheVariants.{Nothing}
 use Rattle.statement.specs.declared.line.Written.{Written}
 use Rattle.statement.specs.Token.{next}
 use Rattle.statement.specs.Line.{is_nothing, written_at, body_says}
-use Rattle.statement.specs.Served.{served_at, served_body_says}
+use Rattle.statement.specs.ServedLine.{served_at, served_body_says}
 use Rattle.statement.specs.Grammar.{IsLine, IsServedLine}
 use Rattle.statement.specs.GrammarLaws.{Lines}
 use Rattle.statement.proofs.ByTheGrammar.{answered, says}

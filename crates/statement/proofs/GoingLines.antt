@@ -14,7 +14,7 @@ use Rattle.statement.specs.Token.{next, symbol_at, word_at, end_at, after_semico
 use Rattle.statement.specs.Literal.{digits_at}
 use Rattle.statement.specs.Statement.{instant_at, statement_at}
 use Rattle.statement.specs.Line.{begins_digit, is_nothing, clock_at, migrate_at, session_at, service_at, written_at, body_says}
-use Rattle.statement.specs.Served.{request_at, served_at, served_body_says}
+use Rattle.statement.specs.ServedLine.{request_at, served_at, served_body_says}
 use Rattle.statement.specs.Split.{key_at, split_key_at, split_time_at, kind_at, split_at}
 use Rattle.statement.specs.Grammar.{Piece, ◌⋯◌, ◌∣◌, Empty, Blanks, Symbol, Word, Digits, IsInstant, IsStatement, IsKey, IsLine, IsServedLine}
 use Rattle.statement.specs.GoingOn.{FrontsGoOn}

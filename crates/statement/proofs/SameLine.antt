@@ -23,7 +23,7 @@ use Rattle.statement.specs.Literal.{digits_here, digits_at, begins_with, above_n
 use Rattle.statement.specs.Condition.{table_of, column_of, table_name_at, column_name_at, or_equal, operator_of, operator_at, set_at, comparison_at, sets_at, comparisons_at, columns_at, keys_at}
 use Rattle.statement.specs.Statement.{instant_at, as_of_at, period_at, selection_at, system_time_at, form_at, start_at, listed_at, insert_at, update_at, delete_at, select_at, data_at, statement_at}
 use Rattle.statement.specs.Line.{begins_digit, clock_at, migrate_at, session_at, service_at, written_at}
-use Rattle.statement.specs.Served.{request_at, served_at}
+use Rattle.statement.specs.ServedLine.{request_at, served_at}
 use Rattle.statement.specs.Split.{key_at, split_key_at, split_time_at, kind_at, split_at}
 use Rattle.statement.proofs.Holds.{Leaves}
 use Rattle.statement.proofs.Sound.{symbol_sound, word_sound}

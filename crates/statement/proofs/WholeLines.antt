@@ -14,7 +14,7 @@ use Rattle.statement.specs.Token.{next, end_at, after_semicolon}
 use Rattle.statement.specs.Token.{word_at, after_optional_word}
 use Rattle.statement.specs.Statement.{start_at, insert_at, update_at, delete_at, select_at, data_at, statement_at}
 use Rattle.statement.specs.Line.{is_nothing, begins_digit, clock_at, migrate_at, session_at, service_at, written_at}
-use Rattle.statement.specs.Served.{request_at, served_at}
+use Rattle.statement.specs.ServedLine.{request_at, served_at}
 use Rattle.statement.specs.Split.{split_key_at, split_time_at, kind_at, split_at}
 use Rattle.statement.specs.Grammar.{◌⋯◌, ◌∣◌, Empty, Blanks, Symbol, Word, Digits, IsStatement, IsRequest, IsInstant, IsKey, IsLine, IsServedLine}
 use Rattle.statement.proofs.Gaps.{next_is}

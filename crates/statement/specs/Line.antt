@@ -57,8 +57,8 @@ migrate_at bytes = do
   Ok (Migrate, rest)
 
 -- what asks for a step, if it fits
-abbrev pub asked : Result Step Refusal → Result Line Refusal
-asked step = step >>= λ fits. Ok (IsStep fits)
+abbrev pub line_of : Result Step Refusal → Result Line Refusal
+line_of step = step >>= λ fits. Ok (IsStep fits)
 
 -- the bytes that a line may have before its line feed
 abbrev pub longest_line : ℕ
@@ -88,12 +88,12 @@ module _ (schema : Schema) where
 
   unfoldable pub meaning_of : ℕ → Written → Result Line Refusal
   meaning_of reading (SetsClock instant) = Ok (Clock instant)
-  meaning_of reading (SplitKey key) = asked (fitting_step schema (SplitsKey key))
+  meaning_of reading (SplitKey key) = line_of (fitting_step schema (SplitsKey key))
   meaning_of reading (SplitTime key instant) =
-      asked (fitting_step schema (SplitsTime key instant))
+      line_of (fitting_step schema (SplitsTime key instant))
   meaning_of reading Migrate = Ok (IsStep Migrates)
   meaning_of reading (Session session statement) =
-      asked (step_of schema reading session statement)
+      line_of (step_of schema reading session statement)
 
   -- what the bytes of a line's tokens say
   unfoldable pub body_says : ℕ → List ℕ → Result Line Refusal

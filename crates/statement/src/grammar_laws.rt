@@ -1,7 +1,7 @@
 ghost use Rattle.std.specs.Prelude.{ℕ};
 ghost use Rattle.values.specs.Tables.{Schema};
 ghost use Rattle.statement.specs.Line.{body_says};
-ghost use Rattle.statement.specs.Served.{served_body_says};
+ghost use Rattle.statement.specs.ServedLine.{served_body_says};
 ghost use Rattle.statement.specs.Grammar.{IsLine, IsServedLine};
 ghost use Rattle.statement.specs.GoingOn.{FaultsAreFinal, FrontsGoOn};
 ghost use Rattle.statement.specs.GrammarLaws.{LinesAreRead, LinesSayOneThing, NothingIsRead, OnlyLinesAreRead, FaultsAreAtTokens, LineEndsAreNoTokens, PrintedRowsAreRead};

@@ -1,7 +1,7 @@
 ghost use Rattle.std.specs.Prelude.{◌≡◌, IsTrue, IfOk, true, false, Err};
 ghost use Rattle.tokens.specs.Token.{Makes, Gives};
 ghost use Rattle.statement.specs.Memory.{UnlessMemory, can_run_out, inserts, asks_for_rows, asks_to_split, asks_for_values, takes_memory};
-ghost use Rattle.statement.specs.Line.{without_last, before_feed, body_of, is_nothing, begins_digit, clock_at, migrate_at, session_at, service_at, written_at, asked, meaning_of, body_says, line_says};
+ghost use Rattle.statement.specs.Line.{without_last, before_feed, body_of, is_nothing, begins_digit, clock_at, migrate_at, session_at, service_at, written_at, line_of, meaning_of, body_says, line_says};
 
 use crate::literal::digits_at;
 use crate::meaning::{fitting_step, step_of};
@@ -153,8 +153,8 @@ fn written_at<'a>(alloc: Global, schema: &Schema, bytes: &'a [u8]) -> Made<'a, W
 }
 
 /// A line that asks for a step, or why the step does not fit.
-fn asked(step: Result<Step, Refusal>) -> Result<Line, Refusal>
-    ensures { result ≡ asked step }
+fn line_of(step: Result<Step, Refusal>) -> Result<Line, Refusal>
+    ensures { result ≡ line_of step }
 {
     match step {
         Ok(step) => Ok(Line::Step(step)),
@@ -174,13 +174,13 @@ pub(crate) fn meaning_of(
 {
     match written {
         Written::Clock(instant) => Ok(Line::Clock(instant)),
-        Written::SplitKey(key) => asked(fitting_step(schema, Step::SplitKey(key))),
+        Written::SplitKey(key) => line_of(fitting_step(schema, Step::SplitKey(key))),
         Written::SplitTime(key, instant) => {
-            asked(fitting_step(schema, Step::SplitTime(key, instant)))
+            line_of(fitting_step(schema, Step::SplitTime(key, instant)))
         }
         Written::Migrate => Ok(Line::Step(Step::Migrate)),
         Written::Session(session, statement) => {
-            asked(step_of(alloc, schema, reading, session, statement))
+            line_of(step_of(alloc, schema, reading, session, statement))
         }
     }
 }

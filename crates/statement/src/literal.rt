@@ -85,7 +85,7 @@ fn below_nought(bytes: &[u8]) -> Option<(i64, &[u8])>
 }
 
 /// The text up to its closing quote, and the bytes after it. Two quotes are one of the text's.
-fn quoted(alloc: Global, bytes: &[u8]) -> Result<Option<(Vec<u8>, &[u8])>, AllocError>
+fn quoted_text(alloc: Global, bytes: &[u8]) -> Result<Option<(Vec<u8>, &[u8])>, AllocError>
     ensures { IfOk result (λ found.
         option_map (λ x. (x.0.items, x.1.now)) found ≡ quoted bytes.now) }
 {
@@ -127,7 +127,7 @@ fn text_at(alloc: Global, bytes: &[u8]) -> Made<'_, Value>
 {
     let at = Blanks::next(bytes);
     let inside = symbol_at::<Blanks>(b'\'', at)?;
-    let Some((text, rest)) = quoted(alloc, inside)? else {
+    let Some((text, rest)) = quoted_text(alloc, inside)? else {
         return Err(Stop::At(at));
     };
     match text_of(text) {

@@ -22,7 +22,7 @@ fn versions(rt: &impl Abort, alloc: Global, bytes: &[u8]) -> Vec<Shown> {
 }
 
 /// The text of a table with the versions that a file makes.
-fn exported(rt: &impl Abort, alloc: Global, bytes: &[u8]) -> Vec<u8> {
+fn export_of(rt: &impl Abort, alloc: Global, bytes: &[u8]) -> Vec<u8> {
     let mut text = Vec::new(alloc);
     let shown = versions(rt, alloc, bytes);
     let table = Table::sample(alloc).expect(rt, "there is memory");
@@ -50,7 +50,7 @@ fn each_version_has_its_row_and_its_period(rt: HostRuntime) {
         ),
     ];
     for (bytes, text) in files {
-        let written = exported(&rt, rt.alloc(), bytes);
+        let written = export_of(&rt, rt.alloc(), bytes);
         assert!(rt; written.as_slice() == text.as_bytes(), "{bytes:?}");
     }
 }
@@ -68,7 +68,7 @@ fn file_of(rt: &impl Abort, alloc: Global, count: usize) -> Vec<u8> {
 /// The number of lines of an export of so many rows.
 fn line_count(rt: &impl Abort, alloc: Global, count: usize) -> usize {
     let file = file_of(rt, alloc, count);
-    let text = exported(rt, alloc, file.as_slice());
+    let text = export_of(rt, alloc, file.as_slice());
     text.as_slice().iter().filter(|b| **b == b'\n').count()
 }
 
@@ -124,7 +124,7 @@ fn takes_a_prefix(
 #[test]
 fn a_writer_that_fails_has_taken_a_prefix(rt: HostRuntime) {
     let alloc = rt.alloc();
-    let whole = exported(&rt, alloc, b"no,name\n1,Ann\n2,Bea\n");
+    let whole = export_of(&rt, alloc, b"no,name\n1,Ann\n2,Bea\n");
     let shown = versions(&rt, alloc, b"no,name\n1,Ann\n2,Bea\n");
     let table = Table::sample(alloc).expect(&rt, "there is memory");
     for left in 0..whole.len() {

@@ -517,14 +517,14 @@ fn a_line_that_does_not_fit_names_the_first_reason(rt: HostRuntime) {
 }
 
 /// A comparison with a text of so many bytes.
-fn compared(rt: &impl Abort, alloc: Global, bytes: usize) -> String {
+fn comparison_with(rt: &impl Abort, alloc: Global, bytes: usize) -> String {
     let text = "k".repeat(alloc, bytes).expect(rt, "there is memory");
     let line = format!(in alloc; "1: SELECT * FROM t WHERE k < '{text}'");
     line.expect(rt, "there is memory")
 }
 
 /// A row with a text of so many bytes in its key.
-fn inserted(rt: &impl Abort, alloc: Global, bytes: usize) -> String {
+fn insertion_of(rt: &impl Abort, alloc: Global, bytes: usize) -> String {
     let text = "k".repeat(alloc, bytes).expect(rt, "there is memory");
     let line = format!(in alloc; "1: INSERT INTO t VALUES ('{text}', 1, TRUE)");
     line.expect(rt, "there is memory")
@@ -544,12 +544,12 @@ fn a_text_of_a_key_has_200_bytes_at_most(rt: HostRuntime) {
     let alloc = rt.alloc();
     let schema = schema(&rt, alloc);
     for (bytes, fits) in [(200, true), (201, false)] {
-        let line = compared(&rt, alloc, bytes);
+        let line = comparison_with(&rt, alloc, bytes);
         assert!(rt;
             key_is_told(alloc, line.as_bytes(), &schema, fits),
             "{bytes}"
         );
-        let line = inserted(&rt, alloc, bytes);
+        let line = insertion_of(&rt, alloc, bytes);
         assert!(rt;
             key_is_told(alloc, line.as_bytes(), &schema, fits),
             "{bytes}"

@@ -154,7 +154,7 @@ const TYPES: &[u8] = b"CREATE TABLE t (k TEXT PRIMARY KEY, n INT NOT NULL, f BOO
     PERIOD FOR SYSTEM_TIME (s, e)) WITH SYSTEM VERSIONING";
 
 /// The rows of a file for this table.
-fn typed(rt: &impl Abort, alloc: Global, bytes: &[u8]) -> Result<Vec<Row>, Refusal> {
+fn load_typed(rt: &impl Abort, alloc: Global, bytes: &[u8]) -> Result<Vec<Row>, Refusal> {
     let schema = Schema::read(alloc, TYPES).expect(rt, "it is a schema");
     let table = schema.table_at(1).expect(rt, "there is a table");
     load_rows(alloc, bytes, table)
@@ -162,7 +162,7 @@ fn typed(rt: &impl Abort, alloc: Global, bytes: &[u8]) -> Result<Vec<Row>, Refus
 
 /// Whether a file for this table is refused at a column.
 fn is_typed_refused_at(rt: &impl Abort, alloc: Global, bytes: &[u8], column: usize) -> bool {
-    match typed(rt, alloc, bytes) {
+    match load_typed(rt, alloc, bytes) {
         Err(Refusal::BadRow(at)) => at == column,
         _ => false,
     }
@@ -188,7 +188,7 @@ fn columns_of_each_type_refuse_by_their_numbers(rt: HostRuntime) {
 
 /// The truth in the first row's third column, or none where it is NULL; nothing where the file has another value there.
 fn truth(rt: &impl Abort, alloc: Global, bytes: &[u8]) -> Option<Option<bool>> {
-    let rows = typed(rt, alloc, bytes).expect(rt, "the file has rows");
+    let rows = load_typed(rt, alloc, bytes).expect(rt, "the file has rows");
     match rows.first()?.values().get(2)? {
         Value::Bool(truth) => Some(Some(*truth)),
         Value::Null => Some(None),

@@ -51,8 +51,8 @@ impl OpenTransaction {
         requires table { IsTable table.now.number table.now }
         requires own { key.now.table ≡ table.now.number }
         requires fits { key_fault table.now key.now.parts ≡ None }
-        ensures ok { IfOk result (λ row. WhenRead table.now self.now.view self.now.writes (λ schema m.
-            row ≡ row_at (rows_seen m self.now.writes) key.now)) }
+        ensures ok { IfOk result (λ row. WhenRead table.now self.now.view self.now.writes
+            (λ schema m. row ≡ row_at (rows_seen m self.now.writes) key.now)) }
         ensures err { OnlyMemory result }
     {
         self.staged.get(&self.view, table, key)

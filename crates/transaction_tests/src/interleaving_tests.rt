@@ -97,26 +97,26 @@ fn is_told(rt: &impl Abort, alloc: Global, reply: &Reply, wanted: &str) -> bool 
 /// A reply in one line.
 fn text_of(rt: &impl Abort, alloc: Global, reply: &Reply) -> String {
     match reply {
-        Reply::Begun(start) => numbered(rt, alloc, "begun", *start),
-        Reply::Inserted(count) => numbered(rt, alloc, "inserted", *count as u64),
-        Reply::Updated(count) => numbered(rt, alloc, "updated", *count as u64),
-        Reply::Deleted(count) => numbered(rt, alloc, "deleted", *count as u64),
-        Reply::Committed(None) => worded(rt, alloc, "committed nothing"),
-        Reply::Committed(Some(instant)) => numbered(rt, alloc, "committed", *instant),
-        Reply::RolledBack => worded(rt, alloc, "rolled back"),
-        Reply::Done => worded(rt, alloc, "ok"),
-        Reply::Refused(refusal) => worded(rt, alloc, why(refusal)),
+        Reply::Begun(start) => numbered_word(rt, alloc, "begun", *start),
+        Reply::Inserted(count) => numbered_word(rt, alloc, "inserted", *count as u64),
+        Reply::Updated(count) => numbered_word(rt, alloc, "updated", *count as u64),
+        Reply::Deleted(count) => numbered_word(rt, alloc, "deleted", *count as u64),
+        Reply::Committed(None) => new_text(rt, alloc, "committed nothing"),
+        Reply::Committed(Some(instant)) => numbered_word(rt, alloc, "committed", *instant),
+        Reply::RolledBack => new_text(rt, alloc, "rolled back"),
+        Reply::Done => new_text(rt, alloc, "ok"),
+        Reply::Refused(refusal) => new_text(rt, alloc, why(refusal)),
         Reply::Shown(Listing::Rows(rows)) => rows_told(rt, alloc, rows.items()),
         Reply::Shown(Listing::Periods(shown)) => periods_told(rt, alloc, shown.items()),
     }
 }
 
-fn numbered(rt: &impl Abort, alloc: Global, word: &str, number: u64) -> String {
+fn numbered_word(rt: &impl Abort, alloc: Global, word: &str, number: u64) -> String {
     let text = format!(in alloc; "{word} {number}");
     text.expect(rt, "there is memory")
 }
 
-fn worded(rt: &impl Abort, alloc: Global, words: &str) -> String {
+fn new_text(rt: &impl Abort, alloc: Global, words: &str) -> String {
     String::from_str(alloc, words).expect(rt, "there is memory")
 }
 
@@ -492,7 +492,7 @@ fn replies(
 }
 
 /// Employee 1 with many names, after so many migrate steps.
-fn migrated(rt: &impl Abort, alloc: Global, steps: usize) -> System {
+fn migrate_often(rt: &impl Abort, alloc: Global, steps: usize) -> System {
     let mut system = many_names(rt, alloc);
     for _ in 0..steps {
         assert!(rt; replies(rt, alloc, &mut system, Migrate, "ok"));
@@ -502,7 +502,7 @@ fn migrated(rt: &impl Abort, alloc: Global, steps: usize) -> System {
 
 /// How many nodes are packed after so many migrate steps.
 fn count_packed(rt: &impl Abort, alloc: Global, steps: usize) -> usize {
-    count_nodes(rt, &migrated(rt, alloc, steps)).1
+    count_nodes(rt, &migrate_often(rt, alloc, steps)).1
 }
 
 #[test]
@@ -524,7 +524,7 @@ fn assert_names(rt: &impl Abort, alloc: Global, system: &mut System) {
 
 /// Asserts the same twice over, of history that is packed.
 fn assert_names_twice(rt: &impl Abort, alloc: Global) {
-    let mut system = migrated(rt, alloc, 18);
+    let mut system = migrate_often(rt, alloc, 18);
     assert_names(rt, alloc, &mut system);
     assert_names(rt, alloc, &mut system);
 }

@@ -9,7 +9,7 @@ use transaction::{OpenTransaction, listing_of};
 use values::{Form, Keys, Mem};
 
 /// A transaction over nothing committed.
-fn begun(rt: &impl Abort, alloc: Global) -> OpenTransaction {
+fn begin_empty(rt: &impl Abort, alloc: Global) -> OpenTransaction {
     let view = empty_tree(rt, alloc).view().expect(rt, "there is memory");
     OpenTransaction::begin(alloc, view).expect(rt, "there is memory")
 }
@@ -18,7 +18,7 @@ fn begun(rt: &impl Abort, alloc: Global) -> OpenTransaction {
 fn with_ann(rt: &impl Abort, alloc: Global) -> OpenTransaction {
     let table = table(rt, alloc);
     let rows = one_row(rt, alloc, 1, "Ann");
-    let mut transaction = begun(rt, alloc);
+    let mut transaction = begin_empty(rt, alloc);
     let inserted = transaction.insert(&table, &rows);
     assert!(rt; inserted.expect(rt, "it is inserted") == 1);
     transaction
@@ -102,7 +102,7 @@ fn delete_all(rt: &impl Abort, alloc: Global, transaction: &mut OpenTransaction)
 }
 
 /// How many rows an update or a deletion of all rows meets, and how many changes it leaves.
-fn changed(rt: &impl Abort, alloc: Global, is_deletion: bool) -> (usize, usize) {
+fn change_all(rt: &impl Abort, alloc: Global, is_deletion: bool) -> (usize, usize) {
     let mut transaction = with_ann(rt, alloc);
     let met = if is_deletion {
         delete_all(rt, alloc, &mut transaction)
@@ -114,6 +114,6 @@ fn changed(rt: &impl Abort, alloc: Global, is_deletion: bool) -> (usize, usize) 
 
 #[test]
 fn a_transaction_changes_what_it_wrote(rt: HostRuntime) {
-    assert!(rt; changed(&rt, rt.alloc(), false) == (1, 1));
-    assert!(rt; changed(&rt, rt.alloc(), true) == (1, 0));
+    assert!(rt; change_all(&rt, rt.alloc(), false) == (1, 1));
+    assert!(rt; change_all(&rt, rt.alloc(), true) == (1, 0));
 }

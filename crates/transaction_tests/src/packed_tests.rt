@@ -4,7 +4,7 @@ use crate::validation_tests::{begin, empty_engine, instant_of, is_split};
 use std::alloc::Global;
 use std::process::Abort;
 use tsbtree::View;
-use validation::{Engine, Job, Packed, find_job, pack_job};
+use validation::{Engine, Job, PackedNode, find_job, pack_job};
 use values::{Instant, Mem};
 
 /// Commits the insertion of an employee at an instant, and splits the one current node there.
@@ -23,25 +23,25 @@ fn with_history(rt: &impl Abort, alloc: Global) -> Engine {
 }
 
 /// A job that must be found.
-fn found(rt: &impl Abort, job: Mem<Option<Job>>) -> Job {
+fn expect_job(rt: &impl Abort, job: Mem<Option<Job>>) -> Job {
     let job = job.expect(rt, "there is memory");
     job.expect(rt, "a node is unpacked")
 }
 
 /// The first node that is to be packed, packed.
-fn pack_first(rt: &impl Abort, alloc: Global, engine: &Engine) -> Packed {
-    let job = found(rt, find_job(&begin(rt, engine), None));
+fn pack_first(rt: &impl Abort, alloc: Global, engine: &Engine) -> PackedNode {
+    let job = expect_job(rt, find_job(&begin(rt, engine), None));
     pack_job(alloc, job).expect(rt, "there is memory")
 }
 
 /// Whether it is a node from an instant with so many events, as its block is.
-fn is_of(packed: &Packed, from: Instant, events: usize) -> bool {
+fn is_of(packed: &PackedNode, from: Instant, events: usize) -> bool {
     packed.rect().time().from == from
         && packed.node().len() == events
         && packed.block().len() == events
 }
 
-fn install(rt: &impl Abort, engine: &mut Engine, packed: Packed) -> bool {
+fn install(rt: &impl Abort, engine: &mut Engine, packed: PackedNode) -> bool {
     engine.install(packed).expect(rt, "there is memory")
 }
 
@@ -91,7 +91,7 @@ fn start(job: &Job) -> Instant {
 /// The starts of the first node that is to be packed and of the one after it, and whether there is one more.
 fn starts(rt: &impl Abort, alloc: Global) -> (Instant, Instant, bool) {
     let view = begin(rt, &with_history(rt, alloc));
-    let first = found(rt, find_job(&view, None));
+    let first = expect_job(rt, find_job(&view, None));
     let second = job_after(rt, &view, &first).expect(rt, "another node is unpacked");
     let is_more = job_after(rt, &view, &second).is_some();
     (start(&first), start(&second), is_more)

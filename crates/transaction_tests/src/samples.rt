@@ -66,7 +66,7 @@ pub(crate) fn sets(rt: &impl Abort, alloc: Global, name: &str) -> Vec<Set> {
 }
 
 /// A transaction that has written nothing.
-pub(crate) fn staged(rt: &impl Abort, alloc: Global) -> Staged {
+pub(crate) fn nothing_staged(rt: &impl Abort, alloc: Global) -> Staged {
     Staged::new(alloc).expect(rt, "there is memory")
 }
 
@@ -79,7 +79,7 @@ pub(crate) fn insertion(
     name: &str,
 ) -> Net {
     let rows = one_row(rt, alloc, number, name);
-    let mut staged = staged(rt, alloc);
+    let mut staged = nothing_staged(rt, alloc);
     let inserted = staged.insert(view, &table(rt, alloc), &rows);
     assert!(rt; inserted.expect(rt, "it is inserted") == 1);
     staged.net(view).expect(rt, "there is memory")

@@ -1,6 +1,8 @@
 //! Own writes over what was committed before.
 
-use crate::samples::{ann, by, employee, empty_tree, key, many, one_row, sets, staged, table};
+use crate::samples::{
+    ann, by, employee, empty_tree, key, many, nothing_staged, one_row, sets, table,
+};
 use searchrange::range_of_table;
 use staging::Staged;
 use std::alloc::Global;
@@ -33,7 +35,7 @@ struct Desk {
 }
 
 fn desk_over(rt: &impl Abort, alloc: Global, tree: Tree) -> Desk {
-    let staged = staged(rt, alloc);
+    let staged = nothing_staged(rt, alloc);
     Desk {
         alloc,
         tree,
@@ -124,7 +126,11 @@ impl Desk {
 
     /// Whether an employee with a number for a name is refused.
     fn refuses_misnamed(&mut self, rt: &impl Abort, number: i64) -> bool {
-        self.refuses(rt, misnamed(rt, self.alloc, number), Refusal::BadRow(2))
+        self.refuses(
+            rt,
+            misnamed_employee(rt, self.alloc, number),
+            Refusal::BadRow(2),
+        )
     }
 
     /// Whether one employee more is too many.
@@ -167,7 +173,7 @@ fn a_key_that_is_absent_before_and_after_is_no_change(rt: HostRuntime) {
 }
 
 /// An employee with a number for a name.
-fn misnamed(rt: &impl Abort, alloc: Global, number: i64) -> Row {
+fn misnamed_employee(rt: &impl Abort, alloc: Global, number: i64) -> Row {
     let values = vec![in alloc; Value::Int(number), Value::Int(number)];
     Row::new(values.expect(rt, "there is memory")).expect(rt, "two values are few")
 }

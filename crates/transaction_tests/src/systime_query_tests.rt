@@ -1,6 +1,6 @@
 //! Two employees over time.
 
-use crate::samples::{ann, by, commit, hire, sets, staged, table};
+use crate::samples::{ann, by, commit, hire, nothing_staged, sets, table};
 use staging::Net;
 use std::alloc::Global;
 use std::process::Abort;
@@ -12,7 +12,7 @@ use values::{Form, Instant, Operator, Shown};
 fn renaming(rt: &impl Abort, alloc: Global, view: &View) -> Net {
     let one = by(rt, alloc, Operator::Equal, 1);
     let sets = sets(rt, alloc, "Bea");
-    let mut staged = staged(rt, alloc);
+    let mut staged = nothing_staged(rt, alloc);
     let renamed = staged.update(view, &table(rt, alloc), &one, &sets);
     assert!(rt; renamed.expect(rt, "it is renamed") == 1);
     staged.net(view).expect(rt, "there is memory")
@@ -27,7 +27,7 @@ fn ann_then_bea(rt: &impl Abort, alloc: Global) -> Tree {
 }
 
 /// What a query shows of the keys that compare so with 1.
-fn shown(
+fn shown_to(
     rt: &impl Abort,
     alloc: Global,
     tree: &Tree,
@@ -60,7 +60,7 @@ fn has(shown: &[Shown], from: Instant, to: Option<Instant>) -> bool {
 /// Whether a query shows just these of the two versions: number 1 as Ann, and as Bea.
 fn shows(rt: &impl Abort, alloc: Global, form: Form, has_ann: bool, has_bea: bool) -> bool {
     let tree = ann_then_bea(rt, alloc);
-    let shown = shown(rt, alloc, &tree, form, Operator::AtMost);
+    let shown = shown_to(rt, alloc, &tree, form, Operator::AtMost);
     has(&shown, 100, Some(200)) == has_ann
         && has(&shown, 200, None) == has_bea
         && shown.len() == has_ann as usize + has_bea as usize
@@ -100,7 +100,7 @@ fn two(rt: &impl Abort, alloc: Global) -> Tree {
 /// How many versions a query of two employees shows.
 fn count_shown(rt: &impl Abort, alloc: Global, form: Form) -> usize {
     let tree = two(rt, alloc);
-    shown(rt, alloc, &tree, form, Operator::AtLeast).len()
+    shown_to(rt, alloc, &tree, form, Operator::AtLeast).len()
 }
 
 /// Forms of a query, and how many versions each shows.

@@ -1,6 +1,6 @@
 //! Transactions that overlap.
 
-use crate::samples::{insertion, key, staged};
+use crate::samples::{insertion, key, nothing_staged};
 use std::alloc::Global;
 use std::process::Abort;
 use tsbtree::View;
@@ -74,7 +74,7 @@ fn other_keys_both_commit(rt: HostRuntime) {
 
 /// When a transaction with no change is committed.
 fn instant_of_nothing(rt: &impl Abort, alloc: Global, engine: &mut Engine) -> Option<Instant> {
-    let nothing = staged(rt, alloc).net(&begin(rt, engine));
+    let nothing = nothing_staged(rt, alloc).net(&begin(rt, engine));
     let nothing = nothing.expect(rt, "there is memory");
     engine.commit(0, nothing, 100).expect(rt, "it is committed")
 }

@@ -43,7 +43,7 @@ fn a_node_has_the_row_until_it_is_deleted(rt: HostRuntime) {
 }
 
 /// Whether the sample takes a row of key 1 at 200, one at 201, and one of key 2 at 100, and how many events it then has.
-fn taken(rt: &impl Abort, alloc: Global) -> (bool, bool, bool, usize) {
+fn put_three(rt: &impl Abort, alloc: Global) -> (bool, bool, bool, usize) {
     let mut node = sample_node(rt, alloc);
     let at_last = put(rt, alloc, &mut node, 1, 200, true);
     let later = put(rt, alloc, &mut node, 1, 201, true);
@@ -53,7 +53,7 @@ fn taken(rt: &impl Abort, alloc: Global) -> (bool, bool, bool, usize) {
 
 #[test]
 fn an_event_must_be_later_than_those_of_its_key(rt: HostRuntime) {
-    assert!(rt; taken(&rt, rt.alloc()) == (false, true, true, 4));
+    assert!(rt; put_three(&rt, rt.alloc()) == (false, true, true, 4));
 }
 
 /// Whether the first event of the sample is carried to an instant.
@@ -82,15 +82,15 @@ fn a_row_from_before_is_carried_and_a_deletion_is_not(rt: HostRuntime) {
 }
 
 /// A node from instant 150 on, to which a row of key 1 from 100 on is carried.
-fn carried(rt: &impl Abort, alloc: Global) -> DataNode {
+fn carrying_node(rt: &impl Abort, alloc: Global) -> DataNode {
     let mut node = empty_node(rt, alloc);
     assert!(rt; put(rt, alloc, &mut node, 1, 100, true));
     since(rt, &node, 150)
 }
 
 /// Its last event, whether it takes one at 150, and how many it then has.
-fn replaced(rt: &impl Abort, alloc: Global) -> (Instant, bool, usize) {
-    let mut node = carried(rt, alloc);
+fn replace_carried(rt: &impl Abort, alloc: Global) -> (Instant, bool, usize) {
+    let mut node = carrying_node(rt, alloc);
     let last = last(rt, alloc, &node);
     let is_taken = put(rt, alloc, &mut node, 1, 150, true);
     (last, is_taken, node.len())
@@ -98,7 +98,7 @@ fn replaced(rt: &impl Abort, alloc: Global) -> (Instant, bool, usize) {
 
 #[test]
 fn an_event_at_the_first_instant_takes_the_place_of_the_carried_one(rt: HostRuntime) {
-    assert!(rt; replaced(&rt, rt.alloc()) == (100, true, 1));
+    assert!(rt; replace_carried(&rt, rt.alloc()) == (100, true, 1));
 }
 
 /// How many events of all keys the part of the sample from 150 on has from an instant to another.

@@ -218,7 +218,7 @@ fn replace(rt: &impl Abort, alloc: Global, node: &mut IndexNode<usize>, to: Inst
 }
 
 /// The same to 150 and then to 200, each with the numbers below the node then.
-fn replaced(rt: &impl Abort, alloc: Global) -> ((bool, usize), (bool, usize)) {
+fn replace_twice(rt: &impl Abort, alloc: Global) -> ((bool, usize), (bool, usize)) {
     let mut node = numbers(rt, alloc);
     let first = replace(rt, alloc, &mut node, 150);
     let kept = digits(&node);
@@ -228,7 +228,7 @@ fn replaced(rt: &impl Abort, alloc: Global) -> ((bool, usize), (bool, usize)) {
 
 #[test]
 fn references_take_the_place_of_the_one_that_has_the_rectangle(rt: HostRuntime) {
-    assert!(rt; replaced(&rt, rt.alloc()) == ((false, 123), (true, 8923)));
+    assert!(rt; replace_twice(&rt, rt.alloc()) == ((false, 123), (true, 8923)));
 }
 
 /// A child that is not a number.

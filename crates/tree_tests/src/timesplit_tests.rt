@@ -75,7 +75,7 @@ fn split(rt: &impl Abort, node: &mut DataNode, instant: Instant) -> usize {
 }
 
 /// Puts a change, and splits the node after it where that is wanted: the sizes with that of the historical half.
-fn changed(
+fn put_change(
     rt: &impl Abort,
     alloc: Global,
     node: &mut DataNode,
@@ -95,7 +95,7 @@ fn shape(rt: &impl Abort, alloc: Global, changes: &[Change]) -> usize {
     let mut sizes: usize = 0;
     let mut node = empty_node(rt, alloc);
     for change in changes {
-        sizes = changed(rt, alloc, &mut node, sizes, *change);
+        sizes = put_change(rt, alloc, &mut node, sizes, *change);
     }
     with_size(sizes, node.len())
 }
@@ -129,7 +129,7 @@ fn one_key_shape(rt: &impl Abort, alloc: Global) -> usize {
     let mut node = empty_node(rt, alloc);
     for at in 1..102u64 {
         let split = if at == 65 { Some(64) } else { None };
-        sizes = changed(rt, alloc, &mut node, sizes, Change(1, at, true, split));
+        sizes = put_change(rt, alloc, &mut node, sizes, Change(1, at, true, split));
     }
     with_size(sizes, node.len())
 }

@@ -4,7 +4,7 @@ ghost use Rattle.treenodes.specs.Tree.{IsTree};
 ghost use Rattle.treenodes.specs.Lookup.{IsParent, IsData};
 
 use crate::samples::{change, key};
-use crate::trees::{grown, halved, leaf, packed, time_split};
+use crate::trees::{grow_by, leaf, pack_at, split_root_at, time_split};
 use std::alloc::Global;
 use std::process::Abort;
 use treenodes::{Nodes, Slot, can_split_key, leaf_at, way, with_keys_split};
@@ -15,15 +15,15 @@ use values::{Instant, KeyBytes};
 fn two_rows(rt: &impl Abort, alloc: Global) -> Nodes
     ensures { IsTree result }
 {
-    let nodes = grown(rt, leaf(rt, alloc), change(rt, alloc, 1, 100, true));
-    grown(rt, nodes, change(rt, alloc, 2, 200, true))
+    let nodes = grow_by(rt, leaf(rt, alloc), change(rt, alloc, 1, 100, true));
+    grow_by(rt, nodes, change(rt, alloc, 2, 200, true))
 }
 
 /// Its data node split at an instant, below a new root.
 fn two_halves(rt: &impl Abort, alloc: Global, instant: Instant) -> Nodes
     ensures { IsTree result }
 {
-    halved(rt, alloc, two_rows(rt, alloc), instant)
+    split_root_at(rt, alloc, two_rows(rt, alloc), instant)
 }
 
 /// The numbers of the root and of the data node at a point, which is below the root.
@@ -79,7 +79,7 @@ fn some_packed(rt: &impl Abort, alloc: Global, from: usize, to: usize) -> Nodes
 {
     let mut nodes = two_of_history(rt, alloc);
     for number in from..to {
-        nodes = packed(rt, alloc, nodes, number);
+        nodes = pack_at(rt, alloc, nodes, number);
     }
     nodes
 }
@@ -131,7 +131,7 @@ fn share(rt: &impl Abort, nodes: &Nodes) -> Nodes
 fn counts_of_both(rt: &impl Abort, alloc: Global) -> Option<(usize, usize)> {
     let nodes = two_rows(rt, alloc);
     let before = share(rt, &nodes);
-    let after = halved(rt, alloc, nodes, 200);
+    let after = split_root_at(rt, alloc, nodes, 200);
     if has_row(rt, alloc, &before, 2, 200) && has_row(rt, alloc, &after, 2, 200) {
         Some((before.len(), after.len()))
     } else {
@@ -192,11 +192,11 @@ fn start(slot: Option<&Slot>) -> Instant {
 
 /// When the first unpacked node of history starts, and when the next one does; 0 where there is none.
 fn first_starts(nodes: &Nodes) -> (Instant, Instant) {
-    match nodes.unpacked(None) {
+    match nodes.first_unpacked(None) {
         None => (0, 0),
         Some(first) => {
             let rect = first.child().rect();
-            (rect.time().from, start(nodes.unpacked(Some(rect))))
+            (rect.time().from, start(nodes.first_unpacked(Some(rect))))
         }
     }
 }
@@ -246,8 +246,11 @@ fn a_row_is_read_off_the_block_of_its_node(rt: HostRuntime) {
 fn starts_of_both(rt: &impl Abort, alloc: Global) -> (Instant, Instant) {
     let nodes = two_of_history(rt, alloc);
     let before = share(rt, &nodes);
-    let after = packed(rt, alloc, nodes, 1);
-    (start(before.unpacked(None)), start(after.unpacked(None)))
+    let after = pack_at(rt, alloc, nodes, 1);
+    (
+        start(before.first_unpacked(None)),
+        start(after.first_unpacked(None)),
+    )
 }
 
 #[test]

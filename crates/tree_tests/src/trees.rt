@@ -11,7 +11,8 @@ use blocks::{Block, has_block};
 use std::alloc::Global;
 use std::process::Abort;
 use treenodes::{
-    Nodes, can_split_time, leaf_alone, leaf_at, raised, with_block, with_event, with_time_split,
+    Nodes, can_split_time, leaf_alone, leaf_at, with_block, with_event, with_new_root,
+    with_time_split,
 };
 use values::{Event, Instant, KeyBytes, LAST};
 
@@ -27,7 +28,7 @@ pub(crate) fn leaf(rt: &impl Abort, alloc: Global) -> Nodes
 }
 
 /// The tree with an event that is later than all.
-pub(crate) fn grown(rt: &impl Abort, nodes: Nodes, event: Event) -> Nodes
+pub(crate) fn grow_by(rt: &impl Abort, nodes: Nodes, event: Event) -> Nodes
     requires tree { IsTree nodes }
     requires holds { HoldsMap nodes (changes nodes) }
     requires later { latest (changes nodes) < event.at }
@@ -68,12 +69,12 @@ pub(crate) fn time_split(
 }
 
 /// The halves at an instant of a tree of one data node, below a new root.
-pub(crate) fn halved(rt: &impl Abort, alloc: Global, nodes: Nodes, instant: Instant) -> Nodes
+pub(crate) fn split_root_at(rt: &impl Abort, alloc: Global, nodes: Nodes, instant: Instant) -> Nodes
     requires { IsTree nodes }
     ensures { IsTree result }
 {
     let number = nodes.len();
-    let Ok(nodes) = raised(alloc, nodes) else {
+    let Ok(nodes) = with_new_root(alloc, nodes) else {
         panic!(rt; "there is memory")
     };
     let (leaf, _visits) = leaf_at(&nodes, &KeyBytes::least(alloc), LAST);
@@ -86,17 +87,17 @@ fn block_at(rt: &impl Abort, alloc: Global, nodes: &Nodes, number: usize) -> Opt
     ensures { IfSome result (λ b. IsAt nodes.now number (data_node b.node)) }
 {
     let slot = nodes.get(number)?;
-    if slot.level() > 0 || !slot.is_unpacked() || !has_block(slot.unpacked()) {
+    if slot.level() > 0 || !slot.is_unpacked() || !has_block(slot.data_node()) {
         return None;
     }
-    let Ok(block) = Block::pack(alloc, slot.unpacked()) else {
+    let Ok(block) = Block::pack(alloc, slot.data_node()) else {
         panic!(rt; "there is memory")
     };
     Some(block)
 }
 
 /// The nodes with a node of history packed, where one stands unpacked at a number.
-pub(crate) fn packed(rt: &impl Abort, alloc: Global, nodes: Nodes, number: usize) -> Nodes
+pub(crate) fn pack_at(rt: &impl Abort, alloc: Global, nodes: Nodes, number: usize) -> Nodes
     requires { IsTree nodes }
     ensures { IsTree result }
 {

@@ -2,7 +2,7 @@
 ghost use Rattle.treenodes.specs.Tree.{IsTree};
 
 use crate::samples::{all, all_keys, change, count, key};
-use crate::trees::{grown, halved, leaf, packed};
+use crate::trees::{grow_by, leaf, pack_at, split_root_at};
 use blocks::InPlace;
 use std::alloc::Global;
 use std::process::Abort;
@@ -14,9 +14,9 @@ use values::{Instant, LAST};
 fn single(rt: &impl Abort, alloc: Global) -> Nodes
     ensures { IsTree result }
 {
-    let nodes = grown(rt, leaf(rt, alloc), change(rt, alloc, 1, 100, true));
-    let nodes = grown(rt, nodes, change(rt, alloc, 2, 150, true));
-    grown(rt, nodes, change(rt, alloc, 1, 200, false))
+    let nodes = grow_by(rt, leaf(rt, alloc), change(rt, alloc, 1, 100, true));
+    let nodes = grow_by(rt, nodes, change(rt, alloc, 2, 150, true));
+    grow_by(rt, nodes, change(rt, alloc, 1, 200, false))
 }
 
 /// The same in two leaves, of which the second begins at 250 and has the row of key 2 alone. The first is packed, where
@@ -24,9 +24,9 @@ fn single(rt: &impl Abort, alloc: Global) -> Nodes
 fn some(rt: &impl Abort, alloc: Global, is_packed: bool) -> Nodes
     ensures { IsTree result }
 {
-    let nodes = halved(rt, alloc, single(rt, alloc), 250);
+    let nodes = split_root_at(rt, alloc, single(rt, alloc), 250);
     if is_packed {
-        packed(rt, alloc, nodes, 1)
+        pack_at(rt, alloc, nodes, 1)
     } else {
         nodes
     }
@@ -87,7 +87,13 @@ fn a_row_stands_until_its_key_is_changed(rt: HostRuntime) {
 }
 
 /// When a key was last changed after an instant; 0 where it was not.
-fn changed(rt: &impl Abort, alloc: Global, is_packed: bool, number: u8, since: Instant) -> Instant {
+fn last_change_of(
+    rt: &impl Abort,
+    alloc: Global,
+    is_packed: bool,
+    number: u8,
+    since: Instant,
+) -> Instant {
     let nodes = some(rt, alloc, is_packed);
     changed_since(&nodes, &key(rt, alloc, number), since).unwrap_or(0)
 }
@@ -102,7 +108,7 @@ fn a_deletion_in_an_earlier_leaf_is_a_change(rt: HostRuntime) {
             (2, 150, 0),
             (3, 0, 0),
         ] {
-            let found = changed(&rt, rt.alloc(), is_packed, number, since);
+            let found = last_change_of(&rt, rt.alloc(), is_packed, number, since);
             assert!(rt; found == at, "key {number} since {since}");
         }
     }

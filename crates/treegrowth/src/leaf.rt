@@ -16,9 +16,9 @@ ghost use Rattle.treegrowth.specs.Leaves.{IsLeafSplit};
 ghost use Rattle.treegrowth.specs.Point.{CanSplitAt, IsReached, halves_at};
 
 use crate::point::{SplitPoint, overflow_point};
-use crate::relief::relieved;
+use crate::relief::relieve;
 use std::alloc::Global;
-use treenodes::{Nodes, current_at, raised, with_keys_split, with_time_split};
+use treenodes::{Nodes, current_at, with_keys_split, with_new_root, with_time_split};
 use values::{Instant, Mem};
 
 /// The most events or references of a node.
@@ -72,7 +72,7 @@ pub(crate) fn with_leaf_split(
         return with_root_split(alloc, nodes, point);
     }
     let nodes = with_halves_at(alloc, nodes, way[depth - 1], number, point)?;
-    relieved(alloc, nodes, way, depth - 1)
+    relieve(alloc, nodes, way, depth - 1)
 }
 
 /// The nodes with a root that is a data node split, below a new one.
@@ -87,7 +87,7 @@ fn with_root_split(alloc: Global, nodes: Nodes, point: &SplitPoint) -> Mem<Nodes
     ensures err { OnlyMemory result }
 {
     let number = nodes.len();
-    let nodes = raised(alloc, nodes)?;
+    let nodes = with_new_root(alloc, nodes)?;
     with_halves_at(alloc, nodes, 0, number, point)
 }
 

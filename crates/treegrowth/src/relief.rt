@@ -14,11 +14,11 @@ use crate::leaf::CAPACITY;
 use crate::point::STAY_LIMIT;
 use indexnode::IndexNode;
 use std::alloc::Global;
-use treenodes::{Nodes, raised, with_index_keys_split, with_index_time_split};
+use treenodes::{Nodes, with_index_keys_split, with_index_time_split, with_new_root};
 use values::{Instant, Mem};
 
 /// The nodes with an index node and those above it within their capacity, by splits up the way to the root.
-pub(crate) fn relieved(alloc: Global, nodes: Nodes, way: &[usize], depth: usize) -> Mem<Nodes>
+pub(crate) fn relieve(alloc: Global, nodes: Nodes, way: &[usize], depth: usize) -> Mem<Nodes>
     requires tree { IsTree nodes }
     requires way { IsWayDown nodes way.now depth }
     requires others { HoldsAt (AreOthersSmall nodes) way.now depth }
@@ -35,7 +35,7 @@ pub(crate) fn relieved(alloc: Global, nodes: Nodes, way: &[usize], depth: usize)
         return with_root_split(alloc, nodes);
     }
     let nodes = with_index_split(alloc, nodes, way[depth - 1], number)?;
-    relieved(alloc, nodes, way, depth - 1)
+    relieve(alloc, nodes, way, depth - 1)
 }
 
 /// The nodes with a root that is split, below a new one.
@@ -48,7 +48,7 @@ fn with_root_split(alloc: Global, nodes: Nodes) -> Mem<Nodes>
     ensures err { OnlyMemory result }
 {
     let number = nodes.len();
-    let nodes = raised(alloc, nodes)?;
+    let nodes = with_new_root(alloc, nodes)?;
     with_index_split(alloc, nodes, 0, number)
 }
 

@@ -1,7 +1,7 @@
 -- A tree holds what it held where a node's block takes its place.
 use Rattle.std.proofs.Common.{◌≡◌, ℕ, ◌≤◌, List, [], ◌∷◌, set, zero, suc, refl, sym, ap, subst, ◌∙◌, inl, inr}
 use Rattle.values.specs.Event.{Event}
-use Rattle.blocks.specs.Packed.{Packed}
+use Rattle.blocks.specs.PackedNode.{Packed}
 use Rattle.treenodes.specs.Node.{TreeNode, IsAt, data_node, packed_node, count_of, events_of}
 use Rattle.treenodes.specs.Tree.{IsTree}
 use Rattle.treenodes.specs.Map.{HoldsMap, IsCut, EndsBy, changes, latest, put_all}

@@ -3,7 +3,7 @@ use Rattle.std.specs.Prelude.{◌≡◌, ℕ, List, [], Option, Some, None, leng
 use Rattle.values.specs.Event.{Event}
 use Rattle.keyrange.specs.Rect.{Area}
 use Rattle.datanode.specs.Node.{Node}
-use Rattle.blocks.specs.Packed.{Packed as Block}
+use Rattle.blocks.specs.PackedNode.{Packed as Block}
 use Rattle.indexnode.specs.declared.reference.Reference.{Reference}
 use Rattle.treenodes.specs.declared.node.Child.{Child}
 use Rattle.treenodes.specs.declared.node.Child.TheVariants.{Data, Packed, Index}

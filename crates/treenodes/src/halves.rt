@@ -16,7 +16,7 @@ use std::alloc::Global;
 use values::Mem;
 
 /// The nodes with other ones at two numbers, and one more.
-fn placed(
+fn place_halves(
     nodes: Nodes,
     number: usize,
     first: Slot,
@@ -121,5 +121,5 @@ pub(crate) fn with_halves(
     let level = nodes.at(number).level();
     let (low, high) = slots_of(alloc, level, first, second)?;
     let above = parent_of_halves(alloc, &nodes, parent, number, &low, &high)?;
-    placed(nodes, number, low, parent, above, high)
+    place_halves(nodes, number, low, parent, above, high)
 }

@@ -18,7 +18,7 @@ pub use lookup::{current_at, leaf_at, way};
 pub use node::{Child, Slot};
 pub use nodes::Nodes;
 pub use packing::with_block;
-pub use root::{leaf_alone, raised, whole};
+pub use root::{leaf_alone, whole, with_new_root};
 pub use split::{
     can_split_key, can_split_time, with_index_keys_split, with_index_time_split, with_keys_split,
     with_time_split,

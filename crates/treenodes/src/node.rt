@@ -140,7 +140,7 @@ impl Slot {
     }
 
     /// The data node of history that stands here unpacked.
-    pub fn unpacked(&self) -> &DataNode
+    pub fn data_node(&self) -> &DataNode
         requires { IsTrue (is_unpacked self.now) }
         ensures { self.now ≡ seen self.now.level (Child.Data result.now) }
     {

@@ -78,7 +78,7 @@ impl Nodes {
 
     /// The first data node of history that is not packed: by the start of time, then by the lower key. After a rectangle
     /// it is the first that comes behind that one. It takes no memory.
-    pub fn unpacked(&self, after: Option<&Rect>) -> Option<&Slot>
+    pub fn first_unpacked(&self, after: Option<&Rect>) -> Option<&Slot>
         ensures { MatchOption result
             ((p : TreeNode) → IsWaiting self.now (option_copied after.entry) p → ⊥)
             (λ s. IsFirstWaiting self.now (option_copied after.entry) s.now) }

@@ -60,7 +60,7 @@ fn above(alloc: Global, root: &Slot, level: usize, number: usize) -> Mem<Slot>
 }
 
 /// The nodes with a new root, whose one reference is to the old one, which has a new number.
-pub fn raised(alloc: Global, nodes: Nodes) -> Mem<Nodes>
+pub fn with_new_root(alloc: Global, nodes: Nodes) -> Mem<Nodes>
     requires { IsTree nodes }
     ensures tree { IfOk result IsTree }
     ensures parent { IfOk result (λ s. IsParent s 0 (length nodes)) }

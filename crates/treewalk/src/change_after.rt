@@ -67,11 +67,11 @@ fn change_before(nodes: &Nodes, key: &KeyBytes, after: Instant, bound: Instant) 
             bound = time.from - 1;
         }
     }
-    walked(nodes, key, until)
+    change_by_leaves(nodes, key, until)
 }
 
 /// The same, leaf after leaf.
-fn walked(nodes: &Nodes, key: &KeyBytes, after: Instant) -> Option<Instant>
+fn change_by_leaves(nodes: &Nodes, key: &KeyBytes, after: Instant) -> Option<Instant>
     requires { IsTree nodes.now }
     ensures { (m : List Change) → HoldsMap nodes.now m → result ≡ event_after m after key.now }
 {

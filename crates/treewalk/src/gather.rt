@@ -27,7 +27,7 @@ pub(crate) enum Query {
 }
 
 /// What is asked of the data nodes that have a point in question, one node after the other.
-pub(crate) fn gathered<B: Blocks>(
+pub(crate) fn gather<B: Blocks>(
     alloc: Global,
     blocks: &mut B,
     nodes: &Nodes,
@@ -41,12 +41,12 @@ pub(crate) fn gathered<B: Blocks>(
     let (from, to) = instants(query);
     match rect_between(range, from, to)? {
         None => Ok(Vec::new(alloc)),
-        Some(rect) => gathered_in(alloc, blocks, nodes, &rect, range, query),
+        Some(rect) => gather_in(alloc, blocks, nodes, &rect, range, query),
     }
 }
 
 /// The same, where there are points in question. A leaf that has them all is asked alone, and no list is made of it.
-fn gathered_in<B: Blocks>(
+fn gather_in<B: Blocks>(
     alloc: Global,
     blocks: &mut B,
     nodes: &Nodes,

@@ -9,7 +9,7 @@ ghost use Rattle.eventlist.specs.Listing.{events_in, standing};
 ghost use Rattle.treenodes.specs.Tree.{IsTree};
 ghost use Rattle.treenodes.specs.Map.{HoldsMap};
 
-use crate::gather::{Query, gathered};
+use crate::gather::{Query, gather};
 use blocks::Blocks;
 use eventlist::sort_events;
 use keyrange::KeyRange;
@@ -33,7 +33,7 @@ pub fn events<B: Blocks>(
     ensures sorted { IfOk result (λ v. IsStrictlySortedBy event_cmp v.items) }
     ensures err { OnlyMemory result }
 {
-    let mut found = gathered(alloc, blocks, nodes, range, Query::Between(from, to))?;
+    let mut found = gather(alloc, blocks, nodes, range, Query::Between(from, to))?;
     sort_events(&mut found)?;
     Ok(found)
 }
@@ -54,7 +54,7 @@ pub fn standing<B: Blocks>(
     ensures err { OnlyMemory result }
 {
     // No event is after the last instant.
-    let mut rows = gathered(alloc, blocks, nodes, range, Query::At(instant.min(LAST)))?;
+    let mut rows = gather(alloc, blocks, nodes, range, Query::At(instant.min(LAST)))?;
     sort_events(&mut rows)?;
     Ok(rows)
 }

@@ -1,6 +1,6 @@
 -- Blocks in the places of nodes of history.
 use Rattle.std.specs.Prelude.{◌≡◌, ℕ, List, Bool, true, false, IsTrue, slice_set}
-use Rattle.blocks.specs.Packed.{Packed}
+use Rattle.blocks.specs.PackedNode.{Packed}
 use Rattle.datanode.specs.Node.{Node}
 use Rattle.keyrange.specs.Rect.{Area}
 use Rattle.treenodes.specs.Node.{TreeNode, IsAt, data_node, packed_node}

@@ -42,7 +42,7 @@ pub(crate) fn number_of_node(nodes: &Nodes, node: &DataNode) -> Option<usize>
         None => return None,
         Some(number) => number,
     };
-    if nodes.at(number).unpacked().is_same(node) {
+    if nodes.at(number).data_node().is_same(node) {
         Some(number)
     } else {
         None

@@ -217,16 +217,16 @@ impl View {
 
     /// The first data node of history that is not packed: by the start of its time, then by its lower key. After a
     /// rectangle it is the first that comes behind that one. The nodes of a view form a tree, so no two data nodes start at one point. It takes no memory.
-    pub fn unpacked(&self, after: Option<&Rect>) -> Option<&DataNode>
+    pub fn first_unpacked(&self, after: Option<&Rect>) -> Option<&DataNode>
         ensures first { MatchOption result
             ((p : TreeNode) → IsWaiting self.now.nodes (option_copied after.entry) p → ⊥)
             (λ n. IsFirstWaiting self.now.nodes (option_copied after.entry) (data_node n.now)) }
         ensures block { IfSome result (λ n. HasBlock n.now) }
         ensures tree { IsTree self.now.nodes }
     {
-        match self.nodes().unpacked(after) {
+        match self.nodes().first_unpacked(after) {
             None => None,
-            Some(slot) => Some(slot.unpacked()),
+            Some(slot) => Some(slot.data_node()),
         }
     }
 
@@ -238,7 +238,7 @@ impl View {
     {
         match number_of(self.nodes(), rect) {
             None => None,
-            Some(number) => Some(self.nodes.at(number).unpacked()),
+            Some(number) => Some(self.nodes.at(number).data_node()),
         }
     }
 }

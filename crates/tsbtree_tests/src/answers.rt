@@ -29,7 +29,7 @@ fn count_standing(rt: &impl Abort, alloc: Global, view: &View, at: Instant) -> u
 }
 
 /// The number in a key's row at an instant, and how many nodes were visited.
-pub(crate) fn found(
+pub(crate) fn number_in_row(
     rt: &impl Abort,
     alloc: Global,
     view: &View,
@@ -61,7 +61,7 @@ pub(crate) fn answers(
 ) -> Answers {
     let key = key(rt, alloc, number);
     (
-        found(rt, alloc, view, number, at).0,
+        number_in_row(rt, alloc, view, number, at).0,
         view.changed_since(&key, at),
         view.next_change(&key, at),
         count(rt, alloc, view, at),

@@ -16,7 +16,7 @@ use values::{Instant, LAST};
 
 /// Puts the block of a view's first unpacked node of history into a tree, where the node stands there unpacked.
 fn install_first(rt: &impl Abort, alloc: Global, tree: &mut Tree, view: &View) -> bool {
-    match view.unpacked(None) {
+    match view.first_unpacked(None) {
         None => false,
         Some(node) => {
             let block = Block::pack(alloc, node).expect(rt, "there is memory");
@@ -36,7 +36,7 @@ fn pack_first(rt: &impl Abort, alloc: Global, tree: &mut Tree) -> bool {
 }
 
 /// A tree after its first unpacked nodes of history are packed, so many.
-fn packed(rt: &impl Abort, alloc: Global, tree: Tree, count: usize) -> Tree {
+fn pack_firsts(rt: &impl Abort, alloc: Global, tree: Tree, count: usize) -> Tree {
     let mut tree = tree;
     for _ in 0..count {
         assert!(rt; pack_first(rt, alloc, &mut tree));
@@ -46,7 +46,7 @@ fn packed(rt: &impl Abort, alloc: Global, tree: Tree, count: usize) -> Tree {
 
 /// The tree whose historical node has two parents, with that node packed.
 fn two_parents_packed(rt: &impl Abort, alloc: Global) -> Tree {
-    packed(rt, alloc, two_parents(rt, alloc), 1)
+    pack_firsts(rt, alloc, two_parents(rt, alloc), 1)
 }
 
 /// Whether a shape shows one packed node, in the place of the historical one.
@@ -102,7 +102,10 @@ fn a_node_of_two_parents_is_packed_once(rt: HostRuntime) {
 
 /// When a view's first unpacked node starts, and when its unpacked node of a rectangle does; 0 where there is none.
 fn starts(view: &View, rect: &Rect) -> (Instant, Instant) {
-    (start(view.unpacked(None)), start(view.historical(rect)))
+    (
+        start(view.first_unpacked(None)),
+        start(view.historical(rect)),
+    )
 }
 
 /// The same of the tree whose historical node has two parents, for that node's rectangle: before it is packed, and
@@ -114,7 +117,7 @@ fn starts_of_both(rt: &impl Abort, alloc: Global) -> Starts {
     let before = view_of(rt, &tree);
     assert!(rt; install_first(rt, alloc, &mut tree, &before));
     let after = tree.current();
-    let first = before.unpacked(None).expect(rt, "a node of history");
+    let first = before.first_unpacked(None).expect(rt, "a node of history");
     (
         starts(&before, first.rect()),
         starts(after, first.rect()),
@@ -185,7 +188,7 @@ fn a_block_is_taken_where_its_node_stands_unpacked(rt: HostRuntime) {
 fn is_alike(rt: &impl Abort, alloc: Global, count: usize, number: u8, at: Instant) -> bool {
     let tree = few_changes_split(rt, alloc, &[120, 140, 160, 180, 200]);
     let before = view_of(rt, &tree);
-    let after = answers_of(rt, alloc, packed(rt, alloc, tree, count), number, at);
+    let after = answers_of(rt, alloc, pack_firsts(rt, alloc, tree, count), number, at);
     answers(rt, alloc, &before, number, at) == after
 }
 
@@ -209,11 +212,11 @@ fn packed_in_turn(rt: &impl Abort, alloc: Global) -> (Instant, Instant, usize) {
     let mut tree = one_key_split(rt, alloc);
     let mut last = 0;
     for at in 1..66u64 {
-        if start(tree.current().unpacked(None)) == at && pack_first(rt, alloc, &mut tree) {
+        if start(tree.current().first_unpacked(None)) == at && pack_first(rt, alloc, &mut tree) {
             last = at;
         }
     }
-    let left = start(tree.current().unpacked(None));
+    let left = start(tree.current().first_unpacked(None));
     (last, left, count_packed(&shape_of(rt, alloc, tree)))
 }
 
@@ -225,11 +228,11 @@ fn nodes_are_packed_in_the_order_of_their_starts(rt: HostRuntime) {
 /// How many unpacked nodes of history come one after the other, up to 100.
 fn count_unpacked(view: &View) -> usize {
     let mut count = 0usize;
-    let mut next = view.unpacked(None);
+    let mut next = view.first_unpacked(None);
     for _ in 0..100 {
         if let Some(node) = next {
             count = count.saturating_add(1);
-            next = view.unpacked(Some(node.rect()));
+            next = view.first_unpacked(Some(node.rect()));
         }
     }
     count
@@ -237,7 +240,7 @@ fn count_unpacked(view: &View) -> usize {
 
 /// How many are left of those of one key, after some are packed.
 fn count_left(rt: &impl Abort, alloc: Global, count: usize) -> usize {
-    let tree = packed(rt, alloc, one_key_split(rt, alloc), count);
+    let tree = pack_firsts(rt, alloc, one_key_split(rt, alloc), count);
     count_unpacked(tree.current())
 }
 

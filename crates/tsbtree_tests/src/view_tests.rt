@@ -1,5 +1,5 @@
 //! What views answer, of trees with few changes and with many. A test keeps no tree: each helper makes its own.
-use crate::answers::{answers_of, count, found};
+use crate::answers::{answers_of, count, number_in_row};
 use crate::growth::{
     few_changes, few_changes_split, grow, new_tree, one_key, one_key_split, one_row, split_at,
 };
@@ -9,7 +9,7 @@ use tsbtree::{Tree, View};
 use values::{Instant, LAST};
 
 /// The number in the row of key 1 after few changes.
-fn shown(rt: &impl Abort, alloc: Global, at: Instant) -> Option<i64> {
+fn number_at(rt: &impl Abort, alloc: Global, at: Instant) -> Option<i64> {
     answers_of(rt, alloc, few_changes(rt, alloc), 1, at).0
 }
 
@@ -23,12 +23,12 @@ fn a_row_stands_until_its_key_is_changed(rt: HostRuntime) {
         (200, None),
         (u64::MAX, None),
     ] {
-        assert!(rt; shown(&rt, rt.alloc(), at) == value, "at {at}");
+        assert!(rt; number_at(&rt, rt.alloc(), at) == value, "at {at}");
     }
 }
 
 /// When a key was last changed above an instant, over a split.
-fn changed(rt: &impl Abort, alloc: Global, number: u8, start: Instant) -> Option<Instant> {
+fn last_change_of(rt: &impl Abort, alloc: Global, number: u8, start: Instant) -> Option<Instant> {
     let tree = few_changes_split(rt, alloc, &[150]);
     answers_of(rt, alloc, tree, number, start).1
 }
@@ -41,7 +41,7 @@ fn changes_are_found_over_a_split(rt: HostRuntime) {
         (2, 99, Some(100)),
         (2, 100, None),
     ] {
-        let found = changed(&rt, rt.alloc(), number, start);
+        let found = last_change_of(&rt, rt.alloc(), number, start);
         assert!(rt; found == at, "key {number} since {start}");
     }
 }
@@ -106,7 +106,7 @@ fn of_levels(rt: &impl Abort, alloc: Global, levels: usize) -> Tree {
 /// How many nodes a look-up of key 1 visits.
 fn visits(rt: &impl Abort, alloc: Global, levels: usize, at: Instant) -> usize {
     let tree = of_levels(rt, alloc, levels);
-    found(rt, alloc, tree.current(), 1, at).1
+    number_in_row(rt, alloc, tree.current(), 1, at).1
 }
 
 #[test]
@@ -124,7 +124,7 @@ fn a_look_up_visits_one_node_of_each_level(rt: HostRuntime) {
 type Answers = (Instant, Option<i64>, usize, usize);
 
 fn answers(rt: &impl Abort, alloc: Global, view: &View) -> Answers {
-    let number = found(rt, alloc, view, 2, LAST).0;
+    let number = number_in_row(rt, alloc, view, 2, LAST).0;
     let shape = view.shape(alloc).expect(rt, "there is memory");
     (
         view.last(),

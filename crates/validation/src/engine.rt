@@ -14,7 +14,7 @@ ghost use Rattle.validation.specs.Outcome.{changed_in};
 ghost use Rattle.validation.specs.Split.{IsSplit};
 
 use crate::cut::Cut;
-use crate::packed::Packed;
+use crate::packed_node::PackedNode;
 use commitclock::Clock;
 use staging::Net;
 use std::alloc::Global;
@@ -143,7 +143,7 @@ impl Engine {
 
     /// Puts a block in the place of its node, where that is in the tree unpacked: one of the same rectangle and the same
     /// events. False where there is none; then, and where memory runs out, nothing has changed.
-    pub fn install(&mut self, packed: Packed) -> Mem<bool>
+    pub fn install(&mut self, packed: PackedNode) -> Mem<bool>
         ensures same { HoldsSame self.old self.new }
         ensures installed { IfOk result (λ done. IsInstalled done self.old self.new packed) }
         ensures err { OnErr result (self.new ≡ self.old) }

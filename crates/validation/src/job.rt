@@ -58,7 +58,7 @@ pub fn find_job(view: &View, after: Option<&Rect>) -> Mem<Option<Job>>
     ensures err { OnlyMemory result }
     ensures tree { IsTree view.now.nodes }
 {
-    match view.unpacked(after) {
+    match view.first_unpacked(after) {
         None => Ok(None),
         Some(node) => {
             let node = node.copy()?;

@@ -4,9 +4,9 @@
 mod cut;
 mod engine;
 mod job;
-mod packed;
+mod packed_node;
 
 pub use cut::Cut;
 pub use engine::Engine;
 pub use job::{Job, find_job};
-pub use packed::{Packed, pack_job};
+pub use packed_node::{PackedNode, pack_job};

@@ -56,4 +56,4 @@ returns-in-Err-clause-err g c =
     let texts = map g.S.AsStr.text c.args.words.now in
     let is_command : app_of c.in-Ok.command ≡ command = c.in-Ok.ensures in
     let fails = c.in-Err.ensures.kinds (ap is_simple_and_free is_command ∙ command_is_free) in
-    c.refused.ensures texts (subst (λ (a : App). HasKind (fault_of a texts) c.in-Err.error) is_command fails)
+    c.fault_from.ensures texts (subst (λ (a : App). HasKind (fault_of a texts) c.in-Err.error) is_command fails)

@@ -9,8 +9,8 @@ use Rattle.treegrowth.proofs.LeafHalves.{areas, are, first as lower, second as u
 use Rattle.treegrowth.proofs.LeavesKept.{split_then}
 use Rattle.treegrowth.proofs.leaf.with_leaf_split.Goals as goal
 
-pub relieved-requires-clause-way : goal.relieved-requires-clause-way
-relieved-requires-clause-way c =
+pub relieve-requires-clause-way : goal.relieve-requires-clause-way
+relieve-requires-clause-way c =
     let nodes = c.args.nodes in
     let next = c.in_ok-nodes.nodes in
     let way = c.args.way.now in
@@ -24,8 +24,8 @@ relieved-requires-clause-way c =
     let down = way_kept nodes next way c.args.depth c.requires.tree c.requires.way some 0 (lower nodes number point h) (upper nodes number point h) halved in
     down
 
-pub relieved-requires-clause-others : goal.relieved-requires-clause-others
-relieved-requires-clause-others c = λ d.
+pub relieve-requires-clause-others : goal.relieve-requires-clause-others
+relieve-requires-clause-others c = λ d.
     let nodes = c.args.nodes in
     let next = c.in_ok-nodes.nodes in
     let way = c.args.way.now in
@@ -39,8 +39,8 @@ relieved-requires-clause-others c = λ d.
     let down = way_kept nodes next way c.args.depth c.requires.tree c.requires.way some 0 (lower nodes number point h) (upper nodes number point h) halved in
     subst (AreOthersSmall next) (get_or_default way (c.args.depth - 1) 0 d down.within) (leaf_others nodes number point h next parent c.requires.tree above halved)
 
-pub relieved-requires-clause-grown : goal.relieved-requires-clause-grown
-relieved-requires-clause-grown c = λ d.
+pub relieve-requires-clause-grown : goal.relieve-requires-clause-grown
+relieve-requires-clause-grown c = λ d.
     let nodes = c.args.nodes in
     let next = c.in_ok-nodes.nodes in
     let way = c.args.way.now in
@@ -68,6 +68,6 @@ returns-clause-leaves c = λ d n pair at made.
     let halved = c.in_ok-nodes.ensures.halved h.node (areas nodes number point h) h.there (are nodes number point h) in
     let down = way_kept nodes next way c.args.depth c.requires.tree c.requires.way some 0 (lower nodes number point h) (upper nodes number point h) halved in
     let there = subst (λ i. IsAt nodes i (data_node n)) (get_or_default way c.args.depth d 0 c.requires.way.within) at in
-    weaker c.relieved.result (HaveSameLeaves next) (λ s. IsLeafSplit nodes s n.rect pair)
+    weaker c.relieve.result (HaveSameLeaves next) (λ s. IsLeafSplit nodes s n.rect pair)
     (λ s same. split_then nodes next s n.rect pair (leaf_leaves nodes number point h next parent c.requires.tree above halved n pair there made) same)
-    c.relieved.ensures.leaves
+    c.relieve.ensures.leaves

@@ -51,4 +51,4 @@ pub loop-until-preserved : goal.loop-until-preserved
 loop-until-preserved c = c.loop-until.invariant
 
 pub returns : goal.returns
-returns c m holds = c.walked.ensures m holds ∙ c.loop-until.invariant.1 m holds
+returns c m holds = c.change_by_leaves.ensures m holds ∙ c.loop-until.invariant.1 m holds

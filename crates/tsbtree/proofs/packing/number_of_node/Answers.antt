@@ -24,6 +24,6 @@ pub returns-else-is_same : goal.returns-else-is_same
 returns-else-is_same c = λ j at.
     let h = subst (λ (o : Option ℕ). MatchOption o ((n : Node) → IsHistorical c.args.nodes.now c.rect-2.result.now n → ⊥) (λ i. IsHistoricalAt c.args.nodes.now c.rect-2.result.now i)) c.in-Some.is c.number_of.ensures in
     let one : h.node ≡ c.args.node.now = is_found c.args.nodes.now c.requires.tree c.rect-2.result.now c.rect-2.ensures.area c.in-Some.number h j c.args.node.now at (sym c.rect-2.ensures.rect) in
-    let e : seen c.at.result.now.level (Data c.unpacked.result.now) ≡ data_node h.node = sym c.unpacked.ensures ∙ one_at c.args.nodes.now c.in-Some.number c.at.result.now (data_node h.node) c.at.ensures h.there in
-    let is : c.unpacked.result.now ≡ h.node = λ t. record { rect = (e t).rect; events = events_of (e t).content } in
+    let e : seen c.at.result.now.level (Data c.data_node.result.now) ≡ data_node h.node = sym c.data_node.ensures ∙ one_at c.args.nodes.now c.in-Some.number c.at.result.now (data_node h.node) c.at.ensures h.there in
+    let is : c.data_node.result.now ≡ h.node = λ t. record { rect = (e t).rect; events = events_of (e t).content } in
     false≢true (sym c.if-is_same.false ∙ c.is_same.ensures.1 (is ∙ one))

@@ -1,0 +1,171 @@
+//! Packed nodes.
+ghost use Rattle.std.specs.Prelude.{◌≡◌, ◌↔◌, Some, List, length, IsTrue, IsSome, IfOk, IfSome};
+ghost use Rattle.values.specs.Memory.{OnlyMemory};
+ghost use Rattle.values.specs.Events.{row_until, event_since};
+ghost use Rattle.values.specs.Event.{Event as Change};
+ghost use Rattle.keyrange.specs.Rect.{IsArea, has_point};
+ghost use Rattle.eventlist.specs.Listing.{events_in};
+ghost use Rattle.datanode.specs.Node.{Node, IsCutOf};
+ghost use Rattle.datanode.specs.NextChange.{event_after};
+ghost use Rattle.blocks.specs.Block.{block_of, HasBlock, IsHeldNode, IsBlockOf};
+
+use crate::block::{pack, unpack};
+use crate::in_place::{at, changed_since, event_count, next_change};
+use crate::listing::events_in;
+use bytes::Bytes;
+use datanode::DataNode;
+use keyrange::{KeyRange, Rect};
+use std::alloc::Global;
+use std::marker::Model;
+use values::{Instant, KeyBytes, Mem, Row, SharedEvent};
+
+/// A data node of history as its block. The rectangle stands beside the bytes, so that asking for it reads none of
+/// them.
+#[derive(Drop)]
+pub struct Block {
+    rect: Rect,
+    bytes: Bytes,
+}
+
+impl Model for Block {
+    ghost use Rattle.blocks.specs.PackedNode.{Packed, packed_of, IsPacked};
+
+    ghost Value = { Packed };
+
+    ghost view = { λ b. packed_of b.rect b.bytes };
+
+    ghost invariant = { λ b. IsPacked (packed_of b.rect b.bytes) };
+}
+
+impl Block {
+    /// The block of a node that has one.
+    pub fn pack(alloc: Global, node: &DataNode) -> Mem<Block>
+        requires { HasBlock node.now }
+        ensures ok { IfOk result (λ b. b
+            ≡ record { node = node.now; bytes = block_of node.now }) }
+        ensures err { OnlyMemory result }
+    {
+        let bytes = pack(alloc, node)?;
+        block_with(node, bytes)
+    }
+
+    /// The block that bytes are, which it keeps without copying them; None where they are no node's.
+    pub fn from_bytes(alloc: Global, bytes: Bytes) -> Mem<Option<Block>>
+        ensures bytes { IfOk result (λ found. IfSome found (λ b. b.bytes ≡ bytes)) }
+        ensures block { IfOk result (λ found. IfSome found (λ b. IsBlockOf bytes b.node)) }
+        ensures of_block { IfOk result (λ found. (n : Node) →
+            IsBlockOf bytes n → found ≡ Some (record { node = n; bytes = bytes })) }
+        ensures err { OnlyMemory result }
+    {
+        match unpack(alloc, bytes.as_slice())? {
+            None => Ok(None),
+            Some(node) => Ok(Some(block_with(&node, bytes)?)),
+        }
+    }
+
+    /// The rectangle of the node.
+    pub fn rect(&self) -> &Rect
+        ensures rect { result.now ≡ self.now.node.rect }
+        ensures area { IsArea result.now }
+        ensures past { IsSome self.now.node.rect.time.to }
+        ensures held { IsHeldNode self.now.node }
+    {
+        &self.rect
+    }
+
+    /// The bytes of the block.
+    pub fn bytes(&self) -> &Bytes
+        ensures bytes { result.now ≡ self.now.bytes }
+        ensures block { IsBlockOf self.now.bytes self.now.node }
+    {
+        &self.bytes
+    }
+
+    /// How many events the node has.
+    pub fn len(&self) -> usize
+        ensures { result ≡ length self.now.node.events }
+    {
+        event_count(self.bytes.as_slice())
+    }
+
+    /// The node.
+    pub fn unpack(&self, alloc: Global) -> Mem<DataNode>
+        ensures ok { IfOk result (λ n. n ≡ self.now.node) }
+        ensures err { OnlyMemory result }
+    {
+        match unpack(alloc, self.bytes.as_slice())? {
+            Some(node) => Ok(node),
+            None => unreachable!(),
+        }
+    }
+
+    /// A key's row at an instant, of the node and of each map that the node is the cut of. One row is made at most.
+    pub fn at(&self, alloc: Global, key: &KeyBytes, instant: Instant) -> Mem<Option<Row>>
+        ensures ok { IfOk result (λ row. row
+            ≡ row_until self.now.node.events key.now instant) }
+        ensures of_map { IfOk result (λ row. (m : List Change) →
+            IsCutOf self.now.node m → IsTrue (has_point self.now.node.rect key.now instant)
+            → row ≡ row_until m key.now instant) }
+        ensures err { OnlyMemory result }
+    {
+        at(alloc, self.bytes.as_slice(), key, instant)
+    }
+
+    /// The instant of a key's last event above `start`, where there is one. It takes no memory.
+    pub fn changed_since(&self, key: &KeyBytes, start: Instant) -> Option<Instant>
+        ensures { result ≡ event_since self.now.node.events start key.now }
+    {
+        changed_since(self.bytes.as_slice(), key, start)
+    }
+
+    /// The instant of a key's first event above `after`, where there is one. It takes no memory.
+    pub fn next_change(&self, key: &KeyBytes, after: Instant) -> Option<Instant>
+        ensures { result ≡ event_after self.now.node.events after key.now }
+    {
+        next_change(self.bytes.as_slice(), key, after)
+    }
+
+    /// The events of a range of keys, from an instant to another and with it, carried ones too. No other event is made.
+    pub fn events_in(
+        &self,
+        alloc: Global,
+        range: &KeyRange,
+        from: Instant,
+        to: Instant,
+    ) -> Mem<Vec<SharedEvent>>
+        ensures ok { IfOk result (λ v.
+            v.items ≡ events_in self.now.node.events range.now from to) }
+        ensures err { OnlyMemory result }
+    {
+        events_in(alloc, self.bytes.as_slice(), range, from, to)
+    }
+
+    /// An equal block, which shares the bytes.
+    pub fn copy(&self) -> Mem<Block>
+        ensures ok { IfOk result (λ b. b ≡ self.now) }
+        ensures err { OnlyMemory result }
+    {
+        Ok(Block {
+            rect: self.rect.copy()?,
+            bytes: self.bytes.clone()?,
+        })
+    }
+
+    /// Whether the bytes are equal, and so the nodes.
+    pub fn is_same(&self, other: &Block) -> bool
+        ensures same { IsTrue result ↔ (self.now ≡ other.now) }
+        ensures node { IsTrue result ↔ (self.now.node ≡ other.now.node) }
+    {
+        self.bytes.as_slice() == other.bytes.as_slice()
+    }
+}
+
+/// The block of these bytes, which are a node's.
+fn block_with(node: &DataNode, bytes: Bytes) -> Mem<Block>
+    requires { IsBlockOf bytes node.now }
+    ensures ok { IfOk result (λ b. b ≡ record { node = node.now; bytes = bytes }) }
+    ensures err { OnlyMemory result }
+{
+    let rect = node.rect().copy()?;
+    Ok(Block { rect, bytes })
+}

@@ -1,0 +1,83 @@
+//! Lines that a session sends.
+ghost use Rattle.std.specs.Prelude.{◌≡◌, IsTrue, true, Err};
+ghost use Rattle.tokens.specs.Token.{Makes};
+ghost use Rattle.statement.specs.Memory.{UnlessMemory, can_run_out, inserts, is_on_rows, serves_values, serving_takes_memory};
+ghost use Rattle.statement.specs.ServedLine.{request_at, served_at, served_body_says, served_line_says};
+
+use crate::line::{
+    LONGEST_LINE, Line, Written, before_feed, body_of, is_nothing, meaning_of, migrate_at,
+};
+use crate::split::split_at;
+use crate::statement::statement_at;
+use crate::token::{Blanks, after_semicolon, end_at};
+use rows::Schema;
+use std::alloc::Global;
+use tokens::{Made, Separators, Stop, word_at};
+use values::{Instant, Refusal};
+
+/// A statement of the session that a line comes from.
+#[tactic(auto, unfolding(crate::specs::ServedLine::request_at))]
+fn request_at<'a>(alloc: Global, schema: &Schema, session: u8, bytes: &'a [u8]) -> Made<'a, Written>
+    ensures makes { Makes result (request_at schema.now session bytes.now) }
+    ensures memory { IsTrue (can_run_out inserts result) → is_on_rows bytes.now ≡ true }
+{
+    let (statement, rest) = statement_at(alloc, schema, bytes)?;
+    let rest = end_at(after_semicolon(rest))?;
+    Ok((Written::Session(u64::from(session), statement), rest))
+}
+
+/// A line that a session sends, by its first word.
+#[tactic(auto, unfolding(crate::specs::ServedLine::served_at))]
+fn served_at<'a>(alloc: Global, schema: &Schema, session: u8, bytes: &'a [u8]) -> Made<'a, Written>
+    ensures makes { Makes result (served_at schema.now session bytes.now) }
+    ensures memory { IsTrue (can_run_out inserts result) → serves_values bytes.now ≡ true }
+{
+    if let Ok(rest) = word_at::<Blanks>(b"SPLIT", bytes) {
+        return split_at(alloc, schema, rest);
+    }
+    if let Ok(rest) = word_at::<Blanks>(b"MIGRATE", bytes) {
+        return Ok(migrate_at(rest)?);
+    }
+    request_at(alloc, schema, session, bytes)
+}
+
+#[tactic(auto, unfolding(crate::specs::ServedLine::served_body_says))]
+fn served_body_says(
+    alloc: Global,
+    bytes: &[u8],
+    schema: &Schema,
+    session: u8,
+    reading: Instant,
+) -> Result<Line, Refusal>
+    ensures unless { UnlessMemory result (served_body_says schema.now session reading bytes.now) }
+    ensures memory { result ≡ Err Refusal.Memory → serves_values bytes.now ≡ true }
+{
+    if is_nothing(Blanks::next(bytes)) {
+        return Ok(Line::Nothing);
+    }
+    match served_at(alloc, schema, session, bytes) {
+        Ok((written, _end)) => meaning_of(alloc, schema, reading, written),
+        Err(Stop::At(at)) => Err(Refusal::Syntax(bytes.len().saturating_sub(at.len()))),
+        Err(Stop::Memory) => Err(Refusal::Memory),
+    }
+}
+
+/// Reads a line that a session sends: a statement, which is that session's, or a SPLIT or MIGRATE line. It is a line of a script without the session's number. A COMMIT takes the reading of the clock.
+///
+/// Where memory runs out that is the answer, before any refusal that is not yet reached.
+#[tactic(auto, unfolding(crate::specs::ServedLine::served_line_says))]
+pub fn read_served(
+    alloc: Global,
+    line: &[u8],
+    schema: &Schema,
+    session: u8,
+    reading: Instant,
+) -> Result<Line, Refusal>
+    ensures unless { UnlessMemory result (served_line_says schema.now session reading line.now) }
+    ensures memory { result ≡ Err Refusal.Memory → serving_takes_memory line.now ≡ true }
+{
+    if before_feed(line).len() > LONGEST_LINE {
+        return Err(Refusal::LineTooLong);
+    }
+    served_body_says(alloc, body_of(line), schema, session, reading)
+}

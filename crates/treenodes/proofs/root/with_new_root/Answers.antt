@@ -1,0 +1,40 @@
+use Rattle.std.proofs.Common.{◌≡◌, ℕ, ◌++◌, ◌∷◌, [], length, set, Some, refl, sym, ap, ◌∙◌}
+use Rattle.std.specs.Prelude.{IfOk}
+use Rattle.std.proofs.lemmas.Option.{slice_get_within}
+use Rattle.indexnode.specs.declared.reference.Reference.{Reference}
+use Rattle.indexnode.proofs.SplitMeeting.{one_meets}
+use Rattle.indexnode.proofs.ListPairs.{one_tiles, one_inside}
+use Rattle.treenodes.specs.Tree.{IsTree}
+use Rattle.treenodes.specs.Map.{HoldsMap}
+use Rattle.treenodes.specs.Lookup.{IsParent}
+use Rattle.treenodes.specs.Root.{root_over}
+use Rattle.treenodes.proofs.HalvesParents.{weaker}
+use Rattle.treenodes.proofs.RootRaised.{IsRaised, is_raised}
+use Rattle.treenodes.proofs.root.with_new_root.Goals as goal
+
+pub at-requires : goal.at-requires
+at-requires c = slice_get_within c.args.nodes 0 c.requires.root.root c.requires.root.first
+
+facts : (c : goal.After-with_last) → IfOk c.with_last.result (IsRaised c.args.nodes)
+facts c =
+    let root = c.in_ok-root.root in
+    let whole : Reference ℕ = record { rect = root.rect; child = c.len-number.result } in
+    let at_root = c.at.ensures ∙ ap Some (sym c.in_ok-root.ensures.ok) in
+    weaker c.with_last.result (λ s. s ≡ c.in_ok-with_slot.field-0 ++ root ∷ []) (IsRaised c.args.nodes)
+    (λ s made. is_raised c.args.nodes c.requires root at_root root.rect c.len-number.result (whole ∷ []) refl c.len-number.ensures
+    refl (one_tiles whole (whole ∷ []) refl) (one_inside whole (whole ∷ []) refl) (λ outer lies. one_meets outer whole (whole ∷ []) (c.requires.areas 0 root at_root) lies refl)
+    root.level root.rect (whole ∷ []) c.in_ok-top.top s refl refl refl c.in_ok-top.ensures.ok
+    (made ∙ ap (λ l. l ++ root ∷ []) c.in_ok-with_slot.ensures.ok))
+    c.with_last.ensures.ok
+
+pub returns-clause-tree : goal.returns-clause-tree
+returns-clause-tree c = weaker c.with_last.result (IsRaised c.args.nodes) IsTree (λ s r. r.tree) (facts c)
+
+pub returns-clause-parent : goal.returns-clause-parent
+returns-clause-parent c = weaker c.with_last.result (IsRaised c.args.nodes) (λ s. IsParent s 0 (length c.args.nodes)) (λ s r. r.parent) (facts c)
+
+pub returns-clause-holds : goal.returns-clause-holds
+returns-clause-holds c = λ m holds. weaker c.with_last.result (IsRaised c.args.nodes) (λ s. HoldsMap s m) (λ s r. r.holds m holds) (facts c)
+
+pub returns-clause-raised : goal.returns-clause-raised
+returns-clause-raised c = λ root at. weaker c.with_last.result (IsRaised c.args.nodes) (λ s. s ≡ set c.args.nodes 0 (root_over root (length c.args.nodes)) ++ root ∷ []) (λ s r. r.exactly root at) (facts c)
