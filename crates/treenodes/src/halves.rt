@@ -69,8 +69,8 @@ fn references_to(
     Ok((lower, upper))
 }
 
-/// The parent of a node, with references to two halves in the place of the one to the node: what comes of it, once the
-/// halves stand at the node's number and at the one after the last, is told of it here.
+/// The parent of a node, with references to two halves in the place of the one to the node. Its clause speaks of the
+/// nodes with all three in their places: the parent, the first half at the node's number, the second after the last.
 fn parent_of_halves(
     alloc: Global,
     nodes: &Nodes,
