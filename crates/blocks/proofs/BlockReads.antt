@@ -17,7 +17,7 @@ use Rattle.blocks.specs.Event.{event_fields, events_from}
 use Rattle.blocks.specs.Rect.{rect_field, AreShortKeys, rect_from}
 use Rattle.blocks.specs.Block.{HasBlock, IsHeldNode, IsBlockOf}
 use Rattle.blocks.specs.Gather.{IsCountedNode, NoCountedNode}
-use Rattle.blocks.specs.Laws.{OneNode, OneBlock}
+use Rattle.blocks.specs.Law.{OneNode, OneBlock}
 use Rattle.blocks.proofs.FieldReads.{bytes_behind}
 use Rattle.blocks.proofs.EventReads.{IsWritten, events_back, events_only}
 use Rattle.blocks.proofs.RectReads.{IsPast, rect_back, rect_only}

@@ -9,7 +9,7 @@ use Rattle.values.specs.Event.{Event}
 use Rattle.values.specs.Events.{event_cmp, put_event}
 use Rattle.values.specs.EventOrder.{event_total}
 use Rattle.values.specs.RowReading.{Taken, after}
-use Rattle.values.proofs.Taken.{left, after-after}
+use Rattle.values.proofs.RowReadingTaken.{left, after-after}
 use Rattle.values.proofs.RowReads.{same_taken}
 use Rattle.keyrange.specs.Rect.{Area, has_point, IsArea, IsInside}
 use Rattle.keyrange.specs.Range.{is_key_in, is_time_in, is_early, is_before_end}

@@ -1,12 +1,12 @@
-pub mod InPlaceSteps
+pub mod LookupSteps
 pub mod FieldReads
 pub mod EventReads
 pub mod EventSteps
 pub mod RectReads
 pub mod BlockReads
 pub mod GatherSteps
-pub mod InPlaceFinds
-pub mod PackedReads
-pub mod InPlaceNext
+pub mod LookupFinds
+pub mod PackedNodeReads
+pub mod LookupNext
 pub mod ListingSteps
 pub mod ListingFinds

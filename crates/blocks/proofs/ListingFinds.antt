@@ -19,11 +19,11 @@ use Rattle.datanode.proofs.CutOrder.{head_below}
 use Rattle.blocks.specs.Field.{taken_then}
 use Rattle.blocks.specs.Event.{row_field, event_field, event_fields, point_from, event_from}
 use Rattle.blocks.specs.Block.{IsBlockOf}
-use Rattle.blocks.specs.InPlace.{past_row_field, events_place}
+use Rattle.blocks.specs.Lookup.{past_row_field, events_place}
 use Rattle.blocks.specs.Listing.{is_asked, made, passed, next_asked, asked_of, events_asked}
 use Rattle.blocks.proofs.EventReads.{IsWritten, point_back, regroup, event_back}
 use Rattle.blocks.proofs.BlockReads.{written}
-use Rattle.blocks.proofs.InPlaceFinds.{past_row_back, count_of_block}
+use Rattle.blocks.proofs.LookupFinds.{past_row_back, count_of_block}
 
 module _ (range : KeyRange) (from to : ℕ) where
   abbrev asked : Event → Bool

@@ -2,7 +2,7 @@
 use Rattle.std.proofs.Common.{◌≡◌, ℕ, ◌+◌, ◌-◌, ◌<◌, List, [], ◌++◌, Option, Some, None, ap, sym, ◌∙◌, append_assoc, append-nil}
 use Rattle.values.specs.Event.{Event}
 use Rattle.values.specs.RowReading.{Taken}
-use Rattle.values.proofs.Taken.{left}
+use Rattle.values.proofs.RowReadingTaken.{left}
 use Rattle.keyrange.specs.declared.range.KeyRange.{KeyRange}
 use Rattle.blocks.specs.Listing.{next_asked, asked_of, events_asked}
 

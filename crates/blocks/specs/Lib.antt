@@ -3,7 +3,7 @@ pub mod Event
 pub mod Rect
 pub mod Block
 pub mod Gather
-pub mod InPlace
+pub mod Lookup
 pub mod Listing
-pub mod Laws
+pub mod Law
 pub mod PackedNode

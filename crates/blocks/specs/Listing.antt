@@ -6,7 +6,7 @@ use Rattle.keyrange.specs.declared.range.KeyRange.{KeyRange}
 use Rattle.keyrange.specs.Range.{is_before_end, is_key_in}
 use Rattle.blocks.specs.Field.{taken_then}
 use Rattle.blocks.specs.Event.{point_from, event_from}
-use Rattle.blocks.specs.InPlace.{past_row_field}
+use Rattle.blocks.specs.Lookup.{past_row_field}
 
 -- the point is of a range of keys, and from an instant to another and with it
 unfoldable pub is_asked : KeyRange → ℕ → ℕ → (List ℕ × ℕ) → Bool

@@ -5,7 +5,7 @@ use Rattle.values.specs.RowReading.{Taken}
 use Rattle.keyrange.specs.Rect.{Area}
 use Rattle.datanode.specs.Node.{Node}
 use Rattle.blocks.specs.Event.{events_from}
-use Rattle.blocks.specs.InPlace.{events_place}
+use Rattle.blocks.specs.Lookup.{events_place}
 use Rattle.blocks.specs.Block.{IsBlockOf}
 
 -- a node, and the bytes that are its block

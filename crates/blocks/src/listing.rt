@@ -9,7 +9,7 @@ ghost use Rattle.blocks.specs.Block.{IsBlockOf};
 ghost use Rattle.blocks.specs.Listing.{is_asked, next_asked, asked_of, events_asked};
 
 use crate::event::{Taken, event_from, point_from};
-use crate::in_place::{events_place, past_row_field};
+use crate::lookup::{events_place, past_row_field};
 use keyrange::KeyRange;
 use std::alloc::Global;
 use values::{Event, Instant, KeyBytes, Mem, SharedEvent};

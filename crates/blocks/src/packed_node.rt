@@ -10,8 +10,8 @@ ghost use Rattle.datanode.specs.NextChange.{event_after};
 ghost use Rattle.blocks.specs.Block.{block_of, HasBlock, IsHeldNode, IsBlockOf};
 
 use crate::block::{pack, unpack};
-use crate::in_place::{at, changed_since, event_count, next_change};
 use crate::listing::events_in;
+use crate::lookup::{at, changed_since, event_count, next_change};
 use bytes::Bytes;
 use datanode::DataNode;
 use keyrange::{KeyRange, Rect};

@@ -1,1 +1,1 @@
-mod Halves
+mod SampleHalves

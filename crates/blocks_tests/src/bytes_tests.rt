@@ -1,6 +1,6 @@
 //! Which bytes are blocks, and of which nodes.
 
-use crate::samples::{
+use crate::sample::{
     before, carrying_block, current, event, first_block, first_node, put, put_deletion, put_row,
     since,
 };

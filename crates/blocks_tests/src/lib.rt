@@ -10,4 +10,4 @@ mod packed_tests;
 #[cfg(test)]
 mod read_tests;
 #[cfg(test)]
-mod samples;
+mod sample;

@@ -1,6 +1,6 @@
 //! Packed nodes, made of a node and of bytes, answer as the node does.
 
-use crate::samples::{carrying_block, first_block, first_node, key};
+use crate::sample::{carrying_block, first_block, first_node, key};
 use blocks::{Block, has_block};
 use bytes::Bytes;
 use datanode::DataNode;

@@ -1,6 +1,6 @@
 //! What is read of a block in place is what its node has.
 
-use crate::samples::{carrying_block, first_block, key};
+use crate::sample::{carrying_block, first_block, key};
 use blocks::{at, changed_since, unpack};
 use datanode::DataNode;
 use eventlist::event_since;

@@ -1,2 +1,2 @@
-pub mod Growing
-pub mod Naming
+pub mod BookGrowing
+pub mod BookNaming

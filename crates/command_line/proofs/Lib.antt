@@ -1,5 +1,5 @@
-pub mod Taking
-mod Faults
-mod Loading
-mod Running
-mod Ending
+pub mod OptionsTaken
+mod FaultKinds
+mod LoadParts
+mod ProgramRun
+mod ProgramEnding

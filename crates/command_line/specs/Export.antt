@@ -14,7 +14,7 @@ use Rattle.histories.specs.declared.step.Listing.TheVariants.{Periods}
 use Rattle.histories.specs.declared.step.Reply.TheVariants.{Shown as Shows}
 use Rattle.histories.specs.History.{History, reply}
 use Rattle.statement.specs.Writer.{AppendsFront}
-use Rattle.interchange.specs.Export.{export_text}
+use Rattle.interchange.specs.Version.{export_text}
 use Rattle.command_line.specs.declared.fault.Fault.{Fault}
 use Rattle.command_line.specs.declared.fault.Fault.TheVariants.{NoExport, Write, Memory}
 

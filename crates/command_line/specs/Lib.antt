@@ -1,6 +1,6 @@
-pub mod Words
+pub mod Options
 pub mod Fault
 pub mod Load
 pub mod Export
-pub mod Served
+pub mod Server
 pub mod Program

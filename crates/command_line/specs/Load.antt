@@ -18,7 +18,7 @@ use Rattle.interchange.specs.Report.{loaded_text}
 use Rattle.scripts.specs.First.{history_of, first_refusal}
 use Rattle.command_line.specs.declared.fault.Fault.{Fault}
 use Rattle.command_line.specs.declared.fault.Fault.TheVariants.{Load, Read, Write, Memory}
-use Rattle.command_line.specs.Words.{name_in}
+use Rattle.command_line.specs.Options.{name_in}
 
 -- the table with a name
 pub record IsNamed (schema : Schema) (name : Text) (table : Table) : Type 0 where

@@ -14,10 +14,10 @@ use Rattle.scripts.specs.Script.{IsIdle}
 use Rattle.scripts.specs.Transcript.{IsRunAfter, IsCutAfter, IsStoppedAfter, leaves_after}
 use Rattle.command_line.specs.declared.fault.Fault.{Fault}
 use Rattle.command_line.specs.declared.fault.Fault.TheVariants.{Words, SchemaSyntax, BadTable, SchemaMemory, NoExport, Read, Write, Memory}
-use Rattle.command_line.specs.Words.{Asked, AskFor, AskedMode, Scripts, Listens, AreRequest, AreMistaken}
+use Rattle.command_line.specs.Options.{Asked, AskFor, AskedMode, Scripts, Listens, AreRequest, AreMistaken}
 use Rattle.command_line.specs.Load.{HasLoaded, Unloaded}
 use Rattle.command_line.specs.Export.{Exports, IsUnknown, HasExported, Unexported}
-use Rattle.command_line.specs.Served.{HasServedAll, HaltsServing}
+use Rattle.command_line.specs.Server.{HasServedAll, HaltsServing}
 
 -- the sample schema, or where a file is named the schema of some text
 abbrev pub IsSchemaOf : Option Text → Schema → Type 0

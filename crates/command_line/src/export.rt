@@ -4,7 +4,7 @@ ghost use Rattle.std.specs.Io.KnownBytes.{Appends};
 ghost use Rattle.histories.specs.History.{History, reply};
 ghost use Rattle.histories.specs.declared.step.Listing.TheVariants.{Periods};
 ghost use Rattle.histories.specs.declared.step.Reply.TheVariants.{Shown as Shows};
-ghost use Rattle.interchange.specs.Export.{export_text};
+ghost use Rattle.interchange.specs.Version.{export_text};
 ghost use Rattle.interleaving.specs.SystemState.{Stands};
 ghost use Rattle.listening.specs.Server.{IsExportOf};
 ghost use Rattle.statement.specs.Writer.{AppendsFront};

@@ -2,7 +2,7 @@
 ghost use Rattle.std.specs.Prelude.{◌≡◌, true, false};
 ghost use Rattle.command_line.specs.Fault.{is_of_words, of_export, of_load, of_run, of_schema, of_server};
 
-use crate::words::WordsFault;
+use crate::options::WordsFault;
 use interchange::ExportFault;
 use listening::{ListenFault, ServerFault};
 use rows::{Refusal, SchemaFault};

@@ -4,8 +4,8 @@
 mod export;
 pub mod fault;
 mod load;
+pub mod options;
 mod output;
 pub mod program;
 mod schema_file;
 mod server;
-pub mod words;

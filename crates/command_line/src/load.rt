@@ -11,7 +11,7 @@ ghost use Rattle.interleaving.specs.SystemState.{Stands};
 ghost use Rattle.interchange.specs.Load.{Loads};
 ghost use Rattle.interchange.specs.Report.{loaded_text};
 ghost use Rattle.scripts.specs.First.{history_of, first_refusal};
-ghost use Rattle.command_line.specs.Words.{name_in};
+ghost use Rattle.command_line.specs.Options.{name_in};
 ghost use Rattle.command_line.specs.Load.{IsLed, IsNamed, FileSays, HasNoRows, IsUnread, IsUntaken, IsUntold, Unloaded, steps_of};
 
 use crate::fault::{Fault, load_fault};

@@ -1,7 +1,7 @@
 //! Connections that are served, in the place of a script.
 ghost use Rattle.std.specs.Prelude.{◌≡◌, IfOk, IfErr, OnOk, option_map};
 ghost use Rattle.listening.specs.Server.{IsExportOf};
-ghost use Rattle.command_line.specs.Served.{HaltsServing, HasServedAll, IsFirst, IsNoFirst};
+ghost use Rattle.command_line.specs.Server.{HaltsServing, HasServedAll, IsFirst, IsNoFirst};
 
 use crate::fault::{Fault, server_fault};
 use crate::load::rows_for;

@@ -1,7 +1,7 @@
 //! The program on scripts whose replies were worked out by hand.
 
-use crate::dialogues::DIALOGUES;
-use crate::runs::{Due, leaves};
+use crate::dialogue::DIALOGUES;
+use crate::run::{Due, leaves};
 use command_line::fault::{FAULT, WORDS};
 use command_line::program::{DONE, program};
 use std::io::{ErrorKind, Read, Write};

@@ -1,6 +1,6 @@
 //! Schema files and script files.
 
-use crate::runs::{Due, file, leaves, leaves_with, word_of};
+use crate::run::{Due, file, leaves, leaves_with, word_of};
 use command_line::fault::{FAULT, WORDS};
 use command_line::program::{DONE, program};
 use rows::SAMPLE;

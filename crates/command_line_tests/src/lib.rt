@@ -2,13 +2,13 @@
 #![tactic(auto)]
 
 #[cfg(test)]
-mod dialogue_tests;
+mod dialogue;
 #[cfg(test)]
-mod dialogues;
+mod dialogue_tests;
 #[cfg(test)]
 mod file_tests;
 #[cfg(test)]
-mod runs;
+mod run;
 #[cfg(test)]
 mod table_tests;
 #[cfg(test)]

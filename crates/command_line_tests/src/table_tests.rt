@@ -1,7 +1,7 @@
 //! Tables that are loaded before the script, and exported after it.
 
 use crate::file_tests::reports;
-use crate::runs::{Due, file, leaves, leaves_with};
+use crate::run::{Due, file, leaves, leaves_with};
 use command_line::fault::{FAULT, WORDS};
 use command_line::program::DONE;
 use std::process::Abort;

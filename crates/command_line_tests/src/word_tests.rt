@@ -1,6 +1,6 @@
 //! Words, and what `clap` makes of them.
 use clap::error::ErrorKind;
-use command_line::words::{Mode, Options, WordsFault, words};
+use command_line::options::{Mode, Options, WordsFault, words};
 
 /// Options of a script by their texts: of the schema, the script, the load and the export.
 type Texts<'a> = [Option<&'a str>; 4];

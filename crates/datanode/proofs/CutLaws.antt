@@ -11,7 +11,7 @@ use Rattle.keyrange.specs.Range.{is_early, is_key_in, is_time_in}
 use Rattle.eventlist.specs.Overtaking.{overtakes}
 use Rattle.eventlist.proofs.OvertakingNext.{Overtakes, overtakes_is, is_overtakes}
 use Rattle.datanode.specs.Cut.{lies_in, is_carried, in_cut, cut}
-use Rattle.datanode.specs.Laws.{own}
+use Rattle.datanode.specs.Law.{own}
 use Rattle.datanode.proofs.CutMembers.{In, filter_alike, filter_twice, In-filter, In-from_filter, any_In}
 use Rattle.keyrange.proofs.RectInside.{first_key_in, first_instant_in}
 

@@ -8,7 +8,7 @@ use Rattle.std.proofs.lemmas.Bool.{and_parts}
 use Rattle.keyrange.specs.Rect.{Area, has_point, IsArea, IsInside}
 use Rattle.datanode.specs.Cut.{IsMap, in_cut, cut}
 use Rattle.datanode.specs.Node.{Node, IsCutOf}
-use Rattle.datanode.proofs.LawsHalves.{cut_of_cut}
+use Rattle.datanode.proofs.LawHalves.{cut_of_cut}
 
 pub cut_is_map : (r : Area) (es : List Event) → IsMap es → IsMap (cut r es)
 cut_is_map r es map = IsStrictlySortedBy-filter event_cmp (in_cut r es) es map

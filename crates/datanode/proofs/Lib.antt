@@ -3,9 +3,9 @@ pub mod CutOrder
 pub mod CutLaws
 pub mod CutNext
 pub mod CutParts
-pub mod LawsHalves
-pub mod LawsLast
-pub mod LawsElsewhere
+pub mod LawHalves
+pub mod LawLast
+pub mod LawElsewhere
 pub mod NodeLast
 pub mod NodeInsert
 pub mod NodePut

@@ -19,7 +19,7 @@ use Rattle.datanode.proofs.CutMembers.{In, In-from_filter}
 use Rattle.keyrange.proofs.RectInside.{facts_of}
 use Rattle.datanode.proofs.CutOrder.{In_place, at_In}
 use Rattle.datanode.proofs.CutLaws.{IsInCut, in_cut_decides, ends_earlier}
-use Rattle.datanode.proofs.LawsLast.{last_such, found_such, none_passes, later_is_above, is_last_such, none_such, before_such, not_below_itself, not_below_back, latest_in_cut}
+use Rattle.datanode.proofs.LawLast.{last_such, found_such, none_passes, later_is_above, is_last_such, none_such, before_such, not_below_itself, not_below_back, latest_in_cut}
 
 abbrev of : List ℕ → Event → Bool
 of key e = is_bytes key e.key && true

@@ -1,4 +1,4 @@
 pub mod Cut
 pub mod Node
-pub mod Laws
+pub mod Law
 pub mod NextChange

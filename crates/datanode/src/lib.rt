@@ -2,10 +2,10 @@
 #![tactic(auto)]
 
 mod cut;
-mod laws;
+mod law;
 mod node;
 
 pub use cut::is_carried;
-pub use laws::{cuts_are_nested, cuts_show_the_map, cuts_stay, halves_hold_each_event_once};
+pub use law::{cuts_are_nested, cuts_show_the_map, cuts_stay, halves_hold_each_event_once};
 pub use node::DataNode;
 pub use values::Event;

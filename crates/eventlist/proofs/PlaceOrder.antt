@@ -15,7 +15,7 @@ use Rattle.std.proofs.lemmas.Bool.Decides.{nat_tests}
 use Rattle.std.proofs.lemmas.List.Elements.{All-from_recursion}
 use Rattle.values.specs.Event.{Event}
 use Rattle.values.specs.Events.{bytes_cmp, is_bytes, event_cmp}
-use Rattle.values.proofs.Orders.{below}
+use Rattle.values.proofs.OrderTotal.{below}
 
 pub bytes_total : IsTotalOrder bytes_cmp
 bytes_total = nat_list_cmp_total

@@ -17,7 +17,7 @@ use Rattle.histories.specs.declared.step.Reply.TheVariants.{Begun, RolledBack, R
 use Rattle.histories.specs.Misfit.{misfit}
 use Rattle.histories.specs.History.{History, log, log_at_begin, own, own_of, mine_of, snap_of, net_change_of, is_kept, ends, begins, commit_reply, rows_taken, rows_of, write_reply, listing, reply, reply_in, replies}
 use Rattle.histories.specs.Maintenance.{is_maintenance, without_maintenance, with_maintenance, maintenance_reply}
-use Rattle.histories.specs.Laws.{MaintenanceChangesNoReply, MaintenanceCommitsNothing}
+use Rattle.histories.specs.Law.{MaintenanceChangesNoReply, MaintenanceCommitsNothing}
 
 module _ (schema : Schema) where
   -- histories that committed the same, and have the same open

@@ -9,10 +9,10 @@ use Rattle.histories.specs.declared.step.Step.TheVariants.{Begin, Insert, Update
 use Rattle.histories.specs.Misfit.{max_session, misfit}
 use Rattle.histories.specs.History.{History, log, log_at_begin, own}
 use Rattle.histories.specs.Memory.{takes_no_memory_by}
-use Rattle.histories.specs.TurnLaws.{MemoryIsTakenAlike}
+use Rattle.histories.specs.TurnLaw.{MemoryIsTakenAlike}
 use Rattle.histories.specs.World.{World}
 use Rattle.histories.specs.Stands.{Stands, open_at, open_from}
-use Rattle.histories.proofs.Idle.{fits_session, fits_table}
+use Rattle.histories.proofs.HistoryIdle.{fits_session, fits_table}
 
 open_alike : (schema : Schema) (now : Log) (o : Option Log) (writes : List Step) → is_some (open_from schema now o writes) ≡ is_some o
 open_alike schema now None writes = refl

@@ -9,8 +9,8 @@ use Rattle.values.specs.Log.{Log, Net, replay, last, last_from, upto, state, cha
 use Rattle.values.specs.Commits.{outcome, log_after, after}
 use Rattle.histories.specs.declared.step.Step.{Step}
 use Rattle.histories.specs.declared.step.Step.TheVariants.{Commit}
-use Rattle.histories.proofs.Growth.{outcome_above}
-use Rattle.histories.proofs.Prefixes.{opened_below}
+use Rattle.histories.proofs.HistoryGrowth.{outcome_above}
+use Rattle.histories.proofs.HistoryPrefixes.{opened_below}
 use Rattle.histories.specs.Stands.{open_in, open_from}
 use Rattle.histories.specs.History.{History, log, log_at_begin, own, net_change_of, rewrite_all}
 

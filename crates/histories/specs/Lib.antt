@@ -1,12 +1,12 @@
 pub mod Due
 pub mod History
-pub mod Laws
+pub mod Law
 pub mod Maintenance
 pub mod Memory
 pub mod Misfit
 pub mod Stands
 pub mod Turn
-pub mod TurnLaws
+pub mod TurnLaw
 pub mod Winners
 pub mod Worked
 pub mod World

@@ -10,7 +10,7 @@ use Rattle.values.specs.declared.refusal.Refusal.{Refusal}
 use Rattle.values.specs.declared.refusal.Refusal.TheVariants.{NoTable, NoTransaction, InTransaction}
 use Rattle.values.specs.Order.{is_key}
 use Rattle.values.specs.Log.{Changes, Net, Row, row_at, add_net, rows_after}
-use Rattle.values.specs.Laws.{changes_upto}
+use Rattle.values.specs.Law.{changes_upto}
 use Rattle.values.specs.Events.{later}
 use Rattle.values.specs.Tables.{table_at}
 use Rattle.values.specs.Versions.{answer}

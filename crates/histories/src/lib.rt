@@ -1,16 +1,16 @@
 //! Steps, replies, what a history of steps comes to, and what contracts see of a system.
 #![tactic(auto)]
 
-mod laws;
+mod law;
 mod misfit;
 mod step;
-mod turn_laws;
+mod turn_law;
 
-pub use laws::{
+pub use law::{
     answered_replies_are_due, concurrent_commits_share_no_key, log_only_grows,
     maintenance_changes_no_other_reply, opens_at_its_begin, past_stays,
     reads_depend_on_snapshot_and_own_writes, worked_examples_hold,
 };
 pub use misfit::{insert_misfit, key_misfit, keys_misfit, update_misfit};
 pub use step::{Listing, MAX_SESSION, Reply, Step};
-pub use turn_laws::{memory_is_taken_alike, turns_give_the_replies};
+pub use turn_law::{memory_is_taken_alike, turns_give_the_replies};

@@ -1,3 +1,3 @@
-mod Wholes
-mod Fields
-mod Chunks
+mod FieldWholes
+mod LoadFields
+mod VersionChunks

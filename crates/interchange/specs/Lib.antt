@@ -1,4 +1,4 @@
 pub mod Field
 pub mod Load
-pub mod Export
+pub mod Version
 pub mod Report

@@ -6,7 +6,7 @@ ghost use Rattle.csv.specs.Writing.{default_writer, row_text};
 ghost use Rattle.std.specs.List.{flat_map};
 ghost use Rattle.statement.specs.Print.{end_text};
 ghost use Rattle.statement.specs.Writer.{Puts};
-ghost use Rattle.interchange.specs.Export.{IsReady, held, field_of, header_of, version_of, version_text, export_text};
+ghost use Rattle.interchange.specs.Version.{IsReady, held, field_of, header_of, version_of, version_text, export_text};
 
 use csv::{ByteRecord, Writer, WriterBuilder};
 use itoa::{Buffer, Integer};

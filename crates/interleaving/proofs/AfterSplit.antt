@@ -6,7 +6,7 @@ use Rattle.std.specs.Option.{option_map}
 use Rattle.std.specs.List.Sorted.{IsStrictlySortedBy}
 use Rattle.values.specs.Event.{Event}
 use Rattle.values.specs.Events.{events_of, AreChangesIn}
-use Rattle.values.specs.Laws.{changes_upto}
+use Rattle.values.specs.Law.{changes_upto}
 use Rattle.values.specs.Log.{point_cmp}
 use Rattle.values.specs.Tables.{Schema}
 use Rattle.tsbtree.specs.View.{TreeState, events, last}

@@ -1,7 +1,7 @@
 pub mod AfterSplit
-pub mod Ended
-pub mod Keeps
-pub mod Listed
-pub mod Stepped
-pub mod Written
-pub mod Migrated
+pub mod SystemEnded
+pub mod SystemKeeps
+pub mod SystemListed
+pub mod SystemStepped
+pub mod SystemWritten
+pub mod MigrateFirst

@@ -8,7 +8,7 @@ use Rattle.values.specs.declared.key.Key.{Key}
 use Rattle.values.specs.declared.key.Point.{Point}
 use Rattle.values.specs.Tables.{Schema, table_at}
 use Rattle.values.specs.Log.{Changes, Row}
-use Rattle.values.specs.Laws.{changes_upto}
+use Rattle.values.specs.Law.{changes_upto}
 use Rattle.values.specs.KeyReading.{key_from}
 use Rattle.values.specs.Events.{AreKeysIn}
 use Rattle.tsbtree.specs.View.{TreeState, events, last}

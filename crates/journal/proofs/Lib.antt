@@ -1,2 +1,2 @@
-pub mod Numbering
-pub mod Pushing
+pub mod JournalNumbering
+pub mod JournalPushing

@@ -1,4 +1,4 @@
 pub mod Range
 pub mod Rect
 pub mod Cut
-pub mod Laws
+pub mod Law

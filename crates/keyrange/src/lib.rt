@@ -2,10 +2,10 @@
 #![tactic(auto)]
 
 mod cut;
-mod laws;
+mod law;
 mod range;
 mod rect;
 
-pub use laws::{halves_part_their_whole, rectangles_have_points, rectangles_lie_inside};
+pub use law::{halves_part_their_whole, rectangles_have_points, rectangles_lie_inside};
 pub use range::{KeyRange, TimeRange, is_before_end, is_below, is_early};
 pub use rect::Rect;

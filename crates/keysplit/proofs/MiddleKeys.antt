@@ -18,7 +18,7 @@ use Rattle.datanode.specs.Node.{IsNode}
 use Rattle.datanode.proofs.CutMembers.{In, In-filter, In-from_filter}
 use Rattle.datanode.proofs.CutOrder.{In_place, at_In}
 use Rattle.datanode.proofs.CutLaws.{in_cut_decides}
-use Rattle.datanode.proofs.LawsHalves.{halves_at_key}
+use Rattle.datanode.proofs.LawHalves.{halves_at_key}
 use Rattle.keysplit.specs.Middle.{key_at, next_key, middle_or_next, middle_key, IsOfOneKey}
 
 not_false : (b : Bool) → not b ≡ true → b ≡ false

@@ -1,2 +1,2 @@
-pub mod Adding
-pub mod Ending
+pub mod LineBufferAdding
+pub mod LinesEnding

@@ -1,2 +1,2 @@
-mod Fronts
-mod Loads
+mod ConnectionFronts
+mod LoadingCalls

@@ -10,7 +10,7 @@ use Rattle.values.specs.declared.query.Form.TheVariants.{Between}
 use Rattle.values.specs.declared.refusal.Refusal.{Refusal}
 use Rattle.statement.specs.Print.{numbered}
 use Rattle.statement.specs.Writer.{AppendsFront}
-use Rattle.interchange.specs.Export.{export_text}
+use Rattle.interchange.specs.Version.{export_text}
 use Rattle.interchange.specs.Report.{loaded_text}
 use Rattle.journal.specs.Entries.{entry_at, log}
 use Rattle.book.specs.Book.{BookState, IsBook}

@@ -1,3 +1,3 @@
-pub mod Starts
-pub mod Steps
-pub mod Begun
+pub mod RoundStarts
+pub mod RoundSteps
+pub mod RoundBegun

@@ -11,7 +11,7 @@ use Rattle.tokens.specs.Word.{is_name_byte, word_length}
 use Rattle.tokens.specs.Word.{is_word_at as is_word_after}
 use Rattle.tokens.specs.Name.{is_name, reserved_words, is_reserved}
 use Rattle.tokens.specs.Run.{AllBytes}
-use Rattle.tokens.proofs.Words.{Refused, some_written, none_same, not_same, same_length}
+use Rattle.tokens.proofs.WordCases.{Refused, some_written, none_same, not_same, same_length}
 use Rattle.rows.specs.SchemaToken.{symbol_at, is_word_at}
 use Rattle.rows.specs.SchemaGrammar.{Symbol, Word, Name}
 use Rattle.rows.proofs.SchemaRead.{next_reads, front_of}

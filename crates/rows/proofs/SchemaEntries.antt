@@ -22,8 +22,8 @@ use Rattle.rows.specs.declared.declaration.Entry.{Entry}
 use Rattle.rows.specs.declared.declaration.Entry.TheVariants.{User, Generated, Period, Key}
 use Rattle.values.specs.Names.{same_name, same_letters}
 use Rattle.rows.specs.SchemaTable.{is_not_null, is_primary_key, same_side, user_column, column_name, side_name, period_names, keys_in, is_good_type, is_good_precision, is_good_entry, are_distinct, only, number_in}
-use Rattle.rows.specs.GoodTables.{Each, Stands, IsTheOne, NoTwo, SameName, is_user, IsGenerated, IsPeriod, GivesKeys, GivesOneKey, Declares, ShareAName, HasUserColumn, IsColumnOf, IsNumberOf, AreColumnsOf, AreNumbersOf, TypeIsGood, DigitsAreGood, EntryIsGood}
-use Rattle.rows.proofs.Places.{each_placed, each_at, each_to, Apart, apart_no_two, no_two_apart, one_same, only_is, flat_of, Tells, none_given, none_stands, one_stands, one_given}
+use Rattle.rows.specs.GoodTable.{Each, Stands, IsTheOne, NoTwo, SameName, is_user, IsGenerated, IsPeriod, GivesKeys, GivesOneKey, Declares, ShareAName, HasUserColumn, IsColumnOf, IsNumberOf, AreColumnsOf, AreNumbersOf, TypeIsGood, DigitsAreGood, EntryIsGood}
+use Rattle.rows.proofs.SchemaPlaces.{each_placed, each_at, each_to, Apart, apart_no_two, no_two_apart, one_same, only_is, flat_of, Tells, none_given, none_stands, one_stands, one_given}
 
 -- tests
 equal : (a b : ℕ) → (a == b) ≡ true → a ≡ b

@@ -6,8 +6,8 @@ use Rattle.values.specs.Tables.{Schema}
 use Rattle.values.specs.declared.table.ColumnType.TheVariants.{Int, Text, Varchar, Boolean}
 use Rattle.tokens.specs.Token as tokens
 use Rattle.tokens.specs.Token.{After, Read}
-use Rattle.tokens.proofs.Same.{Texts, Near, IsPast, left_all, Within, WithinAfter, wider, within_then, Same, past, same_then, Good, GoodAfter, good_ok, good_then, good_after, after_after, Tells, tells_or, same_if, good_if}
-use Rattle.tokens.proofs.SameTokens.{token_agrees, good_by, same_by, good_peek, good_symbol, good_word, tells_word, good_after_word, good_name}
+use Rattle.tokens.proofs.PlaceSame.{Texts, Near, IsPast, left_all, Within, WithinAfter, wider, within_then, Same, past, same_then, Good, GoodAfter, good_ok, good_then, good_after, after_after, Tells, tells_or, same_if, good_if}
+use Rattle.tokens.proofs.TokenSame.{token_agrees, good_by, same_by, good_peek, good_symbol, good_word, tells_word, good_after_word, good_name}
 use Rattle.rows.specs.declared.declaration.Mark.{Mark}
 use Rattle.rows.specs.declared.declaration.Mark.TheVariants.{NotNull, PrimaryKey}
 use Rattle.rows.specs.declared.declaration.Side.TheVariants.{Start, End}
@@ -18,7 +18,7 @@ use Rattle.rows.specs.declared.schema_reading.SchemaFault.TheVariants.{Syntax}
 use Rattle.rows.specs.SchemaToken.{symbol_at, is_word_at, after_word, word_at, name_at}
 use Rattle.rows.specs.Declaration.{prepend, list_at, names_at, size_at, is_whole_number_at, varchar_at, type_at, not_null_at, primary_key_at, mark_at, is_mark_at, marks_upto, marks_at, user_at, precision_at, maybe_not_null_at, side_at, row_side_at, generated_at, two_names_at, period_at, key_at, column_at, entry_at, entries_at, body_at, versioning_at, create_at, is_end_at, more_at, creates_upto, creates_at}
 use Rattle.rows.specs.SchemaTable.{read_schema}
-use Rattle.rows.specs.SchemaGrammarLaws.{FaultsAreFinal}
+use Rattle.rows.specs.SchemaGrammarLaw.{FaultsAreFinal}
 use Rattle.rows.proofs.SchemaSpelled.{symbol_says}
 use Rattle.rows.proofs.SchemaSays.{mark_says, create_says}
 use Rattle.rows.proofs.SchemaShrinks.{symbol_takes, mark_takes, create_takes}

@@ -14,15 +14,15 @@ use Rattle.rows.specs.declared.declaration.Entry.TheVariants.{User, Generated, P
 use Rattle.rows.specs.declared.declaration.Declaration.{Declaration}
 use Rattle.tokens.specs.Token as tokens
 use Rattle.tokens.specs.Token.{After, Read}
-use Rattle.tokens.proofs.Follows.{Spelling, Follows, front_follows, Moves, is_plain_word, same_front}
-use Rattle.tokens.proofs.Going.{Usual, Reads, ReadsAfter, Then, Next, By, Last, usual_then, usual_next, usual_weaker, usual_by, usual_last, reads_then, reads_weaker, reads_whether, reads_past, after_then, reads_by, reads_last, nothing}
+use Rattle.tokens.proofs.TokenFollows.{Spelling, Follows, front_follows, Moves, is_plain_word, same_front}
+use Rattle.tokens.proofs.TokenGoing.{Usual, Reads, ReadsAfter, Then, Next, By, Last, usual_then, usual_next, usual_weaker, usual_by, usual_last, reads_then, reads_weaker, reads_whether, reads_past, after_then, reads_by, reads_last, nothing}
 use Rattle.rows.specs.SchemaToken.{symbol_at, is_word_at, after_word, word_at, name_at, digits_at}
 use Rattle.rows.specs.Declaration.{prepend, list_at, names_at, size_at, is_whole_number_at, varchar_at, type_at, not_null_at, primary_key_at, mark_at, is_mark_at, marks_upto, marks_at, user_at, precision_at, maybe_not_null_at, side_at, row_side_at, generated_at, two_names_at, period_at, key_at, column_at, entry_at, entries_at, body_at, versioning_at, create_at, is_end_at, more_at, creates_upto, creates_at}
 use Rattle.values.specs.Tables.{Schema}
 use Rattle.rows.specs.declared.schema_reading.SchemaFault.{SchemaFault}
 use Rattle.rows.specs.declared.schema_reading.SchemaFault.TheVariants.{Syntax}
 use Rattle.rows.specs.SchemaTable.{read_schema}
-use Rattle.rows.specs.SchemaGrammarLaws.{FrontsGoOn}
+use Rattle.rows.specs.SchemaGrammarLaw.{FrontsGoOn}
 use Rattle.rows.specs.SchemaGrammar.{Says, ◌>>=◌, just, ◌or◌, Symbol, Word, Name, Digits, Listed, Many, Size, TypeName, NotNullWords, PrimaryKeyWords, MarkWords, UserEntry, Precision, MaybeNotNull, RowSide, GeneratedAsRow, GeneratedEntry, TwoNames, PeriodEntry, KeyEntry, ColumnEntry, EntryText, Body, Versioning, CreateText, IsEnd, SchemaText}
 use Rattle.rows.proofs.SchemaSpelled.{word_next}
 use Rattle.rows.proofs.SchemaSays.{end_says}

@@ -14,8 +14,8 @@ use Rattle.tokens.specs.Word.{word_at as word_after}
 use Rattle.tokens.specs.Name.{reserved_words, is_reserved, is_name}
 use Rattle.tokens.specs.Name.{name_at as name_after}
 use Rattle.tokens.specs.Run.{AllBytes, Ends}
-use Rattle.tokens.proofs.Follows.{Spelling, IsClean, ends_so, Moved, Moves, all_from, all_test, is_plain_word}
-use Rattle.tokens.proofs.Going.{Usual, Goes, Reads, ReadsAfter}
+use Rattle.tokens.proofs.TokenFollows.{Spelling, IsClean, ends_so, Moved, Moves, all_from, all_test, is_plain_word}
+use Rattle.tokens.proofs.TokenGoing.{Usual, Goes, Reads, ReadsAfter}
 use Rattle.rows.specs.SchemaToken.{is_separator, next, symbol_at, is_word_at, after_word, word_at, name_at, number_from, digits_at}
 use Rattle.rows.specs.SchemaGrammar.{Piece, blank, comment, last_comment, Gap, BeginsToken, IsNext, Symbol, Letters, Word, Name, Digits}
 use Rattle.rows.proofs.SchemaSpelled.{next_is, symbol_says, word_says, name_says, digits_says}

@@ -14,8 +14,8 @@ use Rattle.rows.specs.declared.schema_reading.SchemaFault.{SchemaFault}
 use Rattle.rows.specs.declared.schema_reading.SchemaFault.TheVariants.{BadTable}
 use Rattle.values.specs.Names.{same_name}
 use Rattle.rows.specs.SchemaTable.{user_column, column_name, side_name, period_names, keys_in, is_good_entry, are_distinct, only, number_in, is_good_key, is_good_period, is_good_width, are_good_entries, table_of, next_table, tables_from}
-use Rattle.rows.specs.GoodTables.{Each, SameName, TableIsGood, AreNumbersOf, IsTableOf, AreTablesOf, TablesAreGood, IsFirstBad}
-use Rattle.rows.proofs.Places.{each-append, each_front, each_back, apart_no_two, no_two_apart, apart_push, apart_front, apart_last}
+use Rattle.rows.specs.GoodTable.{Each, SameName, TableIsGood, AreNumbersOf, IsTableOf, AreTablesOf, TablesAreGood, IsFirstBad}
+use Rattle.rows.proofs.SchemaPlaces.{each-append, each_front, each_back, apart_no_two, no_two_apart, apart_push, apart_front, apart_last}
 use Rattle.rows.proofs.SchemaEntries.{le_from, le_to, not_from, not_to, same_to, same_from, any_none, none_any, distinct_differ, differ_distinct, side_stands, side_only, period_stands, period_only, key_stands, key_only, all_known, known_all, numbers_are, numbers_same, users_differ, columns_are, columns_same, user_count, columns_differ, differ_columns, entries_good, good_entries}
 
 -- a step that gives something

@@ -10,7 +10,7 @@ use Rattle.tokens.specs.Word.{is_word_at as is_word_after, after_word as rest_of
 use Rattle.tokens.specs.Name.{is_name}
 use Rattle.tokens.specs.Name.{name_at as name_after}
 use Rattle.tokens.specs.Run.{AllBytes, Ends, Run}
-use Rattle.tokens.proofs.Runs.{length_of, run_taken, run_left}
+use Rattle.tokens.proofs.RunRead.{length_of, run_taken, run_left}
 use Rattle.rows.specs.SchemaToken.{is_separator, begins_with_hyphen, token_from, next, symbol_at, is_word_at, after_word, word_at, name_at, number_from, digits_at}
 use Rattle.rows.specs.SchemaGrammar.{is_on_the_line, Piece, blank, comment, last_comment, Gap, BeginsToken, IsNext, Symbol, Letters, Word, Name, Digits}
 

@@ -13,8 +13,8 @@ use Rattle.tokens.specs.Token.{Read}
 use Rattle.rows.specs.Declaration.{creates_at}
 use Rattle.rows.specs.SchemaTable.{next_table, tables_from, read_schema}
 use Rattle.rows.specs.SchemaGrammar.{BeginsToken}
-use Rattle.rows.specs.SchemaGrammarLaws.{HasSyntaxFault, OfTheGrammar, SaysNothing, TheGrammarIsRead, TextsSayOneThing, OnlyTheGrammarIsRead, FaultsAreAtTokens}
-use Rattle.rows.specs.GoodTablesLaws.{GoodTextsAreRead, SaysSchema, OnlySchemasAreRead}
+use Rattle.rows.specs.SchemaGrammarLaw.{HasSyntaxFault, OfTheGrammar, SaysNothing, TheGrammarIsRead, TextsSayOneThing, OnlyTheGrammarIsRead, FaultsAreAtTokens}
+use Rattle.rows.specs.GoodTableLaw.{GoodTextsAreRead, SaysSchema, OnlySchemasAreRead}
 use Rattle.rows.proofs.SchemaSays.{of_the_grammar}
 use Rattle.rows.proofs.SchemaWhole.{text_read}
 use Rattle.rows.proofs.SchemaStops.{creates_stop}

@@ -6,8 +6,8 @@ use Rattle.std.specs.Char.{is_ascii_digit}
 use Rattle.std.proofs.lemmas.List.Folds.{length-prefix_len}
 use Rattle.tokens.specs.Token.{front_while, skip_while}
 use Rattle.tokens.specs.Word.{is_name_byte}
-use Rattle.tokens.proofs.Same.{Reach, Texts, left_of, Within, Same, Good, good_here, Tells}
-use Rattle.tokens.proofs.SameTokens.{skip_within, digit_is_name, RunSame, runs}
+use Rattle.tokens.proofs.PlaceSame.{Reach, Texts, left_of, Within, Same, Good, good_here, Tells}
+use Rattle.tokens.proofs.TokenSame.{skip_within, digit_is_name, RunSame, runs}
 use Rattle.rows.specs.SchemaToken.{is_separator, begins_with_hyphen, token_from, next, number_from, digits_at}
 use Rattle.rows.specs.Declaration.{is_nothing, is_end_at}
 use Rattle.rows.specs.SchemaGrammar.{BeginsToken}

@@ -16,7 +16,7 @@ use Rattle.rows.specs.Declaration.{prepend, list_at, names_at, size_at, is_whole
 use Rattle.rows.specs.SchemaGrammar.{Says, Symbol, Word, Name, Listed, Many, Size, TypeName, NotNullWords, PrimaryKeyWords, MarkWords, UserEntry, Precision, MaybeNotNull, RowSide, GeneratedAsRow, GeneratedEntry, TwoNames, PeriodEntry, KeyEntry, ColumnEntry, EntryText, Body, Versioning, CreateText, IsEnd, SchemaText}
 use Rattle.rows.specs.declared.schema_reading.SchemaFault.TheVariants.{Syntax}
 use Rattle.rows.specs.SchemaTable.{tables_from, read_schema}
-use Rattle.rows.specs.SchemaGrammarLaws.{HasSyntaxFault, OfTheGrammar}
+use Rattle.rows.specs.SchemaGrammarLaw.{HasSyntaxFault, OfTheGrammar}
 use Rattle.rows.proofs.SchemaSpelled.{next_is, same_read, symbol_says, word_next, word_says, name_says, digits_says}
 
 -- both parts of two readings, one after the other

@@ -9,7 +9,7 @@ use Rattle.rows.specs.declared.declaration.Side.TheVariants.{Start, End}
 use Rattle.rows.specs.declared.declaration.Entry.{Entry}
 use Rattle.rows.specs.declared.declaration.Declaration.{Declaration}
 use Rattle.tokens.specs.Name.{is_name}
-use Rattle.tokens.proofs.Words.{some_written}
+use Rattle.tokens.proofs.WordCases.{some_written}
 use Rattle.rows.specs.SchemaGrammar.{Says, Piece, blank, comment, last_comment, Gap, IsNext, Symbol, Letters, Word, Name, Digits, ◌>>=◌, just, ◌or◌, Listed, Many, Size, TypeName, NotNullWords, PrimaryKeyWords, MarkWords, UserEntry, Precision, MaybeNotNull, RowSide, GeneratedAsRow, GeneratedEntry, TwoNames, PeriodEntry, KeyEntry, ColumnEntry, EntryText, Body, Versioning, CreateText, SchemaText}
 
 pub record Keeps {A : Type 0} (R : Says A) : Type 0 where

@@ -12,7 +12,7 @@ use Rattle.tokens.specs.Token as tokens
 use Rattle.tokens.specs.Token.{After, Read, front_while}
 use Rattle.tokens.specs.Word.{is_name_byte}
 use Rattle.tokens.specs.Word.{is_word_at as is_word_after}
-use Rattle.tokens.proofs.Words.{Refused, none_same}
+use Rattle.tokens.proofs.WordCases.{Refused, none_same}
 use Rattle.rows.specs.SchemaToken.{next, symbol_at, is_word_at, after_word, name_at}
 use Rattle.rows.specs.Declaration.{prepend, list_at, names_at, size_at, is_whole_number_at, varchar_at, type_at, not_null_at, primary_key_at, mark_at, is_mark_at, marks_upto, marks_at, user_at, precision_at, maybe_not_null_at, side_at, row_side_at, generated_at, two_names_at, period_at, key_at, column_at, entry_at, entries_at, body_at, versioning_at, create_at, is_nothing, is_end_at, more_at, creates_upto, creates_at}
 use Rattle.rows.specs.SchemaGrammar.{Says, Symbol, Word, Name, Listed, Many, Size, TypeName, NotNullWords, PrimaryKeyWords, MarkWords, UserEntry, Precision, MaybeNotNull, RowSide, GeneratedAsRow, GeneratedEntry, TwoNames, PeriodEntry, KeyEntry, ColumnEntry, EntryText, Body, Versioning, CreateText, IsEnd, SchemaText}

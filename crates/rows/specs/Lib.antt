@@ -1,8 +1,8 @@
 pub mod Declaration
-pub mod GoodTables
-pub mod GoodTablesLaws
+pub mod GoodTable
+pub mod GoodTableLaw
 pub mod Sample
 pub mod SchemaGrammar
-pub mod SchemaGrammarLaws
+pub mod SchemaGrammarLaw
 pub mod SchemaTable
 pub mod SchemaToken

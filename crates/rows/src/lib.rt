@@ -2,7 +2,7 @@
 #![tactic(auto)]
 
 mod declaration;
-mod good_tables;
+mod good_table;
 mod sample;
 mod schema;
 mod schema_copy;
@@ -11,7 +11,7 @@ mod schema_reading;
 mod schema_table;
 mod schema_token;
 
-pub use good_tables::good_tables_are_made;
+pub use good_table::good_tables_are_made;
 pub use sample::sample_is_a_schema;
 pub use schema::Schema;
 pub use schema_grammar::{faults_are_final, schemas_are_of_the_grammar, the_grammar_is_read};

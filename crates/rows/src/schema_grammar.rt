@@ -1,5 +1,5 @@
 //! Laws of the grammar of schemas, which knows nothing of reading.
-ghost use Rattle.rows.specs.SchemaGrammarLaws.{WhatIsReadIsOfTheGrammar, TokensAreRead, TheGrammarIsRead, TextsSayOneThing, OnlyTheGrammarIsRead, FaultsAreAtTokens, FrontsGoOn, FaultsAreFinal};
+ghost use Rattle.rows.specs.SchemaGrammarLaw.{WhatIsReadIsOfTheGrammar, TokensAreRead, TheGrammarIsRead, TextsSayOneThing, OnlyTheGrammarIsRead, FaultsAreAtTokens, FrontsGoOn, FaultsAreFinal};
 
 /// Where the reading of a schema finds no fault of syntax, the text is of the grammar.
 pub fn schemas_are_of_the_grammar()

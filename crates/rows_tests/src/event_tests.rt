@@ -1,6 +1,6 @@
 //! Events, whose keys and rows are copied or shared.
 
-use crate::samples::key;
+use crate::sample::key;
 use std::alloc::Global;
 use std::process::Abort;
 use values::{Event, Instant, KeyBytes, Row, SharedEvent, Value};

@@ -2,7 +2,7 @@
 ghost use Rattle.std.specs.Prelude.{◌≤◌, length};
 ghost use Rattle.values.specs.KeyEncoding.{IsShortKey};
 
-use crate::samples::{key, schema};
+use crate::sample::{key, schema};
 use std::alloc::Global;
 use std::process::Abort;
 use values::{

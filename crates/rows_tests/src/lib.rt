@@ -8,7 +8,7 @@ mod key_tests;
 #[cfg(test)]
 mod row_tests;
 #[cfg(test)]
-mod samples;
+mod sample;
 #[cfg(test)]
 mod schema_tests;
 #[cfg(test)]

@@ -1,6 +1,6 @@
 //! Rows as bytes.
 
-use crate::samples::text;
+use crate::sample::text;
 use std::alloc::Global;
 use std::process::Abort;
 use values::{Row, Value, read_row, row_bytes};

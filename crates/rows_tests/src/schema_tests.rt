@@ -1,6 +1,6 @@
 //! Texts of schemas, and the faults that they are refused for.
 
-use crate::samples::schema;
+use crate::sample::schema;
 use rows::{Column, ColumnNumber, ColumnType, SAMPLE, Schema, SchemaFault, Table};
 use std::alloc::Global;
 use std::process::Abort;

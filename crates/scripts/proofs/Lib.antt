@@ -1,4 +1,4 @@
-pub mod Feeding
-pub mod Leading
-pub mod Running
-pub mod Scripting
+pub mod ScriptFeeding
+pub mod ScriptLeading
+pub mod ScriptRunning
+pub mod ScriptAnswered

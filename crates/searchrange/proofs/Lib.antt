@@ -1,8 +1,8 @@
-mod Covering
-mod Exact
-mod InRange
-mod Narrowed
-mod Prefixes
-mod Steps
-mod ValueBytes
-mod Within
+mod NarrowingCovers
+mod NarrowingExact
+mod NarrowingInRange
+mod NarrowingKeeps
+mod PrefixBytes
+mod NarrowingSteps
+mod PartValueBytes
+mod NarrowingWithin

@@ -1,6 +1,6 @@
 //! Comparisons on the leading key columns narrow the range of a table's keys; see README.md.
 ghost use Rattle.std.specs.Prelude.{◌≡◌, IfOk, All, Option, option_copied, position, ◌==◌, [], ◌∷◌, Some, None};
-ghost use Rattle.values.specs.KeyEncodingLaws.{IsStorable};
+ghost use Rattle.values.specs.KeyEncodingLaw.{IsStorable};
 ghost use Rattle.values.specs.Memory.{OnlyMemory};
 ghost use Rattle.searchrange.specs.SearchRange.{range_of_table, from_bytes, before_bytes, after_prefix, upto_prefix, narrowed, is_equality, is_at, narrowed_at, equal_at, narrowed_from, can_narrow, search_range, Covers, IsWithin, IsExact};
 

@@ -1,8 +1,8 @@
-pub mod Feeding
-pub mod Joining
-pub mod Migrating
-pub mod Opening
-pub mod Refusing
-pub mod Starting
-pub mod Telling
-pub mod Writing
+pub mod ServeFeeding
+pub mod ServeJoining
+pub mod MigrateIdle
+pub mod StepOpening
+pub mod AnswerRefusing
+pub mod ServeStarting
+pub mod ServeLineTelling
+pub mod WriteSteps

@@ -1,8 +1,8 @@
-pub mod Alike
-pub mod AlikeEnded
-pub mod AlikeListed
-pub mod AlikeShown
-pub mod Crossing
-pub mod Ending
-pub mod StoreAlike
-pub mod Writing
+pub mod OfHistoryAlike
+pub mod OfHistoryEnded
+pub mod OfHistoryListed
+pub mod OfHistoryShown
+pub mod StoreCrossing
+pub mod SessionEnding
+pub mod StoreOfHistoryAlike
+pub mod SessionWriting

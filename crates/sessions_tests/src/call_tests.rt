@@ -1,7 +1,7 @@
 //! UPDATE, DELETE, ROLLBACK and a split.
 use crate::desk::{Desk, count, delete, insert, is_no_transaction, key, sees, set_name};
 use crate::scene::{Audit, Scene, play};
-use crate::steps::{begin, split};
+use crate::step::{begin, split};
 use growlog::StoreName;
 use journal::Receipt;
 use rows::{Form, KeyBytes, Keys};

@@ -1,6 +1,6 @@
 //! How served sessions end, and what is kept then.
+use crate::case::{Case, Limits, NONE};
 use crate::scene::{Scene, play};
-use crate::served::{Case, Limits, NONE};
 use gate::Place;
 use serving::End;
 

@@ -1,7 +1,7 @@
 //! A packed node that is installed.
 use crate::desk::Desk;
 use crate::scene::{Audit, Scene, play};
-use crate::steps::{begin, write_history};
+use crate::step::{begin, write_history};
 use growlog::StoreName;
 use journal::{Entry, Receipt};
 use sessions::LockedStore;

@@ -4,13 +4,13 @@
 #[cfg(test)]
 mod call_tests;
 #[cfg(test)]
+mod case;
+#[cfg(test)]
 mod closing_tests;
 #[cfg(test)]
 mod desk;
 #[cfg(test)]
 mod end_tests;
-#[cfg(test)]
-mod gates;
 #[cfg(test)]
 mod install_tests;
 #[cfg(test)]
@@ -24,10 +24,10 @@ mod run_tests;
 #[cfg(test)]
 mod scene;
 #[cfg(test)]
-mod served;
-#[cfg(test)]
-mod steps;
+mod step;
 #[cfg(test)]
 mod store_tests;
 #[cfg(test)]
 mod thread_tests;
+#[cfg(test)]
+mod worker_gate;

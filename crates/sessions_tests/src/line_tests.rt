@@ -1,6 +1,6 @@
 //! What a session is sent for its lines.
+use crate::case::{Case, NONE};
 use crate::scene::{Audit, Scene, play};
-use crate::served::{Case, NONE};
 use serving::End;
 use std::alloc::Global;
 use std::process::Abort;

@@ -1,8 +1,8 @@
 //! Rounds over a store with 17 unpacked data nodes of history.
 use crate::desk::Desk;
-use crate::gates::{Meeting, Turnstile};
 use crate::scene::{Audit, Scene, play};
-use crate::steps::write_history;
+use crate::step::write_history;
+use crate::worker_gate::{Meeting, Turnstile};
 use gate::Gate;
 use growlog::StoreName;
 use journal::{Entry, Receipt};

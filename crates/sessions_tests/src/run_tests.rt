@@ -1,7 +1,7 @@
 //! Runs of several sessions round one store.
 use crate::desk::Desk;
 use crate::scene::{Audit, Scene, play};
-use crate::steps::{begin_and_name, commit_name, hire_twenty};
+use crate::step::{begin_and_name, commit_name, hire_twenty};
 use growlog::StoreName;
 use journal::Receipt;
 use sessions::LockedStore;

@@ -2,12 +2,12 @@
 ghost use Rattle.std.specs.Prelude.{◌≡◌};
 
 use crate::call_tests::{make_calls, split_twice};
+use crate::case::{Case, serve_case};
 use crate::closing_tests::read_back;
 use crate::desk::{Desk, count_in, open_desk};
 use crate::install_tests::install_twice;
 use crate::round_tests::{pack_all, pack_in_two, pack_together};
 use crate::run_tests::{hire_by_two, name_by_two};
-use crate::served::{Case, serve_case};
 use crate::store_tests::{commit_elsewhere, count_beside};
 use crate::thread_tests::{hire_in_threads, keep_view, name_in_threads};
 use book::Closed;

@@ -3,7 +3,7 @@ ghost use Rattle.std.specs.Prelude.{◌≡◌};
 
 use crate::desk::{Desk, count, insert, is_no_transaction};
 use crate::scene::{Audit, Scene, closed_with, play};
-use crate::steps::{begin, commit};
+use crate::step::{begin, commit};
 use growlog::{NewLog, StoreName};
 use journal::{Receipt, SharedEntry};
 use rows::Schema;

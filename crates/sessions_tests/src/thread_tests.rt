@@ -1,7 +1,7 @@
 //! Sessions in threads of their own.
 use crate::desk::{count, session};
 use crate::scene::{Audit, Scene, play};
-use crate::steps::{begin, end_of, hire_twenty, name_often};
+use crate::step::{begin, end_of, hire_twenty, name_often};
 use crate::store_tests::hire_and_count;
 use growlog::StoreName;
 use journal::Receipt;

@@ -208,7 +208,7 @@ impl Staged {
 }
 
 /// Puts changes over what was written, and keeps what was there before. `TooManyWrites` as soon as the keys are too many.
-#[tactic(auto, using(crate::proofs::PutBack::grown_all))]
+#[tactic(auto, using(crate::proofs::StagedPutBack::grown_all))]
 fn put_few(
     writes: &mut BTreeMap<Key, Option<Row>>,
     changes: Vec<(Key, Option<Row>)>,

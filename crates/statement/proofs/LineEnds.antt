@@ -5,9 +5,9 @@ use Rattle.std.proofs.lemmas.Bool.{and_parts, and_from}
 use Rattle.std.proofs.lemmas.Bool.Decides.{nat_tests}
 use Rattle.std.proofs.lemmas.List.{append_assoc, length_push, get_or_at, take_at, take_all, take_more}
 use Rattle.statement.specs.Line.{without_last, before_feed, body_of}
-use Rattle.statement.specs.GrammarLaws.{EndsOtherwise, LineEndsAreNoTokens}
-use Rattle.statement.proofs.Sound.{same_byte}
-use Rattle.tokens.proofs.Words.{same_number}
+use Rattle.statement.specs.GrammarLaw.{EndsOtherwise, LineEndsAreNoTokens}
+use Rattle.statement.proofs.GrammarSound.{same_byte}
+use Rattle.tokens.proofs.WordCases.{same_number}
 
 longer : (m n : ℕ) → n ≡ m + 1 → (m == n) ≡ false
 longer m n is = grind (arith, nat_tests)

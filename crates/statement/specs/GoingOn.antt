@@ -4,7 +4,7 @@ use Rattle.values.specs.declared.refusal.Refusal.TheVariants.{Syntax}
 use Rattle.tokens.specs.Place.{IsToken}
 use Rattle.statement.specs.declared.line.Written.{Written}
 use Rattle.statement.specs.Token.{is_blank}
-use Rattle.statement.specs.GrammarLaws.{Lines, Reader}
+use Rattle.statement.specs.GrammarLaw.{Lines, Reader}
 
 -- a token by its first byte and the others, before the rest; the first is no blank, no minus and no
 -- quote

@@ -2,7 +2,7 @@
 #![tactic(auto)]
 
 mod condition;
-mod grammar_laws;
+mod grammar_law;
 mod line;
 mod list;
 mod literal;
@@ -14,7 +14,7 @@ mod statement;
 mod token;
 mod writer;
 
-pub use grammar_laws::{
+pub use grammar_law::{
     faults_are_final, lines_are_read_by_the_grammar, printed_rows_are_read,
     served_faults_are_final, served_lines_are_read_by_the_grammar,
 };

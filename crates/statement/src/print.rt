@@ -1,4 +1,4 @@
-#![tactic(auto, using(crate::proofs::Fronts::joins))]
+#![tactic(auto, using(crate::proofs::WriterFronts::joins))]
 
 ghost use Rattle.std.specs.List.{list_any};
 ghost use Rattle.std.specs.Prelude.{◌≡◌, ◌==◌, ◌++◌, ◌∷◌, [], decimal, codes, flat_map};

@@ -1,6 +1,6 @@
-pub mod Answered
-pub mod ShownEvents
-pub mod Stands
-pub mod Versioned
+pub mod SelectionAnswered
+pub mod SelectionShown
+pub mod StandingRows
+pub mod SelectionVersions
 pub mod WindowListed
-pub mod Windows
+pub mod WindowVersions

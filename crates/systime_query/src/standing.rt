@@ -2,7 +2,7 @@
 ghost use Rattle.std.specs.Prelude.{◌≡◌, IfOk};
 ghost use Rattle.std.specs.List.{filter_map};
 ghost use Rattle.values.specs.declared.query.Form.TheVariants.{AsOf, Plain};
-ghost use Rattle.values.specs.Laws.{shown_rows};
+ghost use Rattle.values.specs.Law.{shown_rows};
 ghost use Rattle.values.specs.Memory.{OnlyMemory};
 ghost use Rattle.systime_query.specs.Selection.{WhenShown};
 ghost use Rattle.systime_query.specs.Standing.{row_shown};

@@ -6,7 +6,7 @@ use Rattle.keyrange.specs.Rect.{Area}
 use Rattle.keyrange.specs.Cut.{halves_by_time}
 use Rattle.datanode.specs.Cut.{is_carried, cut}
 use Rattle.datanode.specs.Node.{IsNode}
-use Rattle.datanode.proofs.LawsHalves.{halves_at_instant}
+use Rattle.datanode.proofs.LawHalves.{halves_at_instant}
 
 abbrev pub stays : List Event → ℕ → Event → Bool
 stays es t e = nat_le t e.at || is_carried es t e

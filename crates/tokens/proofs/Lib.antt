@@ -1,8 +1,8 @@
-pub mod Alike
-pub mod Ascii
-pub mod Follows
-pub mod Going
-pub mod Runs
-pub mod Same
-pub mod SameTokens
-pub mod Words
+pub mod TokenAlike
+pub mod WordAscii
+pub mod TokenFollows
+pub mod TokenGoing
+pub mod RunRead
+pub mod PlaceSame
+pub mod TokenSame
+pub mod WordCases

@@ -3,7 +3,7 @@ use crate::interleaving_tests::Action::{
     Begin, Commit, Delete, DeleteBelow, Insert, InsertMany, InsertTwice, Migrate, Rename, Rollback,
     Select, SplitKey, SplitTime,
 };
-use crate::samples::{by, employee, key, many, one_row, sets};
+use crate::sample::{by, employee, key, many, one_row, sets};
 use histories::{Listing, Reply, Step};
 use interleaving::System;
 use rows::{Form, Instant, Keys, Operator, Refusal, Row, Rows, Schema, Sets, Shown, Value};

@@ -10,7 +10,7 @@ mod open_transaction_tests;
 #[cfg(test)]
 mod packed_tests;
 #[cfg(test)]
-mod samples;
+mod sample;
 #[cfg(test)]
 mod staging_tests;
 #[cfg(test)]

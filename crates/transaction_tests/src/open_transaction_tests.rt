@@ -1,6 +1,6 @@
 //! A transaction that reads what it wrote.
 
-use crate::samples::{empty_tree, one_row, sets, table};
+use crate::sample::{empty_tree, one_row, sets, table};
 use histories::Listing;
 use std::alloc::Global;
 use std::process::Abort;

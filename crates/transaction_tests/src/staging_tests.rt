@@ -1,6 +1,6 @@
 //! Own writes over what was committed before.
 
-use crate::samples::{
+use crate::sample::{
     ann, by, employee, empty_tree, key, many, nothing_staged, one_row, sets, table,
 };
 use searchrange::range_of_table;

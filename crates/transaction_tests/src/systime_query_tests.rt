@@ -1,6 +1,6 @@
 //! Two employees over time.
 
-use crate::samples::{ann, by, commit, hire, nothing_staged, sets, table};
+use crate::sample::{ann, by, commit, hire, nothing_staged, sets, table};
 use staging::Net;
 use std::alloc::Global;
 use std::process::Abort;

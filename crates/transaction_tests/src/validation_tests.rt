@@ -1,6 +1,6 @@
 //! Transactions that overlap.
 
-use crate::samples::{insertion, key, nothing_staged};
+use crate::sample::{insertion, key, nothing_staged};
 use std::alloc::Global;
 use std::process::Abort;
 use tsbtree::View;

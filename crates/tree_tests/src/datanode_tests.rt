@@ -1,6 +1,6 @@
 //! Nodes worked out by hand.
 
-use crate::samples::{all_keys, count, empty_node, key, put, sample_node, time_halves};
+use crate::sample::{all_keys, count, empty_node, key, put, sample_node, time_halves};
 use datanode::{DataNode, is_carried};
 use std::alloc::Global;
 use std::process::Abort;

@@ -2,7 +2,7 @@
 ghost use Rattle.std.specs.List.Sorted.{IsStrictlySortedBy};
 ghost use Rattle.values.specs.Events.{event_cmp};
 
-use crate::samples::{count, event, key, row};
+use crate::sample::{count, event, key, row};
 use eventlist::{
     event_since, event_until, events_in, is_overtaken, last_event, of_range, place_after,
     place_behind_key, place_of, place_of_key, place_until, put_event, sort_events, split_first_key,

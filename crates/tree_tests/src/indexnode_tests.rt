@@ -7,7 +7,7 @@ ghost use Rattle.indexnode.specs.Node.{Tiles};
 ghost use Rattle.indexnode.specs.Split.{AreCurrentIn};
 ghost use Rattle.indexnode.specs.Replacement.{HasRect};
 
-use crate::samples::{all, count, key, time_halves};
+use crate::sample::{all, count, key, time_halves};
 use indexnode::{IndexNode, Reference, pair, single};
 use keyrange::Rect;
 use slots::Share;

@@ -1,6 +1,6 @@
 //! Rectangles worked out by hand.
 
-use crate::samples::{all, time_halves};
+use crate::sample::{all, time_halves};
 use keyrange::{KeyRange, Rect, TimeRange};
 use std::alloc::Global;
 use std::process::Abort;

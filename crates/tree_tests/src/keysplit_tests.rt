@@ -1,6 +1,6 @@
 //! Middle keys worked out by hand.
 
-use crate::samples::{empty_node, put};
+use crate::sample::{empty_node, put};
 use datanode::DataNode;
 use keysplit::{middle_key, split_key};
 use std::alloc::Global;

@@ -12,7 +12,7 @@ mod keyrange_tests;
 #[cfg(test)]
 mod keysplit_tests;
 #[cfg(test)]
-mod samples;
+mod sample;
 #[cfg(test)]
 mod searchrange_tests;
 #[cfg(test)]
@@ -20,10 +20,10 @@ mod slots_tests;
 #[cfg(test)]
 mod timesplit_tests;
 #[cfg(test)]
+mod tree;
+#[cfg(test)]
 mod treegrowth_tests;
 #[cfg(test)]
 mod treenodes_tests;
-#[cfg(test)]
-mod trees;
 #[cfg(test)]
 mod treewalk_tests;

@@ -2,7 +2,7 @@
 ghost use Rattle.std.specs.Prelude.{IsTrue};
 ghost use Rattle.keyrange.specs.Cut.{is_time_inside};
 
-use crate::samples::{empty_node, put, sample_node};
+use crate::sample::{empty_node, put, sample_node};
 use datanode::DataNode;
 use std::alloc::Global;
 use std::process::Abort;

@@ -1,8 +1,8 @@
 //! A tree of one commit, and its splits.
 ghost use Rattle.treenodes.specs.Sound.{IsSound};
 
-use crate::samples::{change, key};
-use crate::trees::leaf;
+use crate::sample::{change, key};
+use crate::tree::leaf;
 use std::alloc::Global;
 use std::process::Abort;
 use treegrowth::{key_split, time_split, with_commit};

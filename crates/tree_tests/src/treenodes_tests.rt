@@ -3,8 +3,8 @@ ghost use Rattle.std.specs.Prelude.{◌≡◌, ◌≤◌};
 ghost use Rattle.treenodes.specs.Tree.{IsTree};
 ghost use Rattle.treenodes.specs.Lookup.{IsParent, IsData};
 
-use crate::samples::{change, key};
-use crate::trees::{grow_by, leaf, pack_at, split_root_at, time_split};
+use crate::sample::{change, key};
+use crate::tree::{grow_by, leaf, pack_at, split_root_at, time_split};
 use std::alloc::Global;
 use std::process::Abort;
 use treenodes::{Nodes, Slot, can_split_key, leaf_at, way, with_keys_split};

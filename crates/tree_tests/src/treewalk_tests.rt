@@ -1,8 +1,8 @@
 //! What is read off a tree of two leaves, of which the first is packed or not.
 ghost use Rattle.treenodes.specs.Tree.{IsTree};
 
-use crate::samples::{all, all_keys, change, count, key};
-use crate::trees::{grow_by, leaf, pack_at, split_root_at};
+use crate::sample::{all, all_keys, change, count, key};
+use crate::tree::{grow_by, leaf, pack_at, split_root_at};
 use blocks::InPlace;
 use std::alloc::Global;
 use std::process::Abort;

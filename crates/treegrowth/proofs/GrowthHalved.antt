@@ -10,8 +10,8 @@ use Rattle.treenodes.specs.Lookup.{IsParent}
 use Rattle.treenodes.specs.Sound.{AreWithinCapacity}
 use Rattle.treenodes.specs.Split.{Halved, IsLonger}
 use Rattle.treenodes.proofs.NodeNumbers.{one_at, same_or_not}
-use Rattle.treenodes.proofs.HalvesParents.{refers, below_there, is_index}
-use Rattle.treenodes.proofs.HalvesKept.{parent_kept, one_above}
+use Rattle.treenodes.proofs.ReplacementParents.{refers, below_there, is_index}
+use Rattle.treenodes.proofs.ReplacementKept.{parent_kept, one_above}
 use Rattle.treegrowth.specs.Growth.{AreOthersSmall, IsGrownIndex, IsWayDown}
 use Rattle.treegrowth.proofs.GrowthParents.{parent_is_current, earlier_differs, shorter}
 

@@ -11,8 +11,8 @@ use Rattle.treenodes.specs.Node.{Content, Events, References, TreeNode, IsAt, re
 use Rattle.treenodes.specs.Tree.{IsTree, HasContent}
 use Rattle.treenodes.specs.Lookup.{IsParent}
 use Rattle.treenodes.proofs.NodeNumbers.{one_at}
-use Rattle.treenodes.proofs.HalvesParents.{refers, below_there}
-use Rattle.treenodes.proofs.HalvesKept.{one_above}
+use Rattle.treenodes.proofs.ReplacementParents.{refers, below_there}
+use Rattle.treenodes.proofs.ReplacementKept.{one_above}
 use Rattle.treegrowth.specs.Growth.{IsWayDown}
 
 -- a rectangle without an end lies in none with one

@@ -8,8 +8,8 @@ use Rattle.treenodes.specs.Tree.{IsTree}
 use Rattle.treenodes.specs.Lookup.{IsParent}
 use Rattle.treenodes.specs.Split.{Halved}
 use Rattle.treenodes.proofs.NodeNumbers.{one_at, same_or_not, at_set, at_push, set_other, set_same, push_old, push_new}
-use Rattle.treenodes.proofs.HalvesParents.{refers, below_there}
-use Rattle.treenodes.proofs.HalvesKept.{one_above}
+use Rattle.treenodes.proofs.ReplacementParents.{refers, below_there}
+use Rattle.treenodes.proofs.ReplacementKept.{one_above}
 use Rattle.treegrowth.specs.Leaves.{IsLeafRect, HaveSameLeaves, IsLeafSplit}
 use Rattle.treegrowth.proofs.GrowthHalved.{Stands, Lower, Upper, Above, Other, stands, longer}
 

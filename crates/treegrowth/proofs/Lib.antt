@@ -4,8 +4,8 @@ pub mod GrowthParents
 pub mod GrowthHalved
 pub mod GrowthRaised
 pub mod LeavesKept
-pub mod IndexCurrent
-pub mod IndexSplit
+pub mod ReliefCurrent
+pub mod ReliefSplit
 pub mod LeafHalves
 pub mod CommitTaken
 pub mod CommitDue

@@ -7,7 +7,7 @@ use Rattle.std.proofs.lemmas.List.Elements.{recursion_from_All}
 use Rattle.keyrange.specs.Cut.{halves_by_key}
 use Rattle.datanode.specs.Cut.{cut, is_carried}
 use Rattle.datanode.specs.Node.{Node, IsNode}
-use Rattle.datanode.proofs.LawsHalves.{halves_at_key, halves_at_instant}
+use Rattle.datanode.proofs.LawHalves.{halves_at_key, halves_at_instant}
 use Rattle.eventlist.proofs.OvertakingNext.{never}
 use Rattle.keysplit.specs.Middle.{IsOfOneKey}
 use Rattle.treegrowth.specs.declared.point.SplitPoint.TheVariants.{Key, Time}

@@ -11,8 +11,8 @@ use Rattle.keyrange.specs.Range.{is_key_in, is_early, is_before_end}
 use Rattle.eventlist.proofs.PutPlaced.{sorted_put, all_put}
 use Rattle.datanode.specs.Cut.{in_cut, cut}
 use Rattle.datanode.specs.Node.{Node, IsNode, IsLast}
-use Rattle.datanode.specs.Laws.{IsElsewhere}
-use Rattle.datanode.proofs.LawsElsewhere.{cut_stays}
+use Rattle.datanode.specs.Law.{IsElsewhere}
+use Rattle.datanode.proofs.LawElsewhere.{cut_stays}
 use Rattle.datanode.proofs.CutParts.{map_of_cut, whole_of_cut}
 use Rattle.keyrange.proofs.RectInside.{facts_of}
 use Rattle.datanode.proofs.NodePut.{point_of, cut_with}

@@ -3,7 +3,7 @@ pub mod NodePut
 pub mod BacklogOrder
 pub mod BacklogKept
 pub mod BacklogFirst
-pub mod PackedKept
+pub mod PackingKept
 pub mod LookupSteps
 pub mod LookupFound
 pub mod LookupNodes
@@ -13,11 +13,11 @@ pub mod MapRead
 pub mod MapLatest
 pub mod TreeFrames
 pub mod EventTaken
-pub mod LawsOneChild
+pub mod LawOneChild
 pub mod RootAlone
 pub mod RootRaised
-pub mod HalvesTree
-pub mod HalvesParents
-pub mod HalvesKept
+pub mod ReplacementTree
+pub mod ReplacementParents
+pub mod ReplacementKept
 pub mod SplitData
 pub mod SplitIndex

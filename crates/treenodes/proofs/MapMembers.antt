@@ -11,7 +11,7 @@ use Rattle.datanode.specs.Cut.{IsMap}
 use Rattle.datanode.proofs.CutMembers.{In}
 use Rattle.datanode.proofs.CutOrder.{head_below}
 use Rattle.datanode.proofs.NodeInsert.{In-from_put, In-put_new}
-use Rattle.datanode.proofs.LawsLast.{not_below_itself, not_below_back}
+use Rattle.datanode.proofs.LawLast.{not_below_itself, not_below_back}
 use Rattle.treenodes.specs.Map.{put_all}
 
 same_heads : (x y : Event) (xs ys : List Event) → IsMap (x ∷ xs) → IsMap (y ∷ ys) → In x (y ∷ ys) → In y (x ∷ xs) → x ≡ y

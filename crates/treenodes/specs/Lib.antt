@@ -7,4 +7,4 @@ pub mod Lookup
 pub mod Event
 pub mod Split
 pub mod Root
-pub mod Laws
+pub mod Law

@@ -3,17 +3,17 @@
 
 mod backlog;
 mod event;
-mod halves;
-mod laws;
+mod law;
 mod lookup;
 mod node;
 mod nodes;
 mod packing;
+mod replacement;
 mod root;
 mod split;
 
 pub use event::with_event;
-pub use laws::{maps_are_read_off, meeting_references_are_one};
+pub use law::{maps_are_read_off, meeting_references_are_one};
 pub use lookup::{current_at, leaf_at, way};
 pub use node::{Child, Slot};
 pub use nodes::Nodes;

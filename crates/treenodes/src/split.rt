@@ -13,10 +13,10 @@ ghost use Rattle.treenodes.specs.Map.{HoldsMap, latest};
 ghost use Rattle.treenodes.specs.Lookup.{IsData, IsParent};
 ghost use Rattle.treenodes.specs.Split.{CanSplitKey, CanSplitTime, CanSplitIndexKey, CanSplitIndexTime, Halved, part, part_of};
 
-use crate::halves::with_halves;
 use crate::lookup::current_at;
 use crate::node::Child;
 use crate::nodes::Nodes;
+use crate::replacement::with_halves;
 use keyrange::{Rect, TimeRange, is_before_end, is_below};
 use keysplit::split_key;
 use std::alloc::Global;

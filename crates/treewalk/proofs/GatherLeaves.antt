@@ -12,7 +12,7 @@ use Rattle.treenodes.specs.Tree.{IsTree}
 use Rattle.treenodes.specs.Map.{HoldsMap, IsCut}
 use Rattle.treewalk.specs.Level.{MeetsAt, AreMeeting, AreLeaves}
 use Rattle.treewalk.specs.Gather.{events_at}
-use Rattle.treewalk.proofs.ListMembers.{contained, member, In-flat_map, In-from_flat_map}
+use Rattle.treewalk.proofs.ListingMembers.{contained, member, In-flat_map, In-from_flat_map}
 use Rattle.treewalk.proofs.LevelNodes.{NodeAt, at_level, is_listed}
 
 -- ---- one leaf

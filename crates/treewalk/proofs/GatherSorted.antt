@@ -14,7 +14,7 @@ use Rattle.datanode.proofs.CutMembers.{In, In-filter, In-from_filter}
 use Rattle.datanode.proofs.CutOrder.{one_event}
 use Rattle.datanode.proofs.NodePut.{event_equal}
 use Rattle.treenodes.proofs.MapMembers.{same_members}
-use Rattle.treewalk.proofs.ListMembers.{contained, member}
+use Rattle.treewalk.proofs.ListingMembers.{contained, member}
 
 equal_of : (o : Ordering) → is_eq o ≡ true → o ≡ Equal
 equal_of Less h = cc

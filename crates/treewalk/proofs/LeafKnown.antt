@@ -9,9 +9,9 @@ use Rattle.datanode.specs.Cut.{IsMap}
 use Rattle.datanode.specs.NextChange.{event_after}
 use Rattle.datanode.proofs.CutMembers.{In}
 use Rattle.datanode.proofs.CutOrder.{In_place}
-use Rattle.datanode.proofs.LawsLast.{last_such, none_such, none_passes, until_such}
+use Rattle.datanode.proofs.LawLast.{last_such, none_such, none_passes, until_such}
 use Rattle.treewalk.specs.Leaf.{is_upto}
-use Rattle.treewalk.proofs.ChangeNext.{IsFirst, first_found, none_found}
+use Rattle.treewalk.proofs.ChangeAfterShown.{IsFirst, first_found, none_found}
 
 module _ (es : List Event) (map : IsMap es) (ones : All (λ e. 1 ≤ e.at) es) (key : List ℕ) (t : ℕ) where
   abbrev wanted : Event → Bool

@@ -11,7 +11,7 @@ use Rattle.keyrange.specs.Range.{is_key_in}
 use Rattle.eventlist.specs.Listing.{events_in, stands_at, standing}
 use Rattle.datanode.proofs.CutMembers.{In, In-filter, In-from_filter, filter_alike, filter_twice}
 use Rattle.datanode.proofs.CutLaws.{itself}
-use Rattle.treewalk.proofs.StandingCut.{Stands, stands_decides}
+use Rattle.treewalk.proofs.ListingStanding.{Stands, stands_decides}
 
 module _ (es : List Event) (range : KeyRange) (t : ℕ) where
   abbrev early : Event → Bool

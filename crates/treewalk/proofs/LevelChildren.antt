@@ -16,7 +16,7 @@ use Rattle.treenodes.specs.Node.{Content, Events, References, TreeNode, IsAt, re
 use Rattle.treenodes.specs.Tree.{RefersTo, IsIndex, IsTree}
 use Rattle.datanode.proofs.CutMembers.{In, In-filter, In-from_filter}
 use Rattle.treewalk.specs.Level.{AreIndexes, AreMeeting, MeetsAt}
-use Rattle.treewalk.proofs.ListMembers.{contained, member, In-flat_map, In-from_flat_map, In-map, In-from_map}
+use Rattle.treewalk.proofs.ListingMembers.{contained, member, In-flat_map, In-from_flat_map, In-map, In-from_map}
 use Rattle.treenodes.proofs.NodeNumbers.{one_at}
 use Rattle.treewalk.proofs.LevelNodes.{is_indexed}
 use Rattle.treewalk.proofs.LevelSteps.{AreChildren}

@@ -26,7 +26,7 @@ use Rattle.treenodes.proofs.MapRead.{held}
 use Rattle.treewalk.proofs.GatherSorted.{sorted_out}
 use Rattle.treewalk.proofs.GatherArea.{Asked, area_of, asked_area, asked_point, area_is, at_instant}
 use Rattle.treewalk.proofs.GatherLeaves.{IsShownAt, all_sound, all_whole}
-use Rattle.treewalk.proofs.StandingCut.{Stands, stands_decides, to_cut, from_cut}
+use Rattle.treewalk.proofs.ListingStanding.{Stands, stands_decides, to_cut, from_cut}
 
 -- an event that passes is at a point in question, and a leaf that has the point shows it
 pub record IsSeen (query : Query) (range : KeyRange) (m : List Event) (e : Event) : Type 0 where

@@ -30,7 +30,7 @@ use Rattle.treenodes.specs.Node.{TreeNode, IsAt}
 use Rattle.treenodes.specs.Tree.{IsTree, AreApart}
 use Rattle.treewalk.specs.declared.shape.NodeShape.{NodeShape}
 use Rattle.treewalk.specs.Shape.{node_shape, shape_cmp, IsShapeOf}
-use Rattle.treewalk.proofs.ListMembers.{In-from_map}
+use Rattle.treewalk.proofs.ListingMembers.{In-from_map}
 
 pub shape_total : IsTotalOrder shape_cmp
 shape_total =

@@ -6,7 +6,7 @@ ghost use Rattle.treewalk.specs.Gather.{instants, area_between, asked, asked_of_
 ghost use Rattle.treewalk.specs.Leaf.{node_in};
 ghost use Rattle.treewalk.specs.Level.{AreLeaves};
 
-use crate::around::node_around;
+use crate::descent::node_around;
 use crate::leaf::leaf_of;
 use crate::level::leaves_below;
 use blocks::{Block, Blocks};

@@ -6,7 +6,7 @@ ghost use Rattle.indexnode.specs.Node.{meet};
 ghost use Rattle.treenodes.specs.Tree.{IsTree};
 ghost use Rattle.treewalk.specs.Level.{AreMeeting, AreIndexes, IsAround, IsBelowRoot};
 
-use crate::around::node_around;
+use crate::descent::node_around;
 use indexnode::IndexNode;
 use keyrange::Rect;
 use std::alloc::Global;

@@ -1,8 +1,8 @@
 //! What is read off the nodes of a tree.
 #![tactic(auto)]
 
-mod around;
 mod change_after;
+mod descent;
 mod gather;
 mod last_change;
 mod leaf;

@@ -12,7 +12,7 @@ use Rattle.treenodes.specs.Sound.{IsSound}
 use Rattle.treenodes.proofs.LookupNodes.{point_in}
 use Rattle.treenodes.proofs.NodeNumbers.{one_at}
 use Rattle.treewalk.proofs.GatherLeaves.{cut_of}
-use Rattle.datanode.proofs.LawsLast.{shown_by_cut}
+use Rattle.datanode.proofs.LawLast.{shown_by_cut}
 use Rattle.treewalk.specs.Leaf.{node_in}
 use Rattle.tsbtree.specs.View.{TreeState, events}
 use Rattle.tsbtree.specs.Leaf.{IsLeafOf}

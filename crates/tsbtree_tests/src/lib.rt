@@ -2,13 +2,13 @@
 #![tactic(auto)]
 
 #[cfg(test)]
-mod answers;
+mod answer;
 #[cfg(test)]
 mod growth;
 #[cfg(test)]
 mod leaf_tests;
 #[cfg(test)]
-mod lines;
+mod line;
 #[cfg(test)]
 mod packing_tests;
 #[cfg(test)]

@@ -1,9 +1,9 @@
 //! Blocks take the places of nodes of history.
 ghost use Rattle.std.specs.Prelude.{◌≤◌};
 
-use crate::answers::{answers, answers_of};
+use crate::answer::{answers, answers_of};
 use crate::growth::{few_changes_split, key, one_key_split, two_parents, two_versions};
-use crate::lines::{begins_with, count_packed, is_packed_line, shape_of};
+use crate::line::{begins_with, count_packed, is_packed_line, shape_of};
 use blocks::Block;
 use datanode::DataNode;
 use keyrange::Rect;

@@ -2,7 +2,7 @@
 use crate::growth::{
     few_changes, many_keys, new_tree, one_key, one_key_split, split_at, split_before, two_parents,
 };
-use crate::lines::{Line, begins_with, is_line, shape_of};
+use crate::line::{Line, begins_with, is_line, shape_of};
 use std::alloc::Global;
 use std::process::Abort;
 use treewalk::Shape;

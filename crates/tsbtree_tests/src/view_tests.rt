@@ -1,5 +1,5 @@
 //! What views answer, of trees with few changes and with many. A test keeps no tree: each helper makes its own.
-use crate::answers::{answers_of, count, number_in_row};
+use crate::answer::{answers_of, count, number_in_row};
 use crate::growth::{
     few_changes, few_changes_split, grow, new_tree, one_key, one_key_split, one_row, split_at,
 };

@@ -5,8 +5,8 @@ mod greeting;
 
 use crate::greeting::Greeter;
 use command_line::fault::{Fault, tell};
+use command_line::options::WordsFault;
 use command_line::program::program;
-use command_line::words::WordsFault;
 use std::env;
 use std::io::{BufWriter, ErrorKind};
 use std::process::ExitCode;

@@ -1,2 +1,2 @@
-pub mod Adding
-pub mod Conflicts
+pub mod EngineAdding
+pub mod EngineConflicts

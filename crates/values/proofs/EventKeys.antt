@@ -18,12 +18,12 @@ use Rattle.values.specs.Order.{key_cmp, is_key}
 use Rattle.values.specs.Log.{Changes, Net, Row, point_cmp, add_net}
 use Rattle.values.specs.Commits.{changed_since, or_else}
 use Rattle.values.specs.KeyEncoding.{bytes_of_key}
-use Rattle.values.specs.KeyEncodingLaws.{AreKeyParts, IsStorable}
+use Rattle.values.specs.KeyEncodingLaw.{AreKeyParts, IsStorable}
 use Rattle.values.specs.KeyReading.{IsKeyOf}
 use Rattle.values.specs.RowEncoding.{IsHeld}
 use Rattle.values.specs.Events.{bytes_cmp, is_bytes, event_cmp, event_of, events_of, IsKeyOfAny, IsKeyIn, AreChangesIn, AreKeysIn, event_since, put_event, put_net, later}
 use Rattle.values.proofs.KeyOrder.{byte_order_is_key_order}
-use Rattle.values.proofs.Orders.{point_cmp-IsAntisymmetric}
+use Rattle.values.proofs.OrderTotal.{point_cmp-IsAntisymmetric}
 
 -- ---- one order
 

@@ -26,9 +26,9 @@ use Rattle.values.specs.declared.key.Key.{Key}
 use Rattle.values.specs.Order.{value_cmp, key_cmp}
 use Rattle.values.specs.Fit.{fits_type, parts_fault, part_fault}
 use Rattle.values.specs.KeyEncoding.{ordinal_of, text_bytes, part_bytes, bytes_of_key}
-use Rattle.values.specs.KeyEncodingLaws.{IsStorable, AreKeyParts, AreOfOneSchema}
+use Rattle.values.specs.KeyEncodingLaw.{IsStorable, AreKeyParts, AreOfOneSchema}
 use Rattle.values.proofs.KeyLengths.{FitsColumn, part_fits, first_none, key_fits}
-use Rattle.values.proofs.Orders.{key_cmp-IsAntisymmetric}
+use Rattle.values.proofs.OrderTotal.{key_cmp-IsAntisymmetric}
 
 -- the order of bytes
 abbrev pub bytes_cmp : List ℕ → List ℕ → Ordering

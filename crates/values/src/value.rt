@@ -86,7 +86,7 @@ impl Ord for Values {
     ghost use Rattle.std.specs.Cmp.Lexicographic.{slice_cmp, lists_total};
     ghost use Rattle.std.specs.Prelude.{refl};
     ghost use Rattle.values.specs.Order.{value_cmp};
-    ghost use Rattle.values.specs.OrderLaws.{value_cmp_total};
+    ghost use Rattle.values.specs.OrderLaw.{value_cmp_total};
 
     ghost cmp = { slice_cmp value_cmp };
 
@@ -106,7 +106,7 @@ impl PartialOrd for Values {
     ghost use Rattle.std.specs.Cmp.Lexicographic.{slice_cmp, lists_total};
     ghost use Rattle.std.specs.Ordering.{as_partial_cmp};
     ghost use Rattle.values.specs.Order.{value_cmp};
-    ghost use Rattle.values.specs.OrderLaws.{value_cmp_total};
+    ghost use Rattle.values.specs.OrderLaw.{value_cmp_total};
 
     ghost partial_cmp = { as_partial_cmp (slice_cmp value_cmp) };
 
@@ -122,7 +122,7 @@ impl PartialEq for Values {
     ghost use Rattle.std.specs.Cmp.Lexicographic.{slice_cmp, lists_total};
     ghost use Rattle.std.specs.Ordering.{eq_by_cmp};
     ghost use Rattle.values.specs.Order.{value_cmp};
-    ghost use Rattle.values.specs.OrderLaws.{value_cmp_total};
+    ghost use Rattle.values.specs.OrderLaw.{value_cmp_total};
 
     ghost eq = { eq_by_cmp (slice_cmp value_cmp) };
 
@@ -136,7 +136,7 @@ impl PartialEq for Values {
 impl Eq for Values {
     ghost use Rattle.std.specs.Cmp.{eq_by_cmp_equiv};
     ghost use Rattle.std.specs.Cmp.Lexicographic.{lists_total};
-    ghost use Rattle.values.specs.OrderLaws.{value_cmp_total};
+    ghost use Rattle.values.specs.OrderLaw.{value_cmp_total};
 
     ghost laws = { eq_by_cmp_equiv (lists_total value_cmp_total) };
 }

@@ -2,7 +2,7 @@ use Rattle.std.proofs.Common.{◌≡◌, [], Some, None, ◌∙◌, rules}
 use Rattle.eventlist.specs.Listing.{events_in}
 use Rattle.datanode.specs.Node.{Node}
 use Rattle.blocks.specs.Block.{IsBlockOf}
-use Rattle.blocks.specs.InPlace.{events_place}
+use Rattle.blocks.specs.Lookup.{events_place}
 use Rattle.blocks.specs.Listing.{events_asked}
 use Rattle.blocks.proofs.BlockReads.{weaker}
 use Rattle.blocks.proofs.ListingFinds.{listed, nothing_listed}

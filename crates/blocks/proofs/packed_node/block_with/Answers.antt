@@ -1,5 +1,5 @@
 use Rattle.std.proofs.Common.{◌∙◌}
-use Rattle.blocks.proofs.PackedReads.{packed_is, is_packed}
+use Rattle.blocks.proofs.PackedNodeReads.{packed_is, is_packed}
 use Rattle.blocks.proofs.packed_node.block_with.Goals as goal
 
 pub invariant_of-result : goal.invariant_of-result

@@ -1,5 +1,5 @@
 use Rattle.std.proofs.Common.{sym}
-use Rattle.book.proofs.Growing.{not_memory}
+use Rattle.book.proofs.BookGrowing.{not_memory}
 use Rattle.book.proofs.commit.ending.Goals as goal
 
 pub returns-clause-is : goal.returns-clause-is

@@ -1,4 +1,4 @@
-use Rattle.command_line.proofs.Loading.{led_with, unloaded_late}
+use Rattle.command_line.proofs.LoadParts.{led_with, unloaded_late}
 use Rattle.command_line.proofs.load.load_rows_of.Goals as goal
 
 pub returns-in-Ok-report-clause-ok : goal.returns-in-Ok-report-clause-ok

@@ -1,6 +1,6 @@
 use Rattle.std.proofs.Common.{subst}
 use Rattle.command_line.specs.Load.{IsNamed}
-use Rattle.command_line.proofs.Loading.{no_rows_of}
+use Rattle.command_line.proofs.LoadParts.{no_rows_of}
 use Rattle.command_line.proofs.load.rows_for.Goals as goal
 
 pub returns-in-Err-clause-err : goal.returns-in-Err-clause-err

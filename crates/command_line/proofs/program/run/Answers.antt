@@ -1,5 +1,5 @@
 use Rattle.std.proofs.Common.{map}
-use Rattle.command_line.proofs.Ending.{taken_faulty, refused_words, refused_faulty}
+use Rattle.command_line.proofs.ProgramEnding.{taken_faulty, refused_words, refused_faulty}
 use Rattle.command_line.proofs.program.run.Goals as goal
 
 pub returns-in-Ok-clause-fault : goal.returns-in-Ok-clause-fault

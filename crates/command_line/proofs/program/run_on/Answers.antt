@@ -1,5 +1,5 @@
 use Rattle.std.proofs.Common.{option_map}
-use Rattle.command_line.proofs.Ending.{ran_on, halts_late}
+use Rattle.command_line.proofs.ProgramEnding.{ran_on, halts_late}
 use Rattle.command_line.proofs.program.run_on.Goals as goal
 
 pub returns-in-Ok-clause-done : goal.returns-in-Ok-clause-done

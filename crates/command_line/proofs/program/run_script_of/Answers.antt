@@ -1,6 +1,6 @@
 use Rattle.std.proofs.Common.{ap, option_map}
 use Rattle.std.proofs.KnownBytes.{Keeps-refl}
-use Rattle.command_line.proofs.Running.{has_run_file, has_run_input}
+use Rattle.command_line.proofs.ProgramRun.{has_run_file, has_run_input}
 use Rattle.command_line.proofs.program.run_script_of.Goals as goal
 
 pub returns-in-Ok-clause-done : goal.returns-in-Ok-clause-done

@@ -1,5 +1,5 @@
 use Rattle.std.proofs.Common.{Some, ap, option_map, refl, subst, sym}
-use Rattle.command_line.specs.Served.{IsFirst}
+use Rattle.command_line.specs.Server.{IsFirst}
 use Rattle.command_line.proofs.server.first_of.Goals as goal
 
 pub returns-in-Ok-clause-ok : goal.returns-in-Ok-clause-ok

@@ -2,7 +2,7 @@ use Rattle.std.proofs.Common.{◌≡◌, ℕ, ◌≤◌, ◌^◌, pos, neg_ℤ, 
 use Rattle.std.specs.Option.{option_map}
 use Rattle.std.proofs.lemmas.Int.{ints}
 use Rattle.statement.specs.Literal.{digits_here}
-use Rattle.interchange.proofs.Wholes.{whole_map}
+use Rattle.interchange.proofs.FieldWholes.{whole_map}
 use Rattle.interchange.proofs.field.below_nought.Goals as goal
 use mir.Syntax.{w128}
 use mir.Val.{to_z, of_z}

@@ -3,7 +3,7 @@ use Rattle.std.specs.Prelude.{unwrap_or}
 use Rattle.std.specs.Result.{is_ok}
 use Rattle.csv.specs.Records.{fields_of}
 use Rattle.values.specs.Names.{column_number}
-use Rattle.interchange.proofs.Fields.{one_more}
+use Rattle.interchange.proofs.LoadFields.{one_more}
 use Rattle.interchange.proofs.load.column_list.Goals as goal
 
 pub loop-i-preserved : goal.loop-i-preserved

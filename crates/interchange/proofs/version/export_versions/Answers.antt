@@ -1,6 +1,6 @@
 use Rattle.std.specs.List.{flat_map}
-use Rattle.interchange.specs.Export.{version_text}
-use Rattle.interchange.proofs.Chunks.{some_taken, some_stopped}
+use Rattle.interchange.specs.Version.{version_text}
+use Rattle.interchange.proofs.VersionChunks.{some_taken, some_stopped}
 use Rattle.interchange.proofs.version.export_versions.Goals as goal
 
 pub loop-rest-preserved : goal.loop-rest-preserved

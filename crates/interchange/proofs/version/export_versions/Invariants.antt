@@ -1,7 +1,7 @@
 use Rattle.std.proofs.Common.{length}
 use Rattle.std.specs.List.{flat_map}
-use Rattle.statement.proofs.Fronts.{Left}
-use Rattle.interchange.specs.Export.{version_text}
+use Rattle.statement.proofs.WriterFronts.{Left}
+use Rattle.interchange.specs.Version.{version_text}
 use Rattle.interchange.proofs.version.export_versions.Given as goal
 
 abbrev pub invariant-loop-rest : goal.invariant-loop-rest

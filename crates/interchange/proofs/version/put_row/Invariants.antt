@@ -1,6 +1,6 @@
 use Rattle.std.proofs.Common.{◌≡◌, ◌++◌, [], drop, map}
 use Rattle.csv.specs.Records.{fields_of, partial_of}
-use Rattle.interchange.specs.Export.{field_of}
+use Rattle.interchange.specs.Version.{field_of}
 use Rattle.interchange.proofs.version.put_row.Given as goal
 
 abbrev pub invariant-loop-value : goal.invariant-loop-value

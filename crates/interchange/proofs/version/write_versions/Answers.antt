@@ -1,5 +1,5 @@
-use Rattle.statement.proofs.Fronts.{each_taken}
-use Rattle.interchange.specs.Export.{version_text}
+use Rattle.statement.proofs.WriterFronts.{each_taken}
+use Rattle.interchange.specs.Version.{version_text}
 use Rattle.interchange.proofs.version.write_versions.Goals as goal
 
 pub loop-version-preserved : goal.loop-version-preserved

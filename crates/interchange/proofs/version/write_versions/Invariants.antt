@@ -1,7 +1,7 @@
 use Rattle.std.proofs.Common.{drop}
 use Rattle.std.specs.List.{flat_map}
-use Rattle.statement.proofs.Fronts.{Left}
-use Rattle.interchange.specs.Export.{IsReady, held, version_text}
+use Rattle.statement.proofs.WriterFronts.{Left}
+use Rattle.interchange.specs.Version.{IsReady, held, version_text}
 use Rattle.interchange.proofs.version.write_versions.Given as goal
 
 abbrev pub invariant-loop-version : goal.invariant-loop-version

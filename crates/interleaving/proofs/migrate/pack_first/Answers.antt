@@ -4,7 +4,7 @@ use Rattle.datanode.specs.Node.{Node}
 use Rattle.treenodes.specs.Node.{TreeNode, data_node}
 use Rattle.treenodes.specs.Backlog.{IsWaiting, IsFirstWaiting}
 use Rattle.tsbtree.specs.View.{TreeState}
-use Rattle.interleaving.proofs.Migrated.{none_found}
+use Rattle.interleaving.proofs.MigrateFirst.{none_found}
 use Rattle.interleaving.proofs.migrate.pack_first.Goals as goal
 
 pub returns-in_default-clause-packed : goal.returns-in_default-clause-packed

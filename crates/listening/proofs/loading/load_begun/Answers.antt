@@ -1,4 +1,4 @@
-use Rattle.listening.proofs.Loads.{if_ok, loads_by, insert_refused}
+use Rattle.listening.proofs.LoadingCalls.{if_ok, loads_by, insert_refused}
 use Rattle.listening.proofs.loading.load_begun.Goals as goal
 
 pub returns-in-Ok-clause-ok : goal.returns-in-Ok-clause-ok

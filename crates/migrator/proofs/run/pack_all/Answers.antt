@@ -1,5 +1,5 @@
 use Rattle.std.proofs.Common.{[], None, refl}
-use Rattle.migrator.proofs.Steps.{begins, breaks}
+use Rattle.migrator.proofs.RoundSteps.{begins, breaks}
 use Rattle.migrator.proofs.run.pack_all.Goals as goal
 
 pub returns-in_default-clause-err : goal.returns-in_default-clause-err

@@ -1,5 +1,5 @@
 use Rattle.std.proofs.Common.{map}
-use Rattle.migrator.proofs.Begun.{first_of}
+use Rattle.migrator.proofs.RoundBegun.{first_of}
 use Rattle.migrator.proofs.run.pack_begun.Given as goal
 
 -- the begin that was just made, and what it shows

@@ -1,6 +1,6 @@
 use Rattle.std.proofs.Common.{ap, map, [], ◌∷◌, ◌++◌, ◌∙◌}
 use Rattle.std.proofs.lemmas.Result.{IfErr-weaker, IfOk-weaker}
-use Rattle.migrator.proofs.Begun.{broken_of, is_one, round_of}
+use Rattle.migrator.proofs.RoundBegun.{broken_of, is_one, round_of}
 use Rattle.migrator.proofs.run.run_migrator.Goals as goal
 
 pub pack_begun-requires-after_bounds : goal.pack_begun-requires-after_bounds

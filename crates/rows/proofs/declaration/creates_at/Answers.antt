@@ -1,7 +1,7 @@
 use Rattle.std.proofs.Common.{◌≡◌, ◌<◌, ◌-◌, ◌+◌, ◌++◌, ◌∷◌, [], Ok, true, false, sym, ap, ◌∙◌, length, arith, rules}
 use Rattle.rows.specs.Declaration.{creates_at, create_at, creates_upto, prepend}
-use Rattle.tokens.proofs.Alike.{stops_alike}
-use Rattle.rows.proofs.Listed.{creates_err, creates_more_err, creates_last, creates_more}
+use Rattle.tokens.proofs.TokenAlike.{stops_alike}
+use Rattle.rows.proofs.DeclarationListed.{creates_err, creates_more_err, creates_last, creates_more}
 use Rattle.rows.proofs.declaration.creates_at.Goals as goal
 
 pub returns-in-Err : goal.returns-in-Err

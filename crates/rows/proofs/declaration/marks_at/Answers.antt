@@ -1,6 +1,6 @@
 use Rattle.std.proofs.Common.{◌≡◌, ◌<◌, ◌-◌, ◌+◌, ◌++◌, ◌∷◌, [], Ok, true, false, sym, ap, ◌∙◌, length, arith, rules}
 use Rattle.rows.specs.Declaration.{marks_at, is_mark_at, marks_upto, prepend}
-use Rattle.rows.proofs.Listed.{marks_end, marks_err, marks_more}
+use Rattle.rows.proofs.DeclarationListed.{marks_end, marks_err, marks_more}
 use Rattle.rows.proofs.declaration.marks_at.Goals as goal
 
 pub returns-then-not-is_mark_at : goal.returns-then-not-is_mark_at

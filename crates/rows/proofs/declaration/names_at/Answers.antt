@@ -1,8 +1,8 @@
 use Rattle.std.proofs.Common.{◌≡◌, ◌<◌, ◌++◌, ◌∷◌, [], Ok, sym, ap, ◌∙◌, length, arith, rules, ◌-◌, ◌+◌}
 use Rattle.rows.specs.SchemaToken.{name_at}
 use Rattle.rows.specs.Declaration.{names_at, prepend, list_at}
-use Rattle.tokens.proofs.Alike.{stops_alike}
-use Rattle.rows.proofs.Listed.{listed_err, listed_last, listed_more}
+use Rattle.tokens.proofs.TokenAlike.{stops_alike}
+use Rattle.rows.proofs.DeclarationListed.{listed_err, listed_last, listed_more}
 use Rattle.rows.proofs.declaration.names_at.Goals as goal
 
 pub returns-in-Err : goal.returns-in-Err

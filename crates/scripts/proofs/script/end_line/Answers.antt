@@ -1,5 +1,5 @@
 use Rattle.std.proofs.Common.{refl}
-use Rattle.scripts.proofs.Scripting.{same_answered}
+use Rattle.scripts.proofs.ScriptAnswered.{same_answered}
 use Rattle.scripts.proofs.script.end_line.Goals as goal
 
 pub returns-clause-ok : goal.returns-clause-ok

@@ -1,5 +1,5 @@
 use Rattle.std.proofs.Common.{sym, ◌∙◌}
-use Rattle.scripts.proofs.Running.{some_none, some_more, some_broken, all_flushed, all_stuck}
+use Rattle.scripts.proofs.ScriptRunning.{some_none, some_more, some_broken, all_flushed, all_stuck}
 use Rattle.scripts.proofs.script.feed.Goals as goal
 
 pub loop-rest-init : goal.loop-rest-init

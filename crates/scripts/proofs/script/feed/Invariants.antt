@@ -1,6 +1,6 @@
 use Rattle.std.proofs.Common.{length}
 use Rattle.lines.specs.Partial.{Fits}
-use Rattle.scripts.proofs.Running.{TakesSome}
+use Rattle.scripts.proofs.ScriptRunning.{TakesSome}
 use Rattle.scripts.proofs.script.feed.Given as goal
 
 abbrev pub invariant-loop-rest : goal.invariant-loop-rest

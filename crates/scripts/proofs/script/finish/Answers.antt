@@ -1,5 +1,5 @@
 use Rattle.std.proofs.Common.{sym, ◌∙◌}
-use Rattle.scripts.proofs.Running.{finish_ok, finish_stuck, finish_err}
+use Rattle.scripts.proofs.ScriptRunning.{finish_ok, finish_stuck, finish_err}
 use Rattle.scripts.proofs.script.finish.Goals as goal
 
 pub returns-in-Ok-clause-ok : goal.returns-in-Ok-clause-ok

@@ -1,4 +1,4 @@
-use Rattle.scripts.proofs.Scripting.{puts_ok, puts_err, refused_answered, refused_broken}
+use Rattle.scripts.proofs.ScriptAnswered.{puts_ok, puts_err, refused_answered, refused_broken}
 use Rattle.scripts.proofs.script.refuse.Goals as goal
 
 pub returns-clause-ok : goal.returns-clause-ok

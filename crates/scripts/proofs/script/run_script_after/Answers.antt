@@ -3,7 +3,7 @@ use Rattle.statement.specs.Line.{line_says}
 use Rattle.interleaving.specs.SystemState.{SystemState}
 use Rattle.scripts.specs.First.{history_of}
 use Rattle.scripts.specs.Transcript.{IsRunAfter, IsCutAfter, IsStoppedAfter}
-use Rattle.scripts.proofs.Leading.{at_schema, same_schema, never_first}
+use Rattle.scripts.proofs.ScriptLeading.{at_schema, same_schema, never_first}
 use Rattle.scripts.proofs.script.run_script_after.Goals as goal
 
 pub returns-in-Ok-clause-done : goal.returns-in-Ok-clause-done

@@ -1,9 +1,9 @@
 use Rattle.std.proofs.Common.{take, [], subst, arith}
 use Rattle.std.specs.Io.KnownBytes.{Consumes}
 use Rattle.std.proofs.KnownBytes.{Keeps-refl}
-use Rattle.lines.proofs.Adding.{empty_fits}
-use Rattle.scripts.proofs.Leading.{run_at}
-use Rattle.scripts.proofs.Running.{going_none, going_more, going_cut, going_broken, going_done, going_schema, going_unfinished}
+use Rattle.lines.proofs.LineBufferAdding.{empty_fits}
+use Rattle.scripts.proofs.ScriptLeading.{run_at}
+use Rattle.scripts.proofs.ScriptRunning.{going_none, going_more, going_cut, going_broken, going_done, going_schema, going_unfinished}
 use Rattle.scripts.proofs.script.run_script_in.Goals as goal
 
 pub loop-turn-init : goal.loop-turn-init

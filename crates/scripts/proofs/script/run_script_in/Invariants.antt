@@ -1,7 +1,7 @@
 use Rattle.histories.specs.History.{History}
 use Rattle.interleaving.specs.SystemState.{Stands}
 use Rattle.lines.specs.Partial.{Fits}
-use Rattle.scripts.proofs.Running.{Going}
+use Rattle.scripts.proofs.ScriptRunning.{Going}
 use Rattle.scripts.proofs.script.run_script_in.Given as goal
 
 abbrev pub invariant-loop-turn : goal.invariant-loop-turn

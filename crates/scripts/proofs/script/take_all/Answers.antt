@@ -1,5 +1,5 @@
 use Rattle.std.proofs.Common.{sym, ◌∙◌}
-use Rattle.scripts.proofs.Leading.{leading_more}
+use Rattle.scripts.proofs.ScriptLeading.{leading_more}
 use Rattle.scripts.proofs.script.take_all.Goals as goal
 
 pub loop-step-preserved : goal.loop-step-preserved

@@ -1,5 +1,5 @@
 use Rattle.std.specs.Vec.Iter.{into_iter_items}
-use Rattle.scripts.proofs.Leading.{Leading}
+use Rattle.scripts.proofs.ScriptLeading.{Leading}
 use Rattle.scripts.proofs.script.take_all.Given as goal
 
 abbrev pub invariant-loop-step : goal.invariant-loop-step

@@ -1,6 +1,6 @@
 use Rattle.std.proofs.Common.{refl}
-use Rattle.lines.proofs.Adding.{empty_fits}
-use Rattle.scripts.proofs.Running.{end_ok, end_err, on_ok}
+use Rattle.lines.proofs.LineBufferAdding.{empty_fits}
+use Rattle.scripts.proofs.ScriptRunning.{end_ok, end_err, on_ok}
 use Rattle.scripts.proofs.script.take_feed.Goals as goal
 
 pub returns-clause-ok : goal.returns-clause-ok

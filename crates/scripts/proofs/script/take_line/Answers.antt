@@ -1,5 +1,5 @@
 use Rattle.std.proofs.Common.{refl}
-use Rattle.scripts.proofs.Running.{piece_taken, stops_before, line_fed, line_broken}
+use Rattle.scripts.proofs.ScriptRunning.{piece_taken, stops_before, line_fed, line_broken}
 use Rattle.scripts.proofs.script.take_line.Goals as goal
 
 pub returns-then-n-bytes-clause-ok : goal.returns-then-n-bytes-clause-ok

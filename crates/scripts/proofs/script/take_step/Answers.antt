@@ -1,5 +1,5 @@
 use Rattle.std.proofs.Common.{refl}
-use Rattle.scripts.proofs.Scripting.{Stepped, puts_ok, puts_err, step_answered, step_broken}
+use Rattle.scripts.proofs.ScriptAnswered.{Stepped, puts_ok, puts_err, step_answered, step_broken}
 use Rattle.scripts.proofs.script.take_step.Goals as goal
 
 pub returns-clause-ok : goal.returns-clause-ok

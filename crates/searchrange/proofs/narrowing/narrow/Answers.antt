@@ -1,6 +1,6 @@
 use Rattle.std.proofs.Common.{◌≡◌, ◌∙◌, ◌<◌, length, rules}
 use Rattle.searchrange.specs.SearchRange.{narrowed_at}
-use Rattle.searchrange.proofs.Steps.{stops, goes_on}
+use Rattle.searchrange.proofs.NarrowingSteps.{stops, goes_on}
 use Rattle.searchrange.proofs.narrowing.narrow.Goals as goal
 
 pub returns-in-None : goal.returns-in-None

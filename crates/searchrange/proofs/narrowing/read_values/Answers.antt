@@ -2,7 +2,7 @@ use Rattle.std.proofs.Common.{rules, ◌≡◌, ◌<◌, ◌≤◌, length, take
 use Rattle.std.proofs.lemmas.List.Elements.{All-more}
 use Rattle.std.proofs.lemmas.List.{take_all}
 use Rattle.values.specs.declared.query.Comparison.{Comparison}
-use Rattle.values.specs.KeyEncodingLaws.{IsStorable}
+use Rattle.values.specs.KeyEncodingLaw.{IsStorable}
 use Rattle.searchrange.proofs.narrowing.read_values.Goals as goal
 
 pub loop-comparison-preserved : goal.loop-comparison-preserved

@@ -1,5 +1,5 @@
 use Rattle.std.proofs.Common.{take, All}
-use Rattle.values.specs.KeyEncodingLaws.{IsStorable}
+use Rattle.values.specs.KeyEncodingLaw.{IsStorable}
 use Rattle.searchrange.proofs.narrowing.read_values.Given as goal
 
 abbrev pub invariant-loop-comparison : goal.invariant-loop-comparison

@@ -1,12 +1,12 @@
 use Rattle.std.proofs.Common.{rules, ◌≡◌, ◌<◌, All, sym, subst}
 use Rattle.std.proofs.lemmas.Result.{IfOk-weaker}
 use Rattle.values.specs.declared.query.Comparison.{Comparison}
-use Rattle.values.specs.KeyEncodingLaws.{IsStorable}
+use Rattle.values.specs.KeyEncodingLaw.{IsStorable}
 use Rattle.keyrange.specs.declared.range.KeyRange.{KeyRange}
 use Rattle.searchrange.specs.SearchRange.{search_range, range_of_table, Covers, IsWithin, IsExact}
-use Rattle.searchrange.proofs.Covering.{covers}
-use Rattle.searchrange.proofs.Exact.{is_exact}
-use Rattle.searchrange.proofs.Within.{within_table}
+use Rattle.searchrange.proofs.NarrowingCovers.{covers}
+use Rattle.searchrange.proofs.NarrowingExact.{is_exact}
+use Rattle.searchrange.proofs.NarrowingWithin.{within_table}
 use Rattle.searchrange.proofs.narrowing.search_range.Goals as goal
 
 pub returns-clause-covers : goal.returns-clause-covers

@@ -1,5 +1,5 @@
 use Rattle.std.proofs.Common.{◌∙◌}
-use Rattle.searchrange.proofs.Prefixes.{shorter, found}
+use Rattle.searchrange.proofs.PrefixBytes.{shorter, found}
 use Rattle.searchrange.proofs.prefix.next_prefix.Goals as goal
 
 pub returns-then-byte : goal.returns-then-byte

@@ -1,6 +1,6 @@
 use Rattle.std.proofs.Common.{sym, ap, ◌∙◌}
 use Rattle.std.specs.Option.{is_some, unwrap_or}
-use Rattle.serving.proofs.Opening.{begin_stepped, not_open}
+use Rattle.serving.proofs.StepOpening.{begin_stepped, not_open}
 use Rattle.serving.proofs.begin.take_begin.Goals as goal
 
 pub returns-in-Ok : goal.returns-in-Ok

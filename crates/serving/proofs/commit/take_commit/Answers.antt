@@ -1,4 +1,4 @@
-use Rattle.serving.proofs.Opening.{commit_stepped}
+use Rattle.serving.proofs.StepOpening.{commit_stepped}
 use Rattle.serving.proofs.commit.take_commit.Goals as goal
 
 pub returns-in-Ok : goal.returns-in-Ok

@@ -1,4 +1,4 @@
-use Rattle.serving.proofs.Opening.{rollback_stepped, rolled_ok, rolled_err}
+use Rattle.serving.proofs.StepOpening.{rollback_stepped, rolled_ok, rolled_err}
 use Rattle.serving.proofs.commit.take_rollback.Goals as goal
 
 pub returns-in-Ok : goal.returns-in-Ok

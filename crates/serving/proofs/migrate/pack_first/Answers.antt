@@ -1,5 +1,5 @@
 use Rattle.std.proofs.Common.{sym, ◌∙◌}
-use Rattle.serving.proofs.Migrating.{none_packed, of_none}
+use Rattle.serving.proofs.MigrateIdle.{none_packed, of_none}
 use Rattle.serving.proofs.migrate.pack_first.Goals as goal
 
 pub returns-in-None : goal.returns-in-None

@@ -3,7 +3,7 @@ use Rattle.std.specs.Option.{is_some}
 use Rattle.histories.specs.declared.step.Step.TheVariants.{Select}
 use Rattle.sessions.specs.SessionState.{SessionState}
 use Rattle.serving.specs.Serving.{IsStepped}
-use Rattle.serving.proofs.Opening.{query_stepped, alone_stepped, is_running, not_open}
+use Rattle.serving.proofs.StepOpening.{query_stepped, alone_stepped, is_running, not_open}
 use Rattle.serving.proofs.read.take_query.Goals as goal
 
 pub returns-then-is_some : goal.returns-then-is_some

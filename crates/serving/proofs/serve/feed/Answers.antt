@@ -1,5 +1,5 @@
 use Rattle.std.proofs.Common.{refl, sym, ◌∙◌}
-use Rattle.serving.proofs.Feeding.{some_all, some_broken, some_more, some_none, feeds_stuck, feeds_flushed}
+use Rattle.serving.proofs.ServeFeeding.{some_all, some_broken, some_more, some_none, feeds_stuck, feeds_flushed}
 use Rattle.serving.proofs.serve.feed.Goals as goal
 
 pub loop-rest-init : goal.loop-rest-init

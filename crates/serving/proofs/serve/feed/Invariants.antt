@@ -1,6 +1,6 @@
 use Rattle.std.proofs.Common.{◌≡◌, length}
 use Rattle.lines.specs.Partial.{Fits}
-use Rattle.serving.proofs.Feeding.{Some_fed}
+use Rattle.serving.proofs.ServeFeeding.{Some_fed}
 use Rattle.serving.proofs.serve.feed.Given as goal
 
 abbrev pub invariant-loop-rest : goal.invariant-loop-rest

@@ -1,5 +1,5 @@
 use Rattle.std.proofs.Common.{sym, ◌∙◌}
-use Rattle.serving.proofs.Feeding.{last_none}
+use Rattle.serving.proofs.ServeFeeding.{last_none}
 use Rattle.serving.proofs.serve.finish.Goals as goal
 
 pub returns-then-not-has_byte-clause-ok : goal.returns-then-not-has_byte-clause-ok

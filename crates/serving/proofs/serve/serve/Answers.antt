@@ -1,8 +1,8 @@
 use Rattle.std.proofs.Common.{take, [], refl, subst, ◌∙◌, arith, Some}
 use Rattle.std.specs.Io.KnownBytes.{Consumes}
 use Rattle.std.proofs.KnownBytes.{Keeps-refl}
-use Rattle.lines.proofs.Adding.{empty_fits}
-use Rattle.serving.proofs.Feeding.{going_none, going_more, going_cut, going_broken, going_done, going_unfinished}
+use Rattle.lines.proofs.LineBufferAdding.{empty_fits}
+use Rattle.serving.proofs.ServeFeeding.{going_none, going_more, going_cut, going_broken, going_done, going_unfinished}
 use Rattle.serving.proofs.serve.serve.Goals as goal
 
 pub loop-turn-init : goal.loop-turn-init

@@ -1,6 +1,6 @@
 use Rattle.std.proofs.Common.{◌≡◌}
 use Rattle.lines.specs.Partial.{Fits}
-use Rattle.serving.proofs.Feeding.{Going}
+use Rattle.serving.proofs.ServeFeeding.{Going}
 use Rattle.serving.proofs.serve.serve.Given as goal
 
 abbrev pub invariant-loop-turn : goal.invariant-loop-turn

@@ -1,5 +1,5 @@
 use Rattle.std.proofs.Common.{map}
-use Rattle.serving.proofs.Starting.{served, served_in_part}
+use Rattle.serving.proofs.ServeStarting.{served, served_in_part}
 use Rattle.serving.proofs.serve.serve_session.Goals as goal
 
 pub returns-clause-closed : goal.returns-clause-closed

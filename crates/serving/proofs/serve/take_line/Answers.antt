@@ -1,4 +1,4 @@
-use Rattle.serving.proofs.Feeding.{breaks_line, feeds_line, feeds_piece, less_than}
+use Rattle.serving.proofs.ServeFeeding.{breaks_line, feeds_line, feeds_piece, less_than}
 use Rattle.serving.proofs.serve.take_line.Goals as goal
 
 pub returns-then-n-bytes-clause-ok : goal.returns-then-n-bytes-clause-ok

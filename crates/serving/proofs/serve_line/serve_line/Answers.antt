@@ -2,7 +2,7 @@ use Rattle.std.proofs.Common.{subst}
 use Rattle.statement.specs.declared.line.Line.TheVariants.{Nothing, Clock, Step as Asks}
 use Rattle.serving.specs.ServedSession.{said}
 use Rattle.serving.specs.Line.{IsRead}
-use Rattle.serving.proofs.Telling.{nothing_written, clock_written, refusal_broken, refusal_written, said_of, step_broken, step_written}
+use Rattle.serving.proofs.ServeLineTelling.{nothing_written, clock_written, refusal_broken, refusal_written, said_of, step_broken, step_written}
 use Rattle.serving.proofs.serve_line.serve_line.Goals as goal
 
 pub returns-in-Ok-Nothing-clause-ok : goal.returns-in-Ok-Nothing-clause-ok

@@ -1,5 +1,5 @@
 use Rattle.std.proofs.Common.{Ok, Err}
-use Rattle.serving.proofs.Writing.{write_stepped}
+use Rattle.serving.proofs.WriteSteps.{write_stepped}
 use Rattle.serving.proofs.write.take_insert.Goals as goal
 
 pub returns-in-Ok : goal.returns-in-Ok

@@ -1,6 +1,6 @@
 use Rattle.std.proofs.Common.{sym, ap, ◌∙◌}
 use Rattle.values.specs.Versions.{holds}
-use Rattle.staging.proofs.Kept.{held_at, held_from}
+use Rattle.staging.proofs.BoundKept.{held_at, held_from}
 use Rattle.staging.proofs.bound.bound_below.Goals as goal
 
 pub returns-then-bounds_below : goal.returns-then-bounds_below

@@ -1,6 +1,6 @@
 use Rattle.std.proofs.Common.{sym, ap, ◌∙◌}
 use Rattle.values.specs.Versions.{holds}
-use Rattle.staging.proofs.Kept.{held_at, held_below}
+use Rattle.staging.proofs.BoundKept.{held_at, held_below}
 use Rattle.staging.proofs.bound.is_above.Goals as goal
 
 pub returns-then-is_exceeded : goal.returns-then-is_exceeded

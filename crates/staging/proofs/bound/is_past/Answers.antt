@@ -2,7 +2,7 @@ use Rattle.std.proofs.Common.{◌≡◌, true, rules, ap, subst, ◌∙◌}
 use Rattle.std.specs.List.{list_all}
 use Rattle.values.specs.Versions.{holds}
 use Rattle.staging.specs.Bound.{is_first_below}
-use Rattle.staging.proofs.Kept.{past_of_value}
+use Rattle.staging.proofs.BoundKept.{past_of_value}
 use Rattle.staging.proofs.bound.is_past.Goals as goal
 
 pub returns : goal.returns

@@ -2,7 +2,7 @@ use Rattle.std.proofs.Common.{All, arith, subst, sym}
 use Rattle.std.proofs.lemmas.Grind.{common_steps}
 use Rattle.std.proofs.lemmas.List.Elements.{All-push}
 use Rattle.values.specs.KeyReading.{IsKeyOf}
-use Rattle.staging.proofs.Answered.{own_of_row}
+use Rattle.staging.proofs.StagedAnswered.{own_of_row}
 use Rattle.staging.proofs.insert.keys_of.Goals as goal
 
 pub loop-row-preserved : goal.loop-row-preserved

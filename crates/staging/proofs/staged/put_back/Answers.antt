@@ -1,6 +1,6 @@
 use Rattle.std.proofs.Common.{◌≡◌, [], ◌∷◌, ◌++◌, sym, ap, ◌∙◌, rules}
 use Rattle.staging.specs.Staged.{put_back}
-use Rattle.staging.proofs.PutBack.{back_last}
+use Rattle.staging.proofs.StagedPutBack.{back_last}
 use Rattle.staging.proofs.staged.put_back.Goals as goal
 
 pub loop-key-preserved : goal.loop-key-preserved

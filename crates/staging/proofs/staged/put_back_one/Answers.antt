@@ -3,7 +3,7 @@ use Rattle.std.specs.BTreeMap.{is_at}
 use Rattle.std.specs.Map.{lookup}
 use Rattle.values.specs.Order.{key_cmp}
 use Rattle.staging.specs.Staged.{put_back_one}
-use Rattle.staging.proofs.PutBack.{set_absent}
+use Rattle.staging.proofs.StagedPutBack.{set_absent}
 use Rattle.staging.proofs.staged.put_back_one.Goals as goal
 
 pub returns-in_default : goal.returns-in_default

@@ -4,7 +4,7 @@ use Rattle.std.specs.Map.{lookup, keys_of}
 use Rattle.std.specs.List.Sorted.{IsStrictlySortedBy}
 use Rattle.values.specs.Order.{key_cmp}
 use Rattle.staging.specs.Staged.{put_back_one, put_back}
-use Rattle.staging.proofs.PutBack.{one_back, back_last}
+use Rattle.staging.proofs.StagedPutBack.{one_back, back_last}
 use Rattle.staging.proofs.staged.put_one.Goals as goal
 
 pub returns-clause-back : goal.returns-clause-back

@@ -7,7 +7,7 @@ use Rattle.std.specs.Map.{keys_of}
 use Rattle.values.specs.Log.{apply_net}
 use Rattle.values.specs.Order.{key_cmp}
 use Rattle.values.specs.Versions.{matches}
-use Rattle.staging.proofs.Kept.{kept_from, none_past, rest_above, rest_ordered, left_ordered}
+use Rattle.staging.proofs.BoundKept.{kept_from, none_past, rest_above, rest_ordered, left_ordered}
 use Rattle.staging.proofs.staged.put_taken.Goals as goal
 
 pub loop-key-init : goal.loop-key-init

@@ -2,7 +2,7 @@ use Rattle.std.proofs.Common.{◌≡◌, ap, sym, subst, ◌∙◌}
 use Rattle.std.proofs.lemmas.List.{drop_all}
 use Rattle.values.specs.Writes.{set_all}
 use Rattle.values.specs.RowEncoding.{IsStoredRow}
-use Rattle.staging.proofs.StoredSets.{set_row_stored}
+use Rattle.staging.proofs.UpdateStored.{set_row_stored}
 use Rattle.staging.proofs.update.set_all.Goals as goal
 
 pub unreachable-requires : goal.unreachable-requires

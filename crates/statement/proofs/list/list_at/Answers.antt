@@ -1,8 +1,8 @@
 use Rattle.std.proofs.Common.{◌≡◌, ◌+◌, drop, ap, sym, ◌∙◌, Ok}
 use Rattle.std.proofs.lemmas.Result.{err_from_is_err_and}
 use Rattle.statement.specs.List.{more_at, list_at}
-use Rattle.tokens.proofs.Alike.{stops_alike}
-use Rattle.statement.proofs.Turns.{more_next, more_stops, more_ends, more_none}
+use Rattle.tokens.proofs.TokenAlike.{stops_alike}
+use Rattle.statement.proofs.ListTurns.{more_next, more_stops, more_ends, more_none}
 use Rattle.statement.proofs.list.list_at.Goals as goal
 use Rattle.statement.proofs.list.list_at.Goals.{else-loop-turn-test, then-loop-turn-test+in_default}
 

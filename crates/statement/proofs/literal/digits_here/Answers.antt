@@ -1,6 +1,6 @@
 use Rattle.std.proofs.Common.{sym, subst}
 use Rattle.std.specs.Str.Parse.{AllDigits}
-use Rattle.statement.proofs.Digits.{digits_front}
+use Rattle.statement.proofs.LiteralDigits.{digits_front}
 use Rattle.statement.proofs.literal.digits_here.Goals as goal
 
 pub value_within-requires : goal.value_within-requires

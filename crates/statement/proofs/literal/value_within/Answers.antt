@@ -1,6 +1,6 @@
 use Rattle.std.proofs.Common.{arith}
 use Rattle.std.proofs.lemmas.Bool.Decides.{nat_tests}
-use Rattle.statement.proofs.Digits.{too_great}
+use Rattle.statement.proofs.LiteralDigits.{too_great}
 use Rattle.statement.proofs.literal.value_within.Goals as goal
 
 pub returns-then-more-most : goal.returns-then-more-most

@@ -1,6 +1,6 @@
 use Rattle.std.proofs.Common.{sym, subst, ◌∙◌}
 use Rattle.statement.specs.Writer.{Puts}
-use Rattle.statement.proofs.Quotes.{quoted-plain}
+use Rattle.statement.proofs.PrintQuotes.{quoted-plain}
 use Rattle.statement.proofs.print.put_doubled.Goals as goal
 
 pub returns-else-has_quote : goal.returns-else-has_quote

@@ -1,7 +1,7 @@
 use Rattle.std.proofs.Common.{◌≡◌, false, ℕ, Option, sym, subst}
 use Rattle.values.specs.declared.query.Form.{Form}
 use Rattle.values.specs.Versions.{selects}
-use Rattle.systime_query.proofs.Answered.{nothing_is, empty_from, empty_between}
+use Rattle.systime_query.proofs.SelectionAnswered.{nothing_is, empty_from, empty_between}
 use Rattle.systime_query.proofs.selection.answer.Goals as goal
 
 pub returns-else-from-to-clause-ok : goal.returns-else-from-to-clause-ok

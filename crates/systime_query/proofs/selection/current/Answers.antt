@@ -1,4 +1,4 @@
-use Rattle.systime_query.proofs.Answered.{current_is}
+use Rattle.systime_query.proofs.SelectionAnswered.{current_is}
 use Rattle.staging.proofs.NetEvents.{weaker}
 use Rattle.systime_query.proofs.selection.current.Goals as goal
 

@@ -2,7 +2,7 @@ use Rattle.std.proofs.Common.{◌∙◌, ap}
 use Rattle.tsbtree.specs.View.{events}
 use Rattle.staging.proofs.NetEvents.{weaker}
 use Rattle.systime_query.specs.Window.{shown_in}
-use Rattle.systime_query.proofs.Answered.{within_is}
+use Rattle.systime_query.proofs.SelectionAnswered.{within_is}
 use Rattle.systime_query.proofs.selection.within.Goals as goal
 
 pub returns-clause-ok : goal.returns-clause-ok

@@ -1,5 +1,5 @@
 use Rattle.std.proofs.Common.{◌∙◌}
-use Rattle.systime_query.proofs.Stands.{shown_now}
+use Rattle.systime_query.proofs.StandingRows.{shown_now}
 use Rattle.systime_query.proofs.standing.current_rows.Goals as goal
 
 pub returns-clause-ok : goal.returns-clause-ok

@@ -1,5 +1,5 @@
 use Rattle.std.proofs.Common.{◌∙◌}
-use Rattle.systime_query.proofs.Stands.{shown_at}
+use Rattle.systime_query.proofs.StandingRows.{shown_at}
 use Rattle.systime_query.proofs.standing.rows_at.Goals as goal
 
 pub returns-clause-ok : goal.returns-clause-ok

@@ -1,6 +1,6 @@
 use Rattle.std.proofs.Common.{sym, subst, ap, ◌∙◌, take}
 use Rattle.std.specs.Str.{IsUtf8}
-use Rattle.tokens.proofs.Ascii.{front_is_text}
+use Rattle.tokens.proofs.WordAscii.{front_is_text}
 use Rattle.tokens.proofs.word.split_word.Goals as goal
 
 pub returns-clause-text : goal.returns-clause-text

@@ -1,7 +1,7 @@
 use Rattle.std.proofs.Common.{◌-◌, get_or, subst}
 use Rattle.std.proofs.lemmas.List.{get_or_default}
 use Rattle.treenodes.specs.Node.{IsAt, data_node}
-use Rattle.treenodes.proofs.HalvesParents.{weaker}
+use Rattle.treenodes.proofs.ReplacementParents.{weaker}
 use Rattle.treegrowth.specs.Growth.{AreOthersSmall, IsGrownIndex}
 use Rattle.treegrowth.specs.Leaves.{HaveSameLeaves, IsLeafSplit}
 use Rattle.treegrowth.proofs.GrowthHalved.{positive, way_kept, parent_on_way}

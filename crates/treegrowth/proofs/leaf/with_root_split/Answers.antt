@@ -3,7 +3,7 @@ use Rattle.treenodes.specs.Tree.{IsTree}
 use Rattle.treenodes.specs.Map.{HoldsMap}
 use Rattle.treenodes.specs.Sound.{IsTreeOf}
 use Rattle.treenodes.specs.Split.{Halved}
-use Rattle.treenodes.proofs.HalvesParents.{weaker}
+use Rattle.treenodes.proofs.ReplacementParents.{weaker}
 use Rattle.treegrowth.specs.Leaves.{IsLeafSplit}
 use Rattle.treegrowth.proofs.GrowthRaised.{from_three, at_root, parent_at, others_raised, leaves_raised, room_above}
 use Rattle.treegrowth.proofs.LeafHalves.{can_there, splittable_there, same_node, there_too, areas, are, first as lower, second as upper, leaf_within, leaf_leaves}

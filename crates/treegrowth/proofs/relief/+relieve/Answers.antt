@@ -1,11 +1,11 @@
 use Rattle.std.proofs.Common.{◌≡◌, ◌-◌, ◌<◌, get_or, sym, subst, arith}
 use Rattle.std.proofs.lemmas.List.{get_or_default}
-use Rattle.treenodes.proofs.HalvesParents.{weaker}
+use Rattle.treenodes.proofs.ReplacementParents.{weaker}
 use Rattle.treegrowth.specs.Growth.{AreOthersSmall, IsGrownIndex, IsOverfull}
 use Rattle.treegrowth.specs.Leaves.{HaveSameLeaves}
 use Rattle.treegrowth.proofs.GrowthHalved.{positive, grown_parent, way_kept, parent_on_way}
 use Rattle.treegrowth.proofs.GrowthRaised.{index_others, index_leaves}
-use Rattle.treegrowth.proofs.IndexSplit.{overfull_at}
+use Rattle.treegrowth.proofs.ReliefSplit.{overfull_at}
 use Rattle.treegrowth.proofs.LeavesKept.{same_then}
 use Rattle.treegrowth.proofs.relief.+relieve.Goals as goal
 

@@ -5,9 +5,9 @@ use Rattle.keyrange.specs.Cut.{is_key_inside}
 use Rattle.indexnode.specs.Choice.{AreSmaller, current_count}
 use Rattle.indexnode.specs.Split.{IsUncrossed, starts_before, ends_after, reaches_below, reaches_up}
 use Rattle.treenodes.specs.Split.{Halved, part_of}
-use Rattle.treenodes.proofs.HalvesParents.{weaker}
+use Rattle.treenodes.proofs.ReplacementParents.{weaker}
 use Rattle.treegrowth.specs.Growth.{IsIndexSplit}
-use Rattle.treegrowth.proofs.IndexSplit.{full_of, n, times, keys, has_current, two_currents, currents, can_time, can_key, made_time, made_keys, time_split, key_split}
+use Rattle.treegrowth.proofs.ReliefSplit.{full_of, n, times, keys, has_current, two_currents, currents, can_time, can_key, made_time, made_keys, time_split, key_split}
 use Rattle.treegrowth.proofs.relief.with_index_split.Goals as goal
 
 pub unreachable-requires : goal.unreachable-requires

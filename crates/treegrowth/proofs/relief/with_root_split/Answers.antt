@@ -1,7 +1,7 @@
 use Rattle.treenodes.specs.Tree.{IsTree}
 use Rattle.treenodes.specs.Map.{HoldsMap}
 use Rattle.treenodes.specs.Sound.{IsTreeOf}
-use Rattle.treenodes.proofs.HalvesParents.{weaker}
+use Rattle.treenodes.proofs.ReplacementParents.{weaker}
 use Rattle.treegrowth.specs.Growth.{IsIndexSplit}
 use Rattle.treegrowth.specs.Leaves.{HaveSameLeaves}
 use Rattle.treegrowth.proofs.GrowthRaised.{from_three, parent_at, others_raised, leaves_raised, room_above, overfull_raised, index_within, index_leaves}

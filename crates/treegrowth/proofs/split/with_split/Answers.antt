@@ -4,7 +4,7 @@ use Rattle.treenodes.specs.Node.{TreeNode, IsAt, data_node}
 use Rattle.treenodes.specs.Map.{HoldsMap, changes}
 use Rattle.treenodes.specs.Sound.{IsSound, IsTreeOf}
 use Rattle.treenodes.proofs.NodeNumbers.{one_at}
-use Rattle.treenodes.proofs.HalvesParents.{weaker}
+use Rattle.treenodes.proofs.ReplacementParents.{weaker}
 use Rattle.treegrowth.specs.Growth.{IsSplittable}
 use Rattle.treegrowth.specs.Leaves.{IsLeafSplit}
 use Rattle.treegrowth.specs.Point.{halves_at}

@@ -7,7 +7,7 @@ use Rattle.treenodes.specs.Tree.{IsTree}
 use Rattle.treenodes.specs.Map.{HoldsMap, changes}
 use Rattle.treenodes.specs.Event.{Takes, with_put}
 use Rattle.treenodes.proofs.NodeNumbers.{one_at}
-use Rattle.treenodes.proofs.HalvesParents.{weaker}
+use Rattle.treenodes.proofs.ReplacementParents.{weaker}
 use Rattle.treenodes.proofs.EventTaken.{takes_next, tree_next, holds_next}
 use Rattle.treenodes.proofs.event.with_event.Goals as goal
 

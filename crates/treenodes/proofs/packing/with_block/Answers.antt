@@ -4,8 +4,8 @@ use Rattle.treenodes.specs.Node.{packed_node}
 use Rattle.treenodes.specs.Tree.{IsTree}
 use Rattle.treenodes.specs.Map.{HoldsMap, changes}
 use Rattle.treenodes.specs.Sound.{IsSound}
-use Rattle.treenodes.proofs.HalvesParents.{weaker}
-use Rattle.treenodes.proofs.PackedKept.{packed_tree, packed_holds, packed_changes, packed_sound}
+use Rattle.treenodes.proofs.ReplacementParents.{weaker}
+use Rattle.treenodes.proofs.PackingKept.{packed_tree, packed_holds, packed_changes, packed_sound}
 use Rattle.treenodes.proofs.packing.with_block.Goals as goal
 
 made : (c : goal.After-with_slot) → IfOk c.with_slot.result (λ s. s ≡ set c.args.nodes c.args.number (packed_node c.args.block))

@@ -4,7 +4,7 @@ use Rattle.keyrange.specs.Rect.{Area}
 use Rattle.treenodes.specs.Node.{data_node}
 use Rattle.treenodes.specs.Map.{changes}
 use Rattle.treenodes.specs.Sound.{IsSound}
-use Rattle.treenodes.proofs.HalvesParents.{weaker}
+use Rattle.treenodes.proofs.ReplacementParents.{weaker}
 use Rattle.treenodes.proofs.RootAlone.{root, one_sound, none_yet}
 use Rattle.treenodes.proofs.root.leaf_alone.Goals as goal
 

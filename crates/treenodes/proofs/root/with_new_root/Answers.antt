@@ -8,7 +8,7 @@ use Rattle.treenodes.specs.Tree.{IsTree}
 use Rattle.treenodes.specs.Map.{HoldsMap}
 use Rattle.treenodes.specs.Lookup.{IsParent}
 use Rattle.treenodes.specs.Root.{root_over}
-use Rattle.treenodes.proofs.HalvesParents.{weaker}
+use Rattle.treenodes.proofs.ReplacementParents.{weaker}
 use Rattle.treenodes.proofs.RootRaised.{IsRaised, is_raised}
 use Rattle.treenodes.proofs.root.with_new_root.Goals as goal
 

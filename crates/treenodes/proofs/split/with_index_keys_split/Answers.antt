@@ -8,7 +8,7 @@ use Rattle.treenodes.specs.declared.node.Child.TheVariants.{Index}
 use Rattle.treenodes.specs.Node.{TreeNode, IsIndexNode, seen}
 use Rattle.treenodes.specs.Split.{Halved, part_of}
 use Rattle.treenodes.proofs.NodeNumbers.{one_at}
-use Rattle.treenodes.proofs.HalvesParents.{weaker}
+use Rattle.treenodes.proofs.ReplacementParents.{weaker}
 use Rattle.treenodes.proofs.SplitData.{alike}
 use Rattle.treenodes.proofs.SplitIndex.{index_of, key_in, split_index, are_parts, no_cuts}
 use Rattle.treenodes.proofs.split.with_index_keys_split.Goals as goal

@@ -6,7 +6,7 @@ use Rattle.treenodes.specs.Map.{latest}
 use Rattle.treenodes.specs.Split.{Halved, part}
 use Rattle.treenodes.proofs.NodeNumbers.{one_at}
 use Rattle.treenodes.proofs.LookupNodes.{cut_of}
-use Rattle.treenodes.proofs.HalvesParents.{weaker}
+use Rattle.treenodes.proofs.ReplacementParents.{weaker}
 use Rattle.treenodes.proofs.SplitData.{split_data, time_in, halves_hold, are_parts, alike, no_end, ends_by_time, this_end}
 use Rattle.treenodes.proofs.split.with_time_split.Goals as goal
 

@@ -3,7 +3,7 @@ use Rattle.keyrange.specs.Rect.{Area}
 use Rattle.keyrange.specs.declared.range.TimeRange.{TimeRange}
 use Rattle.values.specs.Events.{event_until}
 use Rattle.treewalk.specs.Leaf.{node_in}
-use Rattle.treewalk.proofs.ChangeNext.{known_leaf, ends_above, here, nowhere, later_on}
+use Rattle.treewalk.proofs.ChangeAfterShown.{known_leaf, ends_above, here, nowhere, later_on}
 use Rattle.treewalk.proofs.change_after.change_before.Goals as goal
 
 pub loop-until-init : goal.loop-until-init

@@ -2,7 +2,7 @@ use Rattle.std.proofs.Common.{◌+◌, refl, sym, ap, ◌∙◌, arith}
 use Rattle.keyrange.specs.Rect.{Area}
 use Rattle.keyrange.specs.declared.range.TimeRange.{TimeRange}
 use Rattle.treewalk.specs.Leaf.{node_in}
-use Rattle.treewalk.proofs.ChangeNext.{next_leaf, ends_above, here, nowhere, later_on, none_late}
+use Rattle.treewalk.proofs.ChangeAfterShown.{next_leaf, ends_above, here, nowhere, later_on, none_late}
 use Rattle.treewalk.proofs.ListingRead.{in_time}
 use Rattle.treewalk.proofs.change_after.change_by_leaves.Goals as goal
 

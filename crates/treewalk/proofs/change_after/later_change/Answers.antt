@@ -1,7 +1,7 @@
 use Rattle.std.proofs.Common.{refl, sym, ◌∙◌}
 use Rattle.values.specs.Events.{event_until}
 use Rattle.treewalk.specs.Leaf.{node_in}
-use Rattle.treewalk.proofs.ChangeNext.{known_leaf, last_leaf, at_last}
+use Rattle.treewalk.proofs.ChangeAfterShown.{known_leaf, last_leaf, at_last}
 use Rattle.treewalk.proofs.change_after.later_change.Goals as goal
 
 pub returns-then-is_known_in : goal.returns-then-is_known_in

@@ -2,7 +2,7 @@ use Rattle.std.proofs.Common.{◌≡◌, ◌≤◌, ◌-◌, Some, None, ap, sub
 use Rattle.keyrange.specs.Rect.{Area}
 use Rattle.keyrange.specs.declared.range.TimeRange.{TimeRange}
 use Rattle.treewalk.specs.Leaf.{node_in}
-use Rattle.treewalk.proofs.ChangeLast.{none_since, changed, earlier}
+use Rattle.treewalk.proofs.LastChangeShown.{none_since, changed, earlier}
 use Rattle.treewalk.proofs.ListingRead.{in_time}
 use Rattle.treewalk.proofs.last_change.changed_since.Goals as goal
 

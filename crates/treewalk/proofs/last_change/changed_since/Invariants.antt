@@ -1,7 +1,7 @@
 use Rattle.std.proofs.Common.{List}
 use Rattle.values.specs.Event.{Event}
 use Rattle.treenodes.specs.Map.{HoldsMap}
-use Rattle.treewalk.proofs.ChangeLast.{AreUntil}
+use Rattle.treewalk.proofs.LastChangeShown.{AreUntil}
 use Rattle.treewalk.proofs.last_change.changed_since.Given as goal
 
 abbrev pub invariant-loop-instant : goal.invariant-loop-instant

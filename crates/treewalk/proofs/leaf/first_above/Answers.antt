@@ -1,7 +1,7 @@
 use Rattle.std.proofs.Common.{Some, true, false, sym, ap, ◌∙◌, is_eq, arith}
 use Rattle.values.specs.Event.{Event}
 use Rattle.values.specs.Events.{is_bytes}
-use Rattle.treewalk.proofs.ChangePlaced.{past_all, at_place}
+use Rattle.treewalk.proofs.ChangeAfterPlaced.{past_all, at_place}
 use Rattle.treewalk.proofs.leaf.first_above.Goals as goal
 
 pub returns-then-place-events : goal.returns-then-place-events

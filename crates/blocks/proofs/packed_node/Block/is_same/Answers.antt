@@ -4,7 +4,7 @@ use Rattle.std.proofs.Math.Dec.{eqb}
 use Rattle.std.proofs.lemmas.Bool.Decides.{Decides-eqb}
 use Rattle.std.proofs.lemmas.Slice.Eq.{slice_eq-Decides}
 use Rattle.blocks.specs.PackedNode.{Packed, packed_of}
-use Rattle.blocks.proofs.PackedReads.{tells_same, tells_node}
+use Rattle.blocks.proofs.PackedNodeReads.{tells_same, tells_node}
 use Rattle.blocks.proofs.packed_node.Block.is_same.Goals as goal
 
 tells : (c : goal.After-eq) → IsTrue c.eq.result ↔ (c.self.inside.bytes ≡ c.other.inside.bytes)

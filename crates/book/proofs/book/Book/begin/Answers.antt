@@ -1,4 +1,4 @@
-use Rattle.book.proofs.Growing.{fresh_begin}
+use Rattle.book.proofs.BookGrowing.{fresh_begin}
 use Rattle.book.proofs.book.Book.begin.Goals as goal
 
 pub push-receipt-requires-clause-fresh : goal.push-receipt-requires-clause-fresh

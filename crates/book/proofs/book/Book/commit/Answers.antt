@@ -1,6 +1,6 @@
 use Rattle.std.proofs.Common.{ap, ◌∙◌, sym}
 use Rattle.book.specs.Book.{BookState, commit_entry}
-use Rattle.book.proofs.Growing.{book, commit_entry_is, commit_fresh, commit_grows}
+use Rattle.book.proofs.BookGrowing.{book, commit_entry_is, commit_fresh, commit_grows}
 use Rattle.book.proofs.book.Book.commit.Goals as goal
 
 pub push-requires-clause-fresh : goal.push-requires-clause-fresh

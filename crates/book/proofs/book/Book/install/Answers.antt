@@ -1,6 +1,6 @@
 use Rattle.journal.specs.declared.entry.Entry.TheVariants.{Install}
 use Rattle.book.specs.Outcomes.{entry_of}
-use Rattle.book.proofs.Growing.{book, fresh_as, with_install}
+use Rattle.book.proofs.BookGrowing.{book, fresh_as, with_install}
 use Rattle.book.proofs.book.Book.install.Goals as goal
 
 pub note-requires-clause-fresh : goal.note-requires-clause-fresh

@@ -1,4 +1,4 @@
-use Rattle.book.proofs.Growing.{new_book}
+use Rattle.book.proofs.BookGrowing.{new_book}
 use Rattle.book.proofs.book.Book.new.Goals as goal
 
 pub invariant_of-result : goal.invariant_of-result

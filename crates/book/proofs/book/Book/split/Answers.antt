@@ -1,6 +1,6 @@
 use Rattle.journal.specs.declared.entry.Entry.TheVariants.{Split}
 use Rattle.book.specs.Outcomes.{entry_of}
-use Rattle.book.proofs.Growing.{fresh_as}
+use Rattle.book.proofs.BookGrowing.{fresh_as}
 use Rattle.book.proofs.book.Book.split.Goals as goal
 
 pub note-requires-clause-fresh : goal.note-requires-clause-fresh

@@ -1,7 +1,7 @@
 use Rattle.std.proofs.Common.{◌≡◌, Option, None, ap, ◌∙◌, rules, option_copied}
 use Rattle.values.specs.Log.{Row}
 use Rattle.values.specs.Events.{row_until}
-use Rattle.datanode.proofs.LawsLast.{shown_by_cut}
+use Rattle.datanode.proofs.LawLast.{shown_by_cut}
 use Rattle.datanode.proofs.node.DataNode.at.Goals as goal
 
 pub returns-in-None-clause-of_map : goal.returns-in-None-clause-of_map

@@ -1,5 +1,5 @@
 use Rattle.std.proofs.Common.{sym, ◌∙◌, ap}
-use Rattle.growlog.proofs.Adding.{adds_moves}
+use Rattle.growlog.proofs.PrefixAdding.{adds_moves}
 use Rattle.growlog.proofs.prefix.Prefix.add.Goals as goal
 
 pub compare_exchange-found-requires : goal.compare_exchange-found-requires

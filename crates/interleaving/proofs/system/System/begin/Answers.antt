@@ -1,7 +1,7 @@
 use Rattle.std.proofs.Common.{ap, sym, ◌∙◌, rules}
 use Rattle.interleaving.specs.SystemState.{SystemState, world}
 use Rattle.transaction.specs.TransactionState.{TransactionState}
-use Rattle.interleaving.proofs.Keeps.{began, began_is, none_of, place_is, with_session}
+use Rattle.interleaving.proofs.SystemKeeps.{began, began_is, none_of, place_is, with_session}
 use Rattle.interleaving.proofs.system.System.begin.Goals as goal
 
 pub invariant_of-self : goal.invariant_of-self

@@ -2,9 +2,9 @@ use Rattle.std.proofs.Common.{◌≡◌, sym, ap, ◌∙◌, None, set}
 use Rattle.histories.specs.declared.step.Reply.{Reply}
 use Rattle.histories.specs.Memory.{is_out_of_memory}
 use Rattle.interleaving.specs.SystemState.{world, world_of}
-use Rattle.interleaving.proofs.Keeps.{with_session}
-use Rattle.interleaving.proofs.Written.{found}
-use Rattle.interleaving.proofs.Ended.{committed, ended_is, end_reply, not_want}
+use Rattle.interleaving.proofs.SystemKeeps.{with_session}
+use Rattle.interleaving.proofs.SystemWritten.{found}
+use Rattle.interleaving.proofs.SystemEnded.{committed, ended_is, end_reply, not_want}
 use Rattle.interleaving.proofs.system.System.commit.Goals as goal
 use Rattle.interleaving.proofs.system.System.commit.Goals.{in-Ok-commit, in-Err-commit}
 

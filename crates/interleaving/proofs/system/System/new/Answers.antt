@@ -1,5 +1,5 @@
 use Rattle.std.proofs.Common.{ℕ, arith, None, replicate, ap, ◌∙◌}
-use Rattle.interleaving.proofs.Keeps.{new_system, new_stands}
+use Rattle.interleaving.proofs.SystemKeeps.{new_system, new_stands}
 use Rattle.interleaving.proofs.system.System.new.Goals as goal
 
 pub invariant_of-result : goal.invariant_of-result

@@ -1,6 +1,6 @@
 use Rattle.std.proofs.Common.{ap}
 use Rattle.interleaving.specs.SystemState.{world}
-use Rattle.interleaving.proofs.Keeps.{rolled, place_is}
+use Rattle.interleaving.proofs.SystemKeeps.{rolled, place_is}
 use Rattle.interleaving.proofs.system.System.rollback.Goals as goal
 
 pub returns : goal.returns

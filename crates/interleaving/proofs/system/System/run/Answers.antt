@@ -1,6 +1,6 @@
 use Rattle.std.proofs.Common.{rules, sym, ◌∙◌}
 use Rattle.std.proofs.lemmas.List.{nil_from_length}
-use Rattle.histories.proofs.Ran.{ran_none, ran_more, ran_all, ran_answered, ran_taken}
+use Rattle.histories.proofs.DueRuns.{ran_none, ran_more, ran_all, ran_answered, ran_taken}
 use Rattle.interleaving.specs.SystemState.{world}
 use Rattle.interleaving.proofs.system.System.run.Goals as goal
 

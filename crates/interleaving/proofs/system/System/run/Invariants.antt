@@ -1,5 +1,5 @@
 use Rattle.std.specs.Vec.Iter.{into_iter_items}
-use Rattle.histories.proofs.Ran.{Ran}
+use Rattle.histories.proofs.DueRuns.{Ran}
 use Rattle.interleaving.specs.SystemState.{world}
 use Rattle.interleaving.proofs.system.System.run.Given as goal
 

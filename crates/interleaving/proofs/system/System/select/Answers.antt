@@ -1,6 +1,6 @@
 use Rattle.std.proofs.Common.{◌∙◌, ap}
 use Rattle.interleaving.specs.SystemState.{world}
-use Rattle.interleaving.proofs.Listed.{shows_in, shows_now}
+use Rattle.interleaving.proofs.SystemListed.{shows_in, shows_now}
 use Rattle.interleaving.proofs.system.System.select.Goals as goal
 use Rattle.interleaving.proofs.system.System.select.Goals.{in-Some-index+in_ok-listing-in-Some-index, in-None+in_ok-listing-in-None}
 

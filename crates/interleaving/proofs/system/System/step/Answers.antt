@@ -2,9 +2,9 @@ use Rattle.std.proofs.Common.{ap, ◌∙◌}
 use Rattle.values.specs.Tables.{Schema}
 use Rattle.histories.specs.declared.step.Reply.TheVariants.{Refused}
 use Rattle.histories.specs.Misfit.{misfit}
-use Rattle.histories.proofs.Turned.{stepped, refused_turn}
+use Rattle.histories.proofs.TurnReplies.{stepped, refused_turn}
 use Rattle.interleaving.specs.SystemState.{SystemState, world}
-use Rattle.interleaving.proofs.Stepped.{answers, same_schema}
+use Rattle.interleaving.proofs.SystemStepped.{answers, same_schema}
 use Rattle.interleaving.proofs.system.System.step.Goals as goal
 
 pub returns-in-Some-clause-answers : goal.returns-in-Some-clause-answers

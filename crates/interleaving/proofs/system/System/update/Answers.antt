@@ -1,9 +1,9 @@
 use Rattle.std.proofs.Common.{ap, ◌∙◌, sym}
 use Rattle.histories.specs.declared.step.Step.TheVariants.{Update}
 use Rattle.histories.specs.History.{written_reply}
-use Rattle.histories.proofs.Idle.{fits_table}
+use Rattle.histories.proofs.HistoryIdle.{fits_table}
 use Rattle.interleaving.specs.SystemState.{world}
-use Rattle.interleaving.proofs.Written.{update_turn, found, none_turn}
+use Rattle.interleaving.proofs.SystemWritten.{update_turn, found, none_turn}
 use Rattle.interleaving.proofs.system.System.update.Goals as goal
 use Rattle.interleaving.proofs.system.System.update.Goals.{in-Ok, in-Err}
 

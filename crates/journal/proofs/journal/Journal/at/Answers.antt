@@ -2,7 +2,7 @@ use Rattle.std.proofs.Common.{◌≡◌, sym, ap, ◌∙◌, arith, Some, ◌<�
 use Rattle.std.proofs.lemmas.Option.{slice_get_past, slice_get_read}
 use Rattle.journal.specs.Entries.{entry_at}
 use Rattle.journal.specs.JournalState.{JournalState}
-use Rattle.journal.proofs.Numbering.{entry_found, entry_zero}
+use Rattle.journal.proofs.JournalNumbering.{entry_found, entry_zero}
 use Rattle.journal.proofs.journal.Journal.at.Goals as goal
 
 pub returns-then-number-eq0 : goal.returns-then-number-eq0

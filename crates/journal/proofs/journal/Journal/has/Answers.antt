@@ -1,7 +1,7 @@
 use Rattle.std.proofs.Common.{◌≡◌, sym, ap, ◌∙◌, arith, ◌<◌, ◌≤◌, ◌-◌, length}
 use Rattle.journal.specs.Entries.{entry_at}
 use Rattle.journal.specs.JournalState.{JournalState}
-use Rattle.journal.proofs.Numbering.{entry_found}
+use Rattle.journal.proofs.JournalNumbering.{entry_found}
 use Rattle.journal.proofs.journal.Journal.has.Goals as goal
 
 pub returns : goal.returns

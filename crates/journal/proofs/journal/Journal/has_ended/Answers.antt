@@ -3,7 +3,7 @@ use Rattle.std.proofs.lemmas.List.{length-reverse}
 use Rattle.std.proofs.lemmas.Option.{slice_get_read}
 use Rattle.journal.specs.Entries.{has_ended}
 use Rattle.journal.specs.JournalState.{JournalState}
-use Rattle.journal.proofs.Numbering.{IsWithin, entry_within}
+use Rattle.journal.proofs.JournalNumbering.{IsWithin, entry_within}
 use Rattle.journal.proofs.journal.Journal.has_ended.Goals as goal
 
 pub overflow_sub-number : goal.overflow_sub-number

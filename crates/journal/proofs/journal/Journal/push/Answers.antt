@@ -3,7 +3,7 @@ use Rattle.std.proofs.lemmas.List.{with_items_is}
 use Rattle.std.specs.Vec.{vec_len}
 use Rattle.journal.specs.Entries.{Entries}
 use Rattle.journal.specs.JournalState.{JournalState, marked}
-use Rattle.journal.proofs.Pushing.{pushed, stands_after}
+use Rattle.journal.proofs.JournalPushing.{pushed, stands_after}
 use Rattle.journal.proofs.journal.Journal.push.Goals as goal
 
 pub invariant_of-self : goal.invariant_of-self

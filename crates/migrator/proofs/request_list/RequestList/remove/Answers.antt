@@ -1,7 +1,7 @@
 use Rattle.std.proofs.Common.{ap, subst, ◌∷◌, ◌∙◌}
 use Rattle.std.specs.Prelude.{slice_get}
 use Rattle.std.specs.List.Sorted.{IsPermutation}
-use Rattle.migrator.proofs.Steps.{taken_out}
+use Rattle.migrator.proofs.RoundSteps.{taken_out}
 use Rattle.migrator.proofs.request_list.RequestList.remove.Goals as goal
 
 pub returns : goal.returns

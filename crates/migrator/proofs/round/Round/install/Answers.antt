@@ -1,6 +1,6 @@
 use Rattle.std.proofs.Common.{sym, ap, map, ◌++◌, ◌∷◌, [], ◌∙◌}
 use Rattle.std.proofs.lemmas.List.{map-append}
-use Rattle.migrator.proofs.Steps.{comes, install_in, install_rect}
+use Rattle.migrator.proofs.RoundSteps.{comes, install_in, install_rect}
 use Rattle.migrator.proofs.round.Round.install.Goals as goal
 
 pub returns : goal.returns

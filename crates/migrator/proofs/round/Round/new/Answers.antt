@@ -1,4 +1,4 @@
-use Rattle.migrator.proofs.Steps.{begins}
+use Rattle.migrator.proofs.RoundSteps.{begins}
 use Rattle.migrator.proofs.round.Round.new.Goals as goal
 
 pub returns : goal.returns

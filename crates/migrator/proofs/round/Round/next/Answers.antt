@@ -1,6 +1,6 @@
 use Rattle.std.proofs.Common.{map, sym, subst}
 use Rattle.migrator.specs.Round.{IsUnderWay}
-use Rattle.migrator.proofs.Steps.{asks_for, no_more}
+use Rattle.migrator.proofs.RoundSteps.{asks_for, no_more}
 use Rattle.migrator.proofs.round.Round.next.Goals as goal
 
 pub returns-in_default-clause-none : goal.returns-in_default-clause-none

@@ -1,5 +1,5 @@
 use Rattle.std.proofs.Common.{sym, ◌∙◌}
-use Rattle.migrator.proofs.Steps.{finishes}
+use Rattle.migrator.proofs.RoundSteps.{finishes}
 use Rattle.migrator.proofs.round.Round.pack.Goals as goal
 
 pub returns-then-len-eq0-clause-ok : goal.returns-then-len-eq0-clause-ok

@@ -1,7 +1,7 @@
 use Rattle.std.proofs.Common.{List, subst, sym}
 use Rattle.values.specs.declared.table.Table.{Table}
 use Rattle.values.specs.Tables.{Schema, IsNumberIn, AreTables}
-use Rattle.rows.proofs.TablesMade.{is_known}
+use Rattle.rows.proofs.SchemaTablesMade.{is_known}
 use Rattle.rows.proofs.schema.Schema.table.Goals as goal
 
 pub returns-then-same_name-clause-known : goal.returns-then-same_name-clause-known

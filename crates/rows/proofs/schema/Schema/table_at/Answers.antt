@@ -1,7 +1,7 @@
 use Rattle.std.proofs.Common.{List, subst, sym}
 use Rattle.values.specs.declared.table.Table.{Table}
 use Rattle.values.specs.Tables.{AreTables}
-use Rattle.rows.proofs.TablesMade.{is_at_place}
+use Rattle.rows.proofs.SchemaTablesMade.{is_at_place}
 use Rattle.rows.proofs.schema.Schema.table_at.Goals as goal
 
 pub returns-clause-good : goal.returns-clause-good

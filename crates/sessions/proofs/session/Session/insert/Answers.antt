@@ -1,6 +1,6 @@
 use Rattle.std.proofs.Common.{sym, ap, ◌∙◌, Some}
 use Rattle.sessions.specs.SessionState.{RunningState}
-use Rattle.sessions.proofs.Writing.{same_writes, with_new, written_is}
+use Rattle.sessions.proofs.SessionWriting.{same_writes, with_new, written_is}
 use Rattle.sessions.proofs.session.Session.insert.Goals as goal
 
 pub returns-in-Some-clause-rest : goal.returns-in-Some-clause-rest

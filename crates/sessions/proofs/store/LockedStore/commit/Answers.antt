@@ -3,7 +3,7 @@ use Rattle.values.specs.Log.{last, changes}
 use Rattle.values.specs.Commits.{outcome}
 use Rattle.journal.specs.Entries.{log}
 use Rattle.sessions.specs.SessionState.{RunningState, running}
-use Rattle.sessions.proofs.Ending.{keys_of_net, committed}
+use Rattle.sessions.proofs.SessionEnding.{keys_of_net, committed}
 use Rattle.sessions.proofs.store.LockedStore.commit.Goals as goal
 
 pub commit-requires-clause-keys : goal.commit-requires-clause-keys

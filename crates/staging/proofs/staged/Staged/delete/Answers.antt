@@ -5,9 +5,9 @@ use Rattle.values.specs.Faults.{no_fault}
 use Rattle.values.specs.Versions.{matches}
 use Rattle.values.specs.Events.{IsKeyIn}
 use Rattle.staging.specs.Own.{rows_seen}
-use Rattle.staging.proofs.Entries.{sorted_from}
-use Rattle.staging.proofs.Calls.{rows_of_view}
-use Rattle.staging.proofs.Answered.{no_fault_is, deleted_entries, delete_done, keys_after, seen_keys}
+use Rattle.staging.proofs.StagedEntries.{sorted_from}
+use Rattle.staging.proofs.StagedCalls.{rows_of_view}
+use Rattle.staging.proofs.StagedAnswered.{no_fault_is, deleted_entries, delete_done, keys_after, seen_keys}
 use Rattle.staging.proofs.staged.Staged.delete.Goals as goal
 
 pub put-requires : goal.put-requires

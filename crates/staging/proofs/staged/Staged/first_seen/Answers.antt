@@ -6,7 +6,7 @@ use Rattle.values.specs.declared.key.Key.{Key}
 use Rattle.values.specs.Order.{key_cmp, is_key}
 use Rattle.tsbtree.specs.View.{events}
 use Rattle.staging.specs.Staged.{sees, first_seen}
-use Rattle.staging.proofs.Earlier.{next_seen}
+use Rattle.staging.proofs.StagedEarlier.{next_seen}
 use Rattle.staging.proofs.staged.Staged.first_seen.Goals as goal
 
 pub loop-key-preserved : goal.loop-key-preserved

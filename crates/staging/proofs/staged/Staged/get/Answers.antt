@@ -1,7 +1,7 @@
 use Rattle.std.proofs.Common.{◌∙◌, sym, subst, All}
 use Rattle.values.specs.RowEncoding.{IsHeld}
 use Rattle.values.proofs.KeyLengths.{fitting_keys_are_short}
-use Rattle.staging.proofs.Calls.{row_of_view}
+use Rattle.staging.proofs.StagedCalls.{row_of_view}
 use Rattle.staging.proofs.staged.Staged.get.Goals as goal
 
 pub row_found-requires : goal.row_found-requires

@@ -7,9 +7,9 @@ use Rattle.values.specs.Writes.{duplicate}
 use Rattle.values.specs.Events.{IsKeyIn}
 use Rattle.staging.specs.Own.{rows_seen, own}
 use Rattle.staging.specs.Staged.{insertions}
-use Rattle.staging.proofs.Bridge.{key_in}
-use Rattle.staging.proofs.Entries.{sorted_from}
-use Rattle.staging.proofs.Answered.{no_fault_is, short_keys, inserted_entries, duplicate_is, insert_duplicate, insert_done, keys_after}
+use Rattle.staging.proofs.ViewBridge.{key_in}
+use Rattle.staging.proofs.StagedEntries.{sorted_from}
+use Rattle.staging.proofs.StagedAnswered.{no_fault_is, short_keys, inserted_entries, duplicate_is, insert_duplicate, insert_done, keys_after}
 use Rattle.staging.proofs.staged.Staged.insert.Goals as goal
 
 pub first_seen-requires : goal.first_seen-requires

@@ -9,7 +9,7 @@ use Rattle.values.specs.KeyEncoding.{IsShortKey, bytes_of_key}
 use Rattle.values.specs.Events.{IsKeyIn, AreKeysIn, row_until}
 use Rattle.staging.specs.Staged.{net_in}
 use Rattle.tsbtree.specs.View.{events}
-use Rattle.staging.proofs.Calls.{net_of_view, kept_entries, kept_keys, kept_ordered}
+use Rattle.staging.proofs.StagedCalls.{net_of_view, kept_entries, kept_keys, kept_ordered}
 use Rattle.staging.proofs.staged.Staged.net.Goals as goal
 
 pub of-requires : goal.of-requires

@@ -1,6 +1,6 @@
 use Rattle.std.proofs.Common.{All, sym, subst}
 use Rattle.values.specs.KeyEncoding.{IsShortKey}
-use Rattle.staging.proofs.Calls.{put_entries}
+use Rattle.staging.proofs.StagedCalls.{put_entries}
 use Rattle.staging.proofs.staged.Staged.put.Goals as goal
 
 pub invariant_of-self-in_default : goal.invariant_of-self-in_default

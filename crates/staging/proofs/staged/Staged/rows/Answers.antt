@@ -1,5 +1,5 @@
 use Rattle.std.proofs.Common.{◌∙◌}
-use Rattle.staging.proofs.Calls.{rows_of_view}
+use Rattle.staging.proofs.StagedCalls.{rows_of_view}
 use Rattle.staging.proofs.staged.Staged.rows.Goals as goal
 
 pub returns-clause-ok : goal.returns-clause-ok

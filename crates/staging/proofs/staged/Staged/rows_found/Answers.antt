@@ -2,7 +2,7 @@ use Rattle.std.proofs.Common.{All, filter, sym, ap, subst, ◌∙◌}
 use Rattle.values.specs.KeyEncoding.{IsShortKey}
 use Rattle.values.specs.Log.{apply_net}
 use Rattle.values.specs.Versions.{matches}
-use Rattle.staging.proofs.Answered.{rows_short}
+use Rattle.staging.proofs.StagedAnswered.{rows_short}
 use Rattle.staging.proofs.staged.Staged.rows_found.Goals as goal
 
 pub returns-clause-short : goal.returns-clause-short

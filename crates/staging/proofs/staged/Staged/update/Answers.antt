@@ -5,10 +5,10 @@ use Rattle.values.specs.Faults.{no_fault}
 use Rattle.values.specs.Versions.{matches}
 use Rattle.values.specs.Events.{IsKeyIn}
 use Rattle.staging.specs.Own.{rows_seen}
-use Rattle.staging.proofs.StoredSets.{sets_stored}
-use Rattle.staging.proofs.Entries.{sorted_from}
-use Rattle.staging.proofs.Calls.{rows_of_view}
-use Rattle.staging.proofs.Answered.{no_fault_is, updated_entries, update_done, keys_after, seen_keys}
+use Rattle.staging.proofs.UpdateStored.{sets_stored}
+use Rattle.staging.proofs.StagedEntries.{sorted_from}
+use Rattle.staging.proofs.StagedCalls.{rows_of_view}
+use Rattle.staging.proofs.StagedAnswered.{no_fault_is, updated_entries, update_done, keys_after, seen_keys}
 use Rattle.staging.proofs.staged.Staged.update.Goals as goal
 
 pub updates-requires : goal.updates-requires

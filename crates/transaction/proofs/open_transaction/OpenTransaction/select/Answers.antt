@@ -1,5 +1,5 @@
 use Rattle.std.proofs.Common.{◌∙◌, ap, inl, inr}
-use Rattle.transaction.proofs.Listed.{past_shown, is_plain, plain_shown}
+use Rattle.transaction.proofs.ListingShown.{past_shown, is_plain, plain_shown}
 use Rattle.transaction.proofs.open_transaction.OpenTransaction.select.Goals as goal
 
 pub returns-in_ok-rows_of-in-Plain-clause-ok : goal.returns-in_ok-rows_of-in-Plain-clause-ok

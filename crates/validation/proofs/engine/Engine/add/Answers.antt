@@ -1,6 +1,6 @@
 use Rattle.std.proofs.Common.{rules}
 use Rattle.staging.specs.View.{Adds}
-use Rattle.validation.proofs.Adding.{added_holds}
+use Rattle.validation.proofs.EngineAdding.{added_holds}
 use Rattle.validation.proofs.engine.Engine.add.Goals as goal
 
 pub returns-clause-holds : goal.returns-clause-holds

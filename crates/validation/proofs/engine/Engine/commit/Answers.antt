@@ -3,8 +3,8 @@ use Rattle.values.specs.declared.refusal.Refusal.TheVariants.{Memory}
 use Rattle.values.specs.Commits.{outcome_by}
 use Rattle.tsbtree.specs.View.{events, last}
 use Rattle.validation.specs.Outcome.{changed_in}
-use Rattle.validation.proofs.Adding.{added_holds}
-use Rattle.validation.proofs.Conflicts.{said_of_changes}
+use Rattle.validation.proofs.EngineAdding.{added_holds}
+use Rattle.validation.proofs.EngineConflicts.{said_of_changes}
 use Rattle.validation.proofs.engine.Engine.commit.Goals as goal
 
 pub returns-in-Ok-clause-outcome : goal.returns-in-Ok-clause-outcome

@@ -1,4 +1,4 @@
-use Rattle.validation.proofs.Conflicts.{said_of_changes}
+use Rattle.validation.proofs.EngineConflicts.{said_of_changes}
 use Rattle.validation.proofs.engine.Engine.validate.Goals as goal
 
 pub returns-clause-outcome : goal.returns-clause-outcome

@@ -1,7 +1,7 @@
 use denote.Param.Send.{IsSend, IsSync, sendable}
 use Rattle.std.proofs.Common.{rules}
 use Rattle.std.proofs.Crossing.{crosses}
-use Rattle.sessions.proofs.Crossing.{receipt_send, receipt_field_send, store_sync}
+use Rattle.sessions.proofs.StoreCrossing.{receipt_send, receipt_field_send, store_sync}
 use Rattle.listening.proofs.connection.fn.serve_connections.scope.Goals as goal
 
 pub spawn-requires-send-F : goal.spawn-requires-send-F

@@ -1,7 +1,7 @@
 use denote.Param.Send.{IsSync, sendable}
 use Rattle.std.proofs.Common.{rules}
 use Rattle.std.proofs.Crossing.{crosses}
-use Rattle.sessions.proofs.Crossing.{session_send}
+use Rattle.sessions.proofs.StoreCrossing.{session_send}
 use Rattle.sessions_tests.proofs.thread_tests.fn.count_in_threads.scope.Goals as goal
 
 -- the session is moved

@@ -1,7 +1,7 @@
 use denote.Param.Send.{IsSend, IsSync, sendable}
 use Rattle.std.proofs.Common.{rules}
 use Rattle.std.proofs.Crossing.{crosses}
-use Rattle.sessions.proofs.Crossing.{receipt_send, receipt_field_send, store_sync}
+use Rattle.sessions.proofs.StoreCrossing.{receipt_send, receipt_field_send, store_sync}
 use Rattle.sessions_tests.proofs.thread_tests.fn.run_in_threads.scope.Goals as goal
 
 pub spawn-handle-requires-send-F : goal.spawn-handle-requires-send-F

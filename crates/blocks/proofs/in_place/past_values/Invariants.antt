@@ -1,6 +1,0 @@
-use Rattle.std.proofs.Common.{◌≡◌, ◌-◌}
-use Rattle.blocks.specs.InPlace.{past_values}
-use Rattle.blocks.proofs.in_place.past_values.Given as goal
-
-abbrev pub invariant-loop : goal.invariant-loop
-invariant-loop l = past_values (l.n - l.counter) l.rest ≡ past_values l.n l.bytes

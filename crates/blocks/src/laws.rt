@@ -1,8 +1,0 @@
-ghost use Rattle.blocks.specs.Laws.{OneNode, OneBlock, WorkedBlock};
-
-/// A node and its block stand for each other.
-pub fn blocks_stand_for_nodes()
-    ensures node { OneNode }
-    ensures block { OneBlock }
-    ensures worked { WorkedBlock }
-{}

@@ -1,0 +1,74 @@
+-- What a load leaves, from what its parts do.
+use Rattle.std.proofs.Common.{◌≡◌, ℕ, List, [], Option, Some, None, refl, ◌∙◌, ap, subst, inl, inr, length}
+use Rattle.std.specs.Prelude.{Ok}
+use Rattle.std.specs.Io.KnownBytes.{Appends}
+use Rattle.clap.specs.Words.{Text}
+use Rattle.values.specs.declared.table.Table.{Table}
+use Rattle.values.specs.Log.{Row, last}
+use Rattle.values.specs.Tables.{Schema}
+use Rattle.histories.specs.History.{History, log}
+use Rattle.statement.specs.Writer.{AppendsFront}
+use Rattle.interleaving.specs.SystemState.{SystemState, Stands}
+use Rattle.scripts.specs.First.{history_of, first_refusal}
+use Rattle.command_line.specs.declared.fault.Fault.{Fault}
+use Rattle.command_line.specs.declared.fault.Fault.TheVariants.{Words, SchemaSyntax, BadTable, SchemaMemory, NoExport, Load, Read, Write, Socket, NotClosed, Memory}
+use Rattle.command_line.specs.Options.{name_in}
+use Rattle.interchange.specs.Report.{loaded_text}
+use Rattle.command_line.specs.Load.{IsNamed, FileSays, HasNoRows, IsLed, IsUnread, IsUntold, Unloaded, steps_of}
+
+same_text : (schema : Schema) (s : SystemState) (number : ℕ) (rows : List Row) (count instant : ℕ) → count ≡ length rows → s.schema ≡ schema → instant ≡ last (log s.schema (history_of (steps_of number rows)))
+    → loaded_text count instant ≡ loaded_text (length rows) (last (log schema (history_of (steps_of number rows))))
+same_text schema s number rows count instant count_is is instant_is =
+    ap (λ n. loaded_text n instant) count_is ∙ ap (loaded_text (length rows)) (instant_is ∙ ap (λ x. last (log x (history_of (steps_of number rows)))) is)
+
+-- rows were taken, and reported
+pub led_with : (schema : Schema) (text : Text) (number : ℕ) (rows : List Row) (s : SystemState) (old new : Option (List ℕ)) (count instant : ℕ) → count ≡ length rows → FileSays schema text number (Ok rows)
+    → Stands s (history_of (steps_of number rows)) → s.schema ≡ schema → first_refusal schema [] (steps_of number rows) ≡ None
+    → ((h : History) → Stands s h → instant ≡ last (log s.schema h)) → Appends old new (loaded_text count instant)
+    → IsLed schema (Some text) s old new
+led_with schema text number rows s old new count instant count_is says at is taken instant_is wrote = record {
+  first = history_of (steps_of number rows);
+  loaded = record {
+    load = record { number = number; rows = rows; says = says; taken = taken; leaves = refl };
+    wrote = subst (Appends old new) (same_text schema s number rows count instant count_is is (instant_is _ at)) wrote;
+  };
+  stands = at;
+  schema_is = is;
+}
+
+-- rows were taken, and not reported
+pub unloaded_late : (fault : Fault) (schema : Schema) (text : Text) (number : ℕ) (rows : List Row) (s : SystemState) (old new : Option (List ℕ)) (count instant : ℕ) → count ≡ length rows → FileSays schema text number (Ok rows)
+    → Stands s (history_of (steps_of number rows)) → s.schema ≡ schema → first_refusal schema [] (steps_of number rows) ≡ None
+    → ((h : History) → Stands s h → instant ≡ last (log s.schema h)) → IsUntold fault (loaded_text count instant) old new
+    → Unloaded fault schema (Some text) old new
+unloaded_late (Words f) schema text number rows s old new count instant count_is says at is taken instant_is untold = absurd untold
+unloaded_late (SchemaSyntax n) schema text number rows s old new count instant count_is says at is taken instant_is untold = absurd untold
+unloaded_late (BadTable n) schema text number rows s old new count instant count_is says at is taken instant_is untold = absurd untold
+unloaded_late SchemaMemory schema text number rows s old new count instant count_is says at is taken instant_is untold = absurd untold
+unloaded_late NoExport schema text number rows s old new count instant count_is says at is taken instant_is untold = absurd untold
+unloaded_late (Load refusal) schema text number rows s old new count instant count_is says at is taken instant_is untold = absurd untold
+unloaded_late Read schema text number rows s old new count instant count_is says at is taken instant_is untold = absurd untold
+unloaded_late Socket schema text number rows s old new count instant count_is says at is taken instant_is untold = absurd untold
+unloaded_late NotClosed schema text number rows s old new count instant count_is says at is taken instant_is untold = absurd untold
+unloaded_late Memory schema text number rows s old new count instant count_is says at is taken instant_is untold = untold
+unloaded_late Write schema text number rows s old new count instant count_is says at is taken instant_is untold = record {
+  first = history_of (steps_of number rows);
+  load = record { number = number; rows = rows; says = says; taken = taken; leaves = refl };
+  wrote = subst (AppendsFront old new) (same_text schema s number rows count instant count_is is (instant_is _ at)) untold;
+}
+
+-- a table's file has no rows
+pub no_rows_of : (fault : Fault) (schema : Schema) (text : Text) (table : Table) → IsNamed schema (name_in text) table → IsUnread fault table → HasNoRows fault schema text
+no_rows_of (Words f) schema text table named unread = absurd unread
+no_rows_of (SchemaSyntax n) schema text table named unread = absurd unread
+no_rows_of (BadTable n) schema text table named unread = absurd unread
+no_rows_of SchemaMemory schema text table named unread = absurd unread
+no_rows_of NoExport schema text table named unread = absurd unread
+no_rows_of Write schema text table named unread = absurd unread
+no_rows_of Socket schema text table named unread = absurd unread
+no_rows_of NotClosed schema text table named unread = absurd unread
+no_rows_of Memory schema text table named unread = absurd unread
+no_rows_of Read schema text table named unread = tt
+no_rows_of (Load refusal) schema text table named (inl out) = inl out
+no_rows_of (Load refusal) schema text table named (inr (bytes, loads)) =
+    inr (inr (inl (table.number, record { table = table; is_named = named; number_is = refl; bytes = bytes; loads = loads })))

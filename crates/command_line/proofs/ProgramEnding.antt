@@ -1,0 +1,143 @@
+-- What the program's parts leave, one after another.
+use Rattle.std.proofs.Common.{◌≡◌, ℕ, List, Option, Some, None, true, false, sym, subst, inl, inr}
+use Rattle.std.specs.Prelude.{Result, Ok, Err, IfErr, OnOk}
+use Rattle.std.proofs.KnownBytes.{Keeps-refl}
+use Rattle.clap.specs.Words.{Text}
+use Rattle.values.specs.Tables.{Schema}
+use Rattle.histories.specs.History.{History}
+use Rattle.interleaving.specs.SystemState.{SystemState, Stands}
+use Rattle.command_line.specs.declared.options.Options.{Options}
+use Rattle.command_line.specs.declared.options.WordsFault.{WordsFault}
+use Rattle.command_line.specs.declared.fault.Fault.{Fault}
+use Rattle.command_line.specs.declared.fault.Fault.TheVariants.{Words, SchemaSyntax, BadTable, SchemaMemory, NoExport, Load, Read, Write, Socket, NotClosed, Memory}
+use Rattle.listening.specs.declared.connection.ListenFault.TheVariants as listen
+use Rattle.listening.specs.declared.server.ServerFault.{ServerFault}
+use Rattle.listening.specs.declared.server.ServerFault.TheVariants as server
+use Rattle.command_line.specs.Fault.{is_of_words, of_server}
+use Rattle.command_line.specs.Options.{Asked, AskedMode, Scripts, Listens, Gives, Refuses, asked_of}
+use Rattle.command_line.specs.Load.{Unloaded}
+use Rattle.command_line.specs.Export.{HasExported, Unexported}
+use Rattle.command_line.specs.Server.{IsNoFirst, HaltsServing}
+use Rattle.command_line.specs.Program.{HaltsAt, HaltsMode, HaltsOn, Halts, HasRun, HasRunOn, IsFaulty, IsOfSchema, IsRefused, IsStuck, IsUnanswered}
+use Rattle.command_line.proofs.FaultKinds.{of_words}
+
+-- ---- the script, then the export
+
+pub ran_on : (r : Result (Unit {0}) Fault) (script : Option Text) (number : Option ℕ) (system s : SystemState) (unread left old mid new : Option (List ℕ))
+    → ((h : History) → Stands system h → HasRun script system.schema h s unread left old mid) → ((h : History) → Stands system h → s.schema ≡ system.schema)
+    → OnOk r ((h : History) → Stands s h → HasExported s.schema number h mid new)
+    → OnOk r ((h : History) → Stands system h → HasRunOn script number system.schema h unread left old new)
+ran_on (Err e) script number system s unread left old mid new ran same exported = tt
+ran_on (Ok u) script number system s unread left old mid new ran same exported = λ h at.
+    let x = ran h at in
+    record {
+      s = s;
+      between = mid;
+      ran = x;
+      exported = subst (λ c. HasExported c number x.end mid new) (same h at) (exported x.end (subst (Stands s) (sym x.end_is) x.run.stands));
+    }
+
+pub halts_late : (r : Result (Unit {0}) Fault) (script : Option Text) (number : Option ℕ) (system s : SystemState) (unread left old mid new : Option (List ℕ))
+    → ((h : History) → Stands system h → HasRun script system.schema h s unread left old mid) → ((h : History) → Stands system h → s.schema ≡ system.schema)
+    → IfErr r (λ fault. (h : History) → Stands s h → Unexported fault s.schema number h mid new)
+    → IfErr r (λ fault. (h : History) → Stands system h → HaltsOn fault script number system.schema h unread left old new)
+halts_late (Ok u) script number system s unread left old mid new ran same unexported = tt
+halts_late (Err fault) script number system s unread left old mid new ran same unexported = λ h at.
+    let x = ran h at in
+    inr (record {
+      s = s;
+      between = mid;
+      ran = x;
+      unexported = subst (λ c. Unexported fault c number x.end mid new) (same h at) (unexported x.end (subst (Stands s) (sym x.end_is) x.run.stands));
+    })
+
+-- ---- none of these is a fault of words
+
+no_schema : (f : WordsFault) (file : Option Text) → IsOfSchema file (Words f) → ⊥
+no_schema f None x = x
+no_schema f (Some t) x = x
+
+no_load : (f : WordsFault) (schema : Schema) (text : Option Text) (old new : Option (List ℕ)) → Unloaded (Words f) schema text old new → ⊥
+no_load f schema None old new x = x
+no_load f schema (Some t) old new x = x
+
+no_export : (f : WordsFault) (schema : Schema) (number : Option ℕ) (h : History) (old new : Option (List ℕ)) → Unexported (Words f) schema number h old new → ⊥
+no_export f schema None h old new x = x
+no_export f schema (Some n) h old new x = x
+
+no_rest : (f : WordsFault) (script : Option Text) (number : Option ℕ) (schema : Schema) (h : History) (unread left old new : Option (List ℕ)) → HaltsOn (Words f) script number schema h unread left old new → ⊥
+no_rest f script number schema h unread left old new (inl x) = x
+no_rest f script number schema h unread left old new (inr late) = no_export f schema number late.ran.end late.between new late.unexported
+
+no_halt : (f : WordsFault) (text script : Option Text) (number : Option ℕ) (schema : Schema) (unread left old new : Option (List ℕ)) → HaltsAt (Words f) text script number schema unread left old new → ⊥
+no_halt f text script number schema unread left old new (inl early) = no_load f schema text old new early.unloaded
+no_halt f text script number schema unread left old new (inr loaded) = no_rest f script number schema loaded.first unread left loaded.between new loaded.rest
+
+no_first : (f : WordsFault) (text : Option Text) (schema : Schema) → IsNoFirst (Words f) text schema → ⊥
+no_first f None schema x = x
+no_first f (Some t) schema x = x
+
+not_of_server : (f : WordsFault) (why : ServerFault) → Words f ≡ of_server why → ⊥
+not_of_server f (server.Load refusal) e = cc e
+not_of_server f server.Write e = cc e
+not_of_server f (server.Listen listen.Socket) e = cc e
+not_of_server f (server.Listen listen.Memory) e = cc e
+not_of_server f (server.Listen listen.NotClosed) e = cc e
+
+no_serving : (f : WordsFault) (text : Option Text) (number : Option ℕ) (schema : Schema) (unread left old new : Option (List ℕ)) → HaltsServing (Words f) text number schema unread left old new → ⊥
+no_serving f text number schema unread left old new (inl x) = no_first f text schema x.0
+no_serving f text number schema unread left old new (inr stops) = not_of_server f stops.why stops.fault_is
+
+no_mode : (f : WordsFault) (mode : AskedMode) (text : Option Text) (number : Option ℕ) (schema : Schema) (unread left old new : Option (List ℕ)) → HaltsMode (Words f) mode text number schema unread left old new → ⊥
+no_mode f (Scripts script) text number schema unread left old new x = no_halt f text script number schema unread left old new x
+no_mode f (Listens port sessions) text number schema unread left old new x = no_serving f text number schema unread left old new x
+
+no_fault : (f : WordsFault) (asked : Asked) (schema : Schema) (unread left old new : Option (List ℕ)) → Halts (Words f) asked schema unread left old new → ⊥
+no_fault f asked schema unread left old new (inl unknown) = cc unknown.fault_is
+no_fault f asked schema unread left old new (inr halted) = no_mode f asked.mode asked.load halted.number schema unread left old new halted.halts
+
+not_stuck : (f : WordsFault) (asked : Asked) (unread left old new : Option (List ℕ)) → IsStuck (Words f) asked unread left old new → ⊥
+not_stuck f asked unread left old new (inl x) = no_schema f asked.schema x.0
+not_stuck f asked unread left old new (inr halted) = no_fault f asked halted.schema unread left old new halted.halts
+
+-- ---- the words, where they are taken
+
+pub taken_faulty : (r : Result (Unit {0}) Fault) (words : List Text) (options : Options) (unread left old new : Option (List ℕ)) → Gives words options → IfErr r (λ fault. IsStuck fault (asked_of options) unread left old new)
+    → IfErr r (λ fault. is_of_words fault ≡ false → IsFaulty words unread left old new)
+taken_faulty (Ok u) words options unread left old new gives stuck = tt
+taken_faulty (Err fault) words options unread left old new gives stuck = λ _. inr (inr (record {
+  asked = asked_of options;
+  ask_for = gives;
+  fault = fault;
+  stuck = stuck;
+}))
+
+-- ---- and where they are not
+
+pub refused_words : (r : Result (Unit {0}) Fault) (words : List Text) (fault : WordsFault) (unread old new : Option (List ℕ)) → Refuses words fault
+    → IfErr r (λ stop. (words : List Text) → Refuses words fault → IsUnanswered stop words old new)
+    → IfErr r (λ stop. is_of_words stop ≡ true → IsRefused words unread unread old new)
+refused_words (Ok u) words fault unread old new refuses stops = tt
+refused_words (Err stop) words fault unread old new refuses stops = λ e.
+    let (f, is) = of_words stop e in
+    let x = subst (λ s. IsUnanswered s words old new) is (stops words refuses) in
+    record { refused = x.0; idle = record { read = Keeps-refl unread; wrote = x.1 } }
+
+unanswered : (stop : Fault) (words : List Text) (unread old new : Option (List ℕ)) → is_of_words stop ≡ false → IsUnanswered stop words old new → IsFaulty words unread unread old new
+unanswered (Words f) words unread old new e x = cc e
+unanswered (SchemaSyntax n) words unread old new e x = absurd x
+unanswered (BadTable n) words unread old new e x = absurd x
+unanswered SchemaMemory words unread old new e x = absurd x
+unanswered NoExport words unread old new e x = absurd x
+unanswered (Load refusal) words unread old new e x = absurd x
+unanswered Read words unread old new e x = absurd x
+unanswered Socket words unread old new e x = absurd x
+unanswered NotClosed words unread old new e x = absurd x
+unanswered Write words unread old new e x = inr (inl (Keeps-refl unread, x))
+unanswered Memory words unread old new e x = inl (record { read = Keeps-refl unread; wrote = x })
+
+pub refused_faulty : (r : Result (Unit {0}) Fault) (words : List Text) (fault : WordsFault) (unread old new : Option (List ℕ)) → Refuses words fault
+    → IfErr r (λ stop. (words : List Text) → Refuses words fault → IsUnanswered stop words old new)
+    → IfErr r (λ stop. is_of_words stop ≡ false → IsFaulty words unread unread old new)
+refused_faulty (Ok u) words fault unread old new refuses stops = tt
+refused_faulty (Err stop) words fault unread old new refuses stops = λ e. unanswered stop words unread old new e (stops words refuses)

@@ -1,0 +1,192 @@
+-- The words of the command line, as clap's exact matches and faults of a command give them.
+use Rattle.std.specs.Prelude.{◌≡◌, ◌≢◌, ◌<◌, ◌⊎◌, ◌==◌, ℕ, List, [], Option, Some, None, IfSome, codes, option_map, true, ⊤, length, if◌then◌else◌}
+use Rattle.std.specs.List.{before_first, position_or_len}
+use Rattle.clap.specs.Words.{App, IsAmong, Kinds, Rule, Text, fault_of, first_of, first_value, kind_of, matches_of, new_app, new_rule, with_rule}
+use Rattle.clap.specs.declared.parser.matches.Found.{Found}
+use Rattle.clap.specs.declared.error.kind.ErrorKind.{ErrorKind}
+use Rattle.clap.specs.declared.error.kind.ErrorKind.TheVariants as kind
+use Rattle.statement.specs.Literal.{digits_here}
+use Rattle.interchange.specs.Field.{whole}
+use Rattle.command_line.specs.declared.options.Options.{Options}
+use Rattle.command_line.specs.declared.options.Mode.{Mode}
+use Rattle.command_line.specs.declared.options.Mode.TheVariants.{Script, Listen}
+use Rattle.command_line.specs.declared.options.Texts.{Texts}
+use Rattle.command_line.specs.declared.options.WordsFault.{WordsFault}
+use Rattle.command_line.specs.declared.options.WordsFault.TheVariants.{Clap, Words as Other, Memory}
+
+-- the command with no option yet; the program's name is not among its words
+abbrev pub bare : App
+bare = record (new_app (codes "tsvd")) {
+  top = record (new_app (codes "tsvd")).top { no_binary_name = true; has_version = true };
+}
+
+-- an option that takes the text that follows it
+abbrev pub option : Text → Rule
+option name = record (new_rule name) { long = Some name; value_names = 1 }
+
+-- with the options of what is read
+abbrev pub reading : App
+reading = with_rule (with_rule bare (option (codes "schema"))) (option (codes "script"))
+
+-- and with those of a server
+abbrev pub serving : App
+serving = with_rule (with_rule reading (option (codes "listen"))) (option (codes "sessions"))
+
+abbrev pub command : App
+command = with_rule (with_rule serving (option (codes "load"))) (option (codes "export"))
+
+-- the text of an option, where it has one
+abbrev pub text_of : Text → List Text → Option Text
+text_of name words = first_of name (matches_of command words)
+
+-- the kinds of refusal that the words may meet: none where they are taken
+abbrev pub faults : List Text → Kinds
+faults words = fault_of command words
+
+-- ---- the texts of the options
+
+pub record AskedTexts : Type 0 where
+  pub schema : Option Text
+  pub script : Option Text
+  pub listen : Option Text
+  pub sessions : Option Text
+  pub load : Option Text
+  pub exports : Option Text
+
+abbrev pub texts_in : List Text → AskedTexts
+texts_in words = record {
+  schema = text_of (codes "schema") words;
+  script = text_of (codes "script") words;
+  listen = text_of (codes "listen") words;
+  sessions = text_of (codes "sessions") words;
+  load = text_of (codes "load") words;
+  exports = text_of (codes "export") words;
+}
+
+abbrev pub texts_of : Texts → AskedTexts
+texts_of texts = record {
+  schema = option_map (λ text. text.now) texts.schema;
+  script = option_map (λ text. text.now) texts.script;
+  listen = option_map (λ text. text.now) texts.listen;
+  sessions = option_map (λ text. text.now) texts.sessions;
+  load = option_map (λ text. text.now) texts.load;
+  exports = option_map (λ text. text.now) texts.export;
+}
+
+abbrev pub found_texts : Found → AskedTexts
+found_texts found = record {
+  schema = first_value found (codes "schema");
+  script = first_value found (codes "script");
+  listen = first_value found (codes "listen");
+  sessions = first_value found (codes "sessions");
+  load = first_value found (codes "load");
+  exports = first_value found (codes "export");
+}
+
+-- ---- what they ask for
+
+-- a script, that of a file or standard input; or a number of connections at a port
+pub data AskedMode : Type 0 where
+  Scripts : Option Text → AskedMode
+  Listens : (port sessions : ℕ) → AskedMode
+
+-- decimal digits alone, up to 65535
+abbrev pub port_in : Text → Option ℕ
+port_in text = whole (digits_here 65535 text)
+
+abbrev pub above_nought : Option ℕ → Option ℕ
+above_nought None = None
+above_nought (Some n) = if n == 0 then None else Some n
+
+-- decimal digits alone, from 1 to 64
+abbrev pub count_in : Text → Option ℕ
+count_in text = above_nought (whole (digits_here 64 text))
+
+abbrev pub listening : (port sessions : Option ℕ) → Option AskedMode
+listening (Some port) (Some sessions) = Some (Listens port sessions)
+listening None sessions = None
+listening (Some port) None = None
+
+-- a port and a number of connections come together, and with no script
+abbrev pub mode_by : (script listen sessions : Option Text) → Option AskedMode
+mode_by script None None = Some (Scripts script)
+mode_by None (Some listen) (Some sessions) = listening (port_in listen) (count_in sessions)
+mode_by (Some script) (Some listen) (Some sessions) = None
+mode_by script (Some listen) None = None
+mode_by script None (Some sessions) = None
+
+abbrev pub mode_in : AskedTexts → Option AskedMode
+mode_in texts = mode_by texts.script texts.listen texts.sessions
+
+abbrev pub mode_of : Mode → AskedMode
+mode_of (Script file) = Scripts (option_map (λ text. text.now) file)
+mode_of (Listen port sessions) = Listens port sessions
+
+-- what is asked for: the schema's file, what is run, and the texts of the other two options
+pub record Asked : Type 0 where
+  pub schema : Option Text
+  pub mode : AskedMode
+  pub load : Option Text
+  pub exports : Option Text
+
+abbrev pub asked_of : Options → Asked
+asked_of options = record {
+  schema = option_map (λ text. text.now) options.schema;
+  mode = mode_of options.mode;
+  load = option_map (λ text. text.now) options.load;
+  exports = option_map (λ text. text.now) options.export;
+}
+
+-- the text of --load is a table's name, `=` and a file: there is an `=`
+abbrev pub HasFile : Text → Type 0
+HasFile text = position_or_len (λ b. b == 61) text < length text
+
+-- the table's name: it ends before the first `=`
+abbrev pub name_in : Text → Text
+name_in text = before_first (λ b. b == 61) text
+
+-- clap takes the words, and these are the texts
+pub record Reads (words : List Text) (texts : AskedTexts) : Type 0 where
+  pub taken : faults words ≡ []
+  pub texts_are : texts ≡ texts_in words
+
+-- the words are taken, and this is what they ask for
+pub record AskFor (words : List Text) (asked : Asked) : Type 0 where
+  pub taken : faults words ≡ []
+  pub schema_is : asked.schema ≡ (texts_in words).schema
+  pub mode_is : mode_in (texts_in words) ≡ Some asked.mode
+  pub load_is : asked.load ≡ (texts_in words).load
+  pub exports_is : asked.exports ≡ (texts_in words).exports
+  pub has_file : IfSome asked.load HasFile
+
+abbrev pub Gives : List Text → Options → Type 0
+Gives words options = AskFor words (asked_of options)
+
+-- clap takes the words, but there is no `=` in the text of --load, or nothing can be run by them
+pub record AreUnfit (words : List Text) : Type 0 where
+  pub taken : faults words ≡ []
+  pub unfit :
+      (IfSome (texts_in words).load HasFile → ⊥) ⊎ (mode_in (texts_in words) ≡ None)
+
+-- the words are refused for a fault of theirs, help and the version among them, or memory ran out
+abbrev pub Refuses : List Text → WordsFault → Type 0
+Refuses words (Clap error) = IsAmong (kind_of error) (faults words)
+Refuses words (Other text) = AreUnfit words
+Refuses words Memory = ⊤
+
+-- the words ask for help or for the version
+pub record AreRequest (words : List Text) : Type 0 where
+  pub what : ErrorKind
+  pub among : IsAmong what (faults words)
+  pub request : (what ≡ kind.DisplayHelp) ⊎ (what ≡ kind.DisplayVersion)
+
+-- clap refuses the words for something else
+pub record AreRefused (words : List Text) : Type 0 where
+  pub why : ErrorKind
+  pub among : IsAmong why (faults words)
+  pub no_help : why ≢ kind.DisplayHelp
+  pub no_version : why ≢ kind.DisplayVersion
+
+-- the words are no words of the program
+abbrev pub AreMistaken : List Text → Type 0
+AreMistaken words = AreRefused words ⊎ AreUnfit words

@@ -1,0 +1,289 @@
+//! The words of the command line, which `clap` reads.
+ghost use Rattle.std.specs.Prelude.{◌≡◌, ◌↔◌, IfOk, IfErr, IfSome, IsTrue, None, Some, codes, false, map, option_map, List};
+ghost use Rattle.clap.specs.Words.{HasKind, Text, app_of, found_of, rule_of};
+ghost use Rattle.command_line.specs.Options.{Gives, HasFile, Reads, Refuses, bare, command, count_in, faults, found_texts, listening, mode_in, mode_of, option, port_in, reading, serving, texts_of};
+
+use clap::error::ErrorKind;
+use clap::{Arg, ArgMatches, Command};
+use interchange::whole_within;
+use std::alloc::{AllocError, Global};
+use std::convert::AsStr;
+use thiserror::Error;
+
+/// The program's version, for `--version`.
+const VERSION: &str = "0.1.0";
+
+/// What the program is, at the head of its help.
+const ABOUT: &str =
+    "Runs a script over system-versioned tables, or serves sessions over TCP, and writes one reply for each line";
+
+/// What help says after the options.
+const AFTER: &str =
+    "Without --schema the schema has one table: emp (no INT, name TEXT), with the key no.\n\
+Without --script and --listen the script is standard input.\n\
+\n\
+A line of a script is a session's number (1 to 64), a colon and a statement, or a reading of the clock:\n  \
+clock: 100\n  \
+1: BEGIN\n  \
+1: INSERT INTO emp VALUES (1, 'Ann')\n  \
+1: COMMIT\n  \
+1: SELECT * FROM emp FOR SYSTEM_TIME AS OF 100\n\
+\n\
+Example, to be pasted as it is where tsvd can be found:\n  \
+printf \"clock: 100\\n1: BEGIN\\n1: INSERT INTO emp VALUES (1, 'Ann')\\n1: COMMIT\\n\" | tsvd --export emp\n\
+\n\
+With --listen each connection to 127.0.0.1 is a session, and its lines are statements alone, such as BEGIN.\n\
+The port is printed as 'listening PORT'. When --sessions connections have come and ended, the server ends.\n\
+\n\
+Status:\n  \
+0  done, help among it; a line that is refused has its refusal as its reply\n  \
+1  a fault of the schema, the load, the export, a file, a socket, the output or memory,\n     \
+reported on standard error\n  \
+2  words that are refused\n";
+
+/// What is said where there is no file in the text of `--load`.
+const NO_FILE: &str =
+    "error: --load takes a table's name, = and a file\n\nFor more information, try '--help'.\n";
+
+/// What is said where connections are to be served, and a script is to be run.
+const BOTH: &str =
+    "error: --script and --listen exclude each other\n\nFor more information, try '--help'.\n";
+
+/// What is said where one of the two is missing.
+const ALONE: &str =
+    "error: --listen and --sessions are given together\n\nFor more information, try '--help'.\n";
+
+/// What is said of a port that is none.
+const NO_PORT: &str =
+    "error: --listen takes a port, 0 to 65535\n\nFor more information, try '--help'.\n";
+
+/// What is said of a number of sessions that is none.
+const NO_COUNT: &str =
+    "error: --sessions takes a number, 1 to 64\n\nFor more information, try '--help'.\n";
+
+/// The greatest port.
+const MAX_PORT: u64 = 65_535;
+
+/// The most connections.
+const MAX_COUNT: u64 = 64;
+
+/// What is run.
+#[derive(Clone, Copy, Debug, PartialEq, Eq)]
+pub enum Mode<'a> {
+    /// A script: that of a file, or standard input.
+    Script(Option<&'a str>),
+    /// So many connections are served, at a port, or at one that the system chooses where it is 0.
+    Listen { port: u16, sessions: u8 },
+}
+
+/// What is asked for.
+#[derive(Clone, Copy, Debug, PartialEq, Eq)]
+pub struct Options<'a> {
+    /// The file of the schema.
+    pub schema: Option<&'a str>,
+    /// What is run.
+    pub mode: Mode<'a>,
+    /// A table's name, `=` and the file whose rows are loaded.
+    pub load: Option<&'a str>,
+    /// The name of the table that is exported.
+    pub export: Option<&'a str>,
+}
+
+/// For each option the text that followed it, or none.
+#[derive(Clone, Copy)]
+struct Texts<'a> {
+    schema: Option<&'a str>,
+    script: Option<&'a str>,
+    listen: Option<&'a str>,
+    sessions: Option<&'a str>,
+    load: Option<&'a str>,
+    export: Option<&'a str>,
+}
+
+/// Why words were refused. The texts end their last lines.
+#[derive(Debug, Drop, Error)]
+pub enum WordsFault {
+    /// `clap` refused them, or they ask for help or for the version.
+    #[error("{0}")]
+    Clap(clap::Error),
+    /// They are no text, `--load` names no file, or what is to be run cannot be.
+    #[error("{0}")]
+    Words(&'static str),
+    /// Memory ran out.
+    #[error("memory")]
+    Memory,
+}
+
+fn option<'a>(alloc: Global, name: &'a str, value: &'a str, help: &'a str) -> Arg<'a>
+    ensures rule { rule_of result ≡ option name.entry.now }
+    ensures local { result.global ≡ false }
+{
+    Arg::new(alloc, name)
+        .long(name)
+        .value_name(value)
+        .help(help)
+}
+
+/// The command with no option yet.
+fn bare<'a>(alloc: Global) -> Command<'a>
+    ensures { app_of result ≡ bare }
+{
+    Command::new(alloc, "tsvd")
+        .no_binary_name(true)
+        .version(VERSION)
+        .about(ABOUT)
+        .after_help(AFTER)
+}
+
+/// The command with the options of what is read.
+fn reading_command<'a>(alloc: Global) -> Result<Command<'a>, AllocError>
+    ensures { IfOk result (λ c. app_of c ≡ reading) }
+{
+    bare(alloc)
+        .arg(option(alloc, "schema", "FILE", "Reads the tables from this file"))?
+        .arg(option(alloc, "script", "FILE", "Reads the script from this file"))
+}
+
+/// The same with the options of a server.
+fn serving_command<'a>(alloc: Global) -> Result<Command<'a>, AllocError>
+    ensures { IfOk result (λ c. app_of c ≡ serving) }
+{
+    let listen = "Serves sessions over TCP at this port of 127.0.0.1; 0: one that is free";
+    let sessions = "Ends when this many connections, 1 to 64, have come and ended";
+    reading_command(alloc)?
+        .arg(option(alloc, "listen", "PORT", listen))?
+        .arg(option(alloc, "sessions", "NUMBER", sessions))
+}
+
+fn tsvd<'a>(alloc: Global) -> Result<Command<'a>, AllocError>
+    ensures { IfOk result (λ c. app_of c ≡ command) }
+{
+    let load = "First loads the rows of this CSV file in one transaction";
+    let export = "Last writes this table with all its versions as CSV";
+    serving_command(alloc)?
+        .arg(option(alloc, "load", "TABLE=FILE", load))?
+        .arg(option(alloc, "export", "TABLE", export))
+}
+
+fn texts_of<'a>(matches: &ArgMatches<'a>) -> Texts<'a>
+    ensures { texts_of result ≡ found_texts (found_of matches.now) }
+{
+    Texts {
+        schema: matches.get_str("schema"),
+        script: matches.get_str("script"),
+        listen: matches.get_str("listen"),
+        sessions: matches.get_str("sessions"),
+        load: matches.get_str("load"),
+        export: matches.get_str("export"),
+    }
+}
+
+fn fault_from(error: clap::Error) -> WordsFault
+    ensures { (words : List Text) → HasKind (faults words) error → Refuses words result }
+{
+    match error.kind() {
+        ErrorKind::OutOfMemory => WordsFault::Memory,
+        _ => WordsFault::Clap(error),
+    }
+}
+
+/// Whether a file is named, behind a `=`.
+fn has_file(text: &str) -> bool
+    ensures { IsTrue result ↔ HasFile text.now }
+{
+    text.split_once('=').is_some()
+}
+
+fn port_of(text: &str) -> Option<u16>
+    ensures { result ≡ port_in text.now }
+{
+    let port = whole_within(MAX_PORT, text.as_bytes())?;
+    Some(port as u16)
+}
+
+fn count_of(text: &str) -> Option<u8>
+    ensures { result ≡ count_in text.now }
+{
+    match whole_within(MAX_COUNT, text.as_bytes()) {
+        Some(0) => None,
+        Some(count) => Some(count as u8),
+        None => None,
+    }
+}
+
+/// A server's mode by the texts of its two options.
+fn listen_mode<'a>(listen: &str, sessions: &str) -> Result<Mode<'a>, &'static str>
+    ensures ok { IfOk result (λ mode. listening (port_in listen.now) (count_in sessions.now)
+        ≡ Some (mode_of mode)) }
+    ensures err { IfErr result (λ _.
+        listening (port_in listen.now) (count_in sessions.now) ≡ None) }
+{
+    let Some(port) = port_of(listen) else {
+        return Err(NO_PORT);
+    };
+    match count_of(sessions) {
+        Some(sessions) => Ok(Mode::Listen { port, sessions }),
+        None => Err(NO_COUNT),
+    }
+}
+
+/// What is run.
+fn mode_of<'a>(texts: Texts<'a>) -> Result<Mode<'a>, &'static str>
+    ensures ok { IfOk result (λ mode. mode_in (texts_of texts.entry) ≡ Some (mode_of mode)) }
+    ensures err { IfErr result (λ _. mode_in (texts_of texts.entry) ≡ None) }
+{
+    match (texts.script, texts.listen, texts.sessions) {
+        (script, None, None) => Ok(Mode::Script(script)),
+        (None, Some(listen), Some(sessions)) => listen_mode(listen, sessions),
+        (Some(_), Some(_), Some(_)) => Err(BOTH),
+        (_, Some(_), None) => Err(ALONE),
+        (_, None, Some(_)) => Err(ALONE),
+    }
+}
+
+/// Whether the text of `--load`, where there is one, names a file.
+fn names_file(load: Option<&str>) -> bool
+    ensures { IsTrue result ↔ IfSome (option_map (λ text. text.now) load.entry) HasFile }
+{
+    match load {
+        Some(text) => has_file(text),
+        None => true,
+    }
+}
+
+/// The options, where they can be had together.
+fn options_of<'a>(texts: Texts<'a>) -> Result<Options<'a>, WordsFault>
+    ensures ok { IfOk result (λ o. (words : List Text) → Reads words (texts_of texts.entry)
+        → Gives words o) }
+    ensures err { IfErr result (λ fault. (words : List Text) → Reads words (texts_of texts.entry)
+        → Refuses words fault) }
+{
+    if !names_file(texts.load) {
+        return Err(WordsFault::Words(NO_FILE));
+    }
+    match mode_of(texts) {
+        Ok(mode) => Ok(Options {
+            schema: texts.schema,
+            mode,
+            load: texts.load,
+            export: texts.export,
+        }),
+        Err(text) => Err(WordsFault::Words(text)),
+    }
+}
+
+/// Reads the words that follow the program's name: `--schema F`, `--script F`, `--listen PORT`, `--sessions N`, `--load T=F` and `--export T`, each at most once.
+///
+/// `Clap` where `clap` has a fault of the words, with `--help` and `--version` among them. `Words` where the text of `--load` has no `=`; where one of `--listen` and `--sessions` is given without the other, or both with `--script`; where PORT or N is no decimal number, or not in its range.
+pub fn words<'a, S: AsStr>(alloc: Global, words: &'a [S]) -> Result<Options<'a>, WordsFault>
+    ensures ok { IfOk result (λ o. Gives (map S.text words.entry.now) o) }
+    ensures err { IfErr result (λ fault. Refuses (map S.text words.entry.now) fault) }
+{
+    let Ok(command) = tsvd(alloc) else {
+        return Err(WordsFault::Memory);
+    };
+    match command.try_get_matches_from(words) {
+        Ok(matches) => options_of(texts_of(&matches)),
+        Err(error) => Err(fault_from(error)),
+    }
+}

@@ -1,0 +1,92 @@
+-- What was committed stays, and the instants rise.
+use Rattle.std.proofs.Common.{◌≡◌, ℕ, ◌+◌, ◌<◌, Bool, true, false, List, [], ◌∷◌, ◌++◌, Option, Some, None, refl, sym, ap, subst, ◌∙◌, append-nil, append_assoc, arith}
+use Rattle.std.specs.Prelude.{Result, Ok, Err, if◌then◌else◌, nat_lt, max}
+use Rattle.values.specs.declared.key.Key.{Key}
+use Rattle.values.specs.declared.refusal.Refusal.{Refusal}
+use Rattle.values.specs.declared.refusal.Refusal.TheVariants.{Conflict, ClockEnd}
+use Rattle.values.specs.Tables.{Schema}
+use Rattle.values.specs.Log.{Log, Net, Changes, last, changes}
+use Rattle.values.specs.Law.{IsLog, shown_rows}
+use Rattle.values.specs.declared.query.Form.TheVariants.{AsOf}
+use Rattle.values.specs.Commits.{conflicts, outcome, log_after, after, max_instant}
+use Rattle.values.proofs.LawAsOf.{as_of_stays}
+use Rattle.values.proofs.VersionsNow.{Rises-push}
+use Rattle.histories.specs.declared.step.Step.{Step}
+use Rattle.histories.specs.declared.step.Step.TheVariants.{Begin, Insert, Update, Delete, Select, Commit, Rollback, SplitKey, SplitTime, Migrate}
+use Rattle.histories.specs.History.{History, log, log_at_begin, own, net_change_of}
+use Rattle.histories.specs.Law.{LogsRise, LaterStepsAdd, PastStays}
+
+late : (b : Bool) (n i : ℕ) (e : Refusal) → ◌≡◌ {A = Result (Option ℕ) Refusal} (if b then Err e else Ok (Some n)) (Ok (Some i)) → i ≡ n
+late true n i e h = cc
+late false n i e h = cc
+
+settled : (xs : List (Key × ℕ)) (latest reading i : ℕ) → ◌≡◌ {A = Result (Option ℕ) Refusal} (elim xs [
+  | first ∷ others ↦ Err (Conflict first.0 first.1)
+  | [] ↦ if nat_lt max_instant (max reading (latest + 1)) then Err ClockEnd else Ok (Some (max reading (latest + 1)))
+]) (Ok (Some i)) → latest < i
+settled [] latest reading i e =
+    let is : i ≡ max reading (latest + 1) = late _ _ _ ClockEnd e in
+    omega arith
+settled (x ∷ xs) latest reading i e = cc
+
+-- a commit's instant is above the last one
+pub outcome_above : (m : Changes) (latest start : ℕ) (net : Net) (reading i : ℕ) → outcome m latest start net reading ≡ Ok (Some i) → latest < i
+outcome_above m latest start [] reading i e = cc
+outcome_above m latest start (change ∷ net) reading i e = settled (conflicts m start (change ∷ net)) latest reading i e
+
+rises_ended : (log : Log) (net : Net) (end : Result (Option ℕ) Refusal) → ((i : ℕ) → end ≡ Ok (Some i) → last log < i) → IsLog log → IsLog (log_after log net end)
+rises_ended log net (Ok (Some i)) above r = Rises-push log 0 (record { instant = i; net = net }) r (above i refl)
+rises_ended log net (Ok None) above r = r
+rises_ended log net (Err e) above r = r
+
+adds_ended : (log : Log) (net : Net) (end : Result (Option ℕ) Refusal) → (added : Log) × (log_after log net end ≡ log ++ added)
+adds_ended log net (Ok (Some i)) = (record { instant = i; net = net } ∷ [], refl)
+adds_ended log net (Ok None) = ([], sym (append-nil log))
+adds_ended log net (Err e) = ([], sym (append-nil log))
+
+pub log_rises : (schema : Schema) → LogsRise schema
+log_rises schema [] = tt
+log_rises schema (Commit i reading ∷ h) =
+    elim (log_at_begin schema h i) as (λ o. IsLog (elim o [ None ↦ log schema h | Some before ↦ after (log schema h) (last before) (net_change_of schema (log schema h) (log_at_begin schema h i) (own schema h i)) reading ])) [
+      | None ↦ log_rises schema h
+      | Some before ↦ rises_ended (log schema h) _ _ (λ i e. outcome_above (changes (log schema h)) (last (log schema h)) _ _ reading i e) (log_rises schema h)
+    ]
+log_rises schema (Begin i ∷ h) = log_rises schema h
+log_rises schema (Insert i number rows ∷ h) = log_rises schema h
+log_rises schema (Update i keys sets ∷ h) = log_rises schema h
+log_rises schema (Delete i keys ∷ h) = log_rises schema h
+log_rises schema (Select i form keys ∷ h) = log_rises schema h
+log_rises schema (Rollback i ∷ h) = log_rises schema h
+log_rises schema (SplitKey key ∷ h) = log_rises schema h
+log_rises schema (SplitTime key instant ∷ h) = log_rises schema h
+log_rises schema (Migrate ∷ h) = log_rises schema h
+
+-- one step adds at most one transaction
+pub step_adds : (schema : Schema) (h : History) (step : Step) → (added : Log) × (log schema (step ∷ h) ≡ log schema h ++ added)
+step_adds schema h (Commit i reading) =
+    elim (log_at_begin schema h i) as (λ o. (added : Log) × (elim o [ None ↦ log schema h | Some before ↦ after (log schema h) (last before) (net_change_of schema (log schema h) (log_at_begin schema h i) (own schema h i)) reading ] ≡ log schema h ++ added)) [
+      | None ↦ ([], sym (append-nil (log schema h)))
+      | Some before ↦ adds_ended (log schema h) _ _
+    ]
+step_adds schema h (Begin i) = ([], sym (append-nil (log schema h)))
+step_adds schema h (Insert i number rows) = ([], sym (append-nil (log schema h)))
+step_adds schema h (Update i keys sets) = ([], sym (append-nil (log schema h)))
+step_adds schema h (Delete i keys) = ([], sym (append-nil (log schema h)))
+step_adds schema h (Select i form keys) = ([], sym (append-nil (log schema h)))
+step_adds schema h (Rollback i) = ([], sym (append-nil (log schema h)))
+step_adds schema h (SplitKey key) = ([], sym (append-nil (log schema h)))
+step_adds schema h (SplitTime key instant) = ([], sym (append-nil (log schema h)))
+step_adds schema h Migrate = ([], sym (append-nil (log schema h)))
+
+pub later_steps_add : (schema : Schema) → LaterStepsAdd schema
+later_steps_add schema h [] = ([], sym (append-nil (log schema h)))
+later_steps_add schema h (step ∷ later) =
+    let before = later_steps_add schema h later in
+    let now = step_adds schema (later ++ h) step in
+    (before.0 ++ now.0, now.1 ∙ ap (λ (l : Log). l ++ now.0) before.1 ∙ append_assoc (log schema h) before.0 now.0)
+
+pub past_stays : (schema : Schema) → PastStays schema
+past_stays schema h later t table keys below =
+    let more = later_steps_add schema h later in
+    let rises : IsLog (log schema h ++ more.0) = subst IsLog more.1 (log_rises schema (later ++ h)) in
+    ap (λ (l : Log). shown_rows (changes l) table (AsOf t) keys) more.1 ∙ as_of_stays (log schema h) more.0 t table keys rises below

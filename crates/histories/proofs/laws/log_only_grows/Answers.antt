@@ -1,8 +1,0 @@
-use Rattle.histories.proofs.Growth as growth
-use Rattle.histories.proofs.laws.log_only_grows.Goals as goal
-
-pub returns-clause-rises : goal.returns-clause-rises
-returns-clause-rises c = growth.log_rises
-
-pub returns-clause-adds : goal.returns-clause-adds
-returns-clause-adds c = growth.later_steps_add

@@ -1,0 +1,124 @@
+-- A load, from what its calls do.
+use Rattle.std.proofs.Common.{◌≡◌, ◌≢◌, ℕ, List, [], ◌∷◌, Option, Some, None, refl, sym, ap, ◌∙◌, subst, inl, inr}
+use Rattle.std.specs.Prelude.{◌⊎◌, Result, Ok, Err, IfOk}
+use Rattle.values.specs.Log.{Changes, Net, Row}
+use Rattle.values.specs.Tables.{Schema}
+use Rattle.values.specs.Writes.{Own}
+use Rattle.values.specs.declared.refusal.Refusal.{Refusal}
+use Rattle.values.specs.declared.refusal.Refusal.TheVariants.{Memory}
+use Rattle.tsbtree.specs.View.{TreeState}
+use Rattle.staging.specs.View.{Holds}
+use Rattle.staging.specs.Own.{net_over, own}
+use Rattle.histories.specs.declared.step.Step.{Step}
+use Rattle.histories.specs.declared.step.Step.TheVariants.{Insert}
+use Rattle.histories.specs.History.{write}
+use Rattle.histories.specs.Misfit.{misfit}
+use Rattle.journal.specs.declared.entry.Entry.{Entry}
+use Rattle.journal.specs.declared.entry.Entry.TheVariants.{Begin, Commit}
+use Rattle.sessions.specs.SessionState.{IsWrite, SessionState, WithWrites, with_writes, write_by}
+use Rattle.sessions.specs.Store.{IsBegun, begun_with}
+use Rattle.serving.specs.Taken.{Given}
+use Rattle.serving.proofs.AnswerRefusing.{memory_or_reply}
+use Rattle.listening.specs.Loading.{HasEnded, IsLoaded, IsLoadedBy, IsUnloaded, Inserts, unbegun}
+
+pub if_ok : {A E : Type 0} (r : Result A E) (P Q : A → Type 0) → ((x : A) → P x → Q x) → IfOk r P → IfOk r Q
+if_ok (Ok x) P Q f p = f x p
+if_ok (Err e) P Q f p = tt
+
+pub some_loaded : (schema : Schema) (table : ℕ) (rows : List Row) (gs : List Given) (instant : ℕ) → rows ≢ [] → IsLoadedBy schema table rows gs instant → IsLoaded schema table rows gs instant
+some_loaded schema table [] gs instant some by = absurd (some refl)
+some_loaded schema table (row ∷ rows) gs instant some by = by
+
+both : {A B : Type 0} {a c : A} {b d : B} → a ≡ c → b ≡ d → ◌≡◌ {A = A × B} (a, b) (c, d)
+both p q = λ i. (p i, q i)
+
+inner : {A : Type 0} {a b : A} → Some a ≡ Some b → a ≡ b
+inner e = cc e
+
+-- an INSERT that was taken wrote what the definitions say
+taken_by : (schema : Schema) (step : Step) (o o' : Own) (count : ℕ) (why : Option Refusal) → (Ok count, Some o') ≡ write_by schema step why (Some o) → write schema step o ≡ (Ok count, o')
+taken_by schema step o o' count (Some r) e = absurd (never (ap (λ p. p.0) e))
+  where
+    never : {r : Refusal} → ◌≢◌ {A = Result ℕ Refusal} (Ok count) (Err r)
+    never e = cc e
+taken_by schema step o o' count None e = sym (both (ap (λ p. p.0) e) (inner (ap (λ p. p.1) e)))
+
+-- the entry of the commit is of the begin, and tells the instant
+commit_entry : (e : Entry) (session begin begin' number reading instant : ℕ) (net net' : Net) (end : Result (Option ℕ) Refusal)
+    → e ≡ Commit 0 begin net 0 end → begin ≡ number → e ≡ Commit session begin' net' reading (Ok (Some instant)) → e ≡ Commit 0 number net 0 (Ok (Some instant))
+commit_entry e session begin begin' number reading instant net net' end is from at = cc
+
+-- ---- a session that has begun and then written
+
+module _ (schema : Schema) (table : ℕ) (rows : List Row) (number earlier : ℕ) (view : TreeState) where
+  abbrev at_with : Net → SessionState
+  at_with writes = record { number = 0; schema = schema; receipt = number; transaction = Some (with_writes writes (begun_with number earlier view)) }
+
+  inserts : (writes net : Net) (count : ℕ) → IsWrite (Insert 0 table rows) (at_with []) (at_with writes) (Ok count) → ((m : Changes) → Holds schema view m → net ≡ net_over m writes)
+      → (m : Changes) → Holds schema view m → Inserts schema table rows m net
+  inserts writes net count wrote net_is m held = record {
+    count = count;
+    writes = writes;
+    inserted = taken_by schema (Insert 0 table rows) (own m []) (own m writes) count (misfit schema (Insert 0 table rows)) (wrote m held (λ e. cc));
+    net_is = net_is m held;
+  }
+
+  loads_with : (writes : Net) (count : ℕ) (entry : Entry) (receipts : List Given) (instant : ℕ) → entry ≡ Begin 0 earlier view → IsWrite (Insert 0 table rows) (at_with []) (at_with writes) (Ok count)
+      → HasEnded (at_with writes) (record { number = number; entry = entry }) receipts instant → IsLoadedBy schema table rows receipts instant
+  loads_with writes count entry receipts instant begins wrote ended = record {
+    begin = number;
+    earlier = earlier;
+    view = view;
+    end = ended.number;
+    net = ended.commits.net;
+    receipts_are = ended.receipts_are ∙ (λ k. record { number = number; entry = begins k } ∷ record { number = ended.number; entry = commits k } ∷ []);
+    changes = inserts writes ended.commits.net count wrote (λ m held.
+        ended.commits.net_is m (subst (λ r. Holds schema r.view m) ran_is held) ∙ ap (λ r. net_over m r.writes) (sym ran_is));
+  }
+    where
+      ran_is : with_writes writes (begun_with number earlier view) ≡ ended.commits.ran
+      ran_is = inner ended.commits.was_open
+
+      commits : ended.entry ≡ Commit 0 number ended.commits.net 0 (Ok (Some instant))
+      commits = commit_entry ended.entry ended.at.0 ended.commits.ran.begun.number ended.at.1 number ended.at.3 instant ended.commits.net ended.at.2 ended.commits.end ended.commits.entry_is (sym (ap (λ r. r.begun.number) ran_is)) ended.at.4
+
+  -- the session after the INSERT is the session before it, with what was written
+  loads_after : (t : SessionState) (count : ℕ) (entry : Entry) (receipts : List Given) (instant : ℕ) → entry ≡ Begin 0 earlier view → IsWrite (Insert 0 table rows) (at_with []) t (Ok count) → WithWrites (at_with []) t
+      → HasEnded t (record { number = number; entry = entry }) receipts instant → IsLoadedBy schema table rows receipts instant
+  loads_after t count entry receipts instant begins wrote rest ended =
+      loads_with rest.0 count entry receipts instant begins (subst (λ s. IsWrite (Insert 0 table rows) (at_with []) s (Ok count)) rest.1 wrote)
+      (subst (λ s. HasEnded s (record { number = number; entry = entry }) receipts instant) rest.1 ended)
+
+pub loads_by : (schema : Schema) (table : ℕ) (rows : List Row) (s t : SessionState) (number count : ℕ) (entry : Entry) (receipts : List Given) (instant : ℕ)
+    → IsBegun (unbegun schema) s number entry → IsWrite (Insert s.number table rows) s t (Ok count) → WithWrites s t → HasEnded t (record { number = number; entry = entry }) receipts instant
+    → IsLoadedBy schema table rows receipts instant
+loads_by schema table rows s t number count entry receipts instant begun wrote rest ended =
+    loads_after schema table rows number begun.earlier begun.view t count entry receipts instant begun.entry_is
+    (subst (λ s. IsWrite (Insert s.number table rows) s t (Ok count)) begun.session_is wrote)
+    (subst (λ s. WithWrites s t) begun.session_is rest)
+    ended
+
+-- ---- why rows are not loaded
+
+without_third : {A B C : Type 0} → A ⊎ (B × C) → A ⊎ B
+without_third (inl a) = inl a
+without_third (inr p) = inr p.0
+
+-- an INSERT that is refused in a session that has begun
+pub insert_refused : (schema : Schema) (table : ℕ) (rows : List Row) (s t : SessionState) (number : ℕ) (entry : Entry) (refusal : Refusal)
+    → IsBegun (unbegun schema) s number entry → IsWrite (Insert s.number table rows) s t (Err refusal) → IsUnloaded schema table rows refusal
+insert_refused schema table rows s t number entry refusal begun wrote = by (without_third (memory_or_reply refusal))
+  where
+    before : SessionState
+    before = record { number = 0; schema = schema; receipt = number; transaction = Some (begun_with number begun.earlier begun.view) }
+
+    refusal_in : Result ℕ Refusal → Refusal
+    refusal_in (Err x) = x
+    refusal_in (Ok x) = refusal
+
+    writes : IsWrite (Insert 0 table rows) before t (Err refusal)
+    writes = subst (λ s. IsWrite (Insert s.number table rows) s t (Err refusal)) begun.session_is wrote
+
+    by : (refusal ≡ Memory) ⊎ (refusal ≢ Memory) → IsUnloaded schema table rows refusal
+    by (inl e) = inl (inr (inr e))
+    by (inr other) = inr (begun.shows.0, sym (ap (λ p. p.0) (writes begun.shows.0 begun.shows.1 (λ e. other (ap refusal_in e)))))

@@ -1,0 +1,10 @@
+//! Laws of good tables, which are told by counts and by names that differ.
+ghost use Rattle.rows.specs.GoodTableLaw.{GoodTablesAreMade, OnlySchemasAreRead, GoodTextsAreRead};
+
+/// Declarations make tables where they are good ones, and where not the first bad one is told. A schema is read from
+/// exactly the texts that say it.
+pub fn good_tables_are_made()
+    ensures tables { GoodTablesAreMade }
+    ensures texts { OnlySchemasAreRead }
+    ensures good_texts { GoodTextsAreRead }
+{}

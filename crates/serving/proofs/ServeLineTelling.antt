@@ -1,0 +1,139 @@
+-- A line that is served: what is sent for it, and what is told of it.
+use Rattle.std.proofs.Common.{◌≡◌, ◌≢◌, ℕ, List, [], ◌∷◌, ◌++◌, ◌+◌, true, Option, Some, None, length, inl, inr, refl, sym, ap, ◌∙◌, subst}
+use Rattle.std.specs.Prelude.{◌⊎◌, Result, Ok, Err, OnOk, OnErr}
+use Rattle.std.proofs.KnownBytes.{Appends-nil}
+use Rattle.values.specs.declared.refusal.Refusal.{Refusal}
+use Rattle.values.specs.declared.refusal.Refusal.TheVariants.{Memory}
+use Rattle.values.specs.Tables.{Schema}
+use Rattle.histories.specs.declared.step.Step.{Step}
+use Rattle.histories.specs.declared.step.Reply.TheVariants.{Refused}
+use Rattle.statement.specs.declared.line.Line.{Line}
+use Rattle.statement.specs.declared.line.Line.TheVariants.{Nothing, Clock, Step as Asks}
+use Rattle.statement.specs.Memory.{UnlessMemory}
+use Rattle.statement.specs.Print.{refusal_text, reply_text}
+use Rattle.statement.specs.Writer.{Puts}
+use Rattle.lines.specs.Partial.{Partial}
+use Rattle.sessions.specs.SessionState.{SessionState}
+use Rattle.serving.specs.declared.answer.Sent.{Sent}
+use Rattle.serving.specs.declared.answer.Sent.TheVariants.{Reply as Says, Ending, Refused as Denies}
+use Rattle.serving.specs.declared.served_session.Told.{Told}
+use Rattle.serving.specs.Taken.{Given, Progress}
+use Rattle.serving.specs.ServedSession.{Answers, IsAnswered, IsKept, IsRefusedLine, reading_takes, said}
+use Rattle.serving.specs.Serving.{AnswerState, IsAt, IsReplied, given_list, given_of, taken_by, taken_of, refused_of, reply_by, reply_of, sent_refusal, text_of}
+use Rattle.serving.specs.Account.{AccountState, IsBroken, Served, Writes}
+use Rattle.serving.specs.Line.{IsBrokenStep, IsRead, IsTaken, IsTold, Sends}
+use Rattle.serving.proofs.ServeJoining.{serves_one}
+use Rattle.serving.proofs.AnswerRefusing.{memory_or_reply, unless_is}
+
+-- what was read is what the line says
+pub said_of : {A : Type 0} (r : Result A Refusal) (l x : A) (answer : Result A Refusal) → r ≡ Ok l → l ≡ x → UnlessMemory r answer → answer ≡ Ok x
+said_of r l x answer e f u = subst (λ r. UnlessMemory r answer) e u ∙ ap Ok f
+
+counted_given : (g h : Option Given) → length (given_list g ++ given_list h) ≡ taken_by g + taken_by h
+counted_given None None = refl
+counted_given None (Some h) = refl
+counted_given (Some g) None = refl
+counted_given (Some g) (Some h) = refl
+
+-- room was made, and nothing else
+pub record SameLists (a b : AccountState) : Type 0 where
+  pub told_is : b.told ≡ a.told
+  pub given_is : b.given ≡ a.given
+
+module _ (line : Partial) (old : SessionState) (a m b : AccountState) (room : SameLists a m) where
+  abbrev schema : Schema
+  schema = old.schema
+
+  abbrev i : ℕ
+  i = old.number
+
+  one : (new : SessionState) (t : Told) (g : List Given) (o : List ℕ) → b.told ≡ m.told ++ t ∷ [] → b.given ≡ m.given ++ g → new.schema ≡ old.schema → new.number ≡ old.number
+      → ((p : Progress) → IsAt old p → (p' : Progress) × (IsAt new p' × IsAnswered schema i line t p g o p')) → Served (line ∷ []) o old new a b
+  one new t g o told given same number steps = record {
+    told = t ∷ [];
+    given = g;
+    told_is = told ∙ ap (λ k. k ++ t ∷ []) room.told_is;
+    given_is = given ∙ ap (λ k. k ++ g) room.given_is;
+    schema_is = same;
+    number_is = number;
+    steps = λ p at. let s = steps p at in (s.0, (s.1.0, serves_one schema i line t p s.0 g o s.1.1));
+  }
+
+  -- a line that is nothing
+  pub nothing_written : (w : Option (List ℕ)) → said schema i line ≡ Ok Nothing → b.told ≡ m.told ++ record { taken = 0; refused = None } ∷ [] → b.given ≡ m.given ++ [] → Writes (line ∷ []) old old a b w w
+  nothing_written w is told given = record {
+    out = [];
+    wrote = Appends-nil w;
+    served = one old (record { taken = 0; refused = None }) [] [] told given refl refl (λ p at. (
+      p,
+      (at, record { counted = refl; kept = subst (λ s. Answers schema i s p [] [] p) (sym is) (record { takes = refl; out_is = refl; left = refl }) }),
+    ));
+  }
+
+  pub clock_written : (w : Option (List ℕ)) (reading : ℕ) → said schema i line ≡ Ok (Clock reading) → b.told ≡ m.told ++ record { taken = 0; refused = None } ∷ [] → b.given ≡ m.given ++ [] → Writes (line ∷ []) old old a b w w
+  clock_written w reading is told given = record {
+    out = [];
+    wrote = Appends-nil w;
+    served = one old (record { taken = 0; refused = None }) [] [] told given refl refl (λ p at. (
+      p,
+      (at, record { counted = refl; kept = subst (λ s. Answers schema i s p [] [] p) (sym is) (record { takes = refl; out_is = refl; left = refl }) }),
+    ));
+  }
+
+  -- a step
+  kept_step : (step : Step) (all : List Given) (given : Option Given) (sent : Sent) (p p' : Progress) → said schema i line ≡ Ok (Asks step) → IsReplied schema i step p all (reply_by given sent) p'
+      → IsKept schema i (refused_of sent) line p all (text_of (reply_by given sent)) p'
+  kept_step step all given (Says reply) p p' is r = subst (λ s. Answers schema i s p all (reply_text reply) p') (sym is) (record { reply = reply; taken = r; out_is = refl })
+  kept_step step all given Ending p p' is r = subst (λ s. Answers schema i s p all (text_of (reply_by given Ending)) p') (sym is) (record { reply = _; taken = r; out_is = refl })
+  kept_step step all given (Denies refusal) p p' is r = record { refused = subst (λ s. IsRefusedLine schema i line s p all refusal p') (sym is) r; out_is = refl }
+
+  taken_served : (new : SessionState) (step : Step) (answer : AnswerState) → said schema i line ≡ Ok (Asks step) → IsTaken step answer old new m b → Served (line ∷ []) (text_of (reply_of answer)) old new a b
+  taken_served new step answer is t =
+      one new (record { taken = taken_of answer; refused = refused_of answer.sent }) (given_of answer) (text_of (reply_of answer)) t.told.told_is t.told.given_is t.stepped.schema_is t.stepped.number_is (λ p at.
+      let s = t.stepped.steps p at in (s.0, (s.1.0, record { counted = counted_given answer.given answer.install; kept = kept_step step (given_of answer) answer.given answer.sent p s.0 is s.1.1 })))
+
+  pub step_written : {E : Type 0} (r : Result (Unit {0}) E) (new : SessionState) (step : Step) (w v : Option (List ℕ)) → said schema i line ≡ Ok (Asks step) → OnOk r (Sends step old new m b w v) → OnOk r (Writes (line ∷ []) old new a b w v)
+  step_written (Ok x) new step w v is s = record { out = text_of (reply_of s.answer); wrote = s.wrote; served = taken_served new step s.answer is s.taken }
+  step_written (Err e) new step w v is s = tt
+
+  broken : (new : SessionState) (step : Step) (w v : Option (List ℕ)) → said schema i line ≡ Ok (Asks step) → IsBrokenStep step old new m b w v → IsBroken (line ∷ []) old new a b w v
+  broken new step w v is (inl s) = inl (record { out = text_of (reply_of s.answer); wrote = s.wrote; served = taken_served new step s.answer is s.taken })
+  broken new step w v is (inr s) = inr (record { session_is = s.session_is; told_is = s.told_is ∙ room.told_is; given_is = s.given_is ∙ room.given_is; wrote = s.wrote })
+
+  pub step_broken : {E : Type 0} (r : Result (Unit {0}) E) (new : SessionState) (step : Step) (w v : Option (List ℕ)) → said schema i line ≡ Ok (Asks step) → OnErr r (IsBrokenStep step old new m b w v) → OnErr r (IsBroken (line ∷ []) old new a b w v)
+  step_broken (Ok x) new step w v is s = tt
+  step_broken (Err e) new step w v is s = broken new step w v is s
+
+  -- a line that is refused
+  memory_line : (s : Result Line Refusal) (p : Progress) → reading_takes schema i line ≡ true → IsRefusedLine schema i line s p [] Memory p
+  memory_line (Ok Nothing) p takes = (takes, (refl, (refl, refl)))
+  memory_line (Ok (Clock reading)) p takes = (takes, (refl, (refl, refl)))
+  memory_line (Ok (Asks step)) p takes = record { may = refl; takes = refl; left = refl }
+  memory_line (Err refusal) p takes = (takes, (refl, (refl, refl)))
+
+  refusal_in : Refusal → Result Line Refusal → Refusal
+  refusal_in r (Err x) = x
+  refusal_in r (Ok x) = r
+
+  kept_refusal : (refusal : Refusal) (p : Progress) → IsRead schema i line (Err refusal) → IsKept schema i (refused_of (sent_refusal refusal)) line p [] (text_of (reply_by None (sent_refusal refusal))) p
+  kept_refusal refusal p read = by (memory_or_reply refusal)
+    where
+      by : (refusal ≡ Memory) ⊎ ((refusal ≢ Memory) × (sent_refusal refusal ≡ Says (Refused refusal))) → IsKept schema i (refused_of (sent_refusal refusal)) line p [] (text_of (reply_by None (sent_refusal refusal))) p
+      by (inl e) = subst (λ r. IsKept schema i (refused_of (sent_refusal r)) line p [] (text_of (reply_by None (sent_refusal r))) p) (sym e)
+          (record { refused = memory_line (said schema i line) p (read.memory (ap (λ (x : Refusal). Err x) e)); out_is = refl })
+      by (inr f) = subst (λ s. IsKept schema i (refused_of s) line p [] (text_of (reply_by None s)) p) (sym f.1)
+          (subst (λ s. Answers schema i s p [] (refusal_text refusal) p) (sym (unless_is refusal (said schema i line) f.0 read.unless)) (record { takes = refl; out_is = refl; left = refl }))
+
+  refusal_served : (refusal : Refusal) (answer : AnswerState) → answer ≡ record { given = None; install = None; sent = sent_refusal refusal } → IsRead schema i line (Err refusal) → IsTold answer m b → Served (line ∷ []) (text_of (reply_of answer)) old old a b
+  refusal_served refusal answer is read told = subst (λ (x : AnswerState). IsTold x m b → Served (line ∷ []) (text_of (reply_of x)) old old a b) (sym is) (λ t.
+      one old (record { taken = 0; refused = refused_of (sent_refusal refusal) }) [] (text_of (reply_by None (sent_refusal refusal))) t.told_is t.given_is refl refl (λ p at. (p, (at, record { counted = refl; kept = kept_refusal refusal p read })))) told
+
+  pub refusal_written : {E : Type 0} (r : Result (Unit {0}) E) (refusal : Refusal) (answer : AnswerState) (w v : Option (List ℕ)) → answer ≡ record { given = None; install = None; sent = sent_refusal refusal } → IsRead schema i line (Err refusal) → IsTold answer m b
+      → Puts w v r (text_of (reply_of answer)) → OnOk r (Writes (line ∷ []) old old a b w v)
+  refusal_written (Ok x) refusal answer w v is read told puts = record { out = text_of (reply_of answer); wrote = puts; served = refusal_served refusal answer is read told }
+  refusal_written (Err e) refusal answer w v is read told puts = tt
+
+  pub refusal_broken : {E : Type 0} (r : Result (Unit {0}) E) (refusal : Refusal) (answer : AnswerState) (w v : Option (List ℕ)) → answer ≡ record { given = None; install = None; sent = sent_refusal refusal } → IsRead schema i line (Err refusal) → IsTold answer m b
+      → Puts w v r (text_of (reply_of answer)) → OnErr r (IsBroken (line ∷ []) old old a b w v)
+  refusal_broken (Ok x) refusal answer w v is read told puts = tt
+  refusal_broken (Err e) refusal answer w v is read told puts = inl (record { out = text_of (reply_of answer); wrote = puts; served = refusal_served refusal answer is read told })

@@ -1,0 +1,68 @@
+-- What a session reads at a key beside a history, and what a rollback leaves.
+use Rattle.std.proofs.Common.{◌≡◌, ◌≤◌, ℕ, false, List, ◌∷◌, Option, Some, None, Result, Ok, Err, IsOk, MatchOption, refl, sym, ap, ◌∙◌, arith}
+use Rattle.std.specs.Prelude.{if◌then◌else◌, nat_lt}
+use Rattle.std.specs.Option.{option_map}
+use Rattle.std.proofs.lemmas.Bool.Decides.{nat_tests}
+use Rattle.values.specs.declared.key.Key.{Key}
+use Rattle.values.specs.declared.refusal.Refusal.{Refusal}
+use Rattle.values.specs.declared.refusal.Refusal.TheVariants.{NoSession, NoTransaction}
+use Rattle.values.specs.Tables.{Schema}
+use Rattle.values.specs.Log.{Log, Changes, Row, row_at}
+use Rattle.values.specs.Writes.{Own}
+use Rattle.staging.specs.Own.{own as own_over, rows_seen}
+use Rattle.histories.specs.declared.step.Step.{Step}
+use Rattle.histories.specs.declared.step.Step.TheVariants.{Rollback}
+use Rattle.histories.specs.declared.step.Reply.TheVariants.{Refused, RolledBack}
+use Rattle.histories.specs.Misfit.{key_misfit, max_session, no_session}
+use Rattle.histories.specs.History.{History, log, log_at_begin, own, own_of, mine_of}
+use Rattle.histories.proofs.StandsEnds.{itself}
+use Rattle.sessions.specs.SessionState.{RunningState}
+use Rattle.sessions.specs.OfHistory.{own_at, rolled_reply, GetsAnswerAlike, RollbacksAnswerAlike}
+
+-- ---- a read at a key
+
+abbrev row_of : Key → Option Own → Result (Option Row) Refusal
+row_of key None = Err NoTransaction
+row_of key (Some o) = Ok (row_at o.rows key)
+
+of_session : (m : Changes) (key : Key) (o : Option RunningState)
+    → ◌≡◌ {A = Result (Option Row) Refusal} (elim o [ None ↦ Err NoTransaction | Some t ↦ Ok (row_at (rows_seen m t.writes) key) ]) (row_of key (option_map (λ t. own_over m t.writes) o))
+of_session m key None = refl
+of_session m key (Some t) = refl
+
+of_history : (schema : Schema) (now : Log) (writes : List Step) (key : Key) (lab o : Option Log) → lab ≡ o
+    → ◌≡◌ {A = Result (Option Row) Refusal} (row_of key (option_map (λ before. own_of schema now (Some before) writes) o)) (elim o [ None ↦ Err NoTransaction | Some before ↦ Ok (row_at (mine_of schema now lab writes) key) ])
+of_history schema now writes key lab None e = refl
+of_history schema now writes key lab (Some before) e = λ k. Ok (row_at (mine_of schema now (sym e k) writes) key)
+
+pub gets_answer_alike : GetsAnswerAlike
+gets_answer_alike m s h key is =
+    ap (λ (r : Result (Option Row) Refusal). elim (key_misfit s.schema key) [ Some refusal ↦ Err refusal | None ↦ r ])
+    (of_session m key s.transaction ∙ ap (row_of key) is.own_is ∙ of_history s.schema (log s.schema h) (own s.schema h s.number) key (log_at_begin s.schema h s.number) (log_at_begin s.schema h s.number) refl)
+
+-- ---- a rollback
+
+pub in_range_fits : (i : ℕ) → i ≤ max_session → no_session i ≡ None
+in_range_fits i small = ap (λ b. if b then Some NoSession else None) (let low : nat_lt max_session i ≡ false = grind (arith, nat_tests) in low)
+
+done_reply : (r : Result (Unit {0}) Refusal) → IsOk r → rolled_reply r ≡ RolledBack
+done_reply (Ok done) h = refl
+done_reply (Err refusal) h = absurd (cc)
+
+rolled_by : (f : RunningState → Own) (g : Log → Own) (o : Option RunningState) (lab : Option Log) (r : Result (Unit {0}) Refusal) → option_map f o ≡ option_map g lab
+    → MatchOption o (r ≡ Err NoTransaction) (λ _. IsOk r) → rolled_reply r ≡ elim lab [ Some before ↦ RolledBack | None ↦ Refused NoTransaction ]
+rolled_by f g None None r same did = ap rolled_reply did
+rolled_by f g None (Some before) r same did = absurd (cc)
+rolled_by f g (Some t) None r same did = absurd (cc)
+rolled_by f g (Some t) (Some before) r same did = done_reply r did
+
+pub ended_none : (schema : Schema) (h : History) (i : ℕ) → ◌≡◌ {A = Option Own} None (own_at schema (Rollback i ∷ h) i)
+ended_none schema h i =
+    λ k. option_map (λ before. own_of schema (log schema h) (Some before) (own schema (Rollback i ∷ h) i)) (if sym (itself i) k then None else log_at_begin schema h i)
+
+pub rollbacks_answer_alike : RollbacksAnswerAlike
+rollbacks_answer_alike m s h result is small did = (
+  rolled_by _ _ s.transaction (log_at_begin s.schema h s.number) result is.own_is did
+      ∙ ap (λ (u : Option Refusal). elim u [ Some refusal ↦ Refused refusal | None ↦ elim (log_at_begin s.schema h s.number) [ Some before ↦ RolledBack | None ↦ Refused NoTransaction ] ]) (sym (in_range_fits s.number small)),
+  record { snapshot = refl; own_is = ended_none s.schema h s.number },
+)

@@ -1,0 +1,83 @@
+-- What a session reads at a key is what a plain query shows that takes this key alone.
+use Rattle.std.proofs.Common.{◌≡◌, Bool, true, false, cond, T, [], ◌∷◌, map, filter, Option, Some, None, Result, Ok, Err, refl, sym, ap, ◌∙◌, subst}
+use Rattle.std.specs.BTreeMap.{is_at}
+use Rattle.std.specs.Map.{lookup}
+use Rattle.std.specs.FinMap.{is_sorted}
+use Rattle.std.specs.FinMap.Entries.{is_sorted-where_key}
+use Rattle.values.specs.declared.key.Key.{Key}
+use Rattle.values.specs.declared.query.Form.TheVariants.{Plain}
+use Rattle.values.specs.declared.refusal.Refusal.{Refusal}
+use Rattle.values.specs.declared.refusal.Refusal.TheVariants.{NoTable, NoTransaction}
+use Rattle.values.specs.Order.{key_cmp, is_key}
+use Rattle.values.specs.Log.{State, Row, row_at, rows_after}
+use Rattle.values.proofs.OrderTotal.{key_cmp_total, key_cmp-IsAntisymmetric}
+use Rattle.values.proofs.LogMaps.{same_map}
+use Rattle.staging.specs.Own.{rows_seen}
+use Rattle.staging.proofs.ViewBridge.{sorted_base}
+use Rattle.staging.proofs.StagedEntries.{lookup-filter, same_key, sorted_apply}
+use Rattle.transaction.specs.Listing.{listing_in}
+use Rattle.histories.specs.declared.step.Listing.TheVariants.{Rows}
+use Rattle.histories.specs.declared.step.Step.TheVariants.{Select}
+use Rattle.histories.specs.declared.step.Reply.TheVariants.{Shown}
+use Rattle.histories.specs.Misfit.{key_misfit}
+use Rattle.histories.specs.History.{reply}
+use Rattle.sessions.specs.SessionState.{RunningState}
+use Rattle.sessions.specs.OfHistory.{row_alone, shown_reply, GetsAsListed}
+use Rattle.sessions.proofs.OfHistoryShown.{queries_answer_alike}
+
+abbrev entry_alone : Key → Option Row → State
+entry_alone key None = []
+entry_alone key (Some row) = (key, row) ∷ []
+
+at_alone : (key q : Key) (o : Option Row) → lookup (is_at (key_cmp q)) (entry_alone key o) ≡ cond (is_key q key) o None
+at_alone key q None = none (is_key q key)
+  where
+    none : (b : Bool) → ◌≡◌ {A = Option Row} None (cond b None None)
+    none true = refl
+    none false = refl
+at_alone key q (Some row) = refl
+
+sorted_alone : (key : Key) (o : Option Row) → T (is_sorted key_cmp (entry_alone key o))
+sorted_alone key None = tt
+sorted_alone key (Some row) = tt
+
+-- of rows by key, those with this key
+entry_at : (s : State) (key : Key) → T (is_sorted key_cmp s) → filter (λ e. is_key key e.0) s ≡ entry_alone key (row_at s key)
+entry_at s key sorted =
+    same_map key_cmp_total key_cmp-IsAntisymmetric (filter (λ e. is_key key e.0) s) (entry_alone key (row_at s key)) (is_sorted-where_key key_cmp (is_key key) s sorted) (sorted_alone key (row_at s key))
+    (λ q. lookup-filter (is_key key) q s ∙ by q (is_key key q) refl)
+  where
+    by : (q : Key) (b : Bool) → is_key key q ≡ b → cond (is_key key q) (row_at s q) None ≡ lookup (is_at (key_cmp q)) (entry_alone key (row_at s key))
+    by q true e =
+        subst (λ x. cond (is_key key x) (row_at s x) None ≡ lookup (is_at (key_cmp x)) (entry_alone key (row_at s key))) (same_key key q e)
+        (sym (at_alone key key (row_at s key)))
+    by q false e = (λ k. cond (e k) (row_at s q) None) ∙ sym (at_alone key q (row_at s key) ∙ (λ k. cond (other (is_key q key) refl k) (row_at s key) None))
+      where
+        other : (b : Bool) → is_key q key ≡ b → is_key q key ≡ false
+        other false f = f
+        other true f = let same : q ≡ key = same_key q key f in let turned : is_key q key ≡ is_key key q = (λ k. is_key (same k) (sym same k)) in cc (sym e, turned)
+
+rows_are : (key : Key) (o : Option Row) → map (λ e. e.1) (entry_alone key o) ≡ row_alone o
+rows_are key None = refl
+rows_are key (Some row) = refl
+
+pub gets_as_listed : GetsAsListed
+gets_as_listed m s h key keys table row is got fits there alone = by (key_misfit s.schema key) s.transaction refl got
+  where
+    listed : (t : RunningState) → s.transaction ≡ Some t → row_at (rows_seen m t.writes) key ≡ row → reply s.schema h (Select s.number Plain keys) ≡ Shown (Rows (row_alone row))
+    listed t ran at =
+        sym (queries_answer_alike m s h Plain keys is (λ none. cc (sym ran ∙ none)))
+        ∙ (λ k. shown_reply (elim (fits k) [
+          | Some refusal ↦ Err refusal
+          | None ↦ elim (ran k) [ None ↦ Err NoTransaction | Some t ↦ elim (there k) [ None ↦ Err NoTable | Some table ↦ Ok (listing_in m t.writes table Plain keys) ] ]
+        ]))
+        ∙ (λ k. Shown (Rows (map (λ e. e.1) (filter (λ e. alone e.0 k) (rows_seen m t.writes)))))
+        ∙ ap (λ (es : State). Shown (Rows (map (λ e. e.1) es))) (entry_at (rows_seen m t.writes) key (sorted_apply t.writes (rows_after [] m) (sorted_base m)) ∙ ap (entry_alone key) at)
+        ∙ ap (λ rows. Shown (Rows rows)) (rows_are key row)
+
+    by : (u : Option Refusal) (o : Option RunningState) → s.transaction ≡ o
+        → ◌≡◌ {A = Result (Option Row) Refusal} (elim u [ Some refusal ↦ Err refusal | None ↦ elim o [ None ↦ Err NoTransaction | Some t ↦ Ok (row_at (rows_seen m t.writes) key) ] ]) (Ok row)
+        → reply s.schema h (Select s.number Plain keys) ≡ Shown (Rows (row_alone row))
+    by (Some refusal) o ran got = absurd (cc)
+    by None None ran got = absurd (cc)
+    by None (Some t) ran got = listed t ran (let at : row_at (rows_seen m t.writes) key ≡ row = cc in at)

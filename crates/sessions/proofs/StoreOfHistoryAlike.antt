@@ -1,0 +1,415 @@
+-- What a store's calls answer and leave beside a history.
+use Rattle.std.proofs.Common.{◌≡◌, ◌≢◌, ◌≤◌, ℕ, true, false, [], ◌∷◌, ◌++◌, length, Option, Some, None, refl, sym, ap, ◌∙◌, subst, arith}
+use Rattle.std.specs.Prelude.{if◌then◌else◌, ◌==◌, is_none, is_some, not, ◌&&◌, Bool}
+use Rattle.std.specs.Option.{option_map}
+use Rattle.std.proofs.lemmas.Bool.Decides.{nat_tests}
+use Rattle.values.specs.declared.refusal.Refusal.TheVariants.{InTransaction, NoTransaction}
+use Rattle.values.specs.Tables.{Schema}
+use Rattle.values.specs.Log.{Log, Net, replay, rows_after, last, state, upto, changes}
+use Rattle.values.specs.Commits.{outcome, after}
+use Rattle.values.specs.Law.{IsLog}
+use Rattle.values.specs.Writes.{Own, net_of}
+use Rattle.values.proofs.LawAsOf.{Rises-upto, upto-append}
+use Rattle.values.proofs.VersionsNow.{upto_all}
+use Rattle.tsbtree.specs.View.{TreeState, last as view_last}
+use Rattle.staging.specs.View.{Holds}
+use Rattle.staging.specs.Own.{own as own_over, net_over}
+use Rattle.validation.specs.declared.cut.Cut.{Cut}
+use Rattle.histories.specs.declared.step.Step.{Step}
+use Rattle.histories.specs.declared.step.Step.TheVariants.{Begin as BeginStep, Commit as CommitStep, Insert, Update, Delete, Select, Rollback, SplitKey, SplitTime, Migrate}
+use Rattle.histories.specs.declared.step.Reply.{Reply}
+use Rattle.histories.specs.declared.step.Reply.TheVariants.{Begun, Done, Refused}
+use Rattle.histories.specs.Misfit.{max_session, misfit}
+use Rattle.histories.specs.History.{History, begins, commit_reply, is_refused, log, log_at_begin, own, own_of, net, net_change_of, reply, reply_in, rewrite_all, snap, snap_of, write_reply, writer}
+use Rattle.histories.proofs.StandsEnds.{itself}
+use Rattle.histories.proofs.HistoryGrowth.{log_rises, step_adds}
+use Rattle.histories.proofs.HistoryNow.{rows_now}
+use Rattle.histories.proofs.StandsOpen.{no_writes}
+use Rattle.histories.proofs.HistoryPrefixes.{opened_below}
+use Rattle.journal.specs.declared.entry.Entry.{Entry}
+use Rattle.journal.specs.declared.entry.Entry.TheVariants.{Begin, Commit, Split, Install}
+use Rattle.journal.specs.Entries.{Entries, entry_at, start_of, log as journal_log}
+use Rattle.journal.specs.Legal.{IsLegal, MayFollow, MayBegin, MayCommit}
+use Rattle.journal.proofs.JournalNumbering.{IsWithin, entry_within}
+use Rattle.book.specs.Book.{BookState}
+use Rattle.sessions.specs.SessionState.{RunningState, SessionState, WithWrites, own_in, with_transaction, with_writes, write_in}
+use Rattle.sessions.specs.Store.{begun_with}
+use Rattle.sessions.specs.OfHistory.{IsIn, own_at, seen_at}
+use Rattle.sessions.specs.StoreOfHistory.{BeganIn, IsBeside, Grows, IsOfAnother, IsSplitStep, entry_reply, BeginsAnswerAlike, CommitsAnswerAlike, SplitsAnswerAlike, InstallsAnswerAlike, RefusedAlike, OthersLeaveAlike, OwnStepsStayBeside}
+use Rattle.sessions.proofs.SessionWriting.{state as session}
+use Rattle.sessions.proofs.OfHistoryEnded.{ended_none, in_range_fits}
+use Rattle.sessions.proofs.OfHistoryAlike.{writes_leave_alike}
+
+-- ---- what is seen
+
+-- the rows that the changes up to an instant leave
+rows_at : (l : Log) (t : ℕ) → IsLog l → rows_after [] (changes (upto l t)) ≡ state l t
+rows_at l t is =
+    let rises : IsLog (upto l t) = Rises-upto l 0 t is in
+    rows_now (upto l t) rises ∙ ap (replay []) (upto_all (upto l t) 0 (last (upto l t)) rises (omega arith))
+
+none_open : (f : RunningState → Own) (g : Log → Own) (o : Option RunningState) (lab : Option Log) → option_map f o ≡ option_map g lab → o ≡ None → lab ≡ None
+none_open f g None None same e = refl
+none_open f g None (Some before) same e = absurd (cc)
+none_open f g (Some t) lab same e = absurd (cc)
+
+record IsOpened {A : Type 0} (o : Option A) : Type 0 where
+  value : A
+  is : o ≡ Some value
+
+opened : (f : RunningState → Own) (g : Log → Own) (o : Option RunningState) (lab : Option Log) → option_map f o ≡ option_map g lab → o ≢ None → IsOpened lab
+opened f g None lab same e = absurd (e refl)
+opened f g (Some t) None same e = absurd (cc)
+opened f g (Some t) (Some before) same e = record { value = before; is = refl }
+
+some_is : {A : Type 0} (o : Option A) (x : A) → o ≡ Some x → o ≢ None
+some_is o x e none = cc (sym e ∙ none)
+
+same_some : {A : Type 0} (x y : A) → ◌≡◌ {A = Option A} (Some x) (Some y) → x ≡ y
+same_some x y e = cc
+
+-- ---- an entry more
+
+stays : (e : Entry) (j : Entries) (n : ℕ) (x : Entry) → entry_at j n ≡ Some x → entry_at (e ∷ j) n ≡ Some x
+stays e j n x at =
+    let within : IsWithin j n = entry_within j n x at in
+    let low : n ≤ length j = within.upto in
+    let other : (n == length (e ∷ j)) ≡ false = grind (arith, nat_tests) in
+    ap (λ b. if b then Some e else entry_at j n) other ∙ at
+
+all_stay : (more j : Entries) (n : ℕ) (x : Entry) → entry_at j n ≡ Some x → entry_at (more ++ j) n ≡ Some x
+all_stay [] j n x at = at
+all_stay (e ∷ more) j n x at = stays e (more ++ j) n x (all_stay more j n x at)
+
+put_here : (e : Entry) (j : Entries) (n : ℕ) → n ≡ length (e ∷ j) → entry_at (e ∷ j) n ≡ Some e
+put_here e j n at = ap (λ b. if b then Some e else entry_at j n) (ap (λ m. n == m) (sym at) ∙ itself n)
+
+may_follow : (s : SessionState) (e : Entry) (n : ℕ) (b c : BookState) → Grows s e n b c → MayFollow b.entries e
+may_follow s e n b c grows = let legal : IsLegal (e ∷ b.entries) = subst IsLegal grows.adds.entries_are grows.is.legal in legal.0
+
+began_stays : (more j : Entries) (schema : Schema) (h : History) (step : Step) (i : ℕ) (o : Option RunningState) → snap schema (step ∷ h) i ≡ snap schema h i → seen_at schema (step ∷ h) i ≡ seen_at schema h i
+    → BeganIn j schema h i o → BeganIn (more ++ j) schema (step ∷ h) i o
+began_stays more j schema h step i None same seen began = tt
+began_stays more j schema h step i (Some t) same seen began = (
+  all_stay more j t.begun.number _ began.0,
+  began.1 ∙ sym same,
+  subst (Holds schema t.view) (sym seen) began.2,
+)
+
+-- ---- BEGIN
+
+fit_reply : (schema : Schema) (h : History) (step : Step) (r : Reply) → misfit schema step ≡ None → r ≡ reply_in schema h step → r ≡ reply schema h step
+fit_reply schema h step r fits is = is ∙ (λ k. elim (sym fits k) [ Some refusal ↦ Refused refusal | None ↦ reply_in schema h step ])
+
+begins_itself : (i : ℕ) → i ≤ max_session → begins i (BeginStep i) ≡ true
+begins_itself i small = grind (arith, nat_tests)
+
+module _ (schema : Schema) (h : History) (i : ℕ) (small : i ≤ max_session) (none : log_at_begin schema h i ≡ None) where
+  abbrev now : History
+  now = BeginStep i ∷ h
+
+  opens : log_at_begin schema now i ≡ Some (log schema h)
+  opens = (λ k. if begins_itself i small k && is_none (none k) then Some (log schema h) else none k)
+
+  unwritten : own schema now i ≡ []
+  unwritten = no_writes schema h i none
+
+  snapshot_is : snap schema now i ≡ last (log schema h)
+  snapshot_is = ap (snap_of (log schema h)) opens
+
+  sees_all : seen_at schema now i ≡ changes (log schema h)
+  sees_all = ap (λ t. changes (upto (log schema h) t)) snapshot_is ∙ ap changes (upto_all (log schema h) 0 (last (log schema h)) (log_rises schema h) (omega arith))
+
+  sees_own : ◌≡◌ {A = Option Own} (Some (own_over (seen_at schema now i) [])) (own_at schema now i)
+  sees_own =
+      ap (λ rows. Some (record { rows = rows; written = [] }))
+      (ap (λ t. rows_after [] (changes (upto (log schema h) t))) snapshot_is ∙ rows_at (log schema h) (last (log schema h)) (log_rises schema h))
+      ∙ sym (λ k. option_map (λ before. own_of schema (log schema h) (Some before) (unwritten k)) (opens k))
+
+  begun_beside : (number earlier : ℕ) (view : TreeState) (j : Entries) (receipt : ℕ) → journal_log j ≡ log schema h → Holds schema view (changes (log schema h)) → view_last view ≡ last (log schema h) → number ≡ length (Begin i earlier view ∷ j)
+      → IsBeside (Begin i earlier view ∷ j) (session i schema receipt (Some (begun_with number earlier view))) now
+  begun_beside number earlier view j receipt same holds stands at = record {
+    in_range = small;
+    log_is = same;
+    is_in = record { snapshot = refl; own_is = sees_own };
+    began = (put_here (Begin i earlier view) j number at, stands ∙ sym snapshot_is, subst (Holds schema view) (sym sees_all) holds);
+  }
+
+pub begins_answer_alike : BeginsAnswerAlike
+begins_answer_alike old new b c h number e is none grows begun = (
+  ap entry_reply begun.entry_is ∙ ap Begun ends ∙ fit_reply old.schema h (BeginStep old.number) (Begun (last (log old.schema h))) (in_range_fits old.number is.in_range) (λ k. elim (sym closed k) [ Some before ↦ Refused InTransaction | None ↦ Begun (last (log old.schema h)) ]),
+  subst (λ j. IsBeside j new (BeginStep old.number ∷ h)) (sym (grows.adds.entries_are ∙ ap (λ e. e ∷ b.entries) begun.entry_is))
+      (subst (λ s. IsBeside (Begin old.number begun.earlier begun.view ∷ b.entries) s (BeginStep old.number ∷ h)) (sym begun.session_is)
+      (begun_beside old.schema h old.number is.in_range closed number begun.earlier begun.view b.entries number is.log_is holds ends (grows.adds.numbered ∙ ap length grows.adds.entries_are))),
+)
+  where
+    closed : log_at_begin old.schema h old.number ≡ None
+    closed = none_open _ _ old.transaction (log_at_begin old.schema h old.number) is.is_in.own_is none
+
+    may : MayBegin b.entries old.number begun.earlier begun.view
+    may = subst (MayFollow b.entries) begun.entry_is (may_follow old e number b c grows)
+
+    ends : view_last begun.view ≡ last (log old.schema h)
+    ends = may.sees.last_is ∙ ap last is.log_is
+
+    holds : Holds old.schema begun.view (changes (log old.schema h))
+    holds = subst (λ l. Holds old.schema begun.view (changes l)) is.log_is (record { events_are = may.sees.events_are; keys = grows.was.holds.keys; in_order = grows.was.holds.in_order })
+
+-- ---- COMMIT
+
+module _ (schema : Schema) (h : History) (i : ℕ) where
+  -- the net change is the history's
+  net_alike : (writes : Net) (before : Log) → log_at_begin schema h i ≡ Some before → ◌≡◌ {A = Option Own} (Some (own_over (seen_at schema h i) writes)) (own_at schema h i) → net_over (seen_at schema h i) writes ≡ net schema h i
+  net_alike writes before is same =
+      (λ k. net_of (rows_at (log schema h) (snap schema h i) (log_rises schema h) k) (alike k).rows (alike k).written)
+    where
+      alike : own_over (seen_at schema h i) writes ≡ own_of schema (log schema h) (log_at_begin schema h i) (own schema h i)
+      alike =
+          same_some _ _ (same ∙ (λ k. option_map (λ before. own_of schema (log schema h) (Some before) (own schema h i)) (is k)))
+          ∙ (λ k. own_of schema (log schema h) (sym is k) (own schema h i))
+
+  module _ (reading : ℕ) where
+    abbrev ended : History
+    ended = CommitStep i reading ∷ h
+
+    closes : log_at_begin schema ended i ≡ None
+    closes = (λ k. if itself i k then None else log_at_begin schema h i)
+
+    has_none : ◌≡◌ {A = Option Own} None (own_at schema ended i)
+    has_none = λ k. option_map (λ before. own_of schema (log schema ended) (Some before) (own schema ended i)) (sym closes k)
+
+    log_then : (before : Log) → log_at_begin schema h i ≡ Some before → log schema ended ≡ after (log schema h) (last before) (net schema h i) reading
+    log_then before is = λ k. elim (is k) [ None ↦ log schema h | Some before ↦ after (log schema h) (last before) (net_change_of schema (log schema h) (log_at_begin schema h i) (own schema h i)) reading ]
+
+    reply_then : (before : Log) → log_at_begin schema h i ≡ Some before → commit_reply (outcome (changes (log schema h)) (last (log schema h)) (snap schema h i) (net schema h i) reading) ≡ reply_in schema h (CommitStep i reading)
+    reply_then before is = λ k. elim (sym is k) [ Some before ↦ commit_reply (outcome (changes (log schema h)) (last (log schema h)) (snap schema h i) (net schema h i) reading) | None ↦ Refused NoTransaction ]
+
+pub commits_answer_alike : CommitsAnswerAlike
+commits_answer_alike old new b c h reading number e is grows did = (
+  ap entry_reply did.entry_is ∙ ap commit_reply end_is
+      ∙ fit_reply old.schema h (CommitStep old.number reading) _ (in_range_fits old.number is.in_range) (reply_then old.schema h old.number reading lab.value lab.is),
+  subst (λ j. IsBeside j new (CommitStep old.number reading ∷ h)) (sym (grows.adds.entries_are ∙ ap (λ e. e ∷ b.entries) did.entry_is))
+      (subst (λ s. IsBeside (entry ∷ b.entries) s (CommitStep old.number reading ∷ h)) (sym did.session_is) (record {
+        in_range = is.in_range;
+        log_is = log_is;
+        is_in = record { snapshot = refl; own_is = has_none old.schema h old.number reading };
+        began = tt;
+      })),
+)
+  where
+    entry : Entry
+    entry = Commit old.number did.ran.begun.number did.net reading did.end
+
+    lab : IsOpened (log_at_begin old.schema h old.number)
+    lab = opened _ _ old.transaction (log_at_begin old.schema h old.number) is.is_in.own_is (some_is old.transaction did.ran did.was_open)
+
+    began : BeganIn b.entries old.schema h old.number (Some did.ran)
+    began = subst (BeganIn b.entries old.schema h old.number) did.was_open is.began
+
+    may : MayCommit b.entries old.number did.ran.begun.number did.net reading did.end
+    may = subst (MayFollow b.entries) did.entry_is (may_follow old e number b c grows)
+
+    start_is : view_last may.view ≡ snap old.schema h old.number
+    start_is = same_some _ _ (ap start_of (sym may.begun ∙ began.0)) ∙ began.1
+
+    snap_is : snap old.schema h old.number ≡ last lab.value
+    snap_is = ap (snap_of (log old.schema h)) lab.is
+
+    net_is : did.net ≡ net old.schema h old.number
+    net_is =
+        did.net_is (seen_at old.schema h old.number) began.2
+        ∙ net_alike old.schema h old.number did.ran.writes lab.value lab.is ((λ k. option_map (λ t. own_over (seen_at old.schema h old.number) t.writes) (sym did.was_open k)) ∙ is.is_in.own_is)
+
+    end_is : did.end ≡ outcome (changes (log old.schema h)) (last (log old.schema h)) (snap old.schema h old.number) (net old.schema h old.number) reading
+    end_is = may.ends ∙ (λ k. outcome (changes (is.log_is k)) (last (is.log_is k)) (start_is k) (net_is k) reading)
+
+    log_is : journal_log (entry ∷ b.entries) ≡ log old.schema (CommitStep old.number reading ∷ h)
+    log_is =
+        (λ k. elim (start_of (began.0 k)) [ None ↦ journal_log b.entries | Some start ↦ after (journal_log b.entries) start did.net reading ])
+        ∙ (λ k. after (is.log_is k) ((began.1 ∙ snap_is) k) (net_is k) reading)
+        ∙ sym (log_then old.schema h old.number reading lab.value lab.is)
+
+-- ---- a split
+
+split_beside : (s : SessionState) (j : Entries) (h : History) (step : Step) (cut : Cut) (done : Bool) → IsBeside j s h → IsSplitStep cut step → IsBeside (Split cut done ∷ j) s (step ∷ h)
+split_beside s j h (SplitKey key) cut done is at = record {
+  in_range = is.in_range;
+  log_is = is.log_is;
+  is_in = record { snapshot = refl; own_is = is.is_in.own_is };
+  began = began_stays (Split cut done ∷ []) j s.schema h (SplitKey key) s.number s.transaction refl refl is.began;
+}
+split_beside s j h (SplitTime key instant) cut done is at = record {
+  in_range = is.in_range;
+  log_is = is.log_is;
+  is_in = record { snapshot = refl; own_is = is.is_in.own_is };
+  began = began_stays (Split cut done ∷ []) j s.schema h (SplitTime key instant) s.number s.transaction refl refl is.began;
+}
+split_beside s j h (BeginStep i) cut done is at = absurd at
+split_beside s j h (Insert i number rows) cut done is at = absurd at
+split_beside s j h (Update i keys sets) cut done is at = absurd at
+split_beside s j h (Delete i keys) cut done is at = absurd at
+split_beside s j h (Select i form keys) cut done is at = absurd at
+split_beside s j h (CommitStep i reading) cut done is at = absurd at
+split_beside s j h (Rollback i) cut done is at = absurd at
+split_beside s j h Migrate cut done is at = absurd at
+
+split_reply : (schema : Schema) (h : History) (cut : Cut) (step : Step) → IsSplitStep cut step → Done ≡ reply_in schema h step
+split_reply schema h cut (SplitKey key) at = refl
+split_reply schema h cut (SplitTime key instant) at = refl
+split_reply schema h cut (BeginStep i) at = absurd at
+split_reply schema h cut (Insert i number rows) at = absurd at
+split_reply schema h cut (Update i keys sets) at = absurd at
+split_reply schema h cut (Delete i keys) at = absurd at
+split_reply schema h cut (Select i form keys) at = absurd at
+split_reply schema h cut (CommitStep i reading) at = absurd at
+split_reply schema h cut (Rollback i) at = absurd at
+split_reply schema h cut Migrate at = absurd at
+
+pub splits_answer_alike : SplitsAnswerAlike
+splits_answer_alike s j h cut step e is at fits did = (
+  ap entry_reply did.entry_is ∙ fit_reply s.schema h step Done fits (split_reply s.schema h cut step at),
+  subst (λ e. IsBeside (e ∷ j) s (step ∷ h)) (sym did.entry_is) (split_beside s j h step cut did.done is at),
+)
+
+-- ---- an install
+
+pub installs_answer_alike : InstallsAnswerAlike
+installs_answer_alike s j h packed e at did = (
+  ap entry_reply did.entry_is ∙ fit_reply s.schema h Migrate Done refl refl,
+  subst (λ e. IsBeside (e ∷ j) s (Migrate ∷ h)) (sym did.entry_is) (record {
+    in_range = at.in_range;
+    log_is = at.log_is;
+    is_in = record { snapshot = refl; own_is = at.is_in.own_is };
+    began = began_stays (Install packed.node.rect packed.bytes did.done ∷ []) j s.schema h Migrate s.number s.transaction refl refl at.began;
+  }),
+)
+
+-- ---- refusals
+
+pub refused_alike : RefusedAlike
+refused_alike s j h is = (
+  (λ ran. let lab : IsOpened (log_at_begin s.schema h s.number) = opened _ _ s.transaction (log_at_begin s.schema h s.number) is.is_in.own_is ran in
+      fit_reply s.schema h (BeginStep s.number) (Refused InTransaction) (in_range_fits s.number is.in_range) (λ k. elim (sym lab.is k) [ Some before ↦ Refused InTransaction | None ↦ Begun (last (log s.schema h)) ])),
+  λ reading none. let closed : log_at_begin s.schema h s.number ≡ None = none_open _ _ s.transaction (log_at_begin s.schema h s.number) is.is_in.own_is none in
+      fit_reply s.schema h (CommitStep s.number reading) (Refused NoTransaction) (in_range_fits s.number is.in_range)
+      (λ k. elim (sym closed k) [ Some before ↦ commit_reply (outcome (changes (log s.schema h)) (last (log s.schema h)) (snap s.schema h s.number) (net s.schema h s.number) reading) | None ↦ Refused NoTransaction ]),
+)
+
+-- ---- another session
+
+module _ (schema : Schema) (h : History) (step : Step) (i : ℕ) (other : IsOfAnother i step) where
+  same_begin : log_at_begin schema (step ∷ h) i ≡ log_at_begin schema h i
+  same_begin = λ k. if other.no_end k then None else if other.no_begin k && is_none (log_at_begin schema h i) then Some (log schema h) else log_at_begin schema h i
+
+  same_writes : own schema (step ∷ h) i ≡ own schema h i
+  same_writes = λ k. if other.no_end k then [] else if other.no_write k && is_some (log_at_begin schema h i) && not (is_refused (write_reply schema step (own_of schema (log schema h) (log_at_begin schema h i) (own schema h i)))) then own schema h i ++ step ∷ [] else own schema h i
+
+  -- what was committed until the snapshot stays
+  upto_stays : (before : Log) → log_at_begin schema h i ≡ Some before → upto (log schema (step ∷ h)) (last before) ≡ upto (log schema h) (last before)
+  upto_stays before is =
+      let added = step_adds schema h step in
+      ap (λ l. upto l (last before)) added.1
+      ∙ upto-append (log schema h) added.0 0 (last before) (opened_below schema h i before is) (subst IsLog added.1 (log_rises schema (step ∷ h)))
+
+  open_stays : (before : Log) → log_at_begin schema h i ≡ Some before → own_at schema h i ≡ own_at schema (step ∷ h) i
+  open_stays before is =
+      (λ k. option_map (λ before. own_of schema (log schema h) (Some before) (own schema h i)) (is k))
+      ∙ (λ k. Some (rewrite_all schema (sym same_writes k) (record { rows = replay [] (sym (upto_stays before is) k); written = [] })))
+      ∙ (λ k. option_map (λ before. own_of schema (log schema (step ∷ h)) (Some before) (own schema (step ∷ h) i)) (sym (same_begin ∙ is) k))
+
+  snap_stays : (before : Log) → log_at_begin schema h i ≡ Some before → snap schema (step ∷ h) i ≡ snap schema h i
+  snap_stays before is = (λ k. snap_of (log schema (step ∷ h)) ((same_begin ∙ is) k)) ∙ (λ k. snap_of (log schema h) (sym is k))
+
+  seen_stays : (before : Log) → log_at_begin schema h i ≡ Some before → seen_at schema (step ∷ h) i ≡ seen_at schema h i
+  seen_stays before is =
+      (λ k. changes (upto (log schema (step ∷ h)) (snap_of (log schema (step ∷ h)) ((same_begin ∙ is) k))))
+      ∙ ap changes (upto_stays before is)
+      ∙ (λ k. changes (upto (log schema h) (snap_of (log schema h) (sym is k))))
+
+pub others_leave_alike : OthersLeaveAlike
+others_leave_alike s j more h step is other grows = by s.transaction refl
+  where
+    by : (o : Option RunningState) → s.transaction ≡ o → IsBeside (more ++ j) s (step ∷ h)
+    by None none =
+        let closed : log_at_begin s.schema h s.number ≡ None = none_open _ _ s.transaction (log_at_begin s.schema h s.number) is.is_in.own_is none in
+        record {
+          in_range = is.in_range;
+          log_is = grows;
+          is_in = record {
+            snapshot = refl;
+            own_is =
+                (λ k. option_map (λ t. own_over (seen_at s.schema (step ∷ h) s.number) t.writes) (none k))
+                ∙ (λ k. option_map (λ before. own_of s.schema (log s.schema (step ∷ h)) (Some before) (own s.schema (step ∷ h) s.number)) (sym (same_begin s.schema h step s.number other ∙ closed) k));
+          };
+          began = subst (BeganIn (more ++ j) s.schema (step ∷ h) s.number) (sym none) tt;
+        }
+    by (Some t) ran =
+        let lab : IsOpened (log_at_begin s.schema h s.number) = opened _ _ s.transaction (log_at_begin s.schema h s.number) is.is_in.own_is (some_is s.transaction t ran) in
+        record {
+          in_range = is.in_range;
+          log_is = grows;
+          is_in = record {
+            snapshot = refl;
+            own_is = (λ k. own_in (seen_stays s.schema h step s.number other lab.value lab.is k) s) ∙ is.is_in.own_is ∙ open_stays s.schema h step s.number other lab.value lab.is;
+          };
+          began = began_stays more j s.schema h step s.number s.transaction (snap_stays s.schema h step s.number other lab.value lab.is) (seen_stays s.schema h step s.number other lab.value lab.is) is.began;
+        }
+
+-- ---- what a session does without the store
+
+record IsStill (schema : Schema) (h : History) (step : Step) (i : ℕ) : Type 0 where
+  same_log : log schema (step ∷ h) ≡ log schema h
+  same_begin : log_at_begin schema (step ∷ h) i ≡ log_at_begin schema h i
+
+still : (schema : Schema) (h : History) (step : Step) (i : ℕ) → writer step ≡ Some i → IsStill schema h step i
+still schema h (Insert j number rows) i its = record { same_log = refl; same_begin = refl }
+still schema h (Update j keys sets) i its = record { same_log = refl; same_begin = refl }
+still schema h (Delete j keys) i its = record { same_log = refl; same_begin = refl }
+still schema h (BeginStep j) i its = absurd (cc)
+still schema h (Select j form keys) i its = absurd (cc)
+still schema h (CommitStep j reading) i its = absurd (cc)
+still schema h (Rollback j) i its = absurd (cc)
+still schema h (SplitKey key) i its = absurd (cc)
+still schema h (SplitTime key instant) i its = absurd (cc)
+still schema h Migrate i its = absurd (cc)
+
+began_written : (j : Entries) (schema : Schema) (h : History) (i : ℕ) (writes : Net) (o : Option RunningState) → BeganIn j schema h i o → BeganIn j schema h i (option_map (with_writes writes) o)
+began_written j schema h i writes None began = tt
+began_written j schema h i writes (Some t) began = began
+
+write_beside : (old new : SessionState) (j : Entries) (h : History) (step : Step) → IsBeside j old h → writer step ≡ Some old.number → WithWrites old new
+    → own_in (seen_at old.schema h old.number) new ≡ (write_in old step (own_in (seen_at old.schema h old.number) old)).1 → IsBeside j new (step ∷ h)
+write_beside old new j h step is its rest did =
+    subst (λ s. IsBeside j s (step ∷ h)) (sym rest.1) (record {
+      in_range = is.in_range;
+      log_is = is.log_is ∙ sym same.same_log;
+      is_in = subst (λ m. IsIn m written (step ∷ h)) is_in.snapshot is_in;
+      began = began_stays [] j old.schema h step old.number written.transaction (λ k. snap_of (same.same_log k) (same.same_begin k)) (λ k. changes (upto (same.same_log k) (snap_of (same.same_log k) (same.same_begin k))))
+          (began_written j old.schema h old.number rest.0 old.transaction is.began);
+    })
+  where
+    written : SessionState
+    written = with_transaction old (option_map (with_writes rest.0) old.transaction)
+
+    same : IsStill old.schema h step old.number
+    same = still old.schema h step old.number its
+
+    is_in : IsIn (seen_at old.schema h old.number) written (step ∷ h)
+    is_in = writes_leave_alike (seen_at old.schema h old.number) old written h step is.is_in its refl refl (ap (own_in (seen_at old.schema h old.number)) (sym rest.1) ∙ did)
+
+pub own_steps_stay : OwnStepsStayBeside
+own_steps_stay old new j h step is = (
+  (λ its rest did. write_beside old new j h step is its rest did),
+  (λ form keys. record {
+    in_range = is.in_range;
+    log_is = is.log_is;
+    is_in = record { snapshot = refl; own_is = is.is_in.own_is };
+    began = began_stays [] j old.schema h (Select old.number form keys) old.number old.transaction refl refl is.began;
+  }),
+  record {
+    in_range = is.in_range;
+    log_is = is.log_is;
+    is_in = record { snapshot = refl; own_is = ended_none old.schema h old.number };
+    began = tt;
+  },
+)

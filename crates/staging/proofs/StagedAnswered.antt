@@ -1,0 +1,277 @@
+-- What INSERT, UPDATE and DELETE answer and leave.
+use Rattle.std.proofs.Common.{◌≡◌, ℕ, ◌<◌, ◌≤◌, Bool, true, false, cond, ◌&&◌, ◌||◌, T, List, [], ◌∷◌, ◌++◌, Option, Some, None, Result, Ok, Err, OnOk, OnErr, refl, sym, ap, subst, ◌∙◌, arith, map, filter, filter_map, length, is_some, if◌then◌else◌, ◌==◌, All, get_or, zero, suc}
+use Rattle.std.specs.Prelude.{is_none}
+use Rattle.std.proofs.lemmas.Bool.Decides.{nat_tests}
+use Rattle.std.proofs.lemmas.List.{length-map}
+use Rattle.std.proofs.lemmas.List.Elements.{All-from_recursion, recursion_from_All, All-weaker}
+use Rattle.std.specs.Option.{option_map}
+use Rattle.std.specs.BTreeMap.{is_at}
+use Rattle.std.specs.Map.{keys_of, remove_entry}
+use Rattle.std.specs.FinMap.{is_sorted}
+use Rattle.std.specs.List.{AllByRecursion, list_any, cons_option}
+use Rattle.std.specs.List.Sorted.{IsStrictlySortedBy}
+use Rattle.values.specs.declared.key.Key.{Key}
+use Rattle.values.specs.Event.{Event}
+use Rattle.values.specs.declared.value.Value.{Value}
+use Rattle.values.specs.declared.table.Table.{Table}
+use Rattle.values.specs.declared.query.Keys.{Keys}
+use Rattle.values.specs.declared.query.Set.{Set}
+use Rattle.values.specs.declared.refusal.Refusal.{Refusal}
+use Rattle.values.specs.declared.refusal.Refusal.TheVariants.{NoTable, BadRow, DuplicateKey}
+use Rattle.values.specs.Order.{key_cmp, is_key}
+use Rattle.values.specs.Log.{State, Net, Row, Changes, row_at, set_row, apply_net, rows_after}
+use Rattle.values.specs.Tables.{Schema, IsTable}
+use Rattle.values.specs.Fit.{rows_fault, row_fault, key_fault, comparisons_fault, sets_fault, first_of}
+use Rattle.values.specs.Faults.{no_fault}
+use Rattle.values.specs.Writes.{Own, Written, write_keys, key_of, insert_rows, insert_all, duplicate, duplicate_from, update_rows, delete_rows, matching_keys, set_all}
+use Rattle.values.specs.Versions.{matches}
+use Rattle.values.specs.KeyEncoding.{IsShortKey}
+use Rattle.values.specs.RowEncoding.{IsHeld}
+use Rattle.values.specs.RowReading.{Taken}
+use Rattle.values.specs.KeyReading.{IsKeyOf, key_from, whole_key, parts_from, is_empty}
+use Rattle.values.specs.Events.{event_cmp, events_of, IsKeyIn, AreKeysIn}
+use Rattle.values.proofs.KeyLengths.{fitting_keys_are_short, first_none}
+use Rattle.values.proofs.RowKeys.{fitting_key, keys_are_short}
+use Rattle.tsbtree.specs.View.{events, TreeState}
+use Rattle.staging.specs.Own.{Reads, rows_seen, own, write_if_fits, checked_insert, of_table, checked_update, checked_delete}
+use Rattle.staging.specs.Staged.{put_all, put_answer, insertions, updates, deletions, sees, first_seen, row_taken, rows_in}
+use Rattle.staging.proofs.StagedEntries.{sorted_from, sorted_apply, apply-updates, apply-deletions}
+use Rattle.staging.proofs.ViewBridge.{are_seen, sorted_base, sees_is, key_in}
+use Rattle.staging.proofs.StagedCalls.{put_is, put_keys, all_entry, all_chosen}
+
+-- ---- faults
+
+pub fault_answer : (o : Option ℕ) (refusal : Refusal) (w : Written) (before : Own) → ◌≡◌ {A = Result (Unit {0}) Refusal} (Err refusal) (no_fault o) → ◌≡◌ {A = Written} (Err refusal, before) (write_if_fits o w before)
+fault_answer None refusal w before e = cc
+fault_answer (Some column) refusal w before e = let same : refusal ≡ BadRow column = cc in ap (λ r. (Err r, before)) same
+
+pub no_fault_is : (o : Option ℕ) → ◌≡◌ {A = Result (Unit {0}) Refusal} (Ok tt) (no_fault o) → o ≡ None
+no_fault_is None e = refl
+no_fault_is (Some column) e = cc
+
+-- ---- the keys of rows that fit
+
+rows_at : (table : Table) (rows : List Row) (i : ℕ) (d : Row) → rows_fault table rows ≡ None → i < length rows → row_fault table (get_or rows i d) ≡ None
+rows_at table [] i d h lt = absurd (omega arith)
+rows_at table (row ∷ rows) zero d h lt = (first_none (row_fault table row) (rows_fault table rows) h).0
+rows_at table (row ∷ rows) (suc i) d h lt = rows_at table rows i d (first_none (row_fault table row) (rows_fault table rows) h).1 (omega arith)
+
+pub own_of_row : (table : Table) (rows : List Row) (i : ℕ) (row : Row) (k : Key) → IsTable table.number table → rows_fault table rows ≡ None → i < length rows → row ≡ get_or rows i row → k ≡ key_of table row → All IsHeld k.parts → IsKeyOf table k
+own_of_row table rows i row k is fits lt at same held = record {
+  own = ap (λ (k : Key). k.table) same;
+  fits =
+      ap (λ (k : Key). key_fault table k.parts) same
+      ∙ fitting_key table.number table row is (subst (λ row. row_fault table row ≡ None) (sym at) (rows_at table rows i row fits lt));
+  held = held;
+}
+
+pub short_keys : (table : Table) (keys : List Key) → IsTable table.number table → All (IsKeyOf table) keys → All IsShortKey keys
+short_keys table keys is h = All-weaker (IsKeyOf table) IsShortKey (λ k own. keys_are_short table.number table k is own) keys h
+
+-- ---- INSERT
+
+module _ (P : Key → Type 0) where
+  inserted_all : (ks : List Key) (rows : List Row) → AllByRecursion P ks → AllByRecursion (λ c. P c.0) (insertions ks rows)
+  inserted_all [] rows h = tt
+  inserted_all (k ∷ ks) [] h = tt
+  inserted_all (k ∷ ks) (row ∷ rows) h = (h.0, inserted_all ks rows h.1)
+
+  pub inserted_entries : (ks : List Key) (rows : List Row) → All P ks → All (λ c. P c.0) (insertions ks rows)
+  inserted_entries ks rows h = All-from_recursion (λ c. P c.0) (insertions ks rows) (inserted_all ks rows (recursion_from_All P ks h))
+
+insertion_keys : (table : Table) (rows : List Row) → keys_of (insertions (map (key_of table) rows) rows) ≡ map (key_of table) rows
+insertion_keys table [] = refl
+insertion_keys table (row ∷ rows) = ap (λ l. key_of table row ∷ l) (insertion_keys table rows)
+
+insertion_count : (table : Table) (rows : List Row) → length (insertions (map (key_of table) rows) rows) ≡ length rows
+insertion_count table [] = refl
+insertion_count table (row ∷ rows) = ap suc (insertion_count table rows)
+
+apply_insertions : (table : Table) (rows : List Row) (s : State) → apply_net s (insertions (map (key_of table) rows) rows) ≡ insert_rows table rows s
+apply_insertions table [] s = refl
+apply_insertions table (row ∷ rows) s = apply_insertions table rows _
+
+duplicates : (schema : Schema) (es : List Event) (t : ℕ) (s : State) (w : Net) (ks earlier : List Key) → AllByRecursion (IsKeyIn schema) ks → ((k : Key) → IsKeyIn schema k → sees es t w k ≡ is_some (row_at s k))
+    → first_seen (sees es t w) earlier ks ≡ duplicate_from s earlier ks
+duplicates schema es t s w [] earlier h same = refl
+duplicates schema es t s w (k ∷ ks) earlier h same =
+    λ i. cond (same k h.0 i || list_any (is_key k) earlier) (Some k) (duplicates schema es t s w ks (earlier ++ k ∷ []) h.1 same i)
+
+-- the first key that is seen is the first duplicate
+pub duplicate_is : (schema : Schema) (table : Table) (view : TreeState) (t : ℕ) (m : Changes) (w : Net) (rows : List Row) (keys : List Key) → Reads schema table view w m → IsStrictlySortedBy event_cmp (events view) → All (λ e. e.at ≤ t) (events view)
+    → IsStrictlySortedBy key_cmp (keys_of w) → keys ≡ map (key_of table) rows → All (IsKeyOf table) keys → first_seen (sees (events view) t w) [] keys ≡ duplicate table rows (rows_seen m w)
+duplicate_is schema table view t m w rows keys reads sorted upto ordered same own =
+    ap (λ es. first_seen (sees es t w) [] keys) reads.held.events_are
+    ∙ duplicates schema (events_of m) t (rows_seen m w) w keys [] (recursion_from_All (IsKeyIn schema) keys (All-weaker (IsKeyOf table) (IsKeyIn schema) (λ k h. key_in schema table k reads.is_table h) keys own))
+    (λ k h. sees_is schema t m w k (are_seen schema view t m reads.held sorted upto) (sorted_from w ordered) h)
+    ∙ ap (duplicate_from (rows_seen m w) []) same
+
+abbrev unless_duplicate : Table → List Row → Own → Option Key → Written
+unless_duplicate table rows o found = elim found [
+  | Some key ↦ (Err (DuplicateKey key), o)
+  | None ↦ write_keys (map (key_of table) rows) (length rows) (insert_rows table rows o.rows) o
+]
+
+pub insert_duplicate : (table : Table) (rows : List Row) (o : Own) (key : Key) → rows_fault table rows ≡ None → duplicate table rows o.rows ≡ Some key → ◌≡◌ {A = Written} (Err (DuplicateKey key), o) (checked_insert table rows o)
+insert_duplicate table rows o key fits is =
+    sym (ap (λ f. write_if_fits f (unless_duplicate table rows o (duplicate table rows o.rows)) o) fits ∙ ap (unless_duplicate table rows o) is)
+
+pub insert_done : (table : Table) (rows : List Row) (m : Changes) (w new : Net) (r : Result ℕ Refusal) (cs : Net) → rows_fault table rows ≡ None → duplicate table rows (rows_seen m w) ≡ None → cs ≡ insertions (map (key_of table) rows) rows
+    → T (is_sorted key_cmp w) → r ≡ put_answer cs w → OnOk r (new ≡ put_all cs w) → OnErr r (new ≡ w) → ◌≡◌ {A = Written} (r, own m new) (checked_insert table rows (own m w))
+insert_done table rows m w new r cs fits none is sorted answer ok err =
+    put_is m cs w new r sorted answer ok err
+    ∙ ap (λ cs. write_keys (keys_of cs) (length cs) (apply_net (rows_seen m w) cs) (own m w)) is
+    ∙ (λ i. write_keys (insertion_keys table rows i) (insertion_count table rows i) (apply_insertions table rows (rows_seen m w) i) (own m w))
+    ∙ sym (ap (λ f. write_if_fits f (unless_duplicate table rows (own m w) (duplicate table rows (rows_seen m w))) (own m w)) fits ∙ ap (unless_duplicate table rows (own m w)) none)
+
+-- ---- what is put has keys of the schema
+
+pub keys_after : (schema : Schema) (cs w new : Net) (r : Result ℕ Refusal) → OnOk r (new ≡ put_all cs w) → OnErr r (new ≡ w) → AreKeysIn schema w → All (λ c. IsKeyIn schema c.0) cs → AreKeysIn schema new
+keys_after schema cs w new (Ok n) ok err h k = subst (AreKeysIn schema) (sym ok) (put_keys (IsKeyIn schema) cs w k h)
+keys_after schema cs w new (Err e) ok err h k = subst (AreKeysIn schema) (sym err) h
+
+module _ {X : Type 0} (P : Key → Type 0) where
+  all_removed : (p : Key → Bool) (es : List (Key × X)) → AllByRecursion (λ e. P e.0) es → AllByRecursion (λ e. P e.0) (remove_entry p es)
+  all_removed p [] h = tt
+  all_removed p (e ∷ es) h = elim (p e.0) as (λ b. AllByRecursion (λ e. P e.0) (cond b es (e ∷ remove_entry p es))) [ true ↦ h.1 | false ↦ (h.0, all_removed p es h.1) ]
+
+module _ (P : Key → Type 0) where
+  all_set : (k : Key) (v : Option Row) (s : State) → P k → AllByRecursion (λ e. P e.0) s → AllByRecursion (λ e. P e.0) (set_row k v s)
+  all_set k (Some row) s p h = all_entry {X = Row} P s k row p h
+  all_set k None s p h = all_removed {X = Row} P (is_at (key_cmp k)) s h
+
+  all_applied : (w : Net) (s : State) → AllByRecursion (λ c. P c.0) w → AllByRecursion (λ e. P e.0) s → AllByRecursion (λ e. P e.0) (apply_net s w)
+  all_applied [] s h k = k
+  all_applied (c ∷ w) s h k = all_applied w _ h.1 (all_set c.0 c.1 s h.0 k)
+
+  all_after : (m : Changes) (s : State) → AllByRecursion (λ c. P c.0.key) m → AllByRecursion (λ e. P e.0) s → AllByRecursion (λ e. P e.0) (rows_after s m)
+  all_after [] s h k = k
+  all_after (c ∷ cs) s h k = all_after cs _ h.1 (all_set c.0.key c.1 s h.0 k)
+
+  all_inserted : (es s : State) → AllByRecursion (λ e. P e.0) es → AllByRecursion (λ e. P e.0) s → AllByRecursion (λ e. P e.0) (insert_all s es)
+  all_inserted [] s h k = k
+  all_inserted (e ∷ es) s h k = all_inserted es _ h.1 (all_entry {X = Row} P s e.0 e.1 h.0 k)
+
+  net_keys : (w : Net) → AllByRecursion P (keys_of w) → AllByRecursion (λ c. P c.0) w
+  net_keys [] h = tt
+  net_keys (c ∷ w) h = (h.0, net_keys w h.1)
+
+  updated_all : (sets : List Set) (es : State) → AllByRecursion (λ e. P e.0) es → AllByRecursion (λ c. P c.0) (updates sets es)
+  updated_all sets [] h = tt
+  updated_all sets (e ∷ es) h = (h.0, updated_all sets es h.1)
+
+  deleted_all : (es : State) → AllByRecursion (λ e. P e.0) es → AllByRecursion (λ c. P c.0) (deletions es)
+  deleted_all [] h = tt
+  deleted_all (e ∷ es) h = (h.0, deleted_all es h.1)
+
+  pub updated_entries : (sets : List Set) (es : State) → All (λ e. P e.0) es → All (λ c. P c.0) (updates sets es)
+  updated_entries sets es h = All-from_recursion (λ c. P c.0) (updates sets es) (updated_all sets es (recursion_from_All (λ e. P e.0) es h))
+
+  pub deleted_entries : (es : State) → All (λ e. P e.0) es → All (λ c. P c.0) (deletions es)
+  deleted_entries es h = All-from_recursion (λ c. P c.0) (deletions es) (deleted_all es (recursion_from_All (λ e. P e.0) es h))
+
+-- the keys of the rows that are seen are of the schema
+pub seen_keys : (schema : Schema) (table : Table) (view : TreeState) (t : ℕ) (m : Changes) (w : Net) (p : Key × Row → Bool) → Reads schema table view w m → IsStrictlySortedBy event_cmp (events view) → All (λ e. e.at ≤ t) (events view)
+    → All (λ e. IsKeyIn schema e.0) (filter p (rows_seen m w))
+seen_keys schema table view t m w p reads sorted upto =
+    All-from_recursion (λ e. IsKeyIn schema e.0) (filter p (rows_seen m w))
+    (all_chosen {X = Row} (IsKeyIn schema) p (rows_seen m w)
+    (all_applied (IsKeyIn schema) w (rows_after [] m) (net_keys (IsKeyIn schema) w (recursion_from_All (IsKeyIn schema) (keys_of w) reads.keys))
+    (all_after (IsKeyIn schema) m [] (are_seen schema view t m reads.held sorted upto).keys tt)))
+
+-- and those of a table are short
+read_short : (table : Table) (bytes : List ℕ) (k : Key) → IsTable table.number table → key_from table bytes ≡ Some k → IsShortKey k
+read_short table [] k is e = cc
+read_short table (b ∷ bytes) k is e = by (b == table.number) (parts_from table table.key bytes) e
+  where
+    whole : (parts : List Value) (o : Option ℕ) (empty : Bool) → key_fault table parts ≡ o → ◌≡◌ {A = Option Key} (if empty && is_none o then Some (record { table = table.number; parts = parts }) else None) (Some k) → IsShortKey k
+    whole parts None true fits e =
+        let same : record { table = table.number; parts = parts } ≡ k = cc in
+        fitting_keys_are_short table k is.few_key_columns (ap (λ (k : Key). key_fault table k.parts) (sym same) ∙ fits)
+    whole parts (Some n) true fits e = cc
+    whole parts o false fits e = cc
+
+    by : (b : Bool) (taken : Taken (List Value)) → ◌≡◌ {A = Option Key} (if b then whole_key table taken else None) (Some k) → IsShortKey k
+    by true None e = cc
+    by true (Some (parts, rest)) e = whole parts (key_fault table parts) (is_empty rest) refl e
+    by false taken e = cc
+
+taken_short : (table : Table) (keys : Keys) (es : List Event) → IsTable table.number table → AllByRecursion (λ e. IsShortKey e.0) (filter_map (row_taken table keys) es)
+taken_short table keys [] is = tt
+taken_short table keys (e ∷ es) is = by (key_from table e.key) refl (taken_short table keys es is)
+  where
+    by : (o : Option Key) → key_from table e.key ≡ o → AllByRecursion (λ e. IsShortKey e.0) (filter_map (row_taken table keys) es)
+        → AllByRecursion (λ e. IsShortKey e.0) (cons_option (elim o [ None ↦ None | Some k ↦ if matches table keys k then option_map (λ row. (k, row)) e.row else None ]) (filter_map (row_taken table keys) es))
+    by None at rest = rest
+    by (Some k) at rest = taken (matches table keys k) e.row
+      where
+        taken : (b : Bool) (row : Option Row) → AllByRecursion (λ e. IsShortKey e.0) (cons_option (if b then option_map (λ row. (k, row)) row else None) (filter_map (row_taken table keys) es))
+        taken true (Some row) = (read_short table e.key k is at, rest)
+        taken true None = rest
+        taken false row = rest
+
+pub rows_short : (table : Table) (keys : Keys) (es : List Event) (w : Net) → IsTable table.number table → All (λ c. IsShortKey c.0) w → All (λ e. IsShortKey e.0) (rows_in table keys es w)
+rows_short table keys es w is h =
+    All-from_recursion (λ e. IsShortKey e.0) (rows_in table keys es w)
+    (all_applied IsShortKey (filter (λ c. matches table keys c.0) w) (insert_all [] (filter_map (row_taken table keys) es))
+    (all_chosen {X = Option Row} IsShortKey (λ c. matches table keys c.0) w (recursion_from_All (λ c. IsShortKey c.0) w h))
+    (all_inserted IsShortKey (filter_map (row_taken table keys) es) [] (taken_short table keys es is) tt))
+
+-- ---- UPDATE and DELETE
+
+same_number : (a b : ℕ) → a ≡ b → (a == b) ≡ true
+same_number a b e = grind (arith, nat_tests)
+
+pub other_table : (table : Table) (keys : Keys) (w : Written) (o : Own) → ¬ (keys.table ≡ table.number) → ◌≡◌ {A = Written} (Err NoTable, o) (of_table table keys w o)
+other_table table keys w o other = sym (ap (λ (b : Bool). if b then w else (Err NoTable, o)) (apart keys.table table.number other))
+  where
+    apart : (a b : ℕ) → ¬ (a ≡ b) → (a == b) ≡ false
+    apart a b h = grind (arith, nat_tests, h)
+
+pub own_table : (table : Table) (keys : Keys) (w v : Written) (o : Own) → keys.table ≡ table.number → v ≡ w → v ≡ of_table table keys w o
+own_table table keys w v o same is = is ∙ sym (ap (λ (b : Bool). if b then w else (Err NoTable, o)) (same_number keys.table table.number same))
+
+update_keys : (sets : List Set) (es : State) → keys_of (updates sets es) ≡ map (λ e. e.0) es
+update_keys sets [] = refl
+update_keys sets (e ∷ es) = ap (λ l. e.0 ∷ l) (update_keys sets es)
+
+delete_keys : (es : State) → keys_of (deletions es) ≡ map (λ e. e.0) es
+delete_keys [] = refl
+delete_keys (e ∷ es) = ap (λ l. e.0 ∷ l) (delete_keys es)
+
+pub update_done : (table : Table) (keys : Keys) (sets : List Set) (m : Changes) (w new : Net) (r : Result ℕ Refusal) (cs : Net) (found : State) → keys.table ≡ table.number → sets_fault table [] sets ≡ None → comparisons_fault table keys.comparisons ≡ None
+    → found ≡ filter (λ e. matches table keys e.0) (rows_seen m w) → cs ≡ updates sets found → T (is_sorted key_cmp w) → r ≡ put_answer cs w → OnOk r (new ≡ put_all cs w) → OnErr r (new ≡ w)
+    → ◌≡◌ {A = Written} (r, own m new) (checked_update table keys sets (own m w))
+update_done table keys sets m w new r cs found same no_set no_comparison found_is is sorted answer ok err =
+    own_table table keys _ (r, own m new) (own m w) same (
+    put_is m cs w new r sorted answer ok err
+    ∙ ap (λ cs. write_keys (keys_of cs) (length cs) (apply_net (rows_seen m w) cs) (own m w)) (is ∙ ap (updates sets) found_is)
+    ∙ (λ i. write_keys (update_keys sets kept i) (count i) (apply-updates (matches table keys) sets (rows_seen m w) (sorted_apply w (rows_after [] m) (sorted_base m)) i) (own m w))
+    ∙ sym (λ i. write_if_fits (first_of (no_set i) (no_comparison i)) (write_keys (matching_keys table keys (rows_seen m w)) (length (matching_keys table keys (rows_seen m w))) (update_rows table keys sets (rows_seen m w)) (own m w)) (own m w))
+    )
+  where
+    kept : State
+    kept = filter (λ e. matches table keys e.0) (rows_seen m w)
+
+    count : length (updates sets kept) ≡ length (matching_keys table keys (rows_seen m w))
+    count = length-map kept (λ e. (e.0, Some (set_all sets e.1))) ∙ sym (length-map kept (λ e. e.0))
+
+pub delete_done : (table : Table) (keys : Keys) (m : Changes) (w new : Net) (r : Result ℕ Refusal) (cs : Net) (found : State) → keys.table ≡ table.number → comparisons_fault table keys.comparisons ≡ None
+    → found ≡ filter (λ e. matches table keys e.0) (rows_seen m w) → cs ≡ deletions found → T (is_sorted key_cmp w) → r ≡ put_answer cs w → OnOk r (new ≡ put_all cs w) → OnErr r (new ≡ w)
+    → ◌≡◌ {A = Written} (r, own m new) (checked_delete table keys (own m w))
+delete_done table keys m w new r cs found same no_comparison found_is is sorted answer ok err =
+    own_table table keys _ (r, own m new) (own m w) same (
+    put_is m cs w new r sorted answer ok err
+    ∙ ap (λ cs. write_keys (keys_of cs) (length cs) (apply_net (rows_seen m w) cs) (own m w)) (is ∙ ap deletions found_is)
+    ∙ (λ i. write_keys (delete_keys kept i) (count i) (apply-deletions (matches table keys) (rows_seen m w) (sorted_apply w (rows_after [] m) (sorted_base m)) i) (own m w))
+    ∙ sym (λ i. write_if_fits (no_comparison i) (write_keys (matching_keys table keys (rows_seen m w)) (length (matching_keys table keys (rows_seen m w))) (delete_rows table keys (rows_seen m w)) (own m w)) (own m w))
+    )
+  where
+    kept : State
+    kept = filter (λ e. matches table keys e.0) (rows_seen m w)
+
+    none : Key × Row → Key × Option Row
+    none e = (e.0, None)
+
+    count : length (deletions kept) ≡ length (matching_keys table keys (rows_seen m w))
+    count = length-map kept none ∙ sym (length-map kept (λ e. e.0))

@@ -1,0 +1,9 @@
+use Rattle.statement.proofs.GrammarFinal as final
+use Rattle.statement.proofs.LineGoing as going
+use Rattle.statement.proofs.grammar_law.served_faults_are_final.Goals as goal
+
+pub returns-clause-goes_on : goal.returns-clause-goes_on
+returns-clause-goes_on c = going.served_fronts
+
+pub returns-clause-no_more : goal.returns-clause-no_more
+returns-clause-no_more c = final.served_final

@@ -1,0 +1,75 @@
+-- What is shown of the events in a window is what the query selects.
+use Rattle.std.proofs.Common.{◌≡◌, ℕ, ◌≤◌, ◌<◌, Bool, true, false, cond, ◌&&◌, List, [], ◌∷◌, Option, refl, sym, ap, ◌∙◌, arith, nat_le, nat_lt, filter, All}
+use Rattle.std.proofs.lemmas.Bool.Decides.{nat_tests}
+use Rattle.std.proofs.lemmas.List.Elements.{recursion_from_All}
+use Rattle.std.proofs.lemmas.List.Kept.{IsStrictlySortedBy-filter}
+use Rattle.std.specs.List.{AllByRecursion, cons_option}
+use Rattle.std.specs.List.Sorted.{IsStrictlySortedBy}
+use Rattle.values.specs.Event.{Event}
+use Rattle.values.specs.declared.table.Table.{Table}
+use Rattle.values.specs.declared.query.Form.{Form}
+use Rattle.values.specs.declared.query.Form.TheVariants.{Plain, AsOf, FromTo, Between}
+use Rattle.values.specs.declared.query.Keys.{Keys}
+use Rattle.values.specs.declared.query.Shown.{Shown}
+use Rattle.values.specs.Versions.{selects, ends_after, answer}
+use Rattle.values.specs.Events.{event_cmp, later}
+use Rattle.datanode.proofs.CutMembers.{filter_twice}
+use Rattle.eventlist.proofs.PlaceOrder.{sorted_head, sorted_tail}
+use Rattle.keyrange.specs.declared.range.KeyRange.{KeyRange}
+use Rattle.keyrange.specs.Range.{is_key_in}
+use Rattle.searchrange.specs.SearchRange.{Covers}
+use Rattle.datanode.specs.NextChange.{event_after}
+use Rattle.tsbtree.specs.View.{TreeState, events}
+use Rattle.systime_query.specs.Selection.{WhenShown, next_of, is_taken, shown_of}
+use Rattle.systime_query.specs.Window.{IsWindow, is_in_window, shown_in}
+use Rattle.systime_query.proofs.SelectionShown.{not_taken, none_selected, next_kept, now_shown}
+use Rattle.systime_query.proofs.SelectionVersions.{none_out, view_selected}
+use Rattle.systime_query.proofs.WindowVersions.{all_kept, selected_in}
+
+module _ (table : Table) (form : Form) (keys : Keys) (es : List Event) (z : ℕ) (p : List ℕ → Bool) where
+  -- events that the query does not take show nothing
+  kept_shown : (ds : List Event) → IsStrictlySortedBy event_cmp ds → AllByRecursion (λ e. p e.key ≡ false → is_taken table keys e.key ≡ false) ds → shown_in es z table form keys ds ≡ shown_in es z table form keys (filter (λ e. p e.key) ds)
+  kept_shown [] sorted out = refl
+  kept_shown (e ∷ ds) sorted out = by (p e.key) refl (kept_shown ds (sorted_tail event_cmp e ds sorted) out.1)
+    where
+      by : (b : Bool) → p e.key ≡ b → shown_in es z table form keys ds ≡ shown_in es z table form keys (filter (λ e. p e.key) ds)
+          → cons_option (shown_of table form keys e (later (next_of e ds) (event_after es z e.key))) (shown_in es z table form keys ds) ≡ shown_in es z table form keys (cond b (e ∷ filter (λ e. p e.key) ds) (filter (λ e. p e.key) ds))
+      by true is more =
+          λ i. cons_option (shown_of table form keys e (later (next_kept p e ds is (sorted_head event_cmp e ds sorted) (sorted_tail event_cmp e ds sorted) i) (event_after es z e.key))) (more i)
+      by false is more = ap (λ o. cons_option o (shown_in es z table form keys ds)) (not_taken table form keys e (later (next_of e ds) (event_after es z e.key)) (out.0 is)) ∙ more
+
+module _ (view : TreeState) (table : Table) (keys : Keys) where
+  pub within_is : (form : Form) (a z : ℕ) (range : KeyRange) (found : List Event) (shown : List Shown) → a ≤ z → IsWindow form a z → Covers table keys range → IsStrictlySortedBy event_cmp (events view)
+      → found ≡ filter (λ e. is_in_window (events view) a z e && is_key_in range e.key) (events view) → shown ≡ shown_in (events view) z table form keys found → WhenShown view table keys (λ m. shown ≡ answer m table form keys)
+  within_is form a z range found shown le window covers sorted are is = λ schema m held is_table same.
+      let inside : List Event = filter (is_in_window (events view) a z) (events view) in
+      is
+      ∙ ap (shown_in (events view) z table form keys) (are ∙ sym (filter_twice (is_in_window (events view) a z) (λ e. is_key_in range e.key) (events view)))
+      ∙ sym (kept_shown table form keys (events view) z (is_key_in range) inside (IsStrictlySortedBy-filter event_cmp (is_in_window (events view) a z) (events view) sorted)
+      (all_kept (λ e. is_key_in range e.key ≡ false → is_taken table keys e.key ≡ false) (is_in_window (events view) a z) (events view) (none_out view table keys range covers schema m held is_table)))
+      ∙ sym (selected_in a z le table form keys window (events view) sorted)
+      ∙ view_selected view table keys form schema m held is_table same
+
+  pub current_is : (last : ℕ) (shown : List Shown) → All (λ e. e.at ≤ last) (events view) → WhenShown view table keys (λ m. shown ≡ answer m table (AsOf last) keys) → WhenShown view table keys (λ m. shown ≡ answer m table Plain keys)
+  current_is last shown upto h = λ schema m held is_table same.
+      h schema m held is_table same ∙ sym (view_selected view table keys (AsOf last) schema m held is_table same)
+      ∙ now_shown table last keys (events view) (recursion_from_All (λ (e : Event). e.at ≤ last) (events view) upto)
+      ∙ view_selected view table keys Plain schema m held is_table same
+
+  pub nothing_is : (form : Form) (shown : List Shown) → shown ≡ [] → ((from : ℕ) (to : Option ℕ) → selects form from to ≡ false) → WhenShown view table keys (λ m. shown ≡ answer m table form keys)
+  nothing_is form shown none h = λ schema m held is_table same.
+      none ∙ sym (none_selected table form keys h (events view)) ∙ view_selected view table keys form schema m held is_table same
+
+-- ---- forms that select nothing
+
+pub empty_from : (a b : ℕ) → b ≤ a → (from : ℕ) (to : Option ℕ) → selects (FromTo a b) from to ≡ false
+empty_from a b le from to = ap (λ c. (c && nat_lt from b) && ends_after to a) none
+  where
+    none : nat_lt a b ≡ false
+    none = grind (arith, nat_tests)
+
+pub empty_between : (a b : ℕ) → b < a → (from : ℕ) (to : Option ℕ) → selects (Between a b) from to ≡ false
+empty_between a b lt from to = ap (λ c. (c && nat_le from b) && ends_after to a) none
+  where
+    none : nat_le a b ≡ false
+    none = grind (arith, nat_tests)

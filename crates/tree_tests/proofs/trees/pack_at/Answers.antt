@@ -1,4 +1,0 @@
-use Rattle.tree_tests.proofs.trees.pack_at.Goals as goal
-
-pub returns : goal.returns
-returns g c = c.in-Ok.ensures.tree c.requires

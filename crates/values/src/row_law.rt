@@ -1,0 +1,14 @@
+ghost use Rattle.values.specs.RowLaw.{RowsReadBack, OnlyRowsAreRead, FittingRowsAreStored, NoRowBeginsAnother, WorkedRowBytes};
+
+/// Rows may be told by their bytes.
+pub fn bytes_stand_for_rows()
+    ensures back { RowsReadBack }
+    ensures only { OnlyRowsAreRead }
+    ensures whole { NoRowBeginsAnother }
+    ensures worked { WorkedRowBytes }
+{}
+
+/// What fits a table has bytes.
+pub fn fitting_rows_have_bytes()
+    ensures { FittingRowsAreStored }
+{}
