@@ -1,18 +1,18 @@
 -- The events of a block are gathered one after the other.
 use Rattle.std.proofs.Common.{◌≡◌, ℕ, suc, ◌+◌, ◌-◌, ◌<◌, ◌≤◌, Bool, true, false, cond, List, [], ◌∷◌, ◌++◌, Some, None, length, get_or, refl, sym, ap, ◌∙◌, subst, ◌⊎◌, inl, inr, arith, append_assoc, All}
-use Rattle.std.specs.Prelude.{nat_le, slice_get}
+use Rattle.std.specs.Prelude.{slice_get}
 use Rattle.std.specs.List.{filter}
 use Rattle.std.specs.Ordering.{is_lt, match_ordering}
 use Rattle.std.specs.declared.cmp.Ordering.TheVariants.{Less}
-use Rattle.std.proofs.lemmas.Bool.{and_from, and_parts, le-leb, leb-true, false≢true}
+use Rattle.std.proofs.lemmas.Bool.{and_from, and_parts, le-leb, false≢true}
 use Rattle.values.specs.Event.{Event}
 use Rattle.values.specs.Events.{event_cmp, put_event}
 use Rattle.values.specs.EventOrder.{event_total}
 use Rattle.values.specs.RowReading.{Taken, after}
 use Rattle.values.proofs.RowReadingTaken.{left, after-after}
 use Rattle.values.proofs.RowReads.{same_taken}
-use Rattle.keyrange.specs.Rect.{Area, has_point, IsArea, IsInside}
-use Rattle.keyrange.specs.Range.{is_key_in, is_time_in, is_early, is_before_end}
+use Rattle.keyrange.specs.Rect.{Area}
+use Rattle.keyrange.specs.Range.{is_key_in, is_time_in, is_early}
 use Rattle.keyrange.proofs.RangeOrder.{is_less}
 use Rattle.eventlist.proofs.PlaceOrder.{is_lower, sorted_tail}
 use Rattle.datanode.specs.Cut.{IsMap, in_cut, cut}
@@ -33,9 +33,6 @@ turned n t = taken_then t (λ e rest. after (e ∷ []) (events_from n rest))
 turns : (n i : ℕ) (xs : List Event) (bytes : List ℕ) (t : Taken Event) → i < n → event_from bytes ≡ t
     → after xs (events_from (n - i) bytes) ≡ after xs (turned (n - (i + 1)) t)
 turns n i xs bytes t h is = ap (λ k. after xs (events_from k bytes)) (left n i h) ∙ ap (λ t. after xs (turned (n - (i + 1)) t)) is
-
-pub events_none : (n i : ℕ) (xs : List Event) (bytes : List ℕ) → i < n → event_from bytes ≡ None → after xs (events_from (n - i) bytes) ≡ None
-events_none n i xs bytes h is = turns n i xs bytes None h is
 
 pub events_more : (n i : ℕ) (xs : List Event) (e : Event) (bytes rest : List ℕ) → i < n → event_from bytes ≡ Some (e, rest)
     → after xs (events_from (n - i) bytes) ≡ after (xs ++ e ∷ []) (events_from (n - (i + 1)) rest)
@@ -100,9 +97,6 @@ no_node_from r n i bytes now rest node e rect below is reads not_next es others 
     let more = no_events_left (node.events ++ e ∷ []) (events_from (n - (i + 1)) rest) es others (sym (events_more n i node.events e now rest below is) ∙ reads ∙ all) in
     false≢true (sym not_next ∙ is_next_of r node e more.0 rect (subst (IsNode r) (sym more.1) whole))
 
-pub none_read : (r : Area) (n : ℕ) (bytes : List ℕ) → events_from n bytes ≡ None → NoNodeFrom r n bytes
-none_read r n bytes none es rest is whole = cc
-
 -- ---- it is put behind them
 
 at_each : (P : Event → Type 0) (xs : List Event) → All P xs → (x : Event) → In x xs → P x
@@ -146,18 +140,6 @@ put_next r node e rect whole firsts first next =
     ap (cut node.rect) (put_behind e node.events below) ∙ all_kept (in_cut node.rect xs) xs each
 
 -- ---- the node of a rectangle inside
-
-since_1 : (r : Area) (instant : ℕ) → IsArea r → nat_le r.time.from instant ≡ true → nat_le 1 instant ≡ true
-since_1 r instant area h =
-    let start : r.time.from ≤ instant = leb-true r.time.from instant h in
-    let first : 1 ≤ r.time.from = leb-true 1 r.time.from (and_parts (nat_le 1 r.time.from) _ (and_parts (is_before_end r.keys.lo r.keys.hi) _ area).1).0 in
-    le-leb 1 instant (omega arith)
-
-pub inside_all_times : (r s : Area) → IsArea r → s ≡ at_all_times r → IsInside r s
-inside_all_times r s area is key instant point =
-    let two = and_parts (is_key_in r.keys key) _ point in
-    let time = and_parts (nat_le r.time.from instant) _ two.1 in
-    subst (λ s. has_point s key instant ≡ true) (sym is) (and_from _ _ two.0 (and_from _ _ (since_1 r instant area time.0) refl))
 
 not_longer : {X : Type 0} (p : X → Bool) (xs : List X) → length (filter p xs) ≤ length xs
 not_longer p [] = omega arith

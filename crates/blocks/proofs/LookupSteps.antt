@@ -1,5 +1,5 @@
 -- The steps of reading in place.
-use Rattle.std.proofs.Common.{◌≡◌, ℕ, ◌+◌, ◌-◌, ◌<◌, List, Bool, true, false, Option, Some, None, ap, ◌∙◌, if◌then◌else◌}
+use Rattle.std.proofs.Common.{◌≡◌, ℕ, ◌+◌, ◌-◌, ◌<◌, List, Bool, false, Option, Some, None, ap, ◌∙◌, if◌then◌else◌}
 use Rattle.std.specs.Prelude.{option_and_then}
 use Rattle.std.specs.Borrow.{Bor}
 use Rattle.values.specs.RowReading.{Taken}
@@ -35,16 +35,6 @@ module _ (key : List ℕ) (low high : ℕ) where
   turns : (n i : ℕ) (bytes : List ℕ) (found : Taken ℕ) (t : Taken (List ℕ × ℕ)) → i < n → point_from bytes ≡ t
       → event_place (n - i) bytes key low high found ≡ turned (n - (i + 1)) found t
   turns n i bytes found t h is = ap (λ k. event_place k bytes key low high found) (left n i h) ∙ ap (turned (n - (i + 1)) found) is
-
-  pub place_none : (n i : ℕ) (bytes : List ℕ) (found : Taken ℕ) → i < n → point_from bytes ≡ None
-      → event_place (n - i) bytes key low high found ≡ None
-  place_none n i bytes found h is = turns n i bytes found None h is
-
-  pub place_behind : (n i : ℕ) (bytes : List ℕ) (found : Taken ℕ) (other row : List ℕ) (at : ℕ) → i < n
-      → point_from bytes ≡ Some ((other, at), row) → is_below key other ≡ true
-      → event_place (n - i) bytes key low high found ≡ found
-  place_behind n i bytes found other row at h is t =
-      turns n i bytes found (Some ((other, at), row)) h is ∙ ap (asked (n - (i + 1)) found (other, at) row) t
 
   pub place_past : (n i : ℕ) (bytes : List ℕ) (found : Taken ℕ) (other row : List ℕ) (at : ℕ) (o : Option (List ℕ)) → i < n
       → point_from bytes ≡ Some ((other, at), row) → is_below key other ≡ false → past_row_field row ≡ o

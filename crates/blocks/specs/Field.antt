@@ -1,5 +1,5 @@
 -- The fields of a block: keys behind their lengths, instants, and ends that may be none. Each has its bytes, and one
--- reading from the front of bytes.
+-- reading from the start of bytes.
 use Rattle.std.specs.Prelude.{ℕ, List, [], ◌∷◌, ◌++◌, ◌==◌, Option, Some, None, length, take, drop, nat_le, if◌then◌else◌}
 use Rattle.std.specs.Int.{w16, w64, to_be_bytes, from_be_bytes}
 use Rattle.values.specs.RowReading.{Taken}

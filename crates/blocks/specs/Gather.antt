@@ -20,12 +20,13 @@ is_behind e (Some d) = is_lt (event_cmp d e)
 abbrev pub last_of : List Event → Option Event
 last_of es = slice_get es (length es - 1)
 
--- the event may stand behind those of the node
+-- the event may follow those of the node
 unfoldable pub is_next : Node → Event → Bool
 is_next n e = is_key_in n.rect.keys e.key && is_behind e (last_of n.events)
 
 -- so many events were read, and are those of the node
-pub record IsGathered (r : Area) (n : ℕ) (bytes : List ℕ) (node : Node) (rest : List ℕ) : Type 0 where
+pub record IsGathered (r : Area) (n : ℕ) (bytes : List ℕ) (node : Node)
+    (rest : List ℕ) : Type 0 where
   pub rect_is : node.rect ≡ at_all_times r
   pub events_are : events_from n bytes ≡ Some (node.events, rest)
 
@@ -35,14 +36,14 @@ NoNodeFrom r n bytes =
     (es : List Event) (rest : List ℕ)
     → events_from n bytes ≡ Some (es, rest) → IsNode r es → ⊥
 
--- the node of the rectangle and of at most 64 events, behind which nothing stands
+-- the node of the rectangle and of at most 64 events, with no bytes after them
 pub record IsCountedNode (r : Area) (n : ℕ) (bytes : List ℕ) (node : Node) : Type 0 where
   pub few : n ≤ 64
   pub is_node : IsNode node.rect node.events
   pub rect_is : node.rect ≡ r
   pub events_are : events_from n bytes ≡ Some (node.events, [])
 
--- there are more, or something stands behind them, or they form no node
+-- there are more, or bytes follow them, or they form no node
 abbrev pub NoCountedNode : Area → ℕ → List ℕ → Type 0
 NoCountedNode r n bytes =
     (es : List Event) → n ≤ 64 → events_from n bytes ≡ Some (es, []) → IsNode r es → ⊥

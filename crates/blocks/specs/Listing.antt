@@ -20,7 +20,7 @@ abbrev pub passed : Option (List ℕ) → Taken (Option Event)
 passed None = None
 passed (Some rest) = Some (None, rest)
 
--- the event in front of bytes, where it is asked for, and the bytes behind it; none from the end of the range on
+-- the event at the start of bytes, where it is asked for, and the bytes after it; none from the end of the range on
 unfoldable pub next_asked : KeyRange → ℕ → ℕ → List ℕ → Taken (Option Event)
 next_asked range from to bytes =
     taken_then (point_from bytes)

@@ -29,7 +29,8 @@ events_of_block bytes = events_at (events_place bytes)
 
 -- the node of a rectangle, and of the events that are read of its block
 abbrev pub packed_of : Area → List ℕ → Packed
-packed_of r bytes = record { node = record { rect = r; events = events_of_block bytes }; bytes = bytes }
+packed_of r bytes =
+    record { node = record { rect = r; events = events_of_block bytes }; bytes = bytes }
 
 -- the bytes are the node's block
 abbrev pub IsPacked : Packed → Type 0

@@ -57,7 +57,7 @@ pub fn pack(alloc: Global, node: &DataNode) -> Mem<Bytes>
     Ok(Bytes::from_vec(bytes)?)
 }
 
-/// The node of a rectangle and so many events, behind which nothing stands.
+/// The node of a rectangle and so many events, with no bytes after them.
 fn counted_from(alloc: Global, rect: Rect, n: u8, bytes: &[u8]) -> Mem<Option<DataNode>>
     ensures some { IfOk result (λ found. IfSome found (λ m.
         IsCountedNode rect n bytes.now m)) }

@@ -74,7 +74,7 @@ pub(crate) fn point_from(bytes: &[u8]) -> Option<((&[u8], Instant), &[u8])>
     Some(((key, at), left))
 }
 
-/// What was taken from the front of bytes, and the bytes behind it.
+/// What was read at the start of bytes, and the bytes after it.
 pub(crate) type Taken<'a, T> = Option<(T, &'a [u8])>;
 
 #[tactic(auto, unfolding(crate::specs::Event::row_tagged))]

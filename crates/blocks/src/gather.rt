@@ -32,7 +32,7 @@ fn is_behind(event: &Event, last: Option<&SharedEvent>) -> bool
     }
 }
 
-/// Whether an event may stand behind those of a node.
+/// Whether an event may follow those of a node.
 #[tactic(auto, unfolding(crate::specs::Gather::is_next))]
 fn is_next(node: &DataNode, event: &Event) -> bool
     ensures is { result ≡ is_next node.now event.now }

@@ -195,7 +195,7 @@ fn row_at(alloc: Global, bytes: &[u8]) -> Mem<Option<Row>>
     }
 }
 
-/// How many events the node has that a block stands for.
+/// How many events the node has that a block represents.
 pub fn event_count(bytes: &[u8]) -> usize
     ensures { (n : Node) → IsBlockOf bytes.now n → result ≡ length n.events }
 {
@@ -205,7 +205,7 @@ pub fn event_count(bytes: &[u8]) -> usize
     }
 }
 
-/// A key's row at an instant, in the node that a block stands for, and in each map that the node is the cut of. One row
+/// A key's row at an instant, in the node that a block represents, and in each map that the node is the cut of. One row
 /// is made at most.
 pub fn at(alloc: Global, bytes: &[u8], key: &KeyBytes, instant: Instant) -> Mem<Option<Row>>
     ensures ok { IfOk result (λ row. (n : Node) →
@@ -221,7 +221,7 @@ pub fn at(alloc: Global, bytes: &[u8], key: &KeyBytes, instant: Instant) -> Mem<
     }
 }
 
-/// The instant of a key's last event above `start`, where there is one, in the node that a block stands for. It takes
+/// The instant of a key's last event above `start`, where there is one, in the node that a block represents. It takes
 /// no memory.
 pub fn changed_since(bytes: &[u8], key: &KeyBytes, start: Instant) -> Option<Instant>
     ensures { (n : Node) → IsBlockOf bytes.now n → result ≡ event_since n.events start key.now }
@@ -232,7 +232,7 @@ pub fn changed_since(bytes: &[u8], key: &KeyBytes, start: Instant) -> Option<Ins
     }
 }
 
-/// The instant of a key's first event above `after`, where there is one, in the node that a block stands for. It takes
+/// The instant of a key's first event above `after`, where there is one, in the node that a block represents. It takes
 /// no memory.
 pub(crate) fn next_change(bytes: &[u8], key: &KeyBytes, after: Instant) -> Option<Instant>
     ensures { (n : Node) → IsBlockOf bytes.now n → result ≡ event_after n.events after key.now }

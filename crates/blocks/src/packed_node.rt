@@ -19,7 +19,7 @@ use std::alloc::Global;
 use std::marker::Model;
 use values::{Instant, KeyBytes, Mem, Row, SharedEvent};
 
-/// A data node of history as its block. The rectangle stands beside the bytes, so that asking for it reads none of
+/// A data node of history as its block. The rectangle is kept beside the bytes, so that asking for it reads none of
 /// them.
 #[derive(Drop)]
 pub struct Block {

@@ -10,15 +10,14 @@ use Rattle.values.specs.Commits.{outcome, after, log_after}
 use Rattle.values.specs.Events.{AreKeysIn, IsKeyIn}
 use Rattle.values.specs.declared.key.Point.{Point}
 use Rattle.std.proofs.lemmas.List.Elements.{All-nil}
-use Rattle.values.proofs.VersionsNow.{add_all-push}
+use Rattle.values.proofs.LogPush.{add_all-push}
 use Rattle.blocks.specs.PackedNode.{Packed}
 use Rattle.tsbtree.specs.View.{TreeState, last as view_last, IsEmpty}
 use Rattle.tsbtree.specs.Growth.{HoldsSame}
 use Rattle.staging.specs.View.{Holds}
-use Rattle.validation.specs.declared.cut.Cut.{Cut}
 use Rattle.journal.specs.declared.entry.Begun.{Begun}
 use Rattle.journal.specs.declared.entry.Entry.{Entry}
-use Rattle.journal.specs.declared.entry.Entry.TheVariants.{Begin, Commit, Split, Install}
+use Rattle.journal.specs.declared.entry.Entry.TheVariants.{Begin, Commit, Install}
 use Rattle.journal.specs.Entries.{Entries, start_of, log, has_entry_of, has_ended, is_open}
 use Rattle.journal.specs.Legal.{IsLegal, MayFollow}
 use Rattle.book.specs.Book.{BookState, IsBook, most_entries, earlier_in, begin_entry, commit_entry}
@@ -70,16 +69,6 @@ begun schema b session number is few = record {
   legal = (may_begin schema b session number is, is.legal);
   holds = is.holds;
   clock = is.clock;
-  room = omega arith;
-}
-
--- ---- a split
-
-pub was_split : (schema : Schema) (b : BookState) (new : TreeState) (cut : Cut) (done : Bool) → IsBook schema b → HoldsSame b.engine new → length b.entries < most_entries → IsBook schema (book new (Split cut done ∷ b.entries))
-was_split schema b new cut done is same few = record {
-  legal = (tt, is.legal);
-  holds = record { events_are = same.events_are ∙ is.holds.events_are; keys = is.holds.keys; in_order = is.holds.in_order };
-  clock = same.last_is ∙ is.clock;
   room = omega arith;
 }
 

@@ -26,7 +26,7 @@ pub record BookState : Type 0 where
 abbrev pub most_entries : ℕ
 most_entries = 1000000
 
--- the journal is legal, the tree holds what its log changed, and the clock stands at its last instant
+-- the journal is legal, the tree holds what its log changed, and the clock is at its last instant
 pub record IsBook (schema : Schema) (b : BookState) : Type 0 where
   pub legal : IsLegal b.entries
   pub holds : Holds schema b.engine (changes (log b.entries))
@@ -72,6 +72,6 @@ pub record IsInstallEntry (packed : Packed) (old new : TreeState) (e : Entry) : 
   pub entry_is : e ≡ Install packed.node.rect packed.bytes done
   pub installed : IsInstalled done old new packed
 
--- no refusal but want of room in the journal or in memory
+-- no refusal but that the journal is full, or out of memory
 abbrev pub OnlyRoom : {T : Type 0} → Result T Refusal → Type 0
 OnlyRoom r = IfErr r (λ e. (e ≡ JournalFull) ⊎ (e ≡ Memory))

@@ -22,7 +22,7 @@ pub struct Opening<J: StoreName> {
 
 impl<J: StoreName> Book<J> {
     /// Begins a transaction of a session, which sees all that was committed. The entry names an earlier one of the session, by its number, if that is one, or else 0.
-    /// `JournalFull` where no more entries may stand. After a refusal nothing has changed.
+    /// `JournalFull` where there is no room for one more entry. After a refusal nothing has changed.
     pub fn begin(&mut self, session: u8, earlier: u64) -> Result<Opening<J>, Refusal>
         ensures entry { IfOk result (λ o.
             o.receipt.entry ≡ begin_entry self.old session earlier) }

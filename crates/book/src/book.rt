@@ -64,7 +64,7 @@ impl<J: StoreName> Book<J> {
     }
 }
 
-/// Makes room for one more entry. `JournalFull` where no more may stand. Where it is refused the entries are what they were.
+/// Makes room for one more entry. `JournalFull` where there is no room. Where it is refused the entries are what they were.
 pub(crate) fn make_room<J: StoreName>(journal: &mut Journal<J>) -> Result<(), Refusal>
     ensures ok { OnOk result (0 < journal.new.room) }
     ensures few { OnOk result (length journal.old.entries < most_entries) }

@@ -15,7 +15,7 @@ use validation::PackedNode;
 use values::{Mem, Refusal};
 
 impl<J: StoreName> Book<J> {
-    /// Puts a block in the place of its node, where that is in the tree unpacked: whether it was is in the entry, beside the node's rectangle and the block's bytes. `JournalFull` where no more entries may stand. After a refusal nothing has changed.
+    /// Puts a block in the place of its node, where that is in the tree unpacked: whether it was is in the entry, beside the node's rectangle and the block's bytes. `JournalFull` where there is no room for one more entry. After a refusal nothing has changed.
     pub fn install(&mut self, packed: PackedNode) -> Result<Receipt<J>, Refusal>
         ensures entry { IfOk result (λ r.
             IsInstallEntry packed self.old.engine self.new.engine r.entry) }

@@ -7,7 +7,7 @@ ghost use Rattle.book.specs.Outcomes.{entry_of};
 use growlog::StoreName;
 use journal::{Journal, Receipt, SharedEntry};
 
-/// The entries of a step that is done or not, each twice. Which of them stands is known only after the step, and then no
+/// The entries of a step that is done or not, each twice. Which of them holds is known only after the step, and then no
 /// memory is taken.
 #[derive(Drop)]
 pub(crate) struct Outcomes {

@@ -15,7 +15,7 @@ use validation::Cut;
 use values::{Mem, Refusal};
 
 impl<J: StoreName> Book<J> {
-    /// Splits the current data node of a key, where its cut lies inside the node: whether it did is in the entry. `JournalFull` where no more entries may stand. After a refusal nothing has changed.
+    /// Splits the current data node of a key, where its cut lies inside the node and is no instant after the last commit: whether it did is in the entry. `JournalFull` where there is no room for one more entry. After a refusal nothing has changed.
     pub fn split(&mut self, cut: Cut) -> Result<Receipt<J>, Refusal>
         ensures entry { IfOk result (λ r.
             IsSplitEntry cut self.old.engine self.new.engine r.entry) }

@@ -7,14 +7,14 @@ use Rattle.values.specs.declared.table.Table.{Table}
 use Rattle.values.specs.Log.{Row, last}
 use Rattle.values.specs.Tables.{Schema}
 use Rattle.histories.specs.History.{History, log}
-use Rattle.statement.specs.Writer.{AppendsFront}
+use Rattle.statement.specs.Writer.{AppendsPrefix}
 use Rattle.interleaving.specs.SystemState.{SystemState, Stands}
 use Rattle.scripts.specs.First.{history_of, first_refusal}
 use Rattle.command_line.specs.declared.fault.Fault.{Fault}
 use Rattle.command_line.specs.declared.fault.Fault.TheVariants.{Words, SchemaSyntax, BadTable, SchemaMemory, NoExport, Load, Read, Write, Socket, NotClosed, Memory}
 use Rattle.command_line.specs.Options.{name_in}
 use Rattle.interchange.specs.Report.{loaded_text}
-use Rattle.command_line.specs.Load.{IsNamed, FileSays, HasNoRows, IsLed, IsUnread, IsUntold, Unloaded, steps_of}
+use Rattle.command_line.specs.Load.{IsNamed, FileSays, HasNoRows, IsLed, IsUnread, IsUnreported, Unloaded, steps_of}
 
 same_text : (schema : Schema) (s : SystemState) (number : ℕ) (rows : List Row) (count instant : ℕ) → count ≡ length rows → s.schema ≡ schema → instant ≡ last (log s.schema (history_of (steps_of number rows)))
     → loaded_text count instant ≡ loaded_text (length rows) (last (log schema (history_of (steps_of number rows))))
@@ -39,7 +39,7 @@ led_with schema text number rows s old new count instant count_is says at is tak
 -- rows were taken, and not reported
 pub unloaded_late : (fault : Fault) (schema : Schema) (text : Text) (number : ℕ) (rows : List Row) (s : SystemState) (old new : Option (List ℕ)) (count instant : ℕ) → count ≡ length rows → FileSays schema text number (Ok rows)
     → Stands s (history_of (steps_of number rows)) → s.schema ≡ schema → first_refusal schema [] (steps_of number rows) ≡ None
-    → ((h : History) → Stands s h → instant ≡ last (log s.schema h)) → IsUntold fault (loaded_text count instant) old new
+    → ((h : History) → Stands s h → instant ≡ last (log s.schema h)) → IsUnreported fault (loaded_text count instant) old new
     → Unloaded fault schema (Some text) old new
 unloaded_late (Words f) schema text number rows s old new count instant count_is says at is taken instant_is untold = absurd untold
 unloaded_late (SchemaSyntax n) schema text number rows s old new count instant count_is says at is taken instant_is untold = absurd untold
@@ -54,7 +54,7 @@ unloaded_late Memory schema text number rows s old new count instant count_is sa
 unloaded_late Write schema text number rows s old new count instant count_is says at is taken instant_is untold = record {
   first = history_of (steps_of number rows);
   load = record { number = number; rows = rows; says = says; taken = taken; leaves = refl };
-  wrote = subst (AppendsFront old new) (same_text schema s number rows count instant count_is is (instant_is _ at)) untold;
+  wrote = subst (AppendsPrefix old new) (same_text schema s number rows count instant count_is is (instant_is _ at)) untold;
 }
 
 -- a table's file has no rows

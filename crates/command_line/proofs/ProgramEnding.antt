@@ -1,9 +1,8 @@
 -- What the program's parts leave, one after another.
-use Rattle.std.proofs.Common.{◌≡◌, ℕ, List, Option, Some, None, true, false, sym, subst, inl, inr}
+use Rattle.std.proofs.Common.{◌≡◌, ℕ, List, Option, true, false, sym, subst, inl, inr}
 use Rattle.std.specs.Prelude.{Result, Ok, Err, IfErr, OnOk}
 use Rattle.std.proofs.KnownBytes.{Keeps-refl}
 use Rattle.clap.specs.Words.{Text}
-use Rattle.values.specs.Tables.{Schema}
 use Rattle.histories.specs.History.{History}
 use Rattle.interleaving.specs.SystemState.{SystemState, Stands}
 use Rattle.command_line.specs.declared.options.Options.{Options}
@@ -11,14 +10,11 @@ use Rattle.command_line.specs.declared.options.WordsFault.{WordsFault}
 use Rattle.command_line.specs.declared.fault.Fault.{Fault}
 use Rattle.command_line.specs.declared.fault.Fault.TheVariants.{Words, SchemaSyntax, BadTable, SchemaMemory, NoExport, Load, Read, Write, Socket, NotClosed, Memory}
 use Rattle.listening.specs.declared.connection.ListenFault.TheVariants as listen
-use Rattle.listening.specs.declared.server.ServerFault.{ServerFault}
 use Rattle.listening.specs.declared.server.ServerFault.TheVariants as server
-use Rattle.command_line.specs.Fault.{is_of_words, of_server}
-use Rattle.command_line.specs.Options.{Asked, AskedMode, Scripts, Listens, Gives, Refuses, asked_of}
-use Rattle.command_line.specs.Load.{Unloaded}
+use Rattle.command_line.specs.Fault.{is_of_words}
+use Rattle.command_line.specs.Options.{Gives, Refuses, asked_of}
 use Rattle.command_line.specs.Export.{HasExported, Unexported}
-use Rattle.command_line.specs.Server.{IsNoFirst, HaltsServing}
-use Rattle.command_line.specs.Program.{HaltsAt, HaltsMode, HaltsOn, Halts, HasRun, HasRunOn, IsFaulty, IsOfSchema, IsRefused, IsStuck, IsUnanswered}
+use Rattle.command_line.specs.Program.{HaltsOn, HasRun, HasRunOn, IsFaulty, IsRefused, IsStuck, IsUnanswered}
 use Rattle.command_line.proofs.FaultKinds.{of_words}
 
 -- ---- the script, then the export
@@ -50,55 +46,6 @@ halts_late (Err fault) script number system s unread left old mid new ran same u
       ran = x;
       unexported = subst (λ c. Unexported fault c number x.end mid new) (same h at) (unexported x.end (subst (Stands s) (sym x.end_is) x.run.stands));
     })
-
--- ---- none of these is a fault of words
-
-no_schema : (f : WordsFault) (file : Option Text) → IsOfSchema file (Words f) → ⊥
-no_schema f None x = x
-no_schema f (Some t) x = x
-
-no_load : (f : WordsFault) (schema : Schema) (text : Option Text) (old new : Option (List ℕ)) → Unloaded (Words f) schema text old new → ⊥
-no_load f schema None old new x = x
-no_load f schema (Some t) old new x = x
-
-no_export : (f : WordsFault) (schema : Schema) (number : Option ℕ) (h : History) (old new : Option (List ℕ)) → Unexported (Words f) schema number h old new → ⊥
-no_export f schema None h old new x = x
-no_export f schema (Some n) h old new x = x
-
-no_rest : (f : WordsFault) (script : Option Text) (number : Option ℕ) (schema : Schema) (h : History) (unread left old new : Option (List ℕ)) → HaltsOn (Words f) script number schema h unread left old new → ⊥
-no_rest f script number schema h unread left old new (inl x) = x
-no_rest f script number schema h unread left old new (inr late) = no_export f schema number late.ran.end late.between new late.unexported
-
-no_halt : (f : WordsFault) (text script : Option Text) (number : Option ℕ) (schema : Schema) (unread left old new : Option (List ℕ)) → HaltsAt (Words f) text script number schema unread left old new → ⊥
-no_halt f text script number schema unread left old new (inl early) = no_load f schema text old new early.unloaded
-no_halt f text script number schema unread left old new (inr loaded) = no_rest f script number schema loaded.first unread left loaded.between new loaded.rest
-
-no_first : (f : WordsFault) (text : Option Text) (schema : Schema) → IsNoFirst (Words f) text schema → ⊥
-no_first f None schema x = x
-no_first f (Some t) schema x = x
-
-not_of_server : (f : WordsFault) (why : ServerFault) → Words f ≡ of_server why → ⊥
-not_of_server f (server.Load refusal) e = cc e
-not_of_server f server.Write e = cc e
-not_of_server f (server.Listen listen.Socket) e = cc e
-not_of_server f (server.Listen listen.Memory) e = cc e
-not_of_server f (server.Listen listen.NotClosed) e = cc e
-
-no_serving : (f : WordsFault) (text : Option Text) (number : Option ℕ) (schema : Schema) (unread left old new : Option (List ℕ)) → HaltsServing (Words f) text number schema unread left old new → ⊥
-no_serving f text number schema unread left old new (inl x) = no_first f text schema x.0
-no_serving f text number schema unread left old new (inr stops) = not_of_server f stops.why stops.fault_is
-
-no_mode : (f : WordsFault) (mode : AskedMode) (text : Option Text) (number : Option ℕ) (schema : Schema) (unread left old new : Option (List ℕ)) → HaltsMode (Words f) mode text number schema unread left old new → ⊥
-no_mode f (Scripts script) text number schema unread left old new x = no_halt f text script number schema unread left old new x
-no_mode f (Listens port sessions) text number schema unread left old new x = no_serving f text number schema unread left old new x
-
-no_fault : (f : WordsFault) (asked : Asked) (schema : Schema) (unread left old new : Option (List ℕ)) → Halts (Words f) asked schema unread left old new → ⊥
-no_fault f asked schema unread left old new (inl unknown) = cc unknown.fault_is
-no_fault f asked schema unread left old new (inr halted) = no_mode f asked.mode asked.load halted.number schema unread left old new halted.halts
-
-not_stuck : (f : WordsFault) (asked : Asked) (unread left old new : Option (List ℕ)) → IsStuck (Words f) asked unread left old new → ⊥
-not_stuck f asked unread left old new (inl x) = no_schema f asked.schema x.0
-not_stuck f asked unread left old new (inr halted) = no_fault f asked halted.schema unread left old new halted.halts
 
 -- ---- the words, where they are taken
 

@@ -13,7 +13,7 @@ use Rattle.histories.specs.declared.step.Step.TheVariants.{Select}
 use Rattle.histories.specs.declared.step.Listing.TheVariants.{Periods}
 use Rattle.histories.specs.declared.step.Reply.TheVariants.{Shown as Shows}
 use Rattle.histories.specs.History.{History, reply}
-use Rattle.statement.specs.Writer.{AppendsFront}
+use Rattle.statement.specs.Writer.{AppendsPrefix}
 use Rattle.interchange.specs.Version.{export_text}
 use Rattle.command_line.specs.declared.fault.Fault.{Fault}
 use Rattle.command_line.specs.declared.fault.Fault.TheVariants.{NoExport, Write, Memory}
@@ -21,7 +21,8 @@ use Rattle.command_line.specs.declared.fault.Fault.TheVariants.{NoExport, Write,
 -- the number of the table that is asked for, where one is
 abbrev pub Exports : Schema → Option Text → Option ℕ → Type 0
 Exports schema None number = number ≡ None
-Exports schema (Some name) number = (n : ℕ) × (number ≡ Some n) × (table_number schema name ≡ Some n)
+Exports schema (Some name) number =
+    (n : ℕ) × (number ≡ Some n) × (table_number schema name ≡ Some n)
 
 -- there is no such table
 abbrev pub IsUnknown : Schema → Option Text → Type 0
@@ -52,7 +53,7 @@ pub record IsHalfWritten (schema : Schema) (number : ℕ) (h : History) (old new
   pub table : Table
   pub shown : List Shown
   pub has : HasVersions schema number h table shown
-  pub wrote : AppendsFront old new (export_text table shown)
+  pub wrote : AppendsPrefix old new (export_text table shown)
 
 -- after a history a table was exported, where one is asked for, and nothing else was written
 abbrev pub HasExported : Schema → Option ℕ → History → (old new : Option (List ℕ)) → Type 0

@@ -11,7 +11,7 @@ use Rattle.values.specs.Tables.{Schema, IsTable, table_at}
 use Rattle.histories.specs.declared.step.Step.{Step}
 use Rattle.histories.specs.declared.step.Step.TheVariants.{Begin, Insert, Commit}
 use Rattle.histories.specs.History.{History, log}
-use Rattle.statement.specs.Writer.{AppendsFront}
+use Rattle.statement.specs.Writer.{AppendsPrefix}
 use Rattle.interleaving.specs.SystemState.{SystemState, Stands}
 use Rattle.interchange.specs.Load.{Loads}
 use Rattle.interchange.specs.Report.{loaded_text}
@@ -73,13 +73,14 @@ abbrev pub IsNoLoad : Schema → Text → Refusal → Type 0
 IsNoLoad schema text refusal =
     (refusal ≡ OutOfMemory)
     ⊎ (((refusal ≡ NoTable) × (table_number schema (name_in text) ≡ None))
-    ⊎ (((number : ℕ) × FileSays schema text number (Err refusal)) ⊎ IsRefusedLoad schema text refusal))
+    ⊎ (((number : ℕ) × FileSays schema text number (Err refusal))
+    ⊎ IsRefusedLoad schema text refusal))
 
 -- the writer failed in the report
 pub record IsHalfReported (schema : Schema) (text : Text) (old new : Option (List ℕ)) : Type 0 where
   pub first : History
   pub load : IsLoad schema text first
-  pub wrote : AppendsFront old new (loaded_text (length load.rows) (last (log schema first)))
+  pub wrote : AppendsPrefix old new (loaded_text (length load.rows) (last (log schema first)))
 
 -- what a fault of a load leaves: nothing was written, unless the writer failed
 abbrev pub Unloaded : Fault → Schema → Option Text → (old new : Option (List ℕ)) → Type 0
@@ -120,7 +121,7 @@ IsUntaken (Load refusal) schema number rows =
 IsUntaken fault schema number rows = ⊥
 
 -- a report was not written whole
-abbrev pub IsUntold : Fault → (text : List ℕ) → (old new : Option (List ℕ)) → Type 0
-IsUntold Memory text old new = Keeps old new
-IsUntold Write text old new = AppendsFront old new text
-IsUntold fault text old new = ⊥
+abbrev pub IsUnreported : Fault → (text : List ℕ) → (old new : Option (List ℕ)) → Type 0
+IsUnreported Memory text old new = Keeps old new
+IsUnreported Write text old new = AppendsPrefix old new text
+IsUnreported fault text old new = ⊥

@@ -9,7 +9,7 @@ use Rattle.rows.specs.declared.schema_reading.SchemaFault.TheVariants as schema
 use Rattle.histories.specs.History.{History}
 use Rattle.interleaving.specs.SystemState.{SystemState}
 use Rattle.statement.specs.Line.{line_says}
-use Rattle.statement.specs.Writer.{AppendsFront}
+use Rattle.statement.specs.Writer.{AppendsPrefix}
 use Rattle.scripts.specs.Script.{IsIdle}
 use Rattle.scripts.specs.Transcript.{IsRunAfter, IsCutAfter, IsStoppedAfter, leaves_after}
 use Rattle.command_line.specs.declared.fault.Fault.{Fault}
@@ -182,11 +182,11 @@ pub record HasAnswered (words : List Text) (old new : Option (List ℕ)) : Type 
 pub record HasHalfAnswered (words : List Text) (old new : Option (List ℕ)) : Type 0 where
   pub request : AreRequest words
   pub text : List ℕ
-  pub wrote : AppendsFront old new text
+  pub wrote : AppendsPrefix old new text
 
 -- what a fault leaves of a text
 abbrev pub IsUnshown : Fault → (old new : Option (List ℕ)) → Type 0
-IsUnshown Write old new = (text : List ℕ) × AppendsFront old new text
+IsUnshown Write old new = (text : List ℕ) × AppendsPrefix old new text
 IsUnshown Memory old new = Keeps old new
 IsUnshown fault old new = ⊥
 

@@ -7,7 +7,7 @@ ghost use Rattle.histories.specs.declared.step.Reply.TheVariants.{Shown as Shows
 ghost use Rattle.interchange.specs.Version.{export_text};
 ghost use Rattle.interleaving.specs.SystemState.{Stands};
 ghost use Rattle.listening.specs.Server.{IsExportOf};
-ghost use Rattle.statement.specs.Writer.{AppendsFront};
+ghost use Rattle.statement.specs.Writer.{AppendsPrefix};
 ghost use Rattle.command_line.specs.Export.{Exports, HasExported, IsOfWriting, IsUnknown, Unexported, all_versions};
 
 use crate::fault::{Fault, export_fault};
@@ -60,7 +60,7 @@ fn put_versions<O: Write>(
     ensures ok { OnOk result (Appends (O.contents out.old) (O.contents out.new)
         (export_text table.now shown.now)) }
     ensures err { IfErr result (λ fault. IsOfWriting fault
-        × AppendsFront (O.contents out.old) (O.contents out.new)
+        × AppendsPrefix (O.contents out.old) (O.contents out.new)
         (export_text table.now shown.now)) }
 {
     match export(alloc, out, table, shown) {

@@ -1,4 +1,4 @@
-//! Why the program stops before its end. Each text is written here alone, but for those of refusals.
+//! Why the program stops before its end. Each text is written here alone, but for those of refusals and of words.
 ghost use Rattle.std.specs.Prelude.{◌≡◌, true, false};
 ghost use Rattle.command_line.specs.Fault.{is_of_words, of_export, of_load, of_run, of_schema, of_server};
 
@@ -30,7 +30,7 @@ pub enum Fault {
     SchemaMemory,
     #[error("export: E2 no table")]
     NoExport,
-    /// Behind this text stands the refusal's own.
+    /// The refusal's own text follows this one.
     #[error("load: ")]
     Load(Refusal),
     #[error("read fault")]
@@ -116,7 +116,7 @@ pub fn tell<E: Write>(err: &mut E, fault: &Fault) -> u8
     ensures words { is_of_words fault.now ≡ true → result ≡ WORDS }
     ensures other { is_of_words fault.now ≡ false → result ≡ FAULT }
 {
-    // Nobody is left to be told where standard error fails too.
+    // There is nowhere left to report it where standard error fails too.
     match fault {
         // The texts of words end their last line themselves.
         Fault::Words(words) => {

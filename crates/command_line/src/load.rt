@@ -12,7 +12,7 @@ ghost use Rattle.interchange.specs.Load.{Loads};
 ghost use Rattle.interchange.specs.Report.{loaded_text};
 ghost use Rattle.scripts.specs.First.{history_of, first_refusal};
 ghost use Rattle.command_line.specs.Options.{name_in};
-ghost use Rattle.command_line.specs.Load.{IsLed, IsNamed, FileSays, HasNoRows, IsUnread, IsUntaken, IsUntold, Unloaded, steps_of};
+ghost use Rattle.command_line.specs.Load.{IsLed, IsNamed, FileSays, HasNoRows, IsUnread, IsUntaken, IsUnreported, Unloaded, steps_of};
 
 use crate::fault::{Fault, load_fault};
 use crate::output::put;
@@ -158,7 +158,7 @@ fn last_instant(system: &System) -> Instant
 fn report<O: Write>(alloc: Global, out: &mut O, count: usize, instant: Instant) -> Result<(), Fault>
     ensures ok { OnOk result (
         Appends (O.contents out.old) (O.contents out.new) (loaded_text count instant)) }
-    ensures err { IfErr result (λ fault. IsUntold fault (loaded_text count instant)
+    ensures err { IfErr result (λ fault. IsUnreported fault (loaded_text count instant)
         (O.contents out.old) (O.contents out.new)) }
 {
     match loaded_line(alloc, count, instant) {

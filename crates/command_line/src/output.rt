@@ -1,7 +1,7 @@
 //! Texts that are written whole and passed on at once.
 ghost use Rattle.std.specs.Prelude.{◌≡◌, OnOk, IfErr};
 ghost use Rattle.std.specs.Io.KnownBytes.{Appends, Keeps};
-ghost use Rattle.statement.specs.Writer.{AppendsFront};
+ghost use Rattle.statement.specs.Writer.{AppendsPrefix};
 
 use crate::fault::Fault;
 use interchange::put_whole;
@@ -22,7 +22,7 @@ pub fn flush<O: Write>(out: &mut O) -> Result<(), Fault>
 pub fn put<O: Write>(out: &mut O, text: &[u8]) -> Result<(), Fault>
     ensures ok { OnOk result (Appends (O.contents out.old) (O.contents out.new) text.now) }
     ensures err { IfErr result (λ fault. (fault ≡ Fault.Write)
-        × AppendsFront (O.contents out.old) (O.contents out.new) text.now) }
+        × AppendsPrefix (O.contents out.old) (O.contents out.new) text.now) }
 {
     match put_whole(out, text) {
         Ok(()) => Ok(()),

@@ -35,7 +35,7 @@ use std::time::Clock;
 /// All was done. Refused lines are replies, and no faults.
 pub const DONE: u8 = 0;
 
-/// Runs the program: reads a script over a schema, each from standard input or from a file as the
+/// Runs the program: reads a script, from standard input or a file, over the schema of a file or the sample, as the
 /// words ask for, and writes its transcript, or serves connections; before it the rows of a file may
 /// be loaded, and after it a table may be exported. The answer is the status: 0 done, 1 a fault, 2 words that are refused; a
 /// fault is reported on standard error. Help and the version are written like other output.
@@ -95,7 +95,7 @@ where
         (I.remaining reader.old) (I.remaining reader.new)
         (O.contents out.old) (O.contents out.new)) }
 {
-    match words::words(rt.alloc(), words) {
+    match options::words(rt.alloc(), words) {
         Ok(options) => run_options(rt, options, reader, out),
         Err(fault) => answer(rt.alloc(), out, fault),
     }

@@ -396,7 +396,7 @@ pub const DIALOGUES: [Dialogue; 16] = [
     ("an empty script has an empty transcript", "", ""),
     ("a last line needs no line feed", "1: BEGIN", "begun 0\n"),
     (
-        "a text without its closing quote cannot stand",
+        "a text without its closing quote is unexpected",
         "1: INSERT INTO emp VALUES (1, 'Ann\n",
         "E1 syntax at 30\n",
     ),

@@ -1,11 +1,11 @@
 -- An event that is put elsewhere changes no cut.
 use Rattle.std.proofs.Common.{◌≡◌, ℕ, ◌<◌, ◌≤◌, Bool, true, false, ◌&&◌, ◌||◌, not, cond, List, [], ◌∷◌, Option, Some, None, refl, sym, ap, subst, ◌∙◌, inl, inr, arith}
-use Rattle.std.specs.Prelude.{nat_le, nat_lt, is_some}
+use Rattle.std.specs.Prelude.{nat_lt, is_some}
 use Rattle.std.specs.List.{filter, list_any}
 use Rattle.std.specs.Ordering.{match_ordering}
 use Rattle.std.specs.declared.cmp.Ordering.{Ordering}
 use Rattle.std.specs.declared.cmp.Ordering.TheVariants.{Less, Equal, Greater}
-use Rattle.std.proofs.lemmas.Bool.{ltb-true, lt-ltb, cases_lt, false≢true}
+use Rattle.std.proofs.lemmas.Bool.{ltb-true, lt-ltb, cases_lt}
 use Rattle.values.specs.Event.{Event}
 use Rattle.values.specs.Events.{event_cmp, put_event}
 use Rattle.keyrange.specs.Range.{is_early, is_key_in, is_time_in}
@@ -15,7 +15,7 @@ use Rattle.eventlist.specs.Overtaking.{overtakes}
 use Rattle.eventlist.proofs.OvertakingNext.{overtakes_is, never}
 use Rattle.datanode.specs.Cut.{is_carried, in_cut, cut}
 use Rattle.datanode.specs.Law.{IsElsewhere}
-use Rattle.datanode.proofs.CutMembers.{In, filter_alike}
+use Rattle.datanode.proofs.CutMembers.{filter_alike}
 use Rattle.datanode.proofs.CutLaws.{in_cut_decides, IsInCut}
 use Rattle.datanode.proofs.NodePut.{event_equal}
 

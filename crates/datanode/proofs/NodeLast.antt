@@ -1,25 +1,20 @@
 -- A key's last event, and which events a node accepts.
-use Rattle.std.proofs.Common.{◌↔◌, IsTrue, ◌≡◌, ℕ, ◌-◌, ◌<◌, ◌≤◌, Bool, true, false, ◌&&◌, not, List, [], ◌∷◌, Option, Some, None, refl, sym, ap, ◌∙◌, subst, inl, inr, arith, length, get_or, if◌then◌else◌}
-use Rattle.std.specs.Ordering.{is_eq, is_lt}
-use Rattle.std.specs.declared.cmp.Ordering.TheVariants.{Less}
+use Rattle.std.proofs.Common.{◌↔◌, IsTrue, ◌≡◌, ℕ, ◌-◌, ◌<◌, Bool, true, false, ◌&&◌, List, [], ◌∷◌, Option, Some, None, refl, sym, ap, ◌∙◌, subst, inl, inr, arith, get_or, if◌then◌else◌}
 use Rattle.std.specs.Prelude.{is_none}
-use Rattle.std.proofs.lemmas.Bool.{ltb-true, lt-ltb, cases_lt, cases_order, and_parts, and_from, false≢true}
-use Rattle.std.proofs.lemmas.List.{get_or_default}
-use Rattle.std.proofs.lemmas.Map.Keys.{Less-from_sorted}
+use Rattle.std.proofs.lemmas.Bool.{ltb-true, lt-ltb, cases_lt, and_parts, and_from}
 use Rattle.values.specs.Event.{Event}
-use Rattle.values.specs.Events.{bytes_cmp, is_bytes, event_cmp, later}
+use Rattle.values.specs.Events.{is_bytes, later}
 use Rattle.keyrange.specs.Rect.{Area, has_point, IsArea}
-use Rattle.keyrange.specs.Range.{is_below, is_early, is_key_in}
-use Rattle.keyrange.proofs.RangeOrder.{not_itself}
+use Rattle.keyrange.specs.Range.{is_early, is_key_in}
 use Rattle.eventlist.specs.Place.{last_event}
-use Rattle.eventlist.proofs.PlaceOrder.{is_own, same_bytes, is_lower, is_bytes_back, bytes_tie}
+use Rattle.eventlist.proofs.PlaceOrder.{is_own, same_bytes}
 use Rattle.datanode.specs.Cut.{IsMap, in_cut, cut}
 use Rattle.datanode.specs.Node.{Node, IsLast, Accepts, last_before, kept_from, is_after, accepts}
 use Rattle.datanode.proofs.CutMembers.{In, In-from_filter}
 use Rattle.keyrange.proofs.RectInside.{facts_of}
 use Rattle.datanode.proofs.CutOrder.{In_place, at_In}
 use Rattle.datanode.proofs.CutLaws.{IsInCut, in_cut_decides, ends_earlier}
-use Rattle.datanode.proofs.LawLast.{last_such, found_such, none_passes, later_is_above, is_last_such, none_such, before_such, not_below_itself, not_below_back, latest_in_cut}
+use Rattle.datanode.proofs.LawLast.{last_such, found_such, none_passes, later_is_above, before_such, latest_in_cut}
 
 abbrev of : List ℕ → Event → Bool
 of key e = is_bytes key e.key && true

@@ -1,5 +1,5 @@
 -- What cuts amount to.
-use Rattle.std.specs.Prelude.{◌≡◌, ◌⊎◌, ℕ, List, ◌++◌, Bool, false, Some, ◌||◌, not, nat_le, nat_lt, filter, IsTrue}
+use Rattle.std.specs.Prelude.{◌≡◌, ◌⊎◌, ℕ, List, ◌++◌, false, Some, ◌||◌, not, nat_le, nat_lt, filter, IsTrue}
 use Rattle.values.specs.Event.{Event}
 use Rattle.values.specs.Events.{put_event, row_until}
 use Rattle.keyrange.specs.Rect.{Area, has_point, IsArea, IsInside}

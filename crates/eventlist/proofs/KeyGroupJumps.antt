@@ -1,5 +1,5 @@
 -- From key to key: the events of one key stand together, and of them one alone may stand at an instant.
-use Rattle.std.proofs.Common.{◌≡◌, ℕ, ◌-◌, ◌<◌, ◌≤◌, Bool, true, false, ◌&&◌, ◌||◌, List, [], ◌∷◌, ◌++◌, refl, sym, ap, subst, ◌∙◌, arith, zero, suc, length, get_or, take, drop, cond, nat_le, nat_lt, not, is_some, filter, min, length-take, get_or-take, append_assoc}
+use Rattle.std.proofs.Common.{◌≡◌, ℕ, ◌-◌, ◌<◌, ◌≤◌, Bool, true, false, ◌&&◌, ◌||◌, List, [], ◌∷◌, ◌++◌, refl, sym, ap, subst, ◌∙◌, arith, zero, suc, length, get_or, take, cond, nat_le, nat_lt, not, is_some, filter, min, length-take, get_or-take, append_assoc}
 use Rattle.std.proofs.lemmas.Option.{slice_get-get_or}
 use Rattle.std.specs.Ordering.{nat_cmp, ordering_then, match_ordering, is_lt}
 use Rattle.std.specs.declared.cmp.Ordering.{Ordering}
@@ -19,7 +19,7 @@ use Rattle.eventlist.specs.KeyGroup.{is_up_to, first_key, AreOfKey, AreAbove}
 use Rattle.eventlist.proofs.PlaceOrder.{bytes_tie, bytes_exact, is_lower, sorted_head, sorted_tail, within_tail, within_rest, within_head}
 use Rattle.eventlist.proofs.OvertakingNext.{overtakes_is, is_overtakes, never, not_earlier, stands_before, stands_is}
 use Rattle.eventlist.proofs.ListingRanges.{not_above, not_above_parts, none_pass}
-use Rattle.eventlist.proofs.PlaceParts.{first_same, same_filter, dropped_fail}
+use Rattle.eventlist.proofs.PlaceParts.{first_same, same_filter}
 
 -- ---- the first key's events
 
@@ -57,13 +57,6 @@ some_first [] zero some h = absurd (omega arith)
 some_first (x ∷ xs) zero some h =
     let clash : ◌≡◌ {A = Bool} true false = sym (ap not (not_below_itself x.key)) ∙ within_head (λ y. not_above x.key y ≡ false) x xs (length xs) h.1 in cc
 
-pub others_above : (key : List ℕ) (es : List Event) (n : ℕ) → n ≤ length es → AreFirst (not_above key) es n → AreAbove key (drop n es)
-others_above key es n le h = All-weaker (λ (e : Event). not_above key e ≡ false) (λ (e : Event). is_below key e.key ≡ true) (λ e is. turned (is_below key e.key) is) (drop n es) (dropped_fail (not_above key) es n le h)
-  where
-    turned : (b : Bool) → not b ≡ false → b ≡ true
-    turned true is = refl
-    turned false is = cc
-
 -- from a place on that is past the key there is none of it
 pub past_none : (key : List ℕ) (es : List Event) (reach r : ℕ) → IsStrictlySortedBy event_cmp es → is_up_to key (slice_get es reach) ≡ false → r ≡ min reach (length es) → AllWithin (λ e. not_above key e ≡ false) es r (length es)
 past_none key es reach r sorted is least k d low high = by (not_above key (get_or es k d)) refl
@@ -77,11 +70,6 @@ past_none key es reach r sorted is least k d low high = by (not_above key (get_o
     by : (b : Bool) → not_above key (get_or es k d) ≡ b → b ≡ false
     by false e = refl
     by true e = sym (not_above_parts key es sorted reach k d inside high e) ∙ there
-
-pub in_list : (key : List ℕ) (es : List Event) (i : ℕ) → is_up_to key (slice_get es i) ≡ true → i < length es
-in_list key [] i is = cc
-in_list key (e ∷ es) zero is = omega arith
-in_list key (e ∷ es) (suc i) is = let lt : i < length es = in_list key es i is in omega arith
 
 -- the place of a key among the first events is its place where behind them there is none of it
 pub first_within : (p : Event → Bool) (es : List Event) (r n : ℕ) → r ≤ length es → n ≤ length (take r es) → AllWithin (λ e. p e ≡ false) es r (length es) → AreFirst p (take r es) n → AreFirst p es n

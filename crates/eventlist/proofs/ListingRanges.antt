@@ -1,5 +1,5 @@
 -- Events of a range of keys stand together.
-use Rattle.std.proofs.Common.{◌≡◌, ℕ, ◌≤◌, Bool, true, false, ◌&&◌, List, [], ◌∷◌, refl, sym, ap, subst, ◌∙◌, arith, zero, suc, length, take, drop, not, filter, if◌then◌else◌, get_or, min}
+use Rattle.std.proofs.Common.{◌≡◌, ℕ, ◌≤◌, Bool, true, false, ◌&&◌, List, [], ◌∷◌, refl, sym, ap, subst, ◌∙◌, arith, zero, suc, length, drop, not, filter, if◌then◌else◌, get_or, min}
 use Rattle.std.specs.Ordering.{nat_cmp, ordering_then, is_lt}
 use Rattle.std.specs.declared.cmp.Ordering.{Ordering}
 use Rattle.std.specs.declared.cmp.Ordering.TheVariants.{Less, Equal, Greater}
@@ -11,7 +11,7 @@ use Rattle.values.specs.Events.{bytes_cmp, event_cmp}
 use Rattle.keyrange.specs.Range.{is_below}
 use Rattle.keyrange.proofs.RangeOrder.{is_less}
 use Rattle.eventlist.specs.KeyGroup.{is_below_key}
-use Rattle.eventlist.proofs.PlaceOrder.{bytes_total, bytes_exact, partitioned, within_tail, within_rest, within_head}
+use Rattle.eventlist.proofs.PlaceOrder.{bytes_total, bytes_exact, partitioned, within_rest, within_head}
 
 -- ---- a range
 
@@ -26,16 +26,6 @@ module _ (p : Event → Bool) where
   front_dropped low fails [] (suc n) h le = absurd (omega arith)
   front_dropped low fails (e ∷ es) (suc n) h le =
       ap (λ c. if c then e ∷ filter p es else filter p es) (fails e (within_head (λ e. low e ≡ true) e es n h)) ∙ front_dropped low fails es n (within_rest (λ e. low e ≡ true) e es n h) (omega arith)
-
-  pub back_cut : (high : Event → Bool) → ((e : Event) → high e ≡ false → p e ≡ false) → (es : List Event) (n : ℕ) → AllWithin (λ e. high e ≡ false) es n (length es) → filter p es ≡ filter p (take n es)
-  back_cut high fails [] zero h = refl
-  back_cut high fails [] (suc n) h = refl
-  back_cut high fails (e ∷ es) zero h = none_pass high false fails (e ∷ es) h
-  back_cut high fails (e ∷ es) (suc n) h =
-      ap (λ l. if p e then e ∷ l else l) (back_cut high fails es n (within_tail (λ e. high e ≡ false) e es n (length es) h)) ∙ moved (p e)
-    where
-      moved : (c : Bool) → (if c then e ∷ filter p (take n es) else filter p (take n es)) ≡ (if c then e ∷ filter p (take n es) else filter p (take n es))
-      moved c = refl
 
 -- ---- places of keys
 

@@ -4,7 +4,7 @@ use Rattle.std.specs.declared.cmp.Ordering.{Ordering}
 use Rattle.std.specs.declared.cmp.Ordering.TheVariants.{Less}
 use Rattle.std.specs.List.{AllByRecursion, AllWithin}
 use Rattle.std.specs.List.Sorted.{IsStrictlySortedBy}
-use Rattle.std.proofs.lemmas.List.Elements.{All-nil, All-cons}
+use Rattle.std.proofs.lemmas.List.Elements.{All-nil}
 use Rattle.values.specs.Event.{Event}
 use Rattle.eventlist.specs.Place.{AreFirst}
 use Rattle.eventlist.proofs.PlaceOrder.{sorted_head, sorted_tail, sorted_cons, sorted_none, within_tail, within_rest, within_head}
@@ -14,13 +14,6 @@ use Rattle.eventlist.proofs.ListingRanges.{none_pass}
 
 pub all_false : (p : Event → Bool) (es : List Event) → AllWithin (λ e. p e ≡ false) es 0 (length es) → All (λ e. p e ≡ false) es
 all_false p es h k d lt = h k d (omega arith) lt
-
-pub taken_pass : (p : Event → Bool) (es : List Event) (n : ℕ) → n ≤ length es → AreFirst p es n → All (λ e. p e ≡ true) (take n es)
-taken_pass p es zero le h = All-nil (λ e. p e ≡ true)
-taken_pass p [] (suc n) le h = All-nil (λ e. p e ≡ true)
-taken_pass p (e ∷ es) (suc n) le h =
-    All-cons (λ e. p e ≡ true) e (take n es) (within_head (λ e. p e ≡ true) e es n h.0)
-    (taken_pass p es n (omega arith) (within_rest (λ e. p e ≡ true) e es n h.0, within_tail (λ e. p e ≡ false) e es n (length es) h.1))
 
 pub dropped_fail : (p : Event → Bool) (es : List Event) (n : ℕ) → n ≤ length es → AreFirst p es n → All (λ e. p e ≡ false) (drop n es)
 dropped_fail p es zero le h = all_false p es h.1
@@ -51,11 +44,6 @@ same_filter p q (e ∷ es) h =
 -- ---- parts of what is in order
 
 module _ {X : Type 0} (R : X → X → Ordering) where
-  all_dropped : (P : X → Type 0) (xs : List X) (n : ℕ) → AllByRecursion P xs → AllByRecursion P (drop n xs)
-  all_dropped P xs zero h = h
-  all_dropped P [] (suc n) h = tt
-  all_dropped P (x ∷ xs) (suc n) h = all_dropped P xs n h.1
-
   all_taken : (P : X → Type 0) (xs : List X) (n : ℕ) → AllByRecursion P xs → AllByRecursion P (take n xs)
   all_taken P xs zero h = tt
   all_taken P [] (suc n) h = tt

@@ -11,10 +11,10 @@ abbrev pub events_in : List Event → KeyRange → ℕ → ℕ → List Event
 events_in es range from to =
     filter (λ e. is_key_in range e.key && (nat_le from e.at && nat_le e.at to)) es
 
--- e's row stands at the instant
+-- e's row holds at the instant
 unfoldable pub stands_at : List Event → ℕ → Event → Bool
 stands_at es t e = nat_le e.at t && (is_some e.row && not (list_any (overtakes e t) es))
 
--- by key: of each key that passes a test, the event whose row stands at an instant
+-- by key: of each key that passes a test, the event whose row holds at an instant
 abbrev pub standing : List Event → (List ℕ → Bool) → ℕ → List Event
 standing es p t = filter (λ e. p e.key && stands_at es t e) es

@@ -75,7 +75,7 @@ pub fn place_until(events: &[SharedEvent], instant: Instant) -> usize
     }
 }
 
-/// Of a key's events the one whose row stands at the instant.
+/// Of a key's events the one whose row holds at the instant.
 pub(crate) fn standing_of(events: &[SharedEvent], instant: Instant) -> Option<&SharedEvent>
     requires sorted { IsStrictlySortedBy event_cmp events.now }
     requires one_key { AreOfKey (first_key events.now) events.now }

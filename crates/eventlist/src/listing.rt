@@ -48,7 +48,7 @@ fn events_between(
     Ok(found)
 }
 
-/// By key: the event of each key of a range whose row stands at an instant. It jumps from key to key.
+/// By key: the event of each key of a range whose row holds at an instant. It jumps from key to key.
 pub fn standing(
     alloc: Global,
     events: &[SharedEvent],

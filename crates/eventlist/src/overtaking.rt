@@ -1,4 +1,4 @@
-//! Whether an event's row stands, as the event after it shows.
+//! Whether an event's row still holds, as the event after it shows.
 ghost use Rattle.std.specs.Prelude.{◌≡◌, option_copied};
 ghost use Rattle.eventlist.specs.Overtaking.{overtakes, is_overtaken};
 

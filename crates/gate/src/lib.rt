@@ -3,7 +3,7 @@
 
 use std::sync::Wait;
 
-/// Where a gate stands.
+/// Where a gate is.
 #[derive(Clone, Copy, Debug, PartialEq, Eq)]
 pub enum Place {
     /// Before a SELECT is answered.

@@ -10,7 +10,7 @@ use Rattle.values.specs.Law.{IsLog, shown_rows}
 use Rattle.values.specs.declared.query.Form.TheVariants.{AsOf}
 use Rattle.values.specs.Commits.{conflicts, outcome, log_after, after, max_instant}
 use Rattle.values.proofs.LawAsOf.{as_of_stays}
-use Rattle.values.proofs.VersionsNow.{Rises-push}
+use Rattle.values.proofs.LogPush.{Rises-push}
 use Rattle.histories.specs.declared.step.Step.{Step}
 use Rattle.histories.specs.declared.step.Step.TheVariants.{Begin, Insert, Update, Delete, Select, Commit, Rollback, SplitKey, SplitTime, Migrate}
 use Rattle.histories.specs.History.{History, log, log_at_begin, own, net_change_of}

@@ -13,7 +13,7 @@ use Rattle.histories.specs.Misfit.{max_session}
 use Rattle.histories.specs.declared.step.Step.{Step}
 use Rattle.histories.specs.declared.step.Listing.TheVariants.{Rows}
 use Rattle.histories.specs.History.{History, log, log_at_begin, snap, snap_of, rows_taken}
-use Rattle.histories.specs.Law.{PastIsReadAlike, PastIsToldAlike}
+use Rattle.histories.specs.Law.{PastIsReadAlike, PastIsAnsweredAlike}
 use Rattle.histories.proofs.HistoryGrowth.{log_rises, later_steps_add}
 use Rattle.histories.proofs.HistoryPrefixes.{opened_below}
 use Rattle.histories.proofs.HistorySnapshots.{select_by}
@@ -59,6 +59,6 @@ read_alike schema h later i j t table keys at_first later_on =
 within : (i : ℕ) → i ≤ max_session → nat_lt max_session i ≡ false
 within i small = grind (arith, nat_tests)
 
-pub told_alike : (schema : Schema) → PastIsToldAlike schema
+pub told_alike : (schema : Schema) → PastIsAnsweredAlike schema
 told_alike schema h later i j t keys i_small j_small at_first later_on =
     λ k. select_by schema keys ((within j j_small ∙ sym (within i i_small)) k) (λ table. read_alike schema h later i j t table keys at_first later_on k)

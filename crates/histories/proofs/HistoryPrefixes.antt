@@ -5,7 +5,7 @@ use Rattle.values.specs.Tables.{Schema}
 use Rattle.values.specs.Log.{Log, last, last_from}
 use Rattle.values.specs.Law.{IsLog}
 use Rattle.values.proofs.LawAsOf.{Rises-rest}
-use Rattle.values.proofs.VersionsNow.{last_above}
+use Rattle.values.proofs.LogPush.{last_above}
 use Rattle.histories.specs.History.{History, ends, begins, log, log_at_begin}
 use Rattle.histories.proofs.HistoryGrowth.{log_rises, step_adds}
 

@@ -14,7 +14,7 @@ use Rattle.values.specs.Log.{Log, last, upto, replay, changes}
 use Rattle.values.specs.Versions.{answer}
 use Rattle.values.specs.Law.{IsLog}
 use Rattle.values.proofs.LawAsOf.{Rises-front, upto-append}
-use Rattle.values.proofs.VersionsNow.{upto_all}
+use Rattle.values.proofs.LogPush.{upto_all}
 use Rattle.histories.specs.declared.step.Step.{Step}
 use Rattle.histories.specs.declared.step.Step.TheVariants.{Begin, Insert, Update, Delete, Select, Commit, Rollback, SplitKey, SplitTime, Migrate}
 use Rattle.histories.specs.declared.step.Listing.{Listing}

@@ -10,7 +10,7 @@ use Rattle.values.specs.declared.refusal.Refusal.TheVariants.{NoTransaction}
 use Rattle.values.specs.declared.key.Key.{Key}
 use Rattle.values.specs.Log.{Log, Net, Changes, last, changes, add_net, state, row_at}
 use Rattle.values.specs.Commits.{outcome, after, log_after}
-use Rattle.values.proofs.VersionsNow.{add_all-push}
+use Rattle.values.proofs.LogPush.{add_all-push}
 use Rattle.histories.specs.Misfit.{max_session}
 use Rattle.histories.proofs.HistoryNow.{was_there_is}
 use Rattle.histories.specs.declared.step.Step.{Step}

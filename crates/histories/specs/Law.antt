@@ -50,13 +50,13 @@ PastIsReadAlike schema =
     → listing schema (later ++ h) j (AsOf t) table keys ≡ listing schema h i (AsOf t) table keys
 
 -- and it has one reply
-abbrev pub PastIsToldAlike : Schema → Type 0
-PastIsToldAlike schema =
+abbrev pub PastIsAnsweredAlike : Schema → Type 0
+PastIsAnsweredAlike schema =
     (h : History) (later : List Step) (i j t : ℕ) (keys : Keys)
     → i ≤ max_session → j ≤ max_session → t ≤ snap schema h i → t ≤ snap schema (later ++ h) j
     → reply schema (later ++ h) (Select j (AsOf t) keys) ≡ reply schema h (Select i (AsOf t) keys)
 
--- no key stands in the net changes of two committed transactions of which each began before the
+-- no key is in the net changes of two committed transactions of which each began before the
 -- other was committed
 abbrev pub FirstCommitterWins : Schema → Type 0
 FirstCommitterWins schema =

@@ -44,7 +44,7 @@ winners schema (step ∷ h) = winners schema h
 abbrev pub AreConcurrent : Winner → Winner → Type 0
 AreConcurrent v w = (v.start < w.transaction.instant) × (w.start < v.transaction.instant)
 
--- a key stands in both net changes
+-- a key is in both net changes
 abbrev pub ShareAKey : Winner → Winner → Type 0
 ShareAKey v w =
     (k : Key) × (Contains (keys_of v.transaction.net) k × Contains (keys_of w.transaction.net) k)

@@ -1,5 +1,5 @@
 ghost use Rattle.values.specs.Tables.{Schema};
-ghost use Rattle.histories.specs.Law.{OpensAtItsBegin, LogsRise, LaterStepsAdd, PastStays, PastIsReadAlike, PastIsToldAlike, FirstCommitterWins, LogIsOfWinners, ReadsBySnapshot, SelectsBySnapshot, MaintenanceChangesNoReply, MaintenanceCommitsNothing, AnsweredRepliesAreDue};
+ghost use Rattle.histories.specs.Law.{OpensAtItsBegin, LogsRise, LaterStepsAdd, PastStays, PastIsReadAlike, PastIsAnsweredAlike, FirstCommitterWins, LogIsOfWinners, ReadsBySnapshot, SelectsBySnapshot, MaintenanceChangesNoReply, MaintenanceCommitsNothing, AnsweredRepliesAreDue};
 ghost use Rattle.histories.specs.Worked.{ClosedStart, OpenEnd, DegeneratePeriods, ClockRunsBack, FirstCommitter, WriteSkew, ConcurrentWinners, NetChange, NoChangeNoConflict, OwnWrites, LargestInstant, RefusalsInOrder};
 
 /// A session's open transaction began at the log of the steps before its first BEGIN after its
@@ -20,11 +20,11 @@ pub fn log_only_grows()
 pub fn past_stays()
     ensures stays { (schema : Schema) → PastStays schema }
     ensures listings { (schema : Schema) → PastIsReadAlike schema }
-    ensures replies { (schema : Schema) → PastIsToldAlike schema }
+    ensures replies { (schema : Schema) → PastIsAnsweredAlike schema }
 {}
 
 /// The first committer wins (Berenson et al. 1995, section 4.2): of two committed transactions,
-/// each begun before the other was committed, no key stands in both net changes.
+/// each begun before the other was committed, no key is in both net changes.
 pub fn concurrent_commits_share_no_key()
     ensures apart { (schema : Schema) → FirstCommitterWins schema }
     ensures whole { (schema : Schema) → LogIsOfWinners schema }

@@ -49,7 +49,7 @@ pub record AreOrdered {C : Type 0} (references : List (Reference C)) (ordered : 
   pub same_keys : IsPermutation (current_keys references) ordered
   pub in_order : IsSorted bytes_cmp ordered
 
--- the key stands in the middle of them
+-- the key is in the middle of them
 pub record IsMiddle {C : Type 0} (references : List (Reference C)) (key : List ℕ) : Type 0 where
   pub ordered : List (List ℕ)
   pub are_ordered : AreOrdered references ordered

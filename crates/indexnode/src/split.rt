@@ -21,7 +21,7 @@ pub(crate) enum Half<'a> {
 }
 
 impl<C: Share + Drop> IndexNode<C> {
-    /// The half below a key and the half from it on. A historical reference that crosses the key stands in both, each
+    /// The half below a key and the half from it on. A historical reference that crosses the key is in both, each
     /// with its child.
     pub fn split_key(&self, key: &KeyBytes) -> Mem<(IndexNode<C>, IndexNode<C>)>
         requires inside { IsTrue (is_key_inside self.now.rect key.now) }
@@ -57,7 +57,7 @@ impl<C: Share + Drop> IndexNode<C> {
     }
 
     /// The half before an instant and the half from it on. A reference that starts before the instant and ends after it
-    /// stands in both, each with its child.
+    /// is in both, each with its child.
     pub fn split_time(&self, instant: Instant) -> Mem<(IndexNode<C>, IndexNode<C>)>
         requires inside { IsTrue (is_time_inside self.now.rect instant) }
         requires before_current { IsBeforeCurrent instant self.now.references.items }

@@ -18,7 +18,7 @@ use Rattle.interchange.specs.Field.{field_value}
 abbrev pub Record : Type 0
 Record = List (List ℕ)
 
--- all records of a file, in order; a byte order mark in front of them is dropped
+-- all records of a file, in order; a byte order mark before them is dropped
 abbrev pub AreRecordsOf : List ℕ → List Record → Type 0
 AreRecordsOf bytes records = AreRecords default_config state.StartRecord (strip_bom bytes) records
 
@@ -33,11 +33,12 @@ value_in columns fields number column = elim (place_of columns number) [
   | Some i ↦ field_value column.of (unwrap_or (field_at fields i) [])
 ]
 
--- the values for the columns of a table, numbered from here on, behind those in front
+-- the values for the columns of a table, numbered from here on, after those before
 abbrev pub values_from : List ℕ → Record → Row → ℕ → List Column → Row
 values_from columns fields front number [] = front
 values_from columns fields front number (column ∷ rest) =
-    values_from columns fields (front ++ value_in columns fields number column ∷ []) (number + 1) rest
+    values_from columns fields (front ++ value_in columns fields number column ∷ [])
+    (number + 1) rest
 
 -- the row that a record writes, or its first fault; the width comes first
 abbrev pub row_of : Table → List ℕ → Record → Result Row Refusal
@@ -46,7 +47,7 @@ row_of table columns fields =
     then row_in table (values_from columns fields [] 1 table.columns)
     else Err (BadRow 0)
 
--- the same of records in turn, behind the rows in front
+-- the same of records in turn, after the rows before
 abbrev pub rows_from : Table → List ℕ → List Row → List Record → Result (List Row) Refusal
 rows_from table columns front [] = Ok front
 rows_from table columns front (fields ∷ records) = elim (row_of table columns fields) [

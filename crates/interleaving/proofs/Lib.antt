@@ -1,4 +1,3 @@
-pub mod AfterSplit
 pub mod SystemEnded
 pub mod SystemKeeps
 pub mod SystemListed

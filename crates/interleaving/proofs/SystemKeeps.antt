@@ -74,18 +74,6 @@ pub none_of : (o : Option TransactionState) → is_some o ≡ false → o ≡ No
 none_of None h = refl
 none_of (Some b) h = cc
 
--- whether a transaction is open
-pub open_is : (schema : Schema) (engine : TreeState) (sessions : List (Option TransactionState)) (w : World) (i : ℕ) (o : Option TransactionState) → world_of schema engine sessions ≡ w → IsSystem schema engine sessions → i ≤ 64 → o ≡ get_or sessions i o
-    → is_some (open_at w i) ≡ is_some o
-open_is schema engine sessions w i o is s small at =
-    ap (λ w. is_some (open_at w i)) (sym is)
-    ∙ ap is_some (session_is schema engine sessions i ∙ ap (option_map (open_of schema)) (sym (place_is schema engine sessions i o s small at)))
-    ∙ by o
-  where
-    by : (o : Option TransactionState) → is_some (option_map (open_of schema) o) ≡ is_some o
-    by None = refl
-    by (Some b) = refl
-
 -- ---- a system in which nothing was committed
 
 pub new_system : (schema : Schema) (engine : TreeState) (sessions : List (Option TransactionState)) → IsEmpty engine → sessions ≡ replicate {A = Option TransactionState} 65 None → IsSystem schema engine sessions

@@ -12,7 +12,6 @@ use Rattle.values.specs.Tables.{Schema, IsTable, table_at}
 use Rattle.values.specs.Log.{Changes, Net, Row}
 use Rattle.values.specs.Fit.{rows_fault, comparisons_fault, sets_fault, first_of}
 use Rattle.values.specs.Writes.{Own, Written, insert_into, update_in, delete_from}
-use Rattle.values.specs.Events.{AreKeysIn}
 use Rattle.tsbtree.specs.View.{TreeState, events}
 use Rattle.staging.specs.Own.{own, Reads, WhenRead, write_if_fits, checked_insert, checked_update, checked_delete, update_fault}
 use Rattle.transaction.specs.TransactionState.{TransactionState}
@@ -79,10 +78,6 @@ own_of schema b w = own (seen_by schema b) w
 pub reads : (schema : Schema) (engine : TreeState) (b : TransactionState) (table : Table) (number : ℕ) → IsOpenIn schema engine b → Some table ≡ table_at schema number → IsTable number table → Reads schema table b.view b.writes (changes_in schema (events b.view))
 reads schema engine b table number s at good = record { held = s.held; keys = s.keys; is_table = ap (table_at schema) good.numbered ∙ sym at }
 
--- the transaction is still one of the system's
-pub written_is : (schema : Schema) (engine : TreeState) (b : TransactionState) (new : Net) → IsOpenIn schema engine b → AreKeysIn schema new → IsOpenIn schema engine (with_writes b new)
-written_is schema engine b new s keys = record { early = s.early; held = s.held; part = s.part; keys = keys }
-
 pub begun_in : (schema : Schema) (engine : TreeState) (sessions : List (Option TransactionState)) (i : ℕ) (b : TransactionState) → i ≤ 64 → IsSystem schema engine sessions → Some b ≡ get_or sessions i None → IsOpenIn schema engine b
 begun_in schema engine sessions i b small s at = subst (IsOpen schema engine) (sym at) (begun_at schema engine sessions i small s)
 
@@ -114,9 +109,6 @@ not_memory step r h e = cc (sym h ∙ ap (λ r. is_out_of_memory (written_reply 
 module _ (schema : Schema) (engine : TreeState) (sessions : List (Option TransactionState)) (w : World) (i : ℕ) (b after : TransactionState) (step : Step) (r : Result ℕ Refusal) (reply : Reply)
     (is : world_of schema engine sessions ≡ w) (f : IsFound schema engine sessions i b) (same_view : after.view ≡ b.view)
     (says : reply ≡ written_reply step r) (answered : is_out_of_memory reply ≡ false) where
-  remembers : r ≢ Err Memory
-  remembers = not_memory step r (sym (ap is_out_of_memory says) ∙ answered)
-
   after_is : after ≡ with_writes b after.writes
   after_is = λ j. record { view = same_view j; writes = after.writes }
 

@@ -13,7 +13,7 @@ use rows::{Mem, Refusal};
 use transaction::OpenTransaction;
 
 impl System {
-    /// Opens a transaction on what stands now.
+    /// Opens a transaction on what is committed now.
     pub(crate) fn begin(&mut self, session: u8) -> Reply
         requires { session ≤ max_session }
         ensures answered { is_out_of_memory result ≡ false

@@ -1,5 +1,5 @@
 -- The entries of a journal, and what was committed by them.
-use Rattle.std.specs.Prelude.{◌≡◌, ℕ, List, [], ◌∷◌, Option, Some, None, Bool, true, false, ◌==◌, ◌&&◌, not, if◌then◌else◌, length, zero, suc, ◌++◌}
+use Rattle.std.specs.Prelude.{ℕ, List, [], ◌∷◌, Option, Some, None, Bool, false, ◌==◌, ◌&&◌, not, if◌then◌else◌, length, zero, suc, ◌++◌}
 use Rattle.std.specs.List.{list_any}
 use Rattle.values.specs.Log.{Log}
 use Rattle.values.specs.Commits.{after}

@@ -1,5 +1,5 @@
 -- When a journal is legal: each entry says what the entries before it leave.
-use Rattle.std.specs.Prelude.{◌≡◌, ℕ, List, [], ◌∷◌, Option, Some, Result, Bool, true, false, ◌==◌, ◌||◌}
+use Rattle.std.specs.Prelude.{◌≡◌, ℕ, [], ◌∷◌, Option, Some, Result, true, false, ◌==◌, ◌||◌}
 use Rattle.values.specs.declared.refusal.Refusal.{Refusal}
 use Rattle.values.specs.Log.{Log, Net, last, changes}
 use Rattle.values.specs.Commits.{outcome}

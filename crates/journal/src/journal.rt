@@ -131,7 +131,7 @@ impl<J: StoreName> Journal<J> {
     }
 
     /// Whether the receipts are those of the entries, one for each, in whatever order they come. It takes no memory, and looks at numbers alone: by
-    /// its type a receipt has the entry that stands at its number.
+    /// its type a receipt has the entry at its number.
     #[tactic(auto, using(crate::proofs::JournalNumbering::all_once))]
     pub fn is_covered(&self, receipts: &mut Vec<Receipt<J>>) -> bool
         ensures same { IsPermutation receipts.old.items receipts.new.items }

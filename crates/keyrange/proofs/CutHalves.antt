@@ -1,12 +1,12 @@
 -- Both halves of a cut are rectangles, and part its points.
-use Rattle.std.proofs.Common.{◌≡◌, ℕ, ◌<◌, ◌≤◌, List, Bool, true, false, Option, Some, None, refl, sym, ap, subst, ◌∙◌, arith}
+use Rattle.std.proofs.Common.{◌≡◌, ℕ, List, Bool, true, false, Option, Some, None, refl, sym, ap, subst, ◌∙◌, arith}
 use Rattle.std.specs.Prelude.{◌&&◌, not, nat_le, nat_lt, if◌then◌else◌, IfSome}
 use Rattle.std.proofs.lemmas.Bool.Decides.{nat_tests}
 use Rattle.values.specs.Commits.{max_instant}
 use Rattle.keyrange.specs.declared.range.KeyRange.{KeyRange}
 use Rattle.keyrange.specs.declared.range.TimeRange.{TimeRange}
 use Rattle.keyrange.specs.Range.{is_below, is_before_end, is_early, is_key_in, is_time_in}
-use Rattle.keyrange.specs.Rect.{is_instant_end, is_area, Area, has_point}
+use Rattle.keyrange.specs.Rect.{is_instant_end, is_area, Area}
 use Rattle.keyrange.specs.Cut.{pair_of, rect_of, is_key_inside, is_time_inside, halves_by_key, halves_by_time, PartsKeys, PartsTime}
 use Rattle.keyrange.proofs.RangeOrder.{not_back, above, under}
 use Rattle.keyrange.proofs.RectMeeting.{both, first, second}

@@ -1,12 +1,12 @@
 -- Rectangles meet where their ranges do.
-use Rattle.std.proofs.Common.{◌≡◌, ℕ, ◌<◌, ◌≤◌, List, Bool, true, false, Option, Some, None, refl, sym, ap, subst, ◌∙◌, arith}
-use Rattle.std.specs.Prelude.{◌&&◌, not, nat_le, nat_lt, IsTrue}
+use Rattle.std.proofs.Common.{◌≡◌, ℕ, ◌≤◌, List, Bool, true, false, Option, Some, None, refl, arith}
+use Rattle.std.specs.Prelude.{◌&&◌, not, nat_le}
 use Rattle.std.proofs.lemmas.Bool.Decides.{nat_tests}
 use Rattle.values.specs.Commits.{max_instant}
 use Rattle.keyrange.specs.declared.range.KeyRange.{KeyRange}
 use Rattle.keyrange.specs.declared.range.TimeRange.{TimeRange}
 use Rattle.keyrange.specs.Range.{is_below, is_before_end, is_early, is_key_in, is_time_in, key_ranges_meet, time_ranges_meet}
-use Rattle.keyrange.specs.Rect.{is_instant_end, is_area, Area, has_point, Common}
+use Rattle.keyrange.specs.Rect.{is_area, Area, Common}
 use Rattle.keyrange.proofs.RangeOrder.{not_itself, not_back, above}
 
 pub both : (a b : Bool) → a ≡ true → b ≡ true → (a && b) ≡ true

@@ -12,7 +12,8 @@ partial is_too_long bytes = if is_too_long then None else Some bytes
 -- with one more byte, which is no line feed
 abbrev pub add : Partial → ℕ → Partial
 add None byte = None
-add (Some bytes) byte = if nat_lt (length bytes) longest_line then Some (bytes ++ byte ∷ []) else None
+add (Some bytes) byte =
+    if nat_lt (length bytes) longest_line then Some (bytes ++ byte ∷ []) else None
 
 abbrev pub add_all : Partial → List ℕ → Partial
 add_all line [] = line

@@ -1,2 +1,2 @@
-mod ConnectionFronts
+mod ConnectionPrefixes
 mod LoadingCalls

@@ -1,5 +1,5 @@
 -- A load, from what its calls do.
-use Rattle.std.proofs.Common.{◌≡◌, ◌≢◌, ℕ, List, [], ◌∷◌, Option, Some, None, refl, sym, ap, ◌∙◌, subst, inl, inr}
+use Rattle.std.proofs.Common.{◌≡◌, ◌≢◌, ℕ, List, [], ◌∷◌, Option, Some, None, sym, ap, ◌∙◌, subst, inl, inr}
 use Rattle.std.specs.Prelude.{◌⊎◌, Result, Ok, Err, IfOk}
 use Rattle.values.specs.Log.{Changes, Net, Row}
 use Rattle.values.specs.Tables.{Schema}
@@ -19,15 +19,11 @@ use Rattle.sessions.specs.SessionState.{IsWrite, SessionState, WithWrites, with_
 use Rattle.sessions.specs.Store.{IsBegun, begun_with}
 use Rattle.serving.specs.Taken.{Given}
 use Rattle.serving.proofs.AnswerRefusing.{memory_or_reply}
-use Rattle.listening.specs.Loading.{HasEnded, IsLoaded, IsLoadedBy, IsUnloaded, Inserts, unbegun}
+use Rattle.listening.specs.Loading.{HasEnded, IsLoadedBy, IsUnloaded, Inserts, unbegun}
 
 pub if_ok : {A E : Type 0} (r : Result A E) (P Q : A → Type 0) → ((x : A) → P x → Q x) → IfOk r P → IfOk r Q
 if_ok (Ok x) P Q f p = f x p
 if_ok (Err e) P Q f p = tt
-
-pub some_loaded : (schema : Schema) (table : ℕ) (rows : List Row) (gs : List Given) (instant : ℕ) → rows ≢ [] → IsLoadedBy schema table rows gs instant → IsLoaded schema table rows gs instant
-some_loaded schema table [] gs instant some by = absurd (some refl)
-some_loaded schema table (row ∷ rows) gs instant some by = by
 
 both : {A B : Type 0} {a c : A} {b d : B} → a ≡ c → b ≡ d → ◌≡◌ {A = A × B} (a, b) (c, d)
 both p q = λ i. (p i, q i)

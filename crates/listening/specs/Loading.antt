@@ -67,7 +67,8 @@ IsLoaded schema table (row ∷ rows) receipts instant =
 abbrev pub IsRefusedInsert : Schema → ℕ → List Row → Refusal → Type 0
 IsRefusedInsert schema table rows refusal =
     (m : Changes)
-    × ((write_by schema (Insert 0 table rows) (misfit schema (Insert 0 table rows)) (Some (own m []))).0
+    × ((write_by schema (Insert 0 table rows) (misfit schema (Insert 0 table rows))
+    (Some (own m []))).0
     ≡ Err refusal)
 
 -- why rows are not loaded: there is no room, the commit has nothing to end, or the INSERT is refused

@@ -9,7 +9,7 @@ use Rattle.values.specs.declared.table.Table.{Table}
 use Rattle.values.specs.declared.query.Form.TheVariants.{Between}
 use Rattle.values.specs.declared.refusal.Refusal.{Refusal}
 use Rattle.statement.specs.Print.{numbered}
-use Rattle.statement.specs.Writer.{AppendsFront}
+use Rattle.statement.specs.Writer.{AppendsPrefix}
 use Rattle.interchange.specs.Version.{export_text}
 use Rattle.interchange.specs.Report.{loaded_text}
 use Rattle.journal.specs.Entries.{entry_at, log}
@@ -100,11 +100,11 @@ pub record StopsInReport (schema : Schema) (first : Option TableRows) (old new :
   pub receipts : List Given
   pub instant : ℕ
   pub loaded : IsLoaded schema rows.number rows.rows.items receipts instant
-  pub wrote : AppendsFront old new (loaded_text (length rows.rows.items) instant)
+  pub wrote : AppendsPrefix old new (loaded_text (length rows.rows.items) instant)
 
 -- a prefix of the line that tells the port
 abbrev pub StopsListening : (old new : Option (List ℕ)) → Type 0
-StopsListening old new = (port : ℕ) × AppendsFront old new (numbered (codes "listening ") port)
+StopsListening old new = (port : ℕ) × AppendsPrefix old new (numbered (codes "listening ") port)
 
 pub record StopsAtPort (schema : Schema) (first : Option TableRows) (old new : Option (List ℕ))
     : Type 0 where
@@ -122,12 +122,12 @@ pub record StopsInExport (schema : Schema) (number : Option ℕ) (b : BookState)
   pub number_is : number ≡ Some n
   pub table : Table
   pub table_is : table_at schema n ≡ Some table
-  pub wrote : AppendsFront ended new (versions_text b table)
+  pub wrote : AppendsPrefix ended new (versions_text b table)
 
 -- a prefix of the line that tells how many entries there are, or of the table
 abbrev pub StopsLate : Schema → Option ℕ → BookState → (old new : Option (List ℕ)) → Type 0
 StopsLate schema number b old new =
-    AppendsFront old new (numbered (codes "closed ") (length b.entries))
+    AppendsPrefix old new (numbered (codes "closed ") (length b.entries))
     ⊎ StopsInExport schema number b old new
 
 pub record StopsAfter (schema : Schema) (first : Option TableRows) (number : Option ℕ)
@@ -154,12 +154,14 @@ IsRefusedFirst schema (Some first) refusal =
     IsUnloaded schema first.number first.rows.items refusal
 
 -- nothing was loaded and written, or a prefix of the report
-abbrev pub HasNoFirst : ServerFault → Schema → Option TableRows → (old new : Option (List ℕ)) → Type 0
+abbrev pub HasNoFirst : ServerFault → Schema → Option TableRows
+    → (old new : Option (List ℕ)) → Type 0
 HasNoFirst (Load refusal) schema first old new = IsRefusedFirst schema first refusal × Keeps old new
 HasNoFirst Write schema first old new = StopsInReport schema first old new
 HasNoFirst (Listen fault) schema first old new = Keeps old new
 
-abbrev pub StopsSomewhere : Schema → Option TableRows → Option ℕ → (old new : Option (List ℕ)) → Type 0
+abbrev pub StopsSomewhere : Schema → Option TableRows → Option ℕ
+    → (old new : Option (List ℕ)) → Type 0
 StopsSomewhere schema first number old new =
     StopsAtPort schema first old new ⊎ StopsAfter schema first number old new
 

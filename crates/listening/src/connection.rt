@@ -23,7 +23,7 @@ use std::time::Clock;
 /// Why sessions were not served to a closed store.
 #[derive(Clone, Copy, Debug, PartialEq, Eq)]
 pub enum ListenFault {
-    /// No connection could be taken.
+    /// The port could not be listened at, or a connection not be taken.
     Socket,
     /// Memory ran out, or a thread could not be made.
     Memory,
@@ -39,7 +39,7 @@ impl From<AllocError> for ListenFault {
 
 /// Takes so many connections, and serves the n-th as session n, from 1, in a thread of its own. When all have ended the store is closed with their receipts and with those of what was done before.
 ///
-/// Of the closed store it holds what `close` says, and the receipts of what was done before are of its entries.
+/// The closed store is a book (`IsBook`), and the receipts of what was done before are of its entries.
 ///
 /// A session that ends in a fault is no fault here: its receipts count, and the others go on. Where a connection cannot be taken, or a thread not made, the sessions that run are waited for.
 pub fn listen<J, R, G>(

@@ -20,7 +20,7 @@ pub struct Loaded<J: StoreName> {
 
 /// Inserts rows of a table, by its number, in one transaction of session 0 that is committed at the reading 0. Without rows there is no transaction.
 ///
-/// It is refused as BEGIN, INSERT and COMMIT are, and then the store is to be given up, since its receipts are lost.
+/// It is refused as BEGIN and INSERT are, as COMMIT is where there is no room, and with `NoTransaction` where the commit has no instant; then the store is to be given up, since its receipts are lost.
 pub fn load_into<J: StoreName, R: Wait>(
     rt: &R,
     alloc: Global,

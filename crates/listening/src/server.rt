@@ -8,7 +8,7 @@ ghost use Rattle.values.specs.Tables.{table_at};
 ghost use Rattle.values.specs.Versions.{answer};
 ghost use Rattle.values.specs.declared.query.Form.TheVariants.{Between};
 ghost use Rattle.statement.specs.Print.{numbered};
-ghost use Rattle.statement.specs.Writer.{AppendsFront};
+ghost use Rattle.statement.specs.Writer.{AppendsPrefix};
 ghost use Rattle.journal.specs.Entries.{log};
 ghost use Rattle.book.specs.Book.{IsBook};
 ghost use Rattle.serving.specs.Taken.{Given};
@@ -175,7 +175,7 @@ fn report<O: Write>(
 ) -> Result<(), ServerFault>
     ensures ok { OnOk result (Appends (O.contents out.old) (O.contents out.new)
         (numbered label.now number)) }
-    ensures err { IfErr result (λ fault. IsOther fault × AppendsFront (O.contents out.old)
+    ensures err { IfErr result (λ fault. IsOther fault × AppendsPrefix (O.contents out.old)
         (O.contents out.new) (numbered label.now number)) }
 {
     let Ok(line) = numbered_line(alloc, label, number) else {
@@ -267,7 +267,7 @@ fn export_closed<O: Write>(
         (versions_text closed.now table.now)) }
     ensures err { IfErr result (λ fault. (schema : Schema) → IsBook schema closed.now
         → table_at schema table.now.number ≡ Some table.now
-        → IsOther fault × AppendsFront (O.contents out.old) (O.contents out.new)
+        → IsOther fault × AppendsPrefix (O.contents out.old) (O.contents out.new)
         (versions_text closed.now table.now)) }
 {
     let Ok(shown) = versions_of(alloc, closed, table) else {

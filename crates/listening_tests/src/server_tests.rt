@@ -20,7 +20,7 @@ fn staff(rt: &impl Abort, alloc: Global, ann: i64, bea: i64) -> TableRows {
     }
 }
 
-/// Whether a server came to its end, or refused its rows since a key stands twice; none where it stopped otherwise.
+/// Whether a server came to its end, or refused its rows since a key is given twice; none where it stopped otherwise.
 fn end_of(served: Result<(), ServerFault>) -> Option<bool> {
     match served {
         Ok(()) => Some(true),
@@ -48,7 +48,7 @@ where
     end_of(serve(rt, alloc, out, schema, first, plan))
 }
 
-/// How a server ended that loads Ann and Bea with these numbers, if any, and whether what it wrote is so.
+/// How a server ended that loads Ann and Bea with these numbers, if any, and whether it wrote what is wanted.
 fn serve_with_rows<R>(
     rt: &R,
     alloc: Global,

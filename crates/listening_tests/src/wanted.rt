@@ -5,7 +5,7 @@
 pub(crate) enum Wanted {
     /// This text.
     Whole(&'static str),
-    /// One that begins and ends so.
+    /// One with this start and this end.
     Within(&'static str, &'static str),
 }
 

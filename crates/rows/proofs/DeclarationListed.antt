@@ -8,10 +8,6 @@ use Rattle.tokens.specs.Token.{After, Read, ◌>>=◌}
 use Rattle.rows.specs.SchemaToken.{symbol_at}
 use Rattle.rows.specs.Declaration.{prepend, list_at, marks_upto, is_mark_at, mark_at, creates_upto, create_at, more_at}
 
-pub joined-none : {A : Type 0} (r : Read (List A)) → prepend [] r ≡ r
-joined-none (Ok x) = refl
-joined-none (Err e) = refl
-
 pub joined-joined : {A : Type 0} (xs ys : List A) (r : Read (List A)) → prepend xs (prepend ys r) ≡ prepend (xs ++ ys) r
 joined-joined xs ys (Ok x) = ap (λ l. Ok (l, x.1)) (sym (append_assoc xs ys x.0))
 joined-joined xs ys (Err e) = refl

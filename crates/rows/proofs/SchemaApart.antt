@@ -5,7 +5,7 @@ use Rattle.std.specs.List.{list_any}
 use Rattle.std.specs.Char.{is_ascii_digit}
 use Rattle.std.proofs.lemmas.Bool.{and_parts}
 use Rattle.values.specs.Names.{same_name}
-use Rattle.tokens.specs.Token.{After, front_while}
+use Rattle.tokens.specs.Token.{After, prefix_while}
 use Rattle.tokens.specs.Token.{symbol_at as symbol_after}
 use Rattle.tokens.specs.Word.{is_name_byte, word_length}
 use Rattle.tokens.specs.Word.{is_word_at as is_word_after}
@@ -67,7 +67,7 @@ primary_no_name = word_no_name (take 7 reserved_words) (drop 8 reserved_words) (
 pub no_word_at_symbol : (w : ℕ) (ws : List ℕ) (symbol : ℕ) → is_name_byte symbol ≡ false → (x : Unit {0}) (bytes rest : List ℕ) → Symbol symbol x bytes rest → is_word_at (w ∷ ws) bytes ≡ false
 unfolding is_word_after
 no_word_at_symbol w ws symbol none x bytes rest s =
-    ap (λ at. same_name (w ∷ ws) (front_while is_name_byte at)) (next_reads bytes (symbol ∷ rest) s.next)
+    ap (λ at. same_name (w ∷ ws) (prefix_while is_name_byte at)) (next_reads bytes (symbol ∷ rest) s.next)
     ∙ ap (λ t. same_name (w ∷ ws) (take (cond t (1 + word_length rest) 0) (symbol ∷ rest))) none
     ∙ none_same (w ∷ ws) (omega arith)
 

@@ -22,7 +22,7 @@ use Rattle.rows.specs.declared.declaration.Entry.{Entry}
 use Rattle.rows.specs.declared.declaration.Entry.TheVariants.{User, Generated, Period, Key}
 use Rattle.values.specs.Names.{same_name, same_letters}
 use Rattle.rows.specs.SchemaTable.{is_not_null, is_primary_key, same_side, user_column, column_name, side_name, period_names, keys_in, is_good_type, is_good_precision, is_good_entry, are_distinct, only, number_in}
-use Rattle.rows.specs.GoodTable.{Each, Stands, IsTheOne, NoTwo, SameName, is_user, IsGenerated, IsPeriod, GivesKeys, GivesOneKey, Declares, ShareAName, HasUserColumn, IsColumnOf, IsNumberOf, AreColumnsOf, AreNumbersOf, TypeIsGood, DigitsAreGood, EntryIsGood}
+use Rattle.rows.specs.GoodTable.{Each, IsElement, IsTheOne, NoTwo, SameName, is_user, IsGenerated, IsPeriod, GivesKeys, GivesOneKey, Declares, ShareAName, HasUserColumn, IsColumnOf, IsNumberOf, AreColumnsOf, AreNumbersOf, TypeIsGood, DigitsAreGood, EntryIsGood}
 use Rattle.rows.proofs.SchemaPlaces.{each_placed, each_at, each_to, Apart, apart_no_two, no_two_apart, one_same, only_is, flat_of, Tells, none_given, none_stands, one_stands, one_given}
 
 -- tests
@@ -245,29 +245,29 @@ filtered [] = refl
 filtered (NotNull ∷ marks) = filtered marks
 filtered (PrimaryKey ∷ marks) = ap (λ l. PrimaryKey ∷ l) (filtered marks)
 
-none_primary : (marks : List Mark) → (Stands PrimaryKey marks → ⊥) → filter is_primary_key marks ≡ []
+none_primary : (marks : List Mark) → (IsElement PrimaryKey marks → ⊥) → filter is_primary_key marks ≡ []
 none_primary marks f =
     filtered marks
     ∙ none_given primary_given IsPrimary primary_tells marks
     (each_placed (λ m. IsPrimary m → ⊥) marks (λ before after m place p. f (before, (after, place ∙ ap (λ n. before ++ n ∷ after) p))))
 
-some_primary : (marks : List Mark) → Stands PrimaryKey marks → filter is_primary_key marks ≡ [] → ⊥
+some_primary : (marks : List Mark) → IsElement PrimaryKey marks → filter is_primary_key marks ≡ [] → ⊥
 some_primary marks (before, (after, place)) e =
     let none = none_stands primary_given IsPrimary primary_tells marks (sym (filtered marks) ∙ e) in
     each_at (λ m. IsPrimary m → ⊥) before after PrimaryKey (subst (Each (λ m. IsPrimary m → ⊥)) place none) refl
 
-stands_or_none : (marks : List Mark) → Stands PrimaryKey marks ⊎ (Stands PrimaryKey marks → ⊥)
+stands_or_none : (marks : List Mark) → IsElement PrimaryKey marks ⊎ (IsElement PrimaryKey marks → ⊥)
 stands_or_none marks = by_filter (filter is_primary_key marks) refl
   where
-    behind : (m : Mark) (marks : List Mark) → Stands PrimaryKey marks → Stands PrimaryKey (m ∷ marks)
+    behind : (m : Mark) (marks : List Mark) → IsElement PrimaryKey marks → IsElement PrimaryKey (m ∷ marks)
     behind m marks (before, (after, place)) = (m ∷ before, (after, ap (λ l. m ∷ l) place))
 
-    found : (m : Mark) (ms marks : List Mark) → filter is_primary_key marks ≡ m ∷ ms → Stands PrimaryKey marks
+    found : (m : Mark) (ms marks : List Mark) → filter is_primary_key marks ≡ m ∷ ms → IsElement PrimaryKey marks
     found m ms [] e = cc
     found m ms (PrimaryKey ∷ marks) e = ([], (marks, refl))
     found m ms (NotNull ∷ marks) e = behind NotNull marks (found m ms marks e)
 
-    by_filter : (l : List Mark) → filter is_primary_key marks ≡ l → Stands PrimaryKey marks ⊎ (Stands PrimaryKey marks → ⊥)
+    by_filter : (l : List Mark) → filter is_primary_key marks ≡ l → IsElement PrimaryKey marks ⊎ (IsElement PrimaryKey marks → ⊥)
     by_filter [] e = inr (λ s. some_primary marks s e)
     by_filter (m ∷ ms) e = inl (found m ms marks e)
 
@@ -460,7 +460,7 @@ pub users_differ : (entries : List Entry) → NoTwo ShareAName entries → Apart
 users_differ entries n = user_apart entries (no_two_apart ShareAName entries n)
 
 -- columns as they are declared
-marked_stands : (marks : List Mark) → list_any is_not_null marks ≡ true → Stands NotNull marks
+marked_stands : (marks : List Mark) → list_any is_not_null marks ≡ true → IsElement NotNull marks
 marked_stands [] e = cc
 marked_stands (NotNull ∷ marks) e = ([], (marks, refl))
 marked_stands (PrimaryKey ∷ marks) e =

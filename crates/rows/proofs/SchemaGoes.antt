@@ -22,7 +22,7 @@ use Rattle.values.specs.Tables.{Schema}
 use Rattle.rows.specs.declared.schema_reading.SchemaFault.{SchemaFault}
 use Rattle.rows.specs.declared.schema_reading.SchemaFault.TheVariants.{Syntax}
 use Rattle.rows.specs.SchemaTable.{read_schema}
-use Rattle.rows.specs.SchemaGrammarLaw.{FrontsGoOn}
+use Rattle.rows.specs.SchemaGrammarLaw.{PrefixesGoOn}
 use Rattle.rows.specs.SchemaGrammar.{Says, ◌>>=◌, just, ◌or◌, Symbol, Word, Name, Digits, Listed, Many, Size, TypeName, NotNullWords, PrimaryKeyWords, MarkWords, UserEntry, Precision, MaybeNotNull, RowSide, GeneratedAsRow, GeneratedEntry, TwoNames, PeriodEntry, KeyEntry, ColumnEntry, EntryText, Body, Versioning, CreateText, IsEnd, SchemaText}
 use Rattle.rows.proofs.SchemaSpelled.{word_next}
 use Rattle.rows.proofs.SchemaSays.{end_says}
@@ -255,9 +255,6 @@ null_usual = word_is_usual 78 (85 ∷ 76 ∷ 76 ∷ []) refl
 
 key_usual : Usual (Word (codes "KEY"))
 key_usual = word_is_usual 75 (69 ∷ 89 ∷ []) refl
-
-primary_key_usual : Usual PrimaryKeyWords
-primary_key_usual = next_usual (Word (codes "PRIMARY")) (Word (codes "KEY")) (word_is_usual 80 _ refl) key_usual
 
 not_null_reads : (bytes : List ℕ) → ReadsAfter (NotNullWords tt) bytes (not_null_at bytes)
 unfolding not_null_at
@@ -706,9 +703,9 @@ number : ℕ → Result Schema SchemaFault → ℕ
 number n (Err (Syntax k)) = k
 number n _ = n
 
-pub fronts_go_on : FrontsGoOn
+pub prefixes_go_on : PrefixesGoOn
 unfolding read_schema creates_at number ToEnd
-fronts_go_on before rest few fault =
+prefixes_go_on before rest few fault =
     by_read (creates_at text) (creates_reads (length text) text) (sym (ap (λ t. if t then Err (Syntax 65536) else read_as text (creates_at text)) (short (length text) few)) ∙ fault)
   where
     text : List ℕ

@@ -7,7 +7,7 @@ use Rattle.std.proofs.lemmas.List.{append_assoc, append-nil}
 use Rattle.std.proofs.lemmas.Bool.{and_parts}
 use Rattle.std.proofs.lemmas.Bool.Decides.{nat_tests}
 use Rattle.values.specs.Names.{same_name}
-use Rattle.tokens.specs.Token.{After, Read, front_while, skip_while}
+use Rattle.tokens.specs.Token.{After, Read, prefix_while, skip_while}
 use Rattle.tokens.specs.Token.{symbol_at as symbol_after}
 use Rattle.tokens.specs.Word.{is_name_byte}
 use Rattle.tokens.specs.Word.{word_at as word_after}
@@ -277,9 +277,9 @@ value_at (Err at) = at
 
 name_stops : (bytes at : List ℕ) → name_at bytes ≡ Err at → at ≡ next bytes
 unfolding name_after value_at
-name_stops bytes at e = by_test (is_name (front_while is_name_byte (next bytes))) e
+name_stops bytes at e = by_test (is_name (prefix_while is_name_byte (next bytes))) e
   where
-    by_test : (t : Bool) → ◌≡◌ {A = Read (List ℕ)} (if t then Ok (front_while is_name_byte (next bytes), skip_while is_name_byte (next bytes)) else Err (next bytes)) (Err at) → at ≡ next bytes
+    by_test : (t : Bool) → ◌≡◌ {A = Read (List ℕ)} (if t then Ok (prefix_while is_name_byte (next bytes), skip_while is_name_byte (next bytes)) else Err (next bytes)) (Err at) → at ≡ next bytes
     by_test true e = cc
     by_test false e = sym (ap value_at e)
 
@@ -287,7 +287,7 @@ digits_stop : (bytes at : List ℕ) → digits_at bytes ≡ Err at → at ≡ ne
 unfolding digits_at value_at
 digits_stop bytes at e = by_test (prefix_len is_ascii_digit (next bytes) == 0) e
   where
-    by_test : (t : Bool) → ◌≡◌ {A = Read ℕ} (if t then Err (next bytes) else Ok (number_from 0 (front_while is_ascii_digit (next bytes)), skip_while is_ascii_digit (next bytes))) (Err at) → at ≡ next bytes
+    by_test : (t : Bool) → ◌≡◌ {A = Read ℕ} (if t then Err (next bytes) else Ok (number_from 0 (prefix_while is_ascii_digit (next bytes)), skip_while is_ascii_digit (next bytes))) (Err at) → at ≡ next bytes
     by_test true e = sym (ap value_at e)
     by_test false e = cc
 

@@ -3,7 +3,7 @@ use Rattle.std.proofs.Common.{◌≡◌, ℕ, ◌≤◌, List, [], ◌∷◌, �
 use Rattle.std.proofs.lemmas.Bool.Decides.{nat_tests}
 use Rattle.std.specs.Char.{is_ascii_digit}
 use Rattle.values.specs.Names.{same_name}
-use Rattle.tokens.specs.Token.{After, front_while, skip_while}
+use Rattle.tokens.specs.Token.{After, prefix_while, skip_while}
 use Rattle.tokens.specs.Token.{symbol_at as symbol_after}
 use Rattle.tokens.specs.Word.{is_name_byte}
 use Rattle.tokens.specs.Word.{is_word_at as is_word_after, after_word as rest_of_word, word_at as word_after}
@@ -16,9 +16,6 @@ use Rattle.rows.specs.SchemaGrammar.{is_on_the_line, Piece, blank, comment, last
 
 same : (a b : ℕ) → a ≡ b → (a == b) ≡ true
 same a b e = grind (arith, nat_tests)
-
-other : (a b : ℕ) → (a ≡ b → ⊥) → (a == b) ≡ false
-other a b h = grind (arith, nat_tests)
 
 -- a token that begins is not passed over
 pub at_token : (at : List ℕ) → BeginsToken at → next at ≡ at
@@ -67,7 +64,7 @@ next_reads bytes at n = skipped n.gap bytes at n.skipped n.begins
 run_at : (p : ℕ → Bool) (front bytes rest : List ℕ) → AllBytes p front → Ends p rest → IsNext bytes (front ++ rest) → Run p front (next bytes) rest
 run_at p front bytes rest all ends is = record { all = all; ends = ends; spelled = next_reads bytes (front ++ rest) is }
 
-pub front_of : (name bytes rest : List ℕ) → Letters name bytes rest → front_while is_name_byte (next bytes) ≡ name
+pub front_of : (name bytes rest : List ℕ) → Letters name bytes rest → prefix_while is_name_byte (next bytes) ≡ name
 front_of name bytes rest l = run_taken is_name_byte (run_at is_name_byte name bytes rest l.are_letters l.as_many l.next)
 
 pub skip_of : (name bytes rest : List ℕ) → Letters name bytes rest → skip_while is_name_byte (next bytes) ≡ rest
@@ -107,7 +104,7 @@ unfolding digits_at
 digits_read n bytes rest d =
     let run = run_at is_ascii_digit d.digits bytes rest d.are_digits d.as_many d.next in
     let left = skip_while is_ascii_digit (next bytes) in
-    ap (λ t. if t then Err (next bytes) else Ok (number_from 0 (front_while is_ascii_digit (next bytes)), left))
+    ap (λ t. if t then Err (next bytes) else Ok (number_from 0 (prefix_while is_ascii_digit (next bytes)), left))
     (ap (λ (c : ℕ). c == 0) (length_of is_ascii_digit run) ∙ not_none (length d.digits) d.some)
     ∙ ap (λ ds. Ok (number_from 0 ds, left)) (run_taken is_ascii_digit run)
     ∙ ap (λ m. Ok (m, left)) d.number

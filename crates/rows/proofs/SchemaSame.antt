@@ -4,7 +4,7 @@ use Rattle.std.specs.Prelude.{not}
 use Rattle.std.specs.List.{prefix_len}
 use Rattle.std.specs.Char.{is_ascii_digit}
 use Rattle.std.proofs.lemmas.List.Folds.{length-prefix_len}
-use Rattle.tokens.specs.Token.{front_while, skip_while}
+use Rattle.tokens.specs.Token.{prefix_while, skip_while}
 use Rattle.tokens.specs.Word.{is_name_byte}
 use Rattle.tokens.proofs.PlaceSame.{Reach, Texts, left_of, Within, Same, Good, good_here, Tells}
 use Rattle.tokens.proofs.TokenSame.{skip_within, digit_is_name, RunSame, runs}
@@ -29,7 +29,7 @@ token_shorter false (b ∷ bs) = by_tests (is_separator b) ((b == 45) && begins_
 pub record Tokens (first : ℕ) (rest other : List ℕ) : Type 0 where
   pub one : BeginsToken (first ∷ rest)
   pub two : BeginsToken (first ∷ other)
-  pub runs : (p : ℕ → Bool) → ((b : ℕ) → is_name_byte b ≡ false → p b ≡ false) → front_while p (first ∷ rest) ≡ front_while p (first ∷ other)
+  pub runs : (p : ℕ → Bool) → ((b : ℕ) → is_name_byte b ≡ false → p b ≡ false) → prefix_while p (first ∷ rest) ≡ prefix_while p (first ∷ other)
 
 module _ (first : ℕ) (rest other : List ℕ) (t : Tokens first rest other) where
   -- from the next token on, which comes before the one of the two texts or after it
@@ -76,20 +76,20 @@ module _ (first : ℕ) (rest other : List ℕ) (t : Tokens first rest other) whe
   unfolding digits_at
   good_digits = good_here texts digits_at (λ bytes. inside bytes (prefix_len is_ascii_digit (next bytes) == 0)) (λ a c here. at_digits (next a) (next c) (runs texts is_ascii_digit digit_is_name (next a) (next c) here))
     where
-      inside : (bytes : List ℕ) (u : Bool) → Within texts bytes (if u then Err (next bytes) else Ok (number_from 0 (front_while is_ascii_digit (next bytes)), skip_while is_ascii_digit (next bytes)))
+      inside : (bytes : List ℕ) (u : Bool) → Within texts bytes (if u then Err (next bytes) else Ok (number_from 0 (prefix_while is_ascii_digit (next bytes)), skip_while is_ascii_digit (next bytes)))
       inside bytes true = record { it = omega arith }
       inside bytes false = record { it = left_of texts bytes _ (skip_within is_ascii_digit (next bytes)) }
 
-      counted : (a : List ℕ) → prefix_len is_ascii_digit a ≡ length (front_while is_ascii_digit a)
+      counted : (a : List ℕ) → prefix_len is_ascii_digit a ≡ length (prefix_while is_ascii_digit a)
       counted a = sym (length-prefix_len is_ascii_digit a)
 
       at_digits : (a c : List ℕ) → RunSame texts is_ascii_digit a c
-          → Same texts (if prefix_len is_ascii_digit a == 0 then Err a else Ok (number_from 0 (front_while is_ascii_digit a), skip_while is_ascii_digit a))
-          (if prefix_len is_ascii_digit c == 0 then Err c else Ok (number_from 0 (front_while is_ascii_digit c), skip_while is_ascii_digit c))
+          → Same texts (if prefix_len is_ascii_digit a == 0 then Err a else Ok (number_from 0 (prefix_while is_ascii_digit a), skip_while is_ascii_digit a))
+          (if prefix_len is_ascii_digit c == 0 then Err c else Ok (number_from 0 (prefix_while is_ascii_digit c), skip_while is_ascii_digit c))
       at_digits a c h = by_tests _ _ (ap (λ (n : ℕ). n == 0) (counted a ∙ ap length h.fronts ∙ sym (counted c)))
         where
           by_tests : (u v : Bool) → u ≡ v
-              → Same texts (if u then Err a else Ok (number_from 0 (front_while is_ascii_digit a), skip_while is_ascii_digit a)) (if v then Err c else Ok (number_from 0 (front_while is_ascii_digit c), skip_while is_ascii_digit c))
+              → Same texts (if u then Err a else Ok (number_from 0 (prefix_while is_ascii_digit a), skip_while is_ascii_digit a)) (if v then Err c else Ok (number_from 0 (prefix_while is_ascii_digit c), skip_while is_ascii_digit c))
           by_tests true true e = record { it = tt }
           by_tests false false e = record { it = elim h.left [ inl near ↦ inl (ap (number_from 0) h.fronts, near) | inr less ↦ inr less ] }
           by_tests true false e = cc

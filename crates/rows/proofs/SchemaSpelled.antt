@@ -6,7 +6,7 @@ use Rattle.std.proofs.lemmas.List.{take-append-drop}
 use Rattle.std.proofs.lemmas.List.Folds.{length-prefix_len}
 use Rattle.std.proofs.lemmas.Bool.Decides.{nat_tests}
 use Rattle.std.specs.Char.{is_ascii_digit}
-use Rattle.tokens.specs.Token.{After, Read, front_while, skip_while}
+use Rattle.tokens.specs.Token.{After, Read, prefix_while, skip_while}
 use Rattle.tokens.specs.Token.{symbol_at as symbol_after}
 use Rattle.tokens.specs.Word.{is_name_byte}
 use Rattle.tokens.specs.Word.{is_word_at as is_word_after, after_word as rest_of_word, word_at as word_after}
@@ -112,10 +112,10 @@ pub next_is : (bytes at : List ℕ) → next bytes ≡ at → IsNext bytes at
 next_is bytes at e = subst (λ a. IsNext bytes a) e (record { gap = (reached false bytes).0; skipped = (reached false bytes).1; begins = begins false bytes })
 
 -- letters and digits at the front, as many as come
-pub front-skip : (p : ℕ → Bool) (bs : List ℕ) → front_while p bs ++ skip_while p bs ≡ bs
+pub front-skip : (p : ℕ → Bool) (bs : List ℕ) → prefix_while p bs ++ skip_while p bs ≡ bs
 front-skip p bs = take-append-drop (prefix_len p bs) bs
 
-letters_at : (bytes : List ℕ) → Letters (front_while is_name_byte (next bytes)) bytes (skip_while is_name_byte (next bytes))
+letters_at : (bytes : List ℕ) → Letters (prefix_while is_name_byte (next bytes)) bytes (skip_while is_name_byte (next bytes))
 letters_at bytes = record {
   next = next_is bytes _ (sym (front-skip is_name_byte (next bytes)));
   are_letters = front_passes is_name_byte (next bytes);
@@ -142,7 +142,7 @@ symbol_says symbol x bytes rest e = found (next bytes) refl e
 
 pub word_next : (word bytes : List ℕ) → is_word_at word bytes ≡ true → Word word tt bytes (after_word bytes)
 unfolding is_word_after rest_of_word
-word_next word bytes e = record { name = front_while is_name_byte (next bytes); letters = letters_at bytes; spelled = e }
+word_next word bytes e = record { name = prefix_while is_name_byte (next bytes); letters = letters_at bytes; spelled = e }
 
 pub word_says : (word : List ℕ) (x : Unit {0}) (bytes rest : List ℕ) → word_at word bytes ≡ Ok rest → Word word x bytes rest
 unfolding word_after
@@ -154,16 +154,16 @@ word_says word x bytes rest e = by_test (is_word_at word bytes) refl e
 
 pub name_says : (name bytes rest : List ℕ) → name_at bytes ≡ Ok (name, rest) → Name name bytes rest
 unfolding name_after
-name_says name bytes rest e = by_test (is_name (front_while is_name_byte (next bytes))) refl e
+name_says name bytes rest e = by_test (is_name (prefix_while is_name_byte (next bytes))) refl e
   where
-    by_test : (t : Bool) → is_name (front_while is_name_byte (next bytes)) ≡ t
-        → ◌≡◌ {A = Read (List ℕ)} (if t then Ok (front_while is_name_byte (next bytes), skip_while is_name_byte (next bytes)) else Err (next bytes)) (Ok (name, rest)) → Name name bytes rest
+    by_test : (t : Bool) → is_name (prefix_while is_name_byte (next bytes)) ≡ t
+        → ◌≡◌ {A = Read (List ℕ)} (if t then Ok (prefix_while is_name_byte (next bytes), skip_while is_name_byte (next bytes)) else Err (next bytes)) (Ok (name, rest)) → Name name bytes rest
     by_test true q e =
-        let parts = same_read (front_while is_name_byte (next bytes)) name (skip_while is_name_byte (next bytes)) rest e in
-        subst (λ n. Name n bytes rest) parts.0 (subst (λ r. Name (front_while is_name_byte (next bytes)) bytes r) parts.1 (record { letters = letters_at bytes; fits = q }))
+        let parts = same_read (prefix_while is_name_byte (next bytes)) name (skip_while is_name_byte (next bytes)) rest e in
+        subst (λ n. Name n bytes rest) parts.0 (subst (λ r. Name (prefix_while is_name_byte (next bytes)) bytes r) parts.1 (record { letters = letters_at bytes; fits = q }))
     by_test false q e = cc
 
-some_digits : (bs : List ℕ) → (prefix_len is_ascii_digit bs == 0) ≡ false → 1 ≤ length (front_while is_ascii_digit bs)
+some_digits : (bs : List ℕ) → (prefix_len is_ascii_digit bs == 0) ≡ false → 1 ≤ length (prefix_while is_ascii_digit bs)
 some_digits bs is = let e = length-prefix_len is_ascii_digit bs in grind (arith, nat_tests, e)
 
 pub digits_says : (n : ℕ) (bytes rest : List ℕ) → digits_at bytes ≡ Ok (n, rest) → Digits n bytes rest
@@ -174,7 +174,7 @@ digits_says n bytes rest e = by_test (prefix_len is_ascii_digit at == 0) refl e
     at = next bytes
 
     digits : List ℕ
-    digits = front_while is_ascii_digit at
+    digits = prefix_while is_ascii_digit at
 
     by_test : (t : Bool) → (prefix_len is_ascii_digit at == 0) ≡ t
         → ◌≡◌ {A = Read ℕ} (if t then Err at else Ok (number_from 0 digits, skip_while is_ascii_digit at)) (Ok (n, rest)) → Digits n bytes rest

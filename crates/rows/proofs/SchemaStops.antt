@@ -5,7 +5,7 @@ use Rattle.std.proofs.lemmas.List.{length-append, append_assoc, append-nil}
 use Rattle.values.specs.declared.table.ColumnType.TheVariants.{Varchar}
 use Rattle.std.specs.List.{prefix_len}
 use Rattle.tokens.specs.Token as tokens
-use Rattle.tokens.specs.Token.{After, Read, skip_while, front_while}
+use Rattle.tokens.specs.Token.{After, Read, skip_while, prefix_while}
 use Rattle.tokens.specs.Token.{symbol_at as symbol_after}
 use Rattle.tokens.specs.Word.{is_name_byte}
 use Rattle.tokens.specs.Word.{after_word as rest_of_word, word_at as word_after}
@@ -136,7 +136,7 @@ nothing_left (b ∷ bs) h = absurd (omega arith)
 
 -- tokens
 skip_ends : (p : ℕ → Bool) (bytes : List ℕ) → EndsWith bytes (skip_while p (next bytes))
-skip_ends p bytes = through bytes (next bytes) (skip_while p (next bytes)) (next_ends bytes) (record { front = front_while p (next bytes); place = sym (front-skip p (next bytes)) })
+skip_ends p bytes = through bytes (next bytes) (skip_while p (next bytes)) (next_ends bytes) (record { front = prefix_while p (next bytes); place = sym (front-skip p (next bytes)) })
 
 symbol_ends : (symbol : ℕ) (bytes rest : List ℕ) → symbol_at symbol bytes ≡ Ok rest → EndsWith bytes rest
 symbol_ends symbol bytes rest e =
@@ -168,13 +168,13 @@ word_stops word bytes = if_leads bytes (is_word_at word bytes) _ _ (leads_on byt
 
 name_stops : (bytes : List ℕ) → Stops bytes (name_at bytes)
 unfolding name_after
-name_stops bytes = if_stops bytes (is_name (front_while is_name_byte (next bytes))) _ _ (goes_on bytes _ _ (skip_ends is_name_byte bytes)) (stops_next bytes)
+name_stops bytes = if_stops bytes (is_name (prefix_while is_name_byte (next bytes))) _ _ (goes_on bytes _ _ (skip_ends is_name_byte bytes)) (stops_next bytes)
 
 digits_stop : (bytes : List ℕ) → Stops bytes (digits_at bytes)
 unfolding digits_at
 digits_stop bytes =
     if_stops bytes (prefix_len is_ascii_digit (next bytes) == 0) _ _ (stops_next bytes)
-    (goes_on bytes _ (number_from 0 (front_while is_ascii_digit (next bytes))) (skip_ends is_ascii_digit bytes))
+    (goes_on bytes _ (number_from 0 (prefix_while is_ascii_digit (next bytes))) (skip_ends is_ascii_digit bytes))
 
 -- what stands in an entry
 size_stops : (bytes : List ℕ) → Stops bytes (size_at bytes)

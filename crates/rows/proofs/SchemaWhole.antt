@@ -9,7 +9,7 @@ use Rattle.rows.specs.declared.declaration.Entry.{Entry}
 use Rattle.rows.specs.declared.declaration.Declaration.{Declaration}
 use Rattle.values.specs.Names.{same_name}
 use Rattle.tokens.specs.Token as tokens
-use Rattle.tokens.specs.Token.{After, Read, front_while}
+use Rattle.tokens.specs.Token.{After, Read, prefix_while}
 use Rattle.tokens.specs.Word.{is_name_byte}
 use Rattle.tokens.specs.Word.{is_word_at as is_word_after}
 use Rattle.tokens.proofs.WordCases.{Refused, none_same}
@@ -318,7 +318,7 @@ no_end_at_word : (word : List ℕ) → 0 < length word → (x : Unit {0}) (bytes
 unfolding is_end_at is_word_after
 no_end_at_word word some x bytes rest w = by_rest word some (next bytes) (word_is_at word x bytes rest w)
   where
-    by_rest : (word : List ℕ) → 0 < length word → (at : List ℕ) → same_name word (front_while is_name_byte at) ≡ true → is_nothing at ≡ false
+    by_rest : (word : List ℕ) → 0 < length word → (at : List ℕ) → same_name word (prefix_while is_name_byte at) ≡ true → is_nothing at ≡ false
     by_rest word some [] e = let no = none_same word some in cc
     by_rest word some (b ∷ bs) e = refl
 

@@ -1,4 +1,4 @@
--- Which declarations are good tables: by what stands once, what stands twice, and how many there
+-- Which declarations are good tables: by what occurs once, what occurs twice, and how many there
 -- are.
 use Rattle.std.specs.Prelude.{◌≡◌, ℕ, ◌+◌, ◌≤◌, ◌↔◌, List, [], ◌∷◌, ◌++◌, Bool, true, false, Option, Some, None, length, map}
 use Rattle.std.specs.List.{count_by}
@@ -22,9 +22,9 @@ abbrev pub Each : {A : Type 0} → (A → Type 0) → List A → Type 0
 Each P [] = Unit {0}
 Each P (x ∷ xs) = P x × Each P xs
 
--- the element stands somewhere in the list
-abbrev pub Stands : {A : Type 0} → A → List A → Type 0
-Stands {A = A} x xs = (before : List A) × ((after : List A) × (xs ≡ before ++ x ∷ after))
+-- the element is somewhere in the list
+abbrev pub IsElement : {A : Type 0} → A → List A → Type 0
+IsElement {A = A} x xs = (before : List A) × ((after : List A) × (xs ≡ before ++ x ∷ after))
 
 -- this element is so, and no other is
 pub record IsTheOne {A : Type 0} (P : A → Type 0) (x : A) (xs : List A) : Type 0 where
@@ -67,7 +67,7 @@ IsPeriod (Key names) = ⊥
 -- a key is given by a clause, and by each PRIMARY KEY that marks a column
 abbrev pub GivesKeys : Entry → Type 0
 GivesKeys (Key names) = Unit {0}
-GivesKeys (User c) = Stands PrimaryKey c.marks
+GivesKeys (User c) = IsElement PrimaryKey c.marks
 GivesKeys (Generated g) = ⊥
 GivesKeys (Period p) = ⊥
 
@@ -91,7 +91,7 @@ ShareAName e f = (a : List ℕ) × ((b : List ℕ) × (Declares e a × (Declares
 
 -- a user column has the name
 abbrev pub HasUserColumn : List Entry → List ℕ → Type 0
-HasUserColumn entries name = (c : UserColumn) × (Stands (User c) entries × SameName c.name name)
+HasUserColumn entries name = (c : UserColumn) × (IsElement (User c) entries × SameName c.name name)
 
 -- VARCHAR has 1 to 1,000 characters
 abbrev pub TypeIsGood : ColumnType → Type 0
@@ -103,7 +103,7 @@ abbrev pub DigitsAreGood : Option ℕ → Type 0
 DigitsAreGood None = Unit {0}
 DigitsAreGood (Some n) = n ≤ 12
 
--- what stands in one entry: its number in range, and NOT NULL not repeated
+-- what is in one entry: its number in range, and NOT NULL not repeated
 abbrev pub EntryIsGood : Entry → Type 0
 EntryIsGood (User c) = TypeIsGood c.of × NoTwo (λ a b. (a ≡ NotNull) × (b ≡ NotNull)) c.marks
 EntryIsGood (Generated g) =
@@ -138,7 +138,7 @@ pub record TableIsGood (d : Declaration) : Type 0 where
 pub record IsColumnOf (u : UserColumn) (c : Column) : Type 0 where
   pub named : c.name ≡ u.name
   pub of_type : c.of ≡ u.of
-  pub marked : (c.not_null ≡ true) ↔ Stands NotNull u.marks
+  pub marked : (c.not_null ≡ true) ↔ IsElement NotNull u.marks
 
 -- the user columns in the order in which they stand, the period columns left out
 abbrev pub AreColumnsOf : List Entry → List Column → Type 0

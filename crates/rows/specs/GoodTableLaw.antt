@@ -8,7 +8,7 @@ use Rattle.rows.specs.SchemaGrammar.{SchemaText}
 use Rattle.rows.specs.GoodTable.{TablesAreGood, AreTablesOf, IsFirstBad}
 
 -- declarations make a schema where they are good tables, and it has those; else the first bad one
--- is told
+-- is reported
 pub record GoodTablesAreMade : Type 0 where
   pub good : (declarations : List Declaration)
       → ((schema : Schema) × (tables_from [] declarations ≡ Ok schema)) ↔ TablesAreGood declarations

@@ -24,7 +24,7 @@ Says A = A → List ℕ → List ℕ → Type 0
 abbrev pub is_on_the_line : ℕ → Bool
 is_on_the_line b = not (b == 10)
 
--- what stands between tokens: separators, comments with the end of their line, and a comment that
+-- what is between tokens: separators, comments with the end of their line, and a comment that
 -- the text ends
 pub data Piece : Type 0 where
   blank : ℕ → Piece

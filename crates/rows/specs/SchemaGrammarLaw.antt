@@ -56,21 +56,22 @@ OnlyTheGrammarIsRead =
     → HasSyntaxFault (read_schema text)
     ↔ ((longest_text < length text) ⊎ SaysNothing text)
 
--- a fault of syntax in a text that is short enough is told at a token or at the end
+-- a fault of syntax in a text that is short enough is reported at a token or at the end
 abbrev pub FaultsAreAtTokens : Type 0
 FaultsAreAtTokens =
     (text : List ℕ) (n : ℕ) → length text ≤ longest_text → read_schema text ≡ Err (Syntax n)
     → TokenAt BeginsToken text n
 
 -- in a text that is short enough the bytes before a fault of syntax can go on to a text of the grammar
-abbrev pub FrontsGoOn : Type 0
-FrontsGoOn =
+abbrev pub PrefixesGoOn : Type 0
+PrefixesGoOn =
     (before rest : List ℕ) → length (before ++ rest) ≤ longest_text
     → read_schema (before ++ rest) ≡ Err (Syntax (length before))
-    → (more : List ℕ) × ((declarations : List Declaration) × SchemaText declarations (before ++ more))
+    → (more : List ℕ)
+    × ((declarations : List Declaration) × SchemaText declarations (before ++ more))
 
 -- a token by its first byte and the others, before the rest: it is whole, and no gap comes first
-pub record Stands (first : ℕ) (others rest : List ℕ) : Type 0 where
+pub record IsNextToken (first : ℕ) (others rest : List ℕ) : Type 0 where
   pub token : IsToken first others rest
   pub begins : BeginsToken (first ∷ (others ++ rest))
 
@@ -78,8 +79,8 @@ pub record Stands (first : ℕ) (others rest : List ℕ) : Type 0 where
 -- of the grammar of it and the bytes before it
 abbrev pub FaultsAreFinal : Type 0
 FaultsAreFinal =
-    (before : List ℕ) (first : ℕ) (others rest : List ℕ) → Stands first others rest
+    (before : List ℕ) (first : ℕ) (others rest : List ℕ) → IsNextToken first others rest
     → length (before ++ first ∷ (others ++ rest)) ≤ longest_text
     → read_schema (before ++ first ∷ (others ++ rest)) ≡ Err (Syntax (length before))
-    → (other : List ℕ) → Stands first others other
+    → (other : List ℕ) → IsNextToken first others other
     → SaysNothing (before ++ first ∷ (others ++ other))

@@ -69,14 +69,14 @@ abbrev pub is_good_precision : Option ℕ → Bool
 is_good_precision None = true
 is_good_precision (Some n) = nat_le n 12
 
--- NOT NULL stands once at most
+-- NOT NULL is given at most once
 abbrev pub is_good_entry : Entry → Bool
 is_good_entry (User c) = is_good_type c.of && nat_le (count_by is_not_null c.marks) 1
 is_good_entry (Generated g) =
     is_good_precision g.digits && not (g.not_null_before && g.not_null_after)
 is_good_entry _ = true
 
--- no name stands twice
+-- no name is given twice
 abbrev pub are_distinct : List (List ℕ) → Bool
 are_distinct [] = true
 are_distinct (name ∷ names) = not (list_any (same_name name) names) && are_distinct names

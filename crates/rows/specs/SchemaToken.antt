@@ -1,9 +1,9 @@
--- The tokens of a schema, and what stands between them.
+-- The tokens of a schema, and what is between them.
 use Rattle.std.specs.Prelude.{ℕ, List, [], ◌∷◌, ◌+◌, ◌*◌, ◌-◌, ◌==◌, ◌||◌, ◌&&◌, Bool, true, false, Ok, Err, not, min, if◌then◌else◌}
 use Rattle.std.specs.Char.{is_ascii_digit}
 use Rattle.std.specs.List.{prefix_len}
 use Rattle.tokens.specs.Token as tokens
-use Rattle.tokens.specs.Token.{After, Read, front_while, skip_while}
+use Rattle.tokens.specs.Token.{After, Read, prefix_while, skip_while}
 use Rattle.tokens.specs.Word as words
 use Rattle.tokens.specs.Name as names
 
@@ -44,7 +44,7 @@ word_at word bytes = words.word_at next word bytes
 abbrev pub name_at : List ℕ → Read (List ℕ)
 name_at bytes = names.name_at next bytes
 
--- n and then digits, as a number; 65,535 stands for all that are greater
+-- n and then digits, as a number; 65,535 for all that are greater
 abbrev pub number_from : ℕ → List ℕ → ℕ
 number_from n [] = n
 number_from n (b ∷ bs) = number_from (min (10 * n + (b - 48)) 65535) bs
@@ -53,4 +53,4 @@ unfoldable pub digits_at : List ℕ → Read ℕ
 digits_at bytes =
     let at = next bytes in
     if prefix_len is_ascii_digit at == 0 then Err at
-    else Ok (number_from 0 (front_while is_ascii_digit at), skip_while is_ascii_digit at)
+    else Ok (number_from 0 (prefix_while is_ascii_digit at), skip_while is_ascii_digit at)

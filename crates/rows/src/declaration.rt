@@ -9,7 +9,7 @@ use std::alloc::Global;
 use tokens::{After, Made, Read, Separators, Stop, after_word, is_word_at, symbol_at, word_at};
 use values::{Chars, ColumnType, Sequence};
 
-/// What may stand after a column's type.
+/// What may follow a column's type.
 #[derive(Clone, Copy, Debug, PartialEq, Eq)]
 pub enum Mark {
     NotNull,
@@ -391,7 +391,7 @@ fn is_end_at(bytes: &[u8]) -> bool
     Gaps::next(bytes).is_empty()
 }
 
-/// Whether a statement comes after the one before: a semicolon may stand at the end.
+/// Whether a statement comes after the one before: a semicolon may be at the end.
 #[tactic(auto, unfolding(crate::specs::Declaration::more_at))]
 fn more_at(bytes: &[u8]) -> Read<'_, bool>
     ensures { Gives result (more_at bytes.now) }

@@ -1,7 +1,7 @@
-//! Laws of good tables, which are told by counts and by names that differ.
+//! Laws of good tables, which counts and names that differ make out.
 ghost use Rattle.rows.specs.GoodTableLaw.{GoodTablesAreMade, OnlySchemasAreRead, GoodTextsAreRead};
 
-/// Declarations make tables where they are good ones, and where not the first bad one is told. A schema is read from
+/// Declarations make tables where they are good ones, and where not the first bad one is reported. A schema is read from
 /// exactly the texts that say it.
 pub fn good_tables_are_made()
     ensures tables { GoodTablesAreMade }

@@ -1,4 +1,4 @@
-//! Tables and the texts that declare them. What stands in `values` is offered under this name too.
+//! Tables and the texts that declare them. The types and calls of `values` are offered under this name too.
 #![tactic(auto)]
 
 mod declaration;

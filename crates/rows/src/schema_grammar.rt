@@ -1,5 +1,5 @@
 //! Laws of the grammar of schemas, which knows nothing of reading.
-ghost use Rattle.rows.specs.SchemaGrammarLaw.{WhatIsReadIsOfTheGrammar, TokensAreRead, TheGrammarIsRead, TextsSayOneThing, OnlyTheGrammarIsRead, FaultsAreAtTokens, FrontsGoOn, FaultsAreFinal};
+ghost use Rattle.rows.specs.SchemaGrammarLaw.{WhatIsReadIsOfTheGrammar, TokensAreRead, TheGrammarIsRead, TextsSayOneThing, OnlyTheGrammarIsRead, FaultsAreAtTokens, PrefixesGoOn, FaultsAreFinal};
 
 /// Where the reading of a schema finds no fault of syntax, the text is of the grammar.
 pub fn schemas_are_of_the_grammar()
@@ -19,6 +19,6 @@ pub fn the_grammar_is_read()
 /// Where a fault of syntax is reported, the bytes before it can go on to a text of the grammar. With the token at the
 /// fault they cannot.
 pub fn faults_are_final()
-    ensures goes_on { FrontsGoOn }
+    ensures goes_on { PrefixesGoOn }
     ensures no_more { FaultsAreFinal }
 {}

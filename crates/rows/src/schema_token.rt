@@ -58,7 +58,7 @@ pub fn chars_at(alloc: Global, bytes: &[u8]) -> Made<'_, Chars>
     Ok((chars_of(alloc, name)?, rest))
 }
 
-/// The number that digits make; 65,535 stands for all that are greater.
+/// The number that digits make; 65,535 for all that are greater.
 fn number_of(digits: &[u8]) -> u16
     ensures { result ≡ number_from 0 digits.now }
 {

@@ -44,7 +44,7 @@ fn length_read(
 }
 
 #[test]
-fn a_row_is_read_from_the_front(rt: HostRuntime) {
+fn a_row_is_read_from_the_start(rt: HostRuntime) {
     let bytes = b"\x02\x01\x00\x00\x00\x00\x00\x00\x00\x01\x02\x00\x03Ann and more";
     assert!(rt; length_read(&rt, rt.alloc(), bytes, 1, "Ann") == Some(16));
 }

@@ -118,7 +118,7 @@ fn a_bad_table_is_told_by_its_number(rt: HostRuntime) {
     }
 }
 
-/// What stands after the columns of a table whose key is the first.
+/// What follows the columns of a table whose key is the first.
 const REST: &str =
     "s TIMESTAMP GENERATED ALWAYS AS ROW START, e TIMESTAMP GENERATED ALWAYS AS ROW END, \
     PERIOD FOR SYSTEM_TIME (s, e), PRIMARY KEY (c0)) WITH SYSTEM VERSIONING; ";

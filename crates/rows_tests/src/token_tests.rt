@@ -30,7 +30,7 @@ fn a_symbol_is_read_or_refused_at_its_place(rt: HostRuntime) {
     assert!(rt; is_semicolon(b"", false, b""));
 }
 
-/// Whether a word stands where a text begins, by both calls.
+/// Whether a text begins with a word, by both calls.
 fn is_set(text: &str) -> (bool, bool) {
     let bytes = text.as_bytes();
     (

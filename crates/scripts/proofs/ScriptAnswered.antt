@@ -19,7 +19,7 @@ use Rattle.statement.specs.declared.line.Line.{Line}
 use Rattle.statement.specs.declared.line.Line.TheVariants.{Step as Asks}
 use Rattle.statement.specs.Line.{line_says}
 use Rattle.statement.specs.Memory.{UnlessMemory}
-use Rattle.statement.specs.Writer.{Puts, AppendsFront}
+use Rattle.statement.specs.Writer.{Puts, AppendsPrefix}
 use Rattle.statement.specs.Print.{reply_text, refusal_text}
 use Rattle.lines.specs.Partial.{Partial}
 use Rattle.scripts.specs.Transcript.{Progress, read_at, answered, left_by, reading_takes, can_run_out, is_risky, line_reply, line_leaves}
@@ -30,7 +30,7 @@ pub puts_ok : {E P : Type 0} (a b : Option (List ℕ)) (r : Result (Unit {0}) E)
 puts_ok a b (Ok done) text p f = f p
 puts_ok a b (Err fault) text p f = tt
 
-pub puts_err : {E P : Type 0} (a b : Option (List ℕ)) (r : Result (Unit {0}) E) (text : List ℕ) → Puts a b r text → (AppendsFront a b text → P) → OnErr r P
+pub puts_err : {E P : Type 0} (a b : Option (List ℕ)) (r : Result (Unit {0}) E) (text : List ℕ) → Puts a b r text → (AppendsPrefix a b text → P) → OnErr r P
 puts_err a b (Ok done) text p f = tt
 puts_err a b (Err fault) text p f = f p
 
@@ -75,8 +75,8 @@ out_answered a b s' schema p line risky wrote at = record {
   left = subst (IsAt s' schema) (out_leaves schema p line risky) at;
 }
 
-out_broken : (a b : Option (List ℕ)) (schema : Schema) (p : Progress) (line : Partial) → is_risky schema (line_says schema) p line ≡ true → AppendsFront a b (refusal_text Memory) → Broken a b schema p line
-out_broken a b schema p line risky wrote = record { mark = true; wrote = subst (AppendsFront a b) (out_reply schema p line risky) wrote }
+out_broken : (a b : Option (List ℕ)) (schema : Schema) (p : Progress) (line : Partial) → is_risky schema (line_says schema) p line ≡ true → AppendsPrefix a b (refusal_text Memory) → Broken a b schema p line
+out_broken a b schema p line risky wrote = record { mark = true; wrote = subst (AppendsPrefix a b) (out_reply schema p line risky) wrote }
 
 or_left : (x y : Bool) → x ≡ true → (x || y) ≡ true
 or_left true y e = refl
@@ -100,8 +100,8 @@ answered_as a b s' schema p line r e wrote left = record {
   left = subst (λ x. IsAt s' schema (left_by schema p x)) (sym e) left;
 }
 
-pub broken_as : (a b : Option (List ℕ)) (schema : Schema) (p : Progress) (line : Partial) (r : Result Line Refusal) → read_at (line_says schema) p.reading line ≡ r → AppendsFront a b (answered schema p r) → Broken a b schema p line
-broken_as a b schema p line r e wrote = record { mark = false; wrote = subst (λ x. AppendsFront a b (answered schema p x)) (sym e) wrote }
+pub broken_as : (a b : Option (List ℕ)) (schema : Schema) (p : Progress) (line : Partial) (r : Result Line Refusal) → read_at (line_says schema) p.reading line ≡ r → AppendsPrefix a b (answered schema p r) → Broken a b schema p line
+broken_as a b schema p line r e wrote = record { mark = false; wrote = subst (λ x. AppendsPrefix a b (answered schema p x)) (sym e) wrote }
 
 -- ---- a step
 
@@ -141,25 +141,25 @@ step_answered a b s s' schema p step r so at e wrote = by (is_out_of_memory r) r
         (record { schema_is = so.schema_stays ∙ at.schema_is; stands = did.1; reading_is = so.reading_stays ∙ at.reading_is })
 
 pub step_broken : (a b : Option (List ℕ)) (s s' : Script) (schema : Schema) (p : Progress) (step : Step) (r : Reply) → Stepped s s' step r → IsAt s schema p → said_by s ≡ Ok (Asks step)
-    → AppendsFront a b (reply_text r) → Broken a b schema p s.line
+    → AppendsPrefix a b (reply_text r) → Broken a b schema p s.line
 step_broken a b s s' schema p step r so at e wrote = by (is_out_of_memory r) refl
   where
     by : (out : Bool) → is_out_of_memory r ≡ out → Broken a b schema p s.line
-    by true is = out_broken a b schema p s.line (step_risky s s' schema p step r so at e is) (subst (λ r. AppendsFront a b (reply_text r)) (is_out_so r is) wrote)
+    by true is = out_broken a b schema p s.line (step_risky s s' schema p step r so at e is) (subst (λ r. AppendsPrefix a b (reply_text r)) (is_out_so r is) wrote)
     by false is =
         broken_as a b schema p s.line (Ok (Asks step)) (sym (said_is s schema p at) ∙ e)
-        (subst (λ r. AppendsFront a b (reply_text r)) ((so.answers p.history at.stands (not_out r is)).0 ∙ ap (λ x. reply x p.history step) at.schema_is) wrote)
+        (subst (λ r. AppendsPrefix a b (reply_text r)) ((so.answers p.history at.stands (not_out r is)).0 ∙ ap (λ x. reply x p.history step) at.schema_is) wrote)
 
 -- ---- a refusal
 
 pub refused_broken : (a b : Option (List ℕ)) (s : Script) (schema : Schema) (p : Progress) (refusal : Refusal) → IsAt s schema p → IsRead (Err refusal) s
-    → AppendsFront a b (refusal_text refusal) → Broken a b schema p s.line
+    → AppendsPrefix a b (refusal_text refusal) → Broken a b schema p s.line
 refused_broken a b s schema p refusal at is wrote = by (is_memory refusal) refl
   where
     by : (out : Bool) → is_memory refusal ≡ out → Broken a b schema p s.line
     by true e =
         let out = is_memory_so refusal e in
-        out_broken a b schema p s.line (read_risky s schema p at (subst (λ r. IsRead (Err r) s) out is)) (subst (λ r. AppendsFront a b (refusal_text r)) out wrote)
+        out_broken a b schema p s.line (read_risky s schema p at (subst (λ r. IsRead (Err r) s) out is)) (subst (λ r. AppendsPrefix a b (refusal_text r)) out wrote)
     by false e = broken_as a b schema p s.line (Err refusal) (sym (said_is s schema p at) ∙ unless refusal _ (other refusal e) is.unless) wrote
 
 pub refused_answered : (a b : Option (List ℕ)) (s : Script) (schema : Schema) (p : Progress) (refusal : Refusal) → IsAt s schema p → IsRead (Err refusal) s

@@ -8,11 +8,11 @@ use Rattle.std.proofs.KnownBytes.{Appends-trans, Appends-nil, Appends-kept, Cons
 use Rattle.std.specs.Io.KnownBytes.{Appends, Consumes, Keeps, IsAtEnd}
 use Rattle.values.specs.Tables.{Schema}
 use Rattle.histories.specs.History.{History}
-use Rattle.statement.specs.Writer.{AppendsFront}
+use Rattle.statement.specs.Writer.{AppendsPrefix}
 use Rattle.lines.specs.Partial.{Partial, add, add_all, ended}
 use Rattle.scripts.specs.Transcript.{Progress, Reading, Ending, no_reply, after, line_reply, line_leaves, last_reply, last_leaves, mark, marks_after, written, transcript_after, leaves, IsTranscriptAfter, IsCutAfter, IsStoppedAfter}
 use Rattle.scripts.specs.Taking.{Feeds, Breaks}
-use Rattle.statement.proofs.WriterFronts.{front_then}
+use Rattle.statement.proofs.WriterPrefixes.{front_then}
 
 not_end : (byte : ℕ) → byte ≢ 10 → (byte == 10) ≡ false
 not_end byte other = grind (arith, nat_tests)
@@ -31,7 +31,7 @@ module _ (schema : Schema) (read : Reading) where
     leaves_on = λ more rest. subst (λ c. leaves schema read (m ∷ more) p line (c ∷ rest) ≡ leaves schema read more (line_leaves schema read m p (ended line)) (Some []) rest) (sym is_end) refl;
   }
 
-  pub breaks_end : (a b : Option (List ℕ)) (m : Bool) (p : Progress) (byte : ℕ) (line : Partial) → AppendsFront a b (line_reply schema read m p (ended line)) → byte ≡ 10 → Breaks schema read a b p line (byte ∷ [])
+  pub breaks_end : (a b : Option (List ℕ)) (m : Bool) (p : Progress) (byte : ℕ) (line : Partial) → AppendsPrefix a b (line_reply schema read m p (ended line)) → byte ≡ 10 → Breaks schema read a b p line (byte ∷ [])
   breaks_end a b m p byte line f is_end = record {
     marks = m ∷ [];
     out = f.out;
@@ -131,12 +131,12 @@ module _ (schema : Schema) (read : Reading) (first : History) where
   }
 
   -- the writer failed in the reply to a last line
-  pub stopped_at_end : (r s t a b c : Option (List ℕ)) (p : Progress) (line : Partial) (m : Bool) → Taken schema read first r s a b p line → Consumes s t [] → AppendsFront b c (last_reply schema read m p line) → IsStoppedAfter schema read first r t a c
+  pub stopped_at_end : (r s t a b c : Option (List ℕ)) (p : Progress) (line : Partial) (m : Bool) → Taken schema read first r s a b p line → Consumes s t [] → AppendsPrefix b c (last_reply schema read m p line) → IsStoppedAfter schema read first r t a c
   stopped_at_end r s t a b c p line m so took front = record {
     text = so.bytes;
     took = subst (Consumes r t) (append-nil so.bytes) (Consumes-trans r s t so.bytes [] so.took took);
     marks = so.fed.marks ++ m ∷ [];
-    wrote = subst (AppendsFront a c) (sym (whole a b p line so.bytes (last_reply schema read) m so.fed)) (front_then a b c so.fed.out (last_reply schema read m p line) so.fed.wrote front);
+    wrote = subst (AppendsPrefix a c) (sym (whole a b p line so.bytes (last_reply schema read) m so.fed)) (front_then a b c so.fed.out (last_reply schema read m p line) so.fed.wrote front);
   }
 
   -- or in bytes that were read

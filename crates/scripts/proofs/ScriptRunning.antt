@@ -1,15 +1,14 @@
 -- The bytes of a script, line by line, and its end.
-use Rattle.std.proofs.Common.{◌≡◌, ◌≢◌, ℕ, List, [], ◌∷◌, ◌++◌, ◌+◌, ◌<◌, ◌≤◌, Bool, true, false, Option, Some, None, length, take, drop, take-append-drop, append_assoc, append-nil, sym, ◌∙◌, ap, subst, refl, arith}
+use Rattle.std.proofs.Common.{◌≡◌, ◌≢◌, ℕ, List, [], ◌∷◌, ◌++◌, ◌+◌, ◌<◌, ◌≤◌, Bool, true, Option, Some, None, length, take, drop, take-append-drop, append_assoc, append-nil, sym, ◌∙◌, ap, subst, refl, arith}
 use Rattle.std.specs.Prelude.{Result, Ok, Err, OnOk, OnErr, ◌==◌}
 use Rattle.std.proofs.lemmas.Bool.Decides.{nat_tests}
 use Rattle.std.specs.List.{All, prefix_len}
 use Rattle.std.proofs.lemmas.List.{take_more}
 use Rattle.std.specs.Io.KnownBytes.{Appends, Consumes, Keeps, IsAtEnd}
-use Rattle.std.proofs.KnownBytes.{Appends-nil}
 use Rattle.values.specs.Tables.{Schema}
 use Rattle.histories.specs.History.{History}
 use Rattle.statement.specs.Line.{line_says}
-use Rattle.statement.specs.Writer.{AppendsFront}
+use Rattle.statement.specs.Writer.{AppendsPrefix}
 use Rattle.scripts.specs.Taking.{Feeds, Breaks}
 use Rattle.lines.specs.Partial.{Partial, add_all, ended, has_byte, is_no_feed}
 use Rattle.scripts.specs.Transcript.{Progress, Reading, after, line_reply, line_leaves, last_reply, last_leaves, IsRunAfter, IsCutAfter, IsStoppedAfter}
@@ -75,24 +74,7 @@ last_finished a b s s' schema p e did = record {
 }
 
 pub last_unfinished : (a b : Option (List ℕ)) (s : Script) (schema : Schema) (p : Progress) → has_byte s.line ≡ true → Broken a b schema p s.line → Unfinished a b s schema p
-last_unfinished a b s schema p e did = record { mark = did.mark; wrote = subst (AppendsFront a b) (sym (last_is schema (line_says schema) did.mark p s.line e)) did.wrote }
-
-none_is : (schema : Schema) (read : Reading) (p : Progress) (line : Partial) → has_byte line ≡ false → last_reply schema read false p line ≡ []
-none_is schema read p None e = cc
-none_is schema read p (Some []) e = refl
-none_is schema read p (Some (b ∷ bytes)) e = cc
-
-none_left : (schema : Schema) (read : Reading) (p : Progress) (line : Partial) → has_byte line ≡ false → last_leaves schema read false p line ≡ p
-none_left schema read p None e = cc
-none_left schema read p (Some []) e = refl
-none_left schema read p (Some (b ∷ bytes)) e = cc
-
-pub none_finished : (a : Option (List ℕ)) (s : Script) (schema : Schema) (p : Progress) → has_byte s.line ≡ false → IsAt s schema p → Finished a a s s schema p
-none_finished a s schema p e at = record {
-  mark = false;
-  wrote = subst (Appends a a) (sym (none_is schema (line_says schema) p s.line e)) (Appends-nil a);
-  left = subst (IsAt s schema) (sym (none_left schema (line_says schema) p s.line e)) at;
-}
+last_unfinished a b s schema p e did = record { mark = did.mark; wrote = subst (AppendsPrefix a b) (sym (last_is schema (line_says schema) did.mark p s.line e)) did.wrote }
 
 -- ---- the same of what a call returned
 

@@ -8,7 +8,7 @@ use Rattle.interleaving.specs.SystemState.{Stands}
 use Rattle.statement.specs.declared.line.Line.{Line}
 use Rattle.statement.specs.Line.{line_says}
 use Rattle.statement.specs.Memory.{UnlessMemory}
-use Rattle.statement.specs.Writer.{AppendsFront}
+use Rattle.statement.specs.Writer.{AppendsPrefix}
 use Rattle.lines.specs.Partial.{Partial}
 use Rattle.scripts.specs.Transcript.{Progress, read_at, reading_takes, line_reply, line_leaves, last_reply, last_leaves}
 use Rattle.scripts.specs.Taking.{Feeds, Breaks}
@@ -46,7 +46,7 @@ pub record Answered
 pub record Broken
     (old new : Option (List ℕ)) (schema : Schema) (p : Progress) (line : Partial) : Type 0 where
   pub mark : Bool
-  pub wrote : AppendsFront old new (line_reply schema (line_says schema) mark p line)
+  pub wrote : AppendsPrefix old new (line_reply schema (line_says schema) mark p line)
 
 -- some bytes of the script were taken and answered
 pub record Fed
@@ -66,7 +66,7 @@ pub record Finished
 pub record Unfinished
     (old new : Option (List ℕ)) (s : Script) (schema : Schema) (p : Progress) : Type 0 where
   pub mark : Bool
-  pub wrote : AppendsFront old new (last_reply schema (line_says schema) mark p s.line)
+  pub wrote : AppendsPrefix old new (last_reply schema (line_says schema) mark p s.line)
 
 -- nothing was read or written
 pub record IsIdle (unread left old new : Option (List ℕ)) : Type 0 where

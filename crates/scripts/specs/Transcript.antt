@@ -11,7 +11,7 @@ use Rattle.statement.specs.declared.line.Line.{Line}
 use Rattle.statement.specs.declared.line.Line.TheVariants.{Nothing, Clock, Step as Asks}
 use Rattle.statement.specs.Memory.{takes_memory}
 use Rattle.statement.specs.Print.{line, refusal_text, reply_text}
-use Rattle.statement.specs.Writer.{AppendsFront}
+use Rattle.statement.specs.Writer.{AppendsPrefix}
 use Rattle.lines.specs.Partial.{Partial, add, ended}
 
 -- reading the line takes memory: it is not read where it is too long
@@ -24,12 +24,9 @@ pub record Progress : Type 0 where
   pub history : History
   pub reading : ℕ
 
--- after these steps, with the clock at nought
+-- after these steps, with the clock at 0
 abbrev pub after : History → Progress
 after first = record { history = first; reading = 0 }
-
-abbrev pub beginning : Progress
-beginning = after []
 
 -- how a line is read at a reading of the clock
 abbrev pub Reading : Type 0
@@ -127,7 +124,8 @@ module _ (schema : Schema) (read : Reading) where
 module _ (schema : Schema) (read : Reading) (first : History) where
   -- the replies to all lines of a text, after these steps
   abbrev pub transcript_after : List Bool → List ℕ → List ℕ
-  transcript_after ms text = written schema read (last_reply schema read) ms (after first) (Some []) text
+  transcript_after ms text =
+      written schema read (last_reply schema read) ms (after first) (Some []) text
 
   -- the replies to those that have ended
   abbrev pub whole_replies_after : List Bool → List ℕ → List ℕ
@@ -163,12 +161,9 @@ module _ (schema : Schema) (read : Reading) (first : History) where
     pub text : List ℕ
     pub took : Consumes unread left text
     pub marks : List Bool
-    pub wrote : AppendsFront old new (transcript_after marks text)
+    pub wrote : AppendsPrefix old new (transcript_after marks text)
 
 -- ---- the same from the beginning
-
-abbrev pub IsTranscript : Schema → Reading → (unread left old new : Option (List ℕ)) → Type 0
-IsTranscript schema read unread left old new = IsTranscriptAfter schema read [] unread left old new
 
 abbrev pub IsRun : Schema → Reading → SystemState → (unread left old new : Option (List ℕ)) → Type 0
 IsRun schema read s unread left old new = IsRunAfter schema read [] s unread left old new

@@ -22,7 +22,7 @@ range_of_table number =
     record { lo = number ∷ []; hi = if number == 255 then None else Some ((number + 1) ∷ []) }
 
 -- the least bytes above all that begin with these: the last byte that is no 255 is one higher, and
--- what stands behind it is left out; none where all are 255
+-- what follows it is left out; none where all are 255
 abbrev pub next_prefix : List ℕ → Option (List ℕ)
 next_prefix [] = None
 next_prefix (b ∷ bs) = elim (next_prefix bs) [
@@ -88,7 +88,8 @@ abbrev pub narrowed_at : Table → ℕ → List ℕ → List Comparison → KeyR
 narrowed_at table place prefix [] range = range
 narrowed_at table place prefix (c ∷ cs) range =
     narrowed_at table place prefix cs
-    (if is_at table place c then narrowed c.operator (prefix ++ part_bytes c.value) range else range)
+    (if is_at table place c then narrowed c.operator (prefix ++ part_bytes c.value) range
+    else range)
 
 -- the value that the column at a place is to be equal to: the first, where there are more
 abbrev pub equal_at : Table → ℕ → List Comparison → Option Value
@@ -117,7 +118,8 @@ can_narrow table keys =
 abbrev pub search_range : Table → Keys → KeyRange
 search_range table keys =
     if can_narrow table keys
-    then narrowed_from table keys.comparisons 0 (table.number ∷ []) table.key (range_of_table table.number)
+    then narrowed_from table keys.comparisons 0 (table.number ∷ []) table.key
+    (range_of_table table.number)
     else range_of_table table.number
 
 -- each key of the table that meets the comparisons is in the range

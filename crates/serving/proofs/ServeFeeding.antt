@@ -56,9 +56,6 @@ less_than n m within other = grind (arith, nat_tests)
 
 -- ---- the end in the midst of bytes
 
-ends_on : (l m : Partial) (xs ys : List ℕ) (done : List Partial) → EndsLines l xs done m → (rest : List ℕ) → (more : List Partial) × (lines_from l ((xs ++ ys) ++ rest) ≡ done ++ more)
-ends_on l m xs ys done f rest = (lines_from m (ys ++ rest), ap (lines_from l) (append_assoc xs ys rest) ∙ f (ys ++ rest))
-
 pub breaks_after : (l m : Partial) (xs ys : List ℕ) (old mid new : SessionState) (a b c : AccountState) (w v u : Option (List ℕ)) → Feeds l m xs old mid a b w v → Breaks m ys mid new b c v u → Breaks l (xs ++ ys) old new a c w u
 breaks_after l m xs ys old mid new a b c w v u f s = record {
   lines = f.lines ++ s.lines;
@@ -191,12 +188,6 @@ going_unfinished r s t m old mid new a b c w v u so took (inr f) = record {
 }
 
 -- ---- a last line
-
-pub last_written : (m : Partial) (old new : SessionState) (a b : AccountState) (w v : Option (List ℕ)) → has_byte m ≡ true → Writes (m ∷ []) old new a b w v → Writes (lines_from m []) old new a b w v
-last_written m old new a b w v e f = subst (λ x. Writes (if x then m ∷ [] else []) old new a b w v) (sym e) f
-
-pub last_broken : (m : Partial) (old new : SessionState) (a b : AccountState) (w v : Option (List ℕ)) → has_byte m ≡ true → IsBroken (m ∷ []) old new a b w v → IsBroken (lines_from m []) old new a b w v
-last_broken m old new a b w v e f = subst (λ x. IsBroken (if x then m ∷ [] else []) old new a b w v) (sym e) f
 
 pub last_none : (m : Partial) (s : SessionState) (a : AccountState) (w : Option (List ℕ)) → has_byte m ≡ false → Writes (lines_from m []) s s a a w w
 last_none m s a w e = subst (λ x. Writes (if x then m ∷ [] else []) s s a a w w) (sym e) (writes_none s a w)

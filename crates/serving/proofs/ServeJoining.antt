@@ -3,13 +3,13 @@ use Rattle.std.proofs.Common.{◌≡◌, ℕ, List, [], ◌∷◌, ◌++◌, Opt
 use Rattle.std.specs.Io.KnownBytes.{Keeps}
 use Rattle.std.proofs.KnownBytes.{Appends-trans, Appends-nil, Appends-kept}
 use Rattle.values.specs.Tables.{Schema}
-use Rattle.statement.proofs.WriterFronts.{front_then}
+use Rattle.statement.proofs.WriterPrefixes.{front_then}
 use Rattle.lines.specs.Partial.{Partial}
 use Rattle.sessions.specs.SessionState.{SessionState}
 use Rattle.serving.specs.declared.served_session.Told.{Told}
 use Rattle.serving.specs.Taken.{Given, Progress}
 use Rattle.serving.specs.ServedSession.{IsAnswered, Serves}
-use Rattle.serving.specs.Account.{AccountState, Served, Writes, WritesFront, LeavesAll}
+use Rattle.serving.specs.Account.{AccountState, Served, Writes, WritesPrefix, LeavesAll}
 
 module _ (schema : Schema) (i : ℕ) where
   pub serves_one : (l : Partial) (t : Told) (p q : Progress) (g : List Given) (o : List ℕ) → IsAnswered schema i l t p g o q → Serves schema i (l ∷ []) (t ∷ []) p g o q
@@ -92,13 +92,13 @@ pub writes_kept : (ls : List Partial) (old new : SessionState) (a b : AccountSta
 writes_kept ls old new a b w v u f kept = record { out = f.out; wrote = Appends-kept w v u f.out f.wrote kept; served = f.served }
 
 -- all that was to be written is a front of itself
-pub all_front : (ls : List Partial) (old new : SessionState) (a b : AccountState) (w v : Option (List ℕ)) → Writes ls old new a b w v → WritesFront ls old new a b w v
+pub all_front : (ls : List Partial) (old new : SessionState) (a b : AccountState) (w v : Option (List ℕ)) → Writes ls old new a b w v → WritesPrefix ls old new a b w v
 all_front ls old new a b w v f = record { out = f.out; wrote = record { out = f.out; left = []; wrote = f.wrote; front = sym (append-nil f.out) }; served = f.served }
 
-pub front_join : (ls ms : List Partial) (old mid new : SessionState) (a b c : AccountState) (w v u : Option (List ℕ)) → Writes ls old mid a b w v → WritesFront ms mid new b c v u → WritesFront (ls ++ ms) old new a c w u
+pub front_join : (ls ms : List Partial) (old mid new : SessionState) (a b c : AccountState) (w v u : Option (List ℕ)) → Writes ls old mid a b w v → WritesPrefix ms mid new b c v u → WritesPrefix (ls ++ ms) old new a c w u
 front_join ls ms old mid new a b c w v u f s = record { out = f.out ++ s.out; wrote = front_then w v u f.out s.out f.wrote s.wrote; served = served_join ls ms f.out s.out old mid new a b c f.served s.served }
 
-pub left_front : (old new : SessionState) (a b : AccountState) (w v : Option (List ℕ)) → LeavesAll old new a b w v → WritesFront [] old new a b w v
+pub left_front : (old new : SessionState) (a b : AccountState) (w v : Option (List ℕ)) → LeavesAll old new a b w v → WritesPrefix [] old new a b w v
 left_front old new a b w v f = record {
   out = [];
   wrote = record { out = []; left = []; wrote = Appends-kept w w v [] (Appends-nil w) f.wrote; front = refl };

@@ -21,7 +21,7 @@ use Rattle.serving.specs.Taken.{Given, Progress}
 use Rattle.serving.specs.ServedSession.{Answers, IsAnswered, IsKept, IsRefusedLine, reading_takes, said}
 use Rattle.serving.specs.Serving.{AnswerState, IsAt, IsReplied, given_list, given_of, taken_by, taken_of, refused_of, reply_by, reply_of, sent_refusal, text_of}
 use Rattle.serving.specs.Account.{AccountState, IsBroken, Served, Writes}
-use Rattle.serving.specs.Line.{IsBrokenStep, IsRead, IsTaken, IsTold, Sends}
+use Rattle.serving.specs.Line.{IsBrokenStep, IsRead, IsTaken, IsReported, Sends}
 use Rattle.serving.proofs.ServeJoining.{serves_one}
 use Rattle.serving.proofs.AnswerRefusing.{memory_or_reply, unless_is}
 
@@ -111,10 +111,6 @@ module _ (line : Partial) (old : SessionState) (a m b : AccountState) (room : Sa
   memory_line (Ok (Asks step)) p takes = record { may = refl; takes = refl; left = refl }
   memory_line (Err refusal) p takes = (takes, (refl, (refl, refl)))
 
-  refusal_in : Refusal → Result Line Refusal → Refusal
-  refusal_in r (Err x) = x
-  refusal_in r (Ok x) = r
-
   kept_refusal : (refusal : Refusal) (p : Progress) → IsRead schema i line (Err refusal) → IsKept schema i (refused_of (sent_refusal refusal)) line p [] (text_of (reply_by None (sent_refusal refusal))) p
   kept_refusal refusal p read = by (memory_or_reply refusal)
     where
@@ -124,16 +120,16 @@ module _ (line : Partial) (old : SessionState) (a m b : AccountState) (room : Sa
       by (inr f) = subst (λ s. IsKept schema i (refused_of s) line p [] (text_of (reply_by None s)) p) (sym f.1)
           (subst (λ s. Answers schema i s p [] (refusal_text refusal) p) (sym (unless_is refusal (said schema i line) f.0 read.unless)) (record { takes = refl; out_is = refl; left = refl }))
 
-  refusal_served : (refusal : Refusal) (answer : AnswerState) → answer ≡ record { given = None; install = None; sent = sent_refusal refusal } → IsRead schema i line (Err refusal) → IsTold answer m b → Served (line ∷ []) (text_of (reply_of answer)) old old a b
-  refusal_served refusal answer is read told = subst (λ (x : AnswerState). IsTold x m b → Served (line ∷ []) (text_of (reply_of x)) old old a b) (sym is) (λ t.
+  refusal_served : (refusal : Refusal) (answer : AnswerState) → answer ≡ record { given = None; install = None; sent = sent_refusal refusal } → IsRead schema i line (Err refusal) → IsReported answer m b → Served (line ∷ []) (text_of (reply_of answer)) old old a b
+  refusal_served refusal answer is read told = subst (λ (x : AnswerState). IsReported x m b → Served (line ∷ []) (text_of (reply_of x)) old old a b) (sym is) (λ t.
       one old (record { taken = 0; refused = refused_of (sent_refusal refusal) }) [] (text_of (reply_by None (sent_refusal refusal))) t.told_is t.given_is refl refl (λ p at. (p, (at, record { counted = refl; kept = kept_refusal refusal p read })))) told
 
-  pub refusal_written : {E : Type 0} (r : Result (Unit {0}) E) (refusal : Refusal) (answer : AnswerState) (w v : Option (List ℕ)) → answer ≡ record { given = None; install = None; sent = sent_refusal refusal } → IsRead schema i line (Err refusal) → IsTold answer m b
+  pub refusal_written : {E : Type 0} (r : Result (Unit {0}) E) (refusal : Refusal) (answer : AnswerState) (w v : Option (List ℕ)) → answer ≡ record { given = None; install = None; sent = sent_refusal refusal } → IsRead schema i line (Err refusal) → IsReported answer m b
       → Puts w v r (text_of (reply_of answer)) → OnOk r (Writes (line ∷ []) old old a b w v)
   refusal_written (Ok x) refusal answer w v is read told puts = record { out = text_of (reply_of answer); wrote = puts; served = refusal_served refusal answer is read told }
   refusal_written (Err e) refusal answer w v is read told puts = tt
 
-  pub refusal_broken : {E : Type 0} (r : Result (Unit {0}) E) (refusal : Refusal) (answer : AnswerState) (w v : Option (List ℕ)) → answer ≡ record { given = None; install = None; sent = sent_refusal refusal } → IsRead schema i line (Err refusal) → IsTold answer m b
+  pub refusal_broken : {E : Type 0} (r : Result (Unit {0}) E) (refusal : Refusal) (answer : AnswerState) (w v : Option (List ℕ)) → answer ≡ record { given = None; install = None; sent = sent_refusal refusal } → IsRead schema i line (Err refusal) → IsReported answer m b
       → Puts w v r (text_of (reply_of answer)) → OnErr r (IsBroken (line ∷ []) old old a b w v)
   refusal_broken (Ok x) refusal answer w v is read told puts = tt
   refusal_broken (Err e) refusal answer w v is read told puts = inl (record { out = text_of (reply_of answer); wrote = puts; served = refusal_served refusal answer is read told })

@@ -1,7 +1,7 @@
 -- What is kept of the lines of a served session, and what serving some of them did.
 use Rattle.std.specs.Prelude.{◌≡◌, ◌⊎◌, ℕ, List, ◌++◌, Option}
 use Rattle.std.specs.Io.KnownBytes.{Appends, Keeps}
-use Rattle.statement.specs.Writer.{AppendsFront}
+use Rattle.statement.specs.Writer.{AppendsPrefix}
 use Rattle.lines.specs.Partial.{Partial}
 use Rattle.lines.specs.Lines.{EndsLines, lines_from}
 use Rattle.sessions.specs.SessionState.{SessionState}
@@ -10,15 +10,15 @@ use Rattle.serving.specs.Taken.{Given, Progress}
 use Rattle.serving.specs.ServedSession.{Serves}
 use Rattle.serving.specs.Serving.{IsAt}
 
--- what is told of each line, the receipts that the lines took, and for how many more there is room
+-- what is reported of each line, the receipts that the lines took, and for how many more there is room
 pub record AccountState : Type 0 where
   pub told : List Told
   pub given : List Given
   pub room : ℕ
 
 -- some lines were served with this text: whatever the session had come to, it goes on from there
-pub record Served (lines : List Partial) (out : List ℕ) (old new : SessionState) (a b : AccountState)
-    : Type 0 where
+pub record Served (lines : List Partial) (out : List ℕ) (old new : SessionState)
+    (a b : AccountState) : Type 0 where
   pub told : List Told
   pub given : List Given
   pub told_is : b.told ≡ a.told ++ told
@@ -36,16 +36,16 @@ pub record Writes (lines : List Partial) (old new : SessionState) (a b : Account
   pub wrote : Appends w w' out
   pub served : Served lines out old new a b
 
--- and a front of the text was written
-pub record WritesFront (lines : List Partial) (old new : SessionState) (a b : AccountState)
+-- and a prefix of the text was written
+pub record WritesPrefix (lines : List Partial) (old new : SessionState) (a b : AccountState)
     (w w' : Option (List ℕ)) : Type 0 where
   pub out : List ℕ
-  pub wrote : AppendsFront w w' out
+  pub wrote : AppendsPrefix w w' out
   pub served : Served lines out old new a b
 
 -- some bytes were taken: the lines that they end were served
-pub record Feeds (line next : Partial) (bytes : List ℕ) (old new : SessionState) (a b : AccountState)
-    (w w' : Option (List ℕ)) : Type 0 where
+pub record Feeds (line next : Partial) (bytes : List ℕ) (old new : SessionState)
+    (a b : AccountState) (w w' : Option (List ℕ)) : Type 0 where
   pub lines : List Partial
   pub ends : EndsLines line bytes lines next
   pub writes : Writes lines old new a b w w'
@@ -56,7 +56,7 @@ pub record Breaks (line : Partial) (bytes : List ℕ) (old new : SessionState) (
   pub lines : List Partial
   pub go_on : (rest : List ℕ)
       → (more : List Partial) × (lines_from line (bytes ++ rest) ≡ lines ++ more)
-  pub writes : WritesFront lines old new a b w w'
+  pub writes : WritesPrefix lines old new a b w w'
 
 -- none of the lines was taken, and nothing was written
 pub record LeavesAll (old new : SessionState) (a b : AccountState) (w w' : Option (List ℕ)) : Type 0
@@ -66,7 +66,7 @@ pub record LeavesAll (old new : SessionState) (a b : AccountState) (w w' : Optio
     pub given_is : b.given ≡ a.given
     pub wrote : Keeps w w'
 
--- the session ended in such lines: they were served and a front of the text was written, or none was taken
+-- the session ended in such lines: they were served and a prefix of the text was written, or none was taken
 abbrev pub IsBroken : List Partial → SessionState → SessionState → AccountState → AccountState
     → Option (List ℕ) → Option (List ℕ) → Type 0
-IsBroken lines old new a b w w' = WritesFront lines old new a b w w' ⊎ LeavesAll old new a b w w'
+IsBroken lines old new a b w w' = WritesPrefix lines old new a b w w' ⊎ LeavesAll old new a b w w'

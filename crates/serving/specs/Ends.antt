@@ -4,7 +4,7 @@ use Rattle.std.specs.Io.KnownBytes.{Consumes, IsAtEnd}
 use Rattle.lines.specs.Partial.{Partial}
 use Rattle.lines.specs.Lines.{lines_of}
 use Rattle.sessions.specs.SessionState.{SessionState}
-use Rattle.serving.specs.Account.{AccountState, Writes, WritesFront}
+use Rattle.serving.specs.Account.{AccountState, Writes, WritesPrefix}
 
 -- a text was read to its end, and its lines were served
 pub record Ends (old new : SessionState) (a b : AccountState) (unread left w w' : Option (List ℕ))
@@ -22,4 +22,4 @@ pub record EndsInPart (old new : SessionState) (a b : AccountState)
   pub lines : List Partial
   pub rest : List Partial
   pub are_first : lines_of text ≡ lines ++ rest
-  pub writes : WritesFront lines old new a b w w'
+  pub writes : WritesPrefix lines old new a b w w'

@@ -7,7 +7,7 @@ use Rattle.values.specs.Tables.{Schema}
 use Rattle.histories.specs.declared.step.Step.{Step}
 use Rattle.statement.specs.declared.line.Line.{Line}
 use Rattle.statement.specs.Memory.{UnlessMemory}
-use Rattle.statement.specs.Writer.{AppendsFront}
+use Rattle.statement.specs.Writer.{AppendsPrefix}
 use Rattle.lines.specs.Partial.{Partial}
 use Rattle.sessions.specs.SessionState.{SessionState}
 use Rattle.serving.specs.ServedSession.{said, reading_takes}
@@ -15,38 +15,39 @@ use Rattle.serving.specs.Serving.{AnswerState, IsStepped, given_of, taken_of, re
 use Rattle.serving.specs.Account.{AccountState, LeavesAll}
 
 -- this was read of a line: memory may have run out where reading it takes some
-pub record IsRead (schema : Schema) (i : ℕ) (line : Partial) (r : Result Line Refusal) : Type 0 where
+pub record IsRead (schema : Schema) (i : ℕ) (line : Partial)
+    (r : Result Line Refusal) : Type 0 where
   pub unless : UnlessMemory r (said schema i line)
   pub memory : r ≡ Err Memory → reading_takes schema i line ≡ true
 
 -- an answer was taken down
-pub record IsTold (answer : AnswerState) (a b : AccountState) : Type 0 where
+pub record IsReported (answer : AnswerState) (a b : AccountState) : Type 0 where
   pub told_is : b.told
       ≡ a.told ++ record { taken = taken_of answer; refused = refused_of answer.sent } ∷ []
   pub given_is : b.given ≡ a.given ++ given_of answer
 
 -- a step was taken, and taken down
-pub record IsTaken (step : Step) (answer : AnswerState) (old new : SessionState) (a b : AccountState)
-    : Type 0 where
+pub record IsTaken (step : Step) (answer : AnswerState) (old new : SessionState)
+    (a b : AccountState) : Type 0 where
   pub stepped : IsStepped step old new answer
-  pub told : IsTold answer a b
+  pub told : IsReported answer a b
 
 -- and what is sent for it was written
-pub record Sends (step : Step) (old new : SessionState) (a b : AccountState) (w w' : Option (List ℕ))
-    : Type 0 where
+pub record Sends (step : Step) (old new : SessionState) (a b : AccountState)
+    (w w' : Option (List ℕ)) : Type 0 where
   pub answer : AnswerState
   pub taken : IsTaken step answer old new a b
   pub wrote : Appends w w' (text_of (reply_of answer))
 
--- or a front of that
-pub record SendsFront (step : Step) (old new : SessionState) (a b : AccountState)
+-- or a prefix of that
+pub record SendsPrefix (step : Step) (old new : SessionState) (a b : AccountState)
     (w w' : Option (List ℕ)) : Type 0 where
   pub answer : AnswerState
   pub taken : IsTaken step answer old new a b
-  pub wrote : AppendsFront w w' (text_of (reply_of answer))
+  pub wrote : AppendsPrefix w w' (text_of (reply_of answer))
 
 -- the session ended in a step: it was taken, or nothing was done
 abbrev pub IsBrokenStep : Step → SessionState → SessionState → AccountState → AccountState
     → Option (List ℕ) → Option (List ℕ) → Type 0
 IsBrokenStep step old new a b w w' =
-    SendsFront step old new a b w w' ⊎ LeavesAll old new a b w w'
+    SendsPrefix step old new a b w w' ⊎ LeavesAll old new a b w w'

@@ -10,7 +10,7 @@ use Rattle.statement.specs.declared.line.Line.TheVariants.{Nothing, Clock, Step 
 use Rattle.statement.specs.ServedLine.{served_line_says}
 use Rattle.statement.specs.Memory.{serving_takes_memory}
 use Rattle.statement.specs.Print.{refusal_text, reply_text}
-use Rattle.statement.specs.Writer.{AppendsFront}
+use Rattle.statement.specs.Writer.{AppendsPrefix}
 use Rattle.lines.specs.Partial.{Partial}
 use Rattle.lines.specs.Lines.{lines_of}
 use Rattle.serving.specs.declared.served_session.Told.{Told}
@@ -27,15 +27,15 @@ module _ (schema : Schema) (i : ℕ) where
   reading_takes (Some line) = serving_takes_memory line
 
   -- no receipt, this text, and nothing is changed
-  pub record Prints (text : List ℕ) (p : Progress) (given : List Given) (out : List ℕ) (p' : Progress)
-      : Type 0 where
+  pub record Prints (text : List ℕ) (p : Progress) (given : List Given) (out : List ℕ)
+      (p' : Progress) : Type 0 where
     pub takes : given ≡ []
     pub out_is : out ≡ text
     pub left : p' ≡ p
 
   -- a step's reply
-  pub record PrintsReply (P : List Given → Reply → Progress → Type 0) (given : List Given) (out : List ℕ)
-      (p' : Progress) : Type 0 where
+  pub record PrintsReply (P : List Given → Reply → Progress → Type 0) (given : List Given)
+      (out : List ℕ) (p' : Progress) : Type 0 where
     pub reply : Reply
     pub taken : P given reply p'
     pub out_is : out ≡ reply_text reply
@@ -48,8 +48,10 @@ module _ (schema : Schema) (i : ℕ) where
   Answers (Ok (Asks step)) p given out p' = PrintsReply (Takes schema i step p) given out p'
 
   -- memory ran out while the line was read, or its step is refused
-  abbrev pub IsRefusedLine : Partial → Result Line Refusal → Progress → List Given → Refusal → Progress → Type 0
-  IsRefusedLine line (Ok (Asks step)) p given refusal p' = IsRefusedStep schema i step p given refusal p'
+  abbrev pub IsRefusedLine : Partial → Result Line Refusal → Progress → List Given → Refusal
+      → Progress → Type 0
+  IsRefusedLine line (Ok (Asks step)) p given refusal p' =
+      IsRefusedStep schema i step p given refusal p'
   IsRefusedLine line said p given refusal p' =
       (reading_takes line ≡ true) × ((refusal ≡ Memory) × ((given ≡ []) × (p' ≡ p)))
 
@@ -58,18 +60,18 @@ module _ (schema : Schema) (i : ℕ) where
     pub refused : IsRefusedLine line (said line) p given refusal p'
     pub out_is : out ≡ refusal_text refusal
 
-  -- by what is kept of it, a line was refused for want of room, or answered by its meaning
+  -- by what is kept of it, a line was refused since there was no room, or answered by its meaning
   abbrev pub IsKept : Option Refusal → Partial → Progress → List Given → List ℕ → Progress → Type 0
   IsKept (Some refusal) line p given out p' = RefusesLine line p given refusal out p'
   IsKept None line p given out p' = Answers (said line) p given out p'
 
-  -- a line takes as many receipts as is told of it
+  -- a line takes as many receipts as are reported of it
   pub record IsAnswered (line : Partial) (told : Told) (p : Progress) (given : List Given)
       (out : List ℕ) (p' : Progress) : Type 0 where
     pub counted : length given ≡ told.taken
     pub kept : IsKept told.refused line p given out p'
 
-  -- each line has its own of what is told, and the receipts that it takes come next, and none is left over
+  -- each line has its own of what is reported, and the receipts that it takes come next, and none is left over
   abbrev pub Serves : List Partial → List Told → Progress → List Given → List ℕ → Progress → Type 0
   Serves [] [] p given out p' = (given ≡ []) × ((out ≡ []) × (p' ≡ p))
   Serves (line ∷ lines) (t ∷ told) p given out p' =
@@ -90,7 +92,7 @@ module _ (schema : Schema) (i : ℕ) where
     pub later : Progress
     pub serves : Serves (lines_of text) told p given out later
 
-  -- a text was read, and of what follows for its first lines a front was written
+  -- a text was read, and of what follows for its first lines a prefix was written
   pub record IsServedInPart (told : List Told) (given : List Given) (p : Progress)
       (unread left old new : Option (List ℕ)) : Type 0 where
     pub text : List ℕ
@@ -99,6 +101,6 @@ module _ (schema : Schema) (i : ℕ) where
     pub rest : List Partial
     pub are_first : lines_of text ≡ lines ++ rest
     pub out : List ℕ
-    pub wrote : AppendsFront old new out
+    pub wrote : AppendsPrefix old new out
     pub later : Progress
     pub serves : Serves lines told p given out later

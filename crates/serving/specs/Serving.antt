@@ -154,6 +154,7 @@ IsMigrated schema (receipt ∷ packed) reply = Migrated schema receipt packed re
 
 -- what a begin shows was packed, or there was no room for it; where the entry is no begin nothing is said
 abbrev pub IsPackedOf : {A : Type 0} → (A → Given) → Entry → Result (Option A) Refusal → Type 0
-IsPackedOf f (Begin session earlier view) (Ok install) = PacksFirst view (given_list (option_map f install))
+IsPackedOf f (Begin session earlier view) (Ok install) =
+    PacksFirst view (given_list (option_map f install))
 IsPackedOf f (Begin session earlier view) (Err refusal) = IsNoRoom refusal
 IsPackedOf f e r = Unit {0}

@@ -74,8 +74,8 @@ abbrev pub own_of : Option Opened → Option Own
 own_of t = option_map (λ t. t.own) t
 
 -- no receipt, this reply, and nothing is changed
-pub record Replies (said : Reply) (p : Progress) (given : List Given) (reply : Reply) (p' : Progress)
-    : Type 0 where
+pub record Replies (said : Reply) (p : Progress) (given : List Given) (reply : Reply)
+    (p' : Progress) : Type 0 where
   pub takes : given ≡ []
   pub reply_is : reply ≡ said
   pub left : p' ≡ p
@@ -146,7 +146,8 @@ module _ (schema : Schema) (i : ℕ) where
       pub end : Result (Option ℕ) Refusal
       pub takes : given ≡ receipt ∷ []
       pub entry_is : receipt.entry
-          ≡ Commits i t.begin (net_of (rows_after [] t.changes) t.own.rows t.own.written) reading end
+          ≡ Commits i t.begin (net_of (rows_after [] t.changes) t.own.rows t.own.written)
+          reading end
       pub reply_is : reply ≡ commit_reply end
       pub left : p' ≡ after receipt.number None
 
@@ -205,7 +206,8 @@ module _ (schema : Schema) (i : ℕ) where
   Takes (Rollback j) p given reply p' = MatchOption p.transaction
       (Replies (Refused NoTransaction) p given reply p')
       (λ t. Replies RolledBack (after p.receipt None) given reply p')
-  Takes (SplitKey key) p given reply p' = takes_split key (KeyCut (bytes_of_key key)) p given reply p'
+  Takes (SplitKey key) p given reply p' =
+      takes_split key (KeyCut (bytes_of_key key)) p given reply p'
   Takes (SplitTime key instant) p given reply p' =
       takes_split key (TimeCut (bytes_of_key key) instant) p given reply p'
   Takes Migrate p given reply p' = TakesMigrate p given reply p'
@@ -220,7 +222,7 @@ module _ (schema : Schema) (i : ℕ) where
   asks_store Migrate t = true
   asks_store step t = false
 
-  -- what the store may refuse a step for, beside want of memory: a full journal, and a COMMIT also for a transaction that is not open there
+  -- what the store may refuse a step for, beside memory: a full journal, and a COMMIT also for a transaction that is not open there
   abbrev pub may_be_refused : Step → Option Opened → Refusal → Bool
   may_be_refused step t Memory = true
   may_be_refused step t JournalFull = asks_store step t

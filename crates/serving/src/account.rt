@@ -9,7 +9,7 @@ use rows::{Mem, Refusal};
 use std::alloc::Global;
 use std::marker::Model;
 
-/// What is told of each line so far, and the receipts that the lines took. Contracts see both, and for how many more lines there is room.
+/// What is reported of each line so far, and the receipts that the lines took. Contracts see both, and for how many more lines there is room.
 #[derive(Drop)]
 pub(crate) struct Account<J: StoreName> {
     told: Vec<Told>,
@@ -58,7 +58,7 @@ impl<J: StoreName> Account<J> {
         Ok(())
     }
 
-    /// Takes down a line: the receipts that it took, and why it was refused for want of room, if it was.
+    /// Takes down a line: the receipts that it took, and why it was refused since there was no room, if it was.
     pub(crate) fn note(
         &mut self,
         receipt: Option<Receipt<J>>,
@@ -85,7 +85,7 @@ impl<J: StoreName> Account<J> {
         self.told.push_reserved(Told { taken, refused });
     }
 
-    /// The receipts, and what is told of each line.
+    /// The receipts, and what is reported of each line.
     pub(crate) fn into_parts(self) -> (Vec<Receipt<J>>, Vec<Told>)
         ensures receipts { map (λ r. record { number = r.number; entry = r.entry })
             result.0.items ≡ self.given }

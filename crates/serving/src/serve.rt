@@ -30,7 +30,7 @@ const READS: u64 = 1 << 32;
 /// Serves a session: reads lines to the reader's end, takes the step of each, and writes its reply. What was written is flushed before more is read.
 /// A SELECT with no transaction open is a begin, the read and a rollback. An open transaction is dropped at the end.
 ///
-/// At `Closed` all was read and answered. At another end the replies, of which the last may be there in part, are those of the lines that are told of.
+/// At `Closed` all was read and answered. At another end the replies, of which the last may be there in part, are those of the lines that are reported.
 pub fn serve_session<J: StoreName, R: Wait, I: Read, W: Write, C: Readings, G: Gate>(
     rt: &R,
     alloc: Global,

@@ -2,7 +2,7 @@
 ghost use Rattle.std.specs.Prelude.{◌≡◌, ◌≢◌, ◌<◌, [], ◌∷◌, IfErr, OnErr, OnOk};
 ghost use Rattle.serving.specs.Account.{IsBroken, Writes};
 ghost use Rattle.statement.specs.Writer.{Puts};
-ghost use Rattle.serving.specs.Line.{IsBrokenStep, IsRead, IsTold, Sends};
+ghost use Rattle.serving.specs.Line.{IsBrokenStep, IsRead, IsReported, Sends};
 ghost use Rattle.serving.specs.Serving.{reply_of, text_of};
 
 use crate::account::Account;
@@ -121,7 +121,7 @@ fn tell<J: StoreName, W: Write>(
     answer: Answer<J>,
 ) -> Result<(), End>
     requires { 0 < account.old.room }
-    ensures told { IsTold answer account.old account.new }
+    ensures told { IsReported answer account.old account.new }
     ensures wrote { Puts (W.contents writer.old) (W.contents writer.new) result
         (text_of (reply_of answer)) }
     ensures why { IfErr result (λ e. e ≢ End.Closed) }

@@ -3,7 +3,7 @@ use growlog::StoreName;
 use journal::Receipt;
 use rows::Refusal;
 
-/// What is kept of a line: how many receipts it took, and what it was refused for where that was want of memory, a full journal, or a transaction that is not open at the store.
+/// What is kept of a line: how many receipts it took, and what it was refused for where that was memory, a full journal, or a transaction that is not open at the store.
 #[derive(Drop)]
 pub struct Told {
     pub taken: u8,

@@ -10,7 +10,7 @@ use Rattle.values.specs.Commits.{outcome, after}
 use Rattle.values.specs.Law.{IsLog}
 use Rattle.values.specs.Writes.{Own, net_of}
 use Rattle.values.proofs.LawAsOf.{Rises-upto, upto-append}
-use Rattle.values.proofs.VersionsNow.{upto_all}
+use Rattle.values.proofs.LogPush.{upto_all}
 use Rattle.tsbtree.specs.View.{TreeState, last as view_last}
 use Rattle.staging.specs.View.{Holds}
 use Rattle.staging.specs.Own.{own as own_over, net_over}

@@ -59,6 +59,6 @@ pub record IsInstallOf (packed : Packed) (e : Entry) : Type 0 where
   pub done : Bool
   pub entry_is : e ≡ Install packed.node.rect packed.bytes done
 
--- no refusal but want of room, and that the transaction is not open at this store
+-- no refusal but that there is no room, and that the transaction is not open at this store
 abbrev pub OnlyRoomOrNone : {T : Type 0} → Result T Refusal → Type 0
 OnlyRoomOrNone r = IfErr r (λ e. (e ≡ NoTransaction) ⊎ ((e ≡ JournalFull) ⊎ (e ≡ Memory)))

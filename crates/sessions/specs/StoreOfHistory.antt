@@ -32,7 +32,7 @@ entry_reply (Commit session begin net reading end) = commit_reply end
 entry_reply (Split cut done) = Done
 entry_reply (Install rect block done) = Done
 
--- the open transaction's begin stands in the journal, and saw what the history's snapshot has
+-- the open transaction's begin is in the journal, and saw what the history's snapshot has
 abbrev pub BeganIn : Entries → Schema → History → ℕ → Option RunningState → Type 0
 BeganIn j schema h i None = Unit {0}
 BeganIn j schema h i (Some t) =

@@ -35,7 +35,7 @@ impl Model for Running {
     } };
 }
 
-/// A session of a store, with a transaction open or none. It belongs to no store: what it began at one is not open at another.
+/// A session of a store, with a transaction open or none. It belongs to no store: at another than the one at which it began its transaction is open only where that has an equal begin of it which has not ended.
 #[derive(Drop)]
 pub struct Session {
     pub(crate) alloc: Global,

@@ -67,7 +67,7 @@ impl<J: StoreName> LockedStore<J> {
         })
     }
 
-    /// A session of the store's tables, with no transaction open. `NoSession` or want of memory where the number is above 64, otherwise want of memory is the only refusal.
+    /// A session of the store's tables, with no transaction open. `NoSession` or out of memory where the number is above 64, otherwise out of memory is the only refusal.
     pub fn session(&self, alloc: Global, number: u8) -> Result<Session, Refusal>
         ensures ok { IfOk result (λ s. s
             ≡ record { number = number; schema = J.schema; receipt = 0; transaction = None }) }
@@ -79,7 +79,7 @@ impl<J: StoreName> LockedStore<J> {
     }
 
     /// Begins a session's transaction, which sees what its receipt's entry shows. `NoTable` where the session is of other tables, `InTransaction` where one is open,
-    /// `JournalFull` where no more entries may stand. After a refusal nothing has changed.
+    /// `JournalFull` where there is no room for one more entry. After a refusal nothing has changed.
     pub fn begin<R: Wait>(&self, rt: &R, session: &mut Session) -> Result<Receipt<J>, Refusal>
         ensures begun { IfOk result (λ r. IsBegun session.old session.new r.number r.entry) }
         ensures other { session.old.schema ≢ J.schema → result ≡ Err Refusal.NoTable }
@@ -100,7 +100,7 @@ impl<J: StoreName> LockedStore<J> {
     }
 
     /// Ends a session's transaction, by this reading of the clock: how it ended is in the receipt's entry. `NoTable` where the session is of other tables, `NoTransaction` where none is open, or none at this store,
-    /// `JournalFull` where no more entries may stand. After a refusal nothing has changed, and the transaction is open still.
+    /// `JournalFull` where there is no room for one more entry. After a refusal nothing has changed, and the transaction is open still.
     pub fn commit<R: Wait>(
         &self,
         rt: &R,
@@ -133,7 +133,7 @@ impl<J: StoreName> LockedStore<J> {
         Ok(receipt)
     }
 
-    /// Splits the current data node of a key, where its cut lies inside the node: whether it did is in the receipt's entry. `JournalFull` where no more entries may stand. After a refusal nothing has changed.
+    /// Splits the current data node of a key, where its cut lies inside the node and is no instant after the last commit: whether it did is in the receipt's entry. `JournalFull` where there is no room for one more entry. After a refusal nothing has changed.
     pub fn split<R: Wait>(&self, rt: &R, cut: Cut) -> Result<Receipt<J>, Refusal>
         ensures split { IfOk result (λ r. IsSplitOf cut r.entry) }
         ensures why { OnlyRoom result }
@@ -141,7 +141,7 @@ impl<J: StoreName> LockedStore<J> {
         self.book.lock(rt).split(cut)
     }
 
-    /// Puts a block in the place of its node, where that is in the tree unpacked: whether it was is in the receipt's entry, beside the node's rectangle and the block's bytes. `JournalFull` where no more entries may stand. After a refusal nothing has changed.
+    /// Puts a block in the place of its node, where that is in the tree unpacked: whether it was is in the receipt's entry, beside the node's rectangle and the block's bytes. `JournalFull` where there is no room for one more entry. After a refusal nothing has changed.
     pub fn install<R: Wait>(&self, rt: &R, packed: PackedNode) -> Result<Receipt<J>, Refusal>
         ensures install { IfOk result (λ r. IsInstallOf packed r.entry) }
         ensures why { OnlyRoom result }

@@ -1,4 +1,4 @@
--- What a node of the tree stands for.
+-- What a node of the tree represents.
 use Rattle.std.specs.Prelude.{◌≡◌, ℕ, ◌<◌, ◌≤◌, List, [], ◌∷◌, ◌++◌, length}
 use Rattle.slots.specs.declared.trie.Node.{Node}
 use Rattle.slots.specs.declared.trie.Body.{Body}

@@ -26,7 +26,7 @@ use Rattle.values.specs.Order.{value_cmp, key_cmp}
 use Rattle.values.specs.OrderLaw.{value_cmp_total}
 use Rattle.values.specs.Log.{Net, Row}
 use Rattle.values.specs.Versions.{compares, holds, matches}
-use Rattle.staging.specs.Bound.{is_first, is_of_first, bounds_below, bounds_above, is_from_value, is_first_below, IsLeast, IsPast}
+use Rattle.staging.specs.Bound.{is_first, is_of_first, bounds_below, bounds_above, is_from_value, is_first_below, IsPast}
 
 clash : false ≡ true → ⊥
 clash e = cc
@@ -114,49 +114,7 @@ held_below table k c y (z ∷ ys) begun of exceeded held = by k.parts (sym (firs
 same_number : (a b : ℕ) → (a == b) ≡ true → nat_cmp b a ≡ Same
 same_number a b is = let e : a ≡ b = grind (arith, nat_tests) in ap (nat_cmp b) e ∙ tied_itself nat_cmp_total b
 
--- ---- the least key
-
-pub least_of_all : (table : Table) (keys : Keys) → IsLeast table keys (record { table = keys.table; parts = [] })
-least_of_all table keys k m =
-    let both = and_parts (k.table == keys.table) (list_all (holds table k) keys.comparisons) m in
-    ap (λ o. is_le (ordering_then o (slice_cmp value_cmp [] k.parts))) (same_number k.table keys.table both.0) ∙ none k.parts
-  where
-    none : (parts : List Value) → is_le (slice_cmp value_cmp [] parts) ≡ true
-    none [] = refl
-    none (x ∷ xs) = refl
-
-pub least_of_value : (table : Table) (keys : Keys) (v : Value) → ((k : Key) → list_all (holds table k) keys.comparisons ≡ true → is_from_value v k.parts ≡ true) → IsLeast table keys (record { table = keys.table; parts = v ∷ [] })
-least_of_value table keys v from k m =
-    let both = and_parts (k.table == keys.table) (list_all (holds table k) keys.comparisons) m in
-    ap (λ o. is_le (ordering_then o (slice_cmp value_cmp (v ∷ []) k.parts))) (same_number k.table keys.table both.0) ∙ begun k.parts (from k both.1)
-  where
-    none : (parts : List Value) → is_le (slice_cmp value_cmp [] parts) ≡ true
-    none [] = refl
-    none (x ∷ xs) = refl
-
-    begun : (parts : List Value) → is_from_value v parts ≡ true → is_le (slice_cmp value_cmp (v ∷ []) parts) ≡ true
-    begun [] h = absurd (clash h)
-    begun (x ∷ xs) h = by (value_cmp v x) refl h
-      where
-        by : (o : Ordering) → value_cmp v x ≡ o → is_le o ≡ true → is_le (ordering_then o (slice_cmp value_cmp [] xs)) ≡ true
-        by Less is h = refl
-        by Same is h = none xs
-        by Greater is h = absurd (clash h)
-
 -- ---- keys above which none is taken
-
-pub past_of_table : (table : Table) (keys : Keys) (key : Key) → keys.table < key.table → IsPast table keys key
-past_of_table table keys key above k less = by (matches table keys k) refl
-  where
-    over : (k.table == keys.table) ≡ true → nat_cmp key.table k.table ≡ Greater
-    over is = let lower : k.table < key.table = grind (arith, nat_tests) in grind (arith, nat_tests)
-
-    by : (b : Bool) → matches table keys k ≡ b → b ≡ false
-    by false m = refl
-    by true m =
-        let both = and_parts (k.table == keys.table) (list_all (holds table k) keys.comparisons) m in
-        let e : Greater ≡ Less = sym (ap (λ o. ordering_then o (slice_cmp value_cmp key.parts k.parts)) (over both.0)) ∙ less in
-        cc
 
 pub past_of_value : (table : Table) (keys : Keys) (key : Key) → key.table ≡ keys.table → ((k : Key) → list_all (holds table k) keys.comparisons ≡ true → is_first_below k.parts key.parts ≡ true) → IsPast table keys key
 past_of_value table keys key same below k less = by (matches table keys k) refl

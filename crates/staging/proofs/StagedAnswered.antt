@@ -17,7 +17,7 @@ use Rattle.values.specs.declared.table.Table.{Table}
 use Rattle.values.specs.declared.query.Keys.{Keys}
 use Rattle.values.specs.declared.query.Set.{Set}
 use Rattle.values.specs.declared.refusal.Refusal.{Refusal}
-use Rattle.values.specs.declared.refusal.Refusal.TheVariants.{NoTable, BadRow, DuplicateKey}
+use Rattle.values.specs.declared.refusal.Refusal.TheVariants.{NoTable, DuplicateKey}
 use Rattle.values.specs.Order.{key_cmp, is_key}
 use Rattle.values.specs.Log.{State, Net, Row, Changes, row_at, set_row, apply_net, rows_after}
 use Rattle.values.specs.Tables.{Schema, IsTable}
@@ -40,10 +40,6 @@ use Rattle.staging.proofs.ViewBridge.{are_seen, sorted_base, sees_is, key_in}
 use Rattle.staging.proofs.StagedCalls.{put_is, put_keys, all_entry, all_chosen}
 
 -- ---- faults
-
-pub fault_answer : (o : Option ℕ) (refusal : Refusal) (w : Written) (before : Own) → ◌≡◌ {A = Result (Unit {0}) Refusal} (Err refusal) (no_fault o) → ◌≡◌ {A = Written} (Err refusal, before) (write_if_fits o w before)
-fault_answer None refusal w before e = cc
-fault_answer (Some column) refusal w before e = let same : refusal ≡ BadRow column = cc in ap (λ r. (Err r, before)) same
 
 pub no_fault_is : (o : Option ℕ) → ◌≡◌ {A = Result (Unit {0}) Refusal} (Ok tt) (no_fault o) → o ≡ None
 no_fault_is None e = refl
@@ -221,12 +217,6 @@ rows_short table keys es w is h =
 
 same_number : (a b : ℕ) → a ≡ b → (a == b) ≡ true
 same_number a b e = grind (arith, nat_tests)
-
-pub other_table : (table : Table) (keys : Keys) (w : Written) (o : Own) → ¬ (keys.table ≡ table.number) → ◌≡◌ {A = Written} (Err NoTable, o) (of_table table keys w o)
-other_table table keys w o other = sym (ap (λ (b : Bool). if b then w else (Err NoTable, o)) (apart keys.table table.number other))
-  where
-    apart : (a b : ℕ) → ¬ (a ≡ b) → (a == b) ≡ false
-    apart a b h = grind (arith, nat_tests, h)
 
 pub own_table : (table : Table) (keys : Keys) (w v : Written) (o : Own) → keys.table ≡ table.number → v ≡ w → v ≡ of_table table keys w o
 own_table table keys w v o same is = is ∙ sym (ap (λ (b : Bool). if b then w else (Err NoTable, o)) (same_number keys.table table.number same))

@@ -28,7 +28,7 @@ use Rattle.eventlist.specs.Listing.{stands_at, standing}
 use Rattle.staging.proofs.ViewKeyTable.{is_of_table}
 use Rattle.staging.specs.Own.{rows_seen}
 use Rattle.staging.specs.Staged.{row_taken, rows_in}
-use Rattle.eventlist.proofs.PlaceOrder.{sorted_head, sorted_tail, is_lower}
+use Rattle.eventlist.proofs.PlaceOrder.{sorted_head, is_lower}
 use Rattle.eventlist.proofs.OvertakingNext.{not_earlier, not_itself, overtakes_is, is_overtakes, never}
 use Rattle.staging.proofs.StagedEntries.{upon, apply-filter, lookup-filter, same_key}
 use Rattle.staging.proofs.ViewBridge.{AreSeen, rest_seen, last_change, after_is, sorted_base, is_bytes_is_key, own_key, in_time}

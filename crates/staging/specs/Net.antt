@@ -1,4 +1,4 @@
--- What is true of every net change, and the events that it stands for.
+-- What is true of every net change, and the events that it represents.
 use Rattle.std.specs.Prelude.{ℕ, List, [], ◌∷◌, Option, All}
 use Rattle.std.specs.BTreeMap.{insert_entry}
 use Rattle.std.specs.Map.{keys_of}

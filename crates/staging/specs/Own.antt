@@ -13,7 +13,7 @@ use Rattle.values.specs.Events.{AreKeysIn}
 use Rattle.tsbtree.specs.View.{TreeState}
 use Rattle.staging.specs.View.{Holds}
 
--- what stands after the changes, with a transaction's own writes over it: each key that it wrote has a row, or none
+-- what holds after the changes, with a transaction's own writes over it: each key that it wrote has a row, or none
 abbrev pub rows_seen : Changes → Net → State
 rows_seen m writes = apply_net (rows_after [] m) writes
 

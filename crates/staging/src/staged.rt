@@ -36,7 +36,7 @@ use values::{
 /// The keys that a transaction may write.
 const MOST_WRITTEN: usize = 1000;
 
-/// Each key that a transaction wrote, with the row that stands for it, or none. Contracts see it as a list by key.
+/// Each key that a transaction wrote, with its row, or none. Contracts see it as a list by key.
 #[derive(Drop)]
 pub struct Staged {
     pub(crate) alloc: Global,

@@ -43,10 +43,6 @@ pub holds_weaker : {A : Type 0} {P Q : A → List ℕ → Type 0} {r : Read A} �
 holds_weaker {r = Ok x} h f = record { it = f x.0 x.1 h.it }
 holds_weaker {r = Err at} h f = record { it = tt }
 
-pub leaves_weaker : {P Q : List ℕ → Type 0} {r : After} → Leaves r P → ((rest : List ℕ) → P rest → Q rest) → Leaves r Q
-leaves_weaker {r = Ok rest} h f = record { it = f rest h.it }
-leaves_weaker {r = Err at} h f = record { it = tt }
-
 abbrev FoundOf : {A : Type 0} → Option (A × List ℕ) → (A → List ℕ → Type 0) → Type 0
 FoundOf None P = Unit {0}
 FoundOf (Some x) P = P x.0 x.1

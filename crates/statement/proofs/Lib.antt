@@ -1,7 +1,7 @@
 pub mod GrammarReads
 pub mod LiteralDigits
 pub mod GrammarFinal
-pub mod WriterFronts
+pub mod WriterPrefixes
 pub mod TokenGaps
 pub mod GoingOnMissing
 pub mod LineGoing

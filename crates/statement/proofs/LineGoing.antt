@@ -17,7 +17,7 @@ use Rattle.statement.specs.Line.{begins_digit, is_nothing, clock_at, migrate_at,
 use Rattle.statement.specs.ServedLine.{request_at, served_at, served_body_says}
 use Rattle.statement.specs.Split.{key_at, split_key_at, split_time_at, kind_at, split_at}
 use Rattle.statement.specs.Grammar.{Piece, ◌⋯◌, ◌∣◌, Empty, Blanks, Symbol, Word, Digits, IsInstant, IsStatement, IsKey, IsLine, IsServedLine}
-use Rattle.statement.specs.GoingOn.{FrontsGoOn}
+use Rattle.statement.specs.GoingOn.{PrefixesGoOn}
 use Rattle.statement.specs.GrammarLaw.{Lines}
 use Rattle.statement.proofs.GrammarReads.{answered, says}
 use Rattle.statement.proofs.TokenGaps.{blanks_before}
@@ -324,7 +324,7 @@ module _ (schema : Schema) (Is : Lines) (at : List ℕ → Read Written) (P : Wr
   abbrev answer : ℕ → List ℕ → Read Written → Result Line Refusal
   answer reading bytes r = answered schema at reading bytes r
 
-  fronts : FrontsGoOn Is (says schema at)
+  fronts : PrefixesGoOn Is (says schema at)
   unfolding number
   fronts reading before rest fault = by_test (is_nothing (next bytes)) fault
     where
@@ -342,10 +342,10 @@ module _ (schema : Schema) (Is : Lines) (at : List ℕ → Read Written) (P : Wr
       by_test true e = let no : ◌≡◌ {A = Result Line Refusal} (Ok Nothing) (Err (Syntax (length before))) = e in cc
       by_test false e = by_read (at bytes) (reads bytes) e
 
-pub script_fronts : (schema : Schema) → FrontsGoOn (IsLine schema) (body_says schema)
+pub script_fronts : (schema : Schema) → PrefixesGoOn (IsLine schema) (body_says schema)
 unfolding body_says
 script_fronts schema = fronts schema (IsLine schema) (written_at schema) (LinePiece schema) (written_reads schema) (line_of schema)
 
-pub served_fronts : (schema : Schema) (session : ℕ) → FrontsGoOn (IsServedLine schema session) (served_body_says schema session)
+pub served_fronts : (schema : Schema) (session : ℕ) → PrefixesGoOn (IsServedLine schema session) (served_body_says schema session)
 unfolding served_body_says
 served_fronts schema session = fronts schema (IsServedLine schema session) (served_at schema session) (ServedPiece schema session) (served_reads schema session) (served_line_of schema session)

@@ -14,7 +14,7 @@ use Rattle.values.specs.declared.query.Operator.{Operator}
 use Rattle.values.specs.declared.query.Operator.TheVariants.{Equal, Below, AtMost, Above, AtLeast}
 use Rattle.values.specs.declared.value.Value.TheVariants.{Int, Text, Bool as Truth, Null}
 use Rattle.statement.specs.declared.statement.Statement.TheVariants.{Begin, Commit, Rollback}
-use Rattle.tokens.specs.Token.{After, Read, ◌>>=◌, front_while, skip_while}
+use Rattle.tokens.specs.Token.{After, Read, ◌>>=◌, prefix_while, skip_while}
 use Rattle.tokens.specs.Token.{symbol_at as symbol_after}
 use Rattle.tokens.specs.Word.{is_name_byte}
 use Rattle.tokens.specs.Word.{is_word_at as is_word_after, after_word as rest_of_word, word_at as word_after}
@@ -53,7 +53,7 @@ name_left bytes = through (next_left bytes) (skip_left is_name_byte (next bytes)
 
 pub word_stops : (word bytes : List ℕ) → Leads bytes (word_at word bytes)
 unfolding is_word_after rest_of_word word_after
-word_stops word bytes = by_test (same_name word (front_while is_name_byte (next bytes)))
+word_stops word bytes = by_test (same_name word (prefix_while is_name_byte (next bytes)))
   where
     by_test : (t : Bool) → Leads bytes (if t then Ok (skip_while is_name_byte (next bytes)) else Err (next bytes))
     by_test true = record { it = name_left bytes }
@@ -61,9 +61,9 @@ word_stops word bytes = by_test (same_name word (front_while is_name_byte (next 
 
 pub name_stops : (bytes : List ℕ) → Stops bytes (name_at bytes)
 unfolding name_after
-name_stops bytes = by_test (is_name (front_while is_name_byte (next bytes)))
+name_stops bytes = by_test (is_name (prefix_while is_name_byte (next bytes)))
   where
-    by_test : (t : Bool) → Stops bytes (if t then Ok (front_while is_name_byte (next bytes), skip_while is_name_byte (next bytes)) else Err (next bytes))
+    by_test : (t : Bool) → Stops bytes (if t then Ok (prefix_while is_name_byte (next bytes), skip_while is_name_byte (next bytes)) else Err (next bytes))
     by_test true = reads_on _ (name_left bytes)
     by_test false = stops_next bytes
 
@@ -84,10 +84,10 @@ work_left bytes = optional_left (word_at (codes "WORK") bytes) (word_stops (code
 -- literals
 digits_found : (most : ℕ) (bytes : List ℕ) → Finds bytes (digits_here most bytes)
 unfolding digits_here
-digits_found most bytes = by_tests (digit_count bytes == 0) (nat_lt most (digits_value 10 (front_while is_ascii_digit bytes)))
+digits_found most bytes = by_tests (digit_count bytes == 0) (nat_lt most (digits_value 10 (prefix_while is_ascii_digit bytes)))
   where
     by_tests : (t u : Bool)
-        → Finds bytes (if t then None else option_map (λ (n : ℕ). (n, skip_while is_ascii_digit bytes)) (if u then None else Some (digits_value 10 (front_while is_ascii_digit bytes))))
+        → Finds bytes (if t then None else option_map (λ (n : ℕ). (n, skip_while is_ascii_digit bytes)) (if u then None else Some (digits_value 10 (prefix_while is_ascii_digit bytes))))
     by_tests true u = record { it = tt }
     by_tests false true = record { it = tt }
     by_tests false false = record { it = skip_left is_ascii_digit bytes }

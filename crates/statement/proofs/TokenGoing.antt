@@ -9,7 +9,7 @@ use Rattle.values.specs.Commits.{max_instant}
 use Rattle.values.specs.Tables.{Schema}
 use Rattle.values.specs.declared.value.Value.TheVariants.{Int, Text, Null}
 use Rattle.values.specs.declared.query.Operator.TheVariants.{Equal, Below, AtMost, Above, AtLeast}
-use Rattle.tokens.specs.Token.{After, Read, ◌>>=◌, front_while, skip_while}
+use Rattle.tokens.specs.Token.{After, Read, ◌>>=◌, prefix_while, skip_while}
 use Rattle.tokens.specs.Token.{symbol_at as symbol_after}
 use Rattle.tokens.specs.Word.{is_name_byte}
 use Rattle.tokens.specs.Word.{is_word_at as is_word_after, after_word as rest_of_word, word_at as word_after}
@@ -59,7 +59,7 @@ word_usual word is =
 
 word_next : (word bytes : List ℕ) → AfterNext bytes (word_at word bytes)
 unfolding is_word_after rest_of_word word_after
-word_next word bytes = by_test (same_name word (front_while is_name_byte (next bytes)))
+word_next word bytes = by_test (same_name word (prefix_while is_name_byte (next bytes)))
   where
     by_test : (t : Bool) → AfterNext bytes (if t then Ok (skip_while is_name_byte (next bytes)) else Err (next bytes))
     by_test true = record { it = tt }
@@ -83,9 +83,9 @@ name_usual = record {
 
 name_next : (bytes : List ℕ) → AtNext bytes (name_at bytes)
 unfolding name_after
-name_next bytes = by_test (is_name (front_while is_name_byte (next bytes)))
+name_next bytes = by_test (is_name (prefix_while is_name_byte (next bytes)))
   where
-    by_test : (t : Bool) → AtNext bytes (if t then Ok (front_while is_name_byte (next bytes), skip_while is_name_byte (next bytes)) else Err (next bytes))
+    by_test : (t : Bool) → AtNext bytes (if t then Ok (prefix_while is_name_byte (next bytes), skip_while is_name_byte (next bytes)) else Err (next bytes))
     by_test true = record { it = tt }
     by_test false = record { it = blanks_before bytes }
 

@@ -6,7 +6,7 @@ use Rattle.std.specs.Char.{is_ascii_digit}
 use Rattle.std.specs.Str.Parse.{digits_value}
 use Rattle.std.proofs.lemmas.List.{append_assoc, length-append}
 use Rattle.std.proofs.lemmas.List.Folds.{length-prefix_len}
-use Rattle.tokens.specs.Token.{After, Read, ◌>>=◌, front_while, skip_while}
+use Rattle.tokens.specs.Token.{After, Read, ◌>>=◌, prefix_while, skip_while}
 use Rattle.tokens.specs.Run.{Ends}
 use Rattle.tokens.specs.Word.{is_name_byte}
 use Rattle.tokens.proofs.PlaceSame.{Reach, Texts, Near, IsPast, Left, left_of, Within, WithinAfter, wider, within_then, Same, past, same_then, Good, good_here, good_ok, good_then}
@@ -21,7 +21,7 @@ use Rattle.statement.proofs.LineStops.{digits_stop}
 -- the token of two lines, at which they part
 pub record Tokens (first : ℕ) (rest other : List ℕ) : Type 0 where
   pub no_blank : is_blank first ≡ false
-  pub runs : (p : ℕ → Bool) → ((b : ℕ) → is_name_byte b ≡ false → p b ≡ false) → front_while p (first ∷ rest) ≡ front_while p (first ∷ other)
+  pub runs : (p : ℕ → Bool) → ((b : ℕ) → is_name_byte b ≡ false → p b ≡ false) → prefix_while p (first ∷ rest) ≡ prefix_while p (first ∷ other)
 
 -- what is found, or a refusal
 abbrev pub found_or : {A : Type 0} → List ℕ → Option (A × List ℕ) → Read A
@@ -118,22 +118,22 @@ module _ (first : ℕ) (rest other : List ℕ) (t : Tokens first rest other) whe
     abbrev counted : Bool → Bool → List ℕ → List ℕ → Option (ℕ × List ℕ)
     counted u over digits left = if u then None else option_map (λ (n : ℕ). (n, left)) (if over then None else Some (digits_value 10 digits))
 
-    same_count : (a c : List ℕ) → front_while is_ascii_digit a ≡ front_while is_ascii_digit c → (digit_count a == 0) ≡ (digit_count c == 0)
+    same_count : (a c : List ℕ) → prefix_while is_ascii_digit a ≡ prefix_while is_ascii_digit c → (digit_count a == 0) ≡ (digit_count c == 0)
     same_count a c same = ap (λ (n : ℕ). n == 0) (sym (length-prefix_len is_ascii_digit a) ∙ ap length same ∙ length-prefix_len is_ascii_digit c)
 
     pub digits_same : (a c : List ℕ) → Near texts a c → Same texts (f (digits_here most a)) (g (digits_here most c))
     unfolding digits_here
     digits_same a c near =
         let h = runs texts is_ascii_digit digit_is_name a c near in
-        by_tests h.fronts h.left (digit_count a == 0) (digit_count c == 0) (nat_lt most (digits_value 10 (front_while is_ascii_digit a))) (nat_lt most (digits_value 10 (front_while is_ascii_digit c))) (same_count a c h.fronts) (ap (λ ds. nat_lt most (digits_value 10 ds)) h.fronts)
+        by_tests h.fronts h.left (digit_count a == 0) (digit_count c == 0) (nat_lt most (digits_value 10 (prefix_while is_ascii_digit a))) (nat_lt most (digits_value 10 (prefix_while is_ascii_digit c))) (same_count a c h.fronts) (ap (λ ds. nat_lt most (digits_value 10 ds)) h.fronts)
       where
-        by_tests : front_while is_ascii_digit a ≡ front_while is_ascii_digit c → Near texts (skip_while is_ascii_digit a) (skip_while is_ascii_digit c) ⊎ IsPast texts (skip_while is_ascii_digit a) → (u v x y : Bool) → u ≡ v → x ≡ y
-            → Same texts (f (counted u x (front_while is_ascii_digit a) (skip_while is_ascii_digit a))) (g (counted v y (front_while is_ascii_digit c) (skip_while is_ascii_digit c)))
+        by_tests : prefix_while is_ascii_digit a ≡ prefix_while is_ascii_digit c → Near texts (skip_while is_ascii_digit a) (skip_while is_ascii_digit c) ⊎ IsPast texts (skip_while is_ascii_digit a) → (u v x y : Bool) → u ≡ v → x ≡ y
+            → Same texts (f (counted u x (prefix_while is_ascii_digit a) (skip_while is_ascii_digit a))) (g (counted v y (prefix_while is_ascii_digit c) (skip_while is_ascii_digit c)))
         by_tests same left true true x y e i = none
         by_tests same left false false true true e i = none
         by_tests same left false false false false e i =
-            subst (λ ds. Same texts (f (Some (digits_value 10 (front_while is_ascii_digit a), skip_while is_ascii_digit a))) (g (Some (digits_value 10 ds, skip_while is_ascii_digit c)))) same
-            (some (digits_value 10 (front_while is_ascii_digit a)) _ _ left)
+            subst (λ ds. Same texts (f (Some (digits_value 10 (prefix_while is_ascii_digit a), skip_while is_ascii_digit a))) (g (Some (digits_value 10 ds, skip_while is_ascii_digit c)))) same
+            (some (digits_value 10 (prefix_while is_ascii_digit a)) _ _ left)
         by_tests same left true false x y e i = cc
         by_tests same left false true x y e i = cc
         by_tests same left false false true false e i = cc

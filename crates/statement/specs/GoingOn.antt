@@ -25,8 +25,8 @@ module _ (Is : Lines) (says : Reader) where
       → Is written (before ++ first ∷ (others ++ other)) → ⊥
 
   -- the bytes before a fault of syntax can go on to a line of the grammar
-  abbrev pub FrontsGoOn : Type 0
-  FrontsGoOn =
+  abbrev pub PrefixesGoOn : Type 0
+  PrefixesGoOn =
       (reading : ℕ) (before rest : List ℕ)
       → says reading (before ++ rest) ≡ Err (Syntax (length before))
       → (more : List ℕ) × ((written : Written) × Is written (before ++ more))

@@ -1,5 +1,5 @@
--- The grammar of lines: which bytes may stand, and what they say. A piece of a line is a relation
--- between the bytes from its front on and those after it.
+-- The grammar of lines: which bytes may come, and what they say. A piece of a line is a relation
+-- between the bytes from its start on and those after it.
 use Rattle.std.specs.Prelude.{◌≡◌, ℕ, ◌<◌, ◌≤◌, ◌-◌, ◌^◌, ◌==◌, List, [], ◌∷◌, ◌++◌, Bool, true, false, Option, Some, None, ℤ, pos, neg_ℤ, ◌⊎◌, flat_map, length, codes, if◌then◌else◌, IsUtf8}
 use Rattle.std.specs.Char.{is_ascii_digit}
 use Rattle.std.specs.Str.Parse.{digits_value}
@@ -132,13 +132,13 @@ IsForm (Between start end) =
     ⋯ Word (codes "AND") ⋯ IsInstant end
 
 module _ (schema : Schema) where
-  -- a name, which stands for the table that has it, or for none
+  -- a name, which is that of the table that has it, or of none
   abbrev pub IsTable : ℕ → Piece
   IsTable number bytes rest =
       (name : List ℕ) × (Name name bytes rest × (table_of schema name ≡ number))
 
   module _ (table : ℕ) where
-    -- a name, which stands for the user column that has it, or for none
+    -- a name, which is that of the user column that has it, or of none
     abbrev pub IsColumn : ℕ → Piece
     IsColumn number bytes rest =
         (name : List ℕ) × (Name name bytes rest × (column_of schema table name ≡ number))

@@ -38,7 +38,7 @@ module _ (schema : Schema) (Is : Lines) (says : Reader) where
       (reading : ℕ) (bytes : List ℕ) → IsNothing bytes
       → (says reading bytes ≡ Ok Nothing) × ((written : Written) → Is written bytes → ⊥)
 
-  -- the bytes are no line of the grammar, and are answered so
+  -- the bytes are no line of the grammar, and are refused for their syntax
   abbrev pub IsRefused : ℕ → List ℕ → Type 0
   IsRefused reading bytes =
       (byte : ℕ) × ((says reading bytes ≡ Err (Syntax byte)) × ((written : Written)

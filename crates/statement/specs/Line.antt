@@ -23,7 +23,7 @@ without_last byte bytes =
     if nat_lt 0 (length bytes) && (slice_index bytes (length bytes - 1) == byte)
     then take (length bytes - 1) bytes else bytes
 
--- what stands before the line feed, where there is one
+-- what is before the line feed, where there is one
 abbrev pub before_feed : List ℕ → List ℕ
 before_feed line = without_last 10 line
 

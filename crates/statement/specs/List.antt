@@ -11,7 +11,7 @@ abbrev pub MakesList : {A Z : Type 0} → Result (Vec A Z × Bor (List ℕ)) Sto
 MakesList (Ok x) read = read ≡ Ok (x.0.items, x.1.now)
 MakesList (Err stop) read = Stops stop read
 
--- after each separator one more item, which go behind those in front; there are no more of them
+-- after each separator one more item, which go after those before; there are no more of them
 -- than bytes
 abbrev pub more_at : {A : Type 0} → (List ℕ → After) → (List ℕ → Read A) → List ℕ → List A → List ℕ
     → Read (List A)

@@ -20,7 +20,7 @@ abbrev pub value_within : ℕ → List ℕ → Option ℕ
 value_within most digits =
     if nat_lt most (digits_value 10 digits) then None else Some (digits_value 10 digits)
 
--- the number at the very front, if it is at most so great, and the bytes after it
+-- the number at the very start, if it is at most so great, and the bytes after it
 unfoldable pub digits_here : ℕ → List ℕ → Option (ℕ × List ℕ)
 digits_here most bytes =
     if digit_count bytes == 0 then None
@@ -41,7 +41,7 @@ above_nought bytes = option_map (λ x. (pos x.0, x.1)) (digits_here (2 ^ 63 - 1)
 abbrev pub below_nought : List ℕ → Option (ℤ × List ℕ)
 below_nought bytes = option_map (λ x. (neg_ℤ (pos x.0), x.1)) (digits_here (2 ^ 63) bytes)
 
--- a whole number of 64 bits, whose minus stands right before its digits
+-- a whole number of 64 bits, whose minus is right before its digits
 unfoldable pub number_at : List ℕ → Read ℤ
 number_at bytes =
     let at = next bytes in
@@ -50,7 +50,7 @@ number_at bytes =
       | Some x ↦ Ok x
     ]
 
--- the text, which goes on behind what stands in front, up to the quote that closes it, and the
+-- the text, which goes on after what was read before, up to the quote that closes it, and the
 -- bytes after that;
 -- a quote closes it where no other follows, and else the two are one of the text's
 abbrev pub quoted_from : Bool → List ℕ → List ℕ → Option (List ℕ × List ℕ)

@@ -1,4 +1,4 @@
--- The step that a statement stands for, or why it does not fit the schema.
+-- The step that a statement asks for, or why it does not fit the schema.
 use Rattle.std.specs.Prelude.{ℕ, ◌+◌, List, [], ◌∷◌, ◌++◌, ◌==◌, ◌&&◌, ◌||◌, not, nat_lt, Bool, true, Option, Some, None, Result, Ok, Err, length, slice_get, position, unwrap_or, if◌then◌else◌}
 use Rattle.std.specs.List.{list_any}
 use Rattle.values.specs.declared.value.Value.{Value}
@@ -18,7 +18,7 @@ use Rattle.histories.specs.declared.step.Step.TheVariants.{Begin as Begins, Inse
 use Rattle.histories.specs.Misfit.{max_session, misfit}
 use Rattle.tokens.specs.Token.{◌>>=◌}
 
--- each name of a column list is a column's, and none stands twice
+-- each name of a column list is a column's, and none is repeated
 abbrev pub is_column_list : List ℕ → Bool
 is_column_list [] = true
 is_column_list (column ∷ columns) =
@@ -29,7 +29,7 @@ abbrev pub is_good_list : Option (List ℕ) → Bool
 is_good_list None = true
 is_good_list (Some columns) = is_column_list columns
 
--- where a column stands in a column list
+-- the place of a column in a column list
 unfoldable pub place_of : List ℕ → ℕ → Option ℕ
 place_of columns number = position (λ column. column == number) columns
 
@@ -38,7 +38,7 @@ abbrev pub value_of : List ℕ → Row → ℕ → Value
 value_of columns row number =
     elim (place_of columns number) [ None ↦ Null | Some i ↦ unwrap_or (slice_get row i) Null ]
 
--- the values for the columns of a table, numbered from here on, behind those in front
+-- the values for the columns of a table, numbered from here on, after those before
 abbrev pub row_values_from : List ℕ → Row → Row → ℕ → List Column → Row
 row_values_from columns row front number [] = front
 row_values_from columns row front number (_ ∷ rest) =
@@ -59,7 +59,7 @@ fitting_row table (Some columns) row =
     if length columns == length row then row_in table (row_values table columns row)
     else Err (BadRow 0)
 
--- the same of rows in turn, behind those in front
+-- the same of rows in turn, after those before
 abbrev pub fitting_rows : Table → Option (List ℕ) → List Row → List Row → Result (List Row) Refusal
 fitting_rows table columns front [] = Ok front
 fitting_rows table columns front (row ∷ rows) = elim (fitting_row table columns row) [

@@ -50,7 +50,7 @@ serves_values bytes = is_on_rows bytes || asks_to_split bytes
 abbrev pub serving_takes_memory : List ℕ → Bool
 serving_takes_memory line = serves_values (body_of line)
 
--- reading the line takes memory: only where values may stand does it
+-- reading the line takes memory: only where values may come does it
 abbrev pub takes_memory : List ℕ → Bool
 takes_memory line = asks_for_values (body_of line)
 

@@ -44,7 +44,7 @@ abbrev pub values_text : List Value → List ℕ
 values_text [] = codes "()"
 values_text (v ∷ vs) = codes "(" ++ (value_text v ++ (flat_map next_text vs ++ codes ")"))
 
--- an end that has not come is printed so
+-- an end that has not come is printed as this
 abbrev pub end_text : Option ℕ → List ℕ
 end_text None = codes "forever"
 end_text (Some instant) = decimal instant

@@ -1,4 +1,4 @@
--- Lines that split what stands at a key.
+-- Lines that split the node at a key.
 use Rattle.std.specs.Prelude.{List, ℕ, Ok, Err, codes}
 use Rattle.values.specs.Tables.{Schema}
 use Rattle.values.specs.declared.key.Key.{Key}

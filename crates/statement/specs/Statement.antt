@@ -65,7 +65,7 @@ start_at bytes = do
   Ok (Begin, rest)
 
 module _ (schema : Schema) where
-  -- a column list, which may stand before the rows
+  -- a column list, which may come before the rows
   unfoldable pub listed_at : ℕ → List ℕ → Read (Option (List ℕ))
   listed_at table bytes = elim (symbol_at 40 bytes) [
     | Err _ ↦ Ok (None, bytes)

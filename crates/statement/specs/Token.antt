@@ -1,4 +1,4 @@
--- The tokens of a line, and what stands between them.
+-- The tokens of a line, and what is between them.
 use Rattle.std.specs.Prelude.{ℕ, List, [], ◌∷◌, ◌==◌, ◌||◌, Bool, Ok, Err}
 use Rattle.tokens.specs.Token as tokens
 use Rattle.tokens.specs.Token.{After, Read, skip_while}

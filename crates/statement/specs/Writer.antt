@@ -3,7 +3,7 @@ use Rattle.std.specs.Prelude.{◌≡◌, ℕ, List, ◌++◌, Option, Result, Ok
 use Rattle.std.specs.Io.KnownBytes.{Appends}
 
 -- a writer took the first bytes of a text
-pub record AppendsFront (old new : Option (List ℕ)) (text : List ℕ) : Type 0 where
+pub record AppendsPrefix (old new : Option (List ℕ)) (text : List ℕ) : Type 0 where
   pub out : List ℕ
   pub left : List ℕ
   pub wrote : Appends old new out
@@ -13,4 +13,4 @@ pub record AppendsFront (old new : Option (List ℕ)) (text : List ℕ) : Type 0
 abbrev pub Puts : {E : Type 0} → Option (List ℕ) → Option (List ℕ) → Result (Unit {0}) E → List ℕ
     → Type 0
 Puts old new (Ok done) text = Appends old new text
-Puts old new (Err fault) text = AppendsFront old new text
+Puts old new (Err fault) text = AppendsPrefix old new text

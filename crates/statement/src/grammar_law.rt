@@ -3,7 +3,7 @@ ghost use Rattle.values.specs.Tables.{Schema};
 ghost use Rattle.statement.specs.Line.{body_says};
 ghost use Rattle.statement.specs.ServedLine.{served_body_says};
 ghost use Rattle.statement.specs.Grammar.{IsLine, IsServedLine};
-ghost use Rattle.statement.specs.GoingOn.{FaultsAreFinal, FrontsGoOn};
+ghost use Rattle.statement.specs.GoingOn.{FaultsAreFinal, PrefixesGoOn};
 ghost use Rattle.statement.specs.GrammarLaw.{LinesAreRead, LinesSayOneThing, NothingIsRead, OnlyLinesAreRead, FaultsAreAtTokens, LineEndsAreNoTokens, PrintedRowsAreRead};
 
 /// Reading a line of a script from the left reads the lines of the grammar and no others. A fault of syntax is reported where a token begins, or at the line's end.
@@ -33,14 +33,14 @@ pub fn served_lines_are_read_by_the_grammar()
 /// Where a fault of syntax is reported, the bytes before it can go on to a line. With the token at the fault, if it is a
 /// word, a name, a number or a symbol other than a minus and a quote, they cannot.
 pub fn faults_are_final()
-    ensures goes_on { (schema : Schema) → FrontsGoOn (IsLine schema) (body_says schema) }
+    ensures goes_on { (schema : Schema) → PrefixesGoOn (IsLine schema) (body_says schema) }
     ensures no_more { (schema : Schema) → FaultsAreFinal (IsLine schema) (body_says schema) }
 {}
 
 /// It is so of the lines that a session sends.
 pub fn served_faults_are_final()
     ensures goes_on { (schema : Schema) (session : ℕ)
-        → FrontsGoOn (IsServedLine schema session) (served_body_says schema session) }
+        → PrefixesGoOn (IsServedLine schema session) (served_body_says schema session) }
     ensures no_more { (schema : Schema) (session : ℕ)
         → FaultsAreFinal (IsServedLine schema session) (served_body_says schema session) }
 {}

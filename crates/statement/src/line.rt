@@ -36,7 +36,7 @@ pub enum Written {
     Clock(Instant),
     /// A split at a key, whose table is 0 where there is none.
     SplitKey(Key),
-    /// A split in time, of what stands at such a key.
+    /// A split in time, of the node at such a key.
     SplitTime(Key, Instant),
     Migrate,
     /// A session's number, which is of the grammar even where there is no such session, and its statement.

@@ -5,7 +5,7 @@ use crate::token::Blanks;
 use std::alloc::Global;
 use tokens::{After, Made, symbol_at};
 
-/// What stands in a list.
+/// What a list is a list of.
 pub trait Item {
     ghost use Rattle.std.specs.Prelude.{ℕ, List};
     ghost use Rattle.tokens.specs.Token.{After, Read, Leaves, Makes};
@@ -16,7 +16,7 @@ pub trait Item {
 
     ghost item: { Self → List ℕ → Read Self.Value };
 
-    /// The bytes after what stands between two items.
+    /// The bytes after what separates two items.
     fn after_separator<'a>(&self, bytes: &'a [u8]) -> After<'a>
         ensures { Leaves result (separator self.now bytes.now) };
 

@@ -33,7 +33,7 @@ pub fn value_within(most: u64, digits: &[u8]) -> Option<u64>
     Some(value)
 }
 
-/// The number at the very front, if it is at most so great, and the bytes after it.
+/// The number at the very start, if it is at most so great, and the bytes after it.
 #[tactic(auto, unfolding(crate::specs::Literal::digits_here))]
 fn digits_here(most: u64, bytes: &[u8]) -> Option<(u64, &[u8])>
     ensures found { Finds result (digits_here most bytes.now) }
@@ -56,7 +56,7 @@ pub fn digits_at(most: u64, bytes: &[u8]) -> Read<'_, u64>
     digits_here(most, at).ok_or(at)
 }
 
-/// A whole number of 64 bits, whose minus stands right before its digits.
+/// A whole number of 64 bits, whose minus is right before its digits.
 #[tactic(auto, unfolding(crate::specs::Literal::number_at))]
 pub fn number_at(bytes: &[u8]) -> Read<'_, i64>
     ensures { Gives result (number_at bytes.now) }

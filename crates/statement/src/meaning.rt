@@ -12,7 +12,7 @@ use values::{
     ColumnNumber, Instant, Mem, Refusal, Row, Rows, Table, Value, Values, fitting_rows_have_bytes,
 };
 
-/// Whether each name of a column list is a column's, and none stands twice. Columns are numbered from 1, and 0 stands for what is no column's name.
+/// Whether each name of a column list is a column's, and none is repeated. Columns are numbered from 1; 0 is what is no column's name.
 pub fn is_column_list(columns: &[ColumnNumber]) -> bool
     ensures { result ≡ is_column_list columns.now }
 {
@@ -57,7 +57,7 @@ fn value_of(
     }
 }
 
-/// Where a column stands in a column list, from 0, if it stands there.
+/// The place of a column in a column list, from 0, if it is there.
 #[tactic(auto, unfolding(crate::specs::Meaning::place_of))]
 pub fn place_of(columns: &[ColumnNumber], number: ColumnNumber) -> Option<usize>
     ensures { result ≡ place_of columns.now number }

@@ -1,4 +1,4 @@
-#![tactic(auto, using(crate::proofs::WriterFronts::joins))]
+#![tactic(auto, using(crate::proofs::WriterPrefixes::joins))]
 
 ghost use Rattle.std.specs.List.{list_any};
 ghost use Rattle.std.specs.Prelude.{◌≡◌, ◌==◌, ◌++◌, ◌∷◌, [], decimal, codes, flat_map};
@@ -10,12 +10,12 @@ use histories::{Listing, Reply};
 use std::io::Write;
 use values::{Instant, Key, Refusal, Row, Shown, Value};
 
-/// What stands on both sides of a text, and twice inside it.
+/// What encloses a text, and is doubled inside it.
 const QUOTE: u8 = b'\'';
 
 type Put = Result<(), WriteFault>;
 
-/// Writes a reply: one line, and one more for each row that it shows. Where the writer fails, it took a front of that text.
+/// Writes a reply: one line, and one more for each row that it shows. Where the writer fails, it took a prefix of that text.
 pub fn print_reply<W: Write>(writer: &mut W, reply: &Reply) -> Put
     ensures { Puts (W.contents writer.old) (W.contents writer.new) result (reply_text reply.now) }
 {

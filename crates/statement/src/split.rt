@@ -1,4 +1,4 @@
-//! Lines that split what stands at a key.
+//! Lines that split the node at a key.
 ghost use Rattle.std.specs.Prelude.{◌≡◌, IsTrue, IfOk, true, false};
 ghost use Rattle.std.specs.Result.{is_ok};
 ghost use Rattle.tokens.specs.Token.{Makes};
@@ -61,7 +61,7 @@ fn kind_at<'a>(alloc: Global, schema: &Schema, bytes: &'a [u8]) -> Made<'a, Writ
     split_time_at(alloc, schema, rest)
 }
 
-/// What stands after the word SPLIT.
+/// What follows the word SPLIT.
 #[tactic(auto, unfolding(crate::specs::Split::split_at))]
 pub fn split_at<'a>(alloc: Global, schema: &Schema, bytes: &'a [u8]) -> Made<'a, Written>
     ensures makes { Makes result (split_at schema.now bytes.now) }

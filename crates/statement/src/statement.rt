@@ -18,7 +18,7 @@ pub type Columns = Sequence<ColumnNumber>;
 #[derive(Drop)]
 pub enum Statement {
     Begin,
-    /// A table, the columns that its list names where one stands, and rows whose values stand in the list's order or else in the table's.
+    /// A table, the columns that its list names where there is one, and rows whose values are in the list's order or else in the table's.
     Insert(u8, Option<Columns>, WrittenRows),
     Update(Keys, Sets),
     Delete(Keys),
@@ -99,7 +99,7 @@ fn between_at(bytes: &[u8]) -> Read<'_, Form>
     Ok((Form::Between(start, end), rest))
 }
 
-/// A column list, where one stands.
+/// A column list, where there is one.
 #[tactic(auto, unfolding(crate::specs::Statement::listed_at))]
 fn listed_at<'a>(
     alloc: Global,

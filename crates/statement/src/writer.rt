@@ -4,7 +4,7 @@ ghost use Rattle.statement.specs.Writer.{Puts};
 use itoa::{Buffer, Integer};
 use std::io::Write;
 
-/// A writer refused bytes. What it took is a front of what was to be written.
+/// A writer refused bytes. What it took is a prefix of what was to be written.
 #[derive(Clone, Copy, Debug, PartialEq, Eq)]
 pub struct WriteFault;
 

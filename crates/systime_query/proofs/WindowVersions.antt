@@ -1,5 +1,5 @@
 -- The versions that a form selects are those of the events in its window.
-use Rattle.std.proofs.Common.{◌≡◌, ℕ, ◌-◌, ◌<◌, ◌≤◌, Bool, true, false, cond, ◌&&◌, ◌||◌, not, List, [], ◌∷◌, Option, Some, None, refl, sym, ap, subst, ◌∙◌, arith, filter, nat_le, nat_lt, is_some}
+use Rattle.std.proofs.Common.{◌≡◌, ℕ, ◌<◌, ◌≤◌, Bool, true, false, cond, ◌&&◌, ◌||◌, not, List, [], ◌∷◌, Option, Some, None, refl, sym, ap, subst, ◌∙◌, arith, filter, nat_le, nat_lt, is_some}
 use Rattle.std.proofs.lemmas.Bool.{and_parts}
 use Rattle.std.proofs.lemmas.Bool.Decides.{nat_tests}
 use Rattle.std.specs.List.{AllByRecursion, slice_get, cons_option, list_any}
@@ -8,7 +8,6 @@ use Rattle.std.specs.declared.cmp.Ordering.TheVariants.{Less}
 use Rattle.values.specs.Event.{Event}
 use Rattle.values.specs.declared.table.Table.{Table}
 use Rattle.values.specs.declared.query.Form.{Form}
-use Rattle.values.specs.declared.query.Form.TheVariants.{AsOf, FromTo, Between}
 use Rattle.values.specs.declared.query.Keys.{Keys}
 use Rattle.values.specs.declared.query.Shown.{Shown}
 use Rattle.values.specs.Log.{Row}
@@ -55,18 +54,6 @@ module _ (P : Event → Type 0) where
   all_kept p (d ∷ ds) h = elim (p d) as (λ b. AllByRecursion P (cond b (d ∷ filter p ds) (filter p ds))) [ true ↦ (h.0, all_kept p ds h.1) | false ↦ all_kept p ds h.1 ]
 
 -- ---- what a form asks of
-
-pub at_window : (t : ℕ) → IsWindow (AsOf t) t t
-at_window t from to = refl
-
-pub from_window : (a b : ℕ) → a < b → IsWindow (FromTo a b) a (b - 1)
-from_window a b h from to = λ i. (is_below a b h i && up_to i) && ends_after to a
-  where
-    up_to : nat_lt from b ≡ nat_le from (b - 1)
-    up_to = grind (arith, nat_tests)
-
-pub between_window : (a b : ℕ) → a ≤ b → IsWindow (Between a b) a b
-between_window a b h from to = λ i. (is_at_most a b h i && nat_le from b) && ends_after to a
 
 module _ (a z : ℕ) (le : a ≤ z) where
   abbrev win : List Event → List Event → List Event

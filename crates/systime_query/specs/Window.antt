@@ -18,7 +18,7 @@ abbrev pub IsWindow : Form → ℕ → ℕ → Type 0
 IsWindow form first last =
     (from : ℕ) (to : Option ℕ) → selects form from to ≡ (nat_le from last && ends_after to first)
 
--- the event's row stands at the first instant, or it is after that one, up to the last and with it
+-- the event's row holds at the first instant, or it is after that one, up to the last and with it
 abbrev pub is_in_window : List Event → ℕ → ℕ → Event → Bool
 is_in_window es first last e = stands_at es first e || (nat_lt first e.at && nat_le e.at last)
 
@@ -30,4 +30,5 @@ end_of es last e behind = later (next_of e behind) (event_after es last e.key)
 abbrev pub shown_in : List Event → ℕ → Table → Form → Keys → List Event → List Shown
 shown_in es last table form keys [] = []
 shown_in es last table form keys (e ∷ ds) =
-    cons_option (shown_of table form keys e (end_of es last e ds)) (shown_in es last table form keys ds)
+    cons_option (shown_of table form keys e (end_of es last e ds))
+    (shown_in es last table form keys ds)

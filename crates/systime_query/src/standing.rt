@@ -34,7 +34,7 @@ pub fn rows_at<B: Blocks>(
 }
 
 /// By key: the rows of a table that a query without a form of time shows, the current ones. The keys are of that table.
-/// No current row is in a packed node.
+/// They are in current nodes, of which none is packed.
 pub fn current_rows(alloc: Global, view: &View, table: &Table, keys: &Keys) -> Mem<Vec<Row>>
     ensures ok { IfOk result (λ v. WhenShown view.now table.now keys.now (λ m.
         v.items ≡ shown_rows m table.now Plain keys.now)) }

@@ -6,7 +6,7 @@ use std::fmt::Write;
 use std::process::Abort;
 use values::{Comparison, Form, Instant, Key, Keys, Operator, Refusal, Row, Rows, Value};
 
-/// Lines, and the byte of the first token that cannot stand.
+/// Lines, and the byte of the first unexpected token.
 static WRONG_TOKENS: [(&str, usize); 234] = [
     ("- no comment", 0),
     ("-1: BEGIN", 0),
@@ -476,7 +476,7 @@ fn kind_at(alloc: Global, line: &[u8], schema: &Schema, reading: Instant) -> &'s
     }
 }
 
-/// Whether a line is refused so.
+/// Whether a line is refused for this.
 fn is_refused(alloc: Global, line: &[u8], schema: &Schema, refusal: Refusal) -> bool {
     match read_line(alloc, line, schema, 0) {
         Ok(_) => false,

@@ -1,6 +1,6 @@
 -- Two texts that are the same up to a token and in it: one is read as the other up to the token, and where it is refused at the token, the other is refused as well.
 use Rattle.std.proofs.Common.{◌≡◌, ◌≤◌, ℕ, suc, Bool, true, false, List, ◌∷◌, ◌++◌, ◌||◌, ◌⊎◌, inl, inr, Ok, Err, length, refl, ap, sym, ◌∙◌, subst, arith, if◌then◌else◌}
-use Rattle.tokens.specs.Token.{After, Read, ◌>>=◌, front_while}
+use Rattle.tokens.specs.Token.{After, Read, ◌>>=◌, prefix_while}
 use Rattle.tokens.specs.Word.{is_name_byte}
 
 -- bytes of the two texts from a place before the token on
@@ -17,7 +17,7 @@ pub record Texts : Type 0 where
   pub other : List ℕ
   pub shorter : (bytes : List ℕ) → length (next bytes) ≤ length bytes
   pub reaches : (a c : List ℕ) → Reach first rest other a c → Reach first rest other (next a) (next c) ⊎ (length (next a) ≤ length rest)
-  pub runs : (p : ℕ → Bool) → ((b : ℕ) → is_name_byte b ≡ false → p b ≡ false) → front_while p (first ∷ rest) ≡ front_while p (first ∷ other)
+  pub runs : (p : ℕ → Bool) → ((b : ℕ) → is_name_byte b ≡ false → p b ≡ false) → prefix_while p (first ∷ rest) ≡ prefix_while p (first ∷ other)
 
 module _ (w : Texts) where
   abbrev pub Near : List ℕ → List ℕ → Type 0

@@ -5,7 +5,7 @@ use Rattle.std.specs.Char.{is_ascii_digit}
 use Rattle.std.proofs.lemmas.Bool.Decides.{nat_tests}
 use Rattle.std.proofs.lemmas.List.{take-append-drop, length-append}
 use Rattle.values.specs.Names.{same_name}
-use Rattle.tokens.specs.Token.{After, Read, front_while, skip_while, symbol_at}
+use Rattle.tokens.specs.Token.{After, Read, prefix_while, skip_while, symbol_at}
 use Rattle.tokens.specs.Run.{Ends}
 use Rattle.tokens.specs.Place.{IsToken}
 use Rattle.tokens.specs.Word.{is_name_byte, is_word_at, after_word, word_at}
@@ -18,10 +18,10 @@ one_more : (n : ℕ) → 1 + n ≡ suc n
 one_more n = omega arith
 
 module _ (p : ℕ → Bool) (b : ℕ) (bs : List ℕ) where
-  front_more : p b ≡ true → front_while p (b ∷ bs) ≡ b ∷ front_while p bs
+  front_more : p b ≡ true → prefix_while p (b ∷ bs) ≡ b ∷ prefix_while p bs
   front_more is = ap (λ t. take (cond t (1 + prefix_len p bs) 0) (b ∷ bs)) is ∙ ap (λ (n : ℕ). take n (b ∷ bs)) (one_more (prefix_len p bs))
 
-  front_none : p b ≡ false → front_while p (b ∷ bs) ≡ []
+  front_none : p b ≡ false → prefix_while p (b ∷ bs) ≡ []
   front_none is = ap (λ t. take (cond t (1 + prefix_len p bs) 0) (b ∷ bs)) is
 
   pub skip_more : p b ≡ true → skip_while p (b ∷ bs) ≡ skip_while p bs
@@ -31,23 +31,23 @@ module _ (p : ℕ → Bool) (b : ℕ) (bs : List ℕ) where
   skip_none is = ap (λ t. drop (cond t (1 + prefix_len p bs) 0) (b ∷ bs)) is
 
 pub skip_within : (p : ℕ → Bool) (bs : List ℕ) → length (skip_while p bs) ≤ length bs
-skip_within p bs = omega (arith, ap length (take-append-drop (prefix_len p bs) bs), length-append (front_while p bs) (skip_while p bs))
+skip_within p bs = omega (arith, ap length (take-append-drop (prefix_len p bs) bs), length-append (prefix_while p bs) (skip_while p bs))
 
 -- what comes first of a token that is whole in both texts
 module _ (p : ℕ → Bool) (within : (b : ℕ) → is_name_byte b ≡ false → p b ≡ false) (rest other : List ℕ) where
-  none : (rest : List ℕ) → Ends is_name_byte rest → front_while p rest ≡ []
+  none : (rest : List ℕ) → Ends is_name_byte rest → prefix_while p rest ≡ []
   none [] ends = refl
   none (b ∷ bs) ends = front_none p b bs (within b ends)
 
-  agree : Ends is_name_byte rest → Ends is_name_byte other → (run : List ℕ) → front_while p (run ++ rest) ≡ front_while p (run ++ other)
+  agree : Ends is_name_byte rest → Ends is_name_byte other → (run : List ℕ) → prefix_while p (run ++ rest) ≡ prefix_while p (run ++ other)
   agree one two [] = none rest one ∙ sym (none other two)
   agree one two (b ∷ run) = by_test (p b) refl (agree one two run)
     where
-      by_test : (u : Bool) → p b ≡ u → front_while p (run ++ rest) ≡ front_while p (run ++ other) → front_while p (b ∷ (run ++ rest)) ≡ front_while p (b ∷ (run ++ other))
+      by_test : (u : Bool) → p b ≡ u → prefix_while p (run ++ rest) ≡ prefix_while p (run ++ other) → prefix_while p (b ∷ (run ++ rest)) ≡ prefix_while p (b ∷ (run ++ other))
       by_test true is h = front_more p b (run ++ rest) is ∙ ap (λ l. b ∷ l) h ∙ sym (front_more p b (run ++ other) is)
       by_test false is h = front_none p b (run ++ rest) is ∙ sym (front_none p b (run ++ other) is)
 
-  pub token_agrees : (first : ℕ) (others : List ℕ) → IsToken first others rest → IsToken first others other → front_while p (first ∷ (others ++ rest)) ≡ front_while p (first ∷ (others ++ other))
+  pub token_agrees : (first : ℕ) (others : List ℕ) → IsToken first others rest → IsToken first others other → prefix_while p (first ∷ (others ++ rest)) ≡ prefix_while p (first ∷ (others ++ other))
   token_agrees first others (inl a) (inl c) = agree a.1.1 c.1.1 (first ∷ others)
   token_agrees first others (inr a) c = front_none p first (others ++ rest) (within first a.0) ∙ sym (front_none p first (others ++ other) (within first a.0))
   token_agrees first others (inl a) (inr c) = let no : true ≡ false = sym a.0 ∙ c.0 in cc
@@ -57,7 +57,7 @@ digit_is_name b is = grind (arith, nat_tests)
 
 module _ (w : Texts) where
   pub record RunSame (p : ℕ → Bool) (a c : List ℕ) : Type 0 where
-    pub fronts : front_while p a ≡ front_while p c
+    pub fronts : prefix_while p a ≡ prefix_while p c
     pub left : Near w (skip_while p a) (skip_while p c) ⊎ IsPast w (skip_while p a)
 
   module _ (p : ℕ → Bool) (within : (b : ℕ) → is_name_byte b ≡ false → p b ≡ false) where
@@ -196,7 +196,7 @@ module _ (w : Texts) where
   pub good_word : (word : List ℕ) → GoodToken (word_at w.next word)
   unfolding is_word_at after_word word_at
   good_word word = record {
-    leaves = λ bytes. leaves bytes (same_name word (front_while is_name_byte (w.next bytes)));
+    leaves = λ bytes. leaves bytes (same_name word (prefix_while is_name_byte (w.next bytes)));
     alike = λ a c here. let h = names (w.next a) (w.next c) here in by_tests (w.next a) (w.next c) h.left _ _ (ap (same_name word) h.fronts);
   }
     where
@@ -222,14 +222,14 @@ module _ (w : Texts) where
 
   pub good_name : Good w (name_at w.next)
   unfolding name_at
-  good_name = good_here w _ (λ bytes. inside bytes (is_name (front_while is_name_byte (w.next bytes)))) (λ a c here. let h = names (w.next a) (w.next c) here in by_tests (w.next a) (w.next c) h _ _ (ap is_name h.fronts))
+  good_name = good_here w _ (λ bytes. inside bytes (is_name (prefix_while is_name_byte (w.next bytes)))) (λ a c here. let h = names (w.next a) (w.next c) here in by_tests (w.next a) (w.next c) h _ _ (ap is_name h.fronts))
     where
-      inside : (bytes : List ℕ) (u : Bool) → Within w bytes (if u then Ok (front_while is_name_byte (w.next bytes), skip_while is_name_byte (w.next bytes)) else Err (w.next bytes))
+      inside : (bytes : List ℕ) (u : Bool) → Within w bytes (if u then Ok (prefix_while is_name_byte (w.next bytes), skip_while is_name_byte (w.next bytes)) else Err (w.next bytes))
       inside bytes true = record { it = skip_left is_name_byte bytes }
       inside bytes false = record { it = omega arith }
 
       by_tests : (a c : List ℕ) → RunSame is_name_byte a c → (u v : Bool) → u ≡ v
-          → Same w (if u then Ok (front_while is_name_byte a, skip_while is_name_byte a) else Err a) (if v then Ok (front_while is_name_byte c, skip_while is_name_byte c) else Err c)
+          → Same w (if u then Ok (prefix_while is_name_byte a, skip_while is_name_byte a) else Err a) (if v then Ok (prefix_while is_name_byte c, skip_while is_name_byte c) else Err c)
       by_tests a c h true true e = record { it = elim h.left [ inl near ↦ inl (h.fronts, near) | inr less ↦ inr less ] }
       by_tests a c h false false e = record { it = tt }
       by_tests a c h true false e = cc

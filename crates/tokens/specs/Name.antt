@@ -3,10 +3,10 @@ use Rattle.std.specs.Prelude.{ℕ, List, [], ◌∷◌, ◌&&◌, Bool, false, O
 use Rattle.std.specs.Char.{is_ascii_digit}
 use Rattle.std.specs.List.{list_any}
 use Rattle.values.specs.Names.{same_name}
-use Rattle.tokens.specs.Token.{Read, front_while, skip_while}
+use Rattle.tokens.specs.Token.{Read, prefix_while, skip_while}
 use Rattle.tokens.specs.Word.{is_name_byte}
 
--- the words of the grammars of schemas and of lines, which no name is
+-- the words of the grammars of schemas and of lines, and some kept for later, which no name is
 unfoldable pub reserved_words : List (List ℕ)
 reserved_words =
     codes "CREATE" ∷ codes "TABLE" ∷ codes "WITH" ∷ codes "SYSTEM" ∷ codes "VERSIONING" ∷
@@ -35,5 +35,5 @@ module _ (next : List ℕ → List ℕ) where
   unfoldable pub name_at : List ℕ → Read (List ℕ)
   name_at bytes =
       let at = next bytes in
-      let name = front_while is_name_byte at in
+      let name = prefix_while is_name_byte at in
       if is_name name then Ok (name, skip_while is_name_byte at) else Err at

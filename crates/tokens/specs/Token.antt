@@ -47,15 +47,15 @@ abbrev pub Makes : {A : Type 0} → Result (A × Bor (List ℕ)) Stop → Read A
 Makes (Ok x) read = read ≡ Ok (x.0, x.1.now)
 Makes (Err stop) read = Stops stop read
 
--- the bytes that pass a test, as many as come at the front
-abbrev pub front_while : (ℕ → Bool) → List ℕ → List ℕ
-front_while p bytes = take (prefix_len p bytes) bytes
+-- the bytes that pass a test, as many as come at the start
+abbrev pub prefix_while : (ℕ → Bool) → List ℕ → List ℕ
+prefix_while p bytes = take (prefix_len p bytes) bytes
 
 -- the bytes after them
 abbrev pub skip_while : (ℕ → Bool) → List ℕ → List ℕ
 skip_while p bytes = drop (prefix_len p bytes) bytes
 
--- what a grammar has between tokens is told by the bytes from the next token on
+-- what a grammar has between tokens is given by the bytes from the next token on
 module _ (next : List ℕ → List ℕ) where
   unfoldable pub symbol_at : ℕ → List ℕ → After
   symbol_at symbol bytes = elim (next bytes) [

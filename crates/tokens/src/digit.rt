@@ -1,9 +1,9 @@
 ghost use Rattle.std.specs.Prelude.{◌≡◌, ◌≤◌, length};
 ghost use Rattle.std.specs.Char.{is_ascii_digit};
 ghost use Rattle.std.specs.List.{prefix_len};
-ghost use Rattle.tokens.specs.Token.{front_while, skip_while};
+ghost use Rattle.tokens.specs.Token.{prefix_while, skip_while};
 
-/// The number of digits at the front.
+/// The number of digits at the start.
 fn digit_count(bytes: &[u8]) -> usize
     ensures count { result ≡ prefix_len is_ascii_digit bytes.now }
     ensures within { result ≤ length bytes.now }
@@ -16,9 +16,9 @@ fn digit_count(bytes: &[u8]) -> usize
     bytes.len()
 }
 
-/// The digits at the front, as many as come, and the bytes after them.
+/// The digits at the start, as many as come, and the bytes after them.
 pub fn split_digits(bytes: &[u8]) -> (&[u8], &[u8])
-    ensures digits { result.0.now ≡ front_while is_ascii_digit bytes.now }
+    ensures digits { result.0.now ≡ prefix_while is_ascii_digit bytes.now }
     ensures rest { result.1.now ≡ skip_while is_ascii_digit bytes.now }
 {
     bytes.split_at(digit_count(bytes))

@@ -11,7 +11,7 @@ use values::same_name;
 /// The bytes that a name may have.
 const NAME: usize = 64;
 
-// The words of the grammars of schemas and of lines, by their length.
+// The words of the grammars of schemas and of lines, and those kept for later, by their length.
 const OF_TWO: [&str; 4] = ["AS", "AT", "OF", "TO"];
 
 const OF_THREE: [&str; 9] = [
@@ -49,7 +49,7 @@ fn is_one_of(words: &[&str], name: &[u8]) -> bool
     words.iter().any(|word| same_name(word.as_bytes(), name))
 }
 
-/// Whether a name is, in any case, one of the words of the grammars of schemas and of lines. A word of another length is none.
+/// Whether a name is, in any case, one of the words of the grammars of schemas and of lines, or one that is kept for later. A word of another length is none.
 #[tactic(auto, unfolding(crate::specs::Name::is_reserved, crate::specs::Name::reserved_words))]
 pub fn is_reserved(name: &[u8]) -> bool
     ensures { result ≡ is_reserved name.now }

@@ -1,6 +1,6 @@
 ghost use Rattle.std.specs.Prelude.{◌≡◌, ◌≤◌, length, false, IsUtf8, Ok, Err, if◌then◌else◌};
 ghost use Rattle.values.specs.Names.{same_name};
-ghost use Rattle.tokens.specs.Token.{Leaves, front_while, skip_while};
+ghost use Rattle.tokens.specs.Token.{Leaves, prefix_while, skip_while};
 ghost use Rattle.tokens.specs.Word.{is_name_byte, word_length, is_word_at, after_word, word_at};
 
 use crate::token::{After, Separators};
@@ -12,7 +12,7 @@ fn is_name_byte(byte: u8) -> bool
     byte.is_ascii_alphanumeric() || byte == b'_'
 }
 
-/// The number of bytes that the word or name at the front has.
+/// The number of bytes that the word or name at the start has.
 fn word_length(bytes: &[u8]) -> usize
     ensures length { result ≡ word_length bytes.now }
     ensures within { result ≤ length bytes.now }
@@ -25,9 +25,9 @@ fn word_length(bytes: &[u8]) -> usize
     bytes.len()
 }
 
-/// The word or name at the front, and the bytes after it.
+/// The word or name at the start, and the bytes after it.
 pub(crate) fn split_word(bytes: &[u8]) -> (&[u8], &[u8])
-    ensures word { result.0.now ≡ front_while is_name_byte bytes.now }
+    ensures word { result.0.now ≡ prefix_while is_name_byte bytes.now }
     ensures rest { result.1.now ≡ skip_while is_name_byte bytes.now }
     ensures text { IsUtf8 result.0.now }
 {
@@ -35,10 +35,10 @@ pub(crate) fn split_word(bytes: &[u8]) -> (&[u8], &[u8])
 }
 
 /// Whether the first letters do not tell a word and the bytes apart. Most words are told apart here,
-/// before the bytes of the word at the front are counted.
+/// before the bytes of the word at the start are counted.
 #[inline(always)]
 fn begins_alike(word: &[u8], bytes: &[u8]) -> bool
-    ensures { result ≡ false → same_name word.now (front_while is_name_byte bytes.now) ≡ false }
+    ensures { result ≡ false → same_name word.now (prefix_while is_name_byte bytes.now) ≡ false }
 {
     match (word, bytes) {
         ([letter, ..], [byte, ..]) => letter.eq_ignore_ascii_case(byte),
@@ -67,7 +67,7 @@ pub fn after_word<S: Separators>(bytes: &[u8]) -> &[u8]
 }
 
 /// The bytes after a word, which is read in any case. The test of its first letter is compiled into
-/// each caller: most words that may stand next are told apart there.
+/// each caller: most words that may come next are told apart there.
 #[inline(always)]
 #[tactic(auto, unfolding(crate::specs::Word::word_at, crate::specs::Word::is_word_at, crate::specs::Word::after_word))]
 pub fn word_at<'a, S: Separators>(word: &[u8], bytes: &'a [u8]) -> After<'a>
@@ -80,9 +80,9 @@ pub fn word_at<'a, S: Separators>(word: &[u8], bytes: &'a [u8]) -> After<'a>
     word_here(word, at)
 }
 
-/// The bytes after a word at the very front.
+/// The bytes after a word at the very start.
 fn word_here<'a>(word: &[u8], at: &'a [u8]) -> After<'a>
-    ensures { Leaves result (if same_name word.now (front_while is_name_byte at.now)
+    ensures { Leaves result (if same_name word.now (prefix_while is_name_byte at.now)
         then Ok (skip_while is_name_byte at.now) else Err at.now) }
 {
     let (front, rest) = split_word(at);

@@ -1,4 +1,4 @@
-//! Lists of numbers: what stands where, and what a share keeps.
+//! Lists of numbers: what is where, and what a share keeps.
 use slots::{Share, Slots, Update};
 use std::alloc::Global;
 use std::process::Abort;

@@ -82,7 +82,7 @@ pub(crate) fn split_root_at(rt: &impl Abort, alloc: Global, nodes: Nodes, instan
     time_split(rt, alloc, nodes, 0, leaf, instant)
 }
 
-/// The block of a node of history, where one stands unpacked at a number.
+/// The block of a node of history, where one is unpacked at a number.
 fn block_at(rt: &impl Abort, alloc: Global, nodes: &Nodes, number: usize) -> Option<Block>
     ensures { IfSome result (λ b. IsAt nodes.now number (data_node b.node)) }
 {
@@ -96,7 +96,7 @@ fn block_at(rt: &impl Abort, alloc: Global, nodes: &Nodes, number: usize) -> Opt
     Some(block)
 }
 
-/// The nodes with a node of history packed, where one stands unpacked at a number.
+/// The nodes with a node of history packed, where one is unpacked at a number.
 pub(crate) fn pack_at(rt: &impl Abort, alloc: Global, nodes: Nodes, number: usize) -> Nodes
     requires { IsTree nodes }
     ensures { IsTree result }

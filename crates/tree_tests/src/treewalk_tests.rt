@@ -178,7 +178,7 @@ fn is_shown(shape: &Shape, place: usize, line: Line) -> bool {
     }
 }
 
-/// Whether a shape has three nodes, and shows one of them so.
+/// Whether a shape has three nodes, and shows one of them as wanted.
 fn is_shown_of_three(
     rt: &impl Abort,
     alloc: Global,

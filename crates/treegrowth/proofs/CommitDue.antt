@@ -56,9 +56,6 @@ due_at_first m last instant es is later upto commit = record {
 -- ---- one event
 
 module _ (m : List Event) (last instant : ℕ) (e : Event) (rest : List Event) (due : IsDue m last instant (e ∷ rest)) where
-  pub due_takes : TakesCommit m last e.at
-  due_takes = subst (TakesCommit m last) (sym due.at_instant.0) due.takes
-
   pub due_next : IsNext m e
   due_next = record { first = (let at = due.at_instant.0 in let later = due.takes.later in omega (arith, at, later)); upto = (let at = due.at_instant.0 in let le = due.takes.upto in omega (arith, at, le)); latest_before = (let at = due.at_instant.0 in let le = due.latest_upto in omega (arith, at, le)); last = due.fresh.0 }
 

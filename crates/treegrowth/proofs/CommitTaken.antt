@@ -54,10 +54,6 @@ any_of P (d ∷ ds) e (inr among) h =
     let lt : rest.0 < length ds = rest.2 in
     (suc rest.0, rest.1, omega arith, rest.3, rest.4)
 
-data_is : (c : Content) → IsDataNode c → c ≡ Events (events_of c)
-data_is (Events es) h = refl
-data_is (References rs) h = absurd h
-
 cut_is : (m : List Event) (r : Area) (c : Content) → IsDataNode c → IsCut m r c → events_of c ≡ cut r m
 cut_is m r (Events es) h is = is
 cut_is m r (References rs) h is = absurd h

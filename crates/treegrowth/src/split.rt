@@ -85,7 +85,7 @@ fn with_split(
     ensures err { OnlyMemory result }
 {
     let depth = way.len() - 1;
-    // Who asks for the data node knows what stands there.
+    // Who asks for the data node knows what is there.
     let _node = current_at(nodes, way[depth]);
     with_leaf_split(alloc, nodes.share()?, way, depth, point)
 }

@@ -16,7 +16,7 @@ use std::marker::Model;
 use std::sync::Arc;
 use values::{Event, Mem};
 
-/// A data node, as it stands or as its block, or an index node whose references name nodes one level down.
+/// A data node, as it is or as its block, or an index node whose references name nodes one level down.
 #[derive(Drop)]
 pub enum Child {
     Data(DataNode),
@@ -24,7 +24,7 @@ pub enum Child {
     Index(IndexNode<usize>),
 }
 
-/// What stands at a number: a node and its level, counted from the data nodes up. A share of it is the same node.
+/// What is at a number: a node and its level, counted from the data nodes up. A share of it is the same node.
 #[derive(Drop)]
 pub struct Slot {
     level: usize,
@@ -109,7 +109,7 @@ impl Slot {
         &self.child
     }
 
-    /// The current data node that stands here.
+    /// The current data node that is here.
     pub fn current(&self) -> &DataNode
         requires data { IsDataNode self.now.content }
         requires current { self.now.rect.time.to ≡ None }
@@ -118,7 +118,7 @@ impl Slot {
         self.child().current()
     }
 
-    /// The index node that stands here.
+    /// The index node that is here.
     pub fn index(&self) -> &IndexNode<usize>
         requires { IsIndexNode self.now.content }
         ensures { self.now ≡ seen self.now.level (Child.Index result.now) }
@@ -129,7 +129,7 @@ impl Slot {
         }
     }
 
-    /// Whether a data node of history stands here that is not packed.
+    /// Whether a data node of history is here that is not packed.
     pub fn is_unpacked(&self) -> bool
         ensures { result ≡ is_unpacked self.now }
     {
@@ -139,7 +139,7 @@ impl Slot {
         }
     }
 
-    /// The data node of history that stands here unpacked.
+    /// The data node of history that is here unpacked.
     pub fn data_node(&self) -> &DataNode
         requires { IsTrue (is_unpacked self.now) }
         ensures { self.now ≡ seen self.now.level (Child.Data result.now) }

@@ -13,7 +13,7 @@ use std::alloc::Global;
 use std::marker::Model;
 use values::{Event, Mem};
 
-/// The nodes of a tree by their numbers. A share of them is the same list. Beside it stands which data nodes of history
+/// The nodes of a tree by their numbers. A share of them is the same list. Beside it is kept which data nodes of history
 /// are still to be packed, so that asking for the first of them does not pass over all nodes.
 #[derive(Drop)]
 pub struct Nodes {

@@ -45,7 +45,7 @@ pub fn can_split_key(nodes: &Nodes, number: usize, key: &KeyBytes) -> bool
     is_key_splittable(nodes.at(number).child().rect(), key)
 }
 
-/// Whether a data node can be split at an instant: it is current, and the instant is after its start.
+/// Whether a data node can be split at an instant: it is current, and the instant is after its start and not after the last one.
 pub fn can_split_time(nodes: &Nodes, number: usize, instant: Instant) -> bool
     requires { IsData nodes.now number }
     ensures { IsTrue result ↔ CanSplitTime nodes.now number instant }

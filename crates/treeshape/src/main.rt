@@ -15,7 +15,7 @@ fn main(rt: HostRuntime) -> ExitCode {
     match run(&rt) {
         Ok(()) => ExitCode::SUCCESS,
         Err(fault) => {
-            // Nobody is left to be told where standard error fails too.
+            // There is nowhere left to report it where standard error fails too.
             let _told = writeln!(rt.stderr(), "{fault}");
             ExitCode::FAILURE
         }

@@ -1,15 +1,14 @@
 -- Which row stands at an instant is seen by the events of a range up to it.
-use Rattle.std.proofs.Common.{◌≡◌, ℕ, ◌≤◌, Bool, true, List, sym, ap, subst, ◌∙◌, arith, nat_le}
+use Rattle.std.proofs.Common.{◌≡◌, ℕ, ◌≤◌, Bool, true, List, sym, ap, ◌∙◌, arith, nat_le}
 use Rattle.std.specs.Prelude.{◌&&◌}
 use Rattle.std.specs.List.{filter}
-use Rattle.std.specs.Bool.{Decides}
-use Rattle.std.proofs.lemmas.Bool.{and_parts, and_from, le-leb}
+use Rattle.std.proofs.lemmas.Bool.{and_from, le-leb}
 use Rattle.std.proofs.lemmas.Bool.Decides.{Decides-and, Decides-like, same_from_decides}
 use Rattle.values.specs.Event.{Event}
 use Rattle.keyrange.specs.declared.range.KeyRange.{KeyRange}
 use Rattle.keyrange.specs.Range.{is_key_in}
 use Rattle.eventlist.specs.Listing.{events_in, stands_at, standing}
-use Rattle.datanode.proofs.CutMembers.{In, In-filter, In-from_filter, filter_alike, filter_twice}
+use Rattle.datanode.proofs.CutMembers.{In-filter, In-from_filter, filter_alike, filter_twice}
 use Rattle.datanode.proofs.CutLaws.{itself}
 use Rattle.treewalk.proofs.ListingStanding.{Stands, stands_decides}
 

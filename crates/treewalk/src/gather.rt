@@ -22,7 +22,7 @@ use values::{Instant, LAST, Mem, SharedEvent};
 pub(crate) enum Query {
     /// Those from an instant to another and with it.
     Between(Instant, Instant),
-    /// Of each key the one whose row stands at an instant.
+    /// Of each key the one whose row holds at an instant.
     At(Instant),
 }
 
@@ -146,7 +146,7 @@ fn asked_of_node(
     }
 }
 
-/// What is asked of a block. Which row stands at an instant is seen by the events up to it.
+/// What is asked of a block. Which row holds at an instant is seen by the events up to it.
 fn asked_of_block<B: Blocks>(
     alloc: Global,
     blocks: &mut B,

@@ -1,8 +1,8 @@
 -- The unpacked data node of history of a rectangle: there is one at most, and it is the leaf at the rectangle's first point.
 use Rattle.std.proofs.Common.{◌≡◌, ℕ, ◌≤◌, Bool, true, false, List, Option, Some, None, refl, sym, ap, subst, ◌∙◌}
-use Rattle.std.specs.Prelude.{IsTrue, IsSome, All, ◌&&◌, is_some, is_none}
+use Rattle.std.specs.Prelude.{IsTrue, IsSome, All, ◌&&◌, is_some}
 use Rattle.std.proofs.lemmas.List.Elements.{All-filter, All-weaker}
-use Rattle.std.proofs.lemmas.Bool.{and_from, and_parts, leb-true}
+use Rattle.std.proofs.lemmas.Bool.{and_from, leb-true}
 use Rattle.values.specs.Commits.{max_instant}
 use Rattle.keyrange.specs.Rect.{Area, IsArea, has_point, Common}
 use Rattle.keyrange.proofs.RectInside.{first_key_in, first_instant_in, facts_of}
@@ -10,7 +10,7 @@ use Rattle.datanode.specs.Node.{Node}
 use Rattle.blocks.specs.Block.{HasBlock}
 use Rattle.datanode.specs.Cut.{in_cut}
 use Rattle.treenodes.specs.declared.node.Child.TheVariants.{Data}
-use Rattle.treenodes.specs.Node.{seen, Content, Events, References, TreeNode, IsAt, data_node, events_of}
+use Rattle.treenodes.specs.Node.{seen, TreeNode, IsAt, data_node, events_of}
 use Rattle.treenodes.specs.Tree.{IsTree, HasContent}
 use Rattle.treenodes.specs.Lookup.{IsLeafAt}
 use Rattle.treenodes.specs.Map.{changes}
@@ -25,18 +25,6 @@ starts_at r area = leb-true 1 r.time.from (facts_of r area).from_first
 
 first_point : (r : Area) → IsArea r → has_point r r.keys.lo r.time.from ≡ true
 first_point r area = and_from _ _ (first_key_in r area) (first_instant_in r area)
-
--- an unpacked node, as the data node that it is
-plain : (nodes : List TreeNode) (level : ℕ) (rect : Area) (content : Content) (packed : Option (List ℕ)) → IsTrue (is_unpacked (record { level = level; rect = rect; content = content; packed = packed })) → HasContent nodes level rect content
-    → ◌≡◌ {A = TreeNode} (record { level = level; rect = rect; content = content; packed = packed }) (data_node (record { rect = rect; events = events_of content }))
-plain nodes level rect (Events es) None h has = λ t. record { level = has t; rect = rect; content = Events es; packed = None }
-plain nodes level rect (Events es) (Some b) h has =
-    let never : false ≡ true = (and_parts (is_some rect.time.to) false (and_parts true (is_some rect.time.to && false) h).1).1 in
-    absurd (cc)
-plain nodes level rect (References rs) packed h has = let never : false ≡ true = h in absurd (cc)
-
-pub as_data : (nodes : List TreeNode) → IsTree nodes → (number : ℕ) (n : TreeNode) → IsAt nodes number n → IsTrue (is_unpacked n) → n ≡ data_node (record { rect = n.rect; events = events_of n.content })
-as_data nodes tree number n at unpacked = plain nodes n.level n.rect n.content n.packed unpacked (tree.contents number n at)
 
 pub past_unpacked : (n : Node) → IsSome n.rect.time.to → IsTrue (is_unpacked (data_node n))
 past_unpacked n past = by n.rect.time.to past
@@ -61,16 +49,6 @@ one_of nodes tree rect area i j n p at_i at_j level_n level_p point same =
 module _ (nodes : List TreeNode) (tree : IsTree nodes) (rect : Area) (area : IsArea rect) (number : ℕ) (leaf : IsLeafAt nodes rect.keys.lo rect.time.from number) (n : TreeNode) (at : IsAt nodes number n) where
   level : n.level ≡ 0
   level = sym (ap (λ (q : TreeNode). q.level) (one_at nodes number leaf.leaf.node n leaf.leaf.there at)) ∙ leaf.leaf.bottom
-
-  pub found : IsTrue (is_unpacked n) → n.rect ≡ rect → IsHistoricalAt nodes rect number
-  found unpacked same =
-      let is = as_data nodes tree number n at unpacked in
-      record {
-        node = record { rect = n.rect; events = events_of n.content };
-        there = at ∙ ap Some is;
-        unpacked = subst (λ (q : TreeNode). IsTrue (is_unpacked q)) is unpacked;
-        same = same;
-      }
 
   only : (p : Node) → IsHistorical nodes rect p → n ≡ data_node p
   only p h = one_of nodes tree rect area number h.number n (data_node p) at h.there level refl (point_in nodes rect.keys.lo rect.time.from number n leaf at) h.same

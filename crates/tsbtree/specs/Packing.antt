@@ -21,7 +21,7 @@ pub record IsHistorical (nodes : List TreeNode) (rect : Area) (n : Node) : Type 
   pub unpacked : IsTrue (is_unpacked (data_node n))
   pub same : n.rect ≡ rect
 
--- the block stands in the place of its node
+-- the block is in the place of its node
 pub record Installs (old new : TreeState) (block : Packed) : Type 0 where
   pub number : ℕ
   pub there : IsAt old.nodes number (data_node block.node)
@@ -35,7 +35,7 @@ pub record InstallsNot (old new : TreeState) (block : Packed) : Type 0 where
   pub none : (number : ℕ) → IsAt old.nodes number (data_node block.node) → ⊥
   pub same : new ≡ old
 
--- a block takes the place of its node where that stands unpacked
+-- a block takes the place of its node where that is unpacked
 abbrev pub IsInstalled : Bool → TreeState → TreeState → Packed → Type 0
 IsInstalled true old new block = Installs old new block
 IsInstalled false old new block = InstallsNot old new block

@@ -107,7 +107,7 @@ impl Tree {
         Ok(self.put(nodes, last))
     }
 
-    /// Puts a block in the place of its node, where that stands unpacked: one of the same rectangle and the same events.
+    /// Puts a block in the place of its node, where that is unpacked: one of the same rectangle and the same events.
     /// False where there is none; then, and where memory runs out, nothing has changed.
     pub fn install(&mut self, node: &DataNode, block: Block) -> Mem<bool>
         requires { block.node ≡ node.now }

@@ -124,7 +124,7 @@ impl View {
         changed_since(&self.nodes, key, start)
     }
 
-    /// The instant of a key's first event above `after`, if there is one: there ends what stands at `after`. It takes no
+    /// The instant of a key's first event above `after`, if there is one: there ends what holds at `after`. It takes no
     /// memory.
     pub fn next_change(&self, key: &KeyBytes, after: Instant) -> Option<Instant>
         ensures { result ≡ event_after (events self.now) after key.now }
@@ -206,7 +206,7 @@ impl View {
         tree_shape(alloc, &self.nodes)
     }
 
-    /// The data node whose rectangle has the point of a key and an instant: as it stands, or its block.
+    /// The data node whose rectangle has the point of a key and an instant: as it is, or its block.
     pub fn leaf(&self, key: &KeyBytes, instant: Instant) -> &Child
         requires { 1 ≤ instant }
         ensures { IsLeafOf self.now key.now instant result.now }

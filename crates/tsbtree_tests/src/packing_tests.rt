@@ -14,7 +14,7 @@ use treewalk::Shape;
 use tsbtree::{Tree, View};
 use values::{Instant, LAST};
 
-/// Puts the block of a view's first unpacked node of history into a tree, where the node stands there unpacked.
+/// Puts the block of a view's first unpacked node of history into a tree, where the node is unpacked there.
 fn install_first(rt: &impl Abort, alloc: Global, tree: &mut Tree, view: &View) -> bool {
     match view.first_unpacked(None) {
         None => false,

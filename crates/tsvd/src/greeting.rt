@@ -1,4 +1,4 @@
-//! What somebody who types at a terminal is told.
+//! What is written for somebody who types at a terminal.
 use std::io;
 use std::io::{IsTerminal, Read, Write};
 use std::rt::{Stderr, Stdin};

@@ -14,7 +14,7 @@ use std::process::ExitCode;
 /// What is said of a word that is no text.
 const NO_TEXT: &str = "error: a word is not UTF-8\n";
 
-/// Runs the program on the process's words and standard streams, and ends with its status. Output is held back until a reply is whole.
+/// Runs the program on the process's words and standard streams, and ends with its status. Output is buffered, and flushed before more is read.
 fn main(rt: HostRuntime) -> ExitCode {
     let mut err = rt.stderr();
     let words = match words_after_the_name(&rt) {

@@ -127,7 +127,7 @@ impl Engine {
         self.outcome(start, net, reading)
     }
 
-    /// Splits the current data node of a key, where its cut lies inside the node; else, and where memory runs out,
+    /// Splits the current data node of a key, where its cut lies inside the node and is no instant after the last commit; else, and where memory runs out,
     /// nothing has changed.
     pub fn split(&mut self, cut: &Cut) -> Mem<bool>
         ensures same { HoldsSame self.old self.new }

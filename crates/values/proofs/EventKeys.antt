@@ -1,5 +1,5 @@
 -- Keys and their bytes are in one order: what events say of a key by its bytes is what changes say of the key.
-use Rattle.std.proofs.Common.{◌≡◌, ℕ, List, [], ◌∷◌, Option, Some, None, Bool, true, false, refl, sym, ap, ◌∙◌, subst, cond, map, nat_lt, nat_le, ◌&&◌, All}
+use Rattle.std.proofs.Common.{◌≡◌, ℕ, List, [], ◌∷◌, Option, Some, None, refl, sym, ap, ◌∙◌, subst, cond, nat_lt, ◌&&◌, All}
 use Rattle.std.proofs.lemmas.List.Elements.{All-head, All-tail, All-cons, All-nil}
 use Rattle.std.proofs.lemmas.Map.Views.{All-keys-insert_entry}
 use Rattle.std.specs.Map.{keys_of}
@@ -21,7 +21,7 @@ use Rattle.values.specs.KeyEncoding.{bytes_of_key}
 use Rattle.values.specs.KeyEncodingLaw.{AreKeyParts, IsStorable}
 use Rattle.values.specs.KeyReading.{IsKeyOf}
 use Rattle.values.specs.RowEncoding.{IsHeld}
-use Rattle.values.specs.Events.{bytes_cmp, is_bytes, event_cmp, event_of, events_of, IsKeyOfAny, IsKeyIn, AreChangesIn, AreKeysIn, event_since, put_event, put_net, later}
+use Rattle.values.specs.Events.{bytes_cmp, is_bytes, event_of, events_of, IsKeyOfAny, IsKeyIn, AreChangesIn, AreKeysIn, event_since, put_event, put_net, later}
 use Rattle.values.proofs.KeyOrder.{byte_order_is_key_order}
 use Rattle.values.proofs.OrderTotal.{point_cmp-IsAntisymmetric}
 

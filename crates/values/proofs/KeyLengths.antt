@@ -1,5 +1,5 @@
 -- How long the bytes of a key are, and that a key that fits its table is short enough.
-use Rattle.std.proofs.Common.{◌≡◌, ℕ, ◌+◌, ◌*◌, ◌≤◌, List, [], ◌∷◌, ◌==◌, Bool, true, false, ◌&&◌, Option, Some, None, length, refl, arith, leb-true, nat_le, if◌then◌else◌, All}
+use Rattle.std.proofs.Common.{◌≡◌, ℕ, ◌+◌, ◌*◌, ◌≤◌, List, [], ◌∷◌, ◌==◌, Bool, true, false, Option, Some, None, length, refl, arith, leb-true, nat_le, if◌then◌else◌, All}
 use Rattle.std.proofs.lemmas.Bool.{and_parts}
 use Rattle.std.specs.Prelude.{not, ◌||◌}
 use Rattle.std.specs.List.{flat_map}

@@ -122,10 +122,6 @@ above_zero b e = sym (nat_cmp_is 0 b Less (grind (arith, nat_tests)))
 below_any : (b : ℕ) → (b == 0) ≡ false → nat_cmp b 0 ≡ Greater
 below_any b e = sym (nat_cmp_is b 0 Greater (grind (arith, nat_tests)))
 
--- one byte more of a text
-front : Bool → ℕ → List ℕ → List ℕ
-front z b bs = if z then 0 ∷ 255 ∷ bs else b ∷ bs
-
 ended_first : (b : ℕ) (z : Bool) (bs xs ys : List ℕ) → (b == 0) ≡ z → bytes_cmp (0 ∷ 0 ∷ xs) ((if z then 0 ∷ 255 ∷ bs else b ∷ bs) ++ ys) ≡ Less
 ended_first b true bs xs ys e = refl
 ended_first b false bs xs ys e = ap (λ o. ordering_then o (bytes_cmp (0 ∷ xs) (bs ++ ys))) (above_zero b e)

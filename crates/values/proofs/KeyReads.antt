@@ -182,10 +182,6 @@ truth_sound (b ∷ bs) v rest is = by_byte (b == 0) (b == 1) refl refl is
     by_byte false true p q is = reads (b ∷ bs) (Truth true) v bs rest is (record { spelled = ap (λ n. n ∷ bs) (sym (byte_is b 1 q)); held = tt })
     by_byte false false p q is = cc
 
--- the bytes of one character more of a text
-zero_more : (bs : List ℕ) → text_bytes (0 ∷ bs) ≡ 0 ∷ 255 ∷ text_bytes bs
-zero_more bs = refl
-
 plain_more : (b : ℕ) (bs : List ℕ) → (b == 0) ≡ false → text_bytes (b ∷ bs) ≡ b ∷ text_bytes bs
 plain_more b bs e = ap (λ t. if t then 0 ∷ 255 ∷ text_bytes bs else b ∷ text_bytes bs) e
 

@@ -5,7 +5,7 @@ pub mod KeyOrder
 pub mod KeyReads
 pub mod LogLatest
 pub mod LogMaps
-pub mod VersionsNow
+pub mod LogPush
 pub mod OrderTotal
 pub mod RowFits
 pub mod RowKeys

@@ -1,7 +1,7 @@
 -- Entries in order: what is below what.
-use Rattle.std.proofs.Common.{◌≡◌, true, false, T, List, [], ◌∷◌, refl, sym, ap, subst, ◌∙◌}
+use Rattle.std.proofs.Common.{◌≡◌, true, T, List, [], ◌∷◌, refl, sym, subst}
 use Rattle.std.specs.Cmp.{IsTotalOrder}
-use Rattle.std.specs.Ordering.{ordering_reverse, is_eq, is_lt}
+use Rattle.std.specs.Ordering.{is_eq, is_lt}
 use Rattle.std.specs.declared.cmp.Ordering.{Ordering}
 use Rattle.std.specs.declared.cmp.Ordering.TheVariants.{Less, Equal, Greater}
 use Rattle.std.specs.FinMap.{is_sorted}
@@ -21,11 +21,6 @@ is_equal Less e = cc
 is_equal Equal e = refl
 is_equal Greater e = cc
 
-pub turned : (o : Ordering) → is_eq (ordering_reverse o) ≡ is_eq o
-turned Less = refl
-turned Equal = refl
-turned Greater = refl
-
 module _ {K X : Type 0} (R : K → K → Ordering) where
   below_from : (k : K) (es : List (K × X)) → AllByRecursion (λ y. R k y ≡ Less) (keys_of es) → T (below_all R k es)
   below_from k [] h = tt
@@ -43,16 +38,3 @@ module _ {K X : Type 0} {R : K → K → Ordering} where
   below_less o p r [] e h = tt
   below_less o p r (c ∷ cs) e h =
       both _ _ (subst (λ o. T (is_lt o)) (sym (o.trans p r c.0 e (is_less _ (first _ _ h)))) tt) (below_less o p r cs e (second _ _ h))
-
-module _ {K : Type 0} {R : K → K → Ordering} where
-  -- what is above is another key
-  pub above : IsTotalOrder R → (x y : K) → T (is_lt (R x y)) → is_eq (R y x) ≡ false
-  above o x y h = ap is_eq (o.antisymm y x ∙ ap ordering_reverse (is_less _ h))
-
-  pub itself : IsTotalOrder R → (x : K) → is_eq (R x x) ≡ true
-  itself o x = level (R x x) (o.antisymm x x)
-    where
-      level : (o : Ordering) → o ≡ ordering_reverse o → is_eq o ≡ true
-      level Less e = cc
-      level Equal e = refl
-      level Greater e = cc

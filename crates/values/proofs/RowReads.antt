@@ -116,10 +116,6 @@ byte_at bs h i = inside (nat_le (suc i) (length bs)) refl
     inside true e = All-get_or (λ b. b < 256) bs i 0 (grind (arith, nat_tests)) h
     inside false e = subst (λ n. n < 256) (sym (get_or_past bs i 0 (grind (arith, nat_tests)))) (omega arith)
 
--- a number of bytes that spell one is below the power
-below_2 : (bs : List ℕ) → ((i : ℕ) → get_or bs i 0 < 256) → from_be_bytes w16 bs < 2 ^ 16
-below_2 bs h = omega (arith, h 0, h 1)
-
 pub below_8 : (bs : List ℕ) → ((i : ℕ) → get_or bs i 0 < 256) → from_be_bytes w64 bs < 2 ^ 64
 below_8 bs h = omega (arith, h 0, h 1, h 2, h 3, h 4, h 5, h 6, h 7)
 

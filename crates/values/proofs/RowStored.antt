@@ -1,5 +1,5 @@
 -- The test of a row that can be stored, and the fact.
-use Rattle.std.proofs.Common.{◌≡◌, ℕ, ◌≤◌, List, [], ◌∷◌, ◌&&◌, Bool, true, false, length, refl, ap, ◌∙◌, arith, nat_le, All}
+use Rattle.std.proofs.Common.{◌≡◌, List, [], ◌∷◌, ◌&&◌, true, length, refl, ap, ◌∙◌, arith, nat_le, All}
 use Rattle.std.proofs.lemmas.Bool.{and_parts}
 use Rattle.std.specs.List.{list_all}
 use Rattle.std.proofs.lemmas.Bool.Decides.{nat_tests}

@@ -49,7 +49,7 @@ conflicts m start net = conflicts_by (changed_since m start) net
 abbrev pub outcome : Changes → ℕ → ℕ → Net → ℕ → Result (Option ℕ) Refusal
 outcome m latest start net reading = outcome_by (changed_since m start) latest net reading
 
--- the log once a transaction has ended so
+-- the log once a transaction has ended this way
 abbrev pub log_after : Log → Net → Result (Option ℕ) Refusal → Log
 log_after log net (Ok (Some instant)) = log ++ record { instant = instant; net = net } ∷ []
 log_after log net _ = log

@@ -43,14 +43,14 @@ IsHeld (Int n) = FitsSigned w64 n
 IsHeld (Text t) = IsUtf8 t
 IsHeld _ = Unit {0}
 
--- the row stands in the first n bytes
+-- the row is in the first n bytes
 pub record StandsIn (bytes : List ℕ) (n : ℕ) (row : Row) : Type 0 where
   pub is_stored : IsStoredRow row
   pub is_held : All IsHeld row
   pub bytes_are : take n bytes ≡ bytes_of_row row
   pub within : n ≤ length bytes
 
--- no row stands at the front
+-- no row is at the start
 abbrev pub NoRowAt : List ℕ → Type 0
 NoRowAt bytes =
     (row : Row) (rest : List ℕ) → IsStoredRow row → All IsHeld row

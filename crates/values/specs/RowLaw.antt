@@ -7,7 +7,7 @@ use Rattle.values.specs.Fit.{row_fault}
 use Rattle.values.specs.RowEncoding.{bytes_of_row, IsStoredRow, IsHeld, StandsIn}
 use Rattle.values.specs.RowReading.{row_from}
 
--- a row reads back from the front of its bytes, whatever follows
+-- a row reads back from the start of its bytes, whatever follows
 abbrev pub RowsReadBack : Type 0
 RowsReadBack =
     (row : Row) (rest : List ℕ) → IsStoredRow row → All IsHeld row

@@ -1,4 +1,4 @@
--- Reading a row from the front of bytes: a value and the bytes after it, or none.
+-- Reading a row from the start of bytes: a value and the bytes after it, or none.
 use Rattle.std.specs.Prelude.{◌≡◌, ℕ, ◌-◌, List, [], ◌∷◌, ◌++◌, ◌==◌, ◌&&◌, Bool, true, false, Option, Some, None, length, take, drop, nat_le, if◌then◌else◌, zero, suc, option_map}
 use Rattle.std.specs.Borrow.{Bor}
 use Rattle.std.specs.Int.{w16, w64, from_be_bytes, cast_signed}

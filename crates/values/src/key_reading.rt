@@ -13,8 +13,8 @@ use crate::table::{ColumnType, Table};
 use crate::value::{Value, Values};
 use std::alloc::{AllocError, Global};
 
-/// A value and the bytes after it, where one stands at the front.
-type Front<'a, T> = Result<Option<(T, &'a [u8])>, AllocError>;
+/// A value and the bytes after it, where there is one at the start.
+type Taken<'a, T> = Result<Option<(T, &'a [u8])>, AllocError>;
 
 /// The number whose bytes are those of `n`: `n` less 2^63.
 fn number_at(n: u64) -> i64
@@ -46,7 +46,7 @@ fn truth_from(bytes: &[u8]) -> Option<(Value, &[u8])>
 }
 
 /// A text up to its end mark.
-fn text_from(alloc: Global, bytes: &[u8]) -> Front<'_, Vec<u8>>
+fn text_from(alloc: Global, bytes: &[u8]) -> Taken<'_, Vec<u8>>
     ensures { IfOk result (λ taken. Takes (λ text. text.items) taken (text_from false bytes.now)) }
 {
     let mut text = Vec::new(alloc);
@@ -83,7 +83,7 @@ fn text_of(alloc: Global, bytes: &[u8]) -> Result<Option<Chars>, AllocError>
 }
 
 #[tactic(auto, unfolding(crate::specs::KeyReading::name_from))]
-fn name_from(alloc: Global, bytes: &[u8]) -> Front<'_, Value>
+fn name_from(alloc: Global, bytes: &[u8]) -> Taken<'_, Value>
     ensures { IfOk result (λ taken. Takes (λ value. value) taken (name_from bytes.now)) }
 {
     match text_from(alloc, bytes)? {
@@ -96,7 +96,7 @@ fn name_from(alloc: Global, bytes: &[u8]) -> Front<'_, Value>
 }
 
 #[tactic(auto, unfolding(crate::specs::KeyReading::part_from))]
-fn part_from(alloc: Global, of: ColumnType, bytes: &[u8]) -> Front<'_, Value>
+fn part_from(alloc: Global, of: ColumnType, bytes: &[u8]) -> Taken<'_, Value>
     ensures { IfOk result (λ taken. Takes (λ value. value) taken (part_from of bytes.now)) }
 {
     match of {
@@ -114,7 +114,7 @@ impl Table {
         alloc: Global,
         number: ColumnNumber,
         bytes: &'a [u8],
-    ) -> Front<'a, Value>
+    ) -> Taken<'a, Value>
         ensures { IfOk result (λ taken.
             Takes (λ value. value) taken (column_from self.now number bytes.now)) }
     {
@@ -124,7 +124,7 @@ impl Table {
         }
     }
 
-    fn parts_from<'a>(&self, alloc: Global, bytes: &'a [u8]) -> Front<'a, Values>
+    fn parts_from<'a>(&self, alloc: Global, bytes: &'a [u8]) -> Taken<'a, Values>
         ensures { IfOk result (λ taken.
             Takes (λ parts. parts) taken (parts_from self.now self.now.key bytes.now)) }
     {

@@ -7,7 +7,7 @@ pub type Mem<T> = Result<T, Refusal>;
 /// Why a step is refused.
 #[derive(Debug, PartialEq, Eq, Drop)]
 pub enum Refusal {
-    /// The line is not of the grammar: the offset, from 0, of the first byte of the first token that cannot stand.
+    /// The line is not of the grammar: the offset, from 0, of the first unexpected token, or the length of a line that ends too early.
     Syntax(usize),
     /// No such table.
     NoTable,

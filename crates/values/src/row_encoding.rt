@@ -148,7 +148,7 @@ fn values_from(
     Ok(Some((values, rest)))
 }
 
-/// A row and the number of its bytes, where one stands at the front. One that no table has is read too.
+/// A row and the number of its bytes, where there is one at the start. One that no table has is read too.
 pub fn read_row(alloc: Global, bytes: &[u8]) -> Mem<Option<(Row, usize)>>
     ensures exact { IfOk result (λ read. read ≡ row_from bytes.now) }
     ensures found { IfOk result (λ read. IfSome read (λ x. StandsIn bytes.now x.1 x.0)) }

@@ -1,6 +1,6 @@
 ghost use Rattle.values.specs.RowLaw.{RowsReadBack, OnlyRowsAreRead, FittingRowsAreStored, NoRowBeginsAnother, WorkedRowBytes};
 
-/// Rows may be told by their bytes.
+/// Rows may be told apart by their bytes.
 pub fn bytes_stand_for_rows()
     ensures back { RowsReadBack }
     ensures only { OnlyRowsAreRead }

@@ -1,6 +1,6 @@
 use Rattle.csv.specs.Writing.{default_writer, row_text}
 use Rattle.std.specs.List.{flat_map}
-use Rattle.statement.proofs.WriterFronts.{puts_then, front_first}
+use Rattle.statement.proofs.WriterPrefixes.{puts_then, front_first}
 use Rattle.interchange.specs.Version.{header_of, version_text}
 use Rattle.interchange.proofs.version.export.Goals as goal
 

@@ -1,6 +1,6 @@
 use Rattle.std.proofs.Common.{length}
 use Rattle.std.specs.List.{flat_map}
-use Rattle.statement.proofs.WriterFronts.{Left}
+use Rattle.statement.proofs.WriterPrefixes.{Left}
 use Rattle.interchange.specs.Version.{version_text}
 use Rattle.interchange.proofs.version.export_versions.Given as goal
 

@@ -1,4 +1,4 @@
-use Rattle.statement.proofs.WriterFronts.{each_taken}
+use Rattle.statement.proofs.WriterPrefixes.{each_taken}
 use Rattle.interchange.specs.Version.{version_text}
 use Rattle.interchange.proofs.version.write_versions.Goals as goal
 

@@ -1,6 +1,6 @@
 use Rattle.std.specs.Prelude.{◌≡◌, Some}
 use Rattle.journal.specs.Entries.{entry_at}
-use Rattle.listening.proofs.ConnectionFronts.{all_front}
+use Rattle.listening.proofs.ConnectionPrefixes.{all_front}
 use Rattle.listening.proofs.connection.listen.Goals as goal
 
 pub returns-in-Ok-clause-stand : goal.returns-in-Ok-clause-stand

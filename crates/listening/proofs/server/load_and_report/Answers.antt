@@ -1,5 +1,5 @@
 use Rattle.std.proofs.Common.{◌∙◌, ap, length, map, refl, subst}
-use Rattle.statement.specs.Writer.{AppendsFront}
+use Rattle.statement.specs.Writer.{AppendsPrefix}
 use Rattle.interchange.specs.Report.{loaded_text}
 use Rattle.serving.specs.Taken.{Given}
 use Rattle.listening.specs.Loading.{IsLoaded}
@@ -12,7 +12,7 @@ returns-in-Err-put_whole-clause-err g c = record {
   receipts = map (λ r. record { number = r.number; entry = r.entry }) c.in-Ok.loaded.receipts.items;
   instant = c.in-Ok.loaded.instant;
   loaded = subst (λ rows. IsLoaded g.J.StoreName.schema c.args.first.now.number rows (map {B = Given} (λ r. record { number = r.number; entry = r.entry }) c.in-Ok.loaded.receipts.items) c.in-Ok.loaded.instant) c.as_slice-rows.ensures.value c.in-Ok.ensures.ok;
-  wrote = subst (AppendsFront (g.O.Write.contents c.args.out.now) (g.O.Write.contents c.put_whole.new.out))
+  wrote = subst (AppendsPrefix (g.O.Write.contents c.args.out.now) (g.O.Write.contents c.put_whole.new.out))
       (c.as_slice.ensures.value ∙ c.in-Ok-loaded_line.ensures ∙ ap (λ rows. loaded_text (length rows) c.in-Ok.loaded.instant) c.as_slice-rows.ensures.value)
       c.in-Err-put_whole.ensures;
 }

@@ -1,7 +1,7 @@
 use Rattle.std.proofs.Common.{get_or}
 use Rattle.std.proofs.lemmas.List.{get_or_default}
 use Rattle.statement.specs.Print.{quoted_byte}
-use Rattle.statement.proofs.WriterFronts.{each_taken, each_stopped}
+use Rattle.statement.proofs.WriterPrefixes.{each_taken, each_stopped}
 use Rattle.statement.proofs.print.put_bytes.Goals as goal
 
 pub returns-in_err-put_byte : goal.returns-in_err-put_byte

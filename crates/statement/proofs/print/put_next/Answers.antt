@@ -1,5 +1,5 @@
 use Rattle.std.proofs.Common.{codes}
-use Rattle.statement.proofs.WriterFronts.{stopped}
+use Rattle.statement.proofs.WriterPrefixes.{stopped}
 use Rattle.statement.proofs.print.put_next.Goals as goal
 
 pub returns-in_err-write_all : goal.returns-in_err-write_all

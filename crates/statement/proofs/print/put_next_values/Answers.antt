@@ -1,5 +1,5 @@
 use Rattle.statement.specs.Print.{next_text}
-use Rattle.statement.proofs.WriterFronts.{each_taken, each_stopped}
+use Rattle.statement.proofs.WriterPrefixes.{each_taken, each_stopped}
 use Rattle.statement.proofs.print.put_next_values.Goals as goal
 
 pub returns-in_err-put_next : goal.returns-in_err-put_next

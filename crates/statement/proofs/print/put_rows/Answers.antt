@@ -1,6 +1,6 @@
 use Rattle.std.proofs.Common.{codes, length}
 use Rattle.statement.specs.Print.{numbered}
-use Rattle.statement.proofs.WriterFronts.{stopped}
+use Rattle.statement.proofs.WriterPrefixes.{stopped}
 use Rattle.statement.proofs.print.put_rows.Goals as goal
 
 pub returns-in_err-put_numbered : goal.returns-in_err-put_numbered

@@ -1,5 +1,5 @@
 use Rattle.statement.specs.Print.{shown_line}
-use Rattle.statement.proofs.WriterFronts.{each_taken, each_stopped}
+use Rattle.statement.proofs.WriterPrefixes.{each_taken, each_stopped}
 use Rattle.statement.proofs.print.put_shown_lines.Goals as goal
 
 pub returns-in_err-put_shown : goal.returns-in_err-put_shown

@@ -1,6 +1,6 @@
 use Rattle.std.proofs.Common.{drop}
 use Rattle.std.specs.List.{flat_map}
-use Rattle.statement.proofs.WriterFronts.{Left}
+use Rattle.statement.proofs.WriterPrefixes.{Left}
 use Rattle.statement.specs.Print.{shown_line}
 use Rattle.statement.proofs.print.put_shown_lines.Given as goal
 

@@ -1,4 +1,4 @@
-use Rattle.statement.proofs.WriterFronts.{left_more}
+use Rattle.statement.proofs.WriterPrefixes.{left_more}
 use Rattle.statement.proofs.writer.write_all.Goals as goal
 
 pub loop-rest-preserved : goal.loop-rest-preserved

@@ -1,5 +1,5 @@
 use Rattle.std.proofs.Common.{length}
-use Rattle.statement.proofs.WriterFronts.{Left}
+use Rattle.statement.proofs.WriterPrefixes.{Left}
 use Rattle.statement.proofs.writer.write_all.Given as goal
 
 abbrev pub invariant-loop-rest : goal.invariant-loop-rest

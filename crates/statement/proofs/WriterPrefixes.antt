@@ -1,16 +1,16 @@
 -- What writers took, joined.
-use Rattle.std.proofs.Common.{◌≡◌, ℕ, List, [], ◌++◌, Option, append_assoc, sym, ◌∙◌, ap, take, drop, take-append-drop, append-nil, refl, subst, length, get_or, ◌∷◌, suc, ◌+◌, ◌<◌, add-one, arith, Some, None}
+use Rattle.std.proofs.Common.{◌≡◌, ℕ, List, ◌++◌, Option, append_assoc, sym, ◌∙◌, ap, take, drop, take-append-drop, subst, length, get_or, suc, ◌+◌, ◌<◌, add-one, arith}
 use Rattle.std.specs.Prelude.{Result, Ok, Err, IsErrAnd}
 use Rattle.std.specs.List.{flat_map}
 use Rattle.std.proofs.Math.Seq.{drop-cons}
-use Rattle.std.proofs.KnownBytes.{Appends-trans, Appends-nil}
-use Rattle.std.specs.Io.KnownBytes.{Appends, Keeps}
-use Rattle.statement.specs.Writer.{AppendsFront, Puts}
+use Rattle.std.proofs.KnownBytes.{Appends-trans}
+use Rattle.std.specs.Io.KnownBytes.{Appends}
+use Rattle.statement.specs.Writer.{AppendsPrefix, Puts}
 
-pub front_first : (a b : Option (List ℕ)) (x y : List ℕ) → AppendsFront a b x → AppendsFront a b (x ++ y)
+pub front_first : (a b : Option (List ℕ)) (x y : List ℕ) → AppendsPrefix a b x → AppendsPrefix a b (x ++ y)
 front_first a b x y f = record { out = f.out; left = f.left ++ y; wrote = f.wrote; front = ap (λ l. l ++ y) f.front ∙ append_assoc f.out f.left y }
 
-pub front_then : (a b c : Option (List ℕ)) (x y : List ℕ) → Appends a b x → AppendsFront b c y → AppendsFront a c (x ++ y)
+pub front_then : (a b c : Option (List ℕ)) (x y : List ℕ) → Appends a b x → AppendsPrefix b c y → AppendsPrefix a c (x ++ y)
 front_then a b c x y p f = record { out = x ++ f.out; left = f.left; wrote = Appends-trans a b c x f.out p f.wrote; front = ap (λ l. x ++ l) f.front ∙ sym (append_assoc x f.out f.left) }
 
 -- one text, and then another
@@ -24,9 +24,6 @@ pub record Left (a b : Option (List ℕ)) (text rest : List ℕ) : Type 0 where
   pub wrote : Appends a b out
   pub is : text ≡ out ++ rest
 
-pub left_whole : (a : Option (List ℕ)) (text : List ℕ) → Left a a text text
-left_whole a text = record { out = []; wrote = Appends-nil a; is = refl }
-
 pub left_taken : (a b c : Option (List ℕ)) (text x rest : List ℕ) → Left a b text (x ++ rest) → Appends b c x → Left a c text rest
 left_taken a b c text x rest l p = record {
   out = l.out ++ x;
@@ -37,31 +34,11 @@ left_taken a b c text x rest l p = record {
 pub left_more : (a b c : Option (List ℕ)) (text rest : List ℕ) (n : ℕ) → Left a b text rest → Appends b c (take n rest) → Left a c text (drop n rest)
 left_more a b c text rest n l p = left_taken a b c text (take n rest) (drop n rest) (subst (Left a b text) (sym (take-append-drop n rest)) l) p
 
-pub left_front : (a b c : Option (List ℕ)) (text x rest : List ℕ) → Left a b text (x ++ rest) → AppendsFront b c x → AppendsFront a c text
-left_front a b c text x rest l f = subst (AppendsFront a c) (sym l.is) (front_then a b c l.out (x ++ rest) l.wrote (front_first b c x rest f))
-
--- the writer may fail with the rest unwritten
-pub left_stopped : (a b : Option (List ℕ)) (text rest : List ℕ) → Left a b text rest → AppendsFront a b text
-left_stopped a b text rest l = record { out = l.out; left = rest; wrote = l.wrote; front = l.is }
-
-Appends-kept : (a b c : Option (List ℕ)) (bs : List ℕ) → Appends a b bs → Keeps b c → Appends a c bs
-Appends-kept None b c bs p q = tt
-Appends-kept (Some x) None c bs p q = absurd p
-Appends-kept (Some x) (Some y) None bs p q = absurd q
-Appends-kept (Some x) (Some y) (Some z) bs p q = q ∙ p
-
-pub left_kept : (a b c : Option (List ℕ)) (text rest : List ℕ) → Left a b text rest → Keeps b c → AppendsFront a c text
-left_kept a b c text rest l k = record { out = l.out; left = rest; wrote = Appends-kept a b c l.out l.wrote k; front = l.is }
-
-no_bytes : (xs : List ℕ) → length xs ≡ 0 → xs ≡ []
-no_bytes [] e = refl
-no_bytes (x ∷ xs) e = absurd (omega arith)
-
-pub left_none : (a b : Option (List ℕ)) (text rest : List ℕ) → length rest ≡ 0 → Left a b text rest → Appends a b text
-left_none a b text rest e l = subst (Appends a b) (sym (l.is ∙ ap (λ r. l.out ++ r) (no_bytes rest e) ∙ append-nil l.out)) l.wrote
+pub left_front : (a b c : Option (List ℕ)) (text x rest : List ℕ) → Left a b text (x ++ rest) → AppendsPrefix b c x → AppendsPrefix a c text
+left_front a b c text x rest l f = subst (AppendsPrefix a c) (sym l.is) (front_then a b c l.out (x ++ rest) l.wrote (front_first b c x rest f))
 
 -- the first text was not all taken, at the exit of a `?`
-pub stopped : {E : Type 0} (P : E → Type 0) (a b : Option (List ℕ)) (r : Result (Unit {0}) E) (x y : List ℕ) → IsErrAnd r P → AppendsFront a b x → Puts a b r (x ++ y)
+pub stopped : {E : Type 0} (P : E → Type 0) (a b : Option (List ℕ)) (r : Result (Unit {0}) E) (x y : List ℕ) → IsErrAnd r P → AppendsPrefix a b x → Puts a b r (x ++ y)
 stopped P a b (Ok done) x y e f = absurd e
 stopped P a b (Err fault) x y e f = front_first a b x y f
 
@@ -78,6 +55,6 @@ pub each_taken : {X : Type 0} (a b c : Option (List ℕ)) (f : X → List ℕ) (
 each_taken a b c f xs i x h is l p = left_taken a b c _ (f x) _ (subst (Left a b (flat_map f xs)) (piece_of f xs i x h is) l) p
 
 pub each_stopped : {X E : Type 0} (P : E → Type 0) (a b c : Option (List ℕ)) (r : Result (Unit {0}) E) (f : X → List ℕ) (xs : List X) (i : ℕ) (x : X) → IsErrAnd r P → i < length xs → x ≡ get_or xs i x
-    → Left a b (flat_map f xs) (flat_map f (drop i xs)) → AppendsFront b c (f x) → Puts a c r (flat_map f xs)
+    → Left a b (flat_map f xs) (flat_map f (drop i xs)) → AppendsPrefix b c (f x) → Puts a c r (flat_map f xs)
 each_stopped P a b c (Ok done) f xs i x e h is l p = absurd e
 each_stopped P a b c (Err fault) f xs i x e h is l p = left_front a b c _ (f x) _ (subst (Left a b (flat_map f xs)) (piece_of f xs i x h is) l) p
