@@ -1,5 +1,5 @@
 -- Which round it is: that of the first receipt.
-use Rattle.std.proofs.Common.{◌≡◌, List, [], ◌∷◌, None, refl, sym, ap, subst, ◌∙◌}
+use Rattle.std.proofs.Common.{◌≡◌, List, [], ◌∷◌, refl, sym, ap, subst, ◌∙◌}
 use Rattle.journal.specs.declared.entry.Entry.{Entry}
 use Rattle.journal.specs.declared.entry.Entry.TheVariants.{Begin}
 use Rattle.sessions.specs.SessionState.{SessionState}
@@ -16,7 +16,7 @@ is_one given g is = (g, is)
 
 pub part_alone : (given : List Given) → IsPartOf given given
 part_alone given number session earlier view is =
-    breaks (number, Begin session earlier view) view None [] given (begins (number, Begin session earlier view) view [] given refl is)
+    breaks (number, Begin session earlier view) view _ (begins (number, Begin session earlier view) view [] given refl is)
 
 -- ---- with the session
 

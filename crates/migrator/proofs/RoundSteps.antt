@@ -22,7 +22,7 @@ use Rattle.blocks.specs.PackedNode.{Packed}
 use Rattle.journal.specs.declared.entry.Entry.{Entry}
 use Rattle.journal.specs.declared.entry.Entry.TheVariants.{Install}
 use Rattle.sessions.specs.Store.{IsInstallOf}
-use Rattle.migrator.specs.Round.{AreInstalled, Given, IsInstallIn, IsLast, IsOver, IsPart, IsUnderWay, IsWhole, rect_of}
+use Rattle.migrator.specs.Round.{AreInstalled, Given, IsInstallIn, IsLast, IsOver, IsPart, IsUnderWay, IsWhole, RoundState, rect_of}
 use Rattle.migrator.proofs.RoundStarts.{sorted_more, sorted_none, sorted_one, starts_apart}
 
 -- the one at a place is taken out
@@ -59,8 +59,16 @@ no_more view shown after last found same is none all tree =
           (subst (Found view last) none all),
     )
 
+-- a round by its parts
+abbrev round : Option Area → List Area → List Given → RoundState
+round after asked given = record { after = after; asked = asked; given = given }
+
 module _ (begin : Given) (view : TreeState) where
-  pub begins : (asked : List Area) (given : List Given) → asked ≡ [] → given ≡ begin ∷ [] → IsUnderWay begin view None asked given
+  -- what is so of a round's parts is so of the round
+  by_parts : (q : RoundState) → IsUnderWay begin view (round q.after q.asked q.given) → IsUnderWay begin view q
+  by_parts q u = record { rects = u.rects; installs = u.installs; given_are = u.given_are; installed = u.installed; last = u.last; upto = u.upto }
+
+  pub begins : (asked : List Area) (given : List Given) → asked ≡ [] → given ≡ begin ∷ [] → IsUnderWay begin view (round None asked given)
   begins asked given none are = record {
     rects = [];
     installs = [];
@@ -87,8 +95,8 @@ module _ (begin : Given) (view : TreeState) where
       less Equal h = absurd (cc)
       less Greater h = absurd (cc)
 
-  module _ (after : Option Area) (asked : List Area) (given : List Given) (u : IsUnderWay begin view after asked given) where
-    module _ (node : Node) (found : IsFirstWaiting view.nodes after (data_node node)) where
+  module _ (q : RoundState) (u : IsUnderWay begin view q) where
+    module _ (node : Node) (found : IsFirstWaiting view.nodes q.after (data_node node)) where
       waits : IsWaiting view.nodes None (data_node node)
       waits = record { number = found.waiting.number; there = found.waiting.there; unpacked = found.waiting.unpacked; behind = tt }
 
@@ -99,7 +107,7 @@ module _ (begin : Given) (view : TreeState) where
           behind : start_cmp node.rect n.rect ≡ Less → IsWaiting view.nodes (Some node.rect) n
           behind is = record { number = w.number; there = w.there; unpacked = w.unpacked; behind = ap is_lt is }
 
-          earlier : start_cmp node.rect n.rect ≡ Greater → IsWaiting view.nodes after n → ⊥
+          earlier : start_cmp node.rect n.rect ≡ Greater → IsWaiting view.nodes q.after n → ⊥
           earlier is v =
               let less : start_cmp n.rect node.rect ≡ Less = start_total.antisymm n.rect node.rect ∙ ap ordering_reverse is in
               let not_less : is_lt (start_cmp n.rect node.rect) ≡ false = found.first n v in
@@ -111,23 +119,23 @@ module _ (begin : Given) (view : TreeState) where
           by Equal is = subst (Contains (u.rects ++ node.rect ∷ [])) (starts_apart view.nodes tree (data_node node) n waits w is) (Contains-push u.rects node.rect)
           by Greater is = Contains-append_left u.rects (node.rect ∷ []) n.rect (u.upto tree n w (earlier is))
 
-      more_once : IsPermutation (map Some (u.rects ++ node.rect ∷ [])) (map Some (asked ++ node.rect ∷ []) ++ map (λ g. rect_of g.1) u.installs)
+      more_once : IsPermutation (map Some (u.rects ++ node.rect ∷ [])) (map Some (q.asked ++ node.rect ∷ []) ++ map (λ g. rect_of g.1) u.installs)
       more_once =
           let x : Option Area = Some node.rect in
-          let a : List (Option Area) = map Some asked in
+          let a : List (Option Area) = map Some q.asked in
           let i : List (Option Area) = map (λ g. rect_of g.1) u.installs in
           let turned : IsPermutation (x ∷ (a ++ i)) (a ++ x ∷ i) = IsPermutation-sym (a ++ x ∷ i) (x ∷ (a ++ i)) (IsPermutation-middle a x i) in
           let joined : IsPermutation (map Some u.rects ++ x ∷ []) (a ++ x ∷ i) = IsPermutation-push_more (map Some u.rects) (a ++ i) (a ++ x ∷ i) x u.installed.once turned in
-          subst (λ (l : List (Option Area)). IsPermutation l (map Some (asked ++ node.rect ∷ []) ++ i)) (sym (map-append Some u.rects (node.rect ∷ [])))
-          (subst (λ (l : List (Option Area)). IsPermutation (map Some u.rects ++ x ∷ []) l) (sym (ap (λ l. l ++ i) (map-append Some asked (node.rect ∷ [])) ∙ append_assoc a (x ∷ []) i)) joined)
+          subst (λ (l : List (Option Area)). IsPermutation l (map Some (q.asked ++ node.rect ∷ []) ++ i)) (sym (map-append Some u.rects (node.rect ∷ [])))
+          (subst (λ (l : List (Option Area)). IsPermutation (map Some u.rects ++ x ∷ []) l) (sym (ap (λ l. l ++ i) (map-append Some q.asked (node.rect ∷ [])) ∙ append_assoc a (x ∷ []) i)) joined)
 
-      pub asks : (more : List Area) → more ≡ asked ++ node.rect ∷ [] → IsUnderWay begin view (Some node.rect) more given
-      asks more is = subst (λ (l : List Area). IsUnderWay begin view (Some node.rect) l given) (sym is) (record {
+      pub asks : (more : List Area) → more ≡ q.asked ++ node.rect ∷ [] → IsUnderWay begin view (round (Some node.rect) more q.given)
+      asks more is = subst (λ (l : List Area). IsUnderWay begin view (round (Some node.rect) l q.given)) (sym is) (record {
         rects = u.rects ++ node.rect ∷ [];
         installs = u.installs;
         given_are = u.given_are;
         installed = record {
-          in_turn = rising after u.rects node.rect u.last u.installed.in_turn found.waiting.behind;
+          in_turn = rising q.after u.rects node.rect u.last u.installed.in_turn found.waiting.behind;
           each = u.installed.each;
           once = more_once;
         };
@@ -135,28 +143,35 @@ module _ (begin : Given) (view : TreeState) where
         upto = covered;
       })
 
-    pub asks_for : (shown : TreeState) (last : Option Area) (found : Option Node) (node : Node) (rect end : Area) (more : List Area) → shown ≡ view → last ≡ after → found ≡ Some node → Found shown last found → end ≡ node.rect → rect ≡ node.rect → more ≡ asked ++ rect ∷ [] → IsUnderWay begin view (Some end) more given
-    asks_for shown last found node rect end more same is some all ends here are =
+    asked_for : (shown : TreeState) (last : Option Area) (found : Option Node) (node : Node) (rect end : Area) (more : List Area) → shown ≡ view → last ≡ q.after → found ≡ Some node → Found shown last found → end ≡ node.rect → rect ≡ node.rect → more ≡ q.asked ++ rect ∷ [] → IsUnderWay begin view (round (Some end) more q.given)
+    asked_for shown last found node rect end more same is some all ends here are =
         let first : IsFirstWaiting shown.nodes last (data_node node) = subst (Found shown last) some all in
-        let first_here : IsFirstWaiting view.nodes after (data_node node) = subst (λ (v : TreeState). IsFirstWaiting v.nodes after (data_node node)) same (subst (λ (a : Option Area). IsFirstWaiting shown.nodes a (data_node node)) is first) in
-        subst (λ (r : Area). IsUnderWay begin view (Some r) more given) (sym ends)
-        (asks node first_here more (are ∙ ap (λ r. asked ++ r ∷ []) here))
+        let first_here : IsFirstWaiting view.nodes q.after (data_node node) = subst (λ (v : TreeState). IsFirstWaiting v.nodes q.after (data_node node)) same (subst (λ (a : Option Area). IsFirstWaiting shown.nodes a (data_node node)) is first) in
+        subst (λ (r : Area). IsUnderWay begin view (round (Some r) more q.given)) (sym ends)
+        (asks node first_here more (are ∙ ap (λ r. q.asked ++ r ∷ []) here))
+
+    pub asks_for : (s : RoundState) (shown : TreeState) (last : Option Area) (found : Option Node) (node : Node) (rect end : Area) → shown ≡ view → last ≡ q.after → found ≡ Some node → Found shown last found → end ≡ node.rect → rect ≡ node.rect → s.after ≡ Some end → s.asked ≡ q.asked ++ rect ∷ [] → s.given ≡ q.given → IsUnderWay begin view s
+    asks_for s shown last found node rect end same is some all ends here after_is asked_are given_are =
+        by_parts s
+        (subst (λ a. IsUnderWay begin view (round a s.asked s.given)) (sym after_is)
+        (subst (λ g. IsUnderWay begin view (round (Some end) s.asked g)) (sym given_are)
+        (asked_for shown last found node rect end s.asked same is some all ends here asked_are)))
 
     -- ---- one comes
 
-    module _ (r : Area) (fewer : List Area) (takes : IsPermutation asked (r ∷ fewer)) (e : Given) (installs : IsInstallIn view e) (rect : rect_of e.1 ≡ Some r) where
+    module _ (r : Area) (fewer : List Area) (takes : IsPermutation q.asked (r ∷ fewer)) (e : Given) (installs : IsInstallIn view e) (rect : rect_of e.1 ≡ Some r) where
       fewer_once : IsPermutation (map Some u.rects) (map Some fewer ++ map (λ g. rect_of g.1) (u.installs ++ e ∷ []))
       fewer_once =
           let x : Option Area = Some r in
           let a : List (Option Area) = map Some fewer in
           let i : List (Option Area) = map (λ g. rect_of g.1) u.installs in
-          let taken : IsPermutation (map Some asked ++ i) ((x ∷ a) ++ i) = IsPermutation-append_left i (map Some asked) (x ∷ a) (IsPermutation-map Some asked (r ∷ fewer) takes) in
+          let taken : IsPermutation (map Some q.asked ++ i) ((x ∷ a) ++ i) = IsPermutation-append_left i (map Some q.asked) (x ∷ a) (IsPermutation-map Some q.asked (r ∷ fewer) takes) in
           let back : IsPermutation (x ∷ (a ++ i)) ((a ++ i) ++ x ∷ []) = IsPermutation-sym ((a ++ i) ++ x ∷ []) (x ∷ (a ++ i)) (IsPermutation-to_front (a ++ i) x) in
-          let all : IsPermutation (map Some u.rects) ((a ++ i) ++ x ∷ []) = IsPermutation-trans (map Some u.rects) (map Some asked ++ i) ((a ++ i) ++ x ∷ []) u.installed.once (IsPermutation-trans (map Some asked ++ i) (x ∷ (a ++ i)) ((a ++ i) ++ x ∷ []) taken back) in
+          let all : IsPermutation (map Some u.rects) ((a ++ i) ++ x ∷ []) = IsPermutation-trans (map Some u.rects) (map Some q.asked ++ i) ((a ++ i) ++ x ∷ []) u.installed.once (IsPermutation-trans (map Some q.asked ++ i) (x ∷ (a ++ i)) ((a ++ i) ++ x ∷ []) taken back) in
           let last : map (λ g. rect_of g.1) (u.installs ++ e ∷ []) ≡ i ++ x ∷ [] = map-append (λ g. rect_of g.1) u.installs (e ∷ []) ∙ ap (λ o. i ++ o ∷ []) rect in
           subst (IsPermutation (map Some u.rects)) (append_assoc a i (x ∷ []) ∙ ap (λ l. a ++ l) (sym last)) all
 
-      pub comes : (more : List Given) → more ≡ given ++ e ∷ [] → IsUnderWay begin view after fewer more
+      pub comes : (more : List Given) → more ≡ q.given ++ e ∷ [] → IsUnderWay begin view (round q.after fewer more)
       comes more is = record {
         rects = u.rects;
         installs = u.installs ++ e ∷ [];
@@ -172,7 +187,7 @@ module _ (begin : Given) (view : TreeState) where
 
     -- ---- the end
 
-    pub ends : asked ≡ [] → IsOver view after → IsWhole begin view given
+    pub ends : q.asked ≡ [] → IsOver view q.after → IsWhole begin view q.given
     ends none over = record {
       rects = u.rects;
       installs = u.installs;
@@ -181,8 +196,8 @@ module _ (begin : Given) (view : TreeState) where
       all = λ n w. u.upto over.0 n w (over.1 n);
     }
 
-    pub finishes : (empty : length asked ≡ 0) → (length asked ≡ 0 → IsOver view after) → IsWhole begin view given
-    finishes empty none = ends (nil_from_length asked empty) (none empty)
+    pub finishes : (empty : length q.asked ≡ 0) → (length q.asked ≡ 0 → IsOver view q.after) → IsWhole begin view q.given
+    finishes empty none = ends (nil_from_length q.asked empty) (none empty)
 
-    pub breaks : IsPart begin view given
-    breaks = record { rects = u.rects; left = asked; installs = u.installs; given_are = u.given_are; installed = u.installed }
+    pub breaks : IsPart begin view q.given
+    breaks = record { rects = u.rects; left = q.asked; installs = u.installs; given_are = u.given_are; installed = u.installed }

@@ -122,12 +122,17 @@ abbrev pub IsOver : TreeState → Option Area → Type 0
 IsOver view after =
     IsTree view.nodes × ((n : TreeNode) → IsWaiting view.nodes after n → ⊥)
 
--- all up to one were asked for, in turn; of these all but some were installed
-pub record IsUnderWay (begin : Given) (view : TreeState) (after : Option Area) (asked : List Area)
-    (given : List Given) : Type 0 where
+-- a round: the rectangle that was asked for last, those of which results are to come, and the receipts
+pub record RoundState : Type 0 where
+  pub after : Option Area
+  pub asked : List Area
+  pub given : List Given
+
+-- all up to the last were asked for, in turn; of these all but those to come were installed
+pub record IsUnderWay (begin : Given) (view : TreeState) (r : RoundState) : Type 0 where
   pub rects : List Area
   pub installs : List Given
-  pub given_are : given ≡ begin ∷ installs
-  pub installed : AreInstalled view rects asked installs
-  pub last : IsLast after rects
-  pub upto : AreUpto view after rects
+  pub given_are : r.given ≡ begin ∷ installs
+  pub installed : AreInstalled view rects r.asked installs
+  pub last : IsLast r.after rects
+  pub upto : AreUpto view r.after rects

@@ -12,11 +12,12 @@ use journal::Receipt;
 use keyrange::Rect;
 use sessions::LockedStore;
 use std::alloc::Global;
+use std::marker::Model;
 use std::sync::Wait;
 use tsbtree::View;
 use validation::find_job;
 
-/// What a round has asked for, and its receipts so far.
+/// What a round has asked for, and its receipts so far. Contracts see the receipts as numbers and entries.
 #[derive(Drop)]
 pub(crate) struct Round<J: StoreName> {
     /// The rectangle of the node that was asked for last.
@@ -25,12 +26,24 @@ pub(crate) struct Round<J: StoreName> {
     pub(crate) receipts: Vec<Receipt<J>>,
 }
 
+impl<J: StoreName> Model for Round<J> {
+    ghost use Rattle.std.specs.Prelude.{map};
+    ghost use Rattle.migrator.specs.Round.{RoundState};
+
+    ghost Value = { RoundState };
+
+    ghost view = { λ r. record {
+      after = r.after;
+      asked = r.asked;
+      given = map (λ r. (r.number, r.entry)) r.receipts.items;
+    } };
+}
+
 impl<J: StoreName> Round<J> {
     /// A round that has asked for nothing yet, with the receipt of its begin.
     pub(crate) fn new<N: RoundName>(alloc: Global, receipts: Vec<Receipt<J>>) -> Round<J>
         requires { map (λ r. (r.number, r.entry)) receipts.items ≡ N.begin ∷ [] }
-        ensures { IsUnderWay N.begin N.shown result.after result.asked
-            (map (λ r. (r.number, r.entry)) result.receipts.items) }
+        ensures { IsUnderWay N.begin N.shown result }
     {
         Round {
             after: None,
@@ -42,10 +55,8 @@ impl<J: StoreName> Round<J> {
     /// The task of packing the next node that the view shows unpacked, where there is one: from then on it counts as asked for.
     fn next<N: RoundName>(&mut self, view: &View) -> Result<Option<Task<N>>, Cause>
         requires view { view.now ≡ N.shown }
-        requires under { IsUnderWay N.begin N.shown self.old.after self.old.asked
-            (map (λ r. (r.number, r.entry)) self.old.receipts.items) }
-        ensures under { IsUnderWay N.begin N.shown self.new.after self.new.asked
-            (map (λ r. (r.number, r.entry)) self.new.receipts.items) }
+        requires under { IsUnderWay N.begin N.shown self.old }
+        ensures under { IsUnderWay N.begin N.shown self.new }
         ensures none { IfOk result (λ found. MatchOption found
             (IsOver N.shown self.new.after) (λ _. Unit {0})) }
     {
@@ -60,7 +71,7 @@ impl<J: StoreName> Round<J> {
     fn count(&mut self, rect: &Rect) -> Result<(), Cause>
         ensures asked { OnOk result (self.new.asked ≡ self.old.asked ++ rect.now ∷ []) }
         ensures after { OnOk result (self.new.after ≡ Some rect.now) }
-        ensures receipts { self.new.receipts ≡ self.old.receipts }
+        ensures given { self.new.given ≡ self.old.given }
         ensures refused { OnErr result (self.new ≡ self.old) }
     {
         let asked = rect.copy()?;
@@ -78,10 +89,8 @@ impl<J: StoreName> Round<J> {
         desk: &Desk<N>,
     ) -> Result<bool, Cause>
         requires view { view.now ≡ N.shown }
-        requires under { IsUnderWay N.begin N.shown self.old.after self.old.asked
-            (map (λ r. (r.number, r.entry)) self.old.receipts.items) }
-        ensures under { IsUnderWay N.begin N.shown self.new.after self.new.asked
-            (map (λ r. (r.number, r.entry)) self.new.receipts.items) }
+        requires under { IsUnderWay N.begin N.shown self.old }
+        ensures under { IsUnderWay N.begin N.shown self.new }
         ensures none { IfOk result (λ asked. asked ≡ false → IsOver N.shown self.new.after) }
     {
         match self.next::<N>(view)? {
@@ -103,10 +112,8 @@ impl<J: StoreName> Round<J> {
     ) -> Result<bool, Cause>
         requires room { 0 < room }
         requires view { view.now ≡ N.shown }
-        requires under { IsUnderWay N.begin N.shown self.old.after self.old.asked
-            (map (λ r. (r.number, r.entry)) self.old.receipts.items) }
-        ensures under { IsUnderWay N.begin N.shown self.new.after self.new.asked
-            (map (λ r. (r.number, r.entry)) self.new.receipts.items) }
+        requires under { IsUnderWay N.begin N.shown self.old }
+        ensures under { IsUnderWay N.begin N.shown self.new }
         ensures none { IfOk result (λ asked. asked ≡ false → length self.new.asked ≡ 0
             → IsOver N.shown self.new.after) }
     {
@@ -123,10 +130,8 @@ impl<J: StoreName> Round<J> {
         store: &LockedStore<J>,
         desk: &Desk<N>,
     ) -> Result<(), Cause>
-        requires under { IsUnderWay N.begin N.shown self.old.after self.old.asked
-            (map (λ r. (r.number, r.entry)) self.old.receipts.items) }
-        ensures under { IsUnderWay N.begin N.shown self.new.after self.new.asked
-            (map (λ r. (r.number, r.entry)) self.new.receipts.items) }
+        requires under { IsUnderWay N.begin N.shown self.old }
+        ensures under { IsUnderWay N.begin N.shown self.new }
     {
         match desk.answers.recv(rt) {
             Ok(Ok(done)) => self.install(rt, store, done),
@@ -142,10 +147,8 @@ impl<J: StoreName> Round<J> {
         store: &LockedStore<J>,
         done: Done<N>,
     ) -> Result<(), Cause>
-        requires under { IsUnderWay N.begin N.shown self.old.after self.old.asked
-            (map (λ r. (r.number, r.entry)) self.old.receipts.items) }
-        ensures under { IsUnderWay N.begin N.shown self.new.after self.new.asked
-            (map (λ r. (r.number, r.entry)) self.new.receipts.items) }
+        requires under { IsUnderWay N.begin N.shown self.old }
+        ensures under { IsUnderWay N.begin N.shown self.new }
     {
         let Some(place) = self.asked.place_of(done.rect()) else {
             return Err(Cause::Worker);
@@ -168,12 +171,9 @@ impl<J: StoreName> Round<J> {
     ) -> Result<(), Cause>
         requires room { 0 < room }
         requires view { view.now ≡ N.shown }
-        requires under { IsUnderWay N.begin N.shown self.old.after self.old.asked
-            (map (λ r. (r.number, r.entry)) self.old.receipts.items) }
-        ensures ok { OnOk result (IsWhole N.begin N.shown
-            (map (λ r. (r.number, r.entry)) self.new.receipts.items)) }
-        ensures err { OnErr result (IsPart N.begin N.shown
-            (map (λ r. (r.number, r.entry)) self.new.receipts.items)) }
+        requires under { IsUnderWay N.begin N.shown self.old }
+        ensures ok { OnOk result (IsWhole N.begin N.shown self.new.given) }
+        ensures err { OnErr result (IsPart N.begin N.shown self.new.given) }
     {
         for _ in rt.forever() {
             if self.ask_within(rt, view, room, desk)? {
@@ -199,8 +199,7 @@ impl<J: StoreName> Round<J> {
     ) -> Result<Vec<Receipt<J>>, MigrateFault<J>>
         requires room { 0 < room }
         requires view { view.now ≡ N.shown }
-        requires under { IsUnderWay N.begin N.shown self.after self.asked
-            (map (λ r. (r.number, r.entry)) self.receipts.items) }
+        requires under { IsUnderWay N.begin N.shown self }
         ensures ok { IfOk result (λ rs.
             IsWhole N.begin N.shown (map (λ r. (r.number, r.entry)) rs.items)) }
         ensures err { IfErr result (λ f.

@@ -164,8 +164,7 @@ where
         move |scope| -> Result<Vec<Receipt<J>>, MigrateFault<J>>
             requires some { 0 < workers }
             requires view { view.now ≡ N.shown }
-            requires under { IsUnderWay N.begin N.shown round.after round.asked
-                (map (λ r. (r.number, r.entry)) round.receipts.items) }
+            requires under { IsUnderWay N.begin N.shown round }
             ensures ok { IfOk result (λ rs.
                 IsWhole N.begin N.shown (map (λ r. (r.number, r.entry)) rs.items)) }
             ensures err { IfErr result (λ f.
