@@ -8,7 +8,7 @@ use Rattle.values.proofs.RowReads.{same_taken, AreBytes}
 use Rattle.keyrange.specs.Range.{is_before_end, is_early}
 use Rattle.keyrange.specs.Rect.{Area, IsArea, is_instant_end}
 use Rattle.datanode.specs.Cut.{in_cut}
-use Rattle.datanode.specs.Node.{Node, IsNode}
+use Rattle.datanode.specs.Node.{Node, IsNode, capacity}
 use Rattle.datanode.proofs.CutMembers.{In, In-from_filter}
 use Rattle.datanode.proofs.CutOrder.{at_In}
 use Rattle.datanode.proofs.CutLaws.{in_cut_decides}
@@ -24,8 +24,8 @@ use Rattle.blocks.proofs.RectReads.{IsPast, rect_back, rect_only}
 
 -- ---- each event of a block reads back: its instant is one
 
-last_instant : (t : ℕ) → nat_le t 999999999999999999 ≡ true → t < 2 ^ 64
-last_instant t h = let few : t ≤ 999999999999999999 = leb-true t 999999999999999999 h in omega arith
+greatest_instant : (t : ℕ) → nat_le t 999999999999999999 ≡ true → t < 2 ^ 64
+greatest_instant t h = let few : t ≤ 999999999999999999 = leb-true t 999999999999999999 h in omega arith
 
 record Instants (r : Area) : Type 0 where
   start : r.time.from < 2 ^ 64
@@ -33,7 +33,7 @@ record Instants (r : Area) : Type 0 where
 
 before_end : (o : Option ℕ) → is_instant_end o ≡ true → IsSome o → (t : ℕ) → is_early t o ≡ true → t < 2 ^ 64
 before_end None e some t h = cc
-before_end (Some end) e some t h = let below : t < end = ltb-true t end h in let fits = last_instant end e in omega arith
+before_end (Some end) e some t h = let below : t < end = ltb-true t end h in let fits = greatest_instant end e in omega arith
 
 instants_of : (r : Area) → IsArea r → IsSome r.time.to → Instants r
 instants_of r area some =
@@ -41,7 +41,7 @@ instants_of r area some =
     let b = and_parts (nat_le 1 r.time.from) _ a.1 in
     let c = and_parts (nat_le r.time.from 999999999999999999) _ b.1 in
     let d = and_parts (is_early r.time.from r.time.to) (is_instant_end r.time.to) c.1 in
-    record { start = last_instant r.time.from c.0; before = before_end r.time.to d.1 some }
+    record { start = greatest_instant r.time.from c.0; before = before_end r.time.to d.1 some }
 
 pub written : (n : Node) → IsHeldNode n → HasBlock n → All IsWritten n.events
 written n h b k d lt =
@@ -85,7 +85,7 @@ module _ (bytes : List ℕ) (r : Area) (rest : List ℕ) (k : ℕ) (left : List 
       let all : left ≡ event_fields m.events = a.all_spelled ∙ append-nil (event_fields m.events) in
       record {
         held = record { node = c.is_node; keys = subst (λ (s : Area). AreShortKeys s.keys) (sym c.rect_is) p.past.short; events = a.all_kept };
-        has_block = record { is_past = subst (λ (s : Area). IsSome s.time.to) (sym c.rect_is) p.past.ends; few = subst (λ n. n ≤ 64) (sym a.counted) c.few; instants = a.all_first };
+        has_block = record { is_past = subst (λ (s : Area). IsSome s.time.to) (sym c.rect_is) p.past.ends; few = subst (λ n. n ≤ capacity) (sym a.counted) c.few; instants = a.all_first };
         bytes_are =
             p.spelled ∙ ap (λ l. rect_field r ++ l) (counted rest byte ∙ ap (λ n. n ∷ left) (sym a.counted) ∙ ap (λ l. length m.events ∷ l) all)
             ∙ ap (λ (s : Area). rect_field s ++ (length m.events ∷ event_fields m.events)) (sym c.rect_is);
@@ -111,7 +111,7 @@ module _ (bytes : List ℕ) (r : Area) (rest : List ℕ) (k : ℕ) (left : List 
   of_block None some none n b =
       let a = block_reads bytes n b in
       let s = same_parts n a in
-      absurd (none n.events (subst (λ j. j ≤ 64) (sym s.same_count) b.has_block.few) (read_same n a) (subst (λ q. IsNode q n.events) (sym s.same_rect) b.held.node))
+      absurd (none n.events (subst (λ j. j ≤ capacity) (sym s.same_count) b.has_block.few) (read_same n a) (subst (λ q. IsNode q n.events) (sym s.same_rect) b.held.node))
   of_block (Some m) some none n b =
       let a = block_reads bytes n b in
       let s = same_parts n a in

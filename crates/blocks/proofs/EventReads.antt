@@ -8,7 +8,7 @@ use Rattle.std.proofs.Math.Seq.{drop-append_seam}
 use Rattle.values.specs.Event.{Event}
 use Rattle.values.specs.Log.{Row}
 use Rattle.values.specs.RowEncoding.{bytes_of_row, IsStoredRow, IsHeld}
-use Rattle.values.specs.RowReading.{Taken, row_from, after}
+use Rattle.values.specs.RowReading.{Parsed, row_from, after}
 use Rattle.values.proofs.RowReads.{chosen, same_taken, AreBytes, row_back, row_sound}
 use Rattle.blocks.specs.Field.{taken_then, key_field, instant_field, key_from, instant_from}
 use Rattle.blocks.specs.Event.{row_field, event_field, event_fields, IsKept, point_from, row_taken, row_tagged, row_field_from, event_of, event_from, events_from}
@@ -51,7 +51,7 @@ pub record IsRowField (bytes : List ℕ) (row : Option Row) (rest : List ℕ) : 
   pub stored : IfSome row IsStoredRow
   pub held : IfSome row (All IsHeld)
 
-none_only : (bytes : List ℕ) (row : Option Row) (rest : List ℕ) → ◌≡◌ {A = Taken (Option Row)} (Some (None, bytes)) (Some (row, rest)) → IsRowField (0 ∷ bytes) row rest
+none_only : (bytes : List ℕ) (row : Option Row) (rest : List ℕ) → ◌≡◌ {A = Parsed (Option Row)} (Some (None, bytes)) (Some (row, rest)) → IsRowField (0 ∷ bytes) row rest
 none_only bytes row rest is =
     let parts = same_taken None row bytes rest is in
     subst (λ e. IsRowField (0 ∷ bytes) e rest) parts.0 (subst (λ r. IsRowField (0 ∷ bytes) None r) parts.1 (record { spelled = refl; stored = tt; held = tt }))
@@ -69,7 +69,7 @@ some_only bytes row rest (Some (r, n)) h o is =
     subst (λ e. IsRowField (1 ∷ bytes) e rest) parts.0 (subst (λ l. IsRowField (1 ∷ bytes) (Some r) l) parts.1 here)
 
 row_by : (tag : ℕ) (bytes : List ℕ) (row : Option Row) (rest : List ℕ) (a b : Bool) → (tag == 0) ≡ a → (tag == 1) ≡ b → AreBytes bytes
-    → ◌≡◌ {A = Taken (Option Row)} (if a then Some (None, bytes) else if b then row_taken bytes (row_from bytes) else None) (Some (row, rest)) → IsRowField (tag ∷ bytes) row rest
+    → ◌≡◌ {A = Parsed (Option Row)} (if a then Some (None, bytes) else if b then row_taken bytes (row_from bytes) else None) (Some (row, rest)) → IsRowField (tag ∷ bytes) row rest
 row_by tag bytes row rest true b p q h is = subst (λ n. IsRowField (n ∷ bytes) row rest) (tag_is tag 0 p) (none_only bytes row rest is)
 row_by tag bytes row rest false true p q h is = subst (λ n. IsRowField (n ∷ bytes) row rest) (tag_is tag 1 q) (some_only bytes row rest (row_from bytes) h refl is)
 row_by tag bytes row rest false false p q h is = cc
@@ -117,7 +117,7 @@ one_up n e = grind (arith, nat_tests)
 
 event_by : (bytes : List ℕ) (point : List ℕ × ℕ) (row : Option Row) (left others : List ℕ) (e : Event) (rest : List ℕ) (t : Bool) → (nat_lt 0 (length point.0) && nat_le 1 point.1) ≡ t
     → IsPoint bytes point left → IsRowField left row others
-    → ◌≡◌ {A = Taken Event} (if t then Some (record { key = point.0; at = point.1; row = row }, others) else None) (Some (e, rest)) → IsRead bytes e rest
+    → ◌≡◌ {A = Parsed Event} (if t then Some (record { key = point.0; at = point.1; row = row }, others) else None) (Some (e, rest)) → IsRead bytes e rest
 event_by bytes point row left others e rest false at p r is = cc
 event_by bytes point row left others e rest true at p r is =
     let d : Event = record { key = point.0; at = point.1; row = row } in
@@ -153,7 +153,7 @@ event_only bytes e rest h is =
 pub events_back : (es : List Event) (rest : List ℕ) → All IsWritten es → events_from (length es) (event_fields es ++ rest) ≡ Some (es, rest)
 events_back [] rest w = refl
 events_back (e ∷ es) rest w =
-    let f : Event → List ℕ → Taken (List Event) = λ e left. after (e ∷ []) (events_from (length es) left) in
+    let f : Event → List ℕ → Parsed (List Event) = λ e left. after (e ∷ []) (events_from (length es) left) in
     ap (λ l. taken_then (event_from l) f) (append_assoc (event_field e) (event_fields es) rest)
     ∙ ap (λ t. taken_then t f) (event_back e (event_fields es ++ rest) (All-head IsWritten e es w))
     ∙ ap (after (e ∷ [])) (events_back es rest (All-tail IsWritten e es w))
@@ -164,7 +164,7 @@ pub record AreRead (n : ℕ) (bytes : List ℕ) (es : List Event) (rest : List �
   pub all_first : All (λ e. 1 ≤ e.at) es
   pub counted : length es ≡ n
 
-no_events : (bytes : List ℕ) (es : List Event) (rest : List ℕ) → ◌≡◌ {A = Taken (List Event)} (Some ([], bytes)) (Some (es, rest)) → AreRead 0 bytes es rest
+no_events : (bytes : List ℕ) (es : List Event) (rest : List ℕ) → ◌≡◌ {A = Parsed (List Event)} (Some ([], bytes)) (Some (es, rest)) → AreRead 0 bytes es rest
 no_events bytes es rest is =
     let parts = same_taken [] es bytes rest is in
     subst (λ xs. AreRead 0 bytes xs rest) parts.0 (subst (λ r. AreRead 0 bytes [] r) parts.1
@@ -185,7 +185,7 @@ events_only (suc n) bytes es rest h is =
     let one = event_only bytes two.x two.left h two.first in
     joined two.x two.left one (events_from n two.left) refl two.second (λ xs k. events_only n two.left xs rest (bytes_behind bytes (event_field two.x) two.left one.spelled h) k)
   where
-    joined : (e : Event) (others : List ℕ) → IsRead bytes e others → (t : Taken (List Event)) → events_from n others ≡ t → after (e ∷ []) t ≡ Some (es, rest)
+    joined : (e : Event) (others : List ℕ) → IsRead bytes e others → (t : Parsed (List Event)) → events_from n others ≡ t → after (e ∷ []) t ≡ Some (es, rest)
         → ((xs : List Event) → events_from n others ≡ Some (xs, rest) → AreRead n others xs rest) → AreRead (suc n) bytes es rest
     joined e others one None at is more = cc
     joined e others one (Some (xs, left)) at is more =

@@ -6,18 +6,18 @@ use Rattle.std.proofs.lemmas.Nat.{from_be_bytes-to_be_bytes_2, from_be_bytes-to_
 use Rattle.std.proofs.lemmas.List.{take-append-drop}
 use Rattle.std.proofs.lemmas.List.Elements.{All-drop, All-take}
 use Rattle.std.proofs.Math.Seq.{take-append_seam, drop-append_seam}
-use Rattle.values.specs.RowReading.{Taken}
+use Rattle.values.specs.RowReading.{Parsed}
 use Rattle.values.proofs.RowReads.{long, chosen, at_least, taken_length, byte_at, same_taken, AreBytes}
 use Rattle.blocks.specs.Field.{taken_then, key_field, end_field, instant_field, part_from, length_from, key_of_length, key_from, some_end, end_tagged, end_from, instant_from}
 
 -- both of two things that were taken, one after the other
-pub record AreTaken {A B : Type 0} (t : Taken A) (f : A → List ℕ → Taken B) (y : B) (rest : List ℕ) : Type 0 where
+pub record AreTaken {A B : Type 0} (t : Parsed A) (f : A → List ℕ → Parsed B) (y : B) (rest : List ℕ) : Type 0 where
   pub x : A
   pub left : List ℕ
   pub first : t ≡ Some (x, left)
   pub second : f x left ≡ Some (y, rest)
 
-pub are_taken : {A B : Type 0} (t : Taken A) (f : A → List ℕ → Taken B) (y : B) (rest : List ℕ) → taken_then t f ≡ Some (y, rest) → AreTaken t f y rest
+pub are_taken : {A B : Type 0} (t : Parsed A) (f : A → List ℕ → Parsed B) (y : B) (rest : List ℕ) → taken_then t f ≡ Some (y, rest) → AreTaken t f y rest
 are_taken None f y rest is = cc
 are_taken (Some (x, left)) f y rest is = record { x = x; left = left; first = refl; second = is }
 
@@ -38,7 +38,7 @@ pub record IsPart (n : ℕ) (bytes xs rest : List ℕ) : Type 0 where
   pub long_is : length xs ≡ n
 
 part_by : (n : ℕ) (bytes xs rest : List ℕ) (t : Bool) → nat_le n (length bytes) ≡ t
-    → ◌≡◌ {A = Taken (List ℕ)} (if t then Some (take n bytes, drop n bytes) else None) (Some (xs, rest)) → IsPart n bytes xs rest
+    → ◌≡◌ {A = Parsed (List ℕ)} (if t then Some (take n bytes, drop n bytes) else None) (Some (xs, rest)) → IsPart n bytes xs rest
 part_by n bytes xs rest false e is = cc
 part_by n bytes xs rest true e is =
     let parts = same_taken (take n bytes) xs (drop n bytes) rest is in
@@ -58,7 +58,7 @@ unfolding length_from
 length_back n rest h = chosen _ _ None (long (to_be_bytes w16 n) rest) ∙ ap (λ n. Some (n, rest)) (from_be_bytes-to_be_bytes_2 n h)
 
 length_by : (bytes : List ℕ) (n : ℕ) (rest : List ℕ) (t : Bool) → nat_le 2 (length bytes) ≡ t → AreBytes bytes
-    → ◌≡◌ {A = Taken ℕ} (if t then Some (from_be_bytes w16 (take 2 bytes), drop 2 bytes) else None) (Some (n, rest)) → bytes ≡ to_be_bytes w16 n ++ rest
+    → ◌≡◌ {A = Parsed ℕ} (if t then Some (from_be_bytes w16 (take 2 bytes), drop 2 bytes) else None) (Some (n, rest)) → bytes ≡ to_be_bytes w16 n ++ rest
 length_by bytes n rest false e h is = cc
 length_by bytes n rest true e h is =
     let m = from_be_bytes w16 (take 2 bytes) in
@@ -133,13 +133,13 @@ some_only bytes end rest h is =
     let parts = same_taken (Some two.x) end two.left rest two.second in
     subst (λ e. IsEnd (1 ∷ bytes) e rest) parts.0 (subst (λ r. IsEnd (1 ∷ bytes) (Some two.x) r) parts.1 (record { spelled = ap (λ l. 1 ∷ l) key.spelled; short = key.short }))
 
-none_only : (bytes : List ℕ) (end : Option (List ℕ)) (rest : List ℕ) → ◌≡◌ {A = Taken (Option (List ℕ))} (Some (None, bytes)) (Some (end, rest)) → IsEnd (0 ∷ bytes) end rest
+none_only : (bytes : List ℕ) (end : Option (List ℕ)) (rest : List ℕ) → ◌≡◌ {A = Parsed (Option (List ℕ))} (Some (None, bytes)) (Some (end, rest)) → IsEnd (0 ∷ bytes) end rest
 none_only bytes end rest is =
     let parts = same_taken None end bytes rest is in
     subst (λ e. IsEnd (0 ∷ bytes) e rest) parts.0 (subst (λ r. IsEnd (0 ∷ bytes) None r) parts.1 (record { spelled = refl; short = tt }))
 
 end_by : (tag : ℕ) (bytes : List ℕ) (end : Option (List ℕ)) (rest : List ℕ) (a b : Bool) → (tag == 0) ≡ a → (tag == 1) ≡ b → AreBytes bytes
-    → ◌≡◌ {A = Taken (Option (List ℕ))} (if a then Some (None, bytes) else if b then taken_then (key_from bytes) some_end else None) (Some (end, rest)) → IsEnd (tag ∷ bytes) end rest
+    → ◌≡◌ {A = Parsed (Option (List ℕ))} (if a then Some (None, bytes) else if b then taken_then (key_from bytes) some_end else None) (Some (end, rest)) → IsEnd (tag ∷ bytes) end rest
 end_by tag bytes end rest true b p q h is = subst (λ n. IsEnd (n ∷ bytes) end rest) (tag_is tag 0 p) (none_only bytes end rest is)
 end_by tag bytes end rest false true p q h is = subst (λ n. IsEnd (n ∷ bytes) end rest) (tag_is tag 1 q) (some_only bytes end rest h is)
 end_by tag bytes end rest false false p q h is = cc
@@ -159,7 +159,7 @@ unfolding instant_from
 instant_back n rest h = chosen _ _ None (long (to_be_bytes w64 n) rest) ∙ ap (λ n. Some (n, rest)) (from_be_bytes-to_be_bytes_8 n h)
 
 instant_by : (bytes : List ℕ) (n : ℕ) (rest : List ℕ) (t : Bool) → nat_le 8 (length bytes) ≡ t → AreBytes bytes
-    → ◌≡◌ {A = Taken ℕ} (if t then Some (from_be_bytes w64 (take 8 bytes), drop 8 bytes) else None) (Some (n, rest)) → bytes ≡ instant_field n ++ rest
+    → ◌≡◌ {A = Parsed ℕ} (if t then Some (from_be_bytes w64 (take 8 bytes), drop 8 bytes) else None) (Some (n, rest)) → bytes ≡ instant_field n ++ rest
 instant_by bytes n rest false e h is = cc
 instant_by bytes n rest true e h is =
     let m = from_be_bytes w64 (take 8 bytes) in

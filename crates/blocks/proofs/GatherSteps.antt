@@ -8,8 +8,8 @@ use Rattle.std.proofs.lemmas.Bool.{and_from, and_parts, le-leb, false≢true}
 use Rattle.values.specs.Event.{Event}
 use Rattle.values.specs.Events.{event_cmp, put_event}
 use Rattle.values.specs.EventOrder.{event_total}
-use Rattle.values.specs.RowReading.{Taken, after}
-use Rattle.values.proofs.RowReadingTaken.{left, after-after}
+use Rattle.values.specs.RowReading.{Parsed, after}
+use Rattle.values.proofs.RowReadingParsed.{left, after-after}
 use Rattle.values.proofs.RowReads.{same_taken}
 use Rattle.keyrange.specs.Rect.{Area}
 use Rattle.keyrange.specs.Range.{is_key_in, is_time_in, is_early}
@@ -27,10 +27,10 @@ use Rattle.blocks.specs.Gather.{at_all_times, is_behind, last_of, is_next, NoNod
 
 -- ---- reading on
 
-abbrev turned : ℕ → Taken Event → Taken (List Event)
+abbrev turned : ℕ → Parsed Event → Parsed (List Event)
 turned n t = taken_then t (λ e rest. after (e ∷ []) (events_from n rest))
 
-turns : (n i : ℕ) (xs : List Event) (bytes : List ℕ) (t : Taken Event) → i < n → event_from bytes ≡ t
+turns : (n i : ℕ) (xs : List Event) (bytes : List ℕ) (t : Parsed Event) → i < n → event_from bytes ≡ t
     → after xs (events_from (n - i) bytes) ≡ after xs (turned (n - (i + 1)) t)
 turns n i xs bytes t h is = ap (λ k. after xs (events_from k bytes)) (left n i h) ∙ ap (λ t. after xs (turned (n - (i + 1)) t)) is
 
@@ -38,7 +38,7 @@ pub events_more : (n i : ℕ) (xs : List Event) (e : Event) (bytes rest : List �
     → after xs (events_from (n - i) bytes) ≡ after (xs ++ e ∷ []) (events_from (n - (i + 1)) rest)
 events_more n i xs e bytes rest h is = turns n i xs bytes (Some (e, rest)) h is ∙ after-after xs (e ∷ []) (events_from (n - (i + 1)) rest)
 
-pub no_events_left : (xs : List Event) (t : Taken (List Event)) (es : List Event) (rest : List ℕ) → after xs t ≡ Some (es, rest) → (more : List Event) × (xs ++ more ≡ es)
+pub no_events_left : (xs : List Event) (t : Parsed (List Event)) (es : List Event) (rest : List ℕ) → after xs t ≡ Some (es, rest) → (more : List Event) × (xs ++ more ≡ es)
 no_events_left xs None es rest is = cc
 no_events_left xs (Some (more, left)) es rest is = (more, (same_taken (xs ++ more) es left rest is).0)
 

@@ -5,7 +5,7 @@ use Rattle.std.specs.declared.cmp.Ordering.TheVariants.{Less}
 use Rattle.std.proofs.lemmas.List.Elements.{All-head, All-tail}
 use Rattle.values.specs.Event.{Event}
 use Rattle.values.specs.Events.{bytes_cmp, is_bytes, event_cmp}
-use Rattle.values.specs.RowReading.{Taken}
+use Rattle.values.specs.RowReading.{Parsed}
 use Rattle.values.proofs.RowReads.{same_taken}
 use Rattle.keyrange.specs.declared.range.KeyRange.{KeyRange}
 use Rattle.keyrange.specs.Range.{is_below, is_before_end}
@@ -29,20 +29,20 @@ module _ (range : KeyRange) (from to : ℕ) where
   abbrev asked : Event → Bool
   asked e = is_asked range from to (e.key, e.at)
 
-  abbrev one_of : Event → List ℕ → Taken (Option Event)
+  abbrev one_of : Event → List ℕ → Parsed (Option Event)
   one_of e rest = if asked e then made (Some (e, rest)) else if is_before_end e.key range.hi then passed (Some rest) else None
 
   one_asked : (e : Event) (rest : List ℕ) → IsWritten e → next_asked range from to (event_field e ++ rest) ≡ one_of e rest
   unfolding next_asked
   one_asked e rest w =
       let bytes : List ℕ = event_field e ++ rest in
-      let f : (List ℕ × ℕ) → List ℕ → Taken (Option Event) = λ point left.
+      let f : (List ℕ × ℕ) → List ℕ → Parsed (Option Event) = λ point left.
       if is_asked range from to point then made (event_from bytes)
       else if is_before_end point.0 range.hi then passed (past_row_field left)
       else None in
-      let g : Option (List ℕ) → Taken (Option Event) = λ o.
+      let g : Option (List ℕ) → Parsed (Option Event) = λ o.
       if asked e then made (Some (e, rest)) else if is_before_end e.key range.hi then passed o else None in
-      let h : Taken Event → Taken (Option Event) = λ o.
+      let h : Parsed Event → Parsed (Option Event) = λ o.
       if asked e then made o
       else if is_before_end e.key range.hi then passed (past_row_field (row_field e.row ++ rest))
       else None in
@@ -92,7 +92,7 @@ module _ (range : KeyRange) (from to : ℕ) where
       ap next (one_asked e (event_fields es) (All-head IsWritten e es w))
       ∙ by (asked e) refl (is_before_end e.key range.hi) refl (all_asked es (sorted_tail event_cmp e es map) (All-tail IsWritten e es w))
     where
-      next : Taken (Option Event) → List Event
+      next : Parsed (Option Event) → List Event
       next t = elim t [
         | None ↦ []
         | Some (found, left) ↦ asked_of found ++ events_asked (length es) left range from to

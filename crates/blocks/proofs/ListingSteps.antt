@@ -1,17 +1,17 @@
 -- The steps of listing in place.
 use Rattle.std.proofs.Common.{◌≡◌, ℕ, ◌+◌, ◌-◌, ◌<◌, List, [], ◌++◌, Option, Some, None, ap, sym, ◌∙◌, append_assoc, append-nil}
 use Rattle.values.specs.Event.{Event}
-use Rattle.values.specs.RowReading.{Taken}
-use Rattle.values.proofs.RowReadingTaken.{left}
+use Rattle.values.specs.RowReading.{Parsed}
+use Rattle.values.proofs.RowReadingParsed.{left}
 use Rattle.keyrange.specs.declared.range.KeyRange.{KeyRange}
 use Rattle.blocks.specs.Listing.{next_asked, asked_of, events_asked}
 
 module _ (range : KeyRange) (from to : ℕ) where
-  abbrev more : ℕ → Taken (Option Event) → List Event
+  abbrev more : ℕ → Parsed (Option Event) → List Event
   more n None = []
   more n (Some (found, left)) = asked_of found ++ events_asked n left range from to
 
-  turns : (n i : ℕ) (bytes : List ℕ) (t : Taken (Option Event)) → i < n → next_asked range from to bytes ≡ t
+  turns : (n i : ℕ) (bytes : List ℕ) (t : Parsed (Option Event)) → i < n → next_asked range from to bytes ≡ t
       → events_asked (n - i) bytes range from to ≡ more (n - (i + 1)) t
   turns n i bytes t h is = ap (λ k. events_asked k bytes range from to) (left n i h) ∙ ap (more (n - (i + 1))) is
 

@@ -16,7 +16,7 @@ use Rattle.values.specs.Events.{bytes_cmp, is_bytes, event_cmp, later, event_unt
 use Rattle.values.specs.Fit.{fits_text}
 use Rattle.values.specs.Log.{Row}
 use Rattle.values.specs.RowEncoding.{value_bytes, IsStored, IsStoredRow}
-use Rattle.values.specs.RowReading.{Taken}
+use Rattle.values.specs.RowReading.{Parsed}
 use Rattle.values.proofs.RowReads.{same_taken}
 use Rattle.keyrange.specs.Range.{is_below}
 use Rattle.keyrange.specs.Rect.{Area, has_point}
@@ -80,7 +80,7 @@ module _ (key : List ℕ) (low high : ℕ) where
   last_wanted (e ∷ es) = later (last_wanted es) (if wanted e then Some e else None)
 
   -- where it was found
-  abbrev pub IsPlaceOf : Option Event → Taken ℕ → Type 0
+  abbrev pub IsPlaceOf : Option Event → Parsed ℕ → Type 0
   IsPlaceOf None t = t ≡ None
   IsPlaceOf (Some e) t = (rest : List ℕ) × (t ≡ Some (e.at, row_field e.row ++ rest))
 
@@ -124,33 +124,33 @@ module _ (key : List ℕ) (low high : ℕ) where
   one_later e false o = refl
 
   -- an event whose key is not behind, and those after it
-  abbrev next_place : (e : Event) (es : List Event) (found : Taken ℕ) → Taken ℕ
+  abbrev next_place : (e : Event) (es : List Event) (found : Parsed ℕ) → Parsed ℕ
   next_place e es found = event_place (length es) (event_fields es) key low high (if wanted e then Some (e.at, row_field e.row ++ event_fields es) else found)
 
-  step : (e : Event) (es : List Event) (found : Taken ℕ) (t : Bool) → IsWritten e → is_below key e.key ≡ t
+  step : (e : Event) (es : List Event) (found : Parsed ℕ) (t : Bool) → IsWritten e → is_below key e.key ≡ t
       → event_place (suc (length es)) (event_field e ++ event_fields es) key low high found ≡ (if t then found else next_place e es found)
   step e es found t w is =
-      let after : (List ℕ × ℕ) → List ℕ → Option (List ℕ) → Taken ℕ = λ point row o. elim o [
+      let after : (List ℕ × ℕ) → List ℕ → Option (List ℕ) → Parsed ℕ = λ point row o. elim o [
         | None ↦ None
         | Some left ↦ event_place (length es) left key low high (if is_wanted key low high point then Some (point.1, row) else found)
       ] in
-      let f : (List ℕ × ℕ) → List ℕ → Taken ℕ = λ point row. if is_below key point.0 then found else after point row (past_row_field row) in
+      let f : (List ℕ × ℕ) → List ℕ → Parsed ℕ = λ point row. if is_below key point.0 then found else after point row (past_row_field row) in
       ap (λ l. taken_then (point_from l) f) (regroup e (event_fields es))
       ∙ ap (λ x. taken_then x f) (point_back e.key e.at (row_field e.row ++ event_fields es) w.kept.short_key w.fits)
       ∙ ap (λ o. if is_below key e.key then found else after (e.key, e.at) (row_field e.row ++ event_fields es) o) (past_row_back e.row (event_fields es) w.kept.stored)
       ∙ ap (λ b. if b then found else next_place e es found) is
 
-  found_one : (e : Event) (es : List Event) (o : Option Event) (found : Taken ℕ) (t : Bool) → IsPlaceOf o found
+  found_one : (e : Event) (es : List Event) (o : Option Event) (found : Parsed ℕ) (t : Bool) → IsPlaceOf o found
       → IsPlaceOf (if t then Some e else o) (if t then Some (e.at, row_field e.row ++ event_fields es) else found)
   found_one e es o found true h = (event_fields es, refl)
   found_one e es o found false h = h
 
-  pub places : (es : List Event) (o : Option Event) (found : Taken ℕ) → IsMap es → All IsWritten es → IsPlaceOf o found
+  pub places : (es : List Event) (o : Option Event) (found : Parsed ℕ) → IsMap es → All IsWritten es → IsPlaceOf o found
       → IsPlaceOf (later (last_wanted es) o) (event_place (length es) (event_fields es) key low high found)
   places [] o found map w h = h
   places (e ∷ es) o found map w h = by (is_below key e.key) refl (λ p g k. places es p g (sorted_tail event_cmp e es map) (All-tail IsWritten e es w) k)
     where
-      by : (t : Bool) → is_below key e.key ≡ t → ((p : Option Event) (g : Taken ℕ) → IsPlaceOf p g → IsPlaceOf (later (last_wanted es) p) (event_place (length es) (event_fields es) key low high g))
+      by : (t : Bool) → is_below key e.key ≡ t → ((p : Option Event) (g : Parsed ℕ) → IsPlaceOf p g → IsPlaceOf (later (last_wanted es) p) (event_place (length es) (event_fields es) key low high g))
           → IsPlaceOf (later (last_wanted (e ∷ es)) o) (event_place (suc (length es)) (event_field e ++ event_fields es) key low high found)
       by true is more =
           subst (λ p. IsPlaceOf p (event_place (suc (length es)) (event_field e ++ event_fields es) key low high found)) (sym (ap (λ p. later p o) (none_wanted (e ∷ es) (all_below e es map is))))
@@ -169,10 +169,10 @@ module _ (key : List ℕ) (low high : ℕ) where
   header r None rest e some short = cc
   header r (Some end) rest e some short =
       let time : List ℕ = instant_field r.time.from ++ instant_field end in
-      let h : List ℕ → List ℕ → Taken ℕ = λ time events. byte_from events in
-      let g : Option (List ℕ) → List ℕ → Taken ℕ = λ hi others. taken_then (part_from 16 others) h in
-      let f : List ℕ → List ℕ → Taken ℕ = λ lo left. taken_then (end_from left) g in
-      let open_mark : Option (List ℕ) → Taken ℕ = λ o. elim o [ None ↦ None | Some l ↦ taken_then (key_from l) f ] in
+      let h : List ℕ → List ℕ → Parsed ℕ = λ time events. byte_from events in
+      let g : Option (List ℕ) → List ℕ → Parsed ℕ = λ hi others. taken_then (part_from 16 others) h in
+      let f : List ℕ → List ℕ → Parsed ℕ = λ lo left. taken_then (end_from left) g in
+      let open_mark : Option (List ℕ) → Parsed ℕ = λ o. elim o [ None ↦ None | Some l ↦ taken_then (key_from l) f ] in
       ap open_mark (mark_back ((keys_field r.keys ++ time) ++ rest))
       ∙ ap (λ l. taken_then (key_from l) f) (append_assoc (keys_field r.keys) time rest ∙ append_assoc (key_field r.keys.lo) (end_field r.keys.hi) (time ++ rest))
       ∙ ap (λ t. taken_then t f) (key_back r.keys.lo (end_field r.keys.hi ++ (time ++ rest)) short.lower)
@@ -182,7 +182,7 @@ module _ (key : List ℕ) (low high : ℕ) where
   pub place_of_block : (bytes : List ℕ) (n : Node) → IsBlockOf bytes n → IsPlaceOf (last_wanted n.events) (place_in bytes key low high)
   unfolding place_in
   place_of_block bytes n b =
-      let f : ℕ → List ℕ → Taken ℕ = λ k events. event_place k events key low high None in
+      let f : ℕ → List ℕ → Parsed ℕ = λ k events. event_place k events key low high None in
       let is : place_in bytes key low high ≡ event_place (length n.events) (event_fields n.events) key low high None =
       ap (λ l. taken_then (events_place l) f) b.bytes_are ∙ ap (λ t. taken_then t f) (header n.rect n.rect.time.to (length n.events ∷ event_fields n.events) refl b.has_block.is_past b.held.keys) in
       subst (IsPlaceOf (last_wanted n.events)) (sym is)
@@ -229,7 +229,7 @@ since_is key start (e ∷ es) w =
 
 -- ---- over what was found
 
-row_found : (o : Option Event) (t : Taken ℕ) (key : List ℕ) (instant : ℕ) → IsPlaceOf key 0 instant o t → t ≡ None → option_and_then (λ (e : Event). e.row) o ≡ None
+row_found : (o : Option Event) (t : Parsed ℕ) (key : List ℕ) (instant : ℕ) → IsPlaceOf key 0 instant o t → t ≡ None → option_and_then (λ (e : Event). e.row) o ≡ None
 row_found None t key instant h is = refl
 row_found (Some e) t key instant h is = let never = sym is ∙ h.1 in cc
 
@@ -261,7 +261,7 @@ row_until_found bytes key instant at field is n b =
     found_row n.events (last_wanted key 0 instant n.events) at field key instant (kept_found key 0 instant n.events b.held.events) found
     ∙ ap (option_and_then (λ (e : Event). e.row)) (until_is key instant n.events b.has_block.instants)
 
-pub at_found : (o : Option Event) (t : Taken ℕ) (key : List ℕ) (low high : ℕ) → IsPlaceOf key low high o t → option_map (λ (x : ℕ × List ℕ). x.0) t ≡ option_map (λ (e : Event). e.at) o
+pub at_found : (o : Option Event) (t : Parsed ℕ) (key : List ℕ) (low high : ℕ) → IsPlaceOf key low high o t → option_map (λ (x : ℕ × List ℕ). x.0) t ≡ option_map (λ (e : Event). e.at) o
 at_found None t key low high h = ap (option_map (λ (x : ℕ × List ℕ). x.0)) h
 at_found (Some e) t key low high h = ap (option_map (λ (x : ℕ × List ℕ). x.0)) h.1
 

@@ -5,7 +5,7 @@ use Rattle.std.proofs.lemmas.Bool.{le-leb}
 use Rattle.std.proofs.lemmas.List.Elements.{All-head, All-tail}
 use Rattle.values.specs.Event.{Event}
 use Rattle.values.specs.Events.{is_bytes, event_cmp}
-use Rattle.values.specs.RowReading.{Taken}
+use Rattle.values.specs.RowReading.{Parsed}
 use Rattle.keyrange.specs.Range.{is_below}
 use Rattle.eventlist.proofs.PlaceOrder.{sorted_tail}
 use Rattle.datanode.specs.Cut.{IsMap}
@@ -32,18 +32,18 @@ module _ (key : List ℕ) (low high : ℕ) where
       ∙ none_wanted es (λ x i. h x (inr i))
 
   -- an event and those after it
-  abbrev first_of : (e : Event) (es : List Event) → Bool → Bool → Taken ℕ
+  abbrev first_of : (e : Event) (es : List Event) → Bool → Bool → Parsed ℕ
   first_of e es w t =
       if w then Some (e.at, row_field e.row ++ event_fields es) else if t then None else first_place (length es) (event_fields es) key low high
 
   step : (e : Event) (es : List Event) → IsWritten e
       → first_place (suc (length es)) (event_field e ++ event_fields es) key low high ≡ first_of e es (wanted key low high e) (is_below key e.key)
   step e es w =
-      let after : (List ℕ × ℕ) → List ℕ → Option (List ℕ) → Taken ℕ = λ point row o. if is_wanted key low high point then Some (point.1, row) else if is_below key point.0 then None else elim o [
+      let after : (List ℕ × ℕ) → List ℕ → Option (List ℕ) → Parsed ℕ = λ point row o. if is_wanted key low high point then Some (point.1, row) else if is_below key point.0 then None else elim o [
         | None ↦ None
         | Some left ↦ first_place (length es) left key low high
       ] in
-      let f : (List ℕ × ℕ) → List ℕ → Taken ℕ = λ point row. after point row (past_row_field row) in
+      let f : (List ℕ × ℕ) → List ℕ → Parsed ℕ = λ point row. after point row (past_row_field row) in
       ap (λ l. taken_then (point_from l) f) (regroup e (event_fields es))
       ∙ ap (λ x. taken_then x f) (point_back e.key e.at (row_field e.row ++ event_fields es) w.kept.short_key w.fits)
       ∙ ap (after (e.key, e.at) (row_field e.row ++ event_fields es)) (past_row_back e.row (event_fields es) w.kept.stored)

@@ -5,7 +5,7 @@ use Rattle.std.specs.Cmp.Lexicographic.{pointwise}
 use Rattle.std.proofs.lemmas.Bool.{and_parts}
 use Rattle.std.proofs.lemmas.Bool.Decides.{nat_tests}
 use Rattle.std.proofs.lemmas.List.{take-append-drop}
-use Rattle.values.specs.RowReading.{Taken}
+use Rattle.values.specs.RowReading.{Parsed}
 use Rattle.values.proofs.RowReads.{chosen, same_taken, AreBytes}
 use Rattle.keyrange.specs.declared.range.KeyRange.{KeyRange}
 use Rattle.keyrange.specs.declared.range.TimeRange.{TimeRange}
@@ -48,7 +48,7 @@ mark_only bytes rest is = mark_by bytes rest (pointwise nat_eq (take 4 bytes) ma
 keys_back : (keys : KeyRange) (rest : List ℕ) → AreShortKeys keys → keys_from (keys_field keys ++ rest) ≡ Some (keys, rest)
 unfolding keys_from
 keys_back keys rest short =
-    let f : List ℕ → List ℕ → Taken KeyRange = λ lo rest. taken_then (end_from rest) (λ hi left. Some (record { lo = lo; hi = hi }, left)) in
+    let f : List ℕ → List ℕ → Parsed KeyRange = λ lo rest. taken_then (end_from rest) (λ hi left. Some (record { lo = lo; hi = hi }, left)) in
     ap (λ l. taken_then (key_from l) f) (append_assoc (key_field keys.lo) (end_field keys.hi) rest)
     ∙ ap (λ t. taken_then t f) (key_back keys.lo (end_field keys.hi ++ rest) short.lower)
     ∙ ap (λ t. taken_then t (λ hi left. Some (record { lo = keys.lo; hi = hi }, left))) (end_back keys.hi rest short.upper)
@@ -77,7 +77,7 @@ keys_only bytes keys rest h is =
 time_back : (from end : ℕ) (rest : List ℕ) → from < 2 ^ 64 → end < 2 ^ 64 → time_from ((instant_field from ++ instant_field end) ++ rest) ≡ Some (record { from = from; to = Some end }, rest)
 unfolding time_from
 time_back from end rest a b =
-    let f : ℕ → List ℕ → Taken TimeRange = λ from rest. taken_then (instant_from rest) (λ to left. Some (record { from = from; to = Some to }, left)) in
+    let f : ℕ → List ℕ → Parsed TimeRange = λ from rest. taken_then (instant_from rest) (λ to left. Some (record { from = from; to = Some to }, left)) in
     ap (λ l. taken_then (instant_from l) f) (append_assoc (instant_field from) (instant_field end) rest)
     ∙ ap (λ t. taken_then t f) (instant_back from (instant_field end ++ rest) a)
     ∙ ap (λ t. taken_then t (λ to left. Some (record { from = from; to = Some to }, left))) (instant_back end rest b)
@@ -133,7 +133,7 @@ ranges_back r (Some end) rest e some area short =
     let time : TimeRange = record { from = r.time.from; to = Some end } in
     let is : r.time ≡ time = ap (λ t. record { from = r.time.from; to = t }) e in
     let both = fits r.keys r.time.from end (subst (λ t. is_area r.keys t ≡ true) is area) in
-    let f : KeyRange → List ℕ → Taken Area = λ keys rest. taken_then (time_from rest) (λ time left. area_taken (rect_of keys time) left) in
+    let f : KeyRange → List ℕ → Parsed Area = λ keys rest. taken_then (time_from rest) (λ time left. area_taken (rect_of keys time) left) in
     ap (λ t. taken_then (keys_from ((keys_field r.keys ++ time_field t) ++ rest)) f) is
     ∙ ap (λ l. taken_then (keys_from l) f) (append_assoc (keys_field r.keys) (time_field time) rest)
     ∙ ap (λ t. taken_then t f) (keys_back r.keys (time_field time ++ rest) short)
@@ -177,7 +177,7 @@ ranges_only bytes r rest h is =
     area_by bytes two.x next.x two.left next.left r rest (is_area two.x next.x) refl keys time next.second
 
 rect_by : (bytes : List ℕ) (r : Area) (rest : List ℕ) (o : Option (List ℕ)) → AreBytes bytes → mark_from bytes ≡ o
-    → ◌≡◌ {A = Taken Area} (elim o [ None ↦ None | Some l ↦ ranges_from l ]) (Some (r, rest)) → IsRect bytes r rest
+    → ◌≡◌ {A = Parsed Area} (elim o [ None ↦ None | Some l ↦ ranges_from l ]) (Some (r, rest)) → IsRect bytes r rest
 rect_by bytes r rest None h e is = cc
 rect_by bytes r rest (Some left) h e is =
     let spelled = mark_only bytes left e in

@@ -1,6 +1,6 @@
 -- The block of a node of history.
 use Rattle.std.specs.Prelude.{◌≡◌, ℕ, ◌≤◌, List, ◌∷◌, ◌++◌, length, All, IsSome}
-use Rattle.datanode.specs.Node.{Node, IsNode}
+use Rattle.datanode.specs.Node.{Node, IsNode, capacity}
 use Rattle.blocks.specs.Event.{event_fields, IsKept}
 use Rattle.blocks.specs.Rect.{rect_field, AreShortKeys}
 
@@ -8,10 +8,10 @@ use Rattle.blocks.specs.Rect.{rect_field, AreShortKeys}
 abbrev pub block_of : Node → List ℕ
 block_of n = rect_field n.rect ++ (length n.events ∷ event_fields n.events)
 
--- which nodes have a block: those of history, with at most 64 events, none of them before instant 1
+-- which nodes have a block: those of history, with events within the capacity, none of them before instant 1
 pub record HasBlock (n : Node) : Type 0 where
   pub is_past : IsSome n.rect.time.to
-  pub few : length n.events ≤ 64
+  pub few : length n.events ≤ capacity
   pub instants : All (λ e. 1 ≤ e.at) n.events
 
 -- as each node that a program holds

@@ -5,7 +5,7 @@ use Rattle.values.specs.Event.{Event}
 use Rattle.values.specs.Events.{event_cmp}
 use Rattle.keyrange.specs.Rect.{Area}
 use Rattle.keyrange.specs.Range.{is_key_in}
-use Rattle.datanode.specs.Node.{Node, IsNode}
+use Rattle.datanode.specs.Node.{Node, IsNode, capacity}
 use Rattle.blocks.specs.Event.{events_from}
 
 -- the keys of a rectangle at all instants
@@ -36,9 +36,9 @@ NoNodeFrom r n bytes =
     (es : List Event) (rest : List ℕ)
     → events_from n bytes ≡ Some (es, rest) → IsNode r es → ⊥
 
--- the node of the rectangle and of at most 64 events, with no bytes after them
+-- the node of the rectangle and of events within the capacity, with no bytes after them
 pub record IsCountedNode (r : Area) (n : ℕ) (bytes : List ℕ) (node : Node) : Type 0 where
-  pub few : n ≤ 64
+  pub few : n ≤ capacity
   pub is_node : IsNode node.rect node.events
   pub rect_is : node.rect ≡ r
   pub events_are : events_from n bytes ≡ Some (node.events, [])
@@ -46,4 +46,4 @@ pub record IsCountedNode (r : Area) (n : ℕ) (bytes : List ℕ) (node : Node) :
 -- there are more, or bytes follow them, or they form no node
 abbrev pub NoCountedNode : Area → ℕ → List ℕ → Type 0
 NoCountedNode r n bytes =
-    (es : List Event) → n ≤ 64 → events_from n bytes ≡ Some (es, []) → IsNode r es → ⊥
+    (es : List Event) → n ≤ capacity → events_from n bytes ≡ Some (es, []) → IsNode r es → ⊥

@@ -1,7 +1,7 @@
 -- What is read of a block without its node. The bytes of rows are passed over.
 use Rattle.std.specs.Prelude.{ℕ, zero, suc, List, [], ◌∷◌, ◌==◌, ◌&&◌, Bool, Option, Some, None, nat_le, nat_lt, if◌then◌else◌, option_and_then}
 use Rattle.values.specs.Log.{Row}
-use Rattle.values.specs.RowReading.{Taken}
+use Rattle.values.specs.RowReading.{Parsed}
 use Rattle.values.specs.Events.{is_bytes}
 use Rattle.keyrange.specs.Range.{is_below}
 use Rattle.blocks.specs.Field.{taken_then, part_from, length_from, key_from, end_from, byte_from}
@@ -9,7 +9,7 @@ use Rattle.blocks.specs.Event.{point_from}
 use Rattle.blocks.specs.Rect.{mark_from}
 
 -- the bytes behind what was taken
-abbrev pub behind : {A : Type 0} → Taken A → Option (List ℕ)
+abbrev pub behind : {A : Type 0} → Parsed A → Option (List ℕ)
 behind None = None
 behind (Some (x, rest)) = Some rest
 
@@ -53,7 +53,7 @@ is_wanted key low high point =
     is_bytes key point.0 && (nat_lt low point.1 && nat_le point.1 high)
 
 -- the last wanted of so many events: its instant, and the bytes from its row on
-abbrev pub event_place : ℕ → List ℕ → List ℕ → ℕ → ℕ → Taken ℕ → Taken ℕ
+abbrev pub event_place : ℕ → List ℕ → List ℕ → ℕ → ℕ → Parsed ℕ → Parsed ℕ
 event_place zero bytes key low high found = found
 event_place (suc n) bytes key low high found =
     taken_then (point_from bytes)
@@ -66,7 +66,7 @@ event_place (suc n) bytes key low high found =
     ])
 
 -- the first wanted of so many events: its instant, and the bytes from its row on
-abbrev pub first_place : ℕ → List ℕ → List ℕ → ℕ → ℕ → Taken ℕ
+abbrev pub first_place : ℕ → List ℕ → List ℕ → ℕ → ℕ → Parsed ℕ
 first_place zero bytes key low high = None
 first_place (suc n) bytes key low high =
     taken_then (point_from bytes)
@@ -79,7 +79,7 @@ first_place (suc n) bytes key low high =
     ])
 
 -- the number of a block's events, and the bytes from the first on
-unfoldable pub events_place : List ℕ → Taken ℕ
+unfoldable pub events_place : List ℕ → Parsed ℕ
 events_place bytes = elim (mark_from bytes) [
   | None ↦ None
   | Some rest ↦ taken_then (key_from rest)
@@ -88,15 +88,15 @@ events_place bytes = elim (mark_from bytes) [
       (λ hi others. taken_then (part_from 16 others) (λ time events. byte_from events)))
 ]
 
-unfoldable pub place_in : List ℕ → List ℕ → ℕ → ℕ → Taken ℕ
+unfoldable pub place_in : List ℕ → List ℕ → ℕ → ℕ → Parsed ℕ
 place_in bytes key low high =
     taken_then (events_place bytes) (λ n events. event_place n events key low high None)
 
-unfoldable pub first_in : List ℕ → List ℕ → ℕ → ℕ → Taken ℕ
+unfoldable pub first_in : List ℕ → List ℕ → ℕ → ℕ → Parsed ℕ
 first_in bytes key low high =
     taken_then (events_place bytes) (λ n events. first_place n events key low high)
 
 -- the row of an event whose row's bytes come next
-abbrev pub row_of_field : Taken (Option Row) → Option Row
+abbrev pub row_of_field : Parsed (Option Row) → Option Row
 row_of_field None = None
 row_of_field (Some (row, rest)) = row

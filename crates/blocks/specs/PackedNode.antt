@@ -1,7 +1,7 @@
 -- A node of history as its block.
 use Rattle.std.specs.Prelude.{ℕ, List, [], Some, None}
 use Rattle.values.specs.Event.{Event}
-use Rattle.values.specs.RowReading.{Taken}
+use Rattle.values.specs.RowReading.{Parsed}
 use Rattle.keyrange.specs.Rect.{Area}
 use Rattle.datanode.specs.Node.{Node}
 use Rattle.blocks.specs.Event.{events_from}
@@ -14,12 +14,12 @@ pub record Packed : Type 0 where
   pub bytes : List ℕ
 
 -- the events that were taken, where there are any
-abbrev pub events_taken : Taken (List Event) → List Event
+abbrev pub events_taken : Parsed (List Event) → List Event
 events_taken None = []
 events_taken (Some (es, rest)) = es
 
 -- so many events from bytes
-abbrev pub events_at : Taken ℕ → List Event
+abbrev pub events_at : Parsed ℕ → List Event
 events_at None = []
 events_at (Some (n, rest)) = events_taken (events_from n rest)
 

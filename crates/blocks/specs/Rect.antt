@@ -1,7 +1,8 @@
 -- The rectangle of a block.
 use Rattle.std.specs.Prelude.{ℕ, ◌≤◌, List, [], ◌∷◌, ◌++◌, Option, Some, None, length, take, drop, nat_eq, IfSome, if◌then◌else◌}
 use Rattle.std.specs.Cmp.Lexicographic.{pointwise}
-use Rattle.values.specs.RowReading.{Taken}
+use Rattle.values.specs.KeyEncoding.{longest_key}
+use Rattle.values.specs.RowReading.{Parsed}
 use Rattle.keyrange.specs.declared.range.KeyRange.{KeyRange}
 use Rattle.keyrange.specs.declared.range.TimeRange.{TimeRange}
 use Rattle.keyrange.specs.Rect.{Area}
@@ -30,8 +31,8 @@ rect_field r = mark ++ (keys_field r.keys ++ time_field r.time)
 
 -- as each range that a program holds: no key has over 1,609 bytes
 pub record AreShortKeys (keys : KeyRange) : Type 0 where
-  pub lower : length keys.lo ≤ 1609
-  pub upper : IfSome keys.hi (λ key. length key ≤ 1609)
+  pub lower : length keys.lo ≤ longest_key
+  pub upper : IfSome keys.hi (λ key. length key ≤ longest_key)
 
 -- ---- what is read
 
@@ -39,12 +40,12 @@ pub record AreShortKeys (keys : KeyRange) : Type 0 where
 unfoldable pub mark_from : List ℕ → Option (List ℕ)
 mark_from bytes = if pointwise nat_eq (take 4 bytes) mark then Some (drop 4 bytes) else None
 
-unfoldable pub keys_from : List ℕ → Taken KeyRange
+unfoldable pub keys_from : List ℕ → Parsed KeyRange
 keys_from bytes =
     taken_then (key_from bytes)
     (λ lo rest. taken_then (end_from rest) (λ hi left. Some (record { lo = lo; hi = hi }, left)))
 
-unfoldable pub time_from : List ℕ → Taken TimeRange
+unfoldable pub time_from : List ℕ → Parsed TimeRange
 time_from bytes =
     taken_then (instant_from bytes)
     (λ from rest.
@@ -52,15 +53,15 @@ time_from bytes =
     (λ to left. Some (record { from = from; to = Some to }, left)))
 
 -- the rectangle of what was taken, where it is one
-abbrev pub area_taken : Option Area → List ℕ → Taken Area
+abbrev pub area_taken : Option Area → List ℕ → Parsed Area
 area_taken None rest = None
 area_taken (Some r) rest = Some (r, rest)
 
-unfoldable pub ranges_from : List ℕ → Taken Area
+unfoldable pub ranges_from : List ℕ → Parsed Area
 ranges_from bytes =
     taken_then (keys_from bytes)
     (λ keys rest.
     taken_then (time_from rest) (λ time left. area_taken (rect_of keys time) left))
 
-unfoldable pub rect_from : List ℕ → Taken Area
+unfoldable pub rect_from : List ℕ → Parsed Area
 rect_from bytes = elim (mark_from bytes) [ None ↦ None | Some rest ↦ ranges_from rest ]

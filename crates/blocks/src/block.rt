@@ -11,13 +11,10 @@ use crate::field::byte_from;
 use crate::gather::{gather, node_in};
 use crate::rect::{push_rect, rect_from};
 use bytes::Bytes;
-use datanode::DataNode;
+use datanode::{CAPACITY, DataNode};
 use keyrange::Rect;
 use std::alloc::Global;
 use values::{Mem, SharedEvent};
-
-/// The events that a block may have.
-const MOST: usize = 64;
 
 fn are_instants(events: &[SharedEvent]) -> bool
     ensures { IsTrue result ↔ All (λ e. 1 ≤ e.at) events.now }
@@ -25,11 +22,11 @@ fn are_instants(events: &[SharedEvent]) -> bool
     events.iter().all(|event| 1 <= event.event().at())
 }
 
-/// Whether a node has a block: it is one of history, with at most 64 events and none of them before instant 1.
+/// Whether a node has a block: it is one of history, with events within the capacity of a node and none of them before instant 1.
 pub fn has_block(node: &DataNode) -> bool
     ensures { IsTrue result ↔ HasBlock node.now }
 {
-    node.rect().time().to.is_some() && node.len() <= MOST && are_instants(node.events())
+    node.rect().time().to.is_some() && node.len() <= CAPACITY && are_instants(node.events())
 }
 
 fn push_events(alloc: Global, bytes: &mut Vec<u8>, events: &[SharedEvent]) -> Mem<()>
@@ -64,7 +61,7 @@ fn counted_from(alloc: Global, rect: Rect, n: u8, bytes: &[u8]) -> Mem<Option<Da
     ensures none { IfOk result (λ found. IfNone found (NoCountedNode rect n bytes.now)) }
     ensures err { OnlyMemory result }
 {
-    if n as usize > MOST {
+    if n as usize > CAPACITY {
         return Ok(None);
     }
     match gather(alloc, &rect, n, bytes)? {

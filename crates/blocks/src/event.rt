@@ -1,37 +1,14 @@
 //! The events of a block.
 ghost use Rattle.std.specs.Prelude.{◌≡◌, ◌≤◌, ◌++◌, length, OnOk, IfOk, IfSome, All, option_copied};
+ghost use Rattle.values.specs.KeyEncoding.{longest_key};
 ghost use Rattle.values.specs.RowEncoding.{IsStoredRow, IsHeld};
-ghost use Rattle.values.specs.RowReading.{Takes};
+ghost use Rattle.values.specs.RowReading.{Parses};
 ghost use Rattle.values.specs.Memory.{OnlyMemory};
 ghost use Rattle.blocks.specs.Event.{row_field, event_field, IsKept, point_from, row_tagged, row_field_from, event_of, event_from};
 
 use crate::field::{byte_from, instant_from, key_from, key_of, push_instant, push_key};
 use std::alloc::{AllocError, Global};
-use values::{Event, Instant, Mem, Row, Value, read_row, row_bytes};
-
-/// Reads each value: what was read is a number of 64 bits, or a text of characters.
-fn read_values(values: &[Value])
-    ensures { All IsHeld values.now }
-{
-    for value in values {
-        read_value(value);
-    }
-}
-
-fn read_value(value: &Value)
-    ensures { IsHeld value.now }
-{
-    match value {
-        Value::Int(number) => {
-            let _number = *number;
-        }
-        Value::Text(text) => {
-            let _utf8 = text.text();
-        }
-        Value::Bool(_) => {}
-        Value::Null => {}
-    }
-}
+use values::{Event, Instant, Mem, Row, read_row, read_values, row_bytes};
 
 /// Adds a row, or that there is none.
 fn push_row(alloc: Global, bytes: &mut Vec<u8>, row: Option<&Row>) -> Mem<()>
@@ -66,8 +43,8 @@ pub(crate) fn push_event(alloc: Global, bytes: &mut Vec<u8>, event: &Event) -> M
 /// A key and an instant.
 #[tactic(auto, unfolding(crate::specs::Event::point_from))]
 pub(crate) fn point_from(bytes: &[u8]) -> Option<((&[u8], Instant), &[u8])>
-    ensures taken { Takes (λ point. (point.0.now, point.1)) result (point_from bytes.now) }
-    ensures short { IfSome result (λ x. length x.0.0.now ≤ 1609) }
+    ensures taken { Parses (λ point. (point.0.now, point.1)) result (point_from bytes.now) }
+    ensures short { IfSome result (λ x. length x.0.0.now ≤ longest_key) }
 {
     let (key, rest) = key_from(bytes)?;
     let (at, left) = instant_from(rest)?;
@@ -75,11 +52,11 @@ pub(crate) fn point_from(bytes: &[u8]) -> Option<((&[u8], Instant), &[u8])>
 }
 
 /// What was read at the start of bytes, and the bytes after it.
-pub(crate) type Taken<'a, T> = Option<(T, &'a [u8])>;
+pub(crate) type Parsed<'a, T> = Option<(T, &'a [u8])>;
 
 #[tactic(auto, unfolding(crate::specs::Event::row_tagged))]
-fn row_tagged(alloc: Global, tag: u8, bytes: &[u8]) -> Mem<Taken<'_, Option<Row>>>
-    ensures ok { IfOk result (λ taken. Takes (λ row. row) taken (row_tagged tag bytes.now)) }
+fn row_tagged(alloc: Global, tag: u8, bytes: &[u8]) -> Mem<Parsed<'_, Option<Row>>>
+    ensures ok { IfOk result (λ parsed. Parses (λ row. row) parsed (row_tagged tag bytes.now)) }
     ensures err { OnlyMemory result }
 {
     match tag {
@@ -92,8 +69,8 @@ fn row_tagged(alloc: Global, tag: u8, bytes: &[u8]) -> Mem<Taken<'_, Option<Row>
     }
 }
 
-pub(crate) fn row_field_from(alloc: Global, bytes: &[u8]) -> Mem<Taken<'_, Option<Row>>>
-    ensures ok { IfOk result (λ taken. Takes (λ row. row) taken (row_field_from bytes.now)) }
+pub(crate) fn row_field_from(alloc: Global, bytes: &[u8]) -> Mem<Parsed<'_, Option<Row>>>
+    ensures ok { IfOk result (λ parsed. Parses (λ row. row) parsed (row_field_from bytes.now)) }
     ensures err { OnlyMemory result }
 {
     match byte_from(bytes) {
@@ -104,8 +81,8 @@ pub(crate) fn row_field_from(alloc: Global, bytes: &[u8]) -> Mem<Taken<'_, Optio
 
 /// An event, and the bytes behind it.
 #[tactic(auto, unfolding(crate::specs::Event::event_from, crate::specs::Event::event_of))]
-pub(crate) fn event_from(alloc: Global, bytes: &[u8]) -> Mem<Taken<'_, Event>>
-    ensures ok { IfOk result (λ taken. Takes (λ event. event) taken (event_from bytes.now)) }
+pub(crate) fn event_from(alloc: Global, bytes: &[u8]) -> Mem<Parsed<'_, Event>>
+    ensures ok { IfOk result (λ parsed. Parses (λ event. event) parsed (event_from bytes.now)) }
     ensures first { IfOk result (λ taken. IfSome taken (λ x. 1 ≤ x.0.at)) }
     ensures err { OnlyMemory result }
 {

@@ -1,18 +1,16 @@
 //! The fields of a block.
 ghost use Rattle.std.specs.Prelude.{◌≡◌, ◌≤◌, ◌++◌, length, OnOk, IfOk, IfSome, option_copied};
-ghost use Rattle.values.specs.RowReading.{Takes};
+ghost use Rattle.values.specs.KeyEncoding.{longest_key};
+ghost use Rattle.values.specs.RowReading.{Parses};
 ghost use Rattle.blocks.specs.Field.{key_field, end_field, instant_field, part_from, length_from, key_of_length, key_from, end_tagged, end_from, instant_from, byte_from};
 
 use std::alloc::{AllocError, Global};
-use values::{Instant, KeyBytes};
-
-/// The longest key.
-const LONGEST: usize = 1609;
+use values::{Instant, KeyBytes, LONGEST_KEY};
 
 /// The length of a key. A key that is owned is known to be short enough: no clause says so of one that is lent.
 fn length_of(key: KeyBytes) -> u16
     ensures is { result ≡ length key }
-    ensures short { length key ≤ 1609 }
+    ensures short { length key ≤ longest_key }
 {
     key.bytes().len() as u16
 }
@@ -20,7 +18,7 @@ fn length_of(key: KeyBytes) -> u16
 /// Adds a key behind its length, in two bytes.
 pub(crate) fn push_key(bytes: &mut Vec<u8>, key: &KeyBytes) -> Result<(), AllocError>
     ensures ok { OnOk result (bytes.new.items ≡ bytes.old.items ++ key_field key.now) }
-    ensures short { OnOk result (length key.now ≤ 1609) }
+    ensures short { OnOk result (length key.now ≤ longest_key) }
 {
     bytes.extend_from_slice(&length_of(key.clone()?).to_be_bytes())?;
     bytes.extend_from_slice(key.bytes())
@@ -29,7 +27,7 @@ pub(crate) fn push_key(bytes: &mut Vec<u8>, key: &KeyBytes) -> Result<(), AllocE
 /// Adds an upper key, or that there is none.
 pub(crate) fn push_end(bytes: &mut Vec<u8>, end: &Option<KeyBytes>) -> Result<(), AllocError>
     ensures ok { OnOk result (bytes.new.items ≡ bytes.old.items ++ end_field end.now) }
-    ensures short { OnOk result (IfSome end.now (λ key. length key ≤ 1609)) }
+    ensures short { OnOk result (IfSome end.now (λ key. length key ≤ longest_key)) }
 {
     match end {
         None => bytes.extend_from_slice(&[0]),
@@ -49,7 +47,7 @@ pub(crate) fn push_instant(bytes: &mut Vec<u8>, instant: Instant) -> Result<(), 
 /// So many bytes, and those behind them.
 #[tactic(auto, unfolding(crate::specs::Field::part_from))]
 pub(crate) fn part_from(n: usize, bytes: &[u8]) -> Option<(&[u8], &[u8])>
-    ensures taken { Takes (λ part. part.now) result (part_from n bytes.now) }
+    ensures taken { Parses (λ part. part.now) result (part_from n bytes.now) }
     ensures length { IfSome result (λ x. length x.0.now ≡ n) }
 {
     if bytes.len() < n {
@@ -60,7 +58,7 @@ pub(crate) fn part_from(n: usize, bytes: &[u8]) -> Option<(&[u8], &[u8])>
 
 #[tactic(auto, unfolding(crate::specs::Field::length_from))]
 pub(crate) fn length_from(bytes: &[u8]) -> Option<(u16, &[u8])>
-    ensures { Takes (λ n. n) result (length_from bytes.now) }
+    ensures { Parses (λ n. n) result (length_from bytes.now) }
 {
     let (n, rest) = bytes.split_first_chunk::<2>()?;
     Some((u16::from_be_bytes(*n), rest))
@@ -68,10 +66,10 @@ pub(crate) fn length_from(bytes: &[u8]) -> Option<(u16, &[u8])>
 
 #[tactic(auto, unfolding(crate::specs::Field::key_of_length))]
 fn key_of_length(n: usize, bytes: &[u8]) -> Option<(&[u8], &[u8])>
-    ensures taken { Takes (λ key. key.now) result (key_of_length n bytes.now) }
-    ensures short { IfSome result (λ x. length x.0.now ≤ 1609) }
+    ensures taken { Parses (λ key. key.now) result (key_of_length n bytes.now) }
+    ensures short { IfSome result (λ x. length x.0.now ≤ longest_key) }
 {
-    if n > LONGEST {
+    if n > LONGEST_KEY {
         return None;
     }
     let (key, rest) = part_from(n, bytes)?;
@@ -81,8 +79,8 @@ fn key_of_length(n: usize, bytes: &[u8]) -> Option<(&[u8], &[u8])>
 /// The bytes of a key.
 #[tactic(auto, unfolding(crate::specs::Field::key_from))]
 pub(crate) fn key_from(bytes: &[u8]) -> Option<(&[u8], &[u8])>
-    ensures taken { Takes (λ key. key.now) result (key_from bytes.now) }
-    ensures short { IfSome result (λ x. length x.0.now ≤ 1609) }
+    ensures taken { Parses (λ key. key.now) result (key_from bytes.now) }
+    ensures short { IfSome result (λ x. length x.0.now ≤ longest_key) }
 {
     let (n, rest) = length_from(bytes)?;
     key_of_length(n as usize, rest)
@@ -90,8 +88,8 @@ pub(crate) fn key_from(bytes: &[u8]) -> Option<(&[u8], &[u8])>
 
 #[tactic(auto, unfolding(crate::specs::Field::end_tagged))]
 fn end_tagged(tag: u8, bytes: &[u8]) -> Option<(Option<&[u8]>, &[u8])>
-    ensures taken { Takes (λ end. option_copied end) result (end_tagged tag bytes.now) }
-    ensures short { IfSome result (λ x. IfSome x.0 (λ key. length key.now ≤ 1609)) }
+    ensures taken { Parses (λ end. option_copied end) result (end_tagged tag bytes.now) }
+    ensures short { IfSome result (λ x. IfSome x.0 (λ key. length key.now ≤ longest_key)) }
 {
     match tag {
         0 => Some((None, bytes)),
@@ -105,8 +103,8 @@ fn end_tagged(tag: u8, bytes: &[u8]) -> Option<(Option<&[u8]>, &[u8])>
 
 /// The bytes of an upper key, where there is one.
 pub(crate) fn end_from(bytes: &[u8]) -> Option<(Option<&[u8]>, &[u8])>
-    ensures taken { Takes (λ end. option_copied end) result (end_from bytes.now) }
-    ensures short { IfSome result (λ x. IfSome x.0 (λ key. length key.now ≤ 1609)) }
+    ensures taken { Parses (λ end. option_copied end) result (end_from bytes.now) }
+    ensures short { IfSome result (λ x. IfSome x.0 (λ key. length key.now ≤ longest_key)) }
 {
     let (tag, rest) = byte_from(bytes)?;
     end_tagged(tag, rest)
@@ -114,14 +112,14 @@ pub(crate) fn end_from(bytes: &[u8]) -> Option<(Option<&[u8]>, &[u8])>
 
 #[tactic(auto, unfolding(crate::specs::Field::instant_from))]
 pub(crate) fn instant_from(bytes: &[u8]) -> Option<(Instant, &[u8])>
-    ensures { Takes (λ instant. instant) result (instant_from bytes.now) }
+    ensures { Parses (λ instant. instant) result (instant_from bytes.now) }
 {
     let (instant, rest) = bytes.split_first_chunk::<8>()?;
     Some((u64::from_be_bytes(*instant), rest))
 }
 
 pub(crate) fn byte_from(bytes: &[u8]) -> Option<(u8, &[u8])>
-    ensures { Takes (λ byte. byte) result (byte_from bytes.now) }
+    ensures { Parses (λ byte. byte) result (byte_from bytes.now) }
 {
     match bytes {
         [byte, rest @ ..] => Some((*byte, rest)),
@@ -131,7 +129,7 @@ pub(crate) fn byte_from(bytes: &[u8]) -> Option<(u8, &[u8])>
 
 /// A key of bytes that were read.
 pub(crate) fn key_of(alloc: Global, bytes: &[u8]) -> Result<KeyBytes, AllocError>
-    requires { length bytes.now ≤ 1609 }
+    requires { length bytes.now ≤ longest_key }
     ensures { IfOk result (λ key. key ≡ bytes.now) }
 {
     let bytes = Vec::from_slice(alloc, bytes)?;

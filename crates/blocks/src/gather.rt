@@ -4,7 +4,7 @@ ghost use Rattle.values.specs.Memory.{OnlyMemory};
 ghost use Rattle.datanode.specs.Node.{IsNode};
 ghost use Rattle.blocks.specs.Gather.{at_all_times, is_behind, is_next, IsGathered, NoNodeFrom};
 
-use crate::event::{Taken, event_from};
+use crate::event::{Parsed, event_from};
 use datanode::DataNode;
 use keyrange::{Rect, TimeRange};
 use std::alloc::Global;
@@ -49,7 +49,7 @@ pub(crate) fn gather<'a>(
     rect: &Rect,
     n: u8,
     bytes: &'a [u8],
-) -> Mem<Taken<'a, DataNode>>
+) -> Mem<Parsed<'a, DataNode>>
     ensures some { IfOk result (λ taken. IfSome taken (λ x.
         IsGathered rect.now n bytes.now x.0 x.1.now)) }
     ensures none { IfOk result (λ taken. IfNone taken (NoNodeFrom rect.now n bytes.now)) }

@@ -1,14 +1,14 @@
 //! Ranges are listed in place: an event is made only where it is asked for, and no node.
 ghost use Rattle.std.specs.Prelude.{◌≡◌, ◌++◌, OnOk, IfOk};
 ghost use Rattle.values.specs.Memory.{OnlyMemory};
-ghost use Rattle.values.specs.RowReading.{Takes};
+ghost use Rattle.values.specs.RowReading.{Parses};
 ghost use Rattle.eventlist.specs.Listing.{events_in};
 ghost use Rattle.keyrange.specs.Range.{is_before_end, is_key_in};
 ghost use Rattle.datanode.specs.Node.{Node};
 ghost use Rattle.blocks.specs.Block.{IsBlockOf};
 ghost use Rattle.blocks.specs.Listing.{is_asked, next_asked, asked_of, events_asked};
 
-use crate::event::{Taken, event_from, point_from};
+use crate::event::{Parsed, event_from, point_from};
 use crate::lookup::{events_place, past_row_field};
 use keyrange::KeyRange;
 use std::alloc::Global;
@@ -44,9 +44,9 @@ fn next_asked<'a>(
     range: &KeyRange,
     from: Instant,
     to: Instant,
-) -> Mem<Taken<'a, Option<Event>>>
+) -> Mem<Parsed<'a, Option<Event>>>
     ensures ok { IfOk result (λ taken.
-        Takes (λ event. event) taken (next_asked range.now from to bytes.now)) }
+        Parses (λ event. event) taken (next_asked range.now from to bytes.now)) }
     ensures err { OnlyMemory result }
 {
     let Some(((key, at), row)) = point_from(bytes) else {

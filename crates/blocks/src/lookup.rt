@@ -2,7 +2,7 @@
 ghost use Rattle.std.specs.Prelude.{◌≡◌, List, None, length, IsTrue, IfOk, option_copied};
 ghost use Rattle.values.specs.Memory.{OnlyMemory};
 ghost use Rattle.values.specs.Events.{row_until, event_since};
-ghost use Rattle.values.specs.RowReading.{Takes};
+ghost use Rattle.values.specs.RowReading.{Parses};
 ghost use Rattle.datanode.specs.Node.{Node, IsCutOf};
 ghost use Rattle.datanode.specs.NextChange.{event_after};
 ghost use Rattle.keyrange.specs.Rect.{has_point};
@@ -11,7 +11,7 @@ ghost use Rattle.blocks.specs.Block.{IsBlockOf};
 ghost use Rattle.blocks.specs.Lookup.{past_text, past_tagged, past_value, past_values, past_row, past_row_tagged, past_row_field, is_wanted, event_place, first_place, events_place, place_in, first_in, row_of_field};
 ghost use Rattle.blocks.specs.Event.{row_field_from};
 
-use crate::event::{Taken, point_from, row_field_from};
+use crate::event::{Parsed, point_from, row_field_from};
 use crate::field::{byte_from, end_from, key_from, length_from, part_from};
 use crate::rect::mark_from;
 use std::alloc::Global;
@@ -108,8 +108,8 @@ fn event_place<'a>(
     key: &[u8],
     low: Instant,
     high: Instant,
-) -> Taken<'a, Instant>
-    ensures { Takes (λ at. at) result (event_place n bytes.now key.now low high None) }
+) -> Parsed<'a, Instant>
+    ensures { Parses (λ at. at) result (event_place n bytes.now key.now low high None) }
 {
     let mut found = None;
     let mut rest = bytes;
@@ -139,8 +139,8 @@ fn first_place<'a>(
     key: &[u8],
     low: Instant,
     high: Instant,
-) -> Taken<'a, Instant>
-    ensures { Takes (λ at. at) result (first_place n bytes.now key.now low high) }
+) -> Parsed<'a, Instant>
+    ensures { Parses (λ at. at) result (first_place n bytes.now key.now low high) }
 {
     let mut rest = bytes;
     for _ in 0..n {
@@ -158,8 +158,8 @@ fn first_place<'a>(
 
 /// How many events a block has, and the bytes from the first on.
 #[tactic(auto, unfolding(crate::specs::Lookup::events_place))]
-pub(crate) fn events_place(bytes: &[u8]) -> Taken<'_, u8>
-    ensures { Takes (λ n. n) result (events_place bytes.now) }
+pub(crate) fn events_place(bytes: &[u8]) -> Parsed<'_, u8>
+    ensures { Parses (λ n. n) result (events_place bytes.now) }
 {
     let rest = mark_from(bytes)?;
     let (_lo, left) = key_from(rest)?;
@@ -169,16 +169,16 @@ pub(crate) fn events_place(bytes: &[u8]) -> Taken<'_, u8>
 }
 
 #[tactic(auto, unfolding(crate::specs::Lookup::place_in))]
-fn place_in<'a>(bytes: &'a [u8], key: &[u8], low: Instant, high: Instant) -> Taken<'a, Instant>
-    ensures { Takes (λ at. at) result (place_in bytes.now key.now low high) }
+fn place_in<'a>(bytes: &'a [u8], key: &[u8], low: Instant, high: Instant) -> Parsed<'a, Instant>
+    ensures { Parses (λ at. at) result (place_in bytes.now key.now low high) }
 {
     let (n, events) = events_place(bytes)?;
     event_place(n, events, key, low, high)
 }
 
 #[tactic(auto, unfolding(crate::specs::Lookup::first_in))]
-fn first_in<'a>(bytes: &'a [u8], key: &[u8], low: Instant, high: Instant) -> Taken<'a, Instant>
-    ensures { Takes (λ at. at) result (first_in bytes.now key.now low high) }
+fn first_in<'a>(bytes: &'a [u8], key: &[u8], low: Instant, high: Instant) -> Parsed<'a, Instant>
+    ensures { Parses (λ at. at) result (first_in bytes.now key.now low high) }
 {
     let (n, events) = events_place(bytes)?;
     first_place(n, events, key, low, high)

@@ -1,9 +1,10 @@
 //! The rectangle of a block.
 ghost use Rattle.std.specs.Prelude.{◌≡◌, ◌≤◌, ◌++◌, length, OnOk, IfOk, IfSome, option_copied};
-ghost use Rattle.values.specs.RowReading.{Takes};
+ghost use Rattle.values.specs.KeyEncoding.{longest_key};
+ghost use Rattle.values.specs.RowReading.{Parses};
 ghost use Rattle.blocks.specs.Rect.{mark, keys_field, time_end_field, time_field, rect_field, AreShortKeys, mark_from, keys_from, time_from, ranges_from, rect_from};
 
-use crate::event::Taken;
+use crate::event::Parsed;
 use crate::field::{end_from, instant_from, key_from, key_of, push_end, push_instant, push_key};
 use keyrange::{KeyRange, Rect, TimeRange};
 use std::alloc::{AllocError, Global};
@@ -48,7 +49,7 @@ pub(crate) fn mark_from(bytes: &[u8]) -> Option<&[u8]>
 }
 
 fn end_of(alloc: Global, end: Option<&[u8]>) -> Result<Option<KeyBytes>, AllocError>
-    requires { IfSome end (λ key. length key.now ≤ 1609) }
+    requires { IfSome end (λ key. length key.now ≤ longest_key) }
     ensures { IfOk result (λ key. key ≡ option_copied end.entry) }
 {
     match end {
@@ -58,8 +59,8 @@ fn end_of(alloc: Global, end: Option<&[u8]>) -> Result<Option<KeyBytes>, AllocEr
 }
 
 #[tactic(auto, unfolding(crate::specs::Rect::keys_from))]
-fn keys_from(alloc: Global, bytes: &[u8]) -> Result<Taken<'_, KeyRange>, AllocError>
-    ensures { IfOk result (λ taken. Takes (λ keys. keys) taken (keys_from bytes.now)) }
+fn keys_from(alloc: Global, bytes: &[u8]) -> Result<Parsed<'_, KeyRange>, AllocError>
+    ensures { IfOk result (λ parsed. Parses (λ keys. keys) parsed (keys_from bytes.now)) }
 {
     let Some((lo, rest)) = key_from(bytes) else {
         return Ok(None);
@@ -75,8 +76,8 @@ fn keys_from(alloc: Global, bytes: &[u8]) -> Result<Taken<'_, KeyRange>, AllocEr
 }
 
 #[tactic(auto, unfolding(crate::specs::Rect::time_from))]
-fn time_from(bytes: &[u8]) -> Taken<'_, TimeRange>
-    ensures { Takes (λ time. time) result (time_from bytes.now) }
+fn time_from(bytes: &[u8]) -> Parsed<'_, TimeRange>
+    ensures { Parses (λ time. time) result (time_from bytes.now) }
 {
     let (from, rest) = instant_from(bytes)?;
     let (to, left) = instant_from(rest)?;
@@ -85,8 +86,8 @@ fn time_from(bytes: &[u8]) -> Taken<'_, TimeRange>
 }
 
 #[tactic(auto, unfolding(crate::specs::Rect::ranges_from))]
-fn ranges_from(alloc: Global, bytes: &[u8]) -> Result<Taken<'_, Rect>, AllocError>
-    ensures { IfOk result (λ taken. Takes (λ rect. rect) taken (ranges_from bytes.now)) }
+fn ranges_from(alloc: Global, bytes: &[u8]) -> Result<Parsed<'_, Rect>, AllocError>
+    ensures { IfOk result (λ parsed. Parses (λ rect. rect) parsed (ranges_from bytes.now)) }
 {
     let Some((keys, rest)) = keys_from(alloc, bytes)? else {
         return Ok(None);
@@ -102,8 +103,8 @@ fn ranges_from(alloc: Global, bytes: &[u8]) -> Result<Taken<'_, Rect>, AllocErro
 
 /// A rectangle behind the mark.
 #[tactic(auto, unfolding(crate::specs::Rect::rect_from))]
-pub(crate) fn rect_from(alloc: Global, bytes: &[u8]) -> Result<Taken<'_, Rect>, AllocError>
-    ensures { IfOk result (λ taken. Takes (λ rect. rect) taken (rect_from bytes.now)) }
+pub(crate) fn rect_from(alloc: Global, bytes: &[u8]) -> Result<Parsed<'_, Rect>, AllocError>
+    ensures { IfOk result (λ parsed. Parses (λ rect. rect) parsed (rect_from bytes.now)) }
 {
     match mark_from(bytes) {
         None => Ok(None),

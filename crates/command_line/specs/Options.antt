@@ -5,6 +5,7 @@ use Rattle.clap.specs.Words.{App, IsAmong, Kinds, Rule, Text, fault_of, first_of
 use Rattle.clap.specs.declared.parser.matches.Found.{Found}
 use Rattle.clap.specs.declared.error.kind.ErrorKind.{ErrorKind}
 use Rattle.clap.specs.declared.error.kind.ErrorKind.TheVariants as kind
+use Rattle.histories.specs.Misfit.{max_session}
 use Rattle.statement.specs.Literal.{digits_here}
 use Rattle.interchange.specs.Field.{whole}
 use Rattle.command_line.specs.declared.options.Options.{Options}
@@ -94,13 +95,13 @@ pub data AskedMode : Type 0 where
 abbrev pub port_in : Text → Option ℕ
 port_in text = whole (digits_here 65535 text)
 
-abbrev pub above_nought : Option ℕ → Option ℕ
-above_nought None = None
-above_nought (Some n) = if n == 0 then None else Some n
+abbrev pub positive : Option ℕ → Option ℕ
+positive None = None
+positive (Some n) = if n == 0 then None else Some n
 
--- decimal digits alone, from 1 to 64
+-- decimal digits alone, from 1 to the number of sessions
 abbrev pub count_in : Text → Option ℕ
-count_in text = above_nought (whole (digits_here 64 text))
+count_in text = positive (whole (digits_here max_session text))
 
 abbrev pub listening : (port sessions : Option ℕ) → Option AskedMode
 listening (Some port) (Some sessions) = Some (Listens port sessions)

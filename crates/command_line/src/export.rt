@@ -15,7 +15,7 @@ use crate::output::flush;
 use histories::{Listing, Reply, Step};
 use interchange::export;
 use interleaving::System;
-use rows::{Form, Keys, LAST, Schema, Shown, ShownRows, Table};
+use rows::{Form, Keys, MAX_INSTANT, Schema, Shown, ShownRows, Table};
 use std::alloc::Global;
 use std::io::Write;
 
@@ -44,14 +44,14 @@ fn versions_of(alloc: Global, system: &mut System, number: u8) -> Result<ShownRo
     ensures schema { system.new.schema ≡ system.old.schema }
 {
     let keys = Keys::all(alloc, number);
-    match system.step(Step::Select(0, Form::Between(0, LAST), keys)) {
+    match system.step(Step::Select(0, Form::Between(0, MAX_INSTANT), keys)) {
         Reply::Shown(Listing::Periods(shown)) => Ok(shown),
         _ => Err(Fault::Memory),
     }
 }
 
 /// Writes a table with these versions, and passes them on.
-fn put_versions<O: Write>(
+fn print_versions<O: Write>(
     alloc: Global,
     out: &mut O,
     table: &Table,
@@ -89,7 +89,7 @@ fn export_versions<O: Write>(
     let Some(table) = system.schema().table_at(number) else {
         return Err(Fault::NoExport);
     };
-    put_versions(alloc, out, table, shown.items())
+    print_versions(alloc, out, table, shown.items())
 }
 
 /// Writes a table with all its versions as CSV, where one is to be exported. The text is never held whole.

@@ -15,7 +15,7 @@ ghost use Rattle.command_line.specs.Options.{name_in};
 ghost use Rattle.command_line.specs.Load.{IsLed, IsNamed, FileSays, HasNoRows, IsUnread, IsUntaken, IsUnreported, Unloaded, steps_of};
 
 use crate::fault::{Fault, load_fault};
-use crate::output::put;
+use crate::output::print;
 use histories::Step;
 use interchange::{load_rows, loaded_line};
 use interleaving::System;
@@ -162,7 +162,7 @@ fn report<O: Write>(alloc: Global, out: &mut O, count: usize, instant: Instant) 
         (O.contents out.old) (O.contents out.new)) }
 {
     match loaded_line(alloc, count, instant) {
-        Ok(text) => put(out, text.as_slice()),
+        Ok(text) => print(out, text.as_slice()),
         Err(_) => Err(Fault::Memory),
     }
 }

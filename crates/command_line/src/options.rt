@@ -5,6 +5,7 @@ ghost use Rattle.command_line.specs.Options.{Gives, HasFile, Reads, Refuses, bar
 
 use clap::error::ErrorKind;
 use clap::{Arg, ArgMatches, Command};
+use histories::MAX_SESSION;
 use interchange::whole_within;
 use std::alloc::{AllocError, Global};
 use std::convert::AsStr;
@@ -65,7 +66,7 @@ const NO_COUNT: &str =
 const MAX_PORT: u64 = 65_535;
 
 /// The most connections.
-const MAX_COUNT: u64 = 64;
+const MAX_COUNT: u64 = MAX_SESSION as u64;
 
 /// What is run.
 #[derive(Clone, Copy, Debug, PartialEq, Eq)]

@@ -4,7 +4,7 @@ ghost use Rattle.std.specs.Io.KnownBytes.{Appends, Keeps};
 ghost use Rattle.statement.specs.Writer.{AppendsPrefix};
 
 use crate::fault::Fault;
-use interchange::put_whole;
+use interchange::print_whole;
 use std::io::Write;
 
 /// Passes on what was written.
@@ -19,12 +19,12 @@ pub fn flush<O: Write>(out: &mut O) -> Result<(), Fault>
 }
 
 /// Writes a text and passes it on.
-pub fn put<O: Write>(out: &mut O, text: &[u8]) -> Result<(), Fault>
+pub fn print<O: Write>(out: &mut O, text: &[u8]) -> Result<(), Fault>
     ensures ok { OnOk result (Appends (O.contents out.old) (O.contents out.new) text.now) }
     ensures err { IfErr result (λ fault. (fault ≡ Fault.Write)
         × AppendsPrefix (O.contents out.old) (O.contents out.new) text.now) }
 {
-    match put_whole(out, text) {
+    match print_whole(out, text) {
         Ok(()) => Ok(()),
         Err(_) => Err(Fault::Write),
     }

@@ -14,7 +14,7 @@ use crate::fault::{FAULT, Fault, WORDS, run_fault, tell};
 use crate::load::load;
 use crate::options;
 use crate::options::{Mode, Options, WordsFault};
-use crate::output::put;
+use crate::output::print;
 use crate::schema_file::schema_of;
 use crate::server::run_server;
 use clap::error::ErrorKind;
@@ -109,7 +109,7 @@ fn show<O: Write>(alloc: Global, out: &mut O, error: &clap::Error) -> Result<(),
         IsUnshown fault (O.contents out.old) (O.contents out.new)) }
 {
     match format!(in alloc; "{error}") {
-        Ok(text) => put(out, text.as_str().as_bytes()),
+        Ok(text) => print(out, text.as_str().as_bytes()),
         Err(_) => Err(Fault::Memory),
     }
 }

@@ -6,14 +6,14 @@ ghost use Rattle.command_line.specs.Fault.{is_of_words};
 ghost use Rattle.command_line.specs.Program.{IsSchemaOf, IsOfSchema};
 
 use crate::fault::{Fault, schema_fault};
-use rows::Schema;
+use rows::{LONGEST_SCHEMA, Schema};
 use std::fs::File;
 use std::io;
 use std::io::{ErrorKind, Read};
 use std::rt::Files;
 
 /// The bytes of a schema file that are read: one more than a schema may have, which shows that it is too long.
-const READ: u64 = 65_537;
+const READ: u64 = LONGEST_SCHEMA as u64 + 1;
 
 /// The schema of a file, or the sample where no file is named.
 pub fn schema_of<R: AllocGlobal + Files>(rt: &R, file: Option<&str>) -> Result<Schema, Fault>

@@ -356,7 +356,7 @@ pub const DIALOGUES: [Dialogue; 16] = [
          rolled back\n",
     ),
     (
-        "after the last instant there is none",
+        "after the greatest instant there is none",
         "clock: 999999999999999999\n\
          1: BEGIN\n\
          1: INSERT INTO emp VALUES (1, 'Ann')\n\

@@ -2,9 +2,9 @@ ghost use Rattle.std.specs.Prelude.{◌≡◌, ◌<◌, ◌≤◌, IfOk};
 ghost use Rattle.commitclock.specs.NextInstant.{next_instant};
 
 use std::marker::Model;
-use values::{Instant, LAST, Refusal};
+use values::{Instant, MAX_INSTANT, Refusal};
 
-/// The last commit instant, which contracts see as a number: 0 before the first commit, and never above `LAST`.
+/// The last commit instant, which contracts see as a number: 0 before the first commit, and never above `MAX_INSTANT`.
 #[derive(Debug, Drop)]
 pub struct Clock {
     last: Instant,
@@ -41,14 +41,14 @@ impl Clock {
 
     /// The instant of a commit at a reading of the clock: the reading, or where that has passed the instant after the
     /// last one.
-    /// `ClockEnd` where that is above `LAST`. The clock stays as it is until it is moved.
+    /// `ClockEnd` where that is above `MAX_INSTANT`. The clock stays as it is until it is moved.
     pub fn next(&self, reading: Instant) -> Result<Instant, Refusal>
         ensures next { result ≡ next_instant self.now reading }
         ensures rises { IfOk result (λ instant. self.now < instant) }
         ensures in_range { IfOk result (λ instant. instant ≤ max_instant) }
     {
         let instant = reading.max(self.last + 1);
-        if instant > LAST {
+        if instant > MAX_INSTANT {
             return Err(Refusal::ClockEnd);
         }
         Ok(instant)

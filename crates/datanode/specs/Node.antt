@@ -7,6 +7,10 @@ use Rattle.keyrange.specs.Range.{is_early}
 use Rattle.eventlist.specs.Place.{last_event}
 use Rattle.datanode.specs.Cut.{IsMap, cut}
 
+-- the most that a node of a tree may have: events, or references
+abbrev pub capacity : ℕ
+capacity = 64
+
 -- a rectangle, and the events that it holds
 pub record Node : Type 0 where
   pub rect : Area

@@ -7,5 +7,5 @@ mod node;
 
 pub use cut::is_carried;
 pub use law::{cuts_are_nested, cuts_show_the_map, cuts_stay, halves_hold_each_event_once};
-pub use node::DataNode;
+pub use node::{CAPACITY, DataNode};
 pub use values::Event;

@@ -18,6 +18,9 @@ use std::alloc::{AllocError, Global};
 use std::marker::Model;
 use values::{Event, Instant, KeyBytes, Mem, Row, SharedEvent};
 
+/// The most that a node of a tree may have: events, or references.
+pub const CAPACITY: usize = 64;
+
 /// The events that a rectangle holds of all changes. They are shared: of a node that is copied or split no event is
 /// copied.
 #[derive(Drop)]

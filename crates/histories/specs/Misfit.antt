@@ -8,7 +8,7 @@ use Rattle.values.specs.declared.key.Key.{Key}
 use Rattle.values.specs.declared.query.Keys.{Keys}
 use Rattle.values.specs.declared.query.Set.{Set}
 use Rattle.values.specs.Tables.{Schema, table_at}
-use Rattle.values.specs.Fit.{rows_fault, key_fault, comparisons_fault, sets_fault, first_of}
+use Rattle.values.specs.Fit.{rows_fault, key_fault, comparisons_fault, update_fault}
 use Rattle.histories.specs.declared.step.Step.{Step}
 use Rattle.histories.specs.declared.step.Step.TheVariants.{Begin, Insert, Update, Delete, Select, Commit, Rollback, SplitKey, SplitTime, Migrate}
 
@@ -30,11 +30,6 @@ misfit_of schema i number fault =
     if nat_lt max_session i then Some NoSession
     else elim (table_at schema number) [ None ↦ Some NoTable | Some table ↦ bad_row (fault table) ]
 
--- new values come before comparisons
-abbrev pub update_fault : Keys → List Set → Table → Option ℕ
-update_fault keys sets table =
-    first_of (sets_fault table [] sets) (comparisons_fault table keys.comparisons)
-
 abbrev pub keys_fault : Keys → Table → Option ℕ
 keys_fault keys table = comparisons_fault table keys.comparisons
 
@@ -46,7 +41,8 @@ key_misfit schema key = misfit_of schema 0 key.table (λ table. key_fault table 
 abbrev pub misfit : Schema → Step → Option Refusal
 misfit schema (Begin i) = no_session i
 misfit schema (Insert i number rows) = misfit_of schema i number (λ table. rows_fault table rows)
-misfit schema (Update i keys sets) = misfit_of schema i keys.table (update_fault keys sets)
+misfit schema (Update i keys sets) =
+    misfit_of schema i keys.table (λ table. update_fault table keys sets)
 misfit schema (Delete i keys) = misfit_of schema i keys.table (keys_fault keys)
 misfit schema (Select i form keys) = misfit_of schema i keys.table (keys_fault keys)
 misfit schema (Commit i reading) = no_session i

@@ -169,7 +169,7 @@ OwnWrites =
     (fourth_replies ++ Begun 201 ∷ Inserted 1
     ∷ rows (emp 5 (codes "Gus") ∷ []) ∷ rows [] ∷ RolledBack ∷ [])
 
--- after the last instant there is none
+-- after the greatest instant there is none
 abbrev pub LargestInstant : Type 0
 LargestInstant =
     Answers (Begin 1 ∷ Insert 1 1 (ann ∷ []) ∷ Commit 1 max_instant

@@ -1,8 +1,8 @@
 ghost use Rattle.std.specs.Prelude.{◌≡◌, ◌≢◌, ℕ, Option, IfOk, IfErr, IfSome};
 ghost use Rattle.values.specs.declared.table.Table.{Table};
 ghost use Rattle.values.specs.Tables.{table_at};
-ghost use Rattle.values.specs.Fit.{rows_fault};
-ghost use Rattle.histories.specs.Misfit.{misfit, misfit_of, key_misfit, no_session, keys_fault, update_fault};
+ghost use Rattle.values.specs.Fit.{rows_fault, update_fault};
+ghost use Rattle.histories.specs.Misfit.{misfit, misfit_of, key_misfit, no_session, keys_fault};
 
 use crate::step::{MAX_SESSION, Step};
 use rows::{Key, Keys, Refusal, Row, Schema, Set, Table};
@@ -56,7 +56,7 @@ pub fn insert_misfit(schema: &Schema, session: u8, table: u8, rows: &[Row]) -> O
 /// Why what a session sets by keys does not fit: the session, the table, the first column at fault, new values before comparisons.
 pub fn update_misfit(schema: &Schema, session: u8, keys: &Keys, sets: &[Set]) -> Option<Refusal>
     ensures { result ≡
-        misfit_of schema.now session keys.now.table (update_fault keys.now sets.now) }
+        misfit_of schema.now session keys.now.table (λ t. update_fault t keys.now sets.now) }
 {
     match table_of(schema, session, keys.table) {
         Ok(table) => match table.check_sets(sets) {

@@ -9,5 +9,5 @@ mod version;
 
 pub use field::whole_within;
 pub use load::load_rows;
-pub use report::{loaded_line, numbered_line, put_whole};
+pub use report::{loaded_line, numbered_line, print_whole};
 pub use version::{ExportFault, export};

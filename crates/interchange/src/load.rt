@@ -2,6 +2,7 @@
 ghost use Rattle.std.specs.Prelude.{◌≡◌, ◌≤◌, length, map, IfOk, [], unwrap_or};
 ghost use Rattle.csv.specs.Records.{fields_of, field_at};
 ghost use Rattle.values.specs.Memory.{OnlyMemory};
+ghost use Rattle.values.specs.Tables.{widest};
 ghost use Rattle.statement.specs.Memory.{UnlessMemory};
 ghost use Rattle.interchange.specs.Load.{column_list, value_in, values_from, row_of, rows_from, rows_of, Loads, vec_items};
 
@@ -10,7 +11,7 @@ use crate::record::records_of;
 use csv::ByteRecord;
 use statement::{is_column_list, place_of, row_in};
 use std::alloc::{AllocError, Global};
-use values::{Column, ColumnNumber, Mem, Refusal, Row, Table, Value};
+use values::{Column, ColumnNumber, Mem, Refusal, Row, Table, Value, WIDEST};
 
 /// The field at a place; empty past the end.
 fn field_at(fields: &ByteRecord, place: usize) -> &[u8]
@@ -74,7 +75,7 @@ fn values_of(
 /// The row that a record writes.
 fn row_of(alloc: Global, table: &Table, columns: &[ColumnNumber], fields: &ByteRecord) -> Mem<Row>
     requires some { 1 ≤ length table.now.columns }
-    requires few { length table.now.columns ≤ 16 }
+    requires few { length table.now.columns ≤ widest }
     ensures { UnlessMemory result (row_of table.now columns.now (fields_of fields.now)) }
 {
     if columns.len() != fields.len() {
@@ -94,7 +95,7 @@ fn rows_from(
     records: &[ByteRecord],
 ) -> Mem<Vec<Row>>
     requires some { 1 ≤ length table.now.columns }
-    requires few { length table.now.columns ≤ 16 }
+    requires few { length table.now.columns ≤ widest }
     ensures { UnlessMemory (vec_items result)
         (rows_from table.now columns.now [] (map fields_of records.now)) }
 {
@@ -111,7 +112,7 @@ fn rows_from(
 /// The rows of a file's records, of which the first names columns.
 fn rows_of(alloc: Global, table: &Table, records: &[ByteRecord]) -> Mem<Vec<Row>>
     requires some { 1 ≤ length table.now.columns }
-    requires few { length table.now.columns ≤ 16 }
+    requires few { length table.now.columns ≤ widest }
     ensures { UnlessMemory (vec_items result) (rows_of table.now (map fields_of records.now)) }
 {
     let [header, records @ ..] = records else {
@@ -128,11 +129,11 @@ fn rows_of(alloc: Global, table: &Table, records: &[ByteRecord]) -> Mem<Vec<Row>
 ///
 /// `BadRow` names the first field that is no value of its column, or that does not fit the table, by its column; it is 0 where the file has no record, where a name is no user column's or is repeated, and where a record has another width than the first. Which rows have one key is left to the INSERT.
 pub fn load_rows(alloc: Global, bytes: &[u8], table: &Table) -> Mem<Vec<Row>>
-    ensures { (1 ≤ length table.now.columns) → (length table.now.columns ≤ 16)
+    ensures { (1 ≤ length table.now.columns) → (length table.now.columns ≤ widest)
         → Loads table.now bytes.now (vec_items result) }
 {
     let width = table.columns.items().len();
-    if width == 0 || width > 16 {
+    if width == 0 || width > WIDEST {
         return Err(Refusal::BadRow(0));
     }
     match records_of(alloc, bytes) {

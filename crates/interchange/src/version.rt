@@ -5,7 +5,7 @@ ghost use Rattle.csv.specs.Records.{fields_of, partial_of};
 ghost use Rattle.csv.specs.Writing.{default_writer, row_text};
 ghost use Rattle.std.specs.List.{flat_map};
 ghost use Rattle.statement.specs.Print.{end_text};
-ghost use Rattle.statement.specs.Writer.{Puts};
+ghost use Rattle.statement.specs.Writer.{Prints};
 ghost use Rattle.interchange.specs.Version.{IsReady, held, field_of, header_of, version_of, version_text, export_text};
 
 use csv::{ByteRecord, Writer, WriterBuilder};
@@ -27,9 +27,9 @@ pub enum ExportFault {
 /// The versions whose text is held at once.
 const AT_ONCE: usize = 64;
 
-type Put = Result<(), AllocError>;
+type Printed = Result<(), AllocError>;
 
-fn put_number<N: Integer>(fields: &mut ByteRecord, number: N) -> Put
+fn print_number<N: Integer>(fields: &mut ByteRecord, number: N) -> Printed
     requires { partial_of fields.old ≡ [] }
     ensures fields { OnOk result (fields_of fields.new
         ≡ fields_of fields.old ++ N.text number ∷ []) }
@@ -39,14 +39,14 @@ fn put_number<N: Integer>(fields: &mut ByteRecord, number: N) -> Put
     fields.push_field(buffer.format(number).as_bytes())
 }
 
-fn put_value(fields: &mut ByteRecord, value: &Value) -> Put
+fn print_value(fields: &mut ByteRecord, value: &Value) -> Printed
     requires { partial_of fields.old ≡ [] }
     ensures fields { OnOk result (fields_of fields.new
         ≡ fields_of fields.old ++ field_of value.now ∷ []) }
     ensures whole { OnOk result (partial_of fields.new ≡ []) }
 {
     match value {
-        Value::Int(number) => put_number(fields, *number),
+        Value::Int(number) => print_number(fields, *number),
         Value::Text(text) => fields.push_field(text.text().as_bytes()),
         Value::Bool(true) => fields.push_field(b"true"),
         Value::Bool(false) => fields.push_field(b"false"),
@@ -54,41 +54,41 @@ fn put_value(fields: &mut ByteRecord, value: &Value) -> Put
     }
 }
 
-fn put_row(fields: &mut ByteRecord, row: &Row) -> Put
+fn print_row(fields: &mut ByteRecord, row: &Row) -> Printed
     requires { partial_of fields.old ≡ [] }
     ensures fields { OnOk result (fields_of fields.new
         ≡ fields_of fields.old ++ map field_of row.now) }
     ensures whole { OnOk result (partial_of fields.new ≡ []) }
 {
     for value in row.values() {
-        put_value(fields, value)?;
+        print_value(fields, value)?;
     }
     Ok(())
 }
 
-fn put_end(fields: &mut ByteRecord, to: Option<Instant>) -> Put
+fn print_end(fields: &mut ByteRecord, to: Option<Instant>) -> Printed
     requires { partial_of fields.old ≡ [] }
     ensures fields { OnOk result (fields_of fields.new
         ≡ fields_of fields.old ++ end_text to ∷ []) }
     ensures whole { OnOk result (partial_of fields.new ≡ []) }
 {
     match to {
-        Some(instant) => put_number(fields, instant),
+        Some(instant) => print_number(fields, instant),
         None => fields.push_field(b"forever"),
     }
 }
 
 /// The fields of a version, in the place of those that stand there.
-fn put_version(fields: &mut ByteRecord, version: &Shown) -> Put
+fn print_version(fields: &mut ByteRecord, version: &Shown) -> Printed
     ensures fields { OnOk result (fields_of fields.new ≡ version_of version.now) }
 {
     fields.clear();
-    put_row(fields, &version.row)?;
-    put_number(fields, version.from)?;
-    put_end(fields, version.to)
+    print_row(fields, &version.row)?;
+    print_number(fields, version.from)?;
+    print_end(fields, version.to)
 }
 
-fn put_names(fields: &mut ByteRecord, table: &Table) -> Put
+fn print_names(fields: &mut ByteRecord, table: &Table) -> Printed
     requires { partial_of fields.old ≡ [] }
     ensures fields { OnOk result (fields_of fields.new
         ≡ fields_of fields.old ++ map (λ column. column.name) table.now.columns) }
@@ -100,17 +100,17 @@ fn put_names(fields: &mut ByteRecord, table: &Table) -> Put
     Ok(())
 }
 
-fn put_header(fields: &mut ByteRecord, table: &Table) -> Put
+fn print_header(fields: &mut ByteRecord, table: &Table) -> Printed
     ensures fields { OnOk result (fields_of fields.new ≡ header_of table.now) }
 {
     fields.clear();
-    put_names(fields, table)?;
+    print_names(fields, table)?;
     fields.push_field(table.row_start.text().as_bytes())?;
     fields.push_field(table.row_end.text().as_bytes())
 }
 
 /// Writes a record, into memory: no other error than that it ran out can come of records that each are the first or as wide as the first.
-fn write_fields(writer: &mut Writer<Vec<u8>>, fields: &ByteRecord) -> Put
+fn write_fields(writer: &mut Writer<Vec<u8>>, fields: &ByteRecord) -> Printed
     requires { IsReady writer.old }
     ensures ok { OnOk result (Appends (held writer.old) (held writer.new)
         (row_text default_writer (fields_of fields.now))) }
@@ -122,17 +122,17 @@ fn write_fields(writer: &mut Writer<Vec<u8>>, fields: &ByteRecord) -> Put
     }
 }
 
-fn write_version(writer: &mut Writer<Vec<u8>>, fields: &mut ByteRecord, version: &Shown) -> Put
+fn write_version(writer: &mut Writer<Vec<u8>>, fields: &mut ByteRecord, version: &Shown) -> Printed
     requires { IsReady writer.old }
     ensures ok { OnOk result (Appends (held writer.old) (held writer.new)
         (version_text version.now)) }
     ensures ready { OnOk result (IsReady writer.new) }
 {
-    put_version(fields, version)?;
+    print_version(fields, version)?;
     write_fields(writer, fields)
 }
 
-fn write_versions(writer: &mut Writer<Vec<u8>>, fields: &mut ByteRecord, shown: &[Shown]) -> Put
+fn write_versions(writer: &mut Writer<Vec<u8>>, fields: &mut ByteRecord, shown: &[Shown]) -> Printed
     requires { IsReady writer.old }
     ensures { OnOk result (Appends (held writer.old) (held writer.new)
         (flat_map version_text shown.now)) }
@@ -149,7 +149,7 @@ fn header_text(alloc: Global, fields: &mut ByteRecord, table: &Table) -> Result<
         text.items ≡ row_text default_writer (header_of table.now)) }
 {
     let mut writer = WriterBuilder::new().from_writer(Vec::new(alloc));
-    put_header(fields, table)?;
+    print_header(fields, table)?;
     write_fields(&mut writer, fields)?;
     match writer.into_inner() {
         Ok(text) => Ok(text),
@@ -176,7 +176,7 @@ fn versions_text(
 /// Passes on a text that was made.
 fn pass_on<W: Write>(writer: &mut W, text: Result<Vec<u8>, AllocError>) -> Result<(), ExportFault>
     ensures { (due : List ℕ) → IfOk text (λ t. t.items ≡ due)
-        → Puts (W.contents writer.old) (W.contents writer.new) result due }
+        → Prints (W.contents writer.old) (W.contents writer.new) result due }
 {
     match text {
         Ok(text) => match write_all(writer, text.as_slice()) {
@@ -193,7 +193,7 @@ fn export_versions<W: Write>(
     fields: &mut ByteRecord,
     shown: &[Shown],
 ) -> Result<(), ExportFault>
-    ensures { Puts (W.contents writer.old) (W.contents writer.new) result
+    ensures { Prints (W.contents writer.old) (W.contents writer.new) result
         (flat_map version_text shown.now) }
 {
     let mut rest = shown;
@@ -216,7 +216,7 @@ pub fn export<W: Write>(
     table: &Table,
     shown: &[Shown],
 ) -> Result<(), ExportFault>
-    ensures { Puts (W.contents writer.old) (W.contents writer.new) result
+    ensures { Prints (W.contents writer.old) (W.contents writer.new) result
         (export_text table.now shown.now) }
 {
     let mut fields = ByteRecord::new(alloc);

@@ -27,7 +27,7 @@ use Rattle.eventlist.proofs.PutPlaced.{all_put}
 use Rattle.tsbtree.specs.View.{TreeState, events, last}
 use Rattle.staging.specs.View.{Holds, Adds}
 use Rattle.staging.specs.Own.{rows_seen, net_over}
-use Rattle.transaction.specs.TransactionState.{TransactionState}
+use Rattle.transaction.specs.OpenTransactionState.{OpenTransactionState}
 use Rattle.histories.specs.declared.step.Reply.{Reply}
 use Rattle.histories.specs.declared.step.Reply.TheVariants.{Committed as Commits, Refused}
 use Rattle.histories.specs.World.{OpenTransaction, World}
@@ -71,7 +71,7 @@ there_is m t q =
     ∙ sym (there (last_until m t q))
 
 -- what is committed is what the turn commits
-pub net_is : (schema : Schema) (m : Changes) (b : TransactionState) → changes_in schema (events b.view) ≡ changes_upto m (last b.view) → net_over (changes_in schema (events b.view)) b.writes ≡ net_in m (open_of schema b)
+pub net_is : (schema : Schema) (m : Changes) (b : OpenTransactionState) → changes_in schema (events b.view) ≡ changes_upto m (last b.view) → net_over (changes_in schema (events b.view)) b.writes ≡ net_in m (open_of schema b)
 net_is schema m b part =
     (λ i. filter (λ c. is_some c.1 || is_some (row_at (rows_after [] (part i)) c.0)) (map (λ k. (k, row_at (rows_seen (changes_in schema (events b.view)) b.writes) k)) (keys_of b.writes)))
     ∙ (λ i. filter (λ c. is_some c.1 || there_is m (last b.view) c.0 i) (map (λ k. (k, row_at (rows_seen (changes_in schema (events b.view)) b.writes) k)) (keys_of b.writes)))
@@ -105,7 +105,7 @@ module _ (schema : Schema) (engine new : TreeState) (held : Holds schema engine 
   added_holds = subst (Holds schema new) (sym added_changes) holds
 
   -- an open transaction sees what it saw
-  added_begun : last engine < instant → (o : Option TransactionState) → IsOpen schema engine o → IsOpen schema new o
+  added_begun : last engine < instant → (o : Option OpenTransactionState) → IsOpen schema engine o → IsOpen schema new o
   added_begun late None h = h
   added_begun late (Some b) h = record {
     early = subst (λ n. last b.view ≤ n) (sym adds.last_is) (let early : last b.view ≤ last engine = h.early in omega arith);
@@ -115,7 +115,7 @@ module _ (schema : Schema) (engine new : TreeState) (held : Holds schema engine 
     keys = h.keys;
   }
 
-all_open : (schema : Schema) (engine new : TreeState) (sessions : List (Option TransactionState)) → ((o : Option TransactionState) → IsOpen schema engine o → IsOpen schema new o) → AllByRecursion (IsOpen schema engine) sessions → AllByRecursion (IsOpen schema new) sessions
+all_open : (schema : Schema) (engine new : TreeState) (sessions : List (Option OpenTransactionState)) → ((o : Option OpenTransactionState) → IsOpen schema engine o → IsOpen schema new o) → AllByRecursion (IsOpen schema engine) sessions → AllByRecursion (IsOpen schema new) sessions
 all_open schema engine new [] f h = tt
 all_open schema engine new (o ∷ sessions) f h = (f o h.0, all_open schema engine new sessions f h.1)
 
@@ -129,7 +129,7 @@ pub record IsEnded (engine new : TreeState) (net : Net) (r : Result (Option ℕ)
   pub nothing : IfOk r (λ end. IfNone end (new ≡ engine))
   pub refused : OnErr r (new ≡ engine)
 
-module _ (schema : Schema) (engine new : TreeState) (sessions : List (Option TransactionState)) (net : Net) (keys : AreKeysIn schema net) (s : IsSystem schema engine sessions) where
+module _ (schema : Schema) (engine new : TreeState) (sessions : List (Option OpenTransactionState)) (net : Net) (keys : AreKeysIn schema net) (s : IsSystem schema engine sessions) where
   ended_none : new ≡ engine → IsSystem schema new sessions
   ended_none is = subst (λ e. IsSystem schema e sessions) (sym is) s
 
@@ -159,8 +159,8 @@ abbrev pub end_reply : Result (Option ℕ) Refusal → Reply
 end_reply (Ok instant) = Commits instant
 end_reply (Err refusal) = Refused refusal
 
-module _ (schema : Schema) (engine new : TreeState) (sessions : List (Option TransactionState)) (net : Net) (keys : AreKeysIn schema net) (held : Holds schema engine (changes_in schema (events engine))) (i : ℕ) where
-  abbrev closed : List (Option TransactionState)
+module _ (schema : Schema) (engine new : TreeState) (sessions : List (Option OpenTransactionState)) (net : Net) (keys : AreKeysIn schema net) (held : Holds schema engine (changes_in schema (events engine))) (i : ℕ) where
+  abbrev closed : List (Option OpenTransactionState)
   closed = set sessions i None
 
   left_none : new ≡ engine → world_of schema new closed ≡ put (world_of schema engine sessions) i None
@@ -179,7 +179,7 @@ module _ (schema : Schema) (engine new : TreeState) (sessions : List (Option Tra
 abbrev by_commit : World → ℕ → ℕ → Option OpenTransaction → Turn
 by_commit w i reading o = elim o [ None ↦ (Refused NoTransaction, w) | Some s ↦ end_turn w i (net_in w.changes s) (outcome w.changes w.latest s.start (net_in w.changes s) reading) ]
 
-pub committed : (schema : Schema) (engine new : TreeState) (sessions : List (Option TransactionState)) (w : World) (i start reading : ℕ) (b : TransactionState) (net : Net) (r : Result (Option ℕ) Refusal)
+pub committed : (schema : Schema) (engine new : TreeState) (sessions : List (Option OpenTransactionState)) (w : World) (i start reading : ℕ) (b : OpenTransactionState) (net : Net) (r : Result (Option ℕ) Refusal)
     → world_of schema engine sessions ≡ w → IsSystem schema engine sessions → IsFound schema engine sessions i b → start ≡ (last b.view)
     → ((schema : Schema) (m : Changes) → Holds schema b.view m → AreKeysIn schema b.writes → net ≡ net_over m b.writes) → AreKeysIn schema net
     → ((schema : Schema) (m : Changes) → Holds schema engine m → AreKeysIn schema net → r ≢ Err Memory → r ≡ outcome m (last engine) start net reading)

@@ -27,7 +27,7 @@ use Rattle.histories.specs.declared.step.Reply.TheVariants.{Begun as Begins, Rol
 use Rattle.histories.specs.World.{OpenTransaction, World}
 use Rattle.histories.specs.Turn.{Turn, put, opened_now, begin_turn, rollback_turn}
 use Rattle.histories.specs.Stands.{Stands as WorldStands, open_at}
-use Rattle.transaction.specs.TransactionState.{TransactionState}
+use Rattle.transaction.specs.OpenTransactionState.{OpenTransactionState}
 use Rattle.interleaving.specs.SystemState.{change_in, changes_in, open_of, world_of, IsOpenIn, IsOpen, IsSystem}
 
 -- ---- events are read back
@@ -48,14 +48,14 @@ module _ (schema : Schema) where
 
 -- ---- sessions
 
-pub session_is : (schema : Schema) (engine : TreeState) (sessions : List (Option TransactionState)) (i : ℕ) → open_at (world_of schema engine sessions) i ≡ option_map (open_of schema) (get_or sessions i None)
+pub session_is : (schema : Schema) (engine : TreeState) (sessions : List (Option OpenTransactionState)) (i : ℕ) → open_at (world_of schema engine sessions) i ≡ option_map (open_of schema) (get_or sessions i None)
 session_is schema engine sessions i = get_or-map (option_map (open_of schema)) sessions i None
 
-pub put_is : (schema : Schema) (engine : TreeState) (sessions : List (Option TransactionState)) (i : ℕ) (o : Option TransactionState)
+pub put_is : (schema : Schema) (engine : TreeState) (sessions : List (Option OpenTransactionState)) (i : ℕ) (o : Option OpenTransactionState)
     → world_of schema engine (set sessions i o) ≡ put (world_of schema engine sessions) i (option_map (open_of schema) o)
 put_is schema engine sessions i o = ap (λ ss. record { schema = schema; changes = changes_in schema (events engine); latest = (last engine); sessions = ss }) (map-set (option_map (open_of schema)) sessions i o)
 
-pub with_session : (schema : Schema) (engine : TreeState) (sessions : List (Option TransactionState)) (i : ℕ) (o : Option TransactionState) → IsOpen schema engine o → IsSystem schema engine sessions → IsSystem schema engine (set sessions i o)
+pub with_session : (schema : Schema) (engine : TreeState) (sessions : List (Option OpenTransactionState)) (i : ℕ) (o : Option OpenTransactionState) → IsOpen schema engine o → IsSystem schema engine sessions → IsSystem schema engine (set sessions i o)
 with_session schema engine sessions i o h s = record {
   wide = length-set sessions i o ∙ s.wide;
   held = s.held;
@@ -63,23 +63,23 @@ with_session schema engine sessions i o h s = record {
   each_open = All-set (IsOpen schema engine) sessions i o h s.each_open;
 }
 
-pub begun_at : (schema : Schema) (engine : TreeState) (sessions : List (Option TransactionState)) (i : ℕ) → i ≤ 64 → IsSystem schema engine sessions → IsOpen schema engine (get_or sessions i None)
+pub begun_at : (schema : Schema) (engine : TreeState) (sessions : List (Option OpenTransactionState)) (i : ℕ) → i ≤ 64 → IsSystem schema engine sessions → IsOpen schema engine (get_or sessions i None)
 begun_at schema engine sessions i small s = All-get_or (IsOpen schema engine) sessions i None (let wide : length sessions ≡ 65 = s.wide in omega arith) s.each_open
 
 -- what a session has, read in place
-pub place_is : (schema : Schema) (engine : TreeState) (sessions : List (Option TransactionState)) (i : ℕ) (o : Option TransactionState) → IsSystem schema engine sessions → i ≤ 64 → o ≡ get_or sessions i o → o ≡ get_or sessions i None
+pub place_is : (schema : Schema) (engine : TreeState) (sessions : List (Option OpenTransactionState)) (i : ℕ) (o : Option OpenTransactionState) → IsSystem schema engine sessions → i ≤ 64 → o ≡ get_or sessions i o → o ≡ get_or sessions i None
 place_is schema engine sessions i o s small at = get_or_read_under sessions i 65 o None at (omega arith) (sym s.wide)
 
-pub none_of : (o : Option TransactionState) → is_some o ≡ false → o ≡ None
+pub none_of : (o : Option OpenTransactionState) → is_some o ≡ false → o ≡ None
 none_of None h = refl
 none_of (Some b) h = cc
 
 -- ---- a system in which nothing was committed
 
-pub new_system : (schema : Schema) (engine : TreeState) (sessions : List (Option TransactionState)) → IsEmpty engine → sessions ≡ replicate {A = Option TransactionState} 65 None → IsSystem schema engine sessions
+pub new_system : (schema : Schema) (engine : TreeState) (sessions : List (Option OpenTransactionState)) → IsEmpty engine → sessions ≡ replicate {A = Option OpenTransactionState} 65 None → IsSystem schema engine sessions
 new_system schema engine sessions is none =
     subst (IsSystem schema engine) (sym none) (record {
-      wide = length-replicate {A = Option TransactionState} 65 None;
+      wide = length-replicate {A = Option OpenTransactionState} 65 None;
       held = record {
         events_are = is.no_event ∙ sym (ap (λ es. events_of (changes_in schema es)) is.no_event);
         keys = subst (λ es. AreChangesIn schema (changes_in schema es)) (sym is.no_event) (All-nil (λ (p : Point). IsKeyIn schema p.key));
@@ -89,13 +89,13 @@ new_system schema engine sessions is none =
       each_open = All-replicate (IsOpen schema engine) 65 None tt;
     })
 
-pub new_stands : (schema : Schema) (engine : TreeState) (sessions : List (Option TransactionState)) → IsEmpty engine → sessions ≡ replicate {A = Option TransactionState} 65 None → WorldStands (world_of schema engine sessions) []
+pub new_stands : (schema : Schema) (engine : TreeState) (sessions : List (Option OpenTransactionState)) → IsEmpty engine → sessions ≡ replicate {A = Option OpenTransactionState} 65 None → WorldStands (world_of schema engine sessions) []
 new_stands schema engine sessions is none =
     subst (λ ss. WorldStands (world_of schema engine ss) []) (sym none) (record {
-      wide = length-map (replicate {A = Option TransactionState} 65 None) (option_map (open_of schema)) ∙ length-replicate {A = Option TransactionState} 65 None;
+      wide = length-map (replicate {A = Option OpenTransactionState} 65 None) (option_map (open_of schema)) ∙ length-replicate {A = Option OpenTransactionState} 65 None;
       changes_are = ap (changes_in schema) is.no_event;
       latest_is = is.no_commit;
-      sessions_are = λ i small. session_is schema engine (replicate {A = Option TransactionState} 65 None) i ∙ ap (option_map (open_of schema)) (get_or-replicate {A = Option TransactionState} 65 i None None (omega arith));
+      sessions_are = λ i small. session_is schema engine (replicate {A = Option OpenTransactionState} 65 None) i ∙ ap (option_map (open_of schema)) (get_or-replicate {A = Option OpenTransactionState} 65 i None None (omega arith));
     })
 
 -- ---- BEGIN and ROLLBACK
@@ -109,7 +109,7 @@ begun_by w i (Some s) = refl
 begun_by w i None = refl
 
 -- a transaction that sees all and wrote nothing
-pub began : (schema : Schema) (engine : TreeState) (sessions : List (Option TransactionState)) (w : World) (i start : ℕ) (b : TransactionState) → world_of schema engine sessions ≡ w → start ≡ (last b.view) → get_or sessions i None ≡ None → b.view ≡ engine → b.writes ≡ []
+pub began : (schema : Schema) (engine : TreeState) (sessions : List (Option OpenTransactionState)) (w : World) (i start : ℕ) (b : OpenTransactionState) → world_of schema engine sessions ≡ w → start ≡ (last b.view) → get_or sessions i None ≡ None → b.view ≡ engine → b.writes ≡ []
     → ◌≡◌ {A = Turn} (Begins start, world_of schema engine (set sessions i (Some b))) (begin_turn w i)
 began schema engine sessions w i start b is starts at seen wrote =
     (λ j. (Begins (starts j), put_is schema engine sessions i (Some b) j))
@@ -125,7 +125,7 @@ rolled_by : (w : World) (i : ℕ) (o : Option OpenTransaction) → elim o [ None
 rolled_by w i (Some s) = refl
 rolled_by w i None = refl
 
-pub rolled : (schema : Schema) (engine : TreeState) (sessions : List (Option TransactionState)) (w : World) (i : ℕ) → world_of schema engine sessions ≡ w → (o : Option TransactionState) → o ≡ get_or sessions i None → is_some o ≡ true
+pub rolled : (schema : Schema) (engine : TreeState) (sessions : List (Option OpenTransactionState)) (w : World) (i : ℕ) → world_of schema engine sessions ≡ w → (o : Option OpenTransactionState) → o ≡ get_or sessions i None → is_some o ≡ true
     → ◌≡◌ {A = Turn} (RolledBack, world_of schema engine (set sessions i None)) (rollback_turn w i)
 rolled schema engine sessions w i is o at some =
     (λ j. (RolledBack, put_is schema engine sessions i None j))
@@ -133,7 +133,7 @@ rolled schema engine sessions w i is o at some =
     ∙ sym (rolled_by (world_of schema engine sessions) i (open_at (world_of schema engine sessions) i) ∙ ap (by_rollback (world_of schema engine sessions) i) (session_is schema engine sessions i ∙ ap (option_map (open_of schema)) (sym at)))
     ∙ ap (λ w. rollback_turn w i) is
   where
-    there : (o : Option TransactionState) → is_some o ≡ true → ◌≡◌ {A = Turn} (RolledBack, put (world_of schema engine sessions) i None) (by_rollback (world_of schema engine sessions) i (option_map (open_of schema) o))
+    there : (o : Option OpenTransactionState) → is_some o ≡ true → ◌≡◌ {A = Turn} (RolledBack, put (world_of schema engine sessions) i None) (by_rollback (world_of schema engine sessions) i (option_map (open_of schema) o))
     there (Some b) h = refl
     there None h = cc
 
@@ -144,11 +144,11 @@ all_upto (c ∷ cs) last h =
     ap (λ b. cond b (c ∷ changes_upto cs last) (changes_upto cs last)) {y = true} (let le : c.0.instant ≤ last = All-head (λ (e : Event). e.at ≤ last) (event_of c) (events_of cs) h in grind (arith, nat_tests))
     ∙ ap (λ m. c ∷ m) (all_upto cs last (All-tail (λ (e : Event). e.at ≤ last) (event_of c) (events_of cs) h))
 
-pub upto_now : (schema : Schema) (engine : TreeState) (sessions : List (Option TransactionState)) → IsSystem schema engine sessions → changes_upto (changes_in schema (events engine)) (last engine) ≡ changes_in schema (events engine)
+pub upto_now : (schema : Schema) (engine : TreeState) (sessions : List (Option OpenTransactionState)) → IsSystem schema engine sessions → changes_upto (changes_in schema (events engine)) (last engine) ≡ changes_in schema (events engine)
 upto_now schema engine sessions s = all_upto (changes_in schema (events engine)) (last engine) (subst (All (λ (e : Event). e.at ≤ (last engine))) s.held.events_are s.upto)
 
 -- a transaction that begins is one of the system's
-pub began_is : (schema : Schema) (engine : TreeState) (sessions : List (Option TransactionState)) (b : TransactionState) → IsSystem schema engine sessions → b.view ≡ engine → b.writes ≡ [] → IsOpenIn schema engine b
+pub began_is : (schema : Schema) (engine : TreeState) (sessions : List (Option OpenTransactionState)) (b : OpenTransactionState) → IsSystem schema engine sessions → b.view ≡ engine → b.writes ≡ [] → IsOpenIn schema engine b
 began_is schema engine sessions b s seen wrote =
     subst (IsOpenIn schema engine) (sym (λ j. record { view = seen j; writes = wrote j })) (record {
       early = omega arith;

@@ -19,7 +19,7 @@ use Rattle.histories.specs.declared.step.Listing.{Listing}
 use Rattle.histories.specs.World.{OpenTransaction, World}
 use Rattle.histories.specs.Turn.{listing, select_reply}
 use Rattle.interleaving.specs.SystemState.{changes_in, open_of, world_of, IsOpenIn, IsSystem}
-use Rattle.transaction.specs.TransactionState.{TransactionState}
+use Rattle.transaction.specs.OpenTransactionState.{OpenTransactionState}
 use Rattle.transaction.specs.Listing.{as_listing, listing_in}
 use Rattle.systime_query.specs.Selection.{WhenShown}
 use Rattle.interleaving.proofs.SystemKeeps.{session_is, place_is, upto_now}
@@ -27,7 +27,7 @@ use Rattle.interleaving.proofs.SystemWritten.{reads, begun_in}
 
 -- ---- the turn's listing
 
-in_turn : (w : World) (schema : Schema) (b : TransactionState) (table : Table) (form : Form) (keys : Keys) → changes_in schema (events b.view) ≡ changes_upto w.changes (last b.view)
+in_turn : (w : World) (schema : Schema) (b : OpenTransactionState) (table : Table) (form : Form) (keys : Keys) → changes_in schema (events b.view) ≡ changes_upto w.changes (last b.view)
     → listing_in (changes_in schema (events b.view)) b.writes table form keys ≡ listing w (Some (open_of schema b)) form table keys
 in_turn w schema b table Plain keys part = refl
 in_turn w schema b table (AsOf t) keys part = λ i. as_listing (AsOf t) (answer (part i) table (AsOf t) keys)
@@ -43,9 +43,9 @@ of_turn w m table (Between x y) keys part = λ i. as_listing (Between x y) (answ
 abbrev by_select : World → Form → Keys → Option OpenTransaction → Option Table → Reply
 by_select w form keys s t = elim t [ None ↦ Refused NoTable | Some table ↦ Shown (listing w s form table keys) ]
 
-module _ (schema : Schema) (engine : TreeState) (sessions : List (Option TransactionState)) (w : World) (i : ℕ) (table : Table) (form : Form) (keys : Keys) (is : world_of schema engine sessions ≡ w) (there : Some table ≡ table_at schema keys.table) (good : IsTable keys.table table) where
+module _ (schema : Schema) (engine : TreeState) (sessions : List (Option OpenTransactionState)) (w : World) (i : ℕ) (table : Table) (form : Form) (keys : Keys) (is : world_of schema engine sessions ≡ w) (there : Some table ≡ table_at schema keys.table) (good : IsTable keys.table table) where
   -- what a session shows with a transaction open
-  pub shows_in : (o : Option TransactionState) (b : TransactionState) (l : Listing) → IsSystem schema engine sessions → i ≤ 64 → o ≡ get_or sessions i o → o ≡ Some b
+  pub shows_in : (o : Option OpenTransactionState) (b : OpenTransactionState) (l : Listing) → IsSystem schema engine sessions → i ≤ 64 → o ≡ get_or sessions i o → o ≡ Some b
       → WhenRead table b.view b.writes (λ schema m. keys.table ≡ table.number → l ≡ listing_in m b.writes table form keys) → Shown l ≡ select_reply w i form keys
   shows_in o b l s small at some did =
       let here : Some b ≡ get_or sessions i None = sym some ∙ place_is schema engine sessions i o s small at in
@@ -56,7 +56,7 @@ module _ (schema : Schema) (engine : TreeState) (sessions : List (Option Transac
       ∙ ap (λ w. select_reply w i form keys) is
 
   -- and with none
-  pub shows_now : (o : Option TransactionState) (view : TreeState) (l : Listing) → IsSystem schema engine sessions → i ≤ 64 → o ≡ get_or sessions i o → o ≡ None → view ≡ engine
+  pub shows_now : (o : Option OpenTransactionState) (view : TreeState) (l : Listing) → IsSystem schema engine sessions → i ≤ 64 → o ≡ get_or sessions i o → o ≡ None → view ≡ engine
       → WhenShown view table keys (λ m. l ≡ as_listing form (answer m table form keys)) → Shown l ≡ select_reply w i form keys
   shows_now o view l s small at none sees did =
       let here : None ≡ get_or sessions i None = sym none ∙ place_is schema engine sessions i o s small at in

@@ -10,11 +10,11 @@ use Rattle.values.specs.declared.refusal.Refusal.{Refusal}
 use Rattle.values.specs.declared.refusal.Refusal.TheVariants.{NoTable, NoSession, NoTransaction, Memory}
 use Rattle.values.specs.Tables.{Schema, IsTable, table_at}
 use Rattle.values.specs.Log.{Changes, Net, Row}
-use Rattle.values.specs.Fit.{rows_fault, comparisons_fault, sets_fault, first_of}
+use Rattle.values.specs.Fit.{rows_fault, comparisons_fault, sets_fault, first_of, update_fault}
 use Rattle.values.specs.Writes.{Own, Written, insert_into, update_in, delete_from}
 use Rattle.tsbtree.specs.View.{TreeState, events}
-use Rattle.staging.specs.Own.{own, Reads, WhenRead, write_if_fits, checked_insert, checked_update, checked_delete, update_fault}
-use Rattle.transaction.specs.TransactionState.{TransactionState}
+use Rattle.staging.specs.Own.{own, Reads, WhenRead, write_if_fits, checked_insert, checked_update, checked_delete}
+use Rattle.transaction.specs.OpenTransactionState.{OpenTransactionState}
 use Rattle.histories.specs.declared.step.Reply.{Reply}
 use Rattle.histories.specs.declared.step.Reply.TheVariants.{Refused}
 use Rattle.histories.specs.declared.step.Step.{Step}
@@ -64,30 +64,30 @@ by_write w i step o = elim o [
 ]
 
 -- a transaction as its writes leave it
-abbrev pub with_writes : TransactionState → Net → TransactionState
+abbrev pub with_writes : OpenTransactionState → Net → OpenTransactionState
 with_writes b new = record { view = b.view; writes = new }
 
 -- what it sees of what was committed
-abbrev seen_by : Schema → TransactionState → Changes
+abbrev seen_by : Schema → OpenTransactionState → Changes
 seen_by schema b = changes_in schema (events b.view)
 
-abbrev own_of : Schema → TransactionState → Net → Own
+abbrev own_of : Schema → OpenTransactionState → Net → Own
 own_of schema b w = own (seen_by schema b) w
 
 -- what the transaction reads
-pub reads : (schema : Schema) (engine : TreeState) (b : TransactionState) (table : Table) (number : ℕ) → IsOpenIn schema engine b → Some table ≡ table_at schema number → IsTable number table → Reads schema table b.view b.writes (changes_in schema (events b.view))
+pub reads : (schema : Schema) (engine : TreeState) (b : OpenTransactionState) (table : Table) (number : ℕ) → IsOpenIn schema engine b → Some table ≡ table_at schema number → IsTable number table → Reads schema table b.view b.writes (changes_in schema (events b.view))
 reads schema engine b table number s at good = record { held = s.held; keys = s.keys; is_table = ap (table_at schema) good.numbered ∙ sym at }
 
-pub begun_in : (schema : Schema) (engine : TreeState) (sessions : List (Option TransactionState)) (i : ℕ) (b : TransactionState) → i ≤ 64 → IsSystem schema engine sessions → Some b ≡ get_or sessions i None → IsOpenIn schema engine b
+pub begun_in : (schema : Schema) (engine : TreeState) (sessions : List (Option OpenTransactionState)) (i : ℕ) (b : OpenTransactionState) → i ≤ 64 → IsSystem schema engine sessions → Some b ≡ get_or sessions i None → IsOpenIn schema engine b
 begun_in schema engine sessions i b small s at = subst (IsOpen schema engine) (sym at) (begun_at schema engine sessions i small s)
 
 -- ---- a session's open transaction, found in its place
 
-pub record IsFound (schema : Schema) (engine : TreeState) (sessions : List (Option TransactionState)) (i : ℕ) (b : TransactionState) : Type 0 where
+pub record IsFound (schema : Schema) (engine : TreeState) (sessions : List (Option OpenTransactionState)) (i : ℕ) (b : OpenTransactionState) : Type 0 where
   pub at : Some b ≡ get_or sessions i None
   pub begun : IsOpenIn schema engine b
 
-pub found : (schema : Schema) (engine : TreeState) (sessions : List (Option TransactionState)) (i : ℕ) (o : Option TransactionState) (b : TransactionState) → IsSystem schema engine sessions → i ≤ 64 → o ≡ get_or sessions i o → o ≡ Some b → IsFound schema engine sessions i b
+pub found : (schema : Schema) (engine : TreeState) (sessions : List (Option OpenTransactionState)) (i : ℕ) (o : Option OpenTransactionState) (b : OpenTransactionState) → IsSystem schema engine sessions → i ≤ 64 → o ≡ get_or sessions i o → o ≡ Some b → IsFound schema engine sessions i b
 found schema engine sessions i o b s small at some =
     let here : Some b ≡ get_or sessions i None = sym some ∙ place_is schema engine sessions i o s small at in
     record { at = here; begun = begun_in schema engine sessions i b small s here }
@@ -95,7 +95,7 @@ found schema engine sessions i o b s small at some =
 -- ---- each write
 
 -- with no transaction open
-pub none_turn : (schema : Schema) (engine : TreeState) (sessions : List (Option TransactionState)) (w : World) (i : ℕ) (step : Step) (o : Option TransactionState) → world_of schema engine sessions ≡ w → IsSystem schema engine sessions → i ≤ 64
+pub none_turn : (schema : Schema) (engine : TreeState) (sessions : List (Option OpenTransactionState)) (w : World) (i : ℕ) (step : Step) (o : Option OpenTransactionState) → world_of schema engine sessions ≡ w → IsSystem schema engine sessions → i ≤ 64
     → o ≡ get_or sessions i o → o ≡ None → ◌≡◌ {A = Turn} (Refused NoTransaction, world_of schema engine (set sessions i o)) (by_write w i step (open_at w i))
 none_turn schema engine sessions w i step o is s small at none =
     (λ j. (Refused NoTransaction, world_of schema engine (set sessions i (place_is schema engine sessions i o s small at j))))
@@ -106,7 +106,7 @@ none_turn schema engine sessions w i step o is s small at none =
 pub not_memory : (step : Step) (r : Result ℕ Refusal) → is_out_of_memory (written_reply step r) ≡ false → r ≢ Err Memory
 not_memory step r h e = cc (sym h ∙ ap (λ r. is_out_of_memory (written_reply step r)) e)
 
-module _ (schema : Schema) (engine : TreeState) (sessions : List (Option TransactionState)) (w : World) (i : ℕ) (b after : TransactionState) (step : Step) (r : Result ℕ Refusal) (reply : Reply)
+module _ (schema : Schema) (engine : TreeState) (sessions : List (Option OpenTransactionState)) (w : World) (i : ℕ) (b after : OpenTransactionState) (step : Step) (r : Result ℕ Refusal) (reply : Reply)
     (is : world_of schema engine sessions ≡ w) (f : IsFound schema engine sessions i b) (same_view : after.view ≡ b.view)
     (says : reply ≡ written_reply step r) (answered : is_out_of_memory reply ≡ false) where
   after_is : after ≡ with_writes b after.writes
@@ -125,7 +125,7 @@ module _ (schema : Schema) (engine : TreeState) (sessions : List (Option Transac
       ∙ (λ j. by_write (world_of schema engine sessions) i step (sym (session_is schema engine sessions i) j))
       ∙ ap (λ w. by_write w i step (open_at w i)) is
 
-module _ (schema : Schema) (engine : TreeState) (sessions : List (Option TransactionState)) (w : World) (i : ℕ) (b after : TransactionState) (table : Table)
+module _ (schema : Schema) (engine : TreeState) (sessions : List (Option OpenTransactionState)) (w : World) (i : ℕ) (b after : OpenTransactionState) (table : Table)
     (is : world_of schema engine sessions ≡ w) (f : IsFound schema engine sessions i b) (same_view : after.view ≡ b.view) where
   pub insert_turn : (number : ℕ) (rows : List Row) (r : Result ℕ Refusal) (reply : Reply) → Some table ≡ table_at schema number → IsTable number table → misfit w.schema (Insert i number rows) ≡ None
       → WhenRead table b.view b.writes (λ schema m. r ≢ Err Memory → ◌≡◌ {A = Written} (r, own m after.writes) (checked_insert table rows (own m b.writes)))

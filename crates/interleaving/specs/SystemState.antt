@@ -14,7 +14,7 @@ use Rattle.values.specs.Events.{AreKeysIn}
 use Rattle.tsbtree.specs.View.{TreeState, events, last}
 use Rattle.staging.specs.View.{Holds}
 use Rattle.staging.specs.Own.{rows_seen}
-use Rattle.transaction.specs.TransactionState.{TransactionState}
+use Rattle.transaction.specs.OpenTransactionState.{OpenTransactionState}
 use Rattle.histories.specs.Misfit.{max_session}
 use Rattle.histories.specs.History.{History}
 use Rattle.histories.specs.World.{OpenTransaction, World}
@@ -39,17 +39,17 @@ changes_in schema es = filter_map (change_in schema) es
 pub record SystemState : Type 0 where
   pub schema : Schema
   pub engine : TreeState
-  pub sessions : List (Option TransactionState)
+  pub sessions : List (Option OpenTransactionState)
 
 -- an open transaction, by what it sees
-abbrev pub open_of : Schema → TransactionState → OpenTransaction
+abbrev pub open_of : Schema → OpenTransactionState → OpenTransaction
 open_of schema t = record {
   start = last t.view;
   rows = rows_seen (changes_in schema (events t.view)) t.writes;
   written = keys_of t.writes;
 }
 
-abbrev pub world_of : Schema → TreeState → List (Option TransactionState) → World
+abbrev pub world_of : Schema → TreeState → List (Option OpenTransactionState) → World
 world_of schema engine sessions = record {
   schema = schema;
   changes = changes_in schema (events engine);
@@ -66,20 +66,20 @@ abbrev pub Stands : SystemState → History → Type 0
 Stands s h = WorldStands (world s) h
 
 -- an open transaction sees what was committed until its start, and wrote keys of the schema
-pub record IsOpenIn (schema : Schema) (engine : TreeState) (t : TransactionState) : Type 0 where
+pub record IsOpenIn (schema : Schema) (engine : TreeState) (t : OpenTransactionState) : Type 0 where
   pub early : last t.view ≤ last engine
   pub held : Holds schema t.view (changes_in schema (events t.view))
   pub part : changes_in schema (events t.view)
       ≡ changes_upto (changes_in schema (events engine)) (last t.view)
   pub keys : AreKeysIn schema t.writes
 
-abbrev pub IsOpen : Schema → TreeState → Option TransactionState → Type 0
+abbrev pub IsOpen : Schema → TreeState → Option OpenTransactionState → Type 0
 IsOpen schema engine None = Unit {0}
 IsOpen schema engine (Some t) = IsOpenIn schema engine t
 
 -- what is true of every system: its changes are the events', and none is later than its last instant
 pub record IsSystem (schema : Schema) (engine : TreeState)
-    (sessions : List (Option TransactionState)) : Type 0 where
+    (sessions : List (Option OpenTransactionState)) : Type 0 where
   pub wide : length sessions ≡ max_session + 1
   pub held : Holds schema engine (changes_in schema (events engine))
   pub upto : All (λ e. e.at ≤ last engine) (events engine)

@@ -4,7 +4,7 @@ ghost use Rattle.keyrange.specs.Cut.{pair_of, rect_of, is_key_inside, is_time_in
 
 use crate::range::{KeyRange, TimeRange, is_before_end, is_below, is_early};
 use crate::rect::Rect;
-use values::{Instant, KeyBytes, LAST, Mem};
+use values::{Instant, KeyBytes, MAX_INSTANT, Mem};
 
 impl Rect {
     ghost use Rattle.keyrange.specs.Cut.{halves_by_key, halves_by_time, PartsKeys, PartsTime};
@@ -97,7 +97,7 @@ fn is_time_inside(rect: &Rect, instant: Instant) -> bool
     ensures { result ≡ is_time_inside rect.now instant }
 {
     let time = rect.time();
-    time.from < instant && is_early(instant, time.to) && instant <= LAST
+    time.from < instant && is_early(instant, time.to) && instant <= MAX_INSTANT
 }
 
 /// Both halves, where both are rectangles.

@@ -5,7 +5,7 @@ ghost use Rattle.keyrange.specs.Cut.{rect_of};
 
 use crate::range::{KeyRange, TimeRange, is_before_end, is_early};
 use std::marker::Model;
-use values::{Instant, KeyBytes, LAST, Mem};
+use values::{Instant, KeyBytes, MAX_INSTANT, Mem};
 
 /// A range of keys and one of instants, neither of them empty, with instants from 1 to the last.
 #[derive(Debug, Drop)]
@@ -83,7 +83,7 @@ fn is_area(keys: &KeyRange, time: TimeRange) -> bool
 {
     is_before_end(&keys.lo, &keys.hi)
         && 1 <= time.from
-        && time.from <= LAST
+        && time.from <= MAX_INSTANT
         && is_early(time.from, time.to)
-        && time.to.is_none_or(|to| to <= LAST)
+        && time.to.is_none_or(|to| to <= MAX_INSTANT)
 }

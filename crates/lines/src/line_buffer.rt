@@ -9,6 +9,12 @@ use std::alloc::Global;
 use std::marker::Model;
 use values::Mem;
 
+/// The bytes of a text that are read at once.
+pub const CHUNK: usize = 4096;
+
+/// The reads after which a reader that gives no end is at fault.
+pub const MOST_READS: u64 = 1 << 32;
+
 /// A line as far as it was read, or only that it is too long: it has at most 8,192 bytes before its line feed. Its room is made once.
 #[derive(Drop)]
 pub struct LineBuffer {

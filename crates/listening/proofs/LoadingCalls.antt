@@ -17,7 +17,7 @@ use Rattle.journal.specs.declared.entry.Entry.{Entry}
 use Rattle.journal.specs.declared.entry.Entry.TheVariants.{Begin, Commit}
 use Rattle.sessions.specs.SessionState.{IsWrite, SessionState, WithWrites, with_writes, write_by}
 use Rattle.sessions.specs.Store.{IsBegun, begun_with}
-use Rattle.serving.specs.Taken.{Given}
+use Rattle.serving.specs.Progress.{Given}
 use Rattle.serving.proofs.AnswerRefusing.{memory_or_reply}
 use Rattle.listening.specs.Loading.{HasEnded, IsLoadedBy, IsUnloaded, Inserts, unbegun}
 

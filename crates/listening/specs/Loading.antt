@@ -14,7 +14,7 @@ use Rattle.journal.specs.declared.entry.Entry.{Entry}
 use Rattle.journal.specs.declared.entry.Entry.TheVariants.{Begin, Commit}
 use Rattle.sessions.specs.SessionState.{SessionState, write_by}
 use Rattle.sessions.specs.Store.{IsCommitted}
-use Rattle.serving.specs.Taken.{Given}
+use Rattle.serving.specs.Progress.{Given}
 
 -- the entry of a commit that changed something at the instant
 abbrev pub IsCommitAt : Entry → ℕ → Type 0

@@ -14,7 +14,7 @@ use Rattle.interchange.specs.Version.{export_text}
 use Rattle.interchange.specs.Report.{loaded_text}
 use Rattle.journal.specs.Entries.{entry_at, log}
 use Rattle.book.specs.Book.{BookState, IsBook}
-use Rattle.serving.specs.Taken.{Given}
+use Rattle.serving.specs.Progress.{Given}
 use Rattle.listening.specs.Loading.{IsLoaded, IsUnloaded}
 use Rattle.listening.specs.declared.server.TableRows.{TableRows}
 use Rattle.listening.specs.declared.server.ServerFault.{ServerFault}

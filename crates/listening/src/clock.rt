@@ -2,11 +2,11 @@
 ghost use Rattle.std.specs.Prelude.{◌≤◌};
 ghost use Rattle.values.specs.Commits.{max_instant};
 
-use rows::{Instant, LAST};
+use rows::{Instant, MAX_INSTANT};
 use serving::Readings;
 use std::time::{Clock, SystemTime};
 
-/// The runtime's clock in microseconds since 1970, at most the last instant. Before 1970, and where the clock cannot be read, it is 0.
+/// The runtime's clock in microseconds since 1970, at most the greatest instant. Before 1970, and where the clock cannot be read, it is 0.
 #[derive(Drop)]
 pub struct Microseconds<'a, R: Clock> {
     pub rt: &'a R,
@@ -25,7 +25,9 @@ fn since_1970<R: Clock>(rt: &R) -> Instant
         return 0;
     };
     match now.duration_since(SystemTime::UNIX_EPOCH) {
-        Ok(since) => u64::try_from(since.as_micros()).unwrap_or(LAST).min(LAST),
+        Ok(since) => u64::try_from(since.as_micros())
+            .unwrap_or(MAX_INSTANT)
+            .min(MAX_INSTANT),
         Err(_) => 0,
     }
 }

@@ -11,7 +11,7 @@ ghost use Rattle.statement.specs.Print.{numbered};
 ghost use Rattle.statement.specs.Writer.{AppendsPrefix};
 ghost use Rattle.journal.specs.Entries.{log};
 ghost use Rattle.book.specs.Book.{IsBook};
-ghost use Rattle.serving.specs.Taken.{Given};
+ghost use Rattle.serving.specs.Progress.{Given};
 ghost use Rattle.listening.specs.Server.{EndsAfter, HasFirst, HasListened, HasNoFirst, HasReported, HasServed, HasStopped, IsClosedWith, IsExportOf, IsOther, StopsListening, StopsLate, versions_text};
 
 use crate::always_open::AlwaysOpen;
@@ -20,9 +20,9 @@ use crate::loading::load_into;
 use crate::socket::bind;
 use book::Closed;
 use growlog::{NewLog, StoreName};
-use interchange::{ExportFault, export, loaded_line, numbered_line, put_whole};
+use interchange::{ExportFault, export, loaded_line, numbered_line, print_whole};
 use journal::{Receipt, SharedEntry};
-use rows::{Form, Keys, LAST, Mem, Refusal, Row, Schema, Shown, Table};
+use rows::{Form, Keys, MAX_INSTANT, Mem, Refusal, Row, Schema, Shown, Table};
 use sessions::LockedStore;
 use std::alloc::Global;
 use std::io::Write;
@@ -160,7 +160,7 @@ fn load_and_report<J: StoreName, R: Wait, O: Write>(
     let Ok(line) = loaded_line(alloc, rows.len(), loaded.instant) else {
         return Err(OUT_OF_MEMORY);
     };
-    match put_whole(out, line.as_slice()) {
+    match print_whole(out, line.as_slice()) {
         Ok(()) => Ok(loaded.receipts),
         Err(_) => Err(ServerFault::Write),
     }
@@ -181,7 +181,7 @@ fn report<O: Write>(
     let Ok(line) = numbered_line(alloc, label, number) else {
         return Err(OUT_OF_MEMORY);
     };
-    match put_whole(out, line.as_slice()) {
+    match print_whole(out, line.as_slice()) {
         Ok(()) => Ok(()),
         Err(_) => Err(ServerFault::Write),
     }
@@ -299,7 +299,7 @@ fn versions_of(alloc: Global, closed: &Closed, table: &Table) -> Mem<Vec<Shown>>
         &mut cache,
         view,
         table,
-        Form::Between(0, LAST),
+        Form::Between(0, MAX_INSTANT),
         &keys,
     )
 }

@@ -22,7 +22,7 @@ use Rattle.blocks.specs.PackedNode.{Packed}
 use Rattle.journal.specs.declared.entry.Entry.{Entry}
 use Rattle.journal.specs.declared.entry.Entry.TheVariants.{Install}
 use Rattle.sessions.specs.Store.{IsInstallOf}
-use Rattle.migrator.specs.Round.{AreInstalled, Given, IsInstallIn, IsLast, IsOver, IsPart, IsUnderWay, IsWhole, RoundState, rect_of}
+use Rattle.migrator.specs.Round.{AreInstalled, Given, IsInstallIn, IsAskedLast, IsOver, IsPart, IsUnderWay, IsWhole, RoundState, rect_of}
 use Rattle.migrator.proofs.RoundStarts.{sorted_more, sorted_none, sorted_one, starts_apart}
 
 -- the one at a place is taken out
@@ -84,7 +84,7 @@ module _ (begin : Given) (view : TreeState) where
 
   -- ---- one more is asked for
 
-  rising : (after : Option Area) (rects : List Area) (r : Area) → IsLast after rects → IsStrictlySortedBy start_cmp rects → IsBehind after r → IsStrictlySortedBy start_cmp (rects ++ r ∷ [])
+  rising : (after : Option Area) (rects : List Area) (r : Area) → IsAskedLast after rects → IsStrictlySortedBy start_cmp rects → IsBehind after r → IsStrictlySortedBy start_cmp (rects ++ r ∷ [])
   rising None rects r last sorted behind = subst (λ (l : List Area). IsStrictlySortedBy start_cmp (l ++ r ∷ [])) (sym last) (sorted_one r)
   rising (Some s) rects r last sorted behind =
       subst (λ (l : List Area). IsStrictlySortedBy start_cmp (l ++ r ∷ [])) (sym last.1)

@@ -107,9 +107,9 @@ IsPartOf first given =
 -- ---- under way
 
 -- it is the last of them, where there are some
-abbrev pub IsLast : Option Area → List Area → Type 0
-IsLast None rects = rects ≡ []
-IsLast (Some r) rects = (before : List Area) × (rects ≡ before ++ r ∷ [])
+abbrev pub IsAskedLast : Option Area → List Area → Type 0
+IsAskedLast None rects = rects ≡ []
+IsAskedLast (Some r) rects = (before : List Area) × (rects ≡ before ++ r ∷ [])
 
 -- each unpacked data node of history of the view is among them, or comes after, as its nodes are a tree
 abbrev pub AreUpto : TreeState → Option Area → List Area → Type 0
@@ -134,5 +134,5 @@ pub record IsUnderWay (begin : Given) (view : TreeState) (r : RoundState) : Type
   pub installs : List Given
   pub given_are : r.given ≡ begin ∷ installs
   pub installed : AreInstalled view rects r.asked installs
-  pub last : IsLast r.after rects
+  pub last : IsAskedLast r.after rects
   pub upto : AreUpto view r.after rects

@@ -1,7 +1,7 @@
 -- Lists that are read item by item, one turn at a time.
 use Rattle.std.proofs.Common.{◌≡◌, ℕ, ◌+◌, ◌-◌, ◌<◌, List, [], ◌∷◌, ◌++◌, Result, Ok, Err, Bool, true, false, refl, sym, ap, ◌∙◌, append_assoc, append-nil}
 use Rattle.std.specs.Prelude.{if◌then◌else◌}
-use Rattle.values.proofs.RowReadingTaken.{left}
+use Rattle.values.proofs.RowReadingParsed.{left}
 use Rattle.rows.specs.declared.declaration.Mark.{Mark}
 use Rattle.rows.specs.declared.declaration.Declaration.{Declaration}
 use Rattle.tokens.specs.Token.{After, Read, ◌>>=◌}

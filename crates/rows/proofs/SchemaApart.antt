@@ -9,7 +9,7 @@ use Rattle.tokens.specs.Token.{After, prefix_while}
 use Rattle.tokens.specs.Token.{symbol_at as symbol_after}
 use Rattle.tokens.specs.Word.{is_name_byte, word_length}
 use Rattle.tokens.specs.Word.{is_word_at as is_word_after}
-use Rattle.tokens.specs.Name.{is_name, reserved_words, is_reserved}
+use Rattle.tokens.specs.Name.{is_name, reserved_words, is_reserved, longest_name}
 use Rattle.tokens.specs.Run.{AllBytes}
 use Rattle.tokens.proofs.WordCases.{Refused, some_written, none_same, not_same, same_length}
 use Rattle.rows.specs.SchemaToken.{symbol_at, is_word_at}
@@ -34,7 +34,7 @@ not_reserved : (name : List ℕ) → is_name name ≡ true → is_reserved name 
 unfolding is_name
 not_reserved [] e = cc
 not_reserved (b ∷ bs) e =
-    flipped (is_reserved (b ∷ bs)) (and_parts (not (is_ascii_digit b) && nat_le (length (b ∷ bs)) 64) (not (is_reserved (b ∷ bs))) e).1
+    flipped (is_reserved (b ∷ bs)) (and_parts (not (is_ascii_digit b) && nat_le (length (b ∷ bs)) longest_name) (not (is_reserved (b ∷ bs))) e).1
   where
     flipped : (t : Bool) → not t ≡ true → t ≡ false
     flipped true e = sym e

@@ -15,7 +15,7 @@ use Rattle.rows.specs.SchemaGrammar.{Says, Piece, blank, comment, last_comment, 
 pub record Keeps {A : Type 0} (R : Says A) : Type 0 where
   pub within : (x : A) (bytes rest : List ℕ) → R x bytes rest → length rest ≤ length bytes
 
-pub record Takes {A : Type 0} (R : Says A) : Type 0 where
+pub record Advances {A : Type 0} (R : Says A) : Type 0 where
   pub below : (x : A) (bytes rest : List ℕ) → R x bytes rest → length rest < length bytes
 
 -- tokens
@@ -29,7 +29,7 @@ gap_keeps (last_comment text ∷ gap) bytes at (spelled, (on_line, nothing)) = o
 next_keeps : (bytes at : List ℕ) → IsNext bytes at → length at ≤ length bytes
 next_keeps bytes at n = gap_keeps n.gap bytes at n.skipped
 
-pub symbol_takes : (symbol : ℕ) → Takes (Symbol symbol)
+pub symbol_takes : (symbol : ℕ) → Advances (Symbol symbol)
 symbol_takes symbol = record { below = λ x bytes rest s. omega (arith, next_keeps bytes (symbol ∷ rest) s.next) }
 
 letters_left : (name bytes rest : List ℕ) → Letters name bytes rest → length name + length rest ≤ length bytes
@@ -40,10 +40,10 @@ unfolding is_name
 some_letters [] e = cc
 some_letters (b ∷ bs) e = omega arith
 
-pub name_takes : Takes Name
+pub name_takes : Advances Name
 name_takes = record { below = λ name bytes rest n. omega (arith, letters_left name bytes rest n.letters, some_letters name n.fits) }
 
-word_takes : (word : List ℕ) → 0 < length word → Takes (Word word)
+word_takes : (word : List ℕ) → 0 < length word → Advances (Word word)
 word_takes word some = record {
   below = λ x bytes rest w. omega (arith, letters_left w.name bytes rest w.letters, some_written word w.name some w.spelled);
 }
@@ -53,21 +53,21 @@ digits_keep = record { within = λ n bytes rest d. omega (arith, next_keeps byte
 
 -- one after the other, and either of two
 module _ {A : Type 0} (R : Says A) where
-  takes_keep : Takes R → Keeps R
+  takes_keep : Advances R → Keeps R
   takes_keep r = record { within = λ x bytes rest s. omega (arith, r.below x bytes rest s) }
 
   module _ {B : Type 0} (K : A → Says B) where
     then_keep : Keeps R → ((x : A) → Keeps (K x)) → Keeps (R >>= K)
     then_keep r k = record { within = λ y bytes rest s. omega (arith, r.within s.0 bytes s.1.0 s.1.1.0, (k s.0).within y s.1.0 rest s.1.1.1) }
 
-    then_take : Takes R → ((x : A) → Keeps (K x)) → Takes (R >>= K)
+    then_take : Advances R → ((x : A) → Keeps (K x)) → Advances (R >>= K)
     then_take r k = record { below = λ y bytes rest s. omega (arith, r.below s.0 bytes s.1.0 s.1.1.0, (k s.0).within y s.1.0 rest s.1.1.1) }
 
   module _ (S : Says A) where
     or_keep : Keeps R → Keeps S → Keeps (R or S)
     or_keep r s = record { within = λ x bytes rest e. elim e [ inl a ↦ r.within x bytes rest a | inr b ↦ s.within x bytes rest b ] }
 
-    or_take : Takes R → Takes S → Takes (R or S)
+    or_take : Advances R → Advances S → Advances (R or S)
     or_take r s = record { below = λ x bytes rest e. elim e [ inl a ↦ r.below x bytes rest a | inr b ↦ s.below x bytes rest b ] }
 
 just_keeps : {A : Type 0} (x : A) → Keeps (just x)
@@ -80,20 +80,20 @@ symbol_keeps : (symbol : ℕ) → Keeps (Symbol symbol)
 symbol_keeps symbol = takes_keep (Symbol symbol) (symbol_takes symbol)
 
 -- lists: each item takes a byte or more
-pub many_long : {A : Type 0} (R : Says A) → Takes R → (xs : List A) (bytes rest : List ℕ) → Many R xs bytes rest → length xs + length rest ≤ length bytes
+pub many_long : {A : Type 0} (R : Says A) → Advances R → (xs : List A) (bytes rest : List ℕ) → Many R xs bytes rest → length xs + length rest ≤ length bytes
 many_long R r [] bytes rest e = omega (arith, ap length e)
 many_long R r (x ∷ xs) bytes rest (more, (one, others)) = omega (arith, r.below x bytes more one, many_long R r xs more rest others)
 
-pub listed_long : {A : Type 0} (R : Says A) → Takes R → (xs : List A) (bytes rest : List ℕ) → Listed R xs bytes rest → length xs + length rest ≤ length bytes
+pub listed_long : {A : Type 0} (R : Says A) → Advances R → (xs : List A) (bytes rest : List ℕ) → Listed R xs bytes rest → length xs + length rest ≤ length bytes
 listed_long R r [] bytes rest e = absurd e
 listed_long R r (x ∷ []) bytes rest e = omega (arith, r.below x bytes rest e)
 listed_long R r (x ∷ y ∷ ys) bytes rest (after, (more, (one, (comma, others)))) =
     omega (arith, r.below x bytes after one, (symbol_takes 44).below tt after more comma, listed_long R r (y ∷ ys) more rest others)
 
-many_keep : {A : Type 0} (R : Says A) → Takes R → Keeps (Many R)
+many_keep : {A : Type 0} (R : Says A) → Advances R → Keeps (Many R)
 many_keep R r = record { within = λ xs bytes rest e. omega (arith, many_long R r xs bytes rest e) }
 
-listed_keep : {A : Type 0} (R : Says A) → Takes R → Keeps (Listed R)
+listed_keep : {A : Type 0} (R : Says A) → Advances R → Keeps (Listed R)
 listed_keep R r = record { within = λ xs bytes rest e. omega (arith, listed_long R r xs bytes rest e) }
 
 -- what stands in an entry
@@ -111,13 +111,13 @@ type_keeps =
     (said_by_word (codes "TEXT") (lit< tt) Text)) (said_by_word (codes "BOOLEAN") (lit< tt) Boolean))
     (then_keep _ _ (word_keeps (codes "VARCHAR") (lit< tt)) (λ x. then_keep _ _ size_keeps (λ n. just_keeps (Varchar n))))
 
-not_null_takes : Takes NotNullWords
+not_null_takes : Advances NotNullWords
 not_null_takes = then_take _ _ (word_takes (codes "NOT") (lit< tt)) (λ x. word_keeps (codes "NULL") (lit< tt))
 
-primary_key_takes : Takes PrimaryKeyWords
+primary_key_takes : Advances PrimaryKeyWords
 primary_key_takes = then_take _ _ (word_takes (codes "PRIMARY") (lit< tt)) (λ x. word_keeps (codes "KEY") (lit< tt))
 
-pub mark_takes : Takes MarkWords
+pub mark_takes : Advances MarkWords
 mark_takes = or_take _ _ (then_take _ _ not_null_takes (λ x. just_keeps NotNull)) (then_take _ _ primary_key_takes (λ x. just_keeps PrimaryKey))
 
 user_keeps : (name : List ℕ) → Keeps (UserEntry name)
@@ -147,20 +147,20 @@ two_names_keep =
     then_keep _ _ (symbol_keeps 40)
     (λ a. then_keep _ _ (takes_keep _ name_takes) (λ b. then_keep _ _ (symbol_keeps 44) (λ c. then_keep _ _ (takes_keep _ name_takes) (λ d. then_keep _ _ (symbol_keeps 41) (λ e. just_keeps _)))))
 
-period_takes : Takes PeriodEntry
+period_takes : Advances PeriodEntry
 period_takes =
     then_take _ _ (word_takes (codes "PERIOD") (lit< tt))
     (λ a. then_keep _ _ (word_keeps (codes "FOR") (lit< tt)) (λ b. then_keep _ _ (word_keeps (codes "SYSTEM_TIME") (lit< tt)) (λ c. two_names_keep)))
 
-key_takes : Takes KeyEntry
+key_takes : Advances KeyEntry
 key_takes =
     then_take _ _ primary_key_takes
     (λ a. then_keep _ _ (symbol_keeps 40) (λ b. then_keep _ _ (listed_keep Name name_takes) (λ names. then_keep _ _ (symbol_keeps 41) (λ d. just_keeps _))))
 
-column_takes : Takes ColumnEntry
+column_takes : Advances ColumnEntry
 column_takes = then_take _ _ name_takes (λ name. or_keep _ _ (generated_keeps name) (user_keeps name))
 
-pub entry_takes : Takes EntryText
+pub entry_takes : Advances EntryText
 entry_takes = or_take _ _ (or_take _ _ period_takes key_takes) column_takes
 
 body_keeps : Keeps Body
@@ -170,7 +170,7 @@ versioning_keeps : Keeps Versioning
 versioning_keeps =
     then_keep _ _ (word_keeps (codes "WITH") (lit< tt)) (λ a. then_keep _ _ (word_keeps (codes "SYSTEM") (lit< tt)) (λ b. word_keeps (codes "VERSIONING") (lit< tt)))
 
-pub create_takes : Takes CreateText
+pub create_takes : Advances CreateText
 create_takes =
     then_take _ _ (word_takes (codes "CREATE") (lit< tt))
     (λ a. then_keep _ _ (word_keeps (codes "TABLE") (lit< tt)) (λ b. then_keep _ _ (takes_keep _ name_takes) (λ name. then_keep _ _ body_keeps (λ entries. then_keep _ _ versioning_keeps (λ e. just_keeps _)))))

@@ -17,7 +17,7 @@ use Rattle.rows.specs.Declaration.{prepend, list_at, names_at, size_at, is_whole
 use Rattle.rows.specs.SchemaGrammar.{Says, Piece, blank, comment, last_comment, Gap, BeginsToken, Name, EntryText}
 use Rattle.rows.proofs.SchemaSpelled.{front-skip, next_is, symbol_says, name_says}
 use Rattle.rows.proofs.SchemaSays.{entry_says, create_says}
-use Rattle.rows.proofs.SchemaShrinks.{Takes, symbol_takes, name_takes, entry_takes, create_takes}
+use Rattle.rows.proofs.SchemaShrinks.{Advances, symbol_takes, name_takes, entry_takes, create_takes}
 
 pub record EndsWith (bytes rest : List ℕ) : Type 0 where
   pub front : List ℕ
@@ -280,7 +280,7 @@ period_stops bytes =
     (λ x b f. then_after b (word_at (codes "SYSTEM_TIME") b) _ (word_stops (codes "SYSTEM_TIME") b) (λ y c g. two_names_stop c)))
 
 -- lists: the turns are enough, since each item takes a byte or more
-module _ {A : Type 0} (item : List ℕ → Read A) (R : Says A) (says : (x : A) (bytes rest : List ℕ) → item bytes ≡ Ok (x, rest) → R x bytes rest) (matches : Takes R)
+module _ {A : Type 0} (item : List ℕ → Read A) (R : Says A) (says : (x : A) (bytes rest : List ℕ) → item bytes ≡ Ok (x, rest) → R x bytes rest) (matches : Advances R)
     (item_stops : (bytes : List ℕ) → Stops bytes (item bytes)) where
   listed_stops : (n : ℕ) (bytes : List ℕ) → length bytes ≤ n → Stops bytes (list_at item n bytes)
   listed_stops zero bytes h = nothing_left bytes h

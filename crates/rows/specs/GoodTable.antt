@@ -7,6 +7,8 @@ use Rattle.values.specs.declared.table.ColumnType.{ColumnType}
 use Rattle.values.specs.declared.table.ColumnType.TheVariants.{Varchar}
 use Rattle.values.specs.declared.table.Column.{Column}
 use Rattle.values.specs.declared.table.Table.{Table}
+use Rattle.values.specs.Fit.{longest_text}
+use Rattle.values.specs.Tables.{most_digits, most_key_columns, most_tables, widest}
 use Rattle.rows.specs.declared.declaration.Mark.TheVariants.{NotNull, PrimaryKey}
 use Rattle.rows.specs.declared.declaration.Side.{Side}
 use Rattle.rows.specs.declared.declaration.Side.TheVariants.{Start, End}
@@ -95,13 +97,13 @@ HasUserColumn entries name = (c : UserColumn) × (IsElement (User c) entries × 
 
 -- VARCHAR has 1 to 1,000 characters
 abbrev pub TypeIsGood : ColumnType → Type 0
-TypeIsGood (Varchar n) = (1 ≤ n) × (n ≤ 1000)
+TypeIsGood (Varchar n) = (1 ≤ n) × (n ≤ longest_text)
 TypeIsGood _ = Unit {0}
 
--- TIMESTAMP has at most 12 digits
+-- TIMESTAMP has no more digits than it may
 abbrev pub DigitsAreGood : Option ℕ → Type 0
 DigitsAreGood None = Unit {0}
-DigitsAreGood (Some n) = n ≤ 12
+DigitsAreGood (Some n) = n ≤ most_digits
 
 -- what is in one entry: its number in range, and NOT NULL not repeated
 abbrev pub EntryIsGood : Entry → Type 0
@@ -126,11 +128,11 @@ pub record TableIsGood (d : Declaration) : Type 0 where
   pub one_giver : IsTheOne GivesKeys giver d.entries
   pub one_key : GivesOneKey giver key
   -- the grammar gives it one name at least
-  pub few_in_key : length key ≤ 4
+  pub few_in_key : length key ≤ most_key_columns
   pub key_differs : NoTwo SameName key
   pub key_of_columns : Each (HasUserColumn d.entries) key
   pub some_columns : 1 ≤ count_by is_user d.entries
-  pub few_columns : count_by is_user d.entries ≤ 16
+  pub few_columns : count_by is_user d.entries ≤ widest
   pub columns_differ : NoTwo ShareAName d.entries
   pub entries_are_good : Each EntryIsGood d.entries
 
@@ -185,7 +187,7 @@ AreTablesOf number (d ∷ ds) (t ∷ ts) = IsTableOf d number t × AreTablesOf (
 
 -- declarations that make tables beside one another
 pub record TablesAreGood (ds : List Declaration) : Type 0 where
-  pub few : length ds ≤ 16
+  pub few : length ds ≤ most_tables
   pub names_differ : NoTwo (λ d e. SameName d.name e.name) ds
   pub tables_are_good : Each TableIsGood ds
 

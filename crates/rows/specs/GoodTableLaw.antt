@@ -3,7 +3,7 @@ use Rattle.std.specs.Prelude.{◌≡◌, ℕ, ◌≤◌, List, [], ◌↔◌, Ok
 use Rattle.values.specs.Tables.{Schema}
 use Rattle.rows.specs.declared.schema_reading.SchemaFault.TheVariants.{BadTable}
 use Rattle.rows.specs.declared.declaration.Declaration.{Declaration}
-use Rattle.rows.specs.SchemaTable.{longest_text, tables_from, read_schema}
+use Rattle.rows.specs.SchemaTable.{longest_schema, tables_from, read_schema}
 use Rattle.rows.specs.SchemaGrammar.{SchemaText}
 use Rattle.rows.specs.GoodTable.{TablesAreGood, AreTablesOf, IsFirstBad}
 
@@ -21,7 +21,7 @@ pub record GoodTablesAreMade : Type 0 where
 -- a text of at most 65,536 bytes that says good tables, and a schema that has them
 pub record SaysSchema (text : List ℕ) (schema : Schema) : Type 0 where
   pub declarations : List Declaration
-  pub short : length text ≤ longest_text
+  pub short : length text ≤ longest_schema
   pub spelled : SchemaText declarations text
   pub good : TablesAreGood declarations
   pub tables : AreTablesOf 1 declarations schema.tables
@@ -34,6 +34,6 @@ OnlySchemasAreRead =
 -- every text that says good tables says a schema
 abbrev pub GoodTextsAreRead : Type 0
 GoodTextsAreRead =
-    (text : List ℕ) (declarations : List Declaration) → length text ≤ longest_text
+    (text : List ℕ) (declarations : List Declaration) → length text ≤ longest_schema
     → SchemaText declarations text → TablesAreGood declarations
     → (schema : Schema) × (read_schema text ≡ Ok schema)

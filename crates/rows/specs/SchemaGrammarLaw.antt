@@ -5,7 +5,7 @@ use Rattle.rows.specs.declared.schema_reading.SchemaFault.{SchemaFault}
 use Rattle.rows.specs.declared.schema_reading.SchemaFault.TheVariants.{Syntax}
 use Rattle.rows.specs.declared.declaration.Declaration.{Declaration}
 use Rattle.tokens.specs.Place.{TokenAt, IsToken}
-use Rattle.rows.specs.SchemaTable.{longest_text, tables_from, read_schema}
+use Rattle.rows.specs.SchemaTable.{longest_schema, tables_from, read_schema}
 use Rattle.rows.specs.SchemaToken.{symbol_at, word_at, name_at, digits_at}
 use Rattle.rows.specs.SchemaGrammar.{BeginsToken, Symbol, Word, Name, Digits, SchemaText}
 
@@ -36,7 +36,7 @@ pub record TokensAreRead : Type 0 where
 -- every text of the grammar that is short enough is read, as what it says
 abbrev pub TheGrammarIsRead : Type 0
 TheGrammarIsRead =
-    (text : List ℕ) (declarations : List Declaration) → length text ≤ longest_text
+    (text : List ℕ) (declarations : List Declaration) → length text ≤ longest_schema
     → SchemaText declarations text → read_schema text ≡ tables_from [] declarations
 
 -- no text says two things
@@ -54,18 +54,18 @@ abbrev pub OnlyTheGrammarIsRead : Type 0
 OnlyTheGrammarIsRead =
     (text : List ℕ)
     → HasSyntaxFault (read_schema text)
-    ↔ ((longest_text < length text) ⊎ SaysNothing text)
+    ↔ ((longest_schema < length text) ⊎ SaysNothing text)
 
 -- a fault of syntax in a text that is short enough is reported at a token or at the end
 abbrev pub FaultsAreAtTokens : Type 0
 FaultsAreAtTokens =
-    (text : List ℕ) (n : ℕ) → length text ≤ longest_text → read_schema text ≡ Err (Syntax n)
+    (text : List ℕ) (n : ℕ) → length text ≤ longest_schema → read_schema text ≡ Err (Syntax n)
     → TokenAt BeginsToken text n
 
 -- in a text that is short enough the bytes before a fault of syntax can go on to a text of the grammar
 abbrev pub PrefixesGoOn : Type 0
 PrefixesGoOn =
-    (before rest : List ℕ) → length (before ++ rest) ≤ longest_text
+    (before rest : List ℕ) → length (before ++ rest) ≤ longest_schema
     → read_schema (before ++ rest) ≡ Err (Syntax (length before))
     → (more : List ℕ)
     × ((declarations : List Declaration) × SchemaText declarations (before ++ more))
@@ -80,7 +80,7 @@ pub record IsNextToken (first : ℕ) (others rest : List ℕ) : Type 0 where
 abbrev pub FaultsAreFinal : Type 0
 FaultsAreFinal =
     (before : List ℕ) (first : ℕ) (others rest : List ℕ) → IsNextToken first others rest
-    → length (before ++ first ∷ (others ++ rest)) ≤ longest_text
+    → length (before ++ first ∷ (others ++ rest)) ≤ longest_schema
     → read_schema (before ++ first ∷ (others ++ rest)) ≡ Err (Syntax (length before))
     → (other : List ℕ) → IsNextToken first others other
     → SaysNothing (before ++ first ∷ (others ++ other))

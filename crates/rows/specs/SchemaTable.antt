@@ -6,7 +6,8 @@ use Rattle.values.specs.declared.table.ColumnType.{ColumnType}
 use Rattle.values.specs.declared.table.ColumnType.TheVariants.{Varchar}
 use Rattle.values.specs.declared.table.Column.{Column}
 use Rattle.values.specs.declared.table.Table.{Table}
-use Rattle.values.specs.Tables.{Schema}
+use Rattle.values.specs.Fit.{longest_text}
+use Rattle.values.specs.Tables.{Schema, most_digits, most_key_columns, most_tables, widest}
 use Rattle.rows.specs.declared.declaration.Mark.{Mark}
 use Rattle.rows.specs.declared.declaration.Mark.TheVariants.{NotNull, PrimaryKey}
 use Rattle.rows.specs.declared.declaration.Side.{Side}
@@ -59,15 +60,14 @@ keys_in (Key names) = names ∷ []
 keys_in (User c) = map (λ mark. c.name ∷ []) (filter is_primary_key c.marks)
 keys_in _ = []
 
--- VARCHAR has 1 to 1,000 characters
+-- VARCHAR has from one character to as many as a text has bytes
 abbrev pub is_good_type : ColumnType → Bool
-is_good_type (Varchar n) = nat_le 1 n && nat_le n 1000
+is_good_type (Varchar n) = nat_le 1 n && nat_le n longest_text
 is_good_type _ = true
 
--- TIMESTAMP has at most 12 digits
 abbrev pub is_good_precision : Option ℕ → Bool
 is_good_precision None = true
-is_good_precision (Some n) = nat_le n 12
+is_good_precision (Some n) = nat_le n most_digits
 
 -- NOT NULL is given at most once
 abbrev pub is_good_entry : Entry → Bool
@@ -93,15 +93,16 @@ number_in columns name = unwrap_or (position_from (λ c. same_name c.name name) 
 -- one to four different user columns
 abbrev pub is_good_key : List (List ℕ) → List ℕ → Bool
 is_good_key names numbers =
-    nat_le (length names) 4 && are_distinct names && not (list_any (λ n. n == 0) numbers)
+    nat_le (length names) most_key_columns && are_distinct names
+    && not (list_any (λ n. n == 0) numbers)
 
 -- the period names the ROW START and the ROW END column
 abbrev pub is_good_period : List ℕ → List ℕ → PeriodNames → Bool
 is_good_period start end period = same_name start period.start && same_name end period.end
 
--- 1 to 16 user columns
+-- one user column to those of the widest table
 abbrev pub is_good_width : List Column → Bool
-is_good_width columns = nat_le 1 (length columns) && nat_le (length columns) 16
+is_good_width columns = nat_le 1 (length columns) && nat_le (length columns) widest
 
 abbrev pub are_good_entries : List Entry → Bool
 are_good_entries entries =
@@ -132,10 +133,10 @@ table_of number d = do
       })
       else None
 
--- the table after these: there are at most 16, and no two of one name
+-- the table after these, where a schema may have one more: no two have one name
 unfoldable pub next_table : List Table → Declaration → Option Table
 next_table tables d =
-    if nat_lt (length tables) 16 && not (list_any (λ t. same_name t.name d.name) tables)
+    if nat_lt (length tables) most_tables && not (list_any (λ t. same_name t.name d.name) tables)
     then table_of (length tables + 1) d
     else None
 
@@ -150,14 +151,14 @@ tables_from tables (d ∷ ds) =
     ]
 
 -- the bytes that a schema's text may have
-abbrev pub longest_text : ℕ
-longest_text = 65536
+abbrev pub longest_schema : ℕ
+longest_schema = 65536
 
 -- the schema of a text, or where its first fault is: syntax is looked for in the whole text before
 -- any table is
 unfoldable pub read_schema : List ℕ → Result Schema SchemaFault
 read_schema text =
-    if nat_lt longest_text (length text) then Err (Syntax longest_text)
+    if nat_lt longest_schema (length text) then Err (Syntax longest_schema)
     else elim (creates_at text) [
       | Err at ↦ Err (Syntax (length text - length at))
       | Ok declarations ↦ tables_from [] declarations.0

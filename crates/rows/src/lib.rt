@@ -15,10 +15,10 @@ pub use good_table::good_tables_are_made;
 pub use sample::sample_is_a_schema;
 pub use schema::Schema;
 pub use schema_grammar::{faults_are_final, schemas_are_of_the_grammar, the_grammar_is_read};
-pub use schema_reading::{SAMPLE, SchemaFault};
+pub use schema_reading::{LONGEST_SCHEMA, SAMPLE, SchemaFault};
 pub use values::{
     Chars, Column, ColumnNumber, ColumnType, Comparison, Event, Form, Instant, Key, KeyBytes, Keys,
-    LAST, Mem, Net, Operator, Point, Refusal, Row, Rows, Sequence, Set, Sets, SharedEvent, Shown,
-    ShownRows, Table, Transaction, Value, Values, key_bytes, read_key, read_row, row_bytes,
+    MAX_INSTANT, Mem, Net, Operator, Point, Refusal, Row, Rows, Sequence, Set, Sets, SharedEvent,
+    Shown, ShownRows, Table, Transaction, Value, Values, key_bytes, read_key, read_row, row_bytes,
     same_name,
 };

@@ -10,7 +10,7 @@ use std::alloc::{AllocError, AllocFailed, Global};
 use tokens::Stop;
 
 /// The bytes that a schema's text may have.
-const SCHEMA: usize = 65_536;
+pub const LONGEST_SCHEMA: usize = 65_536;
 
 /// The schema of a program that is given none.
 pub const SAMPLE: &str = "CREATE TABLE emp (
@@ -61,8 +61,8 @@ impl Schema {
     pub fn read(alloc: Global, text: &[u8]) -> Result<Schema, SchemaFault>
         ensures { IsOrMemory result (read_schema text.now) }
     {
-        if text.len() > SCHEMA {
-            return Err(SchemaFault::Syntax(SCHEMA));
+        if text.len() > LONGEST_SCHEMA {
+            return Err(SchemaFault::Syntax(LONGEST_SCHEMA));
         }
         match creates_at(alloc, text) {
             Ok((declarations, _)) => tables_of(alloc, declarations.items()),

@@ -7,10 +7,18 @@ ghost use Rattle.rows.specs.SchemaTable.{is_not_null, is_primary_key, same_side,
 
 use crate::declaration::{Declaration, Entry, Mark, PeriodNames, Side};
 use std::alloc::{AllocError, Global};
-use values::{Chars, Column, ColumnNumber, ColumnType, Sequence, Table, same_name};
+use values::{
+    Chars, Column, ColumnNumber, ColumnType, LONGEST_TEXT, Sequence, Table, WIDEST, same_name,
+};
 
-/// The characters that a VARCHAR may have.
-const CHARACTERS: u16 = 1000;
+/// The columns that a key may have.
+const MOST_KEY_COLUMNS: usize = 4;
+
+/// The digits of a second that TIMESTAMP may have.
+const MOST_DIGITS: u16 = 12;
+
+/// The tables that a schema may have.
+const MOST_TABLES: usize = 16;
 
 fn is_not_null(mark: &Mark) -> bool
     ensures { result ≡ is_not_null mark.now }
@@ -179,7 +187,7 @@ fn is_good_type(of: ColumnType) -> bool
     ensures { result ≡ is_good_type of }
 {
     match of {
-        ColumnType::Varchar(characters) => 1 <= characters && characters <= CHARACTERS,
+        ColumnType::Varchar(characters) => 1 <= characters && characters as usize <= LONGEST_TEXT,
         _ => true,
     }
 }
@@ -187,7 +195,7 @@ fn is_good_type(of: ColumnType) -> bool
 fn is_good_precision(digits: Option<u16>) -> bool
     ensures { result ≡ is_good_precision digits }
 {
-    digits.is_none_or(|digits| digits <= 12)
+    digits.is_none_or(|digits| digits <= MOST_DIGITS)
 }
 
 fn not_null_count(marks: &[Mark]) -> usize
@@ -284,7 +292,7 @@ fn has_unknown(numbers: &[ColumnNumber]) -> bool
 fn is_good_key(names: &[Chars], numbers: &[ColumnNumber]) -> bool
     ensures { result ≡ is_good_key names.now numbers.now }
 {
-    names.len() <= 4 && are_distinct(names) && !has_unknown(numbers)
+    names.len() <= MOST_KEY_COLUMNS && are_distinct(names) && !has_unknown(numbers)
 }
 
 fn is_good_period(start: &Chars, end: &Chars, period: &PeriodNames) -> bool
@@ -297,7 +305,7 @@ fn is_good_period(start: &Chars, end: &Chars, period: &PeriodNames) -> bool
 fn is_good_width(columns: &[Column]) -> bool
     ensures { result ≡ is_good_width columns.now }
 {
-    1 <= columns.len() && columns.len() <= 16
+    1 <= columns.len() && columns.len() <= WIDEST
 }
 
 /// The table with a number, where the declaration makes one.
@@ -357,7 +365,7 @@ pub fn next_table(
 ) -> Result<Option<Table>, AllocError>
     ensures { IfOk result (λ table. table ≡ next_table tables.now declaration.now) }
 {
-    if tables.len() >= 16 || has_table(tables, &declaration.name) {
+    if tables.len() >= MOST_TABLES || has_table(tables, &declaration.name) {
         return Ok(None);
     }
     table_of(alloc, tables.len() as u8 + 1, declaration)

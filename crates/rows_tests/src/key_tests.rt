@@ -6,7 +6,8 @@ use crate::sample::{key, schema};
 use std::alloc::Global;
 use std::process::Abort;
 use values::{
-    Chars, Comparison, Key, KeyBytes, Keys, Operator, Table, Value, Values, key_bytes, read_key,
+    Chars, Comparison, Key, KeyBytes, Keys, Operator, Table, Value, Values, key_bytes, ordinal_of,
+    read_key,
 };
 
 fn number_key(rt: &impl Abort, alloc: Global, number: i64) -> Key
@@ -106,6 +107,14 @@ fn is_copied(rt: &impl Abort, alloc: Global) -> bool {
 fn bytes_of_names_and_numbers_keep_their_order(rt: HostRuntime) {
     assert!(rt; do_names_rise(&rt, rt.alloc()));
     assert!(rt; is_copied(&rt, rt.alloc()));
+}
+
+#[test]
+fn the_ordinals_of_numbers_rise_from_0(rt: HostRuntime) {
+    assert_eq!(rt; ordinal_of(i64::MIN), 0);
+    assert_eq!(rt; ordinal_of(-1), (1 << 63) - 1);
+    assert_eq!(rt; ordinal_of(0), 1 << 63);
+    assert_eq!(rt; ordinal_of(i64::MAX), u64::MAX);
 }
 
 /// Whether so many bytes are a key's.

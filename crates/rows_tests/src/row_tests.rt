@@ -3,7 +3,7 @@
 use crate::sample::text;
 use std::alloc::Global;
 use std::process::Abort;
-use values::{Row, Value, read_row, row_bytes};
+use values::{Row, Value, read_row, read_values, row_bytes};
 
 /// A row of a number, a truth and no value.
 fn row_of_three(rt: &impl Abort, alloc: Global) -> Row {
@@ -18,10 +18,19 @@ fn has_bytes(rt: &impl Abort, alloc: Global, row: &Row, bytes: &[u8]) -> bool {
         == bytes
 }
 
+/// The bytes of the row of three.
+const OF_THREE: &[u8] = b"\x03\x01\xff\xff\xff\xff\xff\xff\xff\xfe\x04\x00";
+
 #[test]
 fn a_row_is_its_width_and_its_tagged_values(rt: HostRuntime) {
-    let expected = b"\x03\x01\xff\xff\xff\xff\xff\xff\xff\xfe\x04\x00";
-    assert!(rt; has_bytes(&rt, rt.alloc(), &row_of_three(&rt, rt.alloc()), expected));
+    assert!(rt; has_bytes(&rt, rt.alloc(), &row_of_three(&rt, rt.alloc()), OF_THREE));
+}
+
+#[test]
+fn values_that_are_read_stay_as_they_are(rt: HostRuntime) {
+    let row = row_of_three(&rt, rt.alloc());
+    read_values(row.values());
+    assert!(rt; has_bytes(&rt, rt.alloc(), &row, OF_THREE));
 }
 
 fn are(values: &[Value], number: i64, name: &str) -> bool {

@@ -19,20 +19,20 @@ use Rattle.statement.specs.declared.line.Line.{Line}
 use Rattle.statement.specs.declared.line.Line.TheVariants.{Step as Asks}
 use Rattle.statement.specs.Line.{line_says}
 use Rattle.statement.specs.Memory.{UnlessMemory}
-use Rattle.statement.specs.Writer.{Puts, AppendsPrefix}
+use Rattle.statement.specs.Writer.{Prints, AppendsPrefix}
 use Rattle.statement.specs.Print.{reply_text, refusal_text}
 use Rattle.lines.specs.Partial.{Partial}
 use Rattle.scripts.specs.Transcript.{Progress, read_at, answered, left_by, reading_takes, can_run_out, is_risky, line_reply, line_leaves}
 use Rattle.scripts.specs.declared.script.Script.{Script}
 use Rattle.scripts.specs.Script.{said_by, IsRead, IsAt, SameRun, Answered, Broken}
 
-pub puts_ok : {E P : Type 0} (a b : Option (List ℕ)) (r : Result (Unit {0}) E) (text : List ℕ) → Puts a b r text → (Appends a b text → P) → OnOk r P
-puts_ok a b (Ok done) text p f = f p
-puts_ok a b (Err fault) text p f = tt
+pub prints_ok : {E P : Type 0} (a b : Option (List ℕ)) (r : Result (Unit {0}) E) (text : List ℕ) → Prints a b r text → (Appends a b text → P) → OnOk r P
+prints_ok a b (Ok done) text p f = f p
+prints_ok a b (Err fault) text p f = tt
 
-pub puts_err : {E P : Type 0} (a b : Option (List ℕ)) (r : Result (Unit {0}) E) (text : List ℕ) → Puts a b r text → (AppendsPrefix a b text → P) → OnErr r P
-puts_err a b (Ok done) text p f = tt
-puts_err a b (Err fault) text p f = f p
+pub prints_err : {E P : Type 0} (a b : Option (List ℕ)) (r : Result (Unit {0}) E) (text : List ℕ) → Prints a b r text → (AppendsPrefix a b text → P) → OnErr r P
+prints_err a b (Ok done) text p f = tt
+prints_err a b (Err fault) text p f = f p
 
 -- a refusal but for memory is the one that was due
 other : (refusal : Refusal) → is_memory refusal ≡ false → refusal ≢ Memory

@@ -14,18 +14,12 @@ ghost use Rattle.scripts.specs.Script.{said_by, IsRead, IsAt, AnswersLine, Break
 
 use histories::{Reply, Step};
 use interleaving::System;
-use lines::{LineBuffer, line_length};
+use lines::{CHUNK, LineBuffer, MOST_READS, line_length};
 use rows::Schema;
 use statement::{Line, WriteFault, print_refusal, print_reply, read_line, write_all};
 use std::alloc::Global;
 use std::io::{Read, Write};
 use values::{Instant, Mem, Refusal};
-
-/// The bytes that are read at once.
-const CHUNK: usize = 4096;
-
-/// The reads after which a reader that gives no end is at fault.
-const READS: u64 = 1 << 32;
 
 /// Why a run stopped before the end of its script.
 #[derive(Debug, PartialEq, Eq, Drop)]
@@ -300,7 +294,7 @@ pub fn run_script_in<I: Read, W: Write>(
         return Err(RunFault::Memory);
     };
     let mut chunk = [0u8; CHUNK];
-    for _turn in 0..READS {
+    for _turn in 0..MOST_READS {
         let n = match reader.read(&mut chunk) {
             Ok(n) => n,
             Err(_) => return Err(RunFault::Read),

@@ -10,7 +10,7 @@ use Rattle.values.specs.declared.query.Comparison.{Comparison}
 use Rattle.values.specs.declared.query.Keys.{Keys}
 use Rattle.values.specs.Tables.{IsTable}
 use Rattle.values.specs.Fit.{comparisons_fault}
-use Rattle.values.specs.KeyEncoding.{part_bytes, bytes_of_key}
+use Rattle.values.specs.KeyEncoding.{part_bytes, bytes_of_key, longest_key}
 use Rattle.values.specs.KeyReading.{IsKeyOf}
 use Rattle.values.specs.Versions.{matches}
 use Rattle.keyrange.specs.declared.range.KeyRange.{KeyRange}
@@ -32,7 +32,7 @@ next_prefix (b ∷ bs) = elim (next_prefix bs) [
 
 -- no key has more than 1,609 bytes, and so no bound
 abbrev pub is_bound : List ℕ → Bool
-is_bound bytes = nat_le (length bytes) 1609
+is_bound bytes = nat_le (length bytes) longest_key
 
 -- the range from these bytes on
 abbrev pub from_bytes : List ℕ → KeyRange → KeyRange

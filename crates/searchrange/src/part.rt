@@ -3,7 +3,7 @@ ghost use Rattle.std.specs.Prelude.{◌≡◌, ◌++◌, OnOk};
 ghost use Rattle.values.specs.KeyEncoding.{ordinal_of, text_bytes, part_bytes};
 
 use std::alloc::AllocError;
-use values::Value;
+use values::{Value, ordinal_of};
 
 /// Appends the bytes of a key's value.
 pub(crate) fn push_part(bytes: &mut Vec<u8>, part: &Value) -> Result<(), AllocError>
@@ -14,17 +14,6 @@ pub(crate) fn push_part(bytes: &mut Vec<u8>, part: &Value) -> Result<(), AllocEr
         Value::Text(text) => push_text(bytes, text.text().as_bytes()),
         Value::Bool(truth) => bytes.extend_from_slice(&[*truth as u8]),
         Value::Null => Ok(()),
-    }
-}
-
-/// The place of a number among all of 64 bits, from 0: the number plus 2^63.
-fn ordinal_of(number: i64) -> u64
-    ensures { result ≡ ordinal_of number }
-{
-    if number < 0 {
-        (number - i64::MIN) as u64
-    } else {
-        number as u64 + (1 << 63)
     }
 }
 

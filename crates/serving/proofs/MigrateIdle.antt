@@ -6,7 +6,7 @@ use Rattle.treenodes.specs.Backlog.{IsWaiting}
 use Rattle.tsbtree.specs.View.{TreeState}
 use Rattle.journal.specs.declared.entry.Entry.{Entry}
 use Rattle.journal.specs.declared.entry.Entry.TheVariants.{Begin}
-use Rattle.serving.specs.Taken.{Given}
+use Rattle.serving.specs.Progress.{Given}
 use Rattle.serving.specs.Serving.{IsPackedOf}
 
 -- there is none

@@ -7,7 +7,7 @@ use Rattle.statement.proofs.WriterPrefixes.{front_then}
 use Rattle.lines.specs.Partial.{Partial}
 use Rattle.sessions.specs.SessionState.{SessionState}
 use Rattle.serving.specs.declared.served_session.Told.{Told}
-use Rattle.serving.specs.Taken.{Given, Progress}
+use Rattle.serving.specs.Progress.{Given, Progress}
 use Rattle.serving.specs.ServedSession.{IsAnswered, Serves}
 use Rattle.serving.specs.Account.{AccountState, Served, Writes, WritesPrefix, LeavesAll}
 

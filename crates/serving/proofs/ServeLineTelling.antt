@@ -11,13 +11,13 @@ use Rattle.statement.specs.declared.line.Line.{Line}
 use Rattle.statement.specs.declared.line.Line.TheVariants.{Nothing, Clock, Step as Asks}
 use Rattle.statement.specs.Memory.{UnlessMemory}
 use Rattle.statement.specs.Print.{refusal_text, reply_text}
-use Rattle.statement.specs.Writer.{Puts}
+use Rattle.statement.specs.Writer.{Prints}
 use Rattle.lines.specs.Partial.{Partial}
 use Rattle.sessions.specs.SessionState.{SessionState}
 use Rattle.serving.specs.declared.answer.Sent.{Sent}
 use Rattle.serving.specs.declared.answer.Sent.TheVariants.{Reply as Says, Ending, Refused as Denies}
 use Rattle.serving.specs.declared.served_session.Told.{Told}
-use Rattle.serving.specs.Taken.{Given, Progress}
+use Rattle.serving.specs.Progress.{Given, Progress}
 use Rattle.serving.specs.ServedSession.{Answers, IsAnswered, IsKept, IsRefusedLine, reading_takes, said}
 use Rattle.serving.specs.Serving.{AnswerState, IsAt, IsReplied, given_list, given_of, taken_by, taken_of, refused_of, reply_by, reply_of, sent_refusal, text_of}
 use Rattle.serving.specs.Account.{AccountState, IsBroken, Served, Writes}
@@ -125,11 +125,11 @@ module _ (line : Partial) (old : SessionState) (a m b : AccountState) (room : Sa
       one old (record { taken = 0; refused = refused_of (sent_refusal refusal) }) [] (text_of (reply_by None (sent_refusal refusal))) t.told_is t.given_is refl refl (λ p at. (p, (at, record { counted = refl; kept = kept_refusal refusal p read })))) told
 
   pub refusal_written : {E : Type 0} (r : Result (Unit {0}) E) (refusal : Refusal) (answer : AnswerState) (w v : Option (List ℕ)) → answer ≡ record { given = None; install = None; sent = sent_refusal refusal } → IsRead schema i line (Err refusal) → IsReported answer m b
-      → Puts w v r (text_of (reply_of answer)) → OnOk r (Writes (line ∷ []) old old a b w v)
-  refusal_written (Ok x) refusal answer w v is read told puts = record { out = text_of (reply_of answer); wrote = puts; served = refusal_served refusal answer is read told }
-  refusal_written (Err e) refusal answer w v is read told puts = tt
+      → Prints w v r (text_of (reply_of answer)) → OnOk r (Writes (line ∷ []) old old a b w v)
+  refusal_written (Ok x) refusal answer w v is read told printed = record { out = text_of (reply_of answer); wrote = printed; served = refusal_served refusal answer is read told }
+  refusal_written (Err e) refusal answer w v is read told printed = tt
 
   pub refusal_broken : {E : Type 0} (r : Result (Unit {0}) E) (refusal : Refusal) (answer : AnswerState) (w v : Option (List ℕ)) → answer ≡ record { given = None; install = None; sent = sent_refusal refusal } → IsRead schema i line (Err refusal) → IsReported answer m b
-      → Puts w v r (text_of (reply_of answer)) → OnErr r (IsBroken (line ∷ []) old old a b w v)
-  refusal_broken (Ok x) refusal answer w v is read told puts = tt
-  refusal_broken (Err e) refusal answer w v is read told puts = inl (record { out = text_of (reply_of answer); wrote = puts; served = refusal_served refusal answer is read told })
+      → Prints w v r (text_of (reply_of answer)) → OnErr r (IsBroken (line ∷ []) old old a b w v)
+  refusal_broken (Ok x) refusal answer w v is read told printed = tt
+  refusal_broken (Err e) refusal answer w v is read told printed = inl (record { out = text_of (reply_of answer); wrote = printed; served = refusal_served refusal answer is read told })

@@ -1,9 +1,9 @@
 -- A served session from its start.
 use Rattle.std.proofs.Common.{◌≡◌, ℕ, List, [], ◌++◌, Option, None, refl, sym, ap, ◌∙◌, subst}
 use Rattle.lines.specs.Partial.{Partial}
-use Rattle.sessions.specs.SessionState.{RunningState, SessionState}
+use Rattle.sessions.specs.SessionState.{SessionTransactionState, SessionState}
 use Rattle.serving.specs.declared.served_session.Told.{Told}
-use Rattle.serving.specs.Taken.{Given, Progress, after}
+use Rattle.serving.specs.Progress.{Given, Progress, after}
 use Rattle.serving.specs.ServedSession.{Serves, IsServed, IsServedInPart}
 use Rattle.serving.specs.Serving.{IsAt, IsOpenAs}
 use Rattle.serving.specs.Account.{AccountState, Served}
@@ -11,7 +11,7 @@ use Rattle.serving.specs.Ends.{Ends, EndsInPart}
 
 module _ (old new : SessionState) (a b : AccountState) (told : List Told) (given : List Given) (none : old.transaction ≡ None) (told_none : a.told ≡ []) (given_none : a.given ≡ []) (told_is : told ≡ b.told) (given_is : given ≡ b.given) where
   start : IsAt old (after old.receipt None)
-  start = record { receipt_is = refl; open_is = subst (λ (x : Option RunningState). IsOpenAs old.schema x None) (sym none) tt }
+  start = record { receipt_is = refl; open_is = subst (λ (x : Option SessionTransactionState). IsOpenAs old.schema x None) (sym none) tt }
 
   serves : (lines : List Partial) (out : List ℕ) → Served lines out old new a b → (p' : Progress) × Serves old.schema old.number lines told (after old.receipt None) given out p'
   serves lines out s =

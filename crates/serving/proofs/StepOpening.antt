@@ -21,15 +21,15 @@ use Rattle.histories.specs.declared.step.Reply.TheVariants.{Begun, Shown, Rolled
 use Rattle.histories.specs.Misfit.{misfit}
 use Rattle.journal.specs.declared.entry.Entry.{Entry}
 use Rattle.journal.specs.declared.entry.Entry.TheVariants.{Commit as Commits}
-use Rattle.sessions.specs.SessionState.{RunningState, SessionState, IsSelect, select_in, start_of, with_transaction}
+use Rattle.sessions.specs.SessionState.{SessionTransactionState, SessionState, IsSelect, select_in, start_of, with_transaction}
 use Rattle.sessions.specs.Store.{IsBegun, IsCommitted, begun_with}
 use Rattle.serving.specs.declared.answer.Sent.{Sent}
 use Rattle.serving.specs.declared.answer.Sent.TheVariants.{Reply as Says, Ending, Refused as Denies}
-use Rattle.serving.specs.Taken.{Given, Opened, Progress, after, opened, listed, query, IsBegin, Replies, TakesBegin}
+use Rattle.serving.specs.Progress.{Given, ServedTransaction, Progress, after, unwritten, listed, query, IsBegin, Replies, TakesBegin}
 use Rattle.serving.specs.Serving.{IsAt, IsOpened, IsOpenAs, IsReplied, IsSentFor, IsStepped, ending_in, reply_by, sent_listing, sent_refusal}
 use Rattle.serving.proofs.AnswerRefusing.{memory_or_reply}
 
-pub none_open : (schema : Schema) (t : Option RunningState) (o : Option Opened) → t ≡ None → IsOpenAs schema t o → o ≡ None
+pub none_open : (schema : Schema) (t : Option SessionTransactionState) (o : Option ServedTransaction) → t ≡ None → IsOpenAs schema t o → o ≡ None
 none_open schema None None e is = refl
 none_open schema None (Some o) e is = absurd is
 none_open schema (Some t) o e is = cc
@@ -37,27 +37,27 @@ none_open schema (Some t) o e is = cc
 pub not_open : (s : SessionState) → is_some (start_of s) ≡ false → s.transaction ≡ None
 not_open s e = by s.transaction e
   where
-    by : (t : Option RunningState) → is_some (option_map (λ t. t.begun.start) t) ≡ false → t ≡ None
+    by : (t : Option SessionTransactionState) → is_some (option_map (λ t. t.begun.start) t) ≡ false → t ≡ None
     by None e = refl
     by (Some t) e = cc
 
-pub is_running : (s : SessionState) → is_some (start_of s) ≡ true → (t : RunningState) × (s.transaction ≡ Some t)
-is_running s e = by s.transaction e
+pub is_open : (s : SessionState) → is_some (start_of s) ≡ true → (t : SessionTransactionState) × (s.transaction ≡ Some t)
+is_open s e = by s.transaction e
   where
-    by : (t : Option RunningState) → is_some (option_map (λ t. t.begun.start) t) ≡ true → (x : RunningState) × (t ≡ Some x)
+    by : (t : Option SessionTransactionState) → is_some (option_map (λ t. t.begun.start) t) ≡ true → (x : SessionTransactionState) × (t ≡ Some x)
     by None e = cc
     by (Some t) e = (t, refl)
 
 -- what a session with this transaction open has come to
-pub record Open (schema : Schema) (t : RunningState) (o : Option Opened) : Type 0 where
-  pub one : Opened
+pub record Open (schema : Schema) (t : SessionTransactionState) (o : Option ServedTransaction) : Type 0 where
+  pub one : ServedTransaction
   pub is : o ≡ Some one
   pub opened : IsOpened schema t one
 
-pub some_open : (schema : Schema) (t : Option RunningState) (ran : RunningState) (o : Option Opened) → t ≡ Some ran → IsOpenAs schema t o → Open schema ran o
+pub some_open : (schema : Schema) (t : Option SessionTransactionState) (ran : SessionTransactionState) (o : Option ServedTransaction) → t ≡ Some ran → IsOpenAs schema t o → Open schema ran o
 some_open schema None ran o e is = cc
 some_open schema (Some t) ran None e is = absurd is
-some_open schema (Some t) ran (Some o) e is = record { one = o; is = refl; opened = subst (λ (x : Option RunningState). IsOpenAs schema x (Some o)) e is }
+some_open schema (Some t) ran (Some o) e is = record { one = o; is = refl; opened = subst (λ (x : Option SessionTransactionState). IsOpenAs schema x (Some o)) e is }
 
 pub by_none : {A : Type 0} (B : A → Type 0) (C : Type 0) (o : Option A) → o ≡ None → C → MatchOption o C B
 by_none B C None e c = c
@@ -83,10 +83,10 @@ module _ (old new : SessionState) (n : ℕ) (e : Entry) (b : IsBegun old new n e
     held = b.shows.1;
   }
 
-  pub begun_at : IsAt new (after n (Some (opened n shown)))
-  begun_at = subst (λ s. IsAt s (after n (Some (opened n shown)))) (sym b.session_is) (record { receipt_is = refl; open_is = record { begin_is = refl; held = b.shows.1; own_is = refl } })
+  pub begun_at : IsAt new (after n (Some (unwritten n shown)))
+  begun_at = subst (λ s. IsAt s (after n (Some (unwritten n shown)))) (sym b.session_is) (record { receipt_is = refl; open_is = record { begin_is = refl; held = b.shows.1; own_is = refl } })
 
-  begun : (instant : ℕ) → instant ≡ last b.view → (p : Progress) → IsAt old p → TakesBegin old.schema old.number p (given_as n e ∷ []) (Begun instant) (after n (Some (opened n shown)))
+  begun : (instant : ℕ) → instant ≡ last b.view → (p : Progress) → IsAt old p → TakesBegin old.schema old.number p (given_as n e ∷ []) (Begun instant) (after n (Some (unwritten n shown)))
   begun instant is p at = record {
     receipt = given_as n e;
     changes = shown;
@@ -103,7 +103,7 @@ module _ (old new : SessionState) (n : ℕ) (e : Entry) (b : IsBegun old new n e
     schema_is = ap (λ s. s.schema) b.session_is;
     number_is = ap (λ s. s.number) b.session_is;
     steps = λ p at. (
-      after n (Some (opened n shown)),
+      after n (Some (unwritten n shown)),
       (begun_at, by_none _ _ p.transaction (none_open old.schema old.transaction p.transaction none at.open_is) (begun instant (is ∙ ap (λ s. unwrap_or (start_of s) 0) b.session_is) p at)),
     );
   }
@@ -132,10 +132,10 @@ commit_stepped old new reading n e b = record {
       );
 }
   where
-    net : (o : Opened) (is : IsOpened old.schema b.ran o) → b.net ≡ net_of (rows_after [] o.changes) o.own.rows o.own.written
+    net : (o : ServedTransaction) (is : IsOpened old.schema b.ran o) → b.net ≡ net_of (rows_after [] o.changes) o.own.rows o.own.written
     net o is = b.net_is o.changes is.held ∙ ap (λ (x : Own). net_of (rows_after [] o.changes) x.rows x.written) (sym is.own_is)
 
-abbrev pub rolled : Option RunningState → Reply
+abbrev pub rolled : Option SessionTransactionState → Reply
 rolled None = Refused NoTransaction
 rolled (Some t) = RolledBack
 
@@ -146,18 +146,18 @@ rollback_stepped old new reply is left = record {
   steps = λ p at. (after p.receipt None, (subst (λ s. IsAt s (after p.receipt None)) (sym left) (record { receipt_is = at.receipt_is; open_is = tt }), by p old.transaction p.transaction refl is at.open_is));
 }
   where
-    by : (p : Progress) (t : Option RunningState) (o : Option Opened) → p.transaction ≡ o → reply ≡ rolled t → IsOpenAs old.schema t o
+    by : (p : Progress) (t : Option SessionTransactionState) (o : Option ServedTransaction) → p.transaction ≡ o → reply ≡ rolled t → IsOpenAs old.schema t o
         → MatchOption o (Replies (Refused NoTransaction) p [] reply (after p.receipt None)) (λ t. Replies RolledBack (after p.receipt None) [] reply (after p.receipt None))
     by p None None same is so = record { takes = refl; reply_is = is; left = λ k. after p.receipt (sym same k) }
     by p None (Some o) same is so = absurd so
     by p (Some t) None same is so = absurd so
     by p (Some t) (Some o) same is so = record { takes = refl; reply_is = is; left = refl }
 
-pub rolled_ok : (t : Option RunningState) (x : Unit {0}) (r : Result (Unit {0}) Refusal) → r ≡ Ok x → MatchOption t (r ≡ Err NoTransaction) (λ _. IsOk r) → RolledBack ≡ rolled t
+pub rolled_ok : (t : Option SessionTransactionState) (x : Unit {0}) (r : Result (Unit {0}) Refusal) → r ≡ Ok x → MatchOption t (r ≡ Err NoTransaction) (λ _. IsOk r) → RolledBack ≡ rolled t
 rolled_ok None x r e which = cc
 rolled_ok (Some t) x r e which = refl
 
-pub rolled_err : (t : Option RunningState) (refusal : Refusal) (r : Result (Unit {0}) Refusal) → r ≡ Err refusal → MatchOption t (r ≡ Err NoTransaction) (λ _. IsOk r) → Refused refusal ≡ rolled t
+pub rolled_err : (t : Option SessionTransactionState) (refusal : Refusal) (r : Result (Unit {0}) Refusal) → r ≡ Err refusal → MatchOption t (r ≡ Err NoTransaction) (λ _. IsOk r) → Refused refusal ≡ rolled t
 rolled_err None refusal r e which = cc
 rolled_err (Some t) refusal r e which = cc
 
@@ -170,7 +170,7 @@ listed_same m writes o table (FromTo a b) keys is = refl
 listed_same m writes o table (Between a b) keys is = refl
 
 -- what a query of an open transaction answers
-module _ (number : ℕ) (schema : Schema) (receipt : ℕ) (t : RunningState) (o : Opened) (is : IsOpened schema t o) (form : Form) (keys : Keys) where
+module _ (number : ℕ) (schema : Schema) (receipt : ℕ) (t : SessionTransactionState) (o : ServedTransaction) (is : IsOpened schema t o) (form : Form) (keys : Keys) where
   abbrev pub said : Result Listing Refusal → Reply
   said (Ok listing) = Shown listing
   said (Err refusal) = Refused refusal
@@ -220,14 +220,14 @@ module _ (number : ℕ) (schema : Schema) (receipt : ℕ) (t : RunningState) (o 
       by (inr f) = inr (f.1 ∙ ap (λ r. Says (said r)) (select o.changes is.held (λ e. f.0 (memory_of e))) ∙ ap Says said_is)
 
 -- with a transaction open
-pub query_stepped : (s : SessionState) (form : Form) (keys : Keys) (sent : Sent) (ran : RunningState) → s.transaction ≡ Some ran → IsSentFor s form keys sent
+pub query_stepped : (s : SessionState) (form : Form) (keys : Keys) (sent : Sent) (ran : SessionTransactionState) → s.transaction ≡ Some ran → IsSentFor s form keys sent
     → IsStepped (Select s.number form keys) s s (record { given = None; install = None; sent = sent })
 query_stepped s form keys sent ran there so = record {
   schema_is = refl;
   number_is = refl;
   steps = λ p at.
       let o = some_open s.schema s.transaction ran p.transaction there at.open_is in
-      (p, (at, by p o (sent_query s.number s.schema s.receipt ran o.one o.opened form keys so.0 (subst (λ (x : Option RunningState). IsSelect (record { number = s.number; schema = s.schema; receipt = s.receipt; transaction = x }) form keys so.0) there so.1.0))));
+      (p, (at, by p o (sent_query s.number s.schema s.receipt ran o.one o.opened form keys so.0 (subst (λ (x : Option SessionTransactionState). IsSelect (record { number = s.number; schema = s.schema; receipt = s.receipt; transaction = x }) form keys so.0) there so.1.0))));
 }
   where
     by : (p : Progress) (o : Open s.schema ran p.transaction) → (sent_listing so.0 ≡ Denies Memory) ⊎ (sent_listing so.0 ≡ Says (query s.schema s.number (o.one).changes (o.one).own form keys))
@@ -246,7 +246,7 @@ alone_stepped old between new n e form keys sent b none so left = record {
     (
       subst (λ s. IsAt s (after n None)) (sym (left ∙ ap (λ s. with_transaction s None) b.session_is)) (record { receipt_is = refl; open_is = tt }),
       by p at (none_open old.schema old.transaction p.transaction none at.open_is)
-          (sent_query old.number old.schema n (begun_with n b.earlier b.view) (opened n (shown old between n e b)) (record { begin_is = refl; held = b.shows.1; own_is = refl }) form keys so.0 (subst (λ s. IsSelect s form keys so.0) b.session_is so.1.0)),
+          (sent_query old.number old.schema n (begun_with n b.earlier b.view) (unwritten n (shown old between n e b)) (record { begin_is = refl; held = b.shows.1; own_is = refl }) form keys so.0 (subst (λ s. IsSelect s form keys so.0) b.session_is so.1.0)),
     ),
   );
 }

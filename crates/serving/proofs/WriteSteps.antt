@@ -13,10 +13,10 @@ use Rattle.histories.specs.declared.step.Reply.{Reply}
 use Rattle.histories.specs.declared.step.Reply.TheVariants.{Refused}
 use Rattle.histories.specs.Misfit.{misfit}
 use Rattle.histories.specs.History.{write_count, written_reply}
-use Rattle.sessions.specs.SessionState.{RunningState, SessionState, IsWrite, WithWrites, write_by, with_writes}
+use Rattle.sessions.specs.SessionState.{SessionTransactionState, SessionState, IsWrite, WithWrites, write_by, with_writes}
 use Rattle.serving.specs.declared.answer.Sent.{Sent}
 use Rattle.serving.specs.declared.answer.Sent.TheVariants.{Reply as Says}
-use Rattle.serving.specs.Taken.{Given, Opened, Progress, after, own_of, with_own, Takes, TakesWrite}
+use Rattle.serving.specs.Progress.{Given, ServedTransaction, Progress, after, own_of, with_own, Takes, TakesWrite}
 use Rattle.serving.specs.Serving.{IsAt, IsOpenAs, IsReplied, IsStepped, reply_by, sent_refusal}
 use Rattle.serving.proofs.AnswerRefusing.{memory_or_reply}
 
@@ -26,20 +26,20 @@ sent_for step (Ok count) = Says (write_count step count)
 sent_for step (Err refusal) = sent_refusal refusal
 
 module _ (number : ℕ) (schema : Schema) (receipt : ℕ) (step : Step) where
-  abbrev state : Option RunningState → SessionState
+  abbrev state : Option SessionTransactionState → SessionState
   state t = record { number = number; schema = schema; receipt = receipt; transaction = t }
 
   abbrev by_writing : Option Own → Result ℕ Refusal × Option Own
   by_writing o = write_by schema step (misfit schema step) o
 
   -- what is left of the transaction, and what the write answers
-  record Wrote (t : Option RunningState) (w : Net) (o : Option Opened) (result : Result ℕ Refusal) : Type 0 where
-    pub left : Option Opened
+  record Wrote (t : Option SessionTransactionState) (w : Net) (o : Option ServedTransaction) (result : Result ℕ Refusal) : Type 0 where
+    pub left : Option ServedTransaction
     pub open_is : IsOpenAs schema (option_map (with_writes w) t) left
     pub left_is : left ≡ with_own o (by_writing (own_of o)).1
     pub result_is : result ≡ (by_writing (own_of o)).0
 
-  wrote : (t : Option RunningState) (w : Net) (o : Option Opened) (result : Result ℕ Refusal) → IsOpenAs schema t o → IsWrite step (state t) (state (option_map (with_writes w) t)) result → result ≢ Err Memory → Wrote t w o result
+  wrote : (t : Option SessionTransactionState) (w : Net) (o : Option ServedTransaction) (result : Result ℕ Refusal) → IsOpenAs schema t o → IsWrite step (state t) (state (option_map (with_writes w) t)) result → result ≢ Err Memory → Wrote t w o result
   wrote None w None result is writes other =
       let e = writes [] tt other in
       record { left = None; open_is = tt; left_is = refl; result_is = ap (λ x. x.0) e }
@@ -58,7 +58,7 @@ module _ (number : ℕ) (schema : Schema) (receipt : ℕ) (step : Step) where
   abbrev pub Writes : Type 0
   Writes = (p : Progress) (given : List Given) (reply : Reply) (p' : Progress) → TakesWrite schema number step p given reply p' → Takes schema number step p given reply p'
 
-  stepped : (t : Option RunningState) (w : Net) (result : Result ℕ Refusal) → Writes → IsWrite step (state t) (state (option_map (with_writes w) t)) result
+  stepped : (t : Option SessionTransactionState) (w : Net) (result : Result ℕ Refusal) → Writes → IsWrite step (state t) (state (option_map (with_writes w) t)) result
       → OnErr result (state (option_map (with_writes w) t) ≡ state t) → IsStepped step (state t) (state (option_map (with_writes w) t)) (record { given = None; install = None; sent = sent_for step result })
   stepped t w result takes writes refused = record { schema_is = refl; number_is = refl; steps = λ p at. by result writes refused p at }
     where

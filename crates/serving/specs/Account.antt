@@ -6,7 +6,7 @@ use Rattle.lines.specs.Partial.{Partial}
 use Rattle.lines.specs.Lines.{EndsLines, lines_from}
 use Rattle.sessions.specs.SessionState.{SessionState}
 use Rattle.serving.specs.declared.served_session.Told.{Told}
-use Rattle.serving.specs.Taken.{Given, Progress}
+use Rattle.serving.specs.Progress.{Given, Progress}
 use Rattle.serving.specs.ServedSession.{Serves}
 use Rattle.serving.specs.Serving.{IsAt}
 

@@ -3,4 +3,4 @@ pub mod Line
 pub mod Ends
 pub mod Serving
 pub mod ServedSession
-pub mod Taken
+pub mod Progress

@@ -14,7 +14,7 @@ use Rattle.statement.specs.Writer.{AppendsPrefix}
 use Rattle.lines.specs.Partial.{Partial}
 use Rattle.lines.specs.Lines.{lines_of}
 use Rattle.serving.specs.declared.served_session.Told.{Told}
-use Rattle.serving.specs.Taken.{Given, Progress, Takes, IsRefusedStep}
+use Rattle.serving.specs.Progress.{Given, Progress, Takes, IsRefusedStep}
 
 module _ (schema : Schema) (i : ℕ) where
   -- what a line says; a COMMIT's reading is its receipt's
@@ -27,7 +27,7 @@ module _ (schema : Schema) (i : ℕ) where
   reading_takes (Some line) = serving_takes_memory line
 
   -- no receipt, this text, and nothing is changed
-  pub record Prints (text : List ℕ) (p : Progress) (given : List Given) (out : List ℕ)
+  pub record PrintsText (text : List ℕ) (p : Progress) (given : List Given) (out : List ℕ)
       (p' : Progress) : Type 0 where
     pub takes : given ≡ []
     pub out_is : out ≡ text
@@ -42,9 +42,9 @@ module _ (schema : Schema) (i : ℕ) where
 
   -- a line that is answered by its meaning: what is refused is no step, and a blank line and a comment have no reply; no line that a session sends sets the clock
   abbrev pub Answers : Result Line Refusal → Progress → List Given → List ℕ → Progress → Type 0
-  Answers (Err refusal) p given out p' = Prints (refusal_text refusal) p given out p'
-  Answers (Ok Nothing) p given out p' = Prints [] p given out p'
-  Answers (Ok (Clock reading)) p given out p' = Prints [] p given out p'
+  Answers (Err refusal) p given out p' = PrintsText (refusal_text refusal) p given out p'
+  Answers (Ok Nothing) p given out p' = PrintsText [] p given out p'
+  Answers (Ok (Clock reading)) p given out p' = PrintsText [] p given out p'
   Answers (Ok (Asks step)) p given out p' = PrintsReply (Takes schema i step p) given out p'
 
   -- memory ran out while the line was read, or its step is refused

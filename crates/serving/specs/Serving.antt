@@ -19,10 +19,10 @@ use Rattle.histories.specs.History.{commit_reply}
 use Rattle.statement.specs.Print.{refusal_text, reply_text}
 use Rattle.journal.specs.declared.entry.Entry.{Entry}
 use Rattle.journal.specs.declared.entry.Entry.TheVariants.{Begin, Commit, Split, Install}
-use Rattle.sessions.specs.SessionState.{IsSelect, RunningState, SessionState}
+use Rattle.sessions.specs.SessionState.{IsSelect, SessionTransactionState, SessionState}
 use Rattle.serving.specs.declared.answer.Sent.{Sent}
 use Rattle.serving.specs.declared.answer.Sent.TheVariants.{Reply as Replies, Ending, Refused as Refuses}
-use Rattle.serving.specs.Taken.{Given, IsServiceBegin, Opened, PacksFirst, Progress, Takes, IsRefusedStep}
+use Rattle.serving.specs.Progress.{Given, IsServiceBegin, ServedTransaction, PacksFirst, Progress, Takes, IsRefusedStep}
 
 -- how a step was answered: with the receipts that it took
 pub record AnswerState : Type 0 where
@@ -89,12 +89,13 @@ IsSentFor s form keys sent =
     × (IsSelect s form keys listing × (sent ≡ sent_listing listing))
 
 -- a session's transaction is this
-pub record IsOpened (schema : Schema) (t : RunningState) (o : Opened) : Type 0 where
+pub record IsOpened (schema : Schema) (t : SessionTransactionState) (o : ServedTransaction)
+    : Type 0 where
   pub begin_is : o.begin ≡ t.begun.number
   pub held : Holds schema t.view o.changes
   pub own_is : o.own ≡ own o.changes t.writes
 
-abbrev pub IsOpenAs : Schema → Option RunningState → Option Opened → Type 0
+abbrev pub IsOpenAs : Schema → Option SessionTransactionState → Option ServedTransaction → Type 0
 IsOpenAs schema None None = Unit {0}
 IsOpenAs schema (Some t) (Some o) = IsOpened schema t o
 IsOpenAs schema (Some t) None = ⊥

@@ -1,6 +1,6 @@
 //! What is sent for a step.
 ghost use Rattle.std.specs.Prelude.{◌≡◌};
-ghost use Rattle.statement.specs.Writer.{Puts};
+ghost use Rattle.statement.specs.Writer.{Prints};
 ghost use Rattle.statement.specs.Print.{reply_text};
 ghost use Rattle.histories.specs.History.{commit_reply};
 ghost use Rattle.serving.specs.Serving.{ending_in};
@@ -108,7 +108,7 @@ impl<J: StoreName> Answer<J> {
 
     /// Writes what is sent.
     pub(crate) fn print<W: Write>(&self, writer: &mut W) -> Result<(), WriteFault>
-        ensures { Puts (W.contents writer.old) (W.contents writer.new) result
+        ensures { Prints (W.contents writer.old) (W.contents writer.new) result
             (text_of (reply_of self.now)) }
     {
         match &self.sent {
@@ -124,7 +124,7 @@ impl<J: StoreName> Answer<J> {
 
 /// Writes how the commit of an entry ended.
 fn print_ending<W: Write>(writer: &mut W, entry: &Entry) -> Result<(), WriteFault>
-    ensures { Puts (W.contents writer.old) (W.contents writer.new) result
+    ensures { Prints (W.contents writer.old) (W.contents writer.new) result
         (reply_text (ending_in entry.now)) }
 {
     match entry {
@@ -140,7 +140,7 @@ fn print_end<W: Write>(
     writer: &mut W,
     end: &Result<Option<Instant>, Refusal>,
 ) -> Result<(), WriteFault>
-    ensures { Puts (W.contents writer.old) (W.contents writer.new) result
+    ensures { Prints (W.contents writer.old) (W.contents writer.new) result
         (reply_text (commit_reply end.now)) }
 {
     match end {

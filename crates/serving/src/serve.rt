@@ -6,7 +6,7 @@ ghost use Rattle.lines.specs.Lines.{lines_from};
 ghost use Rattle.serving.specs.Account.{Breaks, Feeds, IsBroken, Writes};
 ghost use Rattle.serving.specs.Ends.{Ends, EndsInPart};
 ghost use Rattle.serving.specs.ServedSession.{IsServed, IsServedInPart};
-ghost use Rattle.serving.specs.Taken.{after};
+ghost use Rattle.serving.specs.Progress.{after};
 
 use crate::account::Account;
 use crate::readings::Readings;
@@ -15,17 +15,11 @@ use crate::served_session::{End, Served};
 use crate::service::Service;
 use gate::Gate;
 use growlog::StoreName;
-use lines::{LineBuffer, line_length};
+use lines::{CHUNK, LineBuffer, MOST_READS, line_length};
 use sessions::{LockedStore, Session};
 use std::alloc::Global;
 use std::io::{Read, Write};
 use std::sync::Wait;
-
-/// The bytes that are read at once.
-const CHUNK: usize = 4096;
-
-/// The reads after which a reader that gives no end is at fault.
-const READS: u64 = 1 << 32;
 
 /// Serves a session: reads lines to the reader's end, takes the step of each, and writes its reply. What was written is flushed before more is read.
 /// A SELECT with no transaction open is a begin, the read and a rollback. An open transaction is dropped at the end.
@@ -98,7 +92,7 @@ fn serve<J: StoreName, R: Wait, I: Read, W: Write, C: Readings, G: Gate>(
         return End::Memory;
     };
     let mut chunk = [0u8; CHUNK];
-    for _turn in 0..READS {
+    for _turn in 0..MOST_READS {
         let n = match reader.read(&mut chunk) {
             Ok(n) => n,
             Err(_) => return End::Read,

@@ -1,7 +1,7 @@
 //! A line: it is read, its step taken, and what is sent for it is written and taken down.
 ghost use Rattle.std.specs.Prelude.{◌≡◌, ◌≢◌, ◌<◌, [], ◌∷◌, IfErr, OnErr, OnOk};
 ghost use Rattle.serving.specs.Account.{IsBroken, Writes};
-ghost use Rattle.statement.specs.Writer.{Puts};
+ghost use Rattle.statement.specs.Writer.{Prints};
 ghost use Rattle.serving.specs.Line.{IsBrokenStep, IsRead, IsReported, Sends};
 ghost use Rattle.serving.specs.Serving.{reply_of, text_of};
 
@@ -122,7 +122,7 @@ fn tell<J: StoreName, W: Write>(
 ) -> Result<(), End>
     requires { 0 < account.old.room }
     ensures told { IsReported answer account.old account.new }
-    ensures wrote { Puts (W.contents writer.old) (W.contents writer.new) result
+    ensures wrote { Prints (W.contents writer.old) (W.contents writer.new) result
         (text_of (reply_of answer)) }
     ensures why { IfErr result (λ e. e ≢ End.Closed) }
 {

@@ -16,7 +16,7 @@ use Rattle.histories.specs.declared.step.Reply.TheVariants.{Refused, RolledBack}
 use Rattle.histories.specs.Misfit.{key_misfit, max_session, no_session}
 use Rattle.histories.specs.History.{History, log, log_at_begin, own, own_of, mine_of}
 use Rattle.histories.proofs.StandsEnds.{itself}
-use Rattle.sessions.specs.SessionState.{RunningState}
+use Rattle.sessions.specs.SessionState.{SessionTransactionState}
 use Rattle.sessions.specs.OfHistory.{own_at, rolled_reply, GetsAnswerAlike, RollbacksAnswerAlike}
 
 -- ---- a read at a key
@@ -25,7 +25,7 @@ abbrev row_of : Key → Option Own → Result (Option Row) Refusal
 row_of key None = Err NoTransaction
 row_of key (Some o) = Ok (row_at o.rows key)
 
-of_session : (m : Changes) (key : Key) (o : Option RunningState)
+of_session : (m : Changes) (key : Key) (o : Option SessionTransactionState)
     → ◌≡◌ {A = Result (Option Row) Refusal} (elim o [ None ↦ Err NoTransaction | Some t ↦ Ok (row_at (rows_seen m t.writes) key) ]) (row_of key (option_map (λ t. own_over m t.writes) o))
 of_session m key None = refl
 of_session m key (Some t) = refl
@@ -49,7 +49,7 @@ done_reply : (r : Result (Unit {0}) Refusal) → IsOk r → rolled_reply r ≡ R
 done_reply (Ok done) h = refl
 done_reply (Err refusal) h = absurd (cc)
 
-rolled_by : (f : RunningState → Own) (g : Log → Own) (o : Option RunningState) (lab : Option Log) (r : Result (Unit {0}) Refusal) → option_map f o ≡ option_map g lab
+rolled_by : (f : SessionTransactionState → Own) (g : Log → Own) (o : Option SessionTransactionState) (lab : Option Log) (r : Result (Unit {0}) Refusal) → option_map f o ≡ option_map g lab
     → MatchOption o (r ≡ Err NoTransaction) (λ _. IsOk r) → rolled_reply r ≡ elim lab [ Some before ↦ RolledBack | None ↦ Refused NoTransaction ]
 rolled_by f g None None r same did = ap rolled_reply did
 rolled_by f g None (Some before) r same did = absurd (cc)

@@ -21,7 +21,7 @@ use Rattle.histories.specs.declared.step.Step.TheVariants.{Select}
 use Rattle.histories.specs.declared.step.Reply.TheVariants.{Shown}
 use Rattle.histories.specs.Misfit.{key_misfit}
 use Rattle.histories.specs.History.{reply}
-use Rattle.sessions.specs.SessionState.{RunningState}
+use Rattle.sessions.specs.SessionState.{SessionTransactionState}
 use Rattle.sessions.specs.OfHistory.{row_alone, shown_reply, GetsAsListed}
 use Rattle.sessions.proofs.OfHistoryShown.{queries_answer_alike}
 
@@ -64,7 +64,7 @@ rows_are key (Some row) = refl
 pub gets_as_listed : GetsAsListed
 gets_as_listed m s h key keys table row is got fits there alone = by (key_misfit s.schema key) s.transaction refl got
   where
-    listed : (t : RunningState) → s.transaction ≡ Some t → row_at (rows_seen m t.writes) key ≡ row → reply s.schema h (Select s.number Plain keys) ≡ Shown (Rows (row_alone row))
+    listed : (t : SessionTransactionState) → s.transaction ≡ Some t → row_at (rows_seen m t.writes) key ≡ row → reply s.schema h (Select s.number Plain keys) ≡ Shown (Rows (row_alone row))
     listed t ran at =
         sym (queries_answer_alike m s h Plain keys is (λ none. cc (sym ran ∙ none)))
         ∙ (λ k. shown_reply (elim (fits k) [
@@ -75,7 +75,7 @@ gets_as_listed m s h key keys table row is got fits there alone = by (key_misfit
         ∙ ap (λ (es : State). Shown (Rows (map (λ e. e.1) es))) (entry_at (rows_seen m t.writes) key (sorted_apply t.writes (rows_after [] m) (sorted_base m)) ∙ ap (entry_alone key) at)
         ∙ ap (λ rows. Shown (Rows rows)) (rows_are key row)
 
-    by : (u : Option Refusal) (o : Option RunningState) → s.transaction ≡ o
+    by : (u : Option Refusal) (o : Option SessionTransactionState) → s.transaction ≡ o
         → ◌≡◌ {A = Result (Option Row) Refusal} (elim u [ Some refusal ↦ Err refusal | None ↦ elim o [ None ↦ Err NoTransaction | Some t ↦ Ok (row_at (rows_seen m t.writes) key) ] ]) (Ok row)
         → reply s.schema h (Select s.number Plain keys) ≡ Shown (Rows (row_alone row))
     by (Some refusal) o ran got = absurd (cc)

@@ -19,7 +19,7 @@ use Rattle.histories.specs.declared.step.Reply.TheVariants.{Refused, Shown}
 use Rattle.histories.specs.Misfit.{misfit}
 use Rattle.histories.specs.History as history
 use Rattle.histories.specs.History.{History, log, log_at_begin, own, own_of, mine_of, rows_of, rows_taken, snap}
-use Rattle.sessions.specs.SessionState.{RunningState, SessionState}
+use Rattle.sessions.specs.SessionState.{SessionTransactionState, SessionState}
 use Rattle.sessions.specs.OfHistory.{IsIn, shown_reply, QueriesAnswerAlike}
 
 abbrev rows_or_none : Option Own → State
@@ -30,10 +30,10 @@ module _ (m : Changes) (s : SessionState) (h : History) (is : IsIn m s h) where
   abbrev at : Option Log → Own
   at lab = own_of s.schema (log s.schema h) lab (own s.schema h s.number)
 
-  same_own : (t : RunningState) (lab : Option Log) → s.transaction ≡ Some t → log_at_begin s.schema h s.number ≡ lab → ◌≡◌ {A = Option Own} (Some (own_over m t.writes)) (option_map (λ before. at (Some before)) lab)
-  same_own t lab ran begun = (λ k. option_map (λ (t : RunningState). own_over m t.writes) (sym ran k)) ∙ is.own_is ∙ (λ k. option_map (λ before. at (Some before)) (begun k))
+  same_own : (t : SessionTransactionState) (lab : Option Log) → s.transaction ≡ Some t → log_at_begin s.schema h s.number ≡ lab → ◌≡◌ {A = Option Own} (Some (own_over m t.writes)) (option_map (λ before. at (Some before)) lab)
+  same_own t lab ran begun = (λ k. option_map (λ (t : SessionTransactionState). own_over m t.writes) (sym ran k)) ∙ is.own_is ∙ (λ k. option_map (λ before. at (Some before)) (begun k))
 
-  listed : (t : RunningState) (lab : Option Log) (form : Form) (table : Table) (keys : Keys) → s.transaction ≡ Some t → log_at_begin s.schema h s.number ≡ lab
+  listed : (t : SessionTransactionState) (lab : Option Log) (form : Form) (table : Table) (keys : Keys) → s.transaction ≡ Some t → log_at_begin s.schema h s.number ≡ lab
       → listing_in m t.writes table form keys ≡ history.listing s.schema h s.number form table keys
   listed t None Plain table keys ran begun =
       let clash : ◌≡◌ {A = Option Own} (Some (own_over m t.writes)) None = same_own t None ran begun in cc
@@ -47,7 +47,7 @@ module _ (m : Changes) (s : SessionState) (h : History) (is : IsIn m s h) where
 pub queries_answer_alike : QueriesAnswerAlike
 queries_answer_alike m s h form keys is ran = by (misfit s.schema (Select s.number form keys)) s.transaction refl
   where
-    by : (u : Option Refusal) (o : Option RunningState) → s.transaction ≡ o
+    by : (u : Option Refusal) (o : Option SessionTransactionState) → s.transaction ≡ o
         → shown_reply (elim u [ Some refusal ↦ Err refusal | None ↦ elim o [ None ↦ Err NoTransaction | Some t ↦ elim (table_at s.schema keys.table) [ None ↦ Err NoTable | Some table ↦ Ok (listing_in m t.writes table form keys) ] ] ])
         ≡ elim u [ Some refusal ↦ Refused refusal | None ↦ elim (table_at s.schema keys.table) [ None ↦ Refused NoTable | Some table ↦ Shown (history.listing s.schema h s.number form table keys) ] ]
     by (Some refusal) o e = refl

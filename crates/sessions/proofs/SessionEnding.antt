@@ -8,13 +8,13 @@ use Rattle.staging.specs.View.{Holds}
 use Rattle.staging.specs.Own.{net_over}
 use Rattle.journal.specs.declared.entry.Entry.{Entry}
 use Rattle.journal.specs.declared.entry.Entry.TheVariants.{Commit}
-use Rattle.sessions.specs.SessionState.{RunningState, SessionState, MayRun}
+use Rattle.sessions.specs.SessionState.{SessionTransactionState, SessionState, MayBeOpen}
 use Rattle.sessions.specs.Store.{IsCommitted}
 use Rattle.sessions.proofs.SessionWriting.{state}
 
-module _ (schema : Schema) (o : Option RunningState) (t : RunningState) (runs : MayRun schema o) (is : o ≡ Some t) where
-  abbrev ran : MayRun schema (Some t)
-  ran = subst (MayRun schema) is runs
+module _ (schema : Schema) (o : Option SessionTransactionState) (t : SessionTransactionState) (runs : MayBeOpen schema o) (is : o ≡ Some t) where
+  abbrev ran : MayBeOpen schema (Some t)
+  ran = subst (MayBeOpen schema) is runs
 
   pub keys_of_net : (store : Schema) (net : Net) → ((schema : Schema) → AreKeysIn schema t.writes → AreKeysIn schema net) → schema ≡ store → AreKeysIn store net
   keys_of_net store net keys same = subst (λ s. AreKeysIn s net) same (keys schema ran.1.keys)

@@ -8,22 +8,22 @@ use Rattle.values.specs.Events.{AreKeysIn}
 use Rattle.tsbtree.specs.View.{last}
 use Rattle.staging.specs.View.{Holds}
 use Rattle.staging.specs.Own.{WhenRead}
-use Rattle.transaction.specs.TransactionState.{TransactionState}
+use Rattle.transaction.specs.OpenTransactionState.{OpenTransactionState}
 use Rattle.journal.specs.declared.entry.Begun.{Begun}
-use Rattle.sessions.specs.SessionState.{RunningState, SessionState, IsRunning, IsSession, MayRun, WithWrites, running, with_transaction, with_writes}
+use Rattle.sessions.specs.SessionState.{SessionTransactionState, SessionState, IsOpenOver, IsSession, MayBeOpen, WithWrites, session_transaction, with_transaction, with_writes}
 
-abbrev pub state : ℕ → Schema → ℕ → Option RunningState → SessionState
+abbrev pub state : ℕ → Schema → ℕ → Option SessionTransactionState → SessionState
 state number schema receipt o = record { number = number; schema = schema; receipt = receipt; transaction = o }
 
-as_it_is : (o : Option RunningState) → (writes : Net) × (o ≡ option_map (with_writes writes) o)
+as_it_is : (o : Option SessionTransactionState) → (writes : Net) × (o ≡ option_map (with_writes writes) o)
 as_it_is None = ([], refl)
 as_it_is (Some t) = (t.writes, refl)
 
 pub same_writes : (s : SessionState) → WithWrites s s
 same_writes s = let p = as_it_is s.transaction in (p.0, λ k. state s.number s.schema s.receipt (p.1 k))
 
-module _ (number : ℕ) (schema : Schema) (receipt : ℕ) (o : Option RunningState) (begun : Begun) (old new : TransactionState) (is : o ≡ Some (running begun old)) (view : new.view ≡ old.view) where
-  pub with_new : (before : SessionState) → state number schema receipt o ≡ before → WithWrites before (state number schema receipt (Some (running begun new)))
+module _ (number : ℕ) (schema : Schema) (receipt : ℕ) (o : Option SessionTransactionState) (begun : Begun) (old new : OpenTransactionState) (is : o ≡ Some (session_transaction begun old)) (view : new.view ≡ old.view) where
+  pub with_new : (before : SessionState) → state number schema receipt o ≡ before → WithWrites before (state number schema receipt (Some (session_transaction begun new)))
   with_new before seen = (
     new.writes,
     (λ k. state number schema receipt (Some (record { begun = begun; view = view k; writes = new.writes })))
@@ -31,13 +31,13 @@ module _ (number : ℕ) (schema : Schema) (receipt : ℕ) (o : Option RunningSta
         ∙ (λ k. with_transaction (seen k) (option_map (with_writes new.writes) (seen k).transaction)),
   )
 
-  pub written_is : (table : Table) (n : ℕ) → IsSession number schema o → Some table ≡ table_at schema n → IsTable n table → WhenRead table old.view old.writes (λ schema m. AreKeysIn schema new.writes) → IsSession number schema (Some (running begun new))
+  pub written_is : (table : Table) (n : ℕ) → IsSession number schema o → Some table ≡ table_at schema n → IsTable n table → WhenRead table old.view old.writes (λ schema m. AreKeysIn schema new.writes) → IsSession number schema (Some (session_transaction begun new))
   written_is table n was there good keys =
-      let runs : MayRun schema (Some (running begun old)) = subst (MayRun schema) is was.runs in
-      let ran : IsRunning schema (running begun old) runs.0 = runs.1 in
+      let runs : MayBeOpen schema (Some (session_transaction begun old)) = subst (MayBeOpen schema) is was.over in
+      let ran : IsOpenOver schema (session_transaction begun old) runs.0 = runs.1 in
       record {
         in_range = was.in_range;
-        runs = (
+        over = (
           runs.0,
           record {
             held = subst (λ v. Holds schema v runs.0) (sym view) ran.held;

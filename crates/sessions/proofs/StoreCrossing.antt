@@ -27,7 +27,7 @@ use Rattle.journal.specs.contracts.journal.Journal as Journal
 use Rattle.journal.specs.contracts.receipt.Receipt as Receipt
 use Rattle.transaction.specs.contracts.open_transaction.OpenTransaction as OpenTransaction
 use Rattle.book.specs.contracts.book.Book as Book
-use Rattle.sessions.specs.contracts.session.Running as Running
+use Rattle.sessions.specs.contracts.session.SessionTransaction as SessionTransaction
 use Rattle.sessions.specs.contracts.session.Session as Session
 use Rattle.sessions.specs.contracts.store.LockedStore as LockedStore
 
@@ -67,11 +67,11 @@ shared_send = search (entry_send, entry_sync, sendable, plain) depth 60 fits 200
 transaction_send : IsSend OpenTransaction.the_row
 transaction_send = search (view_send, staged.the_send, sendable, plain) depth 60 fits 20000
 
-running_send : IsSend Running.the_row
-running_send = search (transaction_send, sendable, plain) depth 60 fits 20000
+session_transaction_send : IsSend SessionTransaction.the_row
+session_transaction_send = search (transaction_send, sendable, plain) depth 60 fits 20000
 
 pub session_send : IsSend Session.the_row
-session_send = search (running_send, schema.the_send, cache.the_send, sendable, plain) depth 60 fits 20000
+session_send = search (session_transaction_send, schema.the_send, cache.the_send, sendable, plain) depth 60 fits 20000
 
 -- ---- what stands under the lock
 

@@ -32,7 +32,7 @@ use Rattle.journal.specs.Entries.{Entries, entry_at, start_of, log as journal_lo
 use Rattle.journal.specs.Legal.{IsLegal, MayFollow, MayBegin, MayCommit}
 use Rattle.journal.proofs.JournalNumbering.{IsWithin, entry_within}
 use Rattle.book.specs.Book.{BookState}
-use Rattle.sessions.specs.SessionState.{RunningState, SessionState, WithWrites, own_in, with_transaction, with_writes, write_in}
+use Rattle.sessions.specs.SessionState.{SessionTransactionState, SessionState, WithWrites, own_in, with_transaction, with_writes, write_in}
 use Rattle.sessions.specs.Store.{begun_with}
 use Rattle.sessions.specs.OfHistory.{IsIn, own_at, seen_at}
 use Rattle.sessions.specs.StoreOfHistory.{BeganIn, IsBeside, Grows, IsOfAnother, IsSplitStep, entry_reply, BeginsAnswerAlike, CommitsAnswerAlike, SplitsAnswerAlike, InstallsAnswerAlike, RefusedAlike, OthersLeaveAlike, OwnStepsStayBeside}
@@ -48,7 +48,7 @@ rows_at l t is =
     let rises : IsLog (upto l t) = Rises-upto l 0 t is in
     rows_now (upto l t) rises ∙ ap (replay []) (upto_all (upto l t) 0 (last (upto l t)) rises (omega arith))
 
-none_open : (f : RunningState → Own) (g : Log → Own) (o : Option RunningState) (lab : Option Log) → option_map f o ≡ option_map g lab → o ≡ None → lab ≡ None
+none_open : (f : SessionTransactionState → Own) (g : Log → Own) (o : Option SessionTransactionState) (lab : Option Log) → option_map f o ≡ option_map g lab → o ≡ None → lab ≡ None
 none_open f g None None same e = refl
 none_open f g None (Some before) same e = absurd (cc)
 none_open f g (Some t) lab same e = absurd (cc)
@@ -57,7 +57,7 @@ record IsOpened {A : Type 0} (o : Option A) : Type 0 where
   value : A
   is : o ≡ Some value
 
-opened : (f : RunningState → Own) (g : Log → Own) (o : Option RunningState) (lab : Option Log) → option_map f o ≡ option_map g lab → o ≢ None → IsOpened lab
+opened : (f : SessionTransactionState → Own) (g : Log → Own) (o : Option SessionTransactionState) (lab : Option Log) → option_map f o ≡ option_map g lab → o ≢ None → IsOpened lab
 opened f g None lab same e = absurd (e refl)
 opened f g (Some t) None same e = absurd (cc)
 opened f g (Some t) (Some before) same e = record { value = before; is = refl }
@@ -87,7 +87,7 @@ put_here e j n at = ap (λ b. if b then Some e else entry_at j n) (ap (λ m. n =
 may_follow : (s : SessionState) (e : Entry) (n : ℕ) (b c : BookState) → Grows s e n b c → MayFollow b.entries e
 may_follow s e n b c grows = let legal : IsLegal (e ∷ b.entries) = subst IsLegal grows.adds.entries_are grows.is.legal in legal.0
 
-began_stays : (more j : Entries) (schema : Schema) (h : History) (step : Step) (i : ℕ) (o : Option RunningState) → snap schema (step ∷ h) i ≡ snap schema h i → seen_at schema (step ∷ h) i ≡ seen_at schema h i
+began_stays : (more j : Entries) (schema : Schema) (h : History) (step : Step) (i : ℕ) (o : Option SessionTransactionState) → snap schema (step ∷ h) i ≡ snap schema h i → seen_at schema (step ∷ h) i ≡ seen_at schema h i
     → BeganIn j schema h i o → BeganIn (more ++ j) schema (step ∷ h) i o
 began_stays more j schema h step i None same seen began = tt
 began_stays more j schema h step i (Some t) same seen began = (
@@ -329,7 +329,7 @@ module _ (schema : Schema) (h : History) (step : Step) (i : ℕ) (other : IsOfAn
 pub others_leave_alike : OthersLeaveAlike
 others_leave_alike s j more h step is other grows = by s.transaction refl
   where
-    by : (o : Option RunningState) → s.transaction ≡ o → IsBeside (more ++ j) s (step ∷ h)
+    by : (o : Option SessionTransactionState) → s.transaction ≡ o → IsBeside (more ++ j) s (step ∷ h)
     by None none =
         let closed : log_at_begin s.schema h s.number ≡ None = none_open _ _ s.transaction (log_at_begin s.schema h s.number) is.is_in.own_is none in
         record {
@@ -373,7 +373,7 @@ still schema h (SplitKey key) i its = absurd (cc)
 still schema h (SplitTime key instant) i its = absurd (cc)
 still schema h Migrate i its = absurd (cc)
 
-began_written : (j : Entries) (schema : Schema) (h : History) (i : ℕ) (writes : Net) (o : Option RunningState) → BeganIn j schema h i o → BeganIn j schema h i (option_map (with_writes writes) o)
+began_written : (j : Entries) (schema : Schema) (h : History) (i : ℕ) (writes : Net) (o : Option SessionTransactionState) → BeganIn j schema h i o → BeganIn j schema h i (option_map (with_writes writes) o)
 began_written j schema h i writes None began = tt
 began_written j schema h i writes (Some t) began = began
 

@@ -14,7 +14,7 @@ use Rattle.tsbtree.specs.View.{TreeState, last}
 use Rattle.staging.specs.View.{Holds}
 use Rattle.staging.specs.Own.{own, rows_seen}
 use Rattle.transaction.specs.Listing.{listing_in}
-use Rattle.transaction.specs.TransactionState.{TransactionState}
+use Rattle.transaction.specs.OpenTransactionState.{OpenTransactionState}
 use Rattle.histories.specs.declared.step.Listing.{Listing}
 use Rattle.histories.specs.declared.step.Step.{Step}
 use Rattle.histories.specs.declared.step.Step.TheVariants.{Select}
@@ -23,45 +23,45 @@ use Rattle.histories.specs.History.{write}
 use Rattle.journal.specs.declared.entry.Begun.{Begun}
 
 -- an open transaction: its begin, what it sees of what was committed, and its own writes
-pub record RunningState : Type 0 where
+pub record SessionTransactionState : Type 0 where
   pub begun : Begun
   pub view : TreeState
   pub writes : Net
 
 -- by its begin, and what contracts see of the transaction
-abbrev pub running : Begun → TransactionState → RunningState
-running begun t = record { begun = begun; view = t.view; writes = t.writes }
+abbrev pub session_transaction : Begun → OpenTransactionState → SessionTransactionState
+session_transaction begun t = record { begun = begun; view = t.view; writes = t.writes }
 
 -- a session's number, its tables, the number of its last receipt, and its open transaction or none
 pub record SessionState : Type 0 where
   pub number : ℕ
   pub schema : Schema
   pub receipt : ℕ
-  pub transaction : Option RunningState
+  pub transaction : Option SessionTransactionState
 
 -- the last instant that the open transaction sees, if one is open
 abbrev pub start_of : SessionState → Option ℕ
 start_of s = option_map (λ t. t.begun.start) s.transaction
 
 -- the view shows the changes, whose keys are of the schema as the written ones are, and the begin has its last instant
-pub record IsRunning (schema : Schema) (t : RunningState) (m : Changes) : Type 0 where
+pub record IsOpenOver (schema : Schema) (t : SessionTransactionState) (m : Changes) : Type 0 where
   pub held : Holds schema t.view m
   pub keys : AreKeysIn schema t.writes
   pub start_is : t.begun.start ≡ last t.view
 
 -- of some changes that is so
-abbrev pub MayRun : Schema → Option RunningState → Type 0
-MayRun schema None = Unit {0}
-MayRun schema (Some t) = (m : Changes) × IsRunning schema t m
+abbrev pub MayBeOpen : Schema → Option SessionTransactionState → Type 0
+MayBeOpen schema None = Unit {0}
+MayBeOpen schema (Some t) = (m : Changes) × IsOpenOver schema t m
 
 -- what is true of every session
-pub record IsSession (number : ℕ) (schema : Schema) (transaction : Option RunningState) : Type 0
-  where
-    pub in_range : number ≤ max_session
-    pub runs : MayRun schema transaction
+pub record IsSession (number : ℕ) (schema : Schema) (transaction : Option SessionTransactionState)
+    : Type 0 where
+  pub in_range : number ≤ max_session
+  pub over : MayBeOpen schema transaction
 
 -- the session with another transaction, or none
-abbrev pub with_transaction : SessionState → Option RunningState → SessionState
+abbrev pub with_transaction : SessionState → Option SessionTransactionState → SessionState
 with_transaction s transaction = record {
   number = s.number;
   schema = s.schema;
@@ -69,7 +69,7 @@ with_transaction s transaction = record {
   transaction = transaction;
 }
 
-abbrev pub with_writes : Net → RunningState → RunningState
+abbrev pub with_writes : Net → SessionTransactionState → SessionTransactionState
 with_writes writes t = record { begun = t.begun; view = t.view; writes = writes }
 
 -- nothing has changed but what the open transaction wrote

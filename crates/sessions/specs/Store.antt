@@ -10,10 +10,10 @@ use Rattle.staging.specs.Own.{net_over}
 use Rattle.validation.specs.declared.cut.Cut.{Cut}
 use Rattle.journal.specs.declared.entry.Entry.{Entry}
 use Rattle.journal.specs.declared.entry.Entry.TheVariants.{Begin, Commit, Split, Install}
-use Rattle.sessions.specs.SessionState.{RunningState, SessionState}
+use Rattle.sessions.specs.SessionState.{SessionTransactionState, SessionState}
 
 -- a transaction that has written nothing, by its begin's number, the entry before that it names, and its view
-abbrev pub begun_with : ℕ → ℕ → TreeState → RunningState
+abbrev pub begun_with : ℕ → ℕ → TreeState → SessionTransactionState
 begun_with number earlier view = record {
   begun = record { number = number; earlier = earlier; start = last view };
   view = view;
@@ -36,7 +36,7 @@ pub record IsBegun (old new : SessionState) (number : ℕ) (e : Entry) : Type 0 
 
 -- the entry names the session's begin, with what the session changed and the reading, and the transaction has ended
 pub record IsCommitted (old new : SessionState) (reading number : ℕ) (e : Entry) : Type 0 where
-  pub ran : RunningState
+  pub ran : SessionTransactionState
   pub was_open : old.transaction ≡ Some ran
   pub net : Net
   pub end : Result (Option ℕ) Refusal

@@ -21,7 +21,7 @@ use Rattle.journal.specs.declared.entry.Entry.{Entry}
 use Rattle.journal.specs.declared.entry.Entry.TheVariants.{Begin, Commit, Split, Install}
 use Rattle.journal.specs.Entries.{Entries, entry_at, log as journal_log}
 use Rattle.book.specs.Book.{BookState, IsBook, Adds}
-use Rattle.sessions.specs.SessionState.{RunningState, SessionState, WithWrites, own_in, with_transaction, write_in}
+use Rattle.sessions.specs.SessionState.{SessionTransactionState, SessionState, WithWrites, own_in, with_transaction, write_in}
 use Rattle.sessions.specs.OfHistory.{IsIn, seen_at}
 use Rattle.sessions.specs.Store.{IsBegun, IsCommitted, IsInstallOf, IsSplitOf}
 
@@ -33,7 +33,7 @@ entry_reply (Split cut done) = Done
 entry_reply (Install rect block done) = Done
 
 -- the open transaction's begin is in the journal, and saw what the history's snapshot has
-abbrev pub BeganIn : Entries → Schema → History → ℕ → Option RunningState → Type 0
+abbrev pub BeganIn : Entries → Schema → History → ℕ → Option SessionTransactionState → Type 0
 BeganIn j schema h i None = Unit {0}
 BeganIn j schema h i (Some t) =
     (entry_at j t.begun.number ≡ Some (Begin i t.begun.earlier t.view))

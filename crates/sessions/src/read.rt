@@ -17,13 +17,13 @@ impl Session {
         if let Some(refusal) = key_misfit(&self.schema, key) {
             return Err(refusal);
         }
-        let Some(running) = &self.running else {
+        let Some(own) = &self.transaction else {
             return Err(Refusal::NoTransaction);
         };
         let Some(table) = self.schema.table_at(key.table) else {
             return Err(Refusal::NoTable);
         };
-        running.transaction.get(table, key)
+        own.transaction.get(table, key)
     }
 
     /// What a query of a table shows: a plain one the rows that the transaction sees, any other what was committed until its start. `NoTable`; `BadRow` where a value does not fit; `NoTransaction`. Nothing is changed
@@ -37,14 +37,13 @@ impl Session {
         if let Some(refusal) = keys_misfit(&self.schema, self.number, keys) {
             return Err(refusal);
         }
-        let Some(running) = &self.running else {
+        let Some(own) = &self.transaction else {
             return Err(Refusal::NoTransaction);
         };
         let Some(table) = self.schema.table_at(keys.table) else {
             return Err(Refusal::NoTable);
         };
-        running
-            .transaction
+        own.transaction
             .select(self.alloc, &mut self.cache, form, table, keys)
     }
 }

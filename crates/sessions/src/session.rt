@@ -4,7 +4,7 @@ ghost use Rattle.histories.specs.Misfit.{max_session};
 ghost use Rattle.values.specs.Log.{Changes};
 ghost use Rattle.tsbtree.specs.View.{last};
 ghost use Rattle.staging.specs.View.{Holds};
-ghost use Rattle.sessions.specs.SessionState.{running, start_of, with_transaction};
+ghost use Rattle.sessions.specs.SessionState.{session_transaction, start_of, with_transaction};
 
 use book::Opening;
 use growlog::StoreName;
@@ -18,15 +18,15 @@ use transaction::OpenTransaction;
 
 /// A transaction that a session has open, and where it began.
 #[derive(Drop)]
-pub(crate) struct Running {
+pub(crate) struct SessionTransaction {
     pub(crate) begun: Begun,
     pub(crate) transaction: OpenTransaction,
 }
 
-impl Model for Running {
-    ghost use Rattle.sessions.specs.SessionState.{RunningState};
+impl Model for SessionTransaction {
+    ghost use Rattle.sessions.specs.SessionState.{SessionTransactionState};
 
-    ghost Value = { RunningState };
+    ghost Value = { SessionTransactionState };
 
     ghost view = { λ r. record {
       begun = r.begun;
@@ -42,7 +42,7 @@ pub struct Session {
     pub(crate) number: u8,
     pub(crate) schema: Schema,
     pub(crate) receipt: u64,
-    pub(crate) running: Option<Running>,
+    pub(crate) transaction: Option<SessionTransaction>,
     /// Unpacked blocks that were asked for last: no answer shows which.
     pub(crate) cache: BlockCache,
 }
@@ -56,10 +56,10 @@ impl Model for Session {
       number = s.number;
       schema = s.schema;
       receipt = s.receipt;
-      transaction = s.running;
+      transaction = s.transaction;
     } };
 
-    ghost invariant = { λ s. IsSession s.number s.schema s.running };
+    ghost invariant = { λ s. IsSession s.number s.schema s.transaction };
 }
 
 impl Session {
@@ -78,7 +78,7 @@ impl Session {
             number,
             schema,
             receipt: 0,
-            running: None,
+            transaction: None,
             cache: BlockCache::new(alloc),
         })
     }
@@ -101,9 +101,9 @@ impl Session {
     pub fn start(&self) -> Option<Instant>
         ensures { result ≡ start_of self.now }
     {
-        match &self.running {
+        match &self.transaction {
             None => None,
-            Some(running) => Some(running.begun.start),
+            Some(own) => Some(own.begun.start),
         }
     }
 
@@ -120,10 +120,10 @@ impl Session {
             (result ≡ Err Refusal.NoTransaction) (λ _. IsOk result) }
         ensures ok { self.new ≡ with_transaction self.old None }
     {
-        if self.running.is_none() {
+        if self.transaction.is_none() {
             return Err(Refusal::NoTransaction);
         }
-        self.running = None;
+        self.transaction = None;
         Ok(())
     }
 
@@ -137,7 +137,7 @@ impl Session {
           number = self.old.number;
           schema = self.old.schema;
           receipt = opening.receipt.number;
-          transaction = Some (running opening.begun opening.transaction);
+          transaction = Some (session_transaction opening.begun opening.transaction);
         } }
     {
         let Opening {
@@ -146,7 +146,7 @@ impl Session {
             transaction,
         } = opening;
         self.receipt = receipt.number;
-        self.running = Some(Running { begun, transaction });
+        self.transaction = Some(SessionTransaction { begun, transaction });
         receipt
     }
 }

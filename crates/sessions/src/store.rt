@@ -12,7 +12,7 @@ ghost use Rattle.book.specs.Book.{IsBook, OnlyRoom};
 ghost use Rattle.sessions.specs.Store.{IsBegun, IsCommitted, IsInstallOf, IsSplitOf, OnlyRoomOrNone};
 
 use crate::same_schema::is_same_schema;
-use crate::session::{Running, Session};
+use crate::session::{Session, SessionTransaction};
 use book::{Book, Closed, Opening};
 use growlog::{NewLog, StoreName};
 use journal::{Begun, Receipt, SharedEntry};
@@ -92,7 +92,7 @@ impl<J: StoreName> LockedStore<J> {
         if !is_same_schema(&self.schema, &session.schema) {
             return Err(Refusal::NoTable);
         }
-        if session.running.is_some() {
+        if session.transaction.is_some() {
             return Err(Refusal::InTransaction);
         }
         let opening = self.book.lock(rt).begin(session.number, session.receipt)?;
@@ -119,16 +119,16 @@ impl<J: StoreName> LockedStore<J> {
         if !is_same_schema(&self.schema, &session.schema) {
             return Err(Refusal::NoTable);
         }
-        let Some(running) = &session.running else {
+        let Some(own) = &session.transaction else {
             return Err(Refusal::NoTransaction);
         };
-        let (net, changes) = nets(&running.transaction)?;
-        let begun = running.begun;
+        let (net, changes) = nets(&own.transaction)?;
+        let begun = own.begun;
         let receipt = self
             .book
             .lock(rt)
             .commit(session.number, &begun, net, changes, reading)?;
-        session.running = None;
+        session.transaction = None;
         session.receipt = receipt.number;
         Ok(receipt)
     }

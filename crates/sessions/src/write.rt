@@ -21,13 +21,13 @@ impl Session {
         if let Some(refusal) = insert_misfit(&self.schema, self.number, table, rows) {
             return Err(refusal);
         }
-        let Some(running) = &mut self.running else {
+        let Some(own) = &mut self.transaction else {
             return Err(Refusal::NoTransaction);
         };
         let Some(table) = self.schema.table_at(table) else {
             return Err(Refusal::NoTable);
         };
-        running.transaction.insert(table, rows)
+        own.transaction.insert(table, rows)
     }
 
     /// Sets columns of the rows whose keys meet all comparisons, and answers how many. `NoTable`; `BadRow` where a value does not fit; `NoTransaction`;
@@ -43,13 +43,13 @@ impl Session {
         if let Some(refusal) = update_misfit(&self.schema, self.number, keys, sets) {
             return Err(refusal);
         }
-        let Some(running) = &mut self.running else {
+        let Some(own) = &mut self.transaction else {
             return Err(Refusal::NoTransaction);
         };
         let Some(table) = self.schema.table_at(keys.table) else {
             return Err(Refusal::NoTable);
         };
-        running.transaction.update(table, keys, sets)
+        own.transaction.update(table, keys, sets)
     }
 
     /// Deletes the rows whose keys meet all comparisons, and answers how many. `NoTable`; `BadRow` where a value does not fit; `NoTransaction`;
@@ -64,12 +64,12 @@ impl Session {
         if let Some(refusal) = keys_misfit(&self.schema, self.number, keys) {
             return Err(refusal);
         }
-        let Some(running) = &mut self.running else {
+        let Some(own) = &mut self.transaction else {
             return Err(Refusal::NoTransaction);
         };
         let Some(table) = self.schema.table_at(keys.table) else {
             return Err(Refusal::NoTable);
         };
-        running.transaction.delete(table, keys)
+        own.transaction.delete(table, keys)
     }
 }

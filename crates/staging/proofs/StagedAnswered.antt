@@ -27,7 +27,7 @@ use Rattle.values.specs.Writes.{Own, Written, write_keys, key_of, insert_rows, i
 use Rattle.values.specs.Versions.{matches}
 use Rattle.values.specs.KeyEncoding.{IsShortKey}
 use Rattle.values.specs.RowEncoding.{IsHeld}
-use Rattle.values.specs.RowReading.{Taken}
+use Rattle.values.specs.RowReading.{Parsed}
 use Rattle.values.specs.KeyReading.{IsKeyOf, key_from, whole_key, parts_from, is_empty}
 use Rattle.values.specs.Events.{event_cmp, events_of, IsKeyIn, AreKeysIn}
 use Rattle.values.proofs.KeyLengths.{fitting_keys_are_short, first_none}
@@ -187,7 +187,7 @@ read_short table (b ∷ bytes) k is e = by (b == table.number) (parts_from table
     whole parts (Some n) true fits e = cc
     whole parts o false fits e = cc
 
-    by : (b : Bool) (taken : Taken (List Value)) → ◌≡◌ {A = Option Key} (if b then whole_key table taken else None) (Some k) → IsShortKey k
+    by : (b : Bool) (taken : Parsed (List Value)) → ◌≡◌ {A = Option Key} (if b then whole_key table taken else None) (Some k) → IsShortKey k
     by true None e = cc
     by true (Some (parts, rest)) e = whole parts (key_fault table parts) (is_empty rest) refl e
     by false taken e = cc

@@ -7,7 +7,7 @@ use Rattle.values.specs.declared.refusal.Refusal.{Refusal}
 use Rattle.values.specs.declared.refusal.Refusal.TheVariants.{NoTable, BadRow, Memory}
 use Rattle.values.specs.Tables.{Schema, table_at}
 use Rattle.values.specs.Log.{Changes, State, Net, Row, apply_net, rows_after}
-use Rattle.values.specs.Fit.{rows_fault, comparisons_fault, sets_fault, first_of}
+use Rattle.values.specs.Fit.{rows_fault, comparisons_fault, update_fault}
 use Rattle.values.specs.Writes.{Own, Written, insert_into, update_in, delete_from, net_of}
 use Rattle.values.specs.Events.{AreKeysIn}
 use Rattle.tsbtree.specs.View.{TreeState}
@@ -51,10 +51,6 @@ checked_insert table rows o = write_if_fits (rows_fault table rows) (insert_into
 -- of the rows of another table there are none here
 abbrev pub of_table : Table → Keys → Written → Own → Written
 of_table table keys w o = if keys.table == table.number then w else (Err NoTable, o)
-
-abbrev pub update_fault : Table → Keys → List Set → Option ℕ
-update_fault table keys sets =
-    first_of (sets_fault table [] sets) (comparisons_fault table keys.comparisons)
 
 abbrev pub checked_update : Table → Keys → List Set → Own → Written
 checked_update table keys sets o =

@@ -11,7 +11,6 @@ ghost use Rattle.values.specs.Memory.{OnlyMemory};
 ghost use Rattle.values.specs.Versions.{matches};
 ghost use Rattle.values.specs.Writes.{most_written, insert_all};
 ghost use Rattle.values.specs.KeyEncoding.{IsShortKey, bytes_of_key};
-ghost use Rattle.values.specs.RowEncoding.{IsHeld};
 ghost use Rattle.values.specs.Fit.{key_fault};
 ghost use Rattle.values.specs.Events.{AreKeysIn, row_until};
 ghost use Rattle.keyrange.specs.Range.{is_key_in};
@@ -30,7 +29,8 @@ use std::collections::{BTreeMap, BTreeSet};
 use std::marker::Model;
 use tsbtree::View;
 use values::{
-    Event, Instant, Key, Keys, Mem, Refusal, Row, SharedEvent, Table, Value, key_bytes, read_key,
+    Event, Instant, Key, Keys, Mem, Refusal, Row, SharedEvent, Table, key_bytes, read_key,
+    read_values,
 };
 
 /// The keys that a transaction may write.
@@ -412,28 +412,4 @@ fn stays(alloc: Global, view: &View, last: Instant, key: &Key, row: &Option<Row>
         return Ok(true);
     }
     Ok(has_row(alloc, view, last, key)?)
-}
-
-/// Reads each value: what was read is a number of 64 bits, or a text of characters.
-fn read_values(values: &[Value])
-    ensures { All IsHeld values.now }
-{
-    for value in values {
-        read_value(value);
-    }
-}
-
-fn read_value(value: &Value)
-    ensures { IsHeld value.now }
-{
-    match value {
-        Value::Int(number) => {
-            let _number = *number;
-        }
-        Value::Text(text) => {
-            let _utf8 = text.text();
-        }
-        Value::Bool(_) => {}
-        Value::Null => {}
-    }
 }

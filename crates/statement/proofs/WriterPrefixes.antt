@@ -5,7 +5,7 @@ use Rattle.std.specs.List.{flat_map}
 use Rattle.std.proofs.Math.Seq.{drop-cons}
 use Rattle.std.proofs.KnownBytes.{Appends-trans}
 use Rattle.std.specs.Io.KnownBytes.{Appends}
-use Rattle.statement.specs.Writer.{AppendsPrefix, Puts}
+use Rattle.statement.specs.Writer.{AppendsPrefix, Prints}
 
 pub front_first : (a b : Option (List ℕ)) (x y : List ℕ) → AppendsPrefix a b x → AppendsPrefix a b (x ++ y)
 front_first a b x y f = record { out = f.out; left = f.left ++ y; wrote = f.wrote; front = ap (λ l. l ++ y) f.front ∙ append_assoc f.out f.left y }
@@ -14,9 +14,9 @@ pub front_then : (a b c : Option (List ℕ)) (x y : List ℕ) → Appends a b x 
 front_then a b c x y p f = record { out = x ++ f.out; left = f.left; wrote = Appends-trans a b c x f.out p f.wrote; front = ap (λ l. x ++ l) f.front ∙ sym (append_assoc x f.out f.left) }
 
 -- one text, and then another
-pub puts_then : {E : Type 0} (a b c : Option (List ℕ)) (r : Result (Unit {0}) E) (x y : List ℕ) → Appends a b x → Puts b c r y → Puts a c r (x ++ y)
-puts_then a b c (Ok done) x y p q = Appends-trans a b c x y p q
-puts_then a b c (Err fault) x y p q = front_then a b c x y p q
+pub prints_then : {E : Type 0} (a b c : Option (List ℕ)) (r : Result (Unit {0}) E) (x y : List ℕ) → Appends a b x → Prints b c r y → Prints a c r (x ++ y)
+prints_then a b c (Ok done) x y p q = Appends-trans a b c x y p q
+prints_then a b c (Err fault) x y p q = front_then a b c x y p q
 
 -- part of a text was written, and this rest is left
 pub record Left (a b : Option (List ℕ)) (text rest : List ℕ) : Type 0 where
@@ -38,12 +38,12 @@ pub left_front : (a b c : Option (List ℕ)) (text x rest : List ℕ) → Left a
 left_front a b c text x rest l f = subst (AppendsPrefix a c) (sym l.is) (front_then a b c l.out (x ++ rest) l.wrote (front_first b c x rest f))
 
 -- the first text was not all taken, at the exit of a `?`
-pub stopped : {E : Type 0} (P : E → Type 0) (a b : Option (List ℕ)) (r : Result (Unit {0}) E) (x y : List ℕ) → IsErrAnd r P → AppendsPrefix a b x → Puts a b r (x ++ y)
+pub stopped : {E : Type 0} (P : E → Type 0) (a b : Option (List ℕ)) (r : Result (Unit {0}) E) (x y : List ℕ) → IsErrAnd r P → AppendsPrefix a b x → Prints a b r (x ++ y)
 stopped P a b (Ok done) x y e f = absurd e
 stopped P a b (Err fault) x y e f = front_first a b x y f
 
 -- one text and then another, at the end of a function and at its `?`
-pub ruleset joins = (puts_then, front_first)
+pub ruleset joins = (prints_then, front_first)
 
 -- ---- a piece for each element of a list
 
@@ -55,6 +55,6 @@ pub each_taken : {X : Type 0} (a b c : Option (List ℕ)) (f : X → List ℕ) (
 each_taken a b c f xs i x h is l p = left_taken a b c _ (f x) _ (subst (Left a b (flat_map f xs)) (piece_of f xs i x h is) l) p
 
 pub each_stopped : {X E : Type 0} (P : E → Type 0) (a b c : Option (List ℕ)) (r : Result (Unit {0}) E) (f : X → List ℕ) (xs : List X) (i : ℕ) (x : X) → IsErrAnd r P → i < length xs → x ≡ get_or xs i x
-    → Left a b (flat_map f xs) (flat_map f (drop i xs)) → AppendsPrefix b c (f x) → Puts a c r (flat_map f xs)
+    → Left a b (flat_map f xs) (flat_map f (drop i xs)) → AppendsPrefix b c (f x) → Prints a c r (flat_map f xs)
 each_stopped P a b c (Ok done) f xs i x e h is l p = absurd e
 each_stopped P a b c (Err fault) f xs i x e h is l p = left_front a b c _ (f x) _ (subst (Left a b (flat_map f xs)) (piece_of f xs i x h is) l) p

@@ -10,7 +10,7 @@ pub record AppendsPrefix (old new : Option (List ℕ)) (text : List ℕ) : Type 
   pub front : text ≡ out ++ left
 
 -- a writer took all of a text, or failed in its midst
-abbrev pub Puts : {E : Type 0} → Option (List ℕ) → Option (List ℕ) → Result (Unit {0}) E → List ℕ
+abbrev pub Prints : {E : Type 0} → Option (List ℕ) → Option (List ℕ) → Result (Unit {0}) E → List ℕ
     → Type 0
-Puts old new (Ok done) text = Appends old new text
-Puts old new (Err fault) text = AppendsPrefix old new text
+Prints old new (Ok done) text = Appends old new text
+Prints old new (Err fault) text = AppendsPrefix old new text

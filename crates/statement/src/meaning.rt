@@ -1,5 +1,6 @@
 ghost use Rattle.std.specs.Prelude.{◌≡◌, ◌==◌, ◌≤◌, length, IfOk, [], Err, true};
 ghost use Rattle.std.specs.List.{list_any};
+ghost use Rattle.values.specs.Tables.{widest};
 ghost use Rattle.statement.specs.Meaning.{is_column_list, is_good_list, place_of, value_of, row_values, row_in, fitting_row, fitting_rows, fitting_step, insert_step, session_step, step_of};
 ghost use Rattle.statement.specs.Memory.{UnlessMemory, is_insert};
 
@@ -94,7 +95,7 @@ fn copy_of(alloc: Global, values: &[Value]) -> Result<Vec<Value>, AllocError>
 /// A row of the table, whose values stand in its order; `BadRow` with the column where they do not fit it, and with 0 where they are too few or too many.
 pub fn row_in(table: &Table, values: Vec<Value>) -> Result<Row, Refusal>
     requires some { 1 ≤ length table.now.columns }
-    requires few { length table.now.columns ≤ 16 }
+    requires few { length table.now.columns ≤ widest }
     ensures { result ≡ row_in table.now values.items }
 {
     if let Err(refusal) = table.check_row(values.as_slice()) {
@@ -116,7 +117,7 @@ fn fitting_row(
     values: &[Value],
 ) -> Mem<Row>
     requires some { 1 ≤ length table.now.columns }
-    requires few { length table.now.columns ≤ 16 }
+    requires few { length table.now.columns ≤ widest }
     ensures { UnlessMemory result (fitting_row table.now columns.now values.now) }
 {
     match columns {
@@ -136,7 +137,7 @@ fn fitting_rows(
     rows: &[Values],
 ) -> Mem<Rows>
     requires some { 1 ≤ length table.now.columns }
-    requires few { length table.now.columns ≤ 16 }
+    requires few { length table.now.columns ≤ widest }
     ensures { UnlessMemory result (fitting_rows table.now columns.now [] rows.now) }
 {
     let mut fit = Vec::new(alloc);

@@ -9,7 +9,7 @@ use crate::token::{Blanks, after_optional_word};
 use rows::Schema;
 use std::alloc::Global;
 use tokens::{Made, Read, symbol_at, word_at};
-use values::{ColumnNumber, Form, Instant, Keys, LAST, Sequence, Sets};
+use values::{ColumnNumber, Form, Instant, Keys, MAX_INSTANT, Sequence, Sets};
 
 /// A column list, in its order.
 pub type Columns = Sequence<ColumnNumber>;
@@ -31,7 +31,7 @@ pub enum Statement {
 pub fn instant_at(bytes: &[u8]) -> Read<'_, Instant>
     ensures { Gives result (instant_at bytes.now) }
 {
-    digits_at(LAST, bytes)
+    digits_at(MAX_INSTANT, bytes)
 }
 
 /// Which versions a SELECT asks for.

@@ -1,5 +1,5 @@
 ghost use Rattle.std.specs.Prelude.{◌≡◌};
-ghost use Rattle.statement.specs.Writer.{Puts};
+ghost use Rattle.statement.specs.Writer.{Prints};
 
 use itoa::{Buffer, Integer};
 use std::io::Write;
@@ -10,7 +10,7 @@ pub struct WriteFault;
 
 /// Writes all of a text, or stops in its midst.
 pub fn write_all<W: Write>(writer: &mut W, text: &[u8]) -> Result<(), WriteFault>
-    ensures { Puts (W.contents writer.old) (W.contents writer.new) result text.now }
+    ensures { Prints (W.contents writer.old) (W.contents writer.new) result text.now }
 {
     let mut rest = text;
     while !rest.is_empty() {
@@ -24,8 +24,8 @@ pub fn write_all<W: Write>(writer: &mut W, text: &[u8]) -> Result<(), WriteFault
 }
 
 /// Writes a number in decimal.
-pub fn put_number<W: Write, N: Integer>(writer: &mut W, number: N) -> Result<(), WriteFault>
-    ensures { Puts (W.contents writer.old) (W.contents writer.new) result (N.text number) }
+pub fn print_number<W: Write, N: Integer>(writer: &mut W, number: N) -> Result<(), WriteFault>
+    ensures { Prints (W.contents writer.old) (W.contents writer.new) result (N.text number) }
 {
     let mut buffer = Buffer::new();
     write_all(writer, buffer.format(number).as_bytes())

@@ -24,12 +24,16 @@ reserved_words =
 unfoldable pub is_reserved : List ℕ → Bool
 is_reserved name = list_any (λ word. same_name word name) reserved_words
 
--- letters, digits and underscores, as many as come, are a name: the first is no digit, there are at
--- most 64, and they are no word of the grammars
+-- the bytes that a name may have
+abbrev pub longest_name : ℕ
+longest_name = 64
+
+-- letters, digits and underscores, as many as come, are a name: the first is no digit, they are not
+-- too many, and they are no word of the grammars
 unfoldable pub is_name : List ℕ → Bool
 is_name [] = false
 is_name (b ∷ bs) =
-    not (is_ascii_digit b) && nat_le (length (b ∷ bs)) 64 && not (is_reserved (b ∷ bs))
+    not (is_ascii_digit b) && nat_le (length (b ∷ bs)) longest_name && not (is_reserved (b ∷ bs))
 
 module _ (next : List ℕ → List ℕ) where
   unfoldable pub name_at : List ℕ → Read (List ℕ)

@@ -9,7 +9,7 @@ use crate::word::split_word;
 use values::same_name;
 
 /// The bytes that a name may have.
-const NAME: usize = 64;
+const LONGEST_NAME: usize = 64;
 
 // The words of the grammars of schemas and of lines, and those kept for later, by their length.
 const OF_TWO: [&str; 4] = ["AS", "AT", "OF", "TO"];
@@ -75,7 +75,9 @@ fn is_name(bytes: &[u8]) -> bool
     ensures { result ≡ is_name bytes.now }
 {
     match bytes {
-        [first, ..] => !first.is_ascii_digit() && bytes.len() <= NAME && !is_reserved(bytes),
+        [first, ..] => !first.is_ascii_digit()
+            && bytes.len() <= LONGEST_NAME
+            && !is_reserved(bytes),
         [] => false,
     }
 }

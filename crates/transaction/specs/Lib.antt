@@ -1,2 +1,2 @@
 pub mod Listing
-pub mod TransactionState
+pub mod OpenTransactionState

@@ -22,9 +22,9 @@ pub struct OpenTransaction {
 }
 
 impl Model for OpenTransaction {
-    ghost use Rattle.transaction.specs.TransactionState.{TransactionState};
+    ghost use Rattle.transaction.specs.OpenTransactionState.{OpenTransactionState};
 
-    ghost Value = { TransactionState };
+    ghost Value = { OpenTransactionState };
 
     ghost view = { λ t. record { view = t.view; writes = t.staged } };
 }

@@ -1,13 +1,19 @@
 //! Instants that rise, whatever the clock reads.
 
 use commitclock::Clock;
-use values::{LAST, Refusal};
+use values::{MAX_INSTANT, Refusal};
 
 #[test]
 fn a_commit_takes_the_reading_or_the_instant_after_the_last(rt: HostRuntime) {
     let mut clock = Clock::new();
     assert_eq!(rt; clock.last(), 0);
-    for (reading, instant) in [(0, 1), (100, 100), (50, 101), (101, 102), (LAST, LAST)] {
+    for (reading, instant) in [
+        (0, 1),
+        (100, 100),
+        (50, 101),
+        (101, 102),
+        (MAX_INSTANT, MAX_INSTANT),
+    ] {
         let Ok(next) = clock.next(reading) else {
             assert!(rt; false, "refused at {reading}");
             return;
@@ -16,8 +22,8 @@ fn a_commit_takes_the_reading_or_the_instant_after_the_last(rt: HostRuntime) {
         clock.advance(next);
         assert_eq!(rt; clock.last(), instant, "at {reading}");
     }
-    for reading in [0, LAST, u64::MAX] {
+    for reading in [0, MAX_INSTANT, u64::MAX] {
         assert_eq!(rt; clock.next(reading), Err(Refusal::ClockEnd), "at {reading}");
     }
-    assert_eq!(rt; Clock::new().next(LAST + 1), Err(Refusal::ClockEnd));
+    assert_eq!(rt; Clock::new().next(MAX_INSTANT + 1), Err(Refusal::ClockEnd));
 }

@@ -322,7 +322,7 @@ fn own_writes_show_in_plain_queries_alone(rt: HostRuntime) {
     assert_replies(&rt, rt.alloc(), OWN_WRITES);
 }
 
-/// The first commit takes the last instant.
+/// The first commit takes the greatest instant.
 const CLOCK_END: &[Turn] = &[
     (Begin(1), "begun 0"),
     (Insert(1, 1, "Ann"), "inserted 1"),
@@ -337,7 +337,7 @@ const CLOCK_END: &[Turn] = &[
 ];
 
 #[test]
-fn the_last_instant_ends_the_clock(rt: HostRuntime) {
+fn the_greatest_instant_ends_the_clock(rt: HostRuntime) {
     assert_replies(&rt, rt.alloc(), CLOCK_END);
 }
 

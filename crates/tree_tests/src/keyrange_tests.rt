@@ -4,7 +4,7 @@ use crate::sample::{all, time_halves};
 use keyrange::{KeyRange, Rect, TimeRange};
 use std::alloc::Global;
 use std::process::Abort;
-use values::{Instant, KeyBytes, LAST};
+use values::{Instant, KeyBytes, MAX_INSTANT};
 
 fn key(rt: &impl Abort, alloc: Global, text: &[u8]) -> KeyBytes {
     let bytes = text.to_vec(alloc).expect(rt, "there is memory");
@@ -45,9 +45,9 @@ fn a_rectangle_has_a_key_and_an_instant(rt: HostRuntime) {
         (b"b", b"a", 1, None, false),
         (b"", b"", 0, None, false),
         (b"", b"", 5, Some(5), false),
-        (b"", b"", LAST, None, true),
-        (b"", b"", LAST, Some(LAST + 1), false),
-        (b"", b"", LAST + 1, None, false),
+        (b"", b"", MAX_INSTANT, None, true),
+        (b"", b"", MAX_INSTANT, Some(MAX_INSTANT + 1), false),
+        (b"", b"", MAX_INSTANT + 1, None, false),
     ];
     for (lo, hi, from, to, is_one) in cases {
         let found = is_rect(&rt, rt.alloc(), lo, hi, from, to);

@@ -7,14 +7,14 @@ use datanode::DataNode;
 use std::alloc::Global;
 use std::process::Abort;
 use timesplit::{split_time, stay_count};
-use values::{Instant, LAST};
+use values::{Instant, MAX_INSTANT};
 
 /// Whether a node without an end can be split at an instant.
 fn is_inside(node: &DataNode, instant: Instant) -> bool
     ensures { IsTrue result → IsTrue (is_time_inside node.now.rect instant) }
 {
     let time = node.rect().time();
-    time.from < instant && time.to.is_none() && instant <= LAST
+    time.from < instant && time.to.is_none() && instant <= MAX_INSTANT
 }
 
 fn halves(rt: &impl Abort, node: &DataNode, instant: Instant) -> (DataNode, DataNode) {

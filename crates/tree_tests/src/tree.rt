@@ -14,7 +14,7 @@ use treenodes::{
     Nodes, can_split_time, leaf_alone, leaf_at, with_block, with_event, with_new_root,
     with_time_split,
 };
-use values::{Event, Instant, KeyBytes, LAST};
+use values::{Event, Instant, KeyBytes, MAX_INSTANT};
 
 /// A tree of one data node without events.
 pub(crate) fn leaf(rt: &impl Abort, alloc: Global) -> Nodes
@@ -77,7 +77,7 @@ pub(crate) fn split_root_at(rt: &impl Abort, alloc: Global, nodes: Nodes, instan
     let Ok(nodes) = with_new_root(alloc, nodes) else {
         panic!(rt; "there is memory")
     };
-    let (leaf, _visits) = leaf_at(&nodes, &KeyBytes::least(alloc), LAST);
+    let (leaf, _visits) = leaf_at(&nodes, &KeyBytes::least(alloc), MAX_INSTANT);
     assert!(rt; leaf == number);
     time_split(rt, alloc, nodes, 0, leaf, instant)
 }

@@ -8,7 +8,7 @@ use std::alloc::Global;
 use std::process::Abort;
 use treenodes::{Nodes, whole};
 use treewalk::{Shape, changed_since, events, leaves_in, next_change, standing, tree_shape};
-use values::{Instant, LAST};
+use values::{Instant, MAX_INSTANT};
 
 /// Key 1 has a row from 100 and is deleted at 200, key 2 has a row from 150.
 fn single(rt: &impl Abort, alloc: Global) -> Nodes
@@ -131,7 +131,7 @@ fn a_version_ends_at_the_next_change(rt: HostRuntime) {
             (2, 149, 150),
             (2, 150, 0),
             (3, 0, 0),
-            (1, LAST, 0),
+            (1, MAX_INSTANT, 0),
             (1, u64::MAX, 0),
         ] {
             let found = next(&rt, rt.alloc(), is_packed, number, after);

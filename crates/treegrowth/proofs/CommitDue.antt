@@ -15,12 +15,12 @@ use Rattle.treenodes.specs.Map.{IsNext, changes, latest}
 use Rattle.treenodes.specs.Sound.{IsSound, IsTreeOf}
 use Rattle.treenodes.proofs.MapLatest.{latest_put, latest_is}
 use Rattle.treenodes.proofs.MapRead.{changes_is}
-use Rattle.treegrowth.specs.Commit.{IsCommit, TakesCommit, put_each}
+use Rattle.treegrowth.specs.Commit.{IsCommit, IsBeforeCommit, put_each}
 use Rattle.treegrowth.proofs.PointOneKey.{IsUpTo}
 
 -- the map takes what is to come of a commit
 pub record IsDue (m : List Event) (last instant : ℕ) (rest : List Event) : Type 0 where
-  pub takes : TakesCommit m last instant
+  pub takes : IsBeforeCommit m last instant
   pub latest_upto : latest m ≤ instant
   pub at_instant : AllByRecursion (λ e. e.at ≡ instant) rest
   pub ordered : IsStrictlySortedBy event_cmp rest

@@ -14,7 +14,7 @@ use Rattle.keyrange.specs.Range.{is_key_in}
 use Rattle.keyrange.specs.Rect.{Area}
 use Rattle.eventlist.proofs.PutPlaced.{all_put}
 use Rattle.datanode.specs.Cut.{cut, in_cut}
-use Rattle.datanode.specs.Node.{Node}
+use Rattle.datanode.specs.Node.{Node, capacity}
 use Rattle.datanode.proofs.CutMembers.{In, In-filter}
 use Rattle.datanode.proofs.CutLaws.{in_cut_decides, time_decides}
 use Rattle.indexnode.specs.declared.reference.Reference.{Reference}
@@ -22,10 +22,10 @@ use Rattle.treenodes.specs.Node.{Content, Events, References, TreeNode, IsAt, Is
 use Rattle.treenodes.specs.Tree.{IsTree}
 use Rattle.treenodes.specs.Map.{HoldsMap, IsCut}
 use Rattle.treenodes.specs.Lookup.{IsLeafAt, IsParent, IsWayTo}
-use Rattle.treenodes.specs.Event.{Takes, with_put}
+use Rattle.treenodes.specs.Event.{AcceptsEvent, with_put}
 use Rattle.treenodes.proofs.NodeNumbers.{at_set, set_other, set_same, one_at}
 use Rattle.treegrowth.specs.Growth.{AreOthersSmall, IsGrownLeaf, IsWayDown}
-use Rattle.treegrowth.specs.Commit.{TakesCommit}
+use Rattle.treegrowth.specs.Commit.{IsBeforeCommit}
 use Rattle.treegrowth.proofs.PointOneKey.{filter_at_most, IsUpTo}
 
 length_put : (e : Event) (es : List Event) → length (put_event e es) ≤ length es + 1
@@ -66,7 +66,7 @@ no_reference : (c : Content) (number : ℕ) → IsDataNode c → Any (λ (r : Re
 no_reference (Events es) number h any = let lt : any.0 < 0 = any.2 in omega arith
 no_reference (References rs) number h any = h
 
-module _ (nodes : List TreeNode) (tree : IsTree nodes) (m : List Event) (holds : HoldsMap nodes m) (small : (i : ℕ) (n : TreeNode) → IsAt nodes i n → count_of n.content ≤ 64) (e : Event) (last : ℕ) (takes : TakesCommit m last e.at)
+module _ (nodes : List TreeNode) (tree : IsTree nodes) (m : List Event) (holds : HoldsMap nodes m) (small : (i : ℕ) (n : TreeNode) → IsAt nodes i n → count_of n.content ≤ capacity) (e : Event) (last : ℕ) (takes : IsBeforeCommit m last e.at)
     (way : List ℕ) (w : IsWayTo nodes e.key e.at way) (depth : ℕ) (is_depth : depth ≡ length way - 1) where
   some_way : 0 < length way
   some_way = let lt = slice_get_within way (length way - 1) w.number w.last in omega (arith, lt)
@@ -90,7 +90,7 @@ module _ (nodes : List TreeNode) (tree : IsTree nodes) (m : List Event) (holds :
   abbrev after : List TreeNode
   after = set nodes w.number (with_put old e)
 
-  module _ (accepted : Takes old e) where
+  module _ (accepted : AcceptsEvent old e) where
     put_is : with_put old e ≡ data_node new
     put_is = λ t. record { level = w.leaf.leaf.bottom t; rect = old.rect; content = Events new.events; packed = None }
 
@@ -148,9 +148,9 @@ pub record Ready (nodes : List TreeNode) (way : List ℕ) (depth last : ℕ) : T
   pub others : (d : ℕ) → AreOthersSmall nodes (get_or way depth d)
   pub grown : (d : ℕ) → IsGrownLeaf nodes (get_or way depth d) last
 
-module _ (nodes : List TreeNode) (tree : IsTree nodes) (m : List Event) (holds : HoldsMap nodes m) (small : (i : ℕ) (n : TreeNode) → IsAt nodes i n → count_of n.content ≤ 64) (e : Event) (last : ℕ) (takes : TakesCommit m last e.at)
+module _ (nodes : List TreeNode) (tree : IsTree nodes) (m : List Event) (holds : HoldsMap nodes m) (small : (i : ℕ) (n : TreeNode) → IsAt nodes i n → count_of n.content ≤ capacity) (e : Event) (last : ℕ) (takes : IsBeforeCommit m last e.at)
     (way : List ℕ) (w : IsWayTo nodes e.key e.at way) (depth : ℕ) (is_depth : depth ≡ length way - 1) (number : ℕ) (numbered : number ≡ get_or way depth 0) (next : List TreeNode)
-    (taken : (n : TreeNode) → IsAt nodes number n → next ≡ set nodes number (with_put n e)) (accepts : (n : TreeNode) → IsAt nodes number n → Takes n e) where
+    (taken : (n : TreeNode) → IsAt nodes number n → next ≡ set nodes number (with_put n e)) (accepts : (n : TreeNode) → IsAt nodes number n → AcceptsEvent n e) where
   is_number : number ≡ w.number
   is_number = numbered ∙ ends_there nodes tree m holds small e last takes way w depth is_depth 0
 
@@ -160,7 +160,7 @@ module _ (nodes : List TreeNode) (tree : IsTree nodes) (m : List Event) (holds :
   made : next ≡ set nodes w.number (with_put w.leaf.leaf.node e)
   made = taken w.leaf.leaf.node there ∙ ap (λ i. set nodes i (with_put w.leaf.leaf.node e)) is_number
 
-  accepted : Takes w.leaf.leaf.node e
+  accepted : AcceptsEvent w.leaf.leaf.node e
   accepted = accepts w.leaf.leaf.node there
 
   pub ready : Ready next way depth last

@@ -4,6 +4,7 @@ use Rattle.std.specs.Prelude.{slice_get}
 use Rattle.std.proofs.lemmas.Bool.{cases_lt}
 use Rattle.std.proofs.lemmas.List.{get_or_default}
 use Rattle.std.proofs.lemmas.Option.{slice_get_within}
+use Rattle.datanode.specs.Node.{capacity}
 use Rattle.treenodes.specs.Node.{Content, Events, References, TreeNode, IsAt, IsIndexNode, count_of, references_of}
 use Rattle.treenodes.specs.Tree.{IsTree}
 use Rattle.treenodes.specs.Lookup.{IsParent}
@@ -53,20 +54,20 @@ module _ (before after : List TreeNode) (parent number : ℕ) (first second : Tr
           let last : i ≡ length before = omega (arith, lt, ge, halved.long) in
           Upper last (here (length before) second halved.second_there last)
 
-  pub others_small : AreOthersSmall before number → count_of first.content ≤ 64 → count_of second.content ≤ 64 → AreOthersSmall after parent
+  pub others_small : AreOthersSmall before number → count_of first.content ≤ capacity → count_of second.content ≤ capacity → AreOthersSmall after parent
   others_small small lower upper i n not_parent at = by (stands i n at)
     where
-      by : Stands i n → count_of n.content ≤ 64
-      by (Lower same is) = subst (λ (n : TreeNode). count_of n.content ≤ 64) (sym is) lower
-      by (Upper same is) = subst (λ (n : TreeNode). count_of n.content ≤ 64) (sym is) upper
+      by : Stands i n → count_of n.content ≤ capacity
+      by (Lower same is) = subst (λ (n : TreeNode). count_of n.content ≤ capacity) (sym is) lower
+      by (Upper same is) = subst (λ (n : TreeNode). count_of n.content ≤ capacity) (sym is) upper
       by (Above same is) = absurd (not_parent same)
       by (Other not_number differs there) = small i n not_number there
 
-  pub all_small : AreOthersSmall after parent → count_of halved.above.content ≤ 64 → AreWithinCapacity after
+  pub all_small : AreOthersSmall after parent → count_of halved.above.content ≤ capacity → AreWithinCapacity after
   all_small small few i n at = by (same_or_not i parent)
     where
-      by : (i ≡ parent) ⊎ (i ≢ parent) → count_of n.content ≤ 64
-      by (inl same) = subst (λ (n : TreeNode). count_of n.content ≤ 64) (one_at after parent halved.above n halved.above_there (ap (slice_get after) (sym same) ∙ at)) few
+      by : (i ≡ parent) ⊎ (i ≢ parent) → count_of n.content ≤ capacity
+      by (inl same) = subst (λ (n : TreeNode). count_of n.content ≤ capacity) (one_at after parent halved.above n halved.above_there (ap (slice_get after) (sym same) ∙ at)) few
       by (inr other) = small i n other at
 
   module _ (tree : IsTree before) (h : IsParent before parent number) where
@@ -95,7 +96,7 @@ module _ (before after : List TreeNode) (parent number : ℕ) (first second : Tr
       is_index = longer.index;
       grown = record {
         current = ap (λ a. a.time.to) longer.rect ∙ parent_is_current before tree parent number h n at current;
-        count = above_count 64 (small parent h.node parent_differs h.there);
+        count = above_count capacity (small parent h.node parent_differs h.there);
       };
     }
 

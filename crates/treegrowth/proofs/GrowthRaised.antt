@@ -4,6 +4,7 @@ use Rattle.std.specs.Prelude.{IfOk}
 use Rattle.std.specs.declared.result.Result.{Result}
 use Rattle.std.specs.declared.result.Result.TheVariants.{Ok, Err}
 use Rattle.keyrange.specs.Rect.{Area}
+use Rattle.datanode.specs.Node.{capacity}
 use Rattle.treenodes.specs.Node.{Content, Events, References, TreeNode, IsAt, IsIndexNode, count_of}
 use Rattle.treenodes.specs.Tree.{IsTree, HasContent}
 use Rattle.treenodes.specs.Lookup.{IsParent}
@@ -22,7 +23,7 @@ from_three (Ok x) P Q R S f p q r = f x p q r
 from_three (Err e) P Q R S f p q r = tt
 
 -- a split below a parent that has room leaves all nodes within capacity
-pub all_within : (before after : List TreeNode) (parent number : ℕ) (first second : TreeNode) → Halved before after parent number first second → IsTree before → (h : IsParent before parent number) → AreOthersSmall before number → count_of first.content ≤ 64 → count_of second.content ≤ 64 → count_of h.node.content ≤ 63 → AreWithinCapacity after
+pub all_within : (before after : List TreeNode) (parent number : ℕ) (first second : TreeNode) → Halved before after parent number first second → IsTree before → (h : IsParent before parent number) → AreOthersSmall before number → count_of first.content ≤ capacity → count_of second.content ≤ capacity → count_of h.node.content ≤ 63 → AreWithinCapacity after
 all_within before after parent number first second halved tree h small lower upper room =
     all_small before after parent number first second halved (others_small before after parent number first second halved small lower upper) (above_count before after parent number first second halved tree h 63 room)
 
@@ -45,8 +46,8 @@ module _ (nodes result : List TreeNode) (number : ℕ) (numbered : number ≡ le
   pub others_raised : AreOthersSmall nodes 0 → AreOthersSmall result number
   others_raised small i n other there = by (stands_raised nodes root top at high i n (subst (λ s. IsAt s i n) is there))
     where
-      by : Raised nodes root top at high i n → count_of n.content ≤ 64
-      by (Top same one) = subst (λ (n : TreeNode). count_of n.content ≤ 64) (sym one) (omega arith)
+      by : Raised nodes root top at high i n → count_of n.content ≤ capacity
+      by (Top same one) = subst (λ (n : TreeNode). count_of n.content ≤ capacity) (sym one) (omega arith)
       by (Old same one) = absurd (other (same ∙ sym numbered))
       by (Rest not_root old) = small i n not_root old
 
@@ -66,7 +67,7 @@ module _ (nodes result : List TreeNode) (number : ℕ) (numbered : number ≡ le
 -- ---- an index node that is split
 
 -- one with references stands above data nodes
-index_high : (nodes : List TreeNode) (level : ℕ) (rect : Area) (content : Content) → IsIndexNode content → 64 < count_of content → HasContent nodes level rect content → 0 < level
+index_high : (nodes : List TreeNode) (level : ℕ) (rect : Area) (content : Content) → IsIndexNode content → capacity < count_of content → HasContent nodes level rect content → 0 < level
 index_high nodes level rect (Events es) is over has = absurd is
 index_high nodes level rect (References []) is over has = absurd (omega arith)
 index_high nodes level rect (References (r ∷ rs)) is over has = let up = (has.below 0 r (omega arith)).below in omega (arith, up)

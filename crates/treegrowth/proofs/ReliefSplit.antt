@@ -8,6 +8,7 @@ use Rattle.values.specs.Commits.{max_instant}
 use Rattle.keyrange.specs.Rect.{Area, IsArea}
 use Rattle.keyrange.specs.Range.{is_early}
 use Rattle.keyrange.specs.Cut.{is_key_inside, is_time_inside, halves_by_key, halves_by_time}
+use Rattle.datanode.specs.Node.{capacity}
 use Rattle.indexnode.specs.declared.node.IndexNode.{IndexNode}
 use Rattle.indexnode.specs.declared.reference.Reference.{Reference}
 use Rattle.indexnode.specs.Choice.{current_count, HasOneCurrent, HasCurrents, StandsAlone, AreSmaller, IsLeastStart}
@@ -28,14 +29,14 @@ pub record Full (nodes : List TreeNode) (number level : ℕ) (x : IndexNode ℕ)
   pub area : IsArea x.rect
   pub current : x.rect.time.to ≡ None
   pub index : IsIndex nodes level x.rect x.references.items
-  pub over : 64 < length x.references.items
+  pub over : capacity < length x.references.items
   pub most : length x.references.items ≤ 65
 
 -- the node is over capacity where its references are
-pub overfull_at : (nodes : List TreeNode) (number : ℕ) → IsGrownIndex nodes number → (slot : TreeNode) (level : ℕ) (x : IndexNode ℕ) (rs : List (Reference ℕ)) → IsAt nodes number slot → slot ≡ seen level (Index x) → rs ≡ x.references.items → 64 < length rs → IsOverfull nodes number
+pub overfull_at : (nodes : List TreeNode) (number : ℕ) → IsGrownIndex nodes number → (slot : TreeNode) (level : ℕ) (x : IndexNode ℕ) (rs : List (Reference ℕ)) → IsAt nodes number slot → slot ≡ seen level (Index x) → rs ≡ x.references.items → capacity < length rs → IsOverfull nodes number
 overfull_at nodes number g slot level x rs at is are over = record {
   grown = g;
-  over = subst (λ (n : TreeNode). 64 < count_of n.content) (sym (one_at nodes number g.node (seen level (Index x)) g.there (at ∙ ap Some is))) (subst (λ rs. 64 < length rs) are over);
+  over = subst (λ (n : TreeNode). capacity < count_of n.content) (sym (one_at nodes number g.node (seen level (Index x)) g.there (at ∙ ap Some is))) (subst (λ rs. capacity < length rs) are over);
 }
 
 pub full_of : (nodes : List TreeNode) → IsTree nodes → (number : ℕ) → IsOverfull nodes number → (level : ℕ) (x : IndexNode ℕ) (slot : TreeNode) → IsAt nodes number slot → slot ≡ seen level (Index x) → Full nodes number level x
@@ -47,7 +48,7 @@ full_of nodes tree number h level x slot at is =
       area = tree.areas number (seen level (Index x)) there;
       current = subst (λ (n : TreeNode). n.rect.time.to ≡ None) same h.grown.grown.current;
       index = tree.contents number (seen level (Index x)) there;
-      over = subst (λ (n : TreeNode). 64 < count_of n.content) same h.over;
+      over = subst (λ (n : TreeNode). capacity < count_of n.content) same h.over;
       most = subst (λ (n : TreeNode). count_of n.content ≤ 65) same h.grown.grown.count;
     }
 
@@ -62,7 +63,7 @@ module _ (nodes : List TreeNode) (number level : ℕ) (x : IndexNode ℕ) (full 
   pub high : 0 < level
   high = by refs full.over full.index.below
     where
-      by : (rs : List (Reference ℕ)) → 64 < length rs → All (RefersTo nodes level) rs → 0 < level
+      by : (rs : List (Reference ℕ)) → capacity < length rs → All (RefersTo nodes level) rs → 0 < level
       by [] lt all = absurd (omega arith)
       by (r ∷ rs) lt all = let up = (all 0 r (omega arith)).below in omega (arith, up)
 
@@ -95,10 +96,10 @@ module _ (nodes : List TreeNode) (number level : ℕ) (x : IndexNode ℕ) (full 
   -- by time
   module _ (start : ℕ) (least : IsLeastStart refs start) (in_range : start ≤ max_instant) (fewer : length (filter (λ r. starts_before start r.rect) refs) < length refs)
       (alone : HasOneCurrent x.rect refs → StandsAlone x.rect refs start) (yes : is_index_split_by_time x start ≡ true) where
-    inside_and_few : (x.rect.time.from < start) × (length (filter (λ r. ends_after start r.rect) refs) ≤ 64)
+    inside_and_few : (x.rect.time.from < start) × (length (filter (λ r. ends_after start r.rect) refs) ≤ capacity)
     inside_and_few = by (current_count refs == 1) refl yes
       where
-        by : (b : Bool) → (current_count refs == 1) ≡ b → (b || (nat_lt x.rect.time.from start && nat_le (length (filter (λ r. ends_after start r.rect) refs)) 42)) ≡ true → (x.rect.time.from < start) × (length (filter (λ r. ends_after start r.rect) refs) ≤ 64)
+        by : (b : Bool) → (current_count refs == 1) ≡ b → (b || (nat_lt x.rect.time.from start && nat_le (length (filter (λ r. ends_after start r.rect) refs)) 42)) ≡ true → (x.rect.time.from < start) × (length (filter (λ r. ends_after start r.rect) refs) ≤ capacity)
         by true is h =
             let stands = alone (one_current (grind (arith, nat_tests, is))) in
             let stays = stands.stays in

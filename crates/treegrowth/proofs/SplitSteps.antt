@@ -8,7 +8,7 @@ use Rattle.keyrange.specs.Rect.{Area, IsArea}
 use Rattle.keyrange.specs.Range.{is_early}
 use Rattle.keyrange.specs.Cut.{halves_by_key, halves_by_time, is_key_inside, is_time_inside}
 use Rattle.keyrange.proofs.RectInside.{facts_of}
-use Rattle.datanode.specs.Node.{Node}
+use Rattle.datanode.specs.Node.{Node, capacity}
 use Rattle.datanode.specs.Cut.{in_cut}
 use Rattle.treenodes.specs.Node.{TreeNode, IsAt, IsDataNode, data_node, count_of}
 use Rattle.treenodes.specs.Tree.{IsTree}
@@ -79,7 +79,7 @@ module _ (nodes : List TreeNode) (tree : IsTree nodes) (key : List ℕ) (number 
 
 -- ---- a data node within capacity has halves within it
 
-pub splittable : (nodes : List TreeNode) (number : ℕ) (node : Node) → IsAt nodes number (data_node node) → ((i : ℕ) (n : TreeNode) → IsAt nodes i n → count_of n.content ≤ 64) → (point : SplitPoint) → CanSplitAt nodes number point → IsSplittable nodes number point
+pub splittable : (nodes : List TreeNode) (number : ℕ) (node : Node) → IsAt nodes number (data_node node) → ((i : ℕ) (n : TreeNode) → IsAt nodes i n → count_of n.content ≤ capacity) → (point : SplitPoint) → CanSplitAt nodes number point → IsSplittable nodes number point
 splittable nodes number node at small point can = record {
   node = node;
   there = at;

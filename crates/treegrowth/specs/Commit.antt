@@ -16,8 +16,8 @@ pub record IsCommit (instant : ℕ) (es : List Event) : Type 0 where
   pub at_instant : All (λ e. e.at ≡ instant) es
   pub ordered : IsStrictlySortedBy event_cmp es
 
--- a map that takes a commit at an instant: what was committed before is not after the last instant
-pub record TakesCommit (m : List Event) (last instant : ℕ) : Type 0 where
+-- a map before a commit at an instant: what was committed is not after the last instant
+pub record IsBeforeCommit (m : List Event) (last instant : ℕ) : Type 0 where
   pub later : last < instant
   pub upto : instant ≤ max_instant
   pub reached : last ≤ latest m

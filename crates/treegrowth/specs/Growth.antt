@@ -2,10 +2,9 @@
 use Rattle.std.specs.Prelude.{◌≡◌, ◌≢◌, ◌⊎◌, ℕ, ◌+◌, ◌<◌, ◌≤◌, List, None, length, slice_index_or, All}
 use Rattle.std.specs.List.{Any}
 use Rattle.values.specs.Event.{Event}
-use Rattle.datanode.specs.Node.{Node}
+use Rattle.datanode.specs.Node.{Node, capacity}
 use Rattle.treenodes.specs.Node.{TreeNode, IsAt, IsIndexNode, count_of, data_node}
 use Rattle.treenodes.specs.Lookup.{IsParent}
-use Rattle.treenodes.specs.Sound.{capacity}
 use Rattle.treenodes.specs.Split.{Halved}
 use Rattle.treegrowth.specs.declared.point.SplitPoint.{SplitPoint}
 use Rattle.treegrowth.specs.Point.{CanSplitAt, HalvesFit}

@@ -4,14 +4,13 @@ use Rattle.values.specs.Event.{Event}
 use Rattle.keyrange.specs.Rect.{Area}
 use Rattle.keyrange.specs.Cut.{halves_by_key, halves_by_time}
 use Rattle.datanode.specs.Cut.{cut, is_carried}
-use Rattle.datanode.specs.Node.{Node}
+use Rattle.datanode.specs.Node.{Node, capacity}
 use Rattle.indexnode.specs.declared.node.IndexNode.{IndexNode}
 use Rattle.indexnode.specs.Choice.{current_count}
 use Rattle.indexnode.specs.Split.{ends_after}
 use Rattle.keysplit.specs.Middle.{middle_key}
 use Rattle.treenodes.specs.Node.{TreeNode}
 use Rattle.treenodes.specs.Map.{latest}
-use Rattle.treenodes.specs.Sound.{capacity}
 use Rattle.treenodes.specs.Split.{CanSplitKey, CanSplitTime}
 use Rattle.treegrowth.specs.declared.point.SplitPoint.{SplitPoint}
 use Rattle.treegrowth.specs.declared.point.SplitPoint.TheVariants.{Key, Time}

@@ -5,7 +5,7 @@ ghost use Rattle.values.specs.Events.{put_event};
 ghost use Rattle.values.specs.Memory.{OnlyMemory};
 ghost use Rattle.treenodes.specs.Map.{IsNext, changes};
 ghost use Rattle.treenodes.specs.Sound.{IsSound, IsTreeOf};
-ghost use Rattle.treegrowth.specs.Commit.{IsCommit, TakesCommit, put_each};
+ghost use Rattle.treegrowth.specs.Commit.{IsCommit, IsBeforeCommit, put_each};
 
 use crate::leaf::relieved_leaf;
 use std::alloc::Global;
@@ -39,7 +39,7 @@ pub fn with_commit(
 /// The nodes with one event of a commit after the last instant.
 fn with_change(alloc: Global, nodes: Nodes, last: Instant, event: Event) -> Mem<Nodes>
     requires kept { IsTreeOf nodes (changes nodes) }
-    requires takes { TakesCommit (changes nodes) last event.at }
+    requires takes { IsBeforeCommit (changes nodes) last event.at }
     requires next { IsNext (changes nodes) event }
     ensures kept { IfOk result (λ s. IsTreeOf s (put_event event (changes nodes))) }
     ensures err { OnlyMemory result }

@@ -17,12 +17,10 @@ ghost use Rattle.treegrowth.specs.Point.{CanSplitAt, IsReached, halves_at};
 
 use crate::point::{SplitPoint, overflow_point};
 use crate::relief::relieve;
+use datanode::CAPACITY;
 use std::alloc::Global;
 use treenodes::{Nodes, current_at, with_keys_split, with_new_root, with_time_split};
 use values::{Instant, Mem};
-
-/// The most events or references of a node.
-pub(crate) const CAPACITY: usize = 64;
 
 /// The nodes with a data node within its capacity, which took an event of a commit after the last instant.
 pub(crate) fn relieved_leaf(

@@ -2,7 +2,7 @@
 ghost use Rattle.std.specs.Prelude.{◌≡◌, ◌+◌, ◌≤◌, IfOk, None, Some, true, is_some, length};
 ghost use Rattle.values.specs.Commits.{max_instant};
 ghost use Rattle.values.specs.Memory.{OnlyMemory};
-ghost use Rattle.treenodes.specs.Sound.{capacity};
+ghost use Rattle.datanode.specs.Node.{capacity};
 ghost use Rattle.treegrowth.specs.Growth.{IsAmidCommit};
 ghost use Rattle.treegrowth.specs.Point.{HalvesFit, halves_at, is_split_by_time, overflow_point};
 

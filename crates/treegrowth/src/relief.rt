@@ -10,8 +10,8 @@ ghost use Rattle.treegrowth.specs.Growth.{AreOthersSmall, IsGrownIndex, IsIndexS
 ghost use Rattle.treegrowth.specs.Leaves.{HaveSameLeaves};
 ghost use Rattle.treegrowth.specs.Point.{is_index_split_by_time};
 
-use crate::leaf::CAPACITY;
 use crate::point::STAY_LIMIT;
+use datanode::CAPACITY;
 use indexnode::IndexNode;
 use std::alloc::Global;
 use treenodes::{Nodes, with_index_keys_split, with_index_time_split, with_new_root};

@@ -14,7 +14,7 @@ use crate::leaf::with_leaf_split;
 use crate::point::SplitPoint;
 use std::alloc::Global;
 use treenodes::{Nodes, can_split_key, can_split_time, current_at, way};
-use values::{Instant, KeyBytes, LAST, Mem};
+use values::{Instant, KeyBytes, MAX_INSTANT, Mem};
 
 /// The nodes with the current data node of a key split there; None where the node begins at the key.
 pub fn key_split(alloc: Global, nodes: &Nodes, last: Instant, key: &KeyBytes) -> Mem<Option<Nodes>>
@@ -26,7 +26,7 @@ pub fn key_split(alloc: Global, nodes: &Nodes, last: Instant, key: &KeyBytes) ->
         IsSplitIn nodes.now s n.rect (halves_by_key n.rect key.now))) }
     ensures err { OnlyMemory result }
 {
-    let numbers = way(alloc, nodes, key, LAST)?;
+    let numbers = way(alloc, nodes, key, MAX_INSTANT)?;
     let way = numbers.as_slice();
     if !can_split_key(nodes, way[way.len() - 1], key) {
         return Ok(None);
@@ -55,7 +55,7 @@ pub fn time_split(
     if last < instant {
         return Ok(None);
     }
-    let numbers = way(alloc, nodes, key, LAST)?;
+    let numbers = way(alloc, nodes, key, MAX_INSTANT)?;
     let way = numbers.as_slice();
     if !can_split_time(nodes, way[way.len() - 1], instant) {
         return Ok(None);

@@ -11,7 +11,7 @@ use Rattle.std.proofs.lemmas.Option.{slice_get_within, slice_get-get_or}
 use Rattle.values.specs.Event.{Event}
 use Rattle.keyrange.specs.Rect.{Area}
 use Rattle.treenodes.specs.Node.{TreeNode, IsAt}
-use Rattle.treenodes.specs.Event.{Takes, with_put}
+use Rattle.treenodes.specs.Event.{AcceptsEvent, with_put}
 use Rattle.treenodes.specs.Backlog.{is_data, is_unpacked, turn_cmp, comes_after, IsUnpackedAt, AreFalling, IsBacklog, IsBacklogBut}
 use Rattle.treenodes.proofs.NodeNumbers.{one_at, same_or_not, set_same}
 use Rattle.treenodes.proofs.RootAlone.{root}
@@ -263,7 +263,7 @@ current_none n current = ap (λ (to : Option ℕ). is_data n.content && (is_some
     and_false true = refl
     and_false false = refl
 
-pub event_kept : (slots self : List TreeNode) (numbers : List ℕ) (number : ℕ) (e : Event) (new : List TreeNode) → slots ≡ self → number < length self → ((d : TreeNode) → Takes (get_or self number d) e) → IsBacklog slots numbers
+pub event_kept : (slots self : List TreeNode) (numbers : List ℕ) (number : ℕ) (e : Event) (new : List TreeNode) → slots ≡ self → number < length self → ((d : TreeNode) → AcceptsEvent (get_or self number d) e) → IsBacklog slots numbers
     → ((d : TreeNode) → new ≡ set slots number (with_put (get_or slots number d) e)) → IsBacklog new numbers
 event_kept slots self numbers number e new same lt takes b made =
     subst (λ l. IsBacklog l numbers) (sym (made root))
@@ -279,7 +279,7 @@ event_kept slots self numbers number e new same lt takes b made =
     at = slice_get-get_or slots number root (subst (λ l. number < length l) (sym same) lt)
 
     current : n.rect.time.to ≡ None
-    current = (subst (λ l. Takes (get_or l number root) e) (sym same) (takes root)).accepted.current
+    current = (subst (λ l. AcceptsEvent (get_or l number root) e) (sym same) (takes root)).accepted.current
 
 pub next_kept : (slots : List TreeNode) (numbers : List ℕ) (n : TreeNode) (number : ℕ) (new : List TreeNode) → IsBacklog slots numbers → number ≡ length slots → new ≡ slots ++ n ∷ [] → IsBacklogBut new number numbers
 next_kept slots numbers n number new b is made = subst (λ l. IsBacklogBut l number numbers) (sym made) (subst (λ i. IsBacklogBut (slots ++ n ∷ []) i numbers) (sym is) (push_but slots n numbers b))

@@ -20,7 +20,7 @@ use Rattle.treenodes.specs.Node.{Content, Events, References, TreeNode, IsAt, Is
 use Rattle.treenodes.specs.Tree.{IsTree}
 use Rattle.treenodes.specs.Map.{HoldsMap, IsCut, AreInstants, EndsBy, latest, IsNext}
 use Rattle.treenodes.specs.Lookup.{IsLeafAt}
-use Rattle.treenodes.specs.Event.{Takes, with_put}
+use Rattle.treenodes.specs.Event.{AcceptsEvent, with_put}
 use Rattle.treenodes.proofs.NodeNumbers.{at_set}
 use Rattle.treenodes.proofs.TreeFrames.{still_tree}
 use Rattle.treenodes.proofs.MapLatest.{latest_put}
@@ -53,7 +53,7 @@ module _ (nodes : List TreeNode) (m : List Event) (tree : IsTree nodes) (holds :
   last_of : IsLast e es
   last_of = subst (IsLast e) (sym are) (All-filter (in_cut rect m) (λ d. d.key ≡ e.key → d.at < e.at) m next.last)
 
-  pub takes_it : Takes old e
+  pub takes_it : AcceptsEvent old e
   takes_it = record { is_data = tt; accepted = record { current = is_current; inside = has; last = last_of } }
 
   -- ---- all others lie away from it
@@ -157,8 +157,8 @@ module _ (nodes : List TreeNode) (m : List Event) (tree : IsTree nodes) (holds :
   there : IsAt nodes i shown
   there = leaf.leaf.there ∙ ap Some shown_is
 
-  pub takes_next : Takes node e
-  takes_next = subst (λ (n : TreeNode). Takes n e) (sym shown_is) (takes_it nodes m tree holds e next i node.level node.rect (events_of node.content) node.packed there leaf.holds)
+  pub takes_next : AcceptsEvent node e
+  takes_next = subst (λ (n : TreeNode). AcceptsEvent n e) (sym shown_is) (takes_it nodes m tree holds e next i node.level node.rect (events_of node.content) node.packed there leaf.holds)
 
   pub tree_next : IsTree (set nodes i (with_put node e))
   tree_next = still nodes m tree holds e next i node.level node.rect (events_of node.content) node.packed there leaf.holds

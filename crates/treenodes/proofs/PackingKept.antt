@@ -2,10 +2,11 @@
 use Rattle.std.proofs.Common.{◌≡◌, ℕ, ◌≤◌, List, [], ◌∷◌, set, zero, suc, refl, sym, ap, subst, ◌∙◌, inl, inr}
 use Rattle.values.specs.Event.{Event}
 use Rattle.blocks.specs.PackedNode.{Packed}
+use Rattle.datanode.specs.Node.{capacity}
 use Rattle.treenodes.specs.Node.{TreeNode, IsAt, data_node, packed_node, count_of, events_of}
 use Rattle.treenodes.specs.Tree.{IsTree}
 use Rattle.treenodes.specs.Map.{HoldsMap, IsCut, EndsBy, changes, latest, put_all}
-use Rattle.treenodes.specs.Sound.{IsSound, IsTreeOf, AreWithinCapacity, capacity}
+use Rattle.treenodes.specs.Sound.{IsSound, IsTreeOf, AreWithinCapacity}
 use Rattle.treenodes.proofs.NodeNumbers.{at_set}
 use Rattle.treenodes.proofs.TreeFrames.{still_tree}
 

@@ -3,10 +3,11 @@ use Rattle.std.proofs.Common.{◌≡◌, ℕ, zero, suc, ◌≤◌, List, [], �
 use Rattle.values.specs.Events.{event_cmp}
 use Rattle.eventlist.proofs.PlaceOrder.{sorted_none}
 use Rattle.keyrange.specs.Rect.{IsArea}
+use Rattle.datanode.specs.Node.{capacity}
 use Rattle.treenodes.specs.Node.{TreeNode, IsAt, data_node, count_of}
 use Rattle.treenodes.specs.Tree.{IsTree, whole, HasContent}
 use Rattle.treenodes.specs.Map.{HoldsMap, IsCut, EndsBy, changes}
-use Rattle.treenodes.specs.Sound.{IsSound, AreWithinCapacity, capacity}
+use Rattle.treenodes.specs.Sound.{IsSound, AreWithinCapacity}
 
 abbrev pub root : TreeNode
 root = data_node (record { rect = whole; events = [] })

@@ -7,7 +7,7 @@ use Rattle.datanode.specs.Node.{Accepts}
 use Rattle.treenodes.specs.Node.{TreeNode, Events, IsDataNode, events_of}
 
 -- a data node that accepts the event
-pub record Takes (n : TreeNode) (e : Event) : Type 0 where
+pub record AcceptsEvent (n : TreeNode) (e : Event) : Type 0 where
   pub is_data : IsDataNode n.content
   pub accepted : Accepts (record { rect = n.rect; events = events_of n.content }) e
 

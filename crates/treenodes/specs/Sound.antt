@@ -1,13 +1,10 @@
 -- A tree that holds the map that is read off it, in nodes that are not too large.
 use Rattle.std.specs.Prelude.{◌≡◌, ℕ, ◌≤◌, List}
 use Rattle.values.specs.Event.{Event}
+use Rattle.datanode.specs.Node.{capacity}
 use Rattle.treenodes.specs.Node.{TreeNode, IsAt, count_of}
 use Rattle.treenodes.specs.Tree.{IsTree}
 use Rattle.treenodes.specs.Map.{HoldsMap, changes, latest}
-
--- the most events or references of a node
-abbrev pub capacity : ℕ
-capacity = 64
 
 abbrev pub AreWithinCapacity : List TreeNode → Type 0
 AreWithinCapacity nodes =

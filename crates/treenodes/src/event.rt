@@ -6,7 +6,7 @@ ghost use Rattle.treenodes.specs.Node.{TreeNode, IsAt};
 ghost use Rattle.treenodes.specs.Tree.{IsTree};
 ghost use Rattle.treenodes.specs.Map.{HoldsMap, IsNext, changes};
 ghost use Rattle.treenodes.specs.Lookup.{IsLeafAt};
-ghost use Rattle.treenodes.specs.Event.{Takes, with_put};
+ghost use Rattle.treenodes.specs.Event.{AcceptsEvent, with_put};
 
 use crate::nodes::Nodes;
 use values::{Event, Mem};
@@ -21,7 +21,8 @@ pub fn with_event(nodes: Nodes, number: usize, event: Event) -> Mem<Nodes>
     ensures holds { IfOk result (λ s. HoldsMap s (put_event event (changes nodes))) }
     ensures taken { (n : TreeNode) → IsAt nodes number n
         → IfOk result (λ s. s ≡ slice_set nodes number (with_put n event)) }
-    ensures accepted { (n : TreeNode) → IsAt nodes number n → IfOk result (λ _. Takes n event) }
+    ensures accepted { (n : TreeNode) → IsAt nodes number n
+        → IfOk result (λ _. AcceptsEvent n event) }
     ensures err { OnlyMemory result }
 {
     nodes.with_event(number, event)

@@ -4,7 +4,7 @@ ghost use Rattle.values.specs.Memory.{OnlyMemory};
 ghost use Rattle.keyrange.specs.Rect.{IsArea};
 ghost use Rattle.treenodes.specs.Node.{seen, rect_of, content_of, IsDataNode, IsIndexNode};
 ghost use Rattle.treenodes.specs.Backlog.{is_unpacked};
-ghost use Rattle.treenodes.specs.Event.{Takes, with_put};
+ghost use Rattle.treenodes.specs.Event.{AcceptsEvent, with_put};
 
 use blocks::Block;
 use datanode::DataNode;
@@ -71,7 +71,7 @@ impl Child {
 
     /// Puts an event into a data node. Where memory runs out nothing has changed.
     fn put(&mut self, event: Event) -> Mem<()>
-        requires { Takes (seen 0 self.old) event }
+        requires { AcceptsEvent (seen 0 self.old) event }
         ensures ok { OnOk result ((level : ℕ) →
             seen level self.new ≡ with_put (seen level self.old) event) }
         ensures err { OnErr result (self.new ≡ self.old) }
@@ -163,7 +163,7 @@ impl Share for Slot {
 
 /// A data node with an event, beside one that stays as it is.
 fn copy_with(node: &DataNode, event: Event) -> Mem<Child>
-    requires { Takes (seen 0 (Child.Data node.now)) event }
+    requires { AcceptsEvent (seen 0 (Child.Data node.now)) event }
     ensures ok { IfOk result (λ child. (level : ℕ) →
         seen level child ≡ with_put (seen level (Child.Data node.now)) event) }
     ensures err { OnlyMemory result }
@@ -175,7 +175,7 @@ fn copy_with(node: &DataNode, event: Event) -> Mem<Child>
 
 /// An event is put into a data node, in place where nobody shares the node.
 impl Update<Event> for Slot {
-    ghost can_update = { Takes };
+    ghost can_update = { AcceptsEvent };
 
     ghost updated = { with_put };
 

@@ -3,7 +3,7 @@ ghost use Rattle.std.specs.Prelude.{◌≡◌, ◌<◌, ◌++◌, ◌∷◌, [],
 ghost use Rattle.values.specs.Memory.{OnlyMemory};
 ghost use Rattle.treenodes.specs.Node.{TreeNode};
 ghost use Rattle.treenodes.specs.Backlog.{IsFirstWaiting, IsWaiting};
-ghost use Rattle.treenodes.specs.Event.{Takes, with_put};
+ghost use Rattle.treenodes.specs.Event.{AcceptsEvent, with_put};
 
 use crate::backlog::Backlog;
 use crate::node::Slot;
@@ -92,7 +92,7 @@ impl Nodes {
     /// The nodes with an event in the data node of a number. A node that nobody shares is written in place.
     pub(crate) fn with_event(self, number: usize, event: Event) -> Mem<Nodes>
         requires inside { number < length self }
-        requires can { HoldsAt (λ n. Takes n event) self number }
+        requires can { HoldsAt (λ n. AcceptsEvent n event) self number }
         ensures ok { HoldsAt (λ n.
             IfOk result (λ s. s ≡ slice_set self number (with_put n event))) self number }
         ensures err { OnlyMemory result }

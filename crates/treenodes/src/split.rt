@@ -21,7 +21,7 @@ use keyrange::{Rect, TimeRange, is_before_end, is_below};
 use keysplit::split_key;
 use std::alloc::Global;
 use timesplit::split_time;
-use values::{Instant, KeyBytes, LAST, Mem};
+use values::{Instant, KeyBytes, MAX_INSTANT, Mem};
 
 fn is_key_splittable(rect: &Rect, key: &KeyBytes) -> bool
     ensures { result ≡ (is_none rect.now.time.to && is_key_inside rect.now key.now) }
@@ -34,7 +34,7 @@ fn is_time_splittable(time: TimeRange, instant: Instant) -> bool
     ensures { result
         ≡ (is_none time.to && (nat_lt time.from instant && nat_le instant max_instant)) }
 {
-    time.to.is_none() && time.from < instant && instant <= LAST
+    time.to.is_none() && time.from < instant && instant <= MAX_INSTANT
 }
 
 /// Whether a data node can be split at a key: it is current, and the key is strictly inside.

@@ -223,7 +223,7 @@ known_leaf m map key after instant n point are None is some = cc
 pub ends_above : (r : Area) (key : List ℕ) (instant end : ℕ) → has_point r key instant ≡ true → r.time.to ≡ Some end → instant < end
 ends_above r key instant end point ends = ltb-true instant end (sym (ap (is_early instant) ends) ∙ ((time_decides r instant).0 (and_parts (is_key_in r.keys key) _ point).1).1)
 
--- none ends after the last instant
+-- none that has points of the greatest instant ends
 pub last_leaf : (r : Area) (key : List ℕ) → IsArea r → has_point r key max_instant ≡ true → r.time.to ≡ None
 last_leaf r key area point = by r.time.to refl
   where

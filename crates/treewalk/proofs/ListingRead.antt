@@ -119,7 +119,7 @@ module _ (nodes : List TreeNode) (tree : IsTree nodes) (m : List Event) (holds :
         let c = to_cut r m t (time_of r e.key t point) e (and_parts _ _ point).0 ((stands_decides m t e).0 parts.1) in
         In-filter (shows (cut r m)) (cut r m) e (In-filter (in_cut r m) m e i ((in_cut_decides r m e).1 c.0)) (and_from _ _ parts.0 ((stands_decides (cut r m) t e).1 c.1))
 
-    -- after the last instant all is as it is then
+    -- after the greatest instant all is as it is then
     as_then : filter (shows m) m ≡ standing m (is_key_in range) instant
     as_then = filter_alike (shows m) (λ e. is_key_in range e.key && stands_at m instant e) m (λ e i. ap (λ b. is_key_in range e.key && b)
         (same_from_decides _ _ (stands_decides m t e) (Decides-like _ (sooner e i) (later e) (stands_decides m instant e))))

@@ -7,15 +7,15 @@ ghost use Rattle.datanode.specs.NextChange.{event_after};
 
 use crate::leaf::{is_known_in, leaf, next_change_in};
 use treenodes::Nodes;
-use values::{Instant, KeyBytes, LAST};
+use values::{Instant, KeyBytes, MAX_INSTANT};
 
-/// The least instant above `after` that changes a key, if there is one. From the last instant on there is none. It takes
+/// The least instant above `after` that changes a key, if there is one. From the greatest instant on there is none. It takes
 /// no memory.
 pub fn next_change(nodes: &Nodes, key: &KeyBytes, after: Instant) -> Option<Instant>
     requires { IsTree nodes.now }
     ensures { (m : List Change) → HoldsMap nodes.now m → result ≡ event_after m after key.now }
 {
-    if LAST <= after {
+    if MAX_INSTANT <= after {
         return None;
     }
     let node = leaf(nodes, key, after + 1);
@@ -35,7 +35,7 @@ fn later_change(nodes: &Nodes, key: &KeyBytes, after: Instant) -> Option<Instant
     requires { IsTree nodes.now }
     ensures { (m : List Change) → HoldsMap nodes.now m → result ≡ event_after m after key.now }
 {
-    let current = leaf(nodes, key, LAST);
+    let current = leaf(nodes, key, MAX_INSTANT);
     if is_known_in(current, key, after) {
         return next_change_in(current, key, after);
     }
@@ -76,7 +76,7 @@ fn change_by_leaves(nodes: &Nodes, key: &KeyBytes, after: Instant) -> Option<Ins
     ensures { (m : List Change) → HoldsMap nodes.now m → result ≡ event_after m after key.now }
 {
     let mut until = after;
-    while until < LAST {
+    while until < MAX_INSTANT {
         let node = leaf(nodes, key, until + 1);
         let found = next_change_in(node, key, until);
         if found.is_some() {

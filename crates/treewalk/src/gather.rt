@@ -15,7 +15,7 @@ use eventlist::standing;
 use keyrange::{KeyRange, Rect, TimeRange};
 use std::alloc::Global;
 use treenodes::{Child, Nodes};
-use values::{Instant, LAST, Mem, SharedEvent};
+use values::{Instant, MAX_INSTANT, Mem, SharedEvent};
 
 /// What is asked of the events of a range of keys.
 #[derive(Clone, Copy)]
@@ -84,7 +84,7 @@ fn rect_between(range: &KeyRange, from: Instant, to: Instant) -> Mem<Option<Rect
     ensures ok { IfOk result (λ r. r ≡ area_between range.now from to) }
     ensures err { OnlyMemory result }
 {
-    let end = if to < LAST { Some(to + 1) } else { None };
+    let end = if to < MAX_INSTANT { Some(to + 1) } else { None };
     let time = TimeRange {
         from: from.max(1),
         to: end,

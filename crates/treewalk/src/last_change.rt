@@ -7,7 +7,7 @@ ghost use Rattle.treenodes.specs.Map.{HoldsMap};
 
 use crate::leaf::{last_change_in, leaf};
 use treenodes::Nodes;
-use values::{Instant, KeyBytes, LAST};
+use values::{Instant, KeyBytes, MAX_INSTANT};
 
 /// The latest instant above `start` that changed a key. A node that holds no event of the key tells nothing of the time
 /// before it began: a deletion is not carried.
@@ -15,7 +15,7 @@ pub fn changed_since(nodes: &Nodes, key: &KeyBytes, start: Instant) -> Option<In
     requires { IsTree nodes.now }
     ensures { (m : List Change) → HoldsMap nodes.now m → result ≡ event_since m start key.now }
 {
-    let mut instant = LAST;
+    let mut instant = MAX_INSTANT;
     while start < instant {
         let node = leaf(nodes, key, instant);
         if let Some(last) = last_change_in(node, key, 0) {

@@ -15,7 +15,7 @@ use eventlist::sort_events;
 use keyrange::KeyRange;
 use std::alloc::Global;
 use treenodes::Nodes;
-use values::{Instant, LAST, Mem, SharedEvent};
+use values::{Instant, MAX_INSTANT, Mem, SharedEvent};
 
 /// The events of a range of keys, from an instant to another and with it, by key and then by instant, each once however
 /// many nodes hold it.
@@ -53,8 +53,14 @@ pub fn standing<B: Blocks>(
     ensures sorted { IfOk result (λ v. IsStrictlySortedBy event_cmp v.items) }
     ensures err { OnlyMemory result }
 {
-    // No event is after the last instant.
-    let mut rows = gather(alloc, blocks, nodes, range, Query::At(instant.min(LAST)))?;
+    // No event is after the greatest instant.
+    let mut rows = gather(
+        alloc,
+        blocks,
+        nodes,
+        range,
+        Query::At(instant.min(MAX_INSTANT)),
+    )?;
     sort_events(&mut rows)?;
     Ok(rows)
 }

@@ -4,7 +4,7 @@ use keyrange::KeyRange;
 use std::alloc::Global;
 use std::process::Abort;
 use tsbtree::{Tree, View};
-use values::{Instant, KeyBytes, LAST, Mem, Row, SharedEvent, Value};
+use values::{Instant, KeyBytes, MAX_INSTANT, Mem, Row, SharedEvent, Value};
 
 fn all_keys(alloc: Global) -> KeyRange {
     KeyRange {
@@ -20,7 +20,7 @@ fn length(rt: &impl Abort, events: Mem<Vec<SharedEvent>>) -> usize {
 
 /// How many events of all keys a view has from an instant on.
 pub(crate) fn count(rt: &impl Abort, alloc: Global, view: &View, from: Instant) -> usize {
-    length(rt, view.events(alloc, &all_keys(alloc), from, LAST))
+    length(rt, view.events(alloc, &all_keys(alloc), from, MAX_INSTANT))
 }
 
 /// How many rows of all keys stand in a view at an instant.

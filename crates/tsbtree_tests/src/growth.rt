@@ -7,7 +7,7 @@ ghost use Rattle.tsbtree.specs.View.{last};
 use std::alloc::Global;
 use std::process::Abort;
 use tsbtree::Tree;
-use values::{Event, Instant, KeyBytes, LAST, Row, Value};
+use values::{Event, Instant, KeyBytes, MAX_INSTANT, Row, Value};
 
 pub(crate) fn key(rt: &impl Abort, alloc: Global, number: u8) -> KeyBytes {
     let bytes = vec![in alloc; 1, 128, 0, 0, 0, 0, 0, 0, number];
@@ -61,7 +61,7 @@ pub(crate) fn two_rows(rt: &impl Abort, alloc: Global, at: Instant, low: u8, hig
 fn is_next(tree: &Tree, at: Instant) -> bool
     ensures { IsTrue result ↔ ((last tree.now < at) × (at ≤ max_instant)) }
 {
-    tree.current().last() < at && at <= LAST
+    tree.current().last() < at && at <= MAX_INSTANT
 }
 
 /// Commits rows of two keys.

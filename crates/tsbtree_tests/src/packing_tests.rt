@@ -12,7 +12,7 @@ use std::process::Abort;
 use treenodes::Child;
 use treewalk::Shape;
 use tsbtree::{Tree, View};
-use values::{Instant, LAST};
+use values::{Instant, MAX_INSTANT};
 
 /// Puts the block of a view's first unpacked node of history into a tree, where the node is unpacked there.
 fn install_first(rt: &impl Abort, alloc: Global, tree: &mut Tree, view: &View) -> bool {
@@ -196,7 +196,7 @@ fn is_alike(rt: &impl Abort, alloc: Global, count: usize, number: u8, at: Instan
 fn packed_nodes_answer_as_before(rt: HostRuntime) {
     for count in [1, 3, 5] {
         for number in 1..4u8 {
-            for at in [0, 99, 100, 119, 120, 150, 199, 200, LAST] {
+            for at in [0, 99, 100, 119, 120, 150, 199, 200, MAX_INSTANT] {
                 assert!(rt;
                     is_alike(&rt, rt.alloc(), count, number, at),
                     "key {number} at {at}, {count} packed"

@@ -6,7 +6,7 @@ use crate::growth::{
 use std::alloc::Global;
 use std::process::Abort;
 use tsbtree::{Tree, View};
-use values::{Instant, LAST};
+use values::{Instant, MAX_INSTANT};
 
 /// The number in the row of key 1 after few changes.
 fn number_at(rt: &impl Abort, alloc: Global, at: Instant) -> Option<i64> {
@@ -112,7 +112,7 @@ fn visits(rt: &impl Abort, alloc: Global, levels: usize, at: Instant) -> usize {
 #[test]
 fn a_look_up_visits_one_node_of_each_level(rt: HostRuntime) {
     for levels in 1..4usize {
-        for at in [1, 64, 65, LAST] {
+        for at in [1, 64, 65, MAX_INSTANT] {
             assert!(rt; visits(&rt, rt.alloc(), levels, at) == levels, "at {at}");
         }
         assert!(rt; visits(&rt, rt.alloc(), levels, 0) == 0);
@@ -124,7 +124,7 @@ fn a_look_up_visits_one_node_of_each_level(rt: HostRuntime) {
 type Answers = (Instant, Option<i64>, usize, usize);
 
 fn answers(rt: &impl Abort, alloc: Global, view: &View) -> Answers {
-    let number = number_in_row(rt, alloc, view, 2, LAST).0;
+    let number = number_in_row(rt, alloc, view, 2, MAX_INSTANT).0;
     let shape = view.shape(alloc).expect(rt, "there is memory");
     (
         view.last(),

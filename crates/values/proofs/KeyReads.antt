@@ -23,7 +23,7 @@ use Rattle.values.specs.Tables.{column_at}
 use Rattle.values.specs.Fit.{fits_type, parts_fault, part_fault, key_fault}
 use Rattle.values.specs.KeyEncoding.{ordinal_of, text_bytes, part_bytes, bytes_of_key}
 use Rattle.values.specs.RowEncoding.{IsHeld}
-use Rattle.values.specs.RowReading.{Taken, after}
+use Rattle.values.specs.RowReading.{Parsed, after}
 use Rattle.values.specs.KeyReading.{IsKeyOf, IsKeyWith, NoKeyWith, number_at, text_from, number_from, name_from, truth_from, part_from, column_from, parts_from, is_empty, whole_key, key_from}
 use Rattle.values.proofs.KeyLengths.{FitsColumn, part_fits, first_none, key_fits}
 use Rattle.values.proofs.RowReads.{long, chosen, same_taken, byte_at, below_8, taken_length, at_least, AreBytes}
@@ -90,7 +90,7 @@ text_back (b ∷ bs) rest = one (b == 0) refl (text_back bs rest)
 name_back : (t rest : List ℕ) → IsUtf8 t → name_from (text_bytes t ++ rest) ≡ Some (Text t, rest)
 unfolding name_from
 name_back t rest u =
-    ap (λ (o : Taken (List ℕ)). elim o [ None ↦ None | Some x ↦ if is_utf8 x.0 then Some (Text x.0, x.1) else None ]) (text_back t rest)
+    ap (λ (o : Parsed (List ℕ)). elim o [ None ↦ None | Some x ↦ if is_utf8 x.0 then Some (Text x.0, x.1) else None ]) (text_back t rest)
     ∙ chosen _ _ None (is_utf8-from_IsUtf8 t u)
 
 part_back : (of : ColumnType) (v : Value) (rest : List ℕ) → fits_type 200 of v ≡ true → IsHeld v → part_from of (part_bytes v ++ rest) ≡ Some (v, rest)
@@ -110,7 +110,7 @@ unfolding column_from
 column_back table n v rest f h =
     ap (λ (o : Option Column). elim o [ None ↦ None | Some column ↦ part_from column.of (part_bytes v ++ rest) ]) f.found ∙ part_back f.column.of v rest f.typed h
 
-abbrev turned : Table → List ℕ → Taken Value → Taken (List Value)
+abbrev turned : Table → List ℕ → Parsed Value → Parsed (List Value)
 turned table ns o = elim o [ None ↦ None | Some x ↦ after (x.0 ∷ []) (parts_from table ns x.1) ]
 
 parts_back : (table : Table) (ns : List ℕ) (vs : List Value) (rest : List ℕ) → length ns ≡ length vs → parts_fault table ns vs ≡ None → All IsHeld vs
@@ -147,13 +147,13 @@ record Reads (bytes : List ℕ) (v : Value) (rest : List ℕ) : Type 0 where
   spelled : bytes ≡ part_bytes v ++ rest
   held : IsHeld v
 
-reads : (bytes : List ℕ) (w v : Value) (left rest : List ℕ) → ◌≡◌ {A = Taken Value} (Some (w, left)) (Some (v, rest)) → Reads bytes w left → Reads bytes v rest
+reads : (bytes : List ℕ) (w v : Value) (left rest : List ℕ) → ◌≡◌ {A = Parsed Value} (Some (w, left)) (Some (v, rest)) → Reads bytes w left → Reads bytes v rest
 reads bytes w v left rest e r =
     let parts = same_taken w v left rest e in
     subst (λ x. Reads bytes x rest) parts.0 (subst (λ l. Reads bytes w l) parts.1 r)
 
 number_found : (bytes : List ℕ) (v : Value) (rest : List ℕ) (t : Bool) → nat_le 8 (length bytes) ≡ t → AreBytes bytes
-    → ◌≡◌ {A = Taken Value} (if t then Some (Int (number_at (from_be_bytes w64 (take 8 bytes))), drop 8 bytes) else None) (Some (v, rest)) → Reads bytes v rest
+    → ◌≡◌ {A = Parsed Value} (if t then Some (Int (number_at (from_be_bytes w64 (take 8 bytes))), drop 8 bytes) else None) (Some (v, rest)) → Reads bytes v rest
 number_found bytes v rest false e h is = cc
 number_found bytes v rest true e h is =
     let m = from_be_bytes w64 (take 8 bytes) in
@@ -177,7 +177,7 @@ truth_sound [] v rest is = cc
 truth_sound (b ∷ bs) v rest is = by_byte (b == 0) (b == 1) refl refl is
   where
     by_byte : (s t : Bool) → (b == 0) ≡ s → (b == 1) ≡ t
-        → ◌≡◌ {A = Taken Value} (if s then Some (Truth false, bs) else if t then Some (Truth true, bs) else None) (Some (v, rest)) → Reads (b ∷ bs) v rest
+        → ◌≡◌ {A = Parsed Value} (if s then Some (Truth false, bs) else if t then Some (Truth true, bs) else None) (Some (v, rest)) → Reads (b ∷ bs) v rest
     by_byte true t p q is = reads (b ∷ bs) (Truth false) v bs rest is (record { spelled = ap (λ n. n ∷ bs) (sym (byte_is b 0 p)); held = tt })
     by_byte false true p q is = reads (b ∷ bs) (Truth true) v bs rest is (record { spelled = ap (λ n. n ∷ bs) (sym (byte_is b 1 q)); held = tt })
     by_byte false false p q is = cc
@@ -185,7 +185,7 @@ truth_sound (b ∷ bs) v rest is = by_byte (b == 0) (b == 1) refl refl is
 plain_more : (b : ℕ) (bs : List ℕ) → (b == 0) ≡ false → text_bytes (b ∷ bs) ≡ b ∷ text_bytes bs
 plain_more b bs e = ap (λ t. if t then 0 ∷ 255 ∷ text_bytes bs else b ∷ text_bytes bs) e
 
-after_split : (b : ℕ) (r : Taken (List ℕ)) (t rest : List ℕ) → after (b ∷ []) r ≡ Some (t, rest) → (u : List ℕ) × (r ≡ Some (u, rest)) × (b ∷ u ≡ t)
+after_split : (b : ℕ) (r : Parsed (List ℕ)) (t rest : List ℕ) → after (b ∷ []) r ≡ Some (t, rest) → (u : List ℕ) × (r ≡ Some (u, rest)) × (b ∷ u ≡ t)
 after_split b None t rest e = cc
 after_split b (Some (u, left)) t rest e =
     let parts = same_taken (b ∷ u) t left rest e in
@@ -210,7 +210,7 @@ texts_sound false (b ∷ bs) t rest e = by_byte (b == 0) refl e (texts_sound tru
 texts_sound true (b ∷ bs) t rest e = by_byte (b == 0) (b == 255) refl refl e (λ u k. texts_sound false bs u rest k)
   where
     by_byte : (y z : Bool) → (b == 0) ≡ y → (b == 255) ≡ z
-        → ◌≡◌ {A = Taken (List ℕ)} (if y then Some ([], bs) else if z then after (0 ∷ []) (text_from false bs) else None) (Some (t, rest))
+        → ◌≡◌ {A = Parsed (List ℕ)} (if y then Some ([], bs) else if z then after (0 ∷ []) (text_from false bs) else None) (Some (t, rest))
         → ((u : List ℕ) → text_from false bs ≡ Some (u, rest) → bs ≡ text_bytes u ++ rest) → 0 ∷ b ∷ bs ≡ text_bytes t ++ rest
     by_byte true z p q e more =
         let parts = same_taken [] t bs rest e in
@@ -220,12 +220,12 @@ texts_sound true (b ∷ bs) t rest e = by_byte (b == 0) (b == 255) refl refl e (
         ap (λ n. 0 ∷ n ∷ bs) (sym (byte_is b 255 q)) ∙ ap (λ l. 0 ∷ 255 ∷ l) (more split.0 split.1) ∙ ap (λ u. text_bytes u ++ rest) split.2
     by_byte false false p q e more = cc
 
-name_found : (bytes : List ℕ) (v : Value) (rest : List ℕ) (o : Taken (List ℕ)) → text_from false bytes ≡ o
-    → ◌≡◌ {A = Taken Value} (elim o [ None ↦ None | Some x ↦ if is_utf8 x.0 then Some (Text x.0, x.1) else None ]) (Some (v, rest)) → Reads bytes v rest
+name_found : (bytes : List ℕ) (v : Value) (rest : List ℕ) (o : Parsed (List ℕ)) → text_from false bytes ≡ o
+    → ◌≡◌ {A = Parsed Value} (elim o [ None ↦ None | Some x ↦ if is_utf8 x.0 then Some (Text x.0, x.1) else None ]) (Some (v, rest)) → Reads bytes v rest
 name_found bytes v rest None at e = cc
 name_found bytes v rest (Some (t, left)) at e = by_text (is_utf8 t) refl e
   where
-    by_text : (u : Bool) → is_utf8 t ≡ u → ◌≡◌ {A = Taken Value} (if u then Some (Text t, left) else None) (Some (v, rest)) → Reads bytes v rest
+    by_text : (u : Bool) → is_utf8 t ≡ u → ◌≡◌ {A = Parsed Value} (if u then Some (Text t, left) else None) (Some (v, rest)) → Reads bytes v rest
     by_text true u e = reads bytes (Text t) v left rest e (record { spelled = texts_sound false bytes t left at; held = IsUtf8-from_is_utf8 t u })
     by_text false u e = cc
 
@@ -244,7 +244,7 @@ column_sound : (table : Table) (n : ℕ) (bytes : List ℕ) (v : Value) (rest : 
 unfolding column_from
 column_sound table n bytes v rest h e = found (column_at table n) e
   where
-    found : (o : Option Column) → ◌≡◌ {A = Taken Value} (elim o [ None ↦ None | Some column ↦ part_from column.of bytes ]) (Some (v, rest)) → Reads bytes v rest
+    found : (o : Option Column) → ◌≡◌ {A = Parsed Value} (elim o [ None ↦ None | Some column ↦ part_from column.of bytes ]) (Some (v, rest)) → Reads bytes v rest
     found None e = cc
     found (Some column) e = part_sound column.of bytes v rest h e
 
@@ -262,8 +262,8 @@ parts_sound table [] bytes vs rest h e =
     subst (λ ws. ReadsAll bytes ws rest) parts.0 (subst (λ l. ReadsAll bytes [] l) parts.1 (record { all_spelled = refl; all_held = All-nil IsHeld }))
 parts_sound table (n ∷ ns) bytes vs rest h e = by_first (column_from table n bytes) refl e (λ os ws k f. parts_sound table ns os ws rest k f)
   where
-    joined : (v : Value) (others : List ℕ) (r : Taken (List Value)) → parts_from table ns others ≡ r → Reads bytes v others
-        → ◌≡◌ {A = Taken (List Value)} (after (v ∷ []) r) (Some (vs, rest)) → ((os : List ℕ) (ws : List Value) → AreBytes os → parts_from table ns os ≡ Some (ws, rest) → ReadsAll os ws rest)
+    joined : (v : Value) (others : List ℕ) (r : Parsed (List Value)) → parts_from table ns others ≡ r → Reads bytes v others
+        → ◌≡◌ {A = Parsed (List Value)} (after (v ∷ []) r) (Some (vs, rest)) → ((os : List ℕ) (ws : List Value) → AreBytes os → parts_from table ns os ≡ Some (ws, rest) → ReadsAll os ws rest)
         → ReadsAll bytes vs rest
     joined v others None at one e more = cc
     joined v others (Some (ws, left)) at one e more =
@@ -274,7 +274,7 @@ parts_sound table (n ∷ ns) bytes vs rest h e = by_first (column_from table n b
           all_held = All-cons IsHeld v ws one.held others_read.all_held;
         })
 
-    by_first : (r : Taken Value) → column_from table n bytes ≡ r → ◌≡◌ {A = Taken (List Value)} (turned table ns r) (Some (vs, rest))
+    by_first : (r : Parsed Value) → column_from table n bytes ≡ r → ◌≡◌ {A = Parsed (List Value)} (turned table ns r) (Some (vs, rest))
         → ((os : List ℕ) (ws : List Value) → AreBytes os → parts_from table ns os ≡ Some (ws, rest) → ReadsAll os ws rest) → ReadsAll bytes vs rest
     by_first None at e more = cc
     by_first (Some (v, others)) at e more = joined v others (parts_from table ns others) refl (column_sound table n bytes v others h at) e more
@@ -287,7 +287,7 @@ no_fault_is : (o : Option ℕ) → is_none o ≡ true → o ≡ None
 no_fault_is None e = refl
 no_fault_is (Some n) e = cc
 
-whole_sound : (table : Table) (bytes : List ℕ) (key : Key) (o : Taken (List Value)) → parts_from table table.key bytes ≡ o → AreBytes bytes → whole_key table o ≡ Some key
+whole_sound : (table : Table) (bytes : List ℕ) (key : Key) (o : Parsed (List Value)) → parts_from table table.key bytes ≡ o → AreBytes bytes → whole_key table o ≡ Some key
     → IsKeyWith table (table.number ∷ bytes) key
 whole_sound table bytes key None at h e = cc
 whole_sound table bytes key (Some (parts, rest)) at h e = by_test (is_empty rest && is_none (key_fault table parts)) refl e

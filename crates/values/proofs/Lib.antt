@@ -14,5 +14,5 @@ pub mod VersionsShow
 pub mod OrderSorted
 pub mod LogStates
 pub mod RowStored
-pub mod RowReadingTaken
+pub mod RowReadingParsed
 pub mod LogUpto

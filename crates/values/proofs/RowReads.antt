@@ -19,7 +19,7 @@ use Rattle.values.specs.declared.value.Value.TheVariants.{Int, Text, Bool as Tru
 use Rattle.values.specs.Fit.{fits_text}
 use Rattle.values.specs.Log.{Row}
 use Rattle.values.specs.RowEncoding.{value_bytes, bytes_of_row, IsStored, IsStoredRow, IsHeld, StandsIn, NoRowAt}
-use Rattle.values.specs.RowReading.{Taken, int_from, is_stored_text, text_of, text_from, tagged_from, value_from, values_from, after, row_from}
+use Rattle.values.specs.RowReading.{Parsed, int_from, is_stored_text, text_of, text_from, tagged_from, value_from, values_from, after, row_from}
 
 pub not_utf8 : (bs : List ℕ) (t : Bool) → is_utf8 bs ≡ t → ¬ (IsUtf8 bs) → t ≡ false
 not_utf8 bs true e n = absurd (n (IsUtf8-from_is_utf8 bs e))
@@ -68,7 +68,7 @@ value_back (Text t) rest s h = text_back t rest s h
 value_back (Truth true) rest s h = refl
 value_back (Truth false) rest s h = refl
 
-abbrev turned : ℕ → Taken Value → Taken (List Value)
+abbrev turned : ℕ → Parsed Value → Parsed (List Value)
 turned n r = elim r [ None ↦ None | Some x ↦ after (x.0 ∷ []) (values_from n x.1) ]
 
 pub values_back : (vs : List Value) (rest : List ℕ) → All IsStored vs → All IsHeld vs → values_from (length vs) (flat_map value_bytes vs ++ rest) ≡ Some (vs, rest)
@@ -126,7 +126,7 @@ pub at_least : (n : ℕ) (bs : List ℕ) → nat_le n (length bs) ≡ true → n
 at_least n bs e = grind (arith, nat_tests)
 
 int_found : (bytes : List ℕ) (v : Value) (rest : List ℕ) (t : Bool) → nat_le 8 (length bytes) ≡ t → AreBytes bytes
-    → ◌≡◌ {A = Taken Value} (if t then Some (Int (cast_signed w64 (from_be_bytes w64 (take 8 bytes))), drop 8 bytes) else None) (Some (v, rest)) → Reads (1 ∷ bytes) v rest
+    → ◌≡◌ {A = Parsed Value} (if t then Some (Int (cast_signed w64 (from_be_bytes w64 (take 8 bytes))), drop 8 bytes) else None) (Some (v, rest)) → Reads (1 ∷ bytes) v rest
 int_found bytes v rest false e h is = cc
 int_found bytes v rest true e h is =
     let m = from_be_bytes w64 (take 8 bytes) in
@@ -146,7 +146,7 @@ int_sound bytes v rest h is = int_found bytes v rest (nat_le 8 (length bytes)) r
 
 -- the text after its length
 text_found : (n : ℕ) (bytes : List ℕ) (v : Value) (rest : List ℕ) (t : Bool) → (nat_le n (length bytes) && is_stored_text (take n bytes)) ≡ t
-    → ◌≡◌ {A = Taken Value} (if t then Some (Text (take n bytes), drop n bytes) else None) (Some (v, rest)) → Reads (2 ∷ (to_be_bytes w16 n ++ bytes)) v rest
+    → ◌≡◌ {A = Parsed Value} (if t then Some (Text (take n bytes), drop n bytes) else None) (Some (v, rest)) → Reads (2 ∷ (to_be_bytes w16 n ++ bytes)) v rest
 text_found n bytes v rest false e is = cc
 text_found n bytes v rest true e is =
     let parts = same_taken (Text (take n bytes)) v (drop n bytes) rest is in
@@ -163,7 +163,7 @@ unfolding text_of
 of_sound n bytes v rest is = text_found n bytes v rest (nat_le n (length bytes) && is_stored_text (take n bytes)) refl is
 
 sized : (bytes : List ℕ) (v : Value) (rest : List ℕ) (t : Bool) → nat_le 2 (length bytes) ≡ t → AreBytes bytes
-    → ◌≡◌ {A = Taken Value} (if t then text_of (from_be_bytes w16 (take 2 bytes)) (drop 2 bytes) else None) (Some (v, rest)) → Reads (2 ∷ bytes) v rest
+    → ◌≡◌ {A = Parsed Value} (if t then text_of (from_be_bytes w16 (take 2 bytes)) (drop 2 bytes) else None) (Some (v, rest)) → Reads (2 ∷ bytes) v rest
 sized bytes v rest false e h is = cc
 sized bytes v rest true e h is =
     let n = from_be_bytes w16 (take 2 bytes) in
@@ -177,7 +177,7 @@ unfolding text_from
 text_sound bytes v rest h is = sized bytes v rest (nat_le 2 (length bytes)) refl h is
 
 -- a value with no more than its tag
-bare : (bytes rest : List ℕ) (w v : Value) → value_bytes w ++ bytes ≡ value_bytes w ++ bytes → IsStored w → IsHeld w → ◌≡◌ {A = Taken Value} (Some (w, bytes)) (Some (v, rest)) → Reads (value_bytes w ++ bytes) v rest
+bare : (bytes rest : List ℕ) (w v : Value) → value_bytes w ++ bytes ≡ value_bytes w ++ bytes → IsStored w → IsHeld w → ◌≡◌ {A = Parsed Value} (Some (w, bytes)) (Some (v, rest)) → Reads (value_bytes w ++ bytes) v rest
 bare bytes rest w v e s h is =
     let parts = same_taken w v bytes rest is in
     subst (λ x. Reads (value_bytes w ++ bytes) x rest) parts.0 (subst (λ r. Reads (value_bytes w ++ bytes) w r) parts.1 (record { spelled = refl; stored = s; held = h }))
@@ -186,7 +186,7 @@ tag_is : (a b : ℕ) → (a == b) ≡ true → b ≡ a
 tag_is a b e = grind (arith, nat_tests)
 
 by_tag : (tag : ℕ) (bytes : List ℕ) (v : Value) (rest : List ℕ) (a b c d f : Bool) → (tag == 0) ≡ a → (tag == 1) ≡ b → (tag == 2) ≡ c → (tag == 3) ≡ d → (tag == 4) ≡ f → AreBytes bytes
-    → ◌≡◌ {A = Taken Value} (if a then Some (Null, bytes) else if b then int_from bytes else if c then text_from bytes else if d then Some (Truth false, bytes) else if f then Some (Truth true, bytes) else None) (Some (v, rest))
+    → ◌≡◌ {A = Parsed Value} (if a then Some (Null, bytes) else if b then int_from bytes else if c then text_from bytes else if d then Some (Truth false, bytes) else if f then Some (Truth true, bytes) else None) (Some (v, rest))
     → Reads (tag ∷ bytes) v rest
 by_tag tag bytes v rest true b c d f p q r s t h is = subst (λ n. Reads (n ∷ bytes) v rest) (tag_is tag 0 p) (bare bytes rest Null v refl refl tt is)
 by_tag tag bytes v rest false true c d f p q r s t h is = subst (λ n. Reads (n ∷ bytes) v rest) (tag_is tag 1 q) (int_sound bytes v rest h is)
@@ -208,7 +208,7 @@ pub record ReadsAll (n : ℕ) (bytes : List ℕ) (vs : List Value) (rest : List 
   pub all_held : All IsHeld vs
   pub counted : length vs ≡ n
 
-same_none : (bytes : List ℕ) (vs : List Value) (rest : List ℕ) → ◌≡◌ {A = Taken (List Value)} (Some ([], bytes)) (Some (vs, rest)) → ReadsAll 0 bytes vs rest
+same_none : (bytes : List ℕ) (vs : List Value) (rest : List ℕ) → ◌≡◌ {A = Parsed (List Value)} (Some ([], bytes)) (Some (vs, rest)) → ReadsAll 0 bytes vs rest
 same_none bytes vs rest is =
     let parts = same_taken [] vs bytes rest is in
     subst (λ ws. ReadsAll 0 bytes ws rest) parts.0 (subst (λ r. ReadsAll 0 bytes [] r) parts.1
@@ -230,8 +230,8 @@ pub values_sound : (n : ℕ) (bytes : List ℕ) (vs : List Value) (rest : List �
 values_sound zero bytes vs rest h is = same_none bytes vs rest is
 values_sound (suc n) bytes vs rest h is = by_first (value_from bytes) refl is (λ others ws k e. values_sound n others ws rest k e)
   where
-    joined : (v : Value) (others : List ℕ) (r : Taken (List Value)) → values_from n others ≡ r → Reads bytes v others
-        → ◌≡◌ {A = Taken (List Value)} (after (v ∷ []) r) (Some (vs, rest)) → ((os : List ℕ) (ws : List Value) → AreBytes os → values_from n os ≡ Some (ws, rest) → ReadsAll n os ws rest)
+    joined : (v : Value) (others : List ℕ) (r : Parsed (List Value)) → values_from n others ≡ r → Reads bytes v others
+        → ◌≡◌ {A = Parsed (List Value)} (after (v ∷ []) r) (Some (vs, rest)) → ((os : List ℕ) (ws : List Value) → AreBytes os → values_from n os ≡ Some (ws, rest) → ReadsAll n os ws rest)
         → ReadsAll (suc n) bytes vs rest
     joined v others None at one e more = cc
     joined v others (Some (ws, left)) at one e more =
@@ -239,7 +239,7 @@ values_sound (suc n) bytes vs rest h is = by_first (value_from bytes) refl is (�
         subst (λ us. ReadsAll (suc n) bytes us rest) parts.0
         (one_and_more n bytes others v ws rest one (more others ws (bytes_left bytes others v h one) (at ∙ ap (λ r. Some (ws, r)) parts.1)))
 
-    by_first : (r : Taken Value) → value_from bytes ≡ r → ◌≡◌ {A = Taken (List Value)} (turned n r) (Some (vs, rest))
+    by_first : (r : Parsed Value) → value_from bytes ≡ r → ◌≡◌ {A = Parsed (List Value)} (turned n r) (Some (vs, rest))
         → ((os : List ℕ) (ws : List Value) → AreBytes os → values_from n os ≡ Some (ws, rest) → ReadsAll n os ws rest) → ReadsAll (suc n) bytes vs rest
     by_first None at e more = cc
     by_first (Some (v, others)) at e more = joined v others (values_from n others) refl (value_sound bytes v others h at) e more
@@ -261,7 +261,7 @@ pub row_sound : (bytes : List ℕ) (row : Row) (n : ℕ) → AreBytes bytes → 
 row_sound [] row n h is = cc
 row_sound (m ∷ bytes) row n h is = by_count (nat_le 1 m && nat_le m 16) refl is
   where
-    found : (r : Taken (List Value)) → values_from m bytes ≡ r → (nat_le 1 m && nat_le m 16) ≡ true
+    found : (r : Parsed (List Value)) → values_from m bytes ≡ r → (nat_le 1 m && nat_le m 16) ≡ true
         → ◌≡◌ {A = Option (Row × ℕ)} (option_map (λ x. (x.0, length (m ∷ bytes) - length x.1)) r) (Some (row, n)) → StandsIn (m ∷ bytes) n row
     found None at e is = cc
     found (Some (vs, left)) at e is =

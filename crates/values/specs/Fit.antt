@@ -8,6 +8,7 @@ use Rattle.values.specs.declared.table.ColumnType.TheVariants.{Int as IsInt, Tex
 use Rattle.values.specs.declared.table.Column.{Column}
 use Rattle.values.specs.declared.table.Table.{Table}
 use Rattle.values.specs.declared.query.Comparison.{Comparison}
+use Rattle.values.specs.declared.query.Keys.{Keys}
 use Rattle.values.specs.declared.query.Set.{Set}
 use Rattle.values.specs.Tables.{column_at, is_key_column}
 use Rattle.values.specs.Log.{Row}
@@ -26,9 +27,13 @@ character_count text = count_by (λ b. not (continues b)) text
 abbrev pub longest_text : ℕ
 longest_text = 1000
 
+-- in a key
+abbrev pub longest_key_text : ℕ
+longest_key_text = 200
+
 -- the bytes that a text may have, in a key and elsewhere
 abbrev pub text_limit : Bool → ℕ
-text_limit in_key = if in_key then 200 else longest_text
+text_limit in_key = if in_key then longest_key_text else longest_text
 
 -- a text on one line, of at most so many bytes
 abbrev pub fits_text : ℕ → List ℕ → Bool
@@ -88,8 +93,8 @@ key_fault table parts =
 
 -- a value that a column can be compared with, however long its own texts are
 abbrev pub can_compare : ColumnType → Value → Bool
-can_compare (IsVarchar n) v = fits_type 200 IsText v
-can_compare of v = fits_type 200 of v
+can_compare (IsVarchar n) v = fits_type longest_key_text IsText v
+can_compare of v = fits_type longest_key_text of v
 
 abbrev pub comparison_fault : Table → Comparison → Option ℕ
 comparison_fault table c = elim (column_at table c.column) [
@@ -129,3 +134,8 @@ sets_fault table earlier (s ∷ sets) = elim (set_fault table earlier s) [
 abbrev pub first_of : Option ℕ → Option ℕ → Option ℕ
 first_of (Some n) other = Some n
 first_of None other = other
+
+-- the first fault of an UPDATE: new values come before comparisons
+abbrev pub update_fault : Table → Keys → List Set → Option ℕ
+update_fault table keys sets =
+    first_of (sets_fault table [] sets) (comparisons_fault table keys.comparisons)

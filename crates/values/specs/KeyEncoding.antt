@@ -5,6 +5,8 @@ use Rattle.std.specs.List.{flat_map}
 use Rattle.values.specs.declared.value.Value.{Value}
 use Rattle.values.specs.declared.value.Value.TheVariants.{Int, Text, Bool as Truth, Null}
 use Rattle.values.specs.declared.key.Key.{Key}
+use Rattle.values.specs.Fit.{longest_key_text}
+use Rattle.values.specs.Tables.{most_key_columns}
 
 -- the place of a whole number among those of 64 bits, from 0: the number plus 2^63
 abbrev pub ordinal_of : ℤ → ℕ
@@ -27,12 +29,16 @@ part_bytes Null = []
 abbrev pub bytes_of_key : Key → List ℕ
 bytes_of_key k = k.table ∷ flat_map part_bytes k.parts
 
+-- the bytes that those of a key may be: its table, and four texts of 200 bytes that are all 0
+abbrev pub longest_key : ℕ
+longest_key = 1609
+
 -- a value that is no text of over 200 bytes
 abbrev pub IsShort : Value → Type 0
-IsShort (Text t) = length t ≤ 200
+IsShort (Text t) = length t ≤ longest_key_text
 IsShort _ = Unit {0}
 
 -- a key of at most four columns, with texts of at most 200 bytes
 pub record IsShortKey (key : Key) : Type 0 where
-  pub few_parts : length key.parts ≤ 4
+  pub few_parts : length key.parts ≤ most_key_columns
   pub short_parts : All IsShort key.parts

@@ -10,6 +10,7 @@ use Rattle.values.specs.declared.table.Table.{Table}
 use Rattle.values.specs.declared.key.Key.{Key}
 use Rattle.values.specs.Order.{key_cmp}
 use Rattle.values.specs.Fit.{key_fault}
+use Rattle.values.specs.Tables.{most_key_columns}
 use Rattle.values.specs.KeyEncoding.{bytes_of_key, IsShortKey}
 
 -- a whole number has 64 bits, as each that a program holds
@@ -47,8 +48,8 @@ NoKeyBeginsAnother =
 -- values that fit a table of at most four key columns have bytes
 abbrev pub FittingKeysAreShort : Type 0
 FittingKeysAreShort =
-    (table : Table) (key : Key) → length table.key ≤ 4 → key_fault table key.parts ≡ None
-    → IsShortKey key
+    (table : Table) (key : Key) → length table.key ≤ most_key_columns
+    → key_fault table key.parts ≡ None → IsShortKey key
 
 -- the key of a row of table 1 that has these values, put to bytes
 abbrev pub bytes_in_1 : List Value → List ℕ

@@ -12,7 +12,7 @@ use Rattle.values.specs.Tables.{column_at}
 use Rattle.values.specs.Fit.{key_fault}
 use Rattle.values.specs.KeyEncoding.{bytes_of_key}
 use Rattle.values.specs.RowEncoding.{IsHeld}
-use Rattle.values.specs.RowReading.{Taken, after}
+use Rattle.values.specs.RowReading.{Parsed, after}
 
 -- a key that a row of the table may have
 pub record IsKeyOf (table : Table) (key : Key) : Type 0 where
@@ -36,7 +36,7 @@ number_at n =
     else pos (n - 9223372036854775808)
 
 -- a text up to its end mark, after a zero or not
-abbrev pub text_from : Bool → List ℕ → Taken (List ℕ)
+abbrev pub text_from : Bool → List ℕ → Parsed (List ℕ)
 text_from zero_before [] = None
 text_from false (b ∷ bs) = if b == 0 then text_from true bs else after (b ∷ []) (text_from false bs)
 text_from true (b ∷ bs) =
@@ -44,36 +44,36 @@ text_from true (b ∷ bs) =
     else if b == 255 then after (0 ∷ []) (text_from false bs)
     else None
 
-unfoldable pub number_from : List ℕ → Taken Value
+unfoldable pub number_from : List ℕ → Parsed Value
 number_from bytes =
     if nat_le 8 (length bytes)
     then Some (Int (number_at (from_be_bytes w64 (take 8 bytes))), drop 8 bytes)
     else None
 
-unfoldable pub name_from : List ℕ → Taken Value
+unfoldable pub name_from : List ℕ → Parsed Value
 name_from bytes = elim (text_from false bytes) [
   | None ↦ None
   | Some x ↦ if is_utf8 x.0 then Some (Text x.0, x.1) else None
 ]
 
-abbrev pub truth_from : List ℕ → Taken Value
+abbrev pub truth_from : List ℕ → Parsed Value
 truth_from [] = None
 truth_from (b ∷ bs) =
     if b == 0 then Some (Truth false, bs) else if b == 1 then Some (Truth true, bs) else None
 
-unfoldable pub part_from : ColumnType → List ℕ → Taken Value
+unfoldable pub part_from : ColumnType → List ℕ → Parsed Value
 part_from IsInt bytes = number_from bytes
 part_from IsText bytes = name_from bytes
 part_from (IsVarchar n) bytes = name_from bytes
 part_from IsBoolean bytes = truth_from bytes
 
-unfoldable pub column_from : Table → ℕ → List ℕ → Taken Value
+unfoldable pub column_from : Table → ℕ → List ℕ → Parsed Value
 column_from table n bytes = elim (column_at table n) [
   | None ↦ None
   | Some column ↦ part_from column.of bytes
 ]
 
-abbrev pub parts_from : Table → List ℕ → List ℕ → Taken (List Value)
+abbrev pub parts_from : Table → List ℕ → List ℕ → Parsed (List Value)
 parts_from table [] bytes = Some ([], bytes)
 parts_from table (n ∷ ns) bytes = elim (column_from table n bytes) [
   | None ↦ None
@@ -85,7 +85,7 @@ is_empty [] = true
 is_empty (b ∷ bs) = false
 
 -- parts with nothing behind them, which fit
-abbrev pub whole_key : Table → Taken (List Value) → Option Key
+abbrev pub whole_key : Table → Parsed (List Value) → Option Key
 whole_key table None = None
 whole_key table (Some (parts, rest)) =
     if is_empty rest && is_none (key_fault table parts)

@@ -7,6 +7,7 @@ use Rattle.values.specs.declared.value.Value.{Value}
 use Rattle.values.specs.declared.value.Value.TheVariants.{Int, Text, Bool as Truth, Null}
 use Rattle.values.specs.Fit.{longest_text, fits_text}
 use Rattle.values.specs.Log.{Row}
+use Rattle.values.specs.Tables.{widest}
 
 abbrev pub value_bytes : Value → List ℕ
 value_bytes Null = 0 ∷ []
@@ -26,7 +27,7 @@ abbrev pub IsStored : Value → Type 0
 IsStored value = is_stored value ≡ true
 
 abbrev pub is_width : ℕ → Bool
-is_width n = nat_le 1 n && nat_le n 16
+is_width n = nat_le 1 n && nat_le n widest
 
 -- a row of 1 to 16 such values
 abbrev pub is_stored_row : Row → Bool
@@ -34,7 +35,7 @@ is_stored_row row = is_width (length row) && list_all is_stored row
 
 pub record IsStoredRow (row : Row) : Type 0 where
   pub some : 1 ≤ length row
-  pub few : length row ≤ 16
+  pub few : length row ≤ widest
   pub stored : All IsStored row
 
 -- a whole number of 64 bits and a text of characters, as each that a program holds

@@ -3,6 +3,7 @@ use Rattle.std.specs.Prelude.{◌≡◌, ℕ, ◌≤◌, ◌<◌, List, [], ◌�
 use Rattle.values.specs.declared.value.Value.TheVariants.{Int, Text}
 use Rattle.values.specs.declared.table.Table.{Table}
 use Rattle.values.specs.Log.{Row}
+use Rattle.values.specs.Tables.{widest}
 use Rattle.values.specs.Fit.{row_fault}
 use Rattle.values.specs.RowEncoding.{bytes_of_row, IsStoredRow, IsHeld, StandsIn}
 use Rattle.values.specs.RowReading.{row_from}
@@ -29,7 +30,7 @@ NoRowBeginsAnother =
 -- a row that fits a table of 1 to 16 columns has bytes
 abbrev pub FittingRowsAreStored : Type 0
 FittingRowsAreStored =
-    (table : Table) (row : Row) → 1 ≤ length table.columns → length table.columns ≤ 16
+    (table : Table) (row : Row) → 1 ≤ length table.columns → length table.columns ≤ widest
     → row_fault table row ≡ None → IsStoredRow row
 
 -- bytes worked out by hand

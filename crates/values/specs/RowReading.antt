@@ -7,16 +7,17 @@ use Rattle.values.specs.declared.value.Value.{Value}
 use Rattle.values.specs.declared.value.Value.TheVariants.{Int, Text, Bool as Truth, Null}
 use Rattle.values.specs.Fit.{longest_text, fits_text}
 use Rattle.values.specs.Log.{Row}
+use Rattle.values.specs.Tables.{widest}
 
-abbrev pub Taken : Type 0 → Type 0
-Taken A = Option (A × List ℕ)
+abbrev pub Parsed : Type 0 → Type 0
+Parsed A = Option (A × List ℕ)
 
--- What a function returned is what is taken.
-abbrev pub Takes : {X Y : Type 0} → (X → Y) → Option (X × Bor (List ℕ)) → Taken Y → Type 0
-Takes view None taken = taken ≡ None
-Takes view (Some x) taken = taken ≡ Some (view x.0, x.1.now)
+-- What a function returned is what is parsed.
+abbrev pub Parses : {X Y : Type 0} → (X → Y) → Option (X × Bor (List ℕ)) → Parsed Y → Type 0
+Parses view None parsed = parsed ≡ None
+Parses view (Some x) parsed = parsed ≡ Some (view x.0, x.1.now)
 
-unfoldable pub int_from : List ℕ → Taken Value
+unfoldable pub int_from : List ℕ → Parsed Value
 int_from bytes =
     if nat_le 8 (length bytes)
     then Some (Int (cast_signed w64 (from_be_bytes w64 (take 8 bytes))), drop 8 bytes)
@@ -25,18 +26,18 @@ int_from bytes =
 abbrev pub is_stored_text : List ℕ → Bool
 is_stored_text text = fits_text longest_text text && is_utf8 text
 
-unfoldable pub text_of : ℕ → List ℕ → Taken Value
+unfoldable pub text_of : ℕ → List ℕ → Parsed Value
 text_of n bytes =
     if nat_le n (length bytes) && is_stored_text (take n bytes)
     then Some (Text (take n bytes), drop n bytes)
     else None
 
-unfoldable pub text_from : List ℕ → Taken Value
+unfoldable pub text_from : List ℕ → Parsed Value
 text_from bytes =
     if nat_le 2 (length bytes) then text_of (from_be_bytes w16 (take 2 bytes)) (drop 2 bytes)
     else None
 
-unfoldable pub tagged_from : ℕ → List ℕ → Taken Value
+unfoldable pub tagged_from : ℕ → List ℕ → Parsed Value
 tagged_from tag bytes =
     if tag == 0 then Some (Null, bytes)
     else if tag == 1 then int_from bytes
@@ -45,16 +46,16 @@ tagged_from tag bytes =
     else if tag == 4 then Some (Truth true, bytes)
     else None
 
-abbrev pub value_from : List ℕ → Taken Value
+abbrev pub value_from : List ℕ → Parsed Value
 value_from [] = None
 value_from (tag ∷ bytes) = tagged_from tag bytes
 
--- what was taken comes after these
-abbrev pub after : {A : Type 0} → List A → Taken (List A) → Taken (List A)
+-- what was parsed comes after these
+abbrev pub after : {A : Type 0} → List A → Parsed (List A) → Parsed (List A)
 after xs None = None
 after xs (Some (ys, rest)) = Some (xs ++ ys, rest)
 
-abbrev pub values_from : ℕ → List ℕ → Taken (List Value)
+abbrev pub values_from : ℕ → List ℕ → Parsed (List Value)
 values_from zero bytes = Some ([], bytes)
 values_from (suc n) bytes = elim (value_from bytes) [
   | None ↦ None
@@ -65,6 +66,6 @@ values_from (suc n) bytes = elim (value_from bytes) [
 abbrev pub row_from : List ℕ → Option (Row × ℕ)
 row_from [] = None
 row_from (n ∷ bytes) =
-    if nat_le 1 n && nat_le n 16
+    if nat_le 1 n && nat_le n widest
     then option_map (λ x. (x.0, length (n ∷ bytes) - length x.1)) (values_from n bytes)
     else None

@@ -7,6 +7,22 @@ use Rattle.values.specs.declared.value.Value.TheVariants.{Null}
 use Rattle.values.specs.declared.table.Column.{Column}
 use Rattle.values.specs.declared.table.Table.{Table}
 
+-- the columns that a table, and the values that a row may have
+abbrev pub widest : ℕ
+widest = 16
+
+-- the columns that a key may have
+abbrev pub most_key_columns : ℕ
+most_key_columns = 4
+
+-- the digits of a second that a column of a period may have
+abbrev pub most_digits : ℕ
+most_digits = 12
+
+-- the tables that a schema may have
+abbrev pub most_tables : ℕ
+most_tables = 16
+
 -- tables in order
 pub record Schema : Type 0 where
   pub tables : List Table
@@ -34,8 +50,8 @@ pub record IsColumnOf (table : Table) (number : ℕ) : Type 0 where
 pub record IsTable (number : ℕ) (table : Table) : Type 0 where
   pub numbered : table.number ≡ number
   pub some_columns : 1 ≤ length table.columns
-  pub few_columns : length table.columns ≤ 16
-  pub few_key_columns : length table.key ≤ 4
+  pub few_columns : length table.columns ≤ widest
+  pub few_key_columns : length table.key ≤ most_key_columns
   pub own_key_columns : All (IsColumnOf table) table.key
 
 -- such tables, with the numbers from one on

@@ -6,12 +6,12 @@ ghost use Rattle.values.specs.Faults.{no_fault};
 
 use crate::query::{ColumnNumber, Comparison, Set};
 use crate::refusal::Refusal;
-use crate::row::{Row, TEXT};
+use crate::row::{LONGEST_TEXT, Row};
 use crate::table::{Column, ColumnType, Table};
 use crate::value::Value;
 
 /// The bytes that a text of a key may have.
-const KEY_TEXT: usize = 200;
+const LONGEST_KEY_TEXT: usize = 200;
 
 fn has_line_break(text: &[u8]) -> bool
     ensures { result ≡ list_any is_line_break text.now }
@@ -64,15 +64,19 @@ fn fits_value(in_key: bool, column: &Column, value: &Value) -> bool
 fn text_limit(in_key: bool) -> usize
     ensures { result ≡ text_limit in_key }
 {
-    if in_key { KEY_TEXT } else { TEXT }
+    if in_key {
+        LONGEST_KEY_TEXT
+    } else {
+        LONGEST_TEXT
+    }
 }
 
 fn can_compare(of: ColumnType, value: &Value) -> bool
     ensures { result ≡ can_compare of value.now }
 {
     match of {
-        ColumnType::Varchar(_) => fits_type(KEY_TEXT, ColumnType::Text, value),
-        _ => fits_type(KEY_TEXT, of, value),
+        ColumnType::Varchar(_) => fits_type(LONGEST_KEY_TEXT, ColumnType::Text, value),
+        _ => fits_type(LONGEST_KEY_TEXT, of, value),
     }
 }
 

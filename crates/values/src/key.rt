@@ -10,8 +10,8 @@ use std::alloc::AllocError;
 /// A point of time: microseconds since 1970 where the clock gives it, and any whole number where a script does.
 pub type Instant = u64;
 
-/// The last instant that a transaction can have.
-pub const LAST: Instant = 999_999_999_999_999_999;
+/// The greatest instant that a transaction can have.
+pub const MAX_INSTANT: Instant = 999_999_999_999_999_999;
 
 /// A table's number, from 1, and the values of its key columns, in the key's order.
 #[derive(Debug, PartialEq, Eq, PartialOrd, Ord, Drop)]

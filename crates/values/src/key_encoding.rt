@@ -1,5 +1,5 @@
 ghost use Rattle.std.specs.Prelude.{◌≡◌, ℤ, ◌++◌, ◌∷◌, [], IfOk, OnOk, Option, Some, None, if◌then◌else◌, nat_le, length, ◌<◌};
-ghost use Rattle.values.specs.KeyEncoding.{ordinal_of, text_bytes, part_bytes, bytes_of_key, IsShortKey};
+ghost use Rattle.values.specs.KeyEncoding.{ordinal_of, text_bytes, part_bytes, bytes_of_key, IsShortKey, longest_key};
 ghost use Rattle.values.specs.Memory.{OnlyMemory};
 
 use crate::key::Key;
@@ -11,7 +11,7 @@ use std::cmp::Ordering;
 use std::marker::Model;
 
 /// The longest bytes of a key: the table, and four texts of 200 bytes that are all 0.
-const LONGEST: usize = 1609;
+pub const LONGEST_KEY: usize = 1609;
 
 /// How many bytes of a key are kept in the value: enough for a table and two numbers.
 const INSIDE: usize = 22;
@@ -27,20 +27,22 @@ pub struct KeyBytes {
 
 impl Model for KeyBytes {
     ghost use Rattle.std.specs.Prelude.{List, ℕ, length, ◌≤◌};
+    ghost use Rattle.values.specs.KeyEncoding.{longest_key};
 
     ghost Value = { List ℕ };
 
     ghost view = { λ k. k.bytes.items };
 
-    ghost invariant = { λ k. length k.bytes.items ≤ 1609 };
+    ghost invariant = { λ k. length k.bytes.items ≤ longest_key };
 }
 
 impl KeyBytes {
     /// None where there are over 1,609 bytes.
     pub fn new(bytes: Vec<u8>) -> Option<KeyBytes>
-        ensures { result ≡ (if nat_le (length bytes.items) 1609 then Some bytes.items else None) }
+        ensures { result
+            ≡ (if nat_le (length bytes.items) longest_key then Some bytes.items else None) }
     {
-        if bytes.len() <= LONGEST {
+        if bytes.len() <= LONGEST_KEY {
             let mut bytes = Bytes::from_vec(bytes);
             bytes.shrink_to_fit();
             Some(KeyBytes { bytes })
@@ -163,7 +165,7 @@ fn push_part(bytes: &mut Bytes, part: &Value) -> Result<(), AllocError>
 }
 
 /// The place of a number among all of 64 bits, from 0: the number plus 2^63.
-fn ordinal_of(number: i64) -> u64
+pub fn ordinal_of(number: i64) -> u64
     ensures { result ≡ ordinal_of number }
 {
     if number < 0 {

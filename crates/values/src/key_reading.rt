@@ -1,7 +1,7 @@
 ghost use Rattle.std.specs.Prelude.{◌≡◌, true, false, IfOk, IfSome, IfNone};
 ghost use Rattle.std.specs.Str.{is_utf8};
 ghost use Rattle.values.specs.Memory.{OnlyMemory};
-ghost use Rattle.values.specs.RowReading.{Takes};
+ghost use Rattle.values.specs.RowReading.{Parses};
 ghost use Rattle.values.specs.KeyReading.{IsKeyWith, NoKeyWith, number_at, text_from, number_from, name_from, truth_from, part_from, column_from, parts_from, key_from};
 
 use crate::chars::Chars;
@@ -14,7 +14,7 @@ use crate::value::{Value, Values};
 use std::alloc::{AllocError, Global};
 
 /// A value and the bytes after it, where there is one at the start.
-type Taken<'a, T> = Result<Option<(T, &'a [u8])>, AllocError>;
+type Parsed<'a, T> = Result<Option<(T, &'a [u8])>, AllocError>;
 
 /// The number whose bytes are those of `n`: `n` less 2^63.
 fn number_at(n: u64) -> i64
@@ -29,14 +29,14 @@ fn number_at(n: u64) -> i64
 
 #[tactic(auto, unfolding(crate::specs::KeyReading::number_from))]
 fn number_from(bytes: &[u8]) -> Option<(Value, &[u8])>
-    ensures { Takes (λ value. value) result (number_from bytes.now) }
+    ensures { Parses (λ value. value) result (number_from bytes.now) }
 {
     let (number, rest) = bytes.split_first_chunk::<8>()?;
     Some((Value::Int(number_at(u64::from_be_bytes(*number))), rest))
 }
 
 fn truth_from(bytes: &[u8]) -> Option<(Value, &[u8])>
-    ensures { Takes (λ value. value) result (truth_from bytes.now) }
+    ensures { Parses (λ value. value) result (truth_from bytes.now) }
 {
     match bytes {
         [0, rest @ ..] => Some((Value::Bool(false), rest)),
@@ -46,8 +46,9 @@ fn truth_from(bytes: &[u8]) -> Option<(Value, &[u8])>
 }
 
 /// A text up to its end mark.
-fn text_from(alloc: Global, bytes: &[u8]) -> Taken<'_, Vec<u8>>
-    ensures { IfOk result (λ taken. Takes (λ text. text.items) taken (text_from false bytes.now)) }
+fn text_from(alloc: Global, bytes: &[u8]) -> Parsed<'_, Vec<u8>>
+    ensures { IfOk result (λ parsed.
+        Parses (λ text. text.items) parsed (text_from false bytes.now)) }
 {
     let mut text = Vec::new(alloc);
     let mut zero_before = false;
@@ -83,8 +84,8 @@ fn text_of(alloc: Global, bytes: &[u8]) -> Result<Option<Chars>, AllocError>
 }
 
 #[tactic(auto, unfolding(crate::specs::KeyReading::name_from))]
-fn name_from(alloc: Global, bytes: &[u8]) -> Taken<'_, Value>
-    ensures { IfOk result (λ taken. Takes (λ value. value) taken (name_from bytes.now)) }
+fn name_from(alloc: Global, bytes: &[u8]) -> Parsed<'_, Value>
+    ensures { IfOk result (λ parsed. Parses (λ value. value) parsed (name_from bytes.now)) }
 {
     match text_from(alloc, bytes)? {
         None => Ok(None),
@@ -96,8 +97,8 @@ fn name_from(alloc: Global, bytes: &[u8]) -> Taken<'_, Value>
 }
 
 #[tactic(auto, unfolding(crate::specs::KeyReading::part_from))]
-fn part_from(alloc: Global, of: ColumnType, bytes: &[u8]) -> Taken<'_, Value>
-    ensures { IfOk result (λ taken. Takes (λ value. value) taken (part_from of bytes.now)) }
+fn part_from(alloc: Global, of: ColumnType, bytes: &[u8]) -> Parsed<'_, Value>
+    ensures { IfOk result (λ parsed. Parses (λ value. value) parsed (part_from of bytes.now)) }
 {
     match of {
         ColumnType::Int => Ok(number_from(bytes)),
@@ -114,9 +115,9 @@ impl Table {
         alloc: Global,
         number: ColumnNumber,
         bytes: &'a [u8],
-    ) -> Taken<'a, Value>
-        ensures { IfOk result (λ taken.
-            Takes (λ value. value) taken (column_from self.now number bytes.now)) }
+    ) -> Parsed<'a, Value>
+        ensures { IfOk result (λ parsed.
+            Parses (λ value. value) parsed (column_from self.now number bytes.now)) }
     {
         match self.column_at(number) {
             None => Ok(None),
@@ -124,9 +125,9 @@ impl Table {
         }
     }
 
-    fn parts_from<'a>(&self, alloc: Global, bytes: &'a [u8]) -> Taken<'a, Values>
-        ensures { IfOk result (λ taken.
-            Takes (λ parts. parts) taken (parts_from self.now self.now.key bytes.now)) }
+    fn parts_from<'a>(&self, alloc: Global, bytes: &'a [u8]) -> Parsed<'a, Values>
+        ensures { IfOk result (λ parsed.
+            Parses (λ parts. parts) parsed (parts_from self.now self.now.key bytes.now)) }
     {
         let mut parts = Vec::new(alloc);
         let mut rest = bytes;

@@ -11,10 +11,10 @@ use std::alloc::AllocError;
 use std::marker::Model;
 
 /// The values that a row may have.
-pub(crate) const WIDTH: usize = 16;
+pub const WIDEST: usize = 16;
 
 /// The bytes that a text may have.
-pub(crate) const TEXT: usize = 1000;
+pub const LONGEST_TEXT: usize = 1000;
 
 /// A row of a table: 1 to 16 values, in the table's order, with texts of one line and at most 1,000 bytes. Contracts see it as a list.
 #[derive(Debug, Drop)]
@@ -92,7 +92,7 @@ fn are_stored(values: &[Value]) -> bool
 fn is_width(width: usize) -> bool
     ensures { result ≡ is_width width }
 {
-    1 <= width && width <= WIDTH
+    1 <= width && width <= WIDEST
 }
 
 fn is_stored(value: &Value) -> bool
@@ -108,7 +108,7 @@ fn is_stored(value: &Value) -> bool
 pub(crate) fn fits_text(bytes: &[u8]) -> bool
     ensures { result ≡ fits_text longest_text bytes.now }
 {
-    bytes.len() <= TEXT && !has_line_break(bytes)
+    bytes.len() <= LONGEST_TEXT && !has_line_break(bytes)
 }
 
 fn has_line_break(bytes: &[u8]) -> bool

@@ -4,11 +4,11 @@ ghost use Rattle.std.specs.List.{list_any};
 ghost use Rattle.values.specs.Memory.{OnlyMemory};
 ghost use Rattle.values.specs.Fit.{is_line_break, longest_text, fits_text};
 ghost use Rattle.values.specs.RowEncoding.{value_bytes, bytes_of_row, IsStored, IsStoredRow, StandsIn, NoRowAt};
-ghost use Rattle.values.specs.RowReading.{Takes, int_from, is_stored_text, text_of, text_from, tagged_from, value_from, values_from, row_from};
+ghost use Rattle.values.specs.RowReading.{Parses, int_from, is_stored_text, text_of, text_from, tagged_from, value_from, values_from, row_from};
 
 use crate::chars::Chars;
 use crate::refusal::Mem;
-use crate::row::{Row, WIDTH, fits_text};
+use crate::row::{Row, WIDEST, fits_text};
 use crate::value::Value;
 use std::alloc::{AllocError, Global};
 
@@ -55,7 +55,7 @@ fn push_text(bytes: &mut Vec<u8>, text: &[u8]) -> Result<(), AllocError>
 
 #[tactic(auto, unfolding(crate::specs::RowReading::int_from))]
 fn int_from(bytes: &[u8]) -> Option<(Value, &[u8])>
-    ensures { Takes (λ value. value) result (int_from bytes.now) }
+    ensures { Parses (λ value. value) result (int_from bytes.now) }
 {
     let (number, rest) = bytes.split_first_chunk::<8>()?;
     Some((Value::Int(i64::from_be_bytes(*number)), rest))
@@ -64,7 +64,7 @@ fn int_from(bytes: &[u8]) -> Option<(Value, &[u8])>
 /// The text of so many bytes.
 #[tactic(auto, unfolding(crate::specs::RowReading::text_of))]
 fn text_of(alloc: Global, n: usize, bytes: &[u8]) -> Result<Option<(Value, &[u8])>, AllocError>
-    ensures { IfOk result (λ taken. Takes (λ value. value) taken (text_of n bytes.now)) }
+    ensures { IfOk result (λ parsed. Parses (λ value. value) parsed (text_of n bytes.now)) }
 {
     if bytes.len() < n {
         return Ok(None);
@@ -96,7 +96,7 @@ fn stored_text(bytes: &[u8]) -> Option<&str>
 
 #[tactic(auto, unfolding(crate::specs::RowReading::text_from))]
 fn text_from(alloc: Global, bytes: &[u8]) -> Result<Option<(Value, &[u8])>, AllocError>
-    ensures { IfOk result (λ taken. Takes (λ value. value) taken (text_from bytes.now)) }
+    ensures { IfOk result (λ parsed. Parses (λ value. value) parsed (text_from bytes.now)) }
 {
     match bytes.split_first_chunk::<2>() {
         None => Ok(None),
@@ -106,7 +106,7 @@ fn text_from(alloc: Global, bytes: &[u8]) -> Result<Option<(Value, &[u8])>, Allo
 
 #[tactic(auto, unfolding(crate::specs::RowReading::tagged_from))]
 fn tagged_from(alloc: Global, tag: u8, bytes: &[u8]) -> Result<Option<(Value, &[u8])>, AllocError>
-    ensures { IfOk result (λ taken. Takes (λ value. value) taken (tagged_from tag bytes.now)) }
+    ensures { IfOk result (λ parsed. Parses (λ value. value) parsed (tagged_from tag bytes.now)) }
 {
     match tag {
         0 => Ok(Some((Value::Null, bytes))),
@@ -119,7 +119,7 @@ fn tagged_from(alloc: Global, tag: u8, bytes: &[u8]) -> Result<Option<(Value, &[
 }
 
 fn value_from(alloc: Global, bytes: &[u8]) -> Result<Option<(Value, &[u8])>, AllocError>
-    ensures { IfOk result (λ taken. Takes (λ value. value) taken (value_from bytes.now)) }
+    ensures { IfOk result (λ parsed. Parses (λ value. value) parsed (value_from bytes.now)) }
 {
     match bytes {
         [tag, rest @ ..] => tagged_from(alloc, *tag, rest),
@@ -132,7 +132,7 @@ fn values_from(
     n: u8,
     bytes: &[u8],
 ) -> Result<Option<(Vec<Value>, &[u8])>, AllocError>
-    ensures { IfOk result (λ taken. Takes (λ v. v.items) taken (values_from n bytes.now)) }
+    ensures { IfOk result (λ parsed. Parses (λ v. v.items) parsed (values_from n bytes.now)) }
 {
     let mut values = Vec::new(alloc);
     let mut rest = bytes;
@@ -164,7 +164,7 @@ fn row_from(alloc: Global, bytes: &[u8]) -> Result<Option<(Row, usize)>, AllocEr
     let [n, rest @ ..] = bytes else {
         return Ok(None);
     };
-    if *n < 1 || *n as usize > WIDTH {
+    if *n < 1 || *n as usize > WIDEST {
         return Ok(None);
     }
     let Some((values, left)) = values_from(alloc, *n, rest)? else {

@@ -1,5 +1,6 @@
-ghost use Rattle.std.specs.Prelude.{◌≡◌, IfOk};
+ghost use Rattle.std.specs.Prelude.{◌≡◌, All, IfOk};
 ghost use Rattle.values.specs.Memory.{OnlyMemory};
+ghost use Rattle.values.specs.RowEncoding.{IsHeld};
 
 use crate::chars::Chars;
 use crate::refusal::Mem;
@@ -139,4 +140,28 @@ impl Eq for Values {
     ghost use Rattle.values.specs.OrderLaw.{value_cmp_total};
 
     ghost laws = { eq_by_cmp_equiv (lists_total value_cmp_total) };
+}
+
+/// Reads each value: what was read is a number of 64 bits, or a text of characters. No other clause says so of values that are lent.
+pub fn read_values(values: &[Value])
+    ensures { All IsHeld values.now }
+{
+    for value in values {
+        read_value(value);
+    }
+}
+
+fn read_value(value: &Value)
+    ensures { IsHeld value.now }
+{
+    match value {
+        Value::Int(number) => {
+            let _number = *number;
+        }
+        Value::Text(text) => {
+            let _utf8 = text.text();
+        }
+        Value::Bool(_) => {}
+        Value::Null => {}
+    }
 }

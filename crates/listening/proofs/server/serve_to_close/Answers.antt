@@ -1,7 +1,7 @@
 use Rattle.std.specs.Prelude.{◌≡◌, Some}
 use Rattle.std.proofs.lemmas.List.Elements.{All-map}
 use Rattle.journal.specs.Entries.{entry_at}
-use Rattle.serving.specs.Taken.{Given}
+use Rattle.serving.specs.Progress.{Given}
 use Rattle.listening.proofs.server.serve_to_close.Goals as goal
 
 pub returns-in-Ok-listen-clause-ok : goal.returns-in-Ok-listen-clause-ok

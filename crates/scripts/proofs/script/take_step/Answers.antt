@@ -1,5 +1,5 @@
 use Rattle.std.proofs.Common.{refl}
-use Rattle.scripts.proofs.ScriptAnswered.{Stepped, puts_ok, puts_err, step_answered, step_broken}
+use Rattle.scripts.proofs.ScriptAnswered.{Stepped, prints_ok, prints_err, step_answered, step_broken}
 use Rattle.scripts.proofs.script.take_step.Goals as goal
 
 pub returns-clause-ok : goal.returns-clause-ok
@@ -11,7 +11,7 @@ returns-clause-ok g c =
       schema_stays = c.step-reply.ensures.schema;
       reading_stays = refl;
     } in
-    puts_ok _ _ _ _ c.print_reply.ensures (λ wrote schema p at. step_answered _ _ _ _ schema p _ _ so at c.requires wrote)
+    prints_ok _ _ _ _ c.print_reply.ensures (λ wrote schema p at. step_answered _ _ _ _ schema p _ _ so at c.requires wrote)
 
 pub returns-clause-err : goal.returns-clause-err
 returns-clause-err g c =
@@ -22,4 +22,4 @@ returns-clause-err g c =
       schema_stays = c.step-reply.ensures.schema;
       reading_stays = refl;
     } in
-    puts_err _ _ _ _ c.print_reply.ensures (λ wrote schema p at. step_broken _ _ _ _ schema p _ _ so at c.requires wrote)
+    prints_err _ _ _ _ c.print_reply.ensures (λ wrote schema p at. step_broken _ _ _ _ schema p _ _ so at c.requires wrote)

@@ -3,12 +3,12 @@ use Rattle.std.specs.Option.{is_some}
 use Rattle.histories.specs.declared.step.Step.TheVariants.{Select}
 use Rattle.sessions.specs.SessionState.{SessionState}
 use Rattle.serving.specs.Serving.{IsStepped}
-use Rattle.serving.proofs.StepOpening.{query_stepped, alone_stepped, is_running, not_open}
+use Rattle.serving.proofs.StepOpening.{query_stepped, alone_stepped, is_open, not_open}
 use Rattle.serving.proofs.read.take_query.Goals as goal
 
 pub returns-then-is_some : goal.returns-then-is_some
 returns-then-is_some g c =
-    let t = is_running c.args.session.now (ap is_some (sym c.start.ensures) ∙ sym c.is_some.ensures ∙ c.if-is_some.true) in
+    let t = is_open c.args.session.now (ap is_some (sym c.start.ensures) ∙ sym c.is_some.ensures ∙ c.if-is_some.true) in
     subst (λ (s : SessionState). IsStepped (Select c.args.session.now.number c.args.form c.args.keys.now) c.args.session.now s (record { given = None; install = None; sent = c.sent_listing.result })) (sym c.select.ensures.same)
     (query_stepped c.args.session.now c.args.form c.args.keys.now c.sent_listing.result t.0 t.1 (c.select.result, (c.select.ensures.answer, c.sent_listing.ensures)))
 

@@ -5,7 +5,7 @@ use Rattle.values.specs.Events.{put_event}
 use Rattle.treenodes.specs.Node.{TreeNode, IsAt}
 use Rattle.treenodes.specs.Tree.{IsTree}
 use Rattle.treenodes.specs.Map.{HoldsMap, changes}
-use Rattle.treenodes.specs.Event.{Takes, with_put}
+use Rattle.treenodes.specs.Event.{AcceptsEvent, with_put}
 use Rattle.treenodes.proofs.NodeNumbers.{one_at}
 use Rattle.treenodes.proofs.ReplacementParents.{weaker}
 use Rattle.treenodes.proofs.EventTaken.{takes_next, tree_next, holds_next}
@@ -16,7 +16,7 @@ with_event-requires-clause-inside c = slice_get_within c.args.nodes c.args.numbe
 
 pub with_event-requires-clause-can : goal.with_event-requires-clause-can
 with_event-requires-clause-can c = λ d.
-    subst (λ (n : TreeNode). Takes n c.args.event) (sym (get_or_from_slice_get c.args.nodes c.args.number c.requires.leaf.leaf.node d c.requires.leaf.leaf.there))
+    subst (λ (n : TreeNode). AcceptsEvent n c.args.event) (sym (get_or_from_slice_get c.args.nodes c.args.number c.requires.leaf.leaf.node d c.requires.leaf.leaf.there))
     (takes_next c.args.nodes (changes c.args.nodes) c.requires.tree c.requires.holds c.args.event c.requires.next c.args.number c.requires.leaf)
 
 -- the nodes with the event, whatever stands at the number
@@ -45,7 +45,7 @@ returns-clause-taken c = made c
 pub returns-clause-accepted : goal.returns-clause-accepted
 returns-clause-accepted c = λ n at.
     let leaf = c.requires.leaf.leaf in
-    weaker c.with_event.result (λ s. s ≡ set c.args.nodes c.args.number (with_put n c.args.event)) (λ s. Takes n c.args.event)
-    (λ s is. subst (λ (n : TreeNode). Takes n c.args.event) (one_at c.args.nodes c.args.number leaf.node n leaf.there at)
+    weaker c.with_event.result (λ s. s ≡ set c.args.nodes c.args.number (with_put n c.args.event)) (λ s. AcceptsEvent n c.args.event)
+    (λ s is. subst (λ (n : TreeNode). AcceptsEvent n c.args.event) (one_at c.args.nodes c.args.number leaf.node n leaf.there at)
     (takes_next c.args.nodes (changes c.args.nodes) c.requires.tree c.requires.holds c.args.event c.requires.next c.args.number c.requires.leaf))
     (made c n at)

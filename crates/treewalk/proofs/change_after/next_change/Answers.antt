@@ -6,8 +6,8 @@ use Rattle.treewalk.proofs.ChangeAfterShown.{next_leaf, ends_above, here, nowher
 use Rattle.treewalk.proofs.ListingRead.{in_time}
 use Rattle.treewalk.proofs.change_after.next_change.Goals as goal
 
-pub returns-then-after-ge-LAST : goal.returns-then-after-ge-LAST
-returns-then-after-ge-LAST c m holds = none_late m c.args.key.now c.args.after 999999999999999999 (λ x i. (in_time c.args.nodes.now c.requires m holds x i).1) c.if-after-ge-LAST.true
+pub returns-then-after-ge-MAX_INSTANT : goal.returns-then-after-ge-MAX_INSTANT
+returns-then-after-ge-MAX_INSTANT c m holds = none_late m c.args.key.now c.args.after 999999999999999999 (λ x i. (in_time c.args.nodes.now c.requires m holds x i).1) c.if-after-ge-MAX_INSTANT.true
 
 pub returns-then-is_some : goal.returns-then-is_some
 returns-then-is_some c m holds =

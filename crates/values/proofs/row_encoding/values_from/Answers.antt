@@ -1,6 +1,6 @@
 use Rattle.std.proofs.Common.{◌≡◌, ◌<◌, ◌-◌, ◌+◌, ◌++◌, ◌∷◌, [], sym, ap, ◌∙◌, arith, rules}
 use Rattle.values.specs.RowReading.{after, values_from}
-use Rattle.values.proofs.RowReadingTaken.{values_none, values_more}
+use Rattle.values.proofs.RowReadingParsed.{values_none, values_more}
 use Rattle.values.proofs.row_encoding.values_from.Goals as goal
 
 pub returns-in-None : goal.returns-in-None

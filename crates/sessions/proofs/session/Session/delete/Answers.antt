@@ -1,5 +1,5 @@
 use Rattle.std.proofs.Common.{sym, ap, ◌∙◌, Some}
-use Rattle.sessions.specs.SessionState.{RunningState}
+use Rattle.sessions.specs.SessionState.{SessionTransactionState}
 use Rattle.sessions.proofs.SessionWriting.{same_writes, with_new, written_is}
 use Rattle.sessions.proofs.session.Session.delete.Goals as goal
 
@@ -8,10 +8,10 @@ returns-in-Some-clause-rest c = same_writes c.args.self.now
 
 pub invariant_of-self-2 : goal.invariant_of-self-2
 invariant_of-self-2 c =
-    written_is c.self.inside.number c.self.inside.schema c.self.inside.receipt c.self.inside.running c.running.inside.begun c.running.inside.transaction c.delete.new.self (c.in-Some-running.is ∙ ap (λ (t : RunningState). Some t) (sym c.running.view_is)) c.delete.ensures.view
+    written_is c.self.inside.number c.self.inside.schema c.self.inside.receipt c.self.inside.transaction c.own.inside.begun c.own.inside.transaction c.delete.new.self (c.in-Some-transaction.is ∙ ap (λ (t : SessionTransactionState). Some t) (sym c.own.view_is)) c.delete.ensures.view
     c.in-Some-table_at.table.now c.args.keys.now.table c.self.invariant c.in-Some-table_at.ensures.is c.in-Some-table_at.ensures.good c.delete.ensures.keys
 
 pub returns-clause-rest : goal.returns-clause-rest
 returns-clause-rest c =
-    with_new c.self.inside.number c.self.inside.schema c.self.inside.receipt c.self.inside.running c.running.inside.begun c.running.inside.transaction c.delete.new.self (c.in-Some-running.is ∙ ap (λ (t : RunningState). Some t) (sym c.running.view_is)) c.delete.ensures.view
+    with_new c.self.inside.number c.self.inside.schema c.self.inside.receipt c.self.inside.transaction c.own.inside.begun c.own.inside.transaction c.delete.new.self (c.in-Some-transaction.is ∙ ap (λ (t : SessionTransactionState). Some t) (sym c.own.view_is)) c.delete.ensures.view
     c.args.self.now c.self.view_is

@@ -4,13 +4,13 @@ use Rattle.values.specs.Tables.{Schema}
 use Rattle.values.specs.Events.{AreKeysIn}
 use Rattle.staging.specs.View.{Holds}
 use Rattle.staging.specs.Own.{net_over}
-use Rattle.transaction.specs.TransactionState.{TransactionState}
+use Rattle.transaction.specs.OpenTransactionState.{OpenTransactionState}
 use Rattle.transaction.proofs.open_transaction.OpenTransaction.net.Goals as goal
 
 pub returns-clause-ok : goal.returns-clause-ok
 returns-clause-ok c =
-    subst (λ (t : TransactionState). IfOk c.net.result (λ net. (schema : Schema) (m : Changes) → Holds schema t.view m → AreKeysIn schema t.writes → net ≡ net_over m t.writes)) c.self.view_is c.net.ensures.ok
+    subst (λ (t : OpenTransactionState). IfOk c.net.result (λ net. (schema : Schema) (m : Changes) → Holds schema t.view m → AreKeysIn schema t.writes → net ≡ net_over m t.writes)) c.self.view_is c.net.ensures.ok
 
 pub returns-clause-keys : goal.returns-clause-keys
 returns-clause-keys c =
-    subst (λ (t : TransactionState). IfOk c.net.result (λ net. (schema : Schema) → AreKeysIn schema t.writes → AreKeysIn schema net)) c.self.view_is c.net.ensures.keys
+    subst (λ (t : OpenTransactionState). IfOk c.net.result (λ net. (schema : Schema) → AreKeysIn schema t.writes → AreKeysIn schema net)) c.self.view_is c.net.ensures.keys

@@ -1,8 +1,0 @@
--- What contracts see of an open transaction.
-use Rattle.values.specs.Log.{Net}
-use Rattle.tsbtree.specs.View.{TreeState}
-
--- what it sees of what was committed, and its own writes
-pub record TransactionState : Type 0 where
-  pub view : TreeState
-  pub writes : Net
