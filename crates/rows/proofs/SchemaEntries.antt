@@ -3,10 +3,9 @@ use Rattle.std.proofs.Common.{◌≡◌, ℕ, ◌+◌, ◌≤◌, ◌==◌, ◌&
 use Rattle.std.specs.Prelude.{not, filter, nat_le}
 use Rattle.std.specs.List.{list_any, list_all, filter_map, flat_map, cons_option, position_from, count_by}
 use Rattle.std.specs.Option.{unwrap_or}
-use Rattle.std.specs.Char.{to_ascii_lowercase, eq_ignore_ascii_case}
+use Rattle.std.specs.Char.{to_ascii_lowercase}
 use Rattle.std.proofs.lemmas.Bool.{and_parts, and_from}
 use Rattle.std.proofs.lemmas.Bool.Decides.{nat_tests}
-use Rattle.std.proofs.lemmas.List.{length-map}
 use Rattle.std.proofs.lemmas.List.Sums.{sum_by-cons}
 use Rattle.values.specs.declared.table.ColumnType.{ColumnType}
 use Rattle.values.specs.declared.table.ColumnType.TheVariants.{Int, Text, Varchar, Boolean}
@@ -20,7 +19,8 @@ use Rattle.rows.specs.declared.declaration.GeneratedColumn.{GeneratedColumn}
 use Rattle.rows.specs.declared.declaration.PeriodNames.{PeriodNames}
 use Rattle.rows.specs.declared.declaration.Entry.{Entry}
 use Rattle.rows.specs.declared.declaration.Entry.TheVariants.{User, Generated, Period, Key}
-use Rattle.values.specs.Names.{same_name, same_letters}
+use Rattle.std.specs.Cmp.Lexicographic.{bytes_decides}
+use Rattle.values.specs.Names.{same_name}
 use Rattle.rows.specs.SchemaTable.{is_not_null, is_primary_key, same_side, user_column, column_name, side_name, period_names, keys_in, is_good_type, is_good_precision, is_good_entry, are_distinct, only, number_in}
 use Rattle.rows.specs.GoodTable.{Each, IsElement, IsTheOne, NoTwo, SameName, is_user, IsGenerated, IsPeriod, GivesKeys, GivesOneKey, Declares, ShareAName, HasUserColumn, IsColumnOf, IsNumberOf, AreColumnsOf, AreNumbersOf, TypeIsGood, DigitsAreGood, EntryIsGood}
 use Rattle.rows.proofs.SchemaPlaces.{each_placed, each_at, each_to, Apart, apart_no_two, no_two_apart, one_same, only_is, flat_of, Tells, none_given, none_stands, one_stands, one_given}
@@ -60,34 +60,10 @@ abbrev lower : List ℕ → List ℕ
 lower name = map to_ascii_lowercase name
 
 pub same_to : (x y : List ℕ) → same_name x y ≡ true → SameName x y
-same_to x y e = let p = and_parts (length x == length y) (same_letters x y) e in letters x y (equal (length x) (length y) p.0) p.1
-  where
-    letters : (x y : List ℕ) → length x ≡ length y → same_letters x y ≡ true → SameName x y
-    letters [] [] l e = refl
-    letters [] (b ∷ y) l e = absurd (omega arith)
-    letters (a ∷ x) [] l e = absurd (omega arith)
-    letters (a ∷ x) (b ∷ y) l e =
-        let p = and_parts (eq_ignore_ascii_case a b) (same_letters x y) e in
-        ap (λ n. n ∷ lower x) (equal (to_ascii_lowercase a) (to_ascii_lowercase b) p.0) ∙ ap (λ r. to_ascii_lowercase b ∷ r) (letters x y (omega arith) p.1)
+same_to x y e = (bytes_decides (lower x) (lower y)).0 e
 
 pub same_from : (x y : List ℕ) → SameName x y → same_name x y ≡ true
-same_from x y e =
-    and_from (length x == length y) (same_letters x y)
-    (same_number (length x) (length y) (omega (arith, ap length e, length-map x to_ascii_lowercase, length-map y to_ascii_lowercase))) (letters x y e)
-  where
-    first : List ℕ → ℕ
-    first [] = 0
-    first (a ∷ x) = a
-
-    others : List ℕ → List ℕ
-    others [] = []
-    others (a ∷ x) = x
-
-    letters : (x y : List ℕ) → SameName x y → same_letters x y ≡ true
-    letters [] y e = refl
-    letters (a ∷ x) [] e = refl
-    letters (a ∷ x) (b ∷ y) e =
-        and_from (eq_ignore_ascii_case a b) (same_letters x y) (same_number (to_ascii_lowercase a) (to_ascii_lowercase b) (ap first e)) (letters x y (ap others e))
+same_from x y e = (bytes_decides (lower x) (lower y)).1 e
 
 -- a test that none passes
 module _ {A : Type 0} (p : A → Bool) (P : A → Type 0) where

@@ -403,7 +403,7 @@ fn more_at(bytes: &[u8]) -> Read<'_, bool>
     Ok((!is_end_at(rest), rest))
 }
 
-/// The statements of a whole text.
+/// Reads the statements of a whole text.
 #[tactic(auto, unfolding(crate::specs::Declaration::creates_at))]
 pub fn creates_at(alloc: Global, bytes: &[u8]) -> Made<'_, Sequence<Declaration>>
     ensures { Makes result (creates_at bytes.now) }

@@ -1,11 +1,9 @@
-//! Tables and the texts that declare them. The types and calls of `values` are offered under this name too.
+//! The texts that declare tables. The types and calls of `values` are offered under this name too.
 #![tactic(auto)]
 
 mod declaration;
 mod good_table;
 mod sample;
-mod schema;
-mod schema_copy;
 mod schema_grammar;
 mod schema_reading;
 mod schema_table;
@@ -13,12 +11,11 @@ mod schema_token;
 
 pub use good_table::good_tables_are_made;
 pub use sample::sample_is_a_schema;
-pub use schema::Schema;
 pub use schema_grammar::{faults_are_final, schemas_are_of_the_grammar, the_grammar_is_read};
-pub use schema_reading::{LONGEST_SCHEMA, SAMPLE, SchemaFault};
+pub use schema_reading::{LONGEST_SCHEMA, ReadSchema, SAMPLE, SchemaFault};
 pub use values::{
     Chars, Column, ColumnNumber, ColumnType, Comparison, Event, Form, Instant, Key, KeyBytes, Keys,
-    MAX_INSTANT, Mem, Net, Operator, Point, Refusal, Row, Rows, Sequence, Set, Sets, SharedEvent,
-    Shown, ShownRows, Table, Transaction, Value, Values, key_bytes, read_key, read_row, row_bytes,
-    same_name,
+    MAX_INSTANT, Mem, Net, Operator, Point, Refusal, Row, Rows, Schema, Sequence, Set, Sets,
+    SharedEvent, Shown, ShownRows, Table, Transaction, Value, Values, key_bytes, read_key,
+    read_row, row_bytes, same_name,
 };

@@ -4,10 +4,10 @@ ghost use Rattle.std.specs.Prelude.{[]};
 ghost use Rattle.rows.specs.SchemaTable.{tables_from, read_schema, IsOrMemory};
 
 use crate::declaration::{Declaration, creates_at};
-use crate::schema::Schema;
 use crate::schema_table::next_table;
 use std::alloc::{AllocError, AllocFailed, Global};
 use tokens::Stop;
+use values::Schema;
 
 /// The bytes that a schema's text may have.
 pub const LONGEST_SCHEMA: usize = 65_536;
@@ -26,7 +26,8 @@ pub const SAMPLE: &str = "CREATE TABLE emp (
 /// Why a text is no schema.
 #[derive(Debug, PartialEq, Eq, Drop)]
 pub enum SchemaFault {
-    /// The text is not of the grammar: the offset, from 0, of the first unexpected token, or the text's length where it ends too early; 65,536 where it is longer.
+    /// The text is not of the grammar: the offset, from 0, of the first unexpected token, or the text's
+    /// length where it ends too early; 65,536 where it is longer.
     Syntax(usize),
     /// The number, from 1, of the first table that breaks a rule of tables.
     BadTable(usize),
@@ -55,12 +56,17 @@ impl<T: Drop> From<AllocFailed<T>> for SchemaFault {
     }
 }
 
-impl Schema {
-    /// Reads CREATE TABLE statements. A text of over 65,536 bytes is a fault of syntax at that byte, and syntax is looked for in the whole text before any table is.
+/// Makes schemas of texts: `Schema::read`.
+pub trait ReadSchema {
+    /// Reads CREATE TABLE statements. A text of over 65,536 bytes is a fault of syntax at that byte,
+    /// and syntax is looked for in the whole text before any table is.
+    fn read(alloc: Global, text: &[u8]) -> Result<Schema, SchemaFault>
+        ensures { IsOrMemory result (read_schema text.now) };
+}
+
+impl ReadSchema for Schema {
     #[tactic(auto, unfolding(crate::specs::SchemaTable::read_schema))]
-    pub fn read(alloc: Global, text: &[u8]) -> Result<Schema, SchemaFault>
-        ensures { IsOrMemory result (read_schema text.now) }
-    {
+    fn read(alloc: Global, text: &[u8]) -> Result<Schema, SchemaFault> {
         if text.len() > LONGEST_SCHEMA {
             return Err(SchemaFault::Syntax(LONGEST_SCHEMA));
         }
@@ -82,5 +88,5 @@ fn tables_of(alloc: Global, declarations: &[Declaration]) -> Result<Schema, Sche
             None => return Err(SchemaFault::BadTable(tables.len() + 1)),
         }
     }
-    Ok(Schema::of(tables))
+    Ok(Schema::new(tables))
 }

@@ -356,7 +356,7 @@ fn has_table(tables: &[Table], name: &Chars) -> bool
     tables.iter().any(|table| same_name(table.name.text().as_bytes(), name.text().as_bytes()))
 }
 
-/// The table after these.
+/// Makes the table after these, where the declaration makes a good one.
 #[tactic(auto, unfolding(crate::specs::SchemaTable::next_table))]
 pub fn next_table(
     alloc: Global,

@@ -50,7 +50,7 @@ fn chars_of(alloc: Global, bytes: &[u8]) -> Result<Chars, AllocError>
     }
 }
 
-/// A name that is kept.
+/// Reads a name that is kept.
 pub fn chars_at(alloc: Global, bytes: &[u8]) -> Made<'_, Chars>
     ensures { Makes result (name_at bytes.now) }
 {
@@ -69,6 +69,7 @@ fn number_of(digits: &[u8]) -> u16
     n
 }
 
+/// Reads the number that digits write; 65,535 for all that are greater.
 #[tactic(auto, unfolding(crate::specs::SchemaToken::digits_at))]
 pub fn digits_at(bytes: &[u8]) -> Read<'_, u16>
     ensures { Gives result (digits_at bytes.now) }

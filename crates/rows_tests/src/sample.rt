@@ -1,6 +1,6 @@
 //! Schemas and values that the tests share. The run ends where memory does.
 
-use rows::Schema;
+use rows::{ReadSchema, Schema};
 use std::alloc::Global;
 use std::process::Abort;
 use values::{Chars, KeyBytes, Value};

@@ -1,7 +1,7 @@
 //! Texts of schemas, and the faults that they are refused for.
 
 use crate::sample::schema;
-use rows::{Column, ColumnNumber, ColumnType, SAMPLE, Schema, SchemaFault, Table};
+use rows::{Column, ColumnNumber, ColumnType, ReadSchema, SAMPLE, Schema, SchemaFault, Table};
 use std::alloc::Global;
 use std::process::Abort;
 

@@ -1,5 +1,5 @@
 use histories::Step;
-use rows::Schema;
+use rows::{ReadSchema, Schema};
 use statement::{Line, read_line};
 use std::alloc::Global;
 use std::fmt::Write;

@@ -1,6 +1,6 @@
 //! Files of CSV.
 use interchange::load_rows;
-use rows::Schema;
+use rows::{ReadSchema, Schema};
 use std::alloc::Global;
 use std::process::Abort;
 use values::{Refusal, Row, Table, Value};

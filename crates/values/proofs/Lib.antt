@@ -10,6 +10,8 @@ pub mod OrderTotal
 pub mod RowFits
 pub mod RowKeys
 pub mod RowReads
+pub mod SchemaEqual
+pub mod TablePlaces
 pub mod VersionsShow
 pub mod OrderSorted
 pub mod LogStates

@@ -1,4 +1,5 @@
 pub mod Commits
+pub mod Equality
 pub mod Event
 pub mod EventOrder
 pub mod Events

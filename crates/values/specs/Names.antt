@@ -1,18 +1,14 @@
 -- Names of tables and columns, which are compared without regard to case.
-use Rattle.std.specs.Prelude.{ℕ, ◌==◌, length, List, ◌∷◌, Bool, true, ◌&&◌, Option, find}
+use Rattle.std.specs.Prelude.{ℕ, List, Bool, Option, find}
 use Rattle.std.specs.List.{position_from}
 use Rattle.std.specs.Option.{option_map}
-use Rattle.std.specs.Char.{eq_ignore_ascii_case}
+use Rattle.std.specs.Str.{str_eq_ignore_ascii_case}
 use Rattle.values.specs.declared.table.Table.{Table}
 use Rattle.values.specs.Tables.{Schema}
 
--- letter by letter, as far as both go
-abbrev pub same_letters : List ℕ → List ℕ → Bool
-same_letters (a ∷ x) (b ∷ y) = eq_ignore_ascii_case a b && same_letters x y
-same_letters _ _ = true
-
+-- the same letters, in any case
 abbrev pub same_name : List ℕ → List ℕ → Bool
-same_name x y = (length x == length y) && same_letters x y
+same_name x y = str_eq_ignore_ascii_case x y
 
 -- the number of the first table with the name
 abbrev pub table_number : Schema → List ℕ → Option ℕ

@@ -1,6 +1,7 @@
--- The table where none is declared: employees, by number.
+-- The table and the schema where none is declared: employees, by number.
 use Rattle.std.specs.Prelude.{[], ◌∷◌, codes, false}
 use Rattle.values.specs.declared.table.Table.{Table}
+use Rattle.values.specs.Tables.{Schema}
 use Rattle.values.specs.declared.table.ColumnType.TheVariants.{Int as IsInt, Text as IsText}
 
 abbrev pub sample_table : Table
@@ -14,3 +15,6 @@ sample_table = record {
   row_start = codes "sys_start";
   row_end = codes "sys_end";
 }
+
+abbrev pub sample : Schema
+sample = record { tables = sample_table ∷ [] }

@@ -1,3 +1,4 @@
+//! Texts as contracts see them: lists of bytes.
 ghost use Rattle.std.specs.Prelude.{◌≡◌, IfOk};
 ghost use Rattle.std.specs.String.{string_bytes};
 ghost use Rattle.values.specs.Memory.{OnlyMemory};
@@ -23,13 +24,14 @@ impl Model for Chars {
 }
 
 impl Chars {
+    /// Makes the characters of a text, without copying it.
     pub fn new(text: String) -> Chars
         ensures { result ≡ string_bytes text }
     {
         Chars { text }
     }
 
-    /// A copy of a text.
+    /// Copies a text.
     pub fn copy_of(alloc: Global, text: &str) -> Mem<Chars>
         ensures ok { IfOk result (λ c. c ≡ text.now) }
         ensures err { OnlyMemory result }
@@ -37,6 +39,7 @@ impl Chars {
         Ok(Chars::new(String::from_str(alloc, text)?))
     }
 
+    /// Returns the text.
     pub fn text(&self) -> &str
         ensures { result.now ≡ self.now }
     {

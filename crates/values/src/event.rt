@@ -11,7 +11,8 @@ use std::cmp::Ordering;
 use std::marker::Model;
 use std::sync::Arc;
 
-/// What a key has from an instant on: a row, or none where its row was deleted. Its key is not empty.
+/// What a key has from an instant on: a row, or none where its row was deleted. Its key is not
+/// empty.
 #[derive(Drop)]
 pub struct Event {
     key: KeyBytes,
@@ -33,7 +34,7 @@ impl Model for Event {
 impl Event {
     ghost use Rattle.values.specs.Events.{event_cmp};
 
-    /// None where the key is empty.
+    /// Makes an event; none where the key is empty.
     pub fn new(key: KeyBytes, at: Instant, row: Option<Row>) -> Option<Event>
         ensures { result ≡ (if nat_lt 0 (length key)
             then Some (record { key = key; at = at; row = row }) else None) }
@@ -45,6 +46,7 @@ impl Event {
         }
     }
 
+    /// Returns the bytes of the key.
     pub fn key(&self) -> &KeyBytes
         ensures is { result.now ≡ self.now.key }
         ensures some { 0 < length result.now }
@@ -52,26 +54,28 @@ impl Event {
         &self.key
     }
 
+    /// Returns the instant.
     pub fn at(&self) -> Instant
         ensures { result ≡ self.now.at }
     {
         self.at
     }
 
+    /// Returns the row; none where it was deleted.
     pub fn row(&self) -> Option<&Row>
         ensures { option_copied result ≡ self.now.row }
     {
         self.row.as_ref()
     }
 
-    /// By key, and then by instant.
+    /// Compares by key, and then by instant.
     pub fn order(&self, other: &Event) -> Ordering
         ensures { result ≡ event_cmp self.now other.now }
     {
         self.key.cmp(&other.key).then(self.at.cmp(&other.at))
     }
 
-    /// An equal event, whose key and row are copies.
+    /// Copies the event, with its key and its row.
     pub fn copy(&self) -> Mem<Event>
         ensures ok { IfOk result (λ e. e ≡ self.now) }
         ensures err { OnlyMemory result }
@@ -100,6 +104,7 @@ impl Model for SharedEvent {
 }
 
 impl SharedEvent {
+    /// Makes an event that can be shared.
     pub fn new(alloc: Global, event: Event) -> Mem<SharedEvent>
         ensures ok { IfOk result (λ s. s ≡ event) }
         ensures err { OnlyMemory result }
@@ -108,7 +113,7 @@ impl SharedEvent {
         Ok(SharedEvent { event })
     }
 
-    /// The same event, of which no key and no row is copied.
+    /// Shares the event, without copying its key or its row.
     pub fn share(&self) -> Mem<SharedEvent>
         ensures ok { IfOk result (λ s. s ≡ self.now) }
         ensures err { OnlyMemory result }
@@ -117,6 +122,7 @@ impl SharedEvent {
         Ok(SharedEvent { event })
     }
 
+    /// Returns the event.
     pub fn event(&self) -> &Event
         ensures { result.now ≡ self.now }
     {

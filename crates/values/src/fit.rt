@@ -1,3 +1,4 @@
+//! Whether rows, keys, comparisons and new values fit a table.
 ghost use Rattle.std.specs.Prelude.{◌≡◌, ◌==◌, length, [], option_copied};
 ghost use Rattle.std.specs.List.{list_any};
 ghost use Rattle.values.specs.Tables.{column_at, is_key_column};
@@ -91,7 +92,7 @@ fn no_fault(fault: Option<usize>) -> Result<(), Refusal>
 }
 
 impl Table {
-    /// A user column.
+    /// Returns a user column.
     pub fn column_at(&self, number: ColumnNumber) -> Option<&Column>
         ensures { option_copied result ≡ column_at self.now number }
     {
@@ -101,14 +102,15 @@ impl Table {
         self.columns.items().get(number - 1)
     }
 
-    /// Whether a column is one of the key's.
+    /// Tells whether a column is one of the key's.
     pub fn is_key_column(&self, number: ColumnNumber) -> bool
         ensures { result ≡ is_key_column self.now number }
     {
         self.key.items().iter().any(|column| *column == number)
     }
 
-    /// Refuses the values of a row that does not fit by the number of its first column that does not, or by 0 for its width, which comes first.
+    /// Refuses the values of a row that does not fit by the number of its first column that does not,
+    /// or by 0 for its width, which comes first.
     pub fn check_row(&self, values: &[Value]) -> Result<(), Refusal>
         ensures { result ≡ no_fault (row_fault self.now values.now) }
     {
@@ -137,7 +139,8 @@ impl Table {
         no_fault(self.parts_fault(self.key.items(), parts))
     }
 
-    /// Refuses comparisons by the first that names no column (0), one outside the key, or a value that it cannot be compared with.
+    /// Refuses comparisons by the first that names no column (0), one outside the key, or a value that
+    /// it cannot be compared with.
     pub fn check_comparisons(&self, comparisons: &[Comparison]) -> Result<(), Refusal>
         ensures { result ≡ no_fault (comparisons_fault self.now comparisons.now) }
     {
@@ -149,7 +152,8 @@ impl Table {
         Ok(())
     }
 
-    /// Refuses what an UPDATE sets by the first entry that names no column or one twice (0), a key column, or a value that does not fit.
+    /// Refuses what an UPDATE sets by the first entry that names no column or one twice (0), a key
+    /// column, or a value that does not fit.
     pub fn check_sets(&self, sets: &[Set]) -> Result<(), Refusal>
         ensures { result ≡ no_fault (sets_fault self.now [] sets.now) }
     {

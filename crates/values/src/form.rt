@@ -6,7 +6,8 @@ use crate::key::Instant;
 use crate::query::Form;
 
 impl Form {
-    /// Whether it selects a version of this period, which has no end where none has come (ISO/IEC 9075-2:2011, 7.6).
+    /// Tells whether it selects a version of this period, which has no end where none has come
+    /// (ISO/IEC 9075-2:2011, 7.6).
     pub fn selects(self, from: Instant, to: Option<Instant>) -> bool
         ensures { result ≡ selects self from to }
     {

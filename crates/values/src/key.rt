@@ -1,3 +1,4 @@
+//! Keys, points, and what was committed at an instant.
 ghost use Rattle.std.specs.Prelude.{◌≡◌, IfOk};
 ghost use Rattle.values.specs.Memory.{OnlyMemory};
 
@@ -7,7 +8,8 @@ use crate::sequence::Sequence;
 use crate::value::Values;
 use std::alloc::AllocError;
 
-/// A point of time: microseconds since 1970 where the clock gives it, and any whole number where a script does.
+/// A point of time: microseconds since 1970 where the clock gives it, and any whole number where a
+/// script does.
 pub type Instant = u64;
 
 /// The greatest instant that a transaction can have.
@@ -21,7 +23,7 @@ pub struct Key {
 }
 
 impl Key {
-    /// An equal key.
+    /// Copies the key.
     pub fn copy(&self) -> Mem<Key>
         ensures ok { IfOk result (λ k. k ≡ self.now) }
         ensures err { OnlyMemory result }

@@ -1,9 +1,13 @@
+//! The bytes of keys, in the order of keys.
 ghost use Rattle.std.specs.Prelude.{◌≡◌, ℤ, ◌++◌, ◌∷◌, [], IfOk, OnOk, Option, Some, None, if◌then◌else◌, nat_le, length, ◌<◌};
 ghost use Rattle.values.specs.KeyEncoding.{ordinal_of, text_bytes, part_bytes, bytes_of_key, IsShortKey, longest_key};
+ghost use Rattle.values.specs.Fit.{IsKeyIn};
 ghost use Rattle.values.specs.Memory.{OnlyMemory};
 
 use crate::key::Key;
+use crate::key_law::fitting_keys_have_bytes;
 use crate::refusal::Mem;
+use crate::schema::Schema;
 use crate::value::Value;
 use smallvec::SmallVec;
 use std::alloc::{AllocError, Global};
@@ -16,13 +20,13 @@ pub const LONGEST_KEY: usize = 1609;
 /// How many bytes of a key are kept in the value: enough for a table and two numbers.
 const INSIDE: usize = 22;
 
-/// The bytes of a key while it is made and compared: short ones need no allocation and no second look-up.
-type Bytes = SmallVec<u8, INSIDE>;
+/// The bytes of a key, or a prefix of them, while they are written: short ones need no allocation.
+pub type KeyBuffer = SmallVec<u8, INSIDE>;
 
 /// At most 1,609 bytes, ordered by bytes. The empty one is the least, and is no key's.
 #[derive(Debug, Drop)]
 pub struct KeyBytes {
-    bytes: Bytes,
+    bytes: KeyBuffer,
 }
 
 impl Model for KeyBytes {
@@ -37,13 +41,21 @@ impl Model for KeyBytes {
 }
 
 impl KeyBytes {
-    /// None where there are over 1,609 bytes.
+    /// Takes bytes as those of a key; none where there are over 1,609.
     pub fn new(bytes: Vec<u8>) -> Option<KeyBytes>
         ensures { result
             ≡ (if nat_le (length bytes.items) longest_key then Some bytes.items else None) }
     {
+        KeyBytes::from_buffer(KeyBuffer::from_vec(bytes))
+    }
+
+    /// Takes what was written as the bytes of a key; none where there are over 1,609.
+    pub fn from_buffer(bytes: KeyBuffer) -> Option<KeyBytes>
+        ensures { result
+            ≡ (if nat_le (length bytes.items) longest_key then Some bytes.items else None) }
+    {
         if bytes.len() <= LONGEST_KEY {
-            let mut bytes = Bytes::from_vec(bytes);
+            let mut bytes = bytes;
             bytes.shrink_to_fit();
             Some(KeyBytes { bytes })
         } else {
@@ -51,22 +63,23 @@ impl KeyBytes {
         }
     }
 
-    /// The least: no bytes.
+    /// Makes the least: no bytes.
     pub fn least(alloc: Global) -> KeyBytes
         ensures { result ≡ [] }
     {
         KeyBytes {
-            bytes: Bytes::new(alloc),
+            bytes: KeyBuffer::new(alloc),
         }
     }
 
+    /// Returns the bytes.
     pub fn bytes(&self) -> &[u8]
         ensures { result.now ≡ self.now }
     {
         self.bytes.as_slice()
     }
 
-    /// Equal bytes.
+    /// Copies the bytes.
     pub fn copy(&self) -> Mem<KeyBytes>
         ensures ok { IfOk result (λ k. k ≡ self.now) }
         ensures err { OnlyMemory result }
@@ -82,7 +95,7 @@ impl Clone for KeyBytes {
 
     fn clone(&self) -> Result<KeyBytes, AllocError> {
         Ok(KeyBytes {
-            bytes: Bytes::from_slice(*self.bytes.allocator(), self.bytes())?,
+            bytes: KeyBuffer::from_slice(*self.bytes.allocator(), self.bytes())?,
         })
     }
 }
@@ -139,13 +152,13 @@ impl Ord for KeyBytes {
     }
 }
 
-/// The bytes of a key: the table's number, then each value.
+/// Writes a key as bytes: the table's number, then each value.
 pub fn key_bytes(alloc: Global, key: &Key) -> Mem<KeyBytes>
     requires { IsShortKey key.now }
     ensures ok { IfOk result (λ b. b ≡ bytes_of_key key.now) }
     ensures err { OnlyMemory result }
 {
-    let mut bytes = Bytes::new(alloc);
+    let mut bytes = KeyBuffer::new(alloc);
     bytes.push(key.table)?;
     for part in key.parts.items() {
         push_part(&mut bytes, part)?;
@@ -153,7 +166,21 @@ pub fn key_bytes(alloc: Global, key: &Key) -> Mem<KeyBytes>
     Ok(KeyBytes { bytes })
 }
 
-fn push_part(bytes: &mut Bytes, part: &Value) -> Result<(), AllocError>
+/// Writes the bytes of a key that fits its table, which is one of the schema's.
+pub fn fitting_key_bytes(alloc: Global, schema: &Schema, key: &Key) -> Mem<KeyBytes>
+    requires { IsKeyIn schema.now key.now }
+    ensures ok { IfOk result (λ b. b ≡ bytes_of_key key.now) }
+    ensures err { OnlyMemory result }
+{
+    fitting_keys_have_bytes();
+    match schema.table_at(key.table) {
+        Some(_) => key_bytes(alloc, key),
+        None => unreachable!(),
+    }
+}
+
+/// Appends the bytes of a value of a key.
+pub fn push_part(bytes: &mut KeyBuffer, part: &Value) -> Result<(), AllocError>
     ensures { OnOk result (bytes.new.items ≡ bytes.old.items ++ part_bytes part.now) }
 {
     match part {
@@ -164,7 +191,7 @@ fn push_part(bytes: &mut Bytes, part: &Value) -> Result<(), AllocError>
     }
 }
 
-/// The place of a number among all of 64 bits, from 0: the number plus 2^63.
+/// Returns the place of a number among all of 64 bits, from 0: the number plus 2^63.
 pub fn ordinal_of(number: i64) -> u64
     ensures { result ≡ ordinal_of number }
 {
@@ -175,7 +202,7 @@ pub fn ordinal_of(number: i64) -> u64
     }
 }
 
-fn push_text(bytes: &mut Bytes, text: &[u8]) -> Result<(), AllocError>
+fn push_text(bytes: &mut KeyBuffer, text: &[u8]) -> Result<(), AllocError>
     ensures { OnOk result (bytes.new.items ≡ bytes.old.items ++ text_bytes text.now) }
 {
     for byte in text {

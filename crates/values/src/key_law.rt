@@ -1,7 +1,8 @@
+//! Laws of the bytes of keys.
 ghost use Rattle.values.specs.KeyEncodingLaw.{ByteOrderIsKeyOrder, BytesTellKeysApart, NoKeyBeginsAnother, FittingKeysAreShort, WorkedKeyBytes};
 ghost use Rattle.values.specs.KeyLaw.{FittingRowsHaveKeys, KeysAreShort, KeysReadBack};
 
-/// Keys may be compared, and told apart, by their bytes.
+/// States that keys may be compared, and told apart, by their bytes.
 pub fn bytes_stand_for_keys()
     ensures order { ByteOrderIsKeyOrder }
     ensures apart { BytesTellKeysApart }
@@ -9,12 +10,13 @@ pub fn bytes_stand_for_keys()
     ensures worked { WorkedKeyBytes }
 {}
 
-/// What fits the key of a table has bytes.
+/// States that what fits the key of a table has bytes.
 pub fn fitting_keys_have_bytes()
     ensures { FittingKeysAreShort }
 {}
 
-/// The key of a row that fits its table is one of the table's, has bytes, and is read back from them.
+/// States that the key of a row that fits its table is one of the table's, has bytes, and is read
+/// back from them.
 pub fn fitting_rows_have_keys()
     ensures keys { FittingRowsHaveKeys }
     ensures short { KeysAreShort }

@@ -1,3 +1,4 @@
+//! Reads keys from their bytes.
 ghost use Rattle.std.specs.Prelude.{◌≡◌, true, false, IfOk, IfSome, IfNone};
 ghost use Rattle.std.specs.Str.{is_utf8};
 ghost use Rattle.values.specs.Memory.{OnlyMemory};
@@ -168,7 +169,7 @@ impl Table {
     }
 }
 
-/// The table's key with these bytes, where it has one.
+/// Reads the table's key with these bytes, where it has one.
 pub fn read_key(alloc: Global, table: &Table, bytes: &KeyBytes) -> Mem<Option<Key>>
     ensures is { IfOk result (λ key. key ≡ key_from table.now bytes.now) }
     ensures found { IfOk result (λ key. IfSome key (IsKeyWith table.now bytes.now)) }

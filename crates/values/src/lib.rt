@@ -16,6 +16,7 @@ mod row;
 mod row_encoding;
 mod row_law;
 mod sample;
+mod schema;
 mod search_condition;
 mod sequence;
 mod table;
@@ -24,7 +25,9 @@ mod value;
 pub use chars::Chars;
 pub use event::{Event, SharedEvent};
 pub use key::{Instant, Key, MAX_INSTANT, Net, Point, Transaction};
-pub use key_encoding::{KeyBytes, LONGEST_KEY, key_bytes, ordinal_of};
+pub use key_encoding::{
+    KeyBuffer, KeyBytes, LONGEST_KEY, fitting_key_bytes, key_bytes, ordinal_of, push_part,
+};
 pub use key_law::{bytes_stand_for_keys, fitting_keys_have_bytes, fitting_rows_have_keys};
 pub use key_reading::read_key;
 pub use law::{as_of_shows_the_state, empty_net_leaves_the_log, states_are_versions};
@@ -35,6 +38,7 @@ pub use refusal::{Mem, Refusal};
 pub use row::{LONGEST_TEXT, Row, WIDEST};
 pub use row_encoding::{read_row, row_bytes};
 pub use row_law::{bytes_stand_for_rows, fitting_rows_have_bytes};
+pub use schema::Schema;
 pub use sequence::Sequence;
 pub use table::{Column, ColumnType, Table, same_name};
-pub use value::{Value, Values, read_values};
+pub use value::{MAX_INT, Value, Values, read_values};

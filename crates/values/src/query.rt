@@ -1,3 +1,4 @@
+//! Queries, search conditions, new values, and the rows that are shown.
 ghost use Rattle.std.specs.Prelude.{◌≡◌, IfOk, [], ◌∷◌};
 ghost use Rattle.values.specs.Memory.{OnlyMemory};
 
@@ -50,7 +51,7 @@ pub struct Keys {
 }
 
 impl Keys {
-    /// All keys of a table.
+    /// Makes the condition that all keys of a table meet.
     pub fn all(alloc: Global, table: u8) -> Keys
         ensures { result ≡ record { table = table; comparisons = [] } }
     {
@@ -60,7 +61,7 @@ impl Keys {
         }
     }
 
-    /// The keys of a table that meet one comparison.
+    /// Makes the condition of one comparison with the keys of a table.
     pub fn of_comparison(alloc: Global, table: u8, comparison: Comparison) -> Mem<Keys>
         ensures ok { IfOk result (λ k. k
             ≡ record { table = table; comparisons = comparison ∷ [] }) }

@@ -16,7 +16,8 @@ pub const WIDEST: usize = 16;
 /// The bytes that a text may have.
 pub const LONGEST_TEXT: usize = 1000;
 
-/// A row of a table: 1 to 16 values, in the table's order, with texts of one line and at most 1,000 bytes. Contracts see it as a list.
+/// A row of a table: 1 to 16 values, in the table's order, with texts of one line and at most 1,000
+/// bytes. Contracts see it as a list.
 #[derive(Debug, Drop)]
 pub struct Row {
     values: Vec<Value>,
@@ -36,7 +37,8 @@ impl Model for Row {
 }
 
 impl Row {
-    /// None where the values are not 1 to 16, or one is a text of over 1,000 bytes or of two lines.
+    /// Makes a row; none where the values are not 1 to 16, or one is a text of over 1,000 bytes or of
+    /// two lines.
     #[tactic(auto, using(crate::proofs::RowStored::stored_row, crate::proofs::RowStored::is_stored_row_of))]
     pub fn new(values: Vec<Value>) -> Option<Row>
         ensures are { IfSome result (λ r. r ≡ values.items) }
@@ -49,6 +51,7 @@ impl Row {
         }
     }
 
+    /// Returns the values, in order.
     pub fn values(&self) -> &[Value]
         ensures are { result.now ≡ self.now }
         ensures stored { IsStoredRow result.now }
@@ -56,7 +59,7 @@ impl Row {
         self.values.as_slice()
     }
 
-    /// An equal row.
+    /// Copies the row.
     pub fn copy(&self) -> Mem<Row>
         ensures ok { IfOk result (λ r. r ≡ self.now) }
         ensures err { OnlyMemory result }

@@ -1,3 +1,4 @@
+//! Rows as bytes, and read back from them.
 ghost use Rattle.std.specs.Prelude.{◌≡◌, ◌≤◌, ◌++◌, ◌∷◌, true, false, length, IfOk, OnOk, IfSome, IfNone};
 ghost use Rattle.std.specs.Int.{w16, to_be_bytes};
 ghost use Rattle.std.specs.List.{list_any};
@@ -12,7 +13,7 @@ use crate::row::{Row, WIDEST, fits_text};
 use crate::value::Value;
 use std::alloc::{AllocError, Global};
 
-/// The bytes of a row: the number of its values, then each value behind its tag.
+/// Writes a row as bytes: the number of its values, then each value behind its tag.
 pub fn row_bytes(alloc: Global, row: &Row) -> Mem<Vec<u8>>
     ensures ok { IfOk result (λ bytes. bytes.items ≡ bytes_of_row row.now) }
     ensures err { OnlyMemory result }
@@ -148,7 +149,8 @@ fn values_from(
     Ok(Some((values, rest)))
 }
 
-/// A row and the number of its bytes, where there is one at the start. One that no table has is read too.
+/// Reads a row from the start of bytes, and the number of its bytes; none where there is none. A row
+/// that fits no table is read too.
 pub fn read_row(alloc: Global, bytes: &[u8]) -> Mem<Option<(Row, usize)>>
     ensures exact { IfOk result (λ read. read ≡ row_from bytes.now) }
     ensures found { IfOk result (λ read. IfSome read (λ x. StandsIn bytes.now x.1 x.0)) }

@@ -1,6 +1,7 @@
+//! Laws of the bytes of rows.
 ghost use Rattle.values.specs.RowLaw.{RowsReadBack, OnlyRowsAreRead, FittingRowsAreStored, NoRowBeginsAnother, WorkedRowBytes};
 
-/// Rows may be told apart by their bytes.
+/// States that rows may be told apart by their bytes.
 pub fn bytes_stand_for_rows()
     ensures back { RowsReadBack }
     ensures only { OnlyRowsAreRead }
@@ -8,7 +9,7 @@ pub fn bytes_stand_for_rows()
     ensures worked { WorkedRowBytes }
 {}
 
-/// What fits a table has bytes.
+/// States that what fits a table has bytes.
 pub fn fitting_rows_have_bytes()
     ensures { FittingRowsAreStored }
 {}

@@ -1,3 +1,4 @@
+//! The table where none is declared.
 ghost use Rattle.std.specs.Prelude.{◌≡◌, IfOk, codes, false};
 ghost use Rattle.values.specs.Memory.{OnlyMemory};
 ghost use Rattle.values.specs.Tables.{IsTable};
@@ -10,8 +11,8 @@ use crate::table::{Column, ColumnType, Table};
 use std::alloc::Global;
 
 impl Table {
-    /// The table where none is declared: `emp` with the columns `no INT`, its key, and `name TEXT`,
-    /// and the period columns `sys_start` and `sys_end`.
+    /// Makes the table where none is declared: `emp` with the columns `no INT`, its key, and
+    /// `name TEXT`, and the period columns `sys_start` and `sys_end`.
     pub fn sample(alloc: Global) -> Mem<Table>
         ensures ok { IfOk result (λ t. t ≡ sample_table) }
         ensures good { IfOk result (λ t. IsTable t.number t) }

@@ -10,7 +10,7 @@ use crate::value::Value;
 use std::cmp::Ordering;
 
 impl Keys {
-    /// Whether a key is of the table and meets all comparisons.
+    /// Tells whether a key is of the table and meets all comparisons.
     pub fn matches(&self, table: &Table, key: &Key) -> bool
         ensures { result ≡ matches table.now self.now key.now }
     {

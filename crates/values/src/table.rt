@@ -1,3 +1,4 @@
+//! Tables and their columns.
 ghost use Rattle.std.specs.Prelude.{◌≡◌, IfOk, IfSome, All, option_copied};
 ghost use Rattle.values.specs.Tables.{table_at, value_at, IsTable, IsNumberIn, AreTables};
 ghost use Rattle.values.specs.Names.{same_name, table_number, column_number};
@@ -29,7 +30,7 @@ pub enum ColumnType {
 }
 
 /// A user column.
-#[derive(Drop)]
+#[derive(PartialEq, Eq, Drop)]
 pub struct Column {
     pub name: Chars,
     pub of: ColumnType,
@@ -37,7 +38,7 @@ pub struct Column {
 }
 
 /// A system-versioned table. The user columns are numbered from 1, the period columns left out.
-#[derive(Drop)]
+#[derive(PartialEq, Eq, Drop)]
 pub struct Table {
     /// From 1.
     pub number: u8,
@@ -51,8 +52,39 @@ pub struct Table {
     pub row_end: Chars,
 }
 
+impl Clone for Column {
+    ghost use Rattle.std.specs.Prelude.{◌≡◌};
+
+    ghost is_clone = { λ x y. y ≡ x };
+
+    fn clone(&self) -> Result<Column, AllocError> {
+        Ok(Column {
+            name: self.name.clone()?,
+            of: self.of,
+            not_null: self.not_null,
+        })
+    }
+}
+
+impl Clone for Table {
+    ghost use Rattle.std.specs.Prelude.{◌≡◌};
+
+    ghost is_clone = { λ x y. y ≡ x };
+
+    fn clone(&self) -> Result<Table, AllocError> {
+        Ok(Table {
+            number: self.number,
+            name: self.name.clone()?,
+            columns: self.columns.clone()?,
+            key: self.key.clone()?,
+            row_start: self.row_start.clone()?,
+            row_end: self.row_end.clone()?,
+        })
+    }
+}
+
 impl Table {
-    /// The number of the user column with a name, in any case.
+    /// Finds the number of the user column with a name, in any case.
     pub fn column(&self, name: &[u8]) -> Option<ColumnNumber>
         ensures { result ≡ column_number self.now name.now }
     {
@@ -64,7 +96,7 @@ impl Table {
         None
     }
 
-    /// The values of a row's key columns: the key of a row that fits the table.
+    /// Makes the key of a row that fits the table: the values of its key columns.
     pub fn key(&self, alloc: Global, row: &Row) -> Mem<Key>
         ensures ok { IfOk result (λ k. k ≡ key_of self.now row.now) }
         ensures held { IfOk result (λ k. All IsHeld k.parts) }
@@ -111,17 +143,9 @@ fn copy_value(value: &Value) -> Result<Value, AllocError>
     }
 }
 
-/// Whether two names are the same but for the case of their letters.
+/// Tells whether two names are the same but for the case of their letters.
 pub fn same_name(name: &[u8], other: &[u8]) -> bool
     ensures { result ≡ same_name name.now other.now }
 {
-    if name.len() != other.len() {
-        return false;
-    }
-    for (i, letter) in name.iter().enumerate() {
-        if !letter.eq_ignore_ascii_case(&other[i]) {
-            return false;
-        }
-    }
-    true
+    name.eq_ignore_ascii_case(other)
 }

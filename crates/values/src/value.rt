@@ -1,3 +1,4 @@
+//! Values, and lists of them.
 ghost use Rattle.std.specs.Prelude.{◌≡◌, All, IfOk};
 ghost use Rattle.values.specs.Memory.{OnlyMemory};
 ghost use Rattle.values.specs.RowEncoding.{IsHeld};
@@ -7,6 +8,9 @@ use crate::refusal::Mem;
 use std::alloc::AllocError;
 use std::cmp::Ordering;
 use std::marker::Model;
+
+/// The greatest whole number of 64 bits.
+pub const MAX_INT: u64 = (1 << 63) - 1;
 
 /// What a column of a row holds.
 #[derive(Debug, PartialEq, Eq, PartialOrd, Ord, Drop)]
@@ -33,7 +37,7 @@ impl Clone for Value {
 }
 
 impl Value {
-    /// An equal value.
+    /// Copies the value.
     pub fn copy(&self) -> Mem<Value>
         ensures ok { IfOk result (λ v. v ≡ self.now) }
         ensures err { OnlyMemory result }
@@ -58,12 +62,14 @@ impl Model for Values {
 }
 
 impl Values {
+    /// Makes a list of values.
     pub fn new(items: Vec<Value>) -> Values
         ensures { result ≡ items.items }
     {
         Values { items }
     }
 
+    /// Returns the values, in order.
     pub fn items(&self) -> &[Value]
         ensures { result.now ≡ self.now }
     {
@@ -142,7 +148,8 @@ impl Eq for Values {
     ghost laws = { eq_by_cmp_equiv (lists_total value_cmp_total) };
 }
 
-/// Reads each value: what was read is a number of 64 bits, or a text of characters. No other clause says so of values that are lent.
+/// Reads each value: what was read is a number of 64 bits, or a text of characters. No other clause
+/// says so of values that are lent.
 pub fn read_values(values: &[Value])
     ensures { All IsHeld values.now }
 {

@@ -1,7 +1,6 @@
-use Rattle.std.proofs.Common.{◌≡◌, ℕ, ◌-◌, ◌<◌, ◌≤◌, List, All, Some, slice_index_or, length, take, drop, arith}
+use Rattle.std.proofs.Common.{◌≡◌, ◌-◌, ◌<◌, ◌≤◌, Some, slice_index_or, length, take, drop, arith}
 use Rattle.std.proofs.lemmas.List.Elements.{All-drop, All-take}
 use Rattle.values.specs.RowReading.{values_from}
-use Rattle.values.specs.RowEncoding.{IsStoredRow}
 use Rattle.values.proofs.RowReads.{are_bytes, stored_values}
 use Rattle.values.proofs.row_encoding.row_from.Goals as goal
 

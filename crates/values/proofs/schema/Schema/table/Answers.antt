@@ -1,8 +1,8 @@
 use Rattle.std.proofs.Common.{List, subst, sym}
 use Rattle.values.specs.declared.table.Table.{Table}
 use Rattle.values.specs.Tables.{Schema, IsNumberIn, AreTables}
-use Rattle.rows.proofs.SchemaTablesMade.{is_known}
-use Rattle.rows.proofs.schema.Schema.table.Goals as goal
+use Rattle.values.proofs.TablePlaces.{is_known}
+use Rattle.values.proofs.schema.Schema.table.Goals as goal
 
 pub returns-then-same_name-clause-known : goal.returns-then-same_name-clause-known
 returns-then-same_name-clause-known c =

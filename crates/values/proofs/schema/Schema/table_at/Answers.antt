@@ -1,8 +1,8 @@
 use Rattle.std.proofs.Common.{List, subst, sym}
 use Rattle.values.specs.declared.table.Table.{Table}
 use Rattle.values.specs.Tables.{AreTables}
-use Rattle.rows.proofs.SchemaTablesMade.{is_at_place}
-use Rattle.rows.proofs.schema.Schema.table_at.Goals as goal
+use Rattle.values.proofs.TablePlaces.{is_at_place}
+use Rattle.values.proofs.schema.Schema.table_at.Goals as goal
 
 pub returns-clause-good : goal.returns-clause-good
 returns-clause-good c =
