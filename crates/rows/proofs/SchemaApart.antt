@@ -57,11 +57,11 @@ word_no_name front rest word place name bytes after n = by_test (is_word_at word
 
 pub period_no_name : (name bytes after : List ℕ) → Name name bytes after → is_word_at (codes "PERIOD") bytes ≡ false
 unfolding reserved_words
-period_no_name = word_no_name (take 16 reserved_words) (drop 17 reserved_words) (codes "PERIOD") refl
+period_no_name = word_no_name (take 30 reserved_words) (drop 31 reserved_words) (codes "PERIOD") refl
 
 pub primary_no_name : (name bytes after : List ℕ) → Name name bytes after → is_word_at (codes "PRIMARY") bytes ≡ false
 unfolding reserved_words
-primary_no_name = word_no_name (take 7 reserved_words) (drop 8 reserved_words) (codes "PRIMARY") refl
+primary_no_name = word_no_name (take 32 reserved_words) (drop 33 reserved_words) (codes "PRIMARY") refl
 
 -- no word stands at a symbol, no symbol at a word, and no symbol at another
 pub no_word_at_symbol : (w : ℕ) (ws : List ℕ) (symbol : ℕ) → is_name_byte symbol ≡ false → (x : Unit {0}) (bytes rest : List ℕ) → Symbol symbol x bytes rest → is_word_at (w ∷ ws) bytes ≡ false

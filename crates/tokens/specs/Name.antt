@@ -6,20 +6,21 @@ use Rattle.values.specs.Names.{same_name}
 use Rattle.tokens.specs.Token.{Read, prefix_while, skip_while}
 use Rattle.tokens.specs.Word.{is_name_byte}
 
--- the words of the grammars of schemas and of lines, and some kept for later, which no name is
+-- the words of the grammars of schemas and of lines, and some kept for later, which no name is, in
+-- order
 unfoldable pub reserved_words : List (List ℕ)
 reserved_words =
-    codes "CREATE" ∷ codes "TABLE" ∷ codes "WITH" ∷ codes "SYSTEM" ∷ codes "VERSIONING" ∷
-    codes "NOT" ∷ codes "NULL" ∷ codes "PRIMARY" ∷ codes "KEY" ∷ codes "TIMESTAMP" ∷
-    codes "GENERATED" ∷ codes "ALWAYS" ∷ codes "AS" ∷ codes "ROW" ∷ codes "START" ∷
-    codes "END" ∷ codes "PERIOD" ∷ codes "FOR" ∷ codes "SYSTEM_TIME" ∷ codes "INT" ∷
-    codes "INTEGER" ∷ codes "BIGINT" ∷ codes "TEXT" ∷ codes "VARCHAR" ∷ codes "BOOLEAN" ∷
-    codes "CLOCK" ∷ codes "SPLIT" ∷ codes "TIME" ∷ codes "AT" ∷ codes "MIGRATE" ∷
-    codes "BEGIN" ∷ codes "TRANSACTION" ∷ codes "COMMIT" ∷ codes "WORK" ∷ codes "ROLLBACK" ∷
-    codes "INSERT" ∷ codes "INTO" ∷ codes "VALUES" ∷ codes "UPDATE" ∷ codes "SET" ∷
-    codes "DELETE" ∷ codes "FROM" ∷ codes "SELECT" ∷ codes "OF" ∷ codes "TO" ∷ codes "BETWEEN" ∷
-    codes "AND" ∷ codes "WHERE" ∷ codes "TRUE" ∷ codes "FALSE" ∷ codes "ALTER" ∷ codes "ADD" ∷
-    codes "COLUMN" ∷ codes "WITHOUT" ∷ codes "OVERLAPS" ∷ codes "PORTION" ∷ []
+    codes "ADD" ∷ codes "ALTER" ∷ codes "ALWAYS" ∷ codes "AND" ∷ codes "AS" ∷ codes "AT" ∷
+    codes "BEGIN" ∷ codes "BETWEEN" ∷ codes "BIGINT" ∷ codes "BOOLEAN" ∷ codes "CLOCK" ∷
+    codes "COLUMN" ∷ codes "COMMIT" ∷ codes "CREATE" ∷ codes "DELETE" ∷ codes "END" ∷
+    codes "FALSE" ∷ codes "FOR" ∷ codes "FROM" ∷ codes "GENERATED" ∷ codes "INSERT" ∷ codes "INT" ∷
+    codes "INTEGER" ∷ codes "INTO" ∷ codes "KEY" ∷ codes "MIGRATE" ∷ codes "NOT" ∷ codes "NULL" ∷
+    codes "OF" ∷ codes "OVERLAPS" ∷ codes "PERIOD" ∷ codes "PORTION" ∷ codes "PRIMARY" ∷
+    codes "ROLLBACK" ∷ codes "ROW" ∷ codes "SELECT" ∷ codes "SET" ∷ codes "SPLIT" ∷ codes "START" ∷
+    codes "SYSTEM" ∷ codes "SYSTEM_TIME" ∷ codes "TABLE" ∷ codes "TEXT" ∷ codes "TIME" ∷
+    codes "TIMESTAMP" ∷ codes "TO" ∷ codes "TRANSACTION" ∷ codes "TRUE" ∷ codes "UPDATE" ∷
+    codes "VALUES" ∷ codes "VARCHAR" ∷ codes "VERSIONING" ∷ codes "WHERE" ∷ codes "WITH" ∷
+    codes "WITHOUT" ∷ codes "WORK" ∷ []
 
 unfoldable pub is_reserved : List ℕ → Bool
 is_reserved name = list_any (λ word. same_name word name) reserved_words

@@ -1,3 +1,4 @@
+//! The digits at the start of a text.
 ghost use Rattle.std.specs.Prelude.{◌≡◌, ◌≤◌, length};
 ghost use Rattle.std.specs.Char.{is_ascii_digit};
 ghost use Rattle.std.specs.List.{prefix_len};
@@ -16,7 +17,7 @@ fn digit_count(bytes: &[u8]) -> usize
     bytes.len()
 }
 
-/// The digits at the start, as many as come, and the bytes after them.
+/// Splits off the digits at the start, as many as come, from the bytes after them.
 pub fn split_digits(bytes: &[u8]) -> (&[u8], &[u8])
     ensures digits { result.0.now ≡ prefix_while is_ascii_digit bytes.now }
     ensures rest { result.1.now ≡ skip_while is_ascii_digit bytes.now }

@@ -1,3 +1,4 @@
+//! Names, and the reserved words, which no name is.
 ghost use Rattle.std.specs.Prelude.{◌≡◌, IfOk, IsUtf8};
 ghost use Rattle.std.specs.List.{list_any};
 ghost use Rattle.values.specs.Names.{same_name};
@@ -11,37 +12,65 @@ use values::same_name;
 /// The bytes that a name may have.
 const LONGEST_NAME: usize = 64;
 
-// The words of the grammars of schemas and of lines, and those kept for later, by their length.
-const OF_TWO: [&str; 4] = ["AS", "AT", "OF", "TO"];
-
-const OF_THREE: [&str; 9] = [
-    "NOT", "KEY", "ROW", "END", "FOR", "INT", "SET", "AND", "ADD",
+/// The words of the grammars of schemas and of lines, and those kept for later, in order.
+const RESERVED_WORDS: &[&str] = &[
+    "ADD",
+    "ALTER",
+    "ALWAYS",
+    "AND",
+    "AS",
+    "AT",
+    "BEGIN",
+    "BETWEEN",
+    "BIGINT",
+    "BOOLEAN",
+    "CLOCK",
+    "COLUMN",
+    "COMMIT",
+    "CREATE",
+    "DELETE",
+    "END",
+    "FALSE",
+    "FOR",
+    "FROM",
+    "GENERATED",
+    "INSERT",
+    "INT",
+    "INTEGER",
+    "INTO",
+    "KEY",
+    "MIGRATE",
+    "NOT",
+    "NULL",
+    "OF",
+    "OVERLAPS",
+    "PERIOD",
+    "PORTION",
+    "PRIMARY",
+    "ROLLBACK",
+    "ROW",
+    "SELECT",
+    "SET",
+    "SPLIT",
+    "START",
+    "SYSTEM",
+    "SYSTEM_TIME",
+    "TABLE",
+    "TEXT",
+    "TIME",
+    "TIMESTAMP",
+    "TO",
+    "TRANSACTION",
+    "TRUE",
+    "UPDATE",
+    "VALUES",
+    "VARCHAR",
+    "VERSIONING",
+    "WHERE",
+    "WITH",
+    "WITHOUT",
+    "WORK",
 ];
-
-const OF_FOUR: [&str; 8] = [
-    "WITH", "NULL", "TEXT", "TIME", "WORK", "INTO", "FROM", "TRUE",
-];
-
-const OF_FIVE: [&str; 8] = [
-    "TABLE", "START", "CLOCK", "SPLIT", "BEGIN", "WHERE", "FALSE", "ALTER",
-];
-
-const OF_SIX: [&str; 12] = [
-    "CREATE", "SYSTEM", "ALWAYS", "PERIOD", "BIGINT", "COMMIT", "INSERT", "VALUES", "UPDATE",
-    "DELETE", "SELECT", "COLUMN",
-];
-
-const OF_SEVEN: [&str; 8] = [
-    "PRIMARY", "INTEGER", "VARCHAR", "BOOLEAN", "MIGRATE", "BETWEEN", "WITHOUT", "PORTION",
-];
-
-const OF_EIGHT: [&str; 2] = ["ROLLBACK", "OVERLAPS"];
-
-const OF_NINE: [&str; 2] = ["TIMESTAMP", "GENERATED"];
-
-const OF_TEN: [&str; 1] = ["VERSIONING"];
-
-const OF_ELEVEN: [&str; 2] = ["SYSTEM_TIME", "TRANSACTION"];
 
 fn is_one_of(words: &[&str], name: &[u8]) -> bool
     ensures { result ≡ list_any (λ word. same_name word.now name.now) words.now }
@@ -49,27 +78,17 @@ fn is_one_of(words: &[&str], name: &[u8]) -> bool
     words.iter().any(|word| same_name(word.as_bytes(), name))
 }
 
-/// Whether a name is, in any case, one of the words of the grammars of schemas and of lines, or one that is kept for later. A word of another length is none.
+/// Tells whether a name is, in any case, a word of the grammars of schemas and of lines, or one
+/// that is kept for later.
 #[tactic(auto, unfolding(crate::specs::Name::is_reserved, crate::specs::Name::reserved_words))]
 pub fn is_reserved(name: &[u8]) -> bool
     ensures { result ≡ is_reserved name.now }
 {
-    match name.len() {
-        2 => is_one_of(&OF_TWO, name),
-        3 => is_one_of(&OF_THREE, name),
-        4 => is_one_of(&OF_FOUR, name),
-        5 => is_one_of(&OF_FIVE, name),
-        6 => is_one_of(&OF_SIX, name),
-        7 => is_one_of(&OF_SEVEN, name),
-        8 => is_one_of(&OF_EIGHT, name),
-        9 => is_one_of(&OF_NINE, name),
-        10 => is_one_of(&OF_TEN, name),
-        11 => is_one_of(&OF_ELEVEN, name),
-        _ => false,
-    }
+    is_one_of(RESERVED_WORDS, name)
 }
 
-/// Whether letters, digits and underscores are a name: the first is no digit, there are 1 to 64, and they are no reserved word.
+/// Tells whether letters, digits and underscores are a name: the first is no digit, there are 1 to
+/// 64, and they are no reserved word.
 #[tactic(auto, unfolding(crate::specs::Name::is_name))]
 fn is_name(bytes: &[u8]) -> bool
     ensures { result ≡ is_name bytes.now }
@@ -82,7 +101,7 @@ fn is_name(bytes: &[u8]) -> bool
     }
 }
 
-/// A name.
+/// Reads a name.
 #[tactic(auto, unfolding(crate::specs::Name::name_at))]
 pub fn name_at<S: Separators>(bytes: &[u8]) -> Read<'_, &[u8]>
     ensures is { GivesBytes result (name_at S.next bytes.now) }

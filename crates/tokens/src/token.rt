@@ -1,3 +1,4 @@
+//! The results of reading, what is between tokens, and symbols.
 ghost use Rattle.std.specs.Prelude.{◌≡◌, ℕ, List};
 ghost use Rattle.tokens.specs.Token.{symbol_at, Leaves};
 
@@ -17,7 +18,7 @@ pub type After<'a> = Result<&'a [u8], &'a [u8]>;
 /// A value and the bytes after it, or those from the first unexpected token on.
 pub type Read<'a, T> = Result<(T, &'a [u8]), &'a [u8]>;
 
-/// The same, where reading takes memory.
+/// Like `Read`, where reading takes memory.
 pub type Made<'a, T> = Result<(T, &'a [u8]), Stop<'a>>;
 
 impl<'a> From<&'a [u8]> for Stop<'a> {
@@ -59,12 +60,12 @@ pub trait Separators {
 
     ghost next: { List ℕ → List ℕ };
 
-    /// The bytes from the next token on.
+    /// Returns the bytes from the next token on.
     fn next(bytes: &[u8]) -> &[u8]
         ensures { result.now ≡ next bytes.now };
 }
 
-/// The bytes after a symbol.
+/// Reads a symbol: the bytes after it.
 #[tactic(auto, unfolding(crate::specs::Token::symbol_at))]
 pub fn symbol_at<S: Separators>(symbol: u8, bytes: &[u8]) -> After<'_>
     ensures { Leaves result (symbol_at S.next symbol bytes.now) }

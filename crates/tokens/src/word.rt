@@ -1,3 +1,4 @@
+//! Words of the grammars, which are read in any case.
 ghost use Rattle.std.specs.Prelude.{◌≡◌, ◌≤◌, length, false, IsUtf8, Ok, Err, if◌then◌else◌};
 ghost use Rattle.values.specs.Names.{same_name};
 ghost use Rattle.tokens.specs.Token.{Leaves, prefix_while, skip_while};
@@ -25,7 +26,7 @@ fn word_length(bytes: &[u8]) -> usize
     bytes.len()
 }
 
-/// The word or name at the start, and the bytes after it.
+/// Splits off the word or name at the start from the bytes after it.
 pub(crate) fn split_word(bytes: &[u8]) -> (&[u8], &[u8])
     ensures word { result.0.now ≡ prefix_while is_name_byte bytes.now }
     ensures rest { result.1.now ≡ skip_while is_name_byte bytes.now }
@@ -34,8 +35,8 @@ pub(crate) fn split_word(bytes: &[u8]) -> (&[u8], &[u8])
     bytes.split_at(word_length(bytes))
 }
 
-/// Whether the first letters do not tell a word and the bytes apart. Most words are told apart here,
-/// before the bytes of the word at the start are counted.
+/// Tells whether a word and the bytes may begin alike. Most words are told apart here, before the
+/// bytes of the word at the start are counted.
 #[inline(always)]
 fn begins_alike(word: &[u8], bytes: &[u8]) -> bool
     ensures { result ≡ false → same_name word.now (prefix_while is_name_byte bytes.now) ≡ false }
@@ -46,7 +47,7 @@ fn begins_alike(word: &[u8], bytes: &[u8]) -> bool
     }
 }
 
-/// Whether a word comes next, in any case.
+/// Tells whether a word comes next, in any case.
 #[tactic(auto, unfolding(crate::specs::Word::is_word_at))]
 pub fn is_word_at<S: Separators>(word: &[u8], bytes: &[u8]) -> bool
     ensures { result ≡ is_word_at S.next word.now bytes.now }
@@ -58,7 +59,7 @@ pub fn is_word_at<S: Separators>(word: &[u8], bytes: &[u8]) -> bool
     same_name(word, split_word(at).0)
 }
 
-/// The bytes after the word that comes next.
+/// Returns the bytes after the word that comes next.
 #[tactic(auto, unfolding(crate::specs::Word::after_word))]
 pub fn after_word<S: Separators>(bytes: &[u8]) -> &[u8]
     ensures { result.now ≡ after_word S.next bytes.now }
@@ -66,7 +67,7 @@ pub fn after_word<S: Separators>(bytes: &[u8]) -> &[u8]
     split_word(S::next(bytes)).1
 }
 
-/// The bytes after a word, which is read in any case. The test of its first letter is compiled into
+/// Reads a word, in any case: the bytes after it. The test of its first letter is compiled into
 /// each caller: most words that may come next are told apart there.
 #[inline(always)]
 #[tactic(auto, unfolding(crate::specs::Word::word_at, crate::specs::Word::is_word_at, crate::specs::Word::after_word))]
