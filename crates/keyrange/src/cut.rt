@@ -1,3 +1,4 @@
+//! Cuts of a rectangle at a key or at an instant.
 ghost use Rattle.std.specs.Prelude.{◌≡◌, Some, IfOk, IfSome};
 ghost use Rattle.values.specs.Memory.{OnlyMemory};
 ghost use Rattle.keyrange.specs.Cut.{pair_of, rect_of, is_key_inside, is_time_inside};
@@ -9,7 +10,8 @@ use values::{Instant, KeyBytes, MAX_INSTANT, Mem};
 impl Rect {
     ghost use Rattle.keyrange.specs.Cut.{halves_by_key, halves_by_time, PartsKeys, PartsTime};
 
-    /// The half below a key and the half from it on; None where the key is not strictly inside.
+    /// Cuts at a key: the half below it and the half from it on; none where it is not strictly
+    /// inside.
     pub fn cut_key(&self, key: &KeyBytes) -> Mem<Option<(Rect, Rect)>>
         ensures halves { IfOk result (λ h. h ≡ halves_by_key self.now key.now) }
         ensures parts { IfOk result (λ h. IfSome h (λ p. PartsKeys self.now p.0 p.1 key.now)) }
@@ -24,8 +26,8 @@ impl Rect {
         Ok(key_halves(whole, end, start, self.time()))
     }
 
-    /// The half before an instant and the half from it on; None where the instant is not strictly inside, or above the
-    /// last.
+    /// Cuts at an instant: the half before it and the half from it on; none where it is not
+    /// strictly inside, or is above the greatest.
     pub fn cut_time(&self, instant: Instant) -> Mem<Option<(Rect, Rect)>>
         ensures halves { IfOk result (λ h. h ≡ halves_by_time self.now instant) }
         ensures parts { IfOk result (λ h. IfSome h (λ p. PartsTime self.now p.0 p.1 instant)) }
@@ -85,14 +87,14 @@ fn time_halves(
     both(Rect::new(past_keys, past), Rect::new(keys, now))
 }
 
-/// Whether a key is strictly inside.
+/// Tells whether a key is strictly inside.
 fn is_key_inside(rect: &Rect, key: &KeyBytes) -> bool
     ensures { result ≡ is_key_inside rect.now key.now }
 {
     is_below(&rect.keys().lo, key) && is_before_end(key, &rect.keys().hi)
 }
 
-/// Whether an instant is strictly inside, and not above the last.
+/// Tells whether an instant is strictly inside, and not above the greatest.
 fn is_time_inside(rect: &Rect, instant: Instant) -> bool
     ensures { result ≡ is_time_inside rect.now instant }
 {

@@ -1,3 +1,4 @@
+//! Ranges of keys and of instants.
 ghost use Rattle.std.specs.Prelude.{◌≡◌, IfOk, option_copied};
 ghost use Rattle.values.specs.Memory.{OnlyMemory};
 ghost use Rattle.keyrange.specs.Range.{is_below, is_before_end, is_key_in, is_time_in, key_ranges_meet, time_ranges_meet, is_early};
@@ -19,14 +20,14 @@ pub struct TimeRange {
     pub to: Option<Instant>,
 }
 
-/// Whether the first key is below the second.
+/// Tells whether the first key is below the second.
 pub fn is_below(key: &KeyBytes, other: &KeyBytes) -> bool
     ensures { result ≡ is_below key.now other.now }
 {
     key.cmp(other).is_lt()
 }
 
-/// Whether a key lies below an end, which may be none.
+/// Tells whether a key lies below an end, which may be none.
 pub fn is_before_end(key: &KeyBytes, end: &Option<KeyBytes>) -> bool
     ensures { result ≡ is_before_end key.now end.now }
 {
@@ -46,21 +47,21 @@ fn copy_end(end: &Option<KeyBytes>) -> Result<Option<KeyBytes>, AllocError>
 }
 
 impl KeyRange {
-    /// Whether a key lies in the range.
+    /// Tells whether a key lies in the range.
     pub fn contains(&self, key: &KeyBytes) -> bool
         ensures { result ≡ is_key_in self.now key.now }
     {
         !is_below(key, &self.lo) && is_before_end(key, &self.hi)
     }
 
-    /// Whether each begins before the other ends.
+    /// Tells whether each begins before the other ends.
     pub(crate) fn meets(&self, other: &KeyRange) -> bool
         ensures { result ≡ key_ranges_meet self.now other.now }
     {
         is_before_end(&self.lo, &other.hi) && is_before_end(&other.lo, &self.hi)
     }
 
-    /// An equal range.
+    /// Copies the range.
     pub fn copy(&self) -> Mem<KeyRange>
         ensures ok { IfOk result (λ r. r ≡ self.now) }
         ensures err { OnlyMemory result }
@@ -73,14 +74,14 @@ impl KeyRange {
 }
 
 impl TimeRange {
-    /// Whether an instant lies in the range.
+    /// Tells whether an instant lies in the range.
     pub fn contains(&self, instant: Instant) -> bool
         ensures { result ≡ is_time_in self.now instant }
     {
         self.from <= instant && is_early(instant, self.to)
     }
 
-    /// Whether each begins before the other ends.
+    /// Tells whether each begins before the other ends.
     pub(crate) fn meets(&self, other: &TimeRange) -> bool
         ensures { result ≡ time_ranges_meet self.now other.now }
     {
@@ -88,7 +89,7 @@ impl TimeRange {
     }
 }
 
-/// Whether an instant is before an end, which may be none.
+/// Tells whether an instant is before an end, which may be none.
 pub fn is_early(instant: Instant, end: Option<Instant>) -> bool
     ensures { result ≡ is_early instant end }
 {

@@ -1,3 +1,4 @@
+//! Rectangles: a range of keys and one of instants.
 ghost use Rattle.std.specs.Prelude.{◌≡◌, IsTrue, IfOk};
 ghost use Rattle.values.specs.Memory.{OnlyMemory};
 ghost use Rattle.keyrange.specs.Rect.{IsArea, is_area, has_point, Common};
@@ -7,7 +8,8 @@ use crate::range::{KeyRange, TimeRange, is_before_end, is_early};
 use std::marker::Model;
 use values::{Instant, KeyBytes, MAX_INSTANT, Mem};
 
-/// A range of keys and one of instants, neither of them empty, with instants from 1 to the last.
+/// A range of keys and one of instants, neither of them empty, with instants from 1 to the
+/// greatest.
 #[derive(Debug, Drop)]
 pub struct Rect {
     keys: KeyRange,
@@ -26,7 +28,7 @@ impl Model for Rect {
 }
 
 impl Rect {
-    /// None where a range is empty, or an instant is none from 1 to the last.
+    /// Makes a rectangle; none where a range is empty, or an instant is not from 1 to the greatest.
     pub fn new(keys: KeyRange, time: TimeRange) -> Option<Rect>
         ensures { result ≡ rect_of keys time }
     {
@@ -37,6 +39,7 @@ impl Rect {
         }
     }
 
+    /// Returns the range of keys, which is not empty.
     pub fn keys(&self) -> &KeyRange
         ensures keys { result.now ≡ self.now.keys }
         ensures area { IsArea self.now }
@@ -44,6 +47,7 @@ impl Rect {
         &self.keys
     }
 
+    /// Returns the range of instants, which is not empty.
     pub fn time(&self) -> TimeRange
         ensures time { result ≡ self.now.time }
         ensures area { IsArea self.now }
@@ -51,14 +55,15 @@ impl Rect {
         self.time
     }
 
-    /// Whether the point of a key and an instant lies in the rectangle. The instant is asked first: it costs less.
+    /// Tells whether the point of a key and an instant lies in the rectangle. The instant is asked
+    /// first: it costs less.
     pub fn contains(&self, key: &KeyBytes, instant: Instant) -> bool
         ensures { result ≡ has_point self.now key.now instant }
     {
         self.time.contains(instant) && self.keys.contains(key)
     }
 
-    /// Whether the two have a point in common.
+    /// Tells whether the two have a point in common.
     pub fn meets(&self, other: &Rect) -> bool
         ensures common { IsTrue result → Common self.now other.now }
         ensures apart { Common self.now other.now → IsTrue result }
@@ -66,7 +71,7 @@ impl Rect {
         self.time.meets(&other.time) && self.keys.meets(&other.keys)
     }
 
-    /// An equal rectangle.
+    /// Copies the rectangle.
     pub fn copy(&self) -> Mem<Rect>
         ensures ok { IfOk result (λ r. r ≡ self.now) }
         ensures err { OnlyMemory result }
@@ -75,6 +80,22 @@ impl Rect {
             keys: self.keys.copy()?,
             time: self.time,
         })
+    }
+}
+
+impl PartialEq for Rect {
+    ghost use Rattle.std.specs.Prelude.{◌≡◌, ◌↔◌, IsTrue};
+    ghost use Rattle.keyrange.specs.Equality.{area_eq, area_eq_laws};
+
+    ghost eq = { area_eq };
+
+    ghost laws = { area_eq_laws };
+
+    fn eq(&self, other: &Rect) -> bool
+        ensures test { result ≡ area_eq self.now other.now }
+        ensures same { IsTrue result ↔ (self.now ≡ other.now) }
+    {
+        self.keys == other.keys && self.time == other.time
     }
 }
 

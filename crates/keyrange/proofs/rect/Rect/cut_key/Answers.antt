@@ -1,5 +1,5 @@
-use Rattle.std.proofs.Common.{◌≡◌, Some, true, sym, ◌∙◌}
-use Rattle.keyrange.specs.Cut.{halves_by_key, is_key_inside, pair_of, rect_of}
+use Rattle.std.proofs.Common.{◌≡◌, Some, sym, ◌∙◌}
+use Rattle.keyrange.specs.Cut.{pair_of, rect_of}
 use Rattle.keyrange.proofs.CutHalves.{halves_made, parted_keys}
 use Rattle.keyrange.proofs.rect.Rect.cut_key.Goals as goal
 

@@ -1,5 +1,5 @@
-use Rattle.std.proofs.Common.{◌≡◌, Some, true, sym, ◌∙◌}
-use Rattle.keyrange.specs.Cut.{halves_by_time, is_time_inside, pair_of, rect_of}
+use Rattle.std.proofs.Common.{◌≡◌, Some, sym, ◌∙◌}
+use Rattle.keyrange.specs.Cut.{pair_of, rect_of}
 use Rattle.keyrange.proofs.CutHalves.{times_made, parted_time}
 use Rattle.keyrange.proofs.rect.Rect.cut_time.Goals as goal
 

@@ -1,5 +1,4 @@
-use Rattle.std.proofs.Common.{sym, subst, ◌∙◌}
-use Rattle.keyrange.specs.Rect.{Common}
+use Rattle.std.proofs.Common.{sym, ◌∙◌}
 use Rattle.keyrange.proofs.RectMeeting.{common_point, keys_of_common, times_of_common}
 use Rattle.keyrange.proofs.rect.Rect.meets.Goals as goal
 
