@@ -1,3 +1,4 @@
+//! What can be shared, and changed in place.
 ghost use Rattle.std.specs.Prelude.{◌≡◌, IfOk, OnOk, OnErr};
 ghost use Rattle.values.specs.Memory.{OnlyMemory};
 
@@ -6,7 +7,7 @@ use values::Mem;
 
 /// What can be had twice.
 pub trait Share {
-    /// An equal value.
+    /// Makes an equal value.
     fn share(&self) -> Mem<Self>
         ensures ok { IfOk result (λ s. s ≡ self.now) }
         ensures err { OnlyMemory result };
@@ -35,7 +36,7 @@ pub trait Update<C>: Share + Drop {
         ensures memory { OnlyMemory result };
 }
 
-/// The items once more, with room for some.
+/// Shares each item, with room for some more.
 pub(crate) fn share_all<S: Share + Drop>(alloc: Global, items: &[S], room: usize) -> Mem<Vec<S>>
     ensures ok { IfOk result (λ v. v.items ≡ items.now) }
     ensures err { OnlyMemory result }

@@ -8,8 +8,9 @@ use std::alloc::Global;
 use std::marker::Model;
 use values::Mem;
 
-/// A list, which contracts see as one. A share costs one more count; a change copies the nodes on the way to its place
-/// that others share too, and writes the others in place. Where memory runs out the list is what it was.
+/// A list, which contracts see as one. A share costs one more count; a change copies the nodes on
+/// the way to its place that others share too, and writes the others in place. Where memory runs
+/// out the list is what it was.
 #[derive(Drop)]
 pub struct Slots<T> {
     root: Option<Trie<T>>,
@@ -27,13 +28,14 @@ impl<T> Model for Slots<T> {
 }
 
 impl<T> Slots<T> {
-    /// The list without items.
+    /// Makes the list without items.
     pub fn new(alloc: Global) -> Slots<T>
         ensures { result ≡ [] }
     {
         Slots { root: None, alloc }
     }
 
+    /// Returns the number of items.
     pub fn len(&self) -> usize
         ensures { result ≡ length self.now }
     {
@@ -43,7 +45,7 @@ impl<T> Slots<T> {
         }
     }
 
-    /// The item at a place.
+    /// Returns the item at a place.
     pub fn at(&self, place: usize) -> &T
         requires { place < length self.now }
         ensures { slice_get self.now place ≡ Some result.now }
@@ -54,7 +56,7 @@ impl<T> Slots<T> {
         }
     }
 
-    /// The item at a place, if there is one.
+    /// Returns the item at a place, if there is one.
     pub fn get(&self, place: usize) -> Option<&T>
         ensures { MatchOption result (slice_get self.now place ≡ None) (λ x.
             slice_get self.now place ≡ Some x.now) }
@@ -66,7 +68,7 @@ impl<T> Slots<T> {
         }
     }
 
-    /// An equal list, which later changes of this one leave as it is.
+    /// Shares the list: an equal one, which later changes of this one leave as it is.
     pub fn share(&self) -> Mem<Slots<T>>
         ensures ok { IfOk result (λ s. s ≡ self.now) }
         ensures memory { OnlyMemory result }
@@ -83,7 +85,7 @@ impl<T> Slots<T> {
 }
 
 impl<T: Share + Drop> Slots<T> {
-    /// Puts an item in place of another.
+    /// Replaces the item at a place.
     pub fn set(&mut self, place: usize, item: T) -> Mem<()>
         requires { place < length self.old }
         ensures ok { OnOk result (self.new ≡ slice_set self.old place item) }

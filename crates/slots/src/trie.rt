@@ -12,7 +12,8 @@ use values::{Mem, Refusal};
 /// How many items a leaf has, and how many children a node has, before the tree grows.
 const FAN: usize = 16;
 
-/// A shared tree of items. Contracts see how many items a full child has, 1 at a leaf, and the items.
+/// A shared tree of items. Contracts see how many items a full child has, 1 at a leaf, and the
+/// items.
 #[cycle(trie)]
 #[derive(Drop)]
 pub struct Trie<T> {
@@ -53,12 +54,14 @@ impl<T> Model for Trie<T> {
 }
 
 impl<T> Trie<T> {
+    /// Returns the number of items.
     pub fn len(&self) -> usize
         ensures { result ≡ length self.now.1 }
     {
         self.node.len
     }
 
+    /// Returns the item at a place, if there is one.
     pub fn get(&self, at: usize) -> &T
         requires { at < length self.now.1 }
         ensures { slice_get self.now.1 at ≡ Some result.now }
@@ -79,7 +82,7 @@ impl<T> Share for Trie<T> {
 }
 
 impl<T: Share + Drop> Trie<T> {
-    /// A tree of one item.
+    /// Makes a tree of one item.
     pub fn leaf(alloc: Global, item: T) -> Mem<Trie<T>>
         ensures ok { IfOk result (λ t. t ≡ (1, item ∷ [])) }
         ensures memory { OnlyMemory result }
@@ -97,6 +100,7 @@ impl<T: Share + Drop> Trie<T> {
         Ok(Trie { node })
     }
 
+    /// Replaces the item at a place. Where memory runs out the tree is what it was.
     #[cycle(set)]
     pub fn set(&mut self, alloc: Global, at: usize, item: T) -> Mem<()>
         requires { at < length self.old.1 }
@@ -114,6 +118,7 @@ impl<T: Share + Drop> Trie<T> {
         Ok(())
     }
 
+    /// Changes the item at a place. Where memory runs out the tree is what it was.
     #[cycle(update)]
     pub fn update<C: Drop>(&mut self, alloc: Global, at: usize, change: C) -> Mem<()>
     where
@@ -136,6 +141,7 @@ impl<T: Share + Drop> Trie<T> {
         Ok(())
     }
 
+    /// Appends an item. Where memory runs out the tree is what it was.
     #[cycle(push)]
     pub fn push(&mut self, alloc: Global, item: T) -> Mem<()>
         ensures each { self.new.0 ≤ max self.old.0 (length self.old.1) }
