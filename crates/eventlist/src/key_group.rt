@@ -12,8 +12,8 @@ ghost use Rattle.eventlist.specs.KeyGroup.{is_up_to, first_key, AreOfKey, AreAbo
 use crate::place::{place_after, place_behind_key};
 use values::{Instant, KeyBytes, SharedEvent};
 
-/// The events of the first one's key, and those behind them. It takes as long as the first are many, in steps that
-/// double.
+/// Splits off the events of the first one's key from those behind them. It takes as long as the
+/// first are many, in steps that double.
 pub fn split_first_key(events: &[SharedEvent]) -> (&[SharedEvent], &[SharedEvent])
     requires sorted { IsStrictlySortedBy event_cmp events.now }
     requires some { 0 < length events.now }
@@ -62,7 +62,7 @@ fn is_up_to(events: &[SharedEvent], place: usize, key: &KeyBytes) -> bool
     }
 }
 
-/// How many of a key's events are at the instant or before it.
+/// Counts a key's events at the instant or before it.
 pub fn place_until(events: &[SharedEvent], instant: Instant) -> usize
     requires sorted { IsStrictlySortedBy event_cmp events.now }
     requires one_key { AreOfKey (first_key events.now) events.now }
@@ -75,7 +75,7 @@ pub fn place_until(events: &[SharedEvent], instant: Instant) -> usize
     }
 }
 
-/// Of a key's events the one whose row holds at the instant.
+/// Returns that of a key's events whose row holds at the instant.
 pub(crate) fn standing_of(events: &[SharedEvent], instant: Instant) -> Option<&SharedEvent>
     requires sorted { IsStrictlySortedBy event_cmp events.now }
     requires one_key { AreOfKey (first_key events.now) events.now }

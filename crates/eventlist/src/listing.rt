@@ -12,7 +12,7 @@ use keyrange::KeyRange;
 use std::alloc::Global;
 use values::{Instant, Mem, SharedEvent};
 
-/// The events of a range of keys, from an instant to another and with it, in order.
+/// Lists the events of a range of keys, from an instant to another and with it, in order.
 pub fn events_in(
     alloc: Global,
     events: &[SharedEvent],
@@ -48,7 +48,8 @@ fn events_between(
     Ok(found)
 }
 
-/// By key: the event of each key of a range whose row holds at an instant. It jumps from key to key.
+/// Lists, by key, the event of each key of a range whose row holds at an instant. It jumps from key
+/// to key.
 pub fn standing(
     alloc: Global,
     events: &[SharedEvent],

@@ -12,7 +12,7 @@ fn overtakes(event: &Event, instant: Instant, other: &Event) -> bool
     event.key().cmp(other.key()).is_eq() && event.at() < other.at() && other.at() <= instant
 }
 
-/// Whether the next event is a later one of an event's key, at the instant or before it.
+/// Tells whether the next event is a later one of an event's key, at the instant or before it.
 pub fn is_overtaken(event: &Event, instant: Instant, next: Option<&SharedEvent>) -> bool
     ensures { result ≡ is_overtaken event.now instant (option_copied next.entry) }
 {

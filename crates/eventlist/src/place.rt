@@ -18,7 +18,7 @@ fn is_until(key: &KeyBytes, instant: Instant, event: &Event) -> bool
     }
 }
 
-/// How many events are of lesser keys, or of the key and at the instant or before it.
+/// Counts the events of lesser keys, and those of the key at the instant or before it.
 pub fn place_after(events: &[SharedEvent], key: &KeyBytes, instant: Instant) -> usize
     requires { IsStrictlySortedBy event_cmp events.now }
     ensures bound { result ≤ length events.now }
@@ -27,7 +27,7 @@ pub fn place_after(events: &[SharedEvent], key: &KeyBytes, instant: Instant) -> 
     events.partition_point(|event| is_until(key, instant, event.event()))
 }
 
-/// A key's last event at an instant or before it.
+/// Finds a key's last event at an instant or before it.
 pub fn event_until<'a>(
     events: &'a [SharedEvent],
     key: &KeyBytes,
@@ -53,7 +53,7 @@ fn of_key<'a>(key: &KeyBytes, event: &'a Event) -> Option<&'a Event>
     }
 }
 
-/// The instant of a key's last event above `start`, where there is one.
+/// Finds the instant of a key's last event above `start`, if there is one.
 pub fn event_since(events: &[SharedEvent], key: &KeyBytes, start: Instant) -> Option<Instant>
     requires { IsStrictlySortedBy event_cmp events.now }
     ensures { result ≡ event_since events.now start key.now }
@@ -61,7 +61,7 @@ pub fn event_since(events: &[SharedEvent], key: &KeyBytes, start: Instant) -> Op
     since(start, last_event(events, key))
 }
 
-/// A key's last event.
+/// Finds a key's last event.
 pub fn last_event<'a>(events: &'a [SharedEvent], key: &KeyBytes) -> Option<&'a Event>
     requires { IsStrictlySortedBy event_cmp events.now }
     ensures { option_copied result ≡ last_event events.now key.now }
@@ -83,7 +83,7 @@ fn since(start: Instant, event: Option<&Event>) -> Option<Instant>
     }
 }
 
-/// How many events are before another.
+/// Counts the events before another.
 pub fn place_of(events: &[SharedEvent], event: &Event) -> usize
     requires { IsStrictlySortedBy event_cmp events.now }
     ensures bound { result ≤ length events.now }
@@ -92,7 +92,7 @@ pub fn place_of(events: &[SharedEvent], event: &Event) -> usize
     events.partition_point(|other| other.event().order(event).is_lt())
 }
 
-/// How many events are of lesser keys.
+/// Counts the events of lesser keys.
 pub fn place_of_key(events: &[SharedEvent], key: &KeyBytes) -> usize
     requires { IsStrictlySortedBy event_cmp events.now }
     ensures bound { result ≤ length events.now }
@@ -101,7 +101,7 @@ pub fn place_of_key(events: &[SharedEvent], key: &KeyBytes) -> usize
     events.partition_point(|event| event.event().key().cmp(key).is_lt())
 }
 
-/// How many events are of the key or of lesser ones.
+/// Counts the events of the key or of lesser ones.
 pub fn place_behind_key(events: &[SharedEvent], key: &KeyBytes) -> usize
     requires { IsStrictlySortedBy event_cmp events.now }
     ensures bound { result ≤ length events.now }

@@ -18,8 +18,8 @@ fn is_there(events: &[SharedEvent], place: usize, event: &SharedEvent) -> bool
     }
 }
 
-/// Puts an event in its place; it takes the place of one of its key and instant. Where memory runs out nothing has
-/// changed.
+/// Puts an event in its place; it replaces one of its key and instant. Where memory runs out
+/// nothing has changed.
 pub fn put_event(events: &mut Vec<SharedEvent>, event: SharedEvent) -> Mem<()>
     requires { IsStrictlySortedBy event_cmp events.old.items }
     ensures ok { OnOk result (events.new.items ≡ put_event event events.old.items) }

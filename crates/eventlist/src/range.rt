@@ -11,7 +11,7 @@ use crate::place::place_of_key;
 use keyrange::KeyRange;
 use values::{KeyBytes, SharedEvent};
 
-/// The events of a range of keys.
+/// Returns the events of a range of keys.
 pub fn of_range<'a>(events: &'a [SharedEvent], range: &KeyRange) -> &'a [SharedEvent]
     requires { IsStrictlySortedBy event_cmp events.now }
     ensures are { result.now ≡ filter (λ e. is_key_in range.now e.key) events.now }
@@ -21,7 +21,7 @@ pub fn of_range<'a>(events: &'a [SharedEvent], range: &KeyRange) -> &'a [SharedE
     rest.split_at(place_of_end(rest, &range.hi)).0
 }
 
-/// How many events are of keys before the end, which may be none.
+/// Counts the events of keys before the end, which may be none.
 pub(crate) fn place_of_end(events: &[SharedEvent], end: &Option<KeyBytes>) -> usize
     requires { IsStrictlySortedBy event_cmp events.now }
     ensures bound { result ≤ length events.now }
@@ -33,7 +33,8 @@ pub(crate) fn place_of_end(events: &[SharedEvent], end: &Option<KeyBytes>) -> us
     }
 }
 
-/// A place from which on no event is of a lesser key. It takes steps that double: a range of few events costs few looks.
+/// A place from which on no event is of a lesser key. It takes steps that double: a range of few
+/// events costs few looks.
 fn reach_below(events: &[SharedEvent], key: &KeyBytes) -> usize
     requires { IsStrictlySortedBy event_cmp events.now }
     ensures bound { result ≤ length events.now }

@@ -8,7 +8,8 @@ ghost use Rattle.eventlist.specs.Sort.{HasTie};
 
 use values::{Mem, SharedEvent};
 
-/// Puts events in order, and keeps one for each key and instant. Where memory runs out nothing has changed.
+/// Puts events in order, and keeps one for each key and instant. Where memory runs out nothing has
+/// changed.
 pub fn sort_events(events: &mut Vec<SharedEvent>) -> Mem<()>
     ensures sorted { OnOk result (IsStrictlySortedBy event_cmp events.new.items) }
     ensures from { OnOk result ((e : Change) →
