@@ -8,7 +8,7 @@ use keyrange::Rect;
 use std::alloc::Global;
 use values::{Event, Instant, Mem, SharedEvent};
 
-/// Whether the event at a place is carried to an instant, as the event after it shows.
+/// Tells whether the event at a place is carried to an instant, as the event after it shows.
 pub fn is_carried(events: &[SharedEvent], place: usize, instant: Instant) -> bool
     requires map { IsMap events.now }
     requires inside { place < length events.now }
@@ -35,7 +35,7 @@ fn is_in_cut(events: &[SharedEvent], place: usize, rect: &Rect) -> bool
         && (time.contains(event.at()) || is_carried(events, place, time.from))
 }
 
-/// The events that the rectangle holds, of which none is copied.
+/// Lists the events that the rectangle holds, without copying events.
 pub(crate) fn cut(alloc: Global, events: &[SharedEvent], rect: &Rect) -> Mem<Vec<SharedEvent>>
     requires { IsMap events.now }
     ensures ok { IfOk result (λ v. v.items ≡ cut rect.now events.now) }

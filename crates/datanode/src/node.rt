@@ -21,8 +21,8 @@ use values::{Event, Instant, KeyBytes, Mem, Row, SharedEvent};
 /// The most that a node of a tree may have: events, or references.
 pub const CAPACITY: usize = 64;
 
-/// The events that a rectangle holds of all changes. They are shared: of a node that is copied or split no event is
-/// copied.
+/// The events that a rectangle holds of all changes. They are shared: a node is copied or split
+/// without copying events.
 #[derive(Drop)]
 pub struct DataNode {
     alloc: Global,
@@ -41,7 +41,7 @@ impl Model for DataNode {
 }
 
 impl DataNode {
-    /// The node of a rectangle without events.
+    /// Makes the node of a rectangle without events.
     pub fn new(alloc: Global, rect: Rect) -> Mem<DataNode>
         ensures ok { IfOk result (λ n. n ≡ record { rect = rect; events = [] }) }
         ensures err { OnlyMemory result }
@@ -49,6 +49,7 @@ impl DataNode {
         Ok(node_of(alloc, rect, Vec::new(alloc)))
     }
 
+    /// Returns the rectangle.
     pub fn rect(&self) -> &Rect
         ensures rect { result.now ≡ self.now.rect }
         ensures area { IsArea result.now }
@@ -56,13 +57,14 @@ impl DataNode {
         &self.rect
     }
 
-    /// How many events the node holds.
+    /// Returns the number of events.
     pub fn len(&self) -> usize
         ensures { result ≡ length self.now.events }
     {
         self.events.len()
     }
 
+    /// Returns the events, in order.
     pub fn events(&self) -> &[SharedEvent]
         ensures are { result.now ≡ self.now.events }
         ensures node { IsNode self.now.rect self.now.events }
@@ -70,7 +72,7 @@ impl DataNode {
         &self.events
     }
 
-    /// A key's row at an instant.
+    /// Finds a key's row at an instant.
     pub fn at(&self, key: &KeyBytes, instant: Instant) -> Option<&Row>
         ensures row { option_copied result ≡ row_until self.now.events key.now instant }
         ensures of_map { (m : List Change) → IsCutOf self.now m
@@ -83,7 +85,7 @@ impl DataNode {
         }
     }
 
-    /// A key's last event.
+    /// Finds a key's last event.
     pub fn latest(&self, key: &KeyBytes) -> Option<&Event>
         ensures last { option_copied result ≡ last_event self.now.events key.now }
         ensures of_map { (m : List Change) → IsCutOf self.now m
@@ -94,8 +96,8 @@ impl DataNode {
         last_event(&self.events, key)
     }
 
-    /// Whether an event can be put: the node has no end, its rectangle holds the event's point, and the event is later
-    /// than each of its key.
+    /// Tells whether an event can be put: the node has no end, its rectangle holds the event's
+    /// point, and the event is later than each of its key.
     pub fn accepts(&self, event: &Event) -> bool
         ensures { IsTrue result ↔ Accepts self.now event.now }
     {
@@ -111,8 +113,8 @@ impl DataNode {
             && is_after(event, self.latest(event.key()))
     }
 
-    /// Puts an event that the node accepts. At the first instant it takes the place of the carried event of its key.
-    /// Where memory runs out nothing has changed.
+    /// Puts an event that the node accepts. At the first instant it replaces the carried event of
+    /// its key. Where memory runs out nothing has changed.
     pub fn put(&mut self, event: Event) -> Mem<()>
         requires { Accepts self.old event }
         ensures ok { OnOk result (self.new ≡ record {
@@ -129,7 +131,8 @@ impl DataNode {
         Ok(())
     }
 
-    /// The node's events of a range of keys, from an instant to another and with it, carried ones too.
+    /// Lists the node's events of a range of keys, from an instant to another and with it, carried
+    /// ones too.
     pub fn events_in(
         &self,
         alloc: Global,
@@ -143,7 +146,7 @@ impl DataNode {
         events_in(alloc, &self.events, range, from, to)
     }
 
-    /// An equal node, of which no event is copied.
+    /// Copies the node, without copying events.
     pub fn copy(&self) -> Mem<DataNode>
         ensures ok { IfOk result (λ n. n ≡ self.now) }
         ensures err { OnlyMemory result }
@@ -153,7 +156,7 @@ impl DataNode {
         Ok(node_of(self.alloc, rect, events))
     }
 
-    /// The node of a rectangle inside this one, of which no event is copied.
+    /// Makes the node of a rectangle inside this one, without copying events.
     pub fn part(&self, rect: Rect) -> Mem<DataNode>
         requires { IsInside rect self.now.rect }
         ensures ok { IfOk result (λ p.
