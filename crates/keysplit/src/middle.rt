@@ -10,7 +10,7 @@ use datanode::DataNode;
 use eventlist::place_behind_key;
 use values::{KeyBytes, SharedEvent};
 
-/// The key at place 32 of the events, or the next above it where it is the first one's.
+/// Returns the key at place 32 of the events, or the next above it where it is the first one's.
 pub fn middle_key(node: &DataNode) -> Option<&KeyBytes>
     requires { 33 ≤ length node.now.events }
     ensures key { option_copied result ≡ middle_key node.now.events }

@@ -9,7 +9,7 @@ ghost use Rattle.datanode.specs.Node.{IsCutOf};
 use datanode::DataNode;
 use values::{KeyBytes, Mem};
 
-/// The half below a key and the half from it on, of which no event is copied.
+/// Splits at a key: the half below it and the half from it on, without copying events.
 pub fn split_key(node: &DataNode, key: &KeyBytes) -> Mem<(DataNode, DataNode)>
     requires { IsTrue (is_key_inside node.now.rect key.now) }
     ensures rects { IfOk result (λ p.
