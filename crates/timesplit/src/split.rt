@@ -9,7 +9,7 @@ ghost use Rattle.datanode.specs.Node.{IsCutOf};
 use datanode::DataNode;
 use values::{Instant, Mem};
 
-/// The half before an instant and the half from it on, of which no event is copied.
+/// Splits at an instant: the half before it and the half from it on, without copying events.
 pub fn split_time(node: &DataNode, instant: Instant) -> Mem<(DataNode, DataNode)>
     requires { IsTrue (is_time_inside node.now.rect instant) }
     ensures rects { IfOk result (λ p.

@@ -16,8 +16,8 @@ fn stays(events: &[SharedEvent], place: usize, instant: Instant) -> bool
     instant <= events[place].event().at() || is_carried(events, place, instant)
 }
 
-/// How many events are from an instant on or carried to it: those that the current half would hold, of a node that is
-/// split there.
+/// Counts the events from an instant on or carried to it: those that the current half would hold,
+/// of a node that is split there.
 pub fn stay_count(node: &DataNode, instant: Instant) -> usize
     ensures count { result
         ≡ length (filter (λ e. nat_le instant e.at || is_carried node.now.events instant e)
