@@ -14,7 +14,8 @@ use std::alloc::Global;
 use values::{Instant, KeyBytes, Mem};
 
 impl<C> IndexNode<C> {
-    /// The least instant at which a current reference starts; None where there is no current one.
+    /// Finds the least instant at which a current reference starts; none where there is no current
+    /// one.
     pub fn least_current_start(&self) -> Option<Instant>
         ensures least { MatchOption result
             (current_count self.now.references.items ≡ 0)
@@ -36,7 +37,7 @@ impl<C> IndexNode<C> {
         least
     }
 
-    /// How many references are current.
+    /// Counts the current references.
     pub fn current_count(&self) -> usize
         ensures { result ≡ current_count self.now.references.items }
     {
@@ -47,7 +48,7 @@ impl<C> IndexNode<C> {
         current
     }
 
-    /// How many references the current half of a split at an instant would have.
+    /// Counts the references that the current half of a split at an instant would have.
     pub fn stay_count(&self, instant: Instant) -> usize
         ensures { result
             ≡ length (filter (λ r. ends_after instant r.rect) self.now.references.items) }
@@ -61,8 +62,8 @@ impl<C> IndexNode<C> {
         count
     }
 
-    /// The lower key of the current reference in the middle of them, in order by lower key; None where there is no
-    /// current one.
+    /// Finds the lower key of the current reference in the middle of them, in order by lower key;
+    /// none where there is no current one.
     pub fn middle_key(&self, alloc: Global) -> Mem<Option<KeyBytes>>
         ensures some { IfOk result (λ k. IfSome k (IsMiddle self.now.references.items)) }
         ensures none { IfOk result (λ k. IfNone k (current_count self.now.references.items ≡ 0)) }

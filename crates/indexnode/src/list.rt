@@ -9,7 +9,7 @@ use crate::reference::Reference;
 use std::alloc::Global;
 use values::Mem;
 
-/// A list of one reference, which tiles its own rectangle.
+/// Makes a list of one reference, which tiles its own rectangle.
 pub fn single<C: Drop>(alloc: Global, reference: Reference<C>) -> Mem<Vec<Reference<C>>>
     ensures are { IfOk result (λ v. v.items ≡ reference ∷ []) }
     ensures tiles { IfOk result (λ v. Tiles reference.rect v.items) }
@@ -25,7 +25,7 @@ pub fn single<C: Drop>(alloc: Global, reference: Reference<C>) -> Mem<Vec<Refere
     Ok(references)
 }
 
-/// A list of two references, which tile a rectangle whose halves they have.
+/// Makes a list of two references, which tile a rectangle whose halves they have.
 pub fn pair<C: Drop>(
     alloc: Global,
     first: Reference<C>,

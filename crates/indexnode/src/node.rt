@@ -19,7 +19,7 @@ pub struct IndexNode<C> {
 }
 
 impl<C> IndexNode<C> {
-    /// A node of a rectangle and the references that tile it.
+    /// Makes a node of a rectangle and the references that tile it.
     pub fn new(alloc: Global, rect: Rect, references: Vec<Reference<C>>) -> Mem<IndexNode<C>>
         requires { Tiles rect references.items }
         ensures rect { IfOk result (λ n. n.rect ≡ rect) }
@@ -33,6 +33,7 @@ impl<C> IndexNode<C> {
         })
     }
 
+    /// Returns the rectangle.
     pub fn rect(&self) -> &Rect
         ensures rect { result.now ≡ self.now.rect }
         ensures area { IsArea result.now }
@@ -42,14 +43,14 @@ impl<C> IndexNode<C> {
         &self.rect
     }
 
-    /// The references, in their order.
+    /// Returns the references, in their order.
     pub fn references(&self) -> &[Reference<C>]
         ensures { result.now ≡ self.now.references.items }
     {
         self.references.as_slice()
     }
 
-    /// The one reference at a point of the node's rectangle.
+    /// Finds the one reference at a point of the node's rectangle.
     pub fn find(&self, key: &KeyBytes, instant: Instant) -> &Reference<C>
         requires inside { IsTrue (has_point self.now.rect key.now instant) }
         requires tiled { Tiles self.now.rect self.now.references.items }
@@ -64,7 +65,7 @@ impl<C> IndexNode<C> {
         &self.references[place]
     }
 
-    /// The references that have a point in common with a rectangle, in their order.
+    /// Lists the references that have a point in common with a rectangle, in their order.
     pub fn meeting(&self, alloc: Global, rect: &Rect) -> Mem<Vec<&Reference<C>>>
         ensures are { IfOk result (λ v.
             map (λ r. r.now) v.items
@@ -84,7 +85,7 @@ impl<C> IndexNode<C> {
 }
 
 impl<C: Share + Drop> IndexNode<C> {
-    /// An equal node, whose children are shared.
+    /// Copies the node, and shares its children.
     pub fn copy(&self) -> Mem<IndexNode<C>>
         ensures rect { IfOk result (λ n. n.rect ≡ self.now.rect) }
         ensures references { IfOk result (λ n. n.references.items ≡ self.now.references.items) }

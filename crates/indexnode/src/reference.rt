@@ -1,3 +1,4 @@
+//! References to children.
 ghost use Rattle.std.specs.Prelude.{◌≡◌, IfOk};
 ghost use Rattle.values.specs.Memory.{OnlyMemory};
 
@@ -13,7 +14,7 @@ pub struct Reference<C> {
 }
 
 impl<C: Share> Reference<C> {
-    /// An equal reference.
+    /// Shares the child: an equal reference.
     pub(crate) fn share(&self) -> Mem<Reference<C>>
         ensures ok { IfOk result (λ r. r ≡ self.now) }
         ensures err { OnlyMemory result }

@@ -16,8 +16,8 @@ use slots::Share;
 use values::Mem;
 
 impl<C: Drop> IndexNode<C> {
-    /// Puts references in the place of the one that has a rectangle; false where none has it. Where it is false, or
-    /// memory runs out, nothing has changed.
+    /// Replaces the reference that has a rectangle by others; false where none has it. Where it is
+    /// false, or memory runs out, nothing has changed.
     pub fn replace(&mut self, rect: &Rect, given: Vec<Reference<C>>) -> Mem<bool>
         requires tiles { Tiles rect.now given.items }
         requires inside { All (λ r. IsInside r.rect rect.now) given.items }
@@ -49,7 +49,7 @@ impl<C: Drop> IndexNode<C> {
 }
 
 impl<C: Share + Drop> IndexNode<C> {
-    /// The node with references to two halves in the place of the one to their whole.
+    /// Makes the node with references to two halves in place of the one to their whole.
     pub fn with_references(
         &self,
         whole: &Rect,
@@ -87,15 +87,9 @@ fn place_of<C>(rect: &Rect, references: &[Reference<C>]) -> Option<usize>
         (IsFirstPlace rect.now references.now) }
 {
     for (place, reference) in references.iter().enumerate() {
-        if is_same(&reference.rect, rect) {
+        if reference.rect == *rect {
             return Some(place);
         }
     }
     None
-}
-
-fn is_same(one: &Rect, other: &Rect) -> bool
-    ensures { IsTrue result ↔ (one.now ≡ other.now) }
-{
-    one.keys() == other.keys() && one.time() == other.time()
 }

@@ -10,8 +10,8 @@ use keyrange::{Rect, is_before_end, is_below, is_early};
 use slots::Share;
 use values::{Instant, KeyBytes, Mem};
 
-/// What a half keeps: the references that reach below a key, or to it and above; those that start before an instant, or
-/// end after it.
+/// What a half keeps: the references that reach below a key, or to it and above; those that start
+/// before an instant, or end after it.
 #[derive(Clone, Copy)]
 pub(crate) enum Half<'a> {
     Below(&'a KeyBytes),
@@ -21,8 +21,8 @@ pub(crate) enum Half<'a> {
 }
 
 impl<C: Share + Drop> IndexNode<C> {
-    /// The half below a key and the half from it on. A historical reference that crosses the key is in both, each
-    /// with its child.
+    /// Splits at a key: the half below it and the half from it on. A historical reference that
+    /// crosses the key is in both, each with its child.
     pub fn split_key(&self, key: &KeyBytes) -> Mem<(IndexNode<C>, IndexNode<C>)>
         requires inside { IsTrue (is_key_inside self.now.rect key.now) }
         requires uncrossed { IsUncrossed key.now self.now.references.items }
@@ -56,8 +56,8 @@ impl<C: Share + Drop> IndexNode<C> {
         ))
     }
 
-    /// The half before an instant and the half from it on. A reference that starts before the instant and ends after it
-    /// is in both, each with its child.
+    /// Splits at an instant: the half before it and the half from it on. A reference that starts
+    /// before the instant and ends after it is in both, each with its child.
     pub fn split_time(&self, instant: Instant) -> Mem<(IndexNode<C>, IndexNode<C>)>
         requires inside { IsTrue (is_time_inside self.now.rect instant) }
         requires before_current { IsBeforeCurrent instant self.now.references.items }
@@ -113,6 +113,7 @@ impl<C: Share + Drop> IndexNode<C> {
 }
 
 impl Half<'_> {
+    /// Tells whether a half keeps a reference's rectangle.
     pub(crate) fn keeps(&self, rect: &Rect) -> bool
         ensures { result ≡ keeps self.now rect.now }
     {
