@@ -14,7 +14,7 @@ use Rattle.treenodes.specs.Node.{TreeNode, IsAt}
 use Rattle.treenodes.specs.Event.{AcceptsEvent, with_put}
 use Rattle.treenodes.specs.Backlog.{is_data, is_unpacked, turn_cmp, comes_after, IsUnpackedAt, AreFalling, IsBacklog, IsBacklogBut}
 use Rattle.treenodes.proofs.NodeNumbers.{one_at, same_or_not, set_same}
-use Rattle.treenodes.proofs.RootAlone.{root}
+use Rattle.treenodes.specs.Root.{empty_leaf}
 use Rattle.treenodes.proofs.BacklogOrder.{other_way, later_is, never_itself}
 
 -- ---- a number that comes in, and one that goes
@@ -266,20 +266,20 @@ current_none n current = ap (λ (to : Option ℕ). is_data n.content && (is_some
 pub event_kept : (slots self : List TreeNode) (numbers : List ℕ) (number : ℕ) (e : Event) (new : List TreeNode) → slots ≡ self → number < length self → ((d : TreeNode) → AcceptsEvent (get_or self number d) e) → IsBacklog slots numbers
     → ((d : TreeNode) → new ≡ set slots number (with_put (get_or slots number d) e)) → IsBacklog new numbers
 event_kept slots self numbers number e new same lt takes b made =
-    subst (λ l. IsBacklog l numbers) (sym (made root))
+    subst (λ l. IsBacklog l numbers) (sym (made empty_leaf))
     (and_none (set slots number after) numbers number after (set_same slots number after n at) (current_none after current) (set_but slots number after numbers (but_none slots numbers number n at (current_none n current) b)))
   where
     n : TreeNode
-    n = get_or slots number root
+    n = get_or slots number empty_leaf
 
     after : TreeNode
     after = with_put n e
 
     at : IsAt slots number n
-    at = slice_get-get_or slots number root (subst (λ l. number < length l) (sym same) lt)
+    at = slice_get-get_or slots number empty_leaf (subst (λ l. number < length l) (sym same) lt)
 
     current : n.rect.time.to ≡ None
-    current = (subst (λ l. AcceptsEvent (get_or l number root) e) (sym same) (takes root)).accepted.current
+    current = (subst (λ l. AcceptsEvent (get_or l number empty_leaf) e) (sym same) (takes empty_leaf)).accepted.current
 
 pub next_kept : (slots : List TreeNode) (numbers : List ℕ) (n : TreeNode) (number : ℕ) (new : List TreeNode) → IsBacklog slots numbers → number ≡ length slots → new ≡ slots ++ n ∷ [] → IsBacklogBut new number numbers
 next_kept slots numbers n number new b is made = subst (λ l. IsBacklogBut l number numbers) (sym made) (subst (λ i. IsBacklogBut (slots ++ n ∷ []) i numbers) (sym is) (push_but slots n numbers b))

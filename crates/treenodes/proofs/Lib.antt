@@ -1,4 +1,5 @@
 pub mod NodeNumbers
+pub mod HistoryKept
 pub mod NodePut
 pub mod BacklogOrder
 pub mod BacklogKept

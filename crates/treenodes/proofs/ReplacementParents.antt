@@ -18,7 +18,7 @@ use Rattle.indexnode.specs.Split.{AreCurrentIn}
 use Rattle.treenodes.specs.declared.node.Child.TheVariants.{Index}
 use Rattle.keyrange.specs.Cut.{AreHalves}
 use Rattle.treenodes.specs.Split.{AreSplit, HasHalves}
-use Rattle.treenodes.proofs.ReplacementTree.{in_parent, split_tree, split_holds, halved}
+use Rattle.treenodes.proofs.ReplacementTree.{in_parent, split_tree, split_holds, halved, history}
 use Rattle.treenodes.proofs.NodeNumbers.{one_at}
 
 -- what holds of the value that a call gives
@@ -106,6 +106,7 @@ module _ (nodes : List TreeNode) (tree : IsTree nodes) (p c : ℕ) (h : IsParent
         tree = tree_after;
         holds = λ m holds cuts. split_holds nodes tree c p slot first second at_c split top.level x.rect x.references.items rs' at_p names_it m holds cuts;
         halved = halved nodes tree c p slot first second at_c split top.level x.rect x.references.items rs' at_p names_it _ refl placed_as;
+        history = history nodes tree c p slot first second at_c split top.level x.rect x.references.items rs' at_p names_it;
       }
 
       -- with the index node of the code

@@ -15,7 +15,9 @@ use Rattle.indexnode.proofs.ReplacementPlace.{fronts, backs}
 use Rattle.treenodes.specs.Node.{Content, Events, References, TreeNode, IsAt, references_of}
 use Rattle.treenodes.specs.Tree.{RefersTo, IsIndex, HasContent, HasRoot, IsTree}
 use Rattle.treenodes.specs.Map.{HoldsMap, IsCut, EndsBy, latest}
+use Rattle.treenodes.specs.History.{KeepsHistory}
 use Rattle.treenodes.specs.Split.{AreSplit, HoldCuts, Halved}
+use Rattle.treenodes.proofs.HistoryKept.{endless_outer, keeps_then, keeps_set, keeps_push}
 use Rattle.treenodes.proofs.NodeNumbers.{at_set, set_other, set_same, at_push, push_old, push_new, one_at, same_or_not}
 
 -- ---- of a list in which one alone passes, none behind that one does
@@ -302,6 +304,18 @@ module _ (nodes : List TreeNode) (tree : IsTree nodes) (c p : ℕ) (n first seco
     where
       more : length rs' ≡ length rs + 1
       more = omega (arith, two, ap length replaced.was ∙ length-append replaced.front (replaced.reference ∷ replaced.back), ap length replaced.is ∙ length-append (replaced.front ++ given) replaced.back, length-append replaced.front given)
+
+  -- ---- history
+
+  parent_current : rp.time.to ≡ None
+  parent_current = endless_outer n.rect rp (tree.areas c n at_c) split.current in_parent
+
+  pub history : first.packed ≡ None → second.packed ≡ None → KeepsHistory nodes after
+  history one two =
+      let lower = set nodes c first in
+      let upper = set lower p parent' in
+      keeps_then nodes lower after (keeps_set nodes c n first at_c split.current one)
+      (keeps_then lower upper after (keeps_set lower p parent parent' (set_other nodes c first p parent (λ e. c_not_p (sym e)) at_p) parent_current refl) (keeps_push upper second two))
 
   -- ---- the map
 

@@ -1,4 +1,5 @@
 pub mod Node
+pub mod History
 pub mod Backlog
 pub mod Tree
 pub mod Map

@@ -8,6 +8,7 @@ use Rattle.datanode.specs.Cut.{cut}
 use Rattle.indexnode.specs.declared.reference.Reference.{Reference}
 use Rattle.indexnode.specs.Split.{IsBeforeCurrent, IsUncrossed}
 use Rattle.treenodes.specs.Node.{TreeNode, References, IsAt, IsIndexNode, data_node, references_of}
+use Rattle.treenodes.specs.History.{KeepsHistory}
 use Rattle.treenodes.specs.Tree.{HasContent, IsTree}
 use Rattle.treenodes.specs.Lookup.{IsData}
 use Rattle.treenodes.specs.Map.{IsCut, HoldsMap, EndsBy, latest}
@@ -78,7 +79,8 @@ pub record Halved (before after : List TreeNode) (parent number : ℕ) (first se
   pub above_there : IsAt after parent above
   pub as_before : (p : TreeNode) → IsAt before parent p → IsLonger p above
 
--- what comes of two halves in the place of a node: still a tree, which holds each map of which they hold the cuts
+-- what comes of two halves in the place of a node: still a tree, which holds each map of which they hold the cuts, and
+-- keeps history where they have no block
 pub record HasHalves
     (before : List TreeNode)
     (parent number : ℕ)
@@ -89,6 +91,7 @@ pub record HasHalves
   pub holds :
       (m : List Event) → HoldsMap before m → HoldCuts m first second → HoldsMap after m
   pub halved : Halved before after parent number first second
+  pub history : first.packed ≡ None → second.packed ≡ None → KeepsHistory before after
 
 -- what a rectangle inside a data node holds of it
 abbrev pub part : Node → Area → TreeNode

@@ -7,11 +7,13 @@ ghost use Rattle.treenodes.specs.Tree.{IsTree};
 ghost use Rattle.treenodes.specs.Map.{HoldsMap, IsNext, changes};
 ghost use Rattle.treenodes.specs.Lookup.{IsLeafAt};
 ghost use Rattle.treenodes.specs.Event.{AcceptsEvent, with_put};
+ghost use Rattle.treenodes.specs.History.{KeepsHistory};
 
 use crate::nodes::Nodes;
 use values::{Event, Mem};
 
-/// The nodes with an event in the data node at its point. A node that nobody shares is written in place.
+/// Puts an event into the data node at its point. A node that nobody shares is written in place. `Memory` where it runs
+/// out.
 pub fn with_event(nodes: Nodes, number: usize, event: Event) -> Mem<Nodes>
     requires tree { IsTree nodes }
     requires holds { HoldsMap nodes (changes nodes) }
@@ -23,6 +25,7 @@ pub fn with_event(nodes: Nodes, number: usize, event: Event) -> Mem<Nodes>
         → IfOk result (λ s. s ≡ slice_set nodes number (with_put n event)) }
     ensures accepted { (n : TreeNode) → IsAt nodes number n
         → IfOk result (λ _. AcceptsEvent n event) }
+    ensures history { IfOk result (KeepsHistory nodes) }
     ensures err { OnlyMemory result }
 {
     nodes.with_event(number, event)

@@ -109,6 +109,21 @@ impl Slot {
         &self.child
     }
 
+    /// Returns the child of a current node, which is not packed.
+    pub(crate) fn current_child(&self) -> &Child
+        requires { self.now.rect.time.to ≡ None }
+        ensures is { self.now ≡ seen self.now.level result.now }
+        ensures unpacked { self.now.packed ≡ None }
+    {
+        let child = self.child();
+        if let Child::Packed(block) = child {
+            // Who asks for the rectangle knows that the node has ended.
+            let _rect = block.rect();
+            unreachable!()
+        }
+        child
+    }
+
     /// The current data node that is here.
     pub fn current(&self) -> &DataNode
         requires data { IsDataNode self.now.content }

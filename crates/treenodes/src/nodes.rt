@@ -14,7 +14,7 @@ use std::marker::Model;
 use values::{Event, Mem};
 
 /// The nodes of a tree by their numbers. A share of them is the same list. Beside it is kept which data nodes of history
-/// are still to be packed, so that asking for the first of them does not pass over all nodes.
+/// are still to be packed, so that the first of them is found without passing over all nodes.
 #[derive(Drop)]
 pub struct Nodes {
     slots: Slots<Slot>,
@@ -34,7 +34,7 @@ impl Model for Nodes {
 }
 
 impl Nodes {
-    /// No nodes.
+    /// Makes a list without nodes. `Memory` where it runs out.
     pub fn new(alloc: Global) -> Mem<Nodes>
         ensures ok { IfOk result (λ s. s ≡ []) }
         ensures err { OnlyMemory result }
@@ -44,13 +44,19 @@ impl Nodes {
         Ok(Nodes { slots, backlog })
     }
 
+    /// Returns how many nodes there are.
     pub fn len(&self) -> usize
         ensures { result ≡ length self.now }
     {
-        self.slots.len()
+        // Nothing is kept beside these: with one field more this would not compile.
+        let Nodes {
+            slots,
+            backlog: _backlog,
+        } = self;
+        slots.len()
     }
 
-    /// The node of a number.
+    /// Returns the node of a number.
     pub fn at(&self, number: usize) -> &Slot
         requires { number < length self.now }
         ensures { slice_get self.now number ≡ Some result.now }
@@ -58,7 +64,7 @@ impl Nodes {
         self.slots.at(number)
     }
 
-    /// The node of a number, if there is one.
+    /// Returns the node of a number, if there is one.
     pub fn get(&self, number: usize) -> Option<&Slot>
         ensures { MatchOption result (slice_get self.now number ≡ None) (λ s.
             slice_get self.now number ≡ Some s.now) }
@@ -66,7 +72,7 @@ impl Nodes {
         self.slots.get(number)
     }
 
-    /// An equal list, which later changes of this one leave as it is.
+    /// Returns an equal list, which later changes of this one leave as it is. `Memory` where it runs out.
     pub fn share(&self) -> Mem<Nodes>
         ensures ok { IfOk result (λ s. s ≡ self.now) }
         ensures err { OnlyMemory result }
@@ -76,8 +82,8 @@ impl Nodes {
         Ok(Nodes { slots, backlog })
     }
 
-    /// The first data node of history that is not packed: by the start of time, then by the lower key. After a rectangle
-    /// it is the first that comes behind that one. It takes no memory.
+    /// Returns the first data node of history that is not packed: by the start of time, then by the lower key. After a
+    /// rectangle it is the first that comes behind that one. It takes no memory.
     pub fn first_unpacked(&self, after: Option<&Rect>) -> Option<&Slot>
         ensures { MatchOption result
             ((p : TreeNode) → IsWaiting self.now (option_copied after.entry) p → ⊥)

@@ -1,12 +1,13 @@
 //! Two halves in the place of a node.
-ghost use Rattle.std.specs.Prelude.{◌≡◌, ◌<◌, ◌++◌, ◌∷◌, [], List, IfOk, length, slice_set};
+ghost use Rattle.std.specs.Prelude.{◌≡◌, ◌<◌, ◌++◌, ◌∷◌, [], List, IfOk, None, length, slice_set};
 ghost use Rattle.values.specs.Event.{Event as Change};
 ghost use Rattle.values.specs.Memory.{OnlyMemory};
 ghost use Rattle.keyrange.specs.Rect.{IsArea};
-ghost use Rattle.treenodes.specs.Node.{TreeNode, IsAt, seen};
+ghost use Rattle.treenodes.specs.Node.{TreeNode, IsAt, packed_of, seen};
 ghost use Rattle.treenodes.specs.Tree.{IsTree};
 ghost use Rattle.treenodes.specs.Map.{HoldsMap};
 ghost use Rattle.treenodes.specs.Lookup.{IsParent};
+ghost use Rattle.treenodes.specs.History.{KeepsHistory};
 ghost use Rattle.treenodes.specs.Split.{AreSplit, HoldCuts, Halved, HasHalves};
 
 use crate::node::{Child, Slot};
@@ -116,6 +117,8 @@ pub(crate) fn with_halves(
         Halved nodes s parent number (seen n.level first) (seen n.level second)) }
     ensures holds { (m : List Change) (n : TreeNode) → HoldsMap nodes m → IsAt nodes number n
         → HoldCuts m (seen n.level first) (seen n.level second) → IfOk result (λ s. HoldsMap s m) }
+    ensures history { packed_of first ≡ None → packed_of second ≡ None
+        → IfOk result (KeepsHistory nodes) }
     ensures err { OnlyMemory result }
 {
     let level = nodes.at(number).level();

@@ -1,5 +1,5 @@
 //! The root of a tree.
-ghost use Rattle.std.specs.Prelude.{◌≡◌, ◌++◌, ◌∷◌, [], ◌+◌, List, IfOk, length, slice_set};
+ghost use Rattle.std.specs.Prelude.{◌≡◌, ◌++◌, ◌∷◌, [], ◌+◌, List, IfOk, None, length, slice_set};
 ghost use Rattle.values.specs.Event.{Event as Change};
 ghost use Rattle.values.specs.Memory.{OnlyMemory};
 ghost use Rattle.treenodes.specs.Node.{TreeNode, IsAt};
@@ -7,7 +7,8 @@ ghost use Rattle.treenodes.specs.Tree.{IsTree, whole};
 ghost use Rattle.treenodes.specs.Map.{HoldsMap, changes};
 ghost use Rattle.treenodes.specs.Sound.{IsSound};
 ghost use Rattle.treenodes.specs.Lookup.{IsParent};
-ghost use Rattle.treenodes.specs.Root.{root_over};
+ghost use Rattle.treenodes.specs.History.{KeepsHistory};
+ghost use Rattle.treenodes.specs.Root.{empty_leaf, root_over};
 
 use crate::node::{Child, Slot};
 use crate::nodes::Nodes;
@@ -18,7 +19,7 @@ use slots::Share;
 use std::alloc::Global;
 use values::{KeyBytes, Mem};
 
-/// All keys, and all instants from 1 on.
+/// Returns the rectangle of all keys, and of all instants from 1 on.
 pub fn whole(alloc: Global) -> Rect
     ensures { result ≡ whole }
 {
@@ -32,8 +33,9 @@ pub fn whole(alloc: Global) -> Rect
     }
 }
 
-/// A tree of one data node, without events.
+/// Makes a tree of one data node, without events. `Memory` where it runs out.
 pub fn leaf_alone(alloc: Global) -> Mem<Nodes>
+    ensures alone { IfOk result (λ s. s ≡ empty_leaf ∷ []) }
     ensures sound { IfOk result (λ s. IsSound s 0) }
     ensures empty { IfOk result (λ s. changes s ≡ []) }
     ensures err { OnlyMemory result }
@@ -43,13 +45,15 @@ pub fn leaf_alone(alloc: Global) -> Mem<Nodes>
     Nodes::new(alloc)?.with_last(root)
 }
 
-/// A node over a root, with one reference: to the root, under another number.
+/// Makes a node over a root, with one reference: to the root, under another number.
 fn above(alloc: Global, root: &Slot, level: usize, number: usize) -> Mem<Slot>
-    requires { level ≡ root.now.level + 1 }
+    requires level { level ≡ root.now.level + 1 }
+    requires current { root.now.rect.time.to ≡ None }
     ensures ok { IfOk result (λ s. s ≡ root_over root.now number) }
+    ensures unpacked { root.now.packed ≡ None }
     ensures err { OnlyMemory result }
 {
-    let rect = root.child().rect();
+    let rect = root.current_child().rect();
     let whole = Reference {
         rect: rect.copy()?,
         child: number,
@@ -59,7 +63,8 @@ fn above(alloc: Global, root: &Slot, level: usize, number: usize) -> Mem<Slot>
     Slot::new(alloc, level, Child::Index(node))
 }
 
-/// The nodes with a new root, whose one reference is to the old one, which has a new number.
+/// Puts a new root over the old one, which has a new number then: the new one's only reference is to it. `Memory` where
+/// it runs out.
 pub fn with_new_root(alloc: Global, nodes: Nodes) -> Mem<Nodes>
     requires { IsTree nodes }
     ensures tree { IfOk result IsTree }
@@ -67,6 +72,7 @@ pub fn with_new_root(alloc: Global, nodes: Nodes) -> Mem<Nodes>
     ensures holds { (m : List Change) → HoldsMap nodes m → IfOk result (λ s. HoldsMap s m) }
     ensures raised { (root : TreeNode) → IsAt nodes 0 root → IfOk result (λ s.
         s ≡ slice_set nodes 0 (root_over root (length nodes)) ++ root ∷ []) }
+    ensures history { IfOk result (KeepsHistory nodes) }
     ensures err { OnlyMemory result }
 {
     let number = nodes.len();

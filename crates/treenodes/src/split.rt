@@ -11,6 +11,7 @@ ghost use Rattle.treenodes.specs.Node.{TreeNode, IsAt, data_node};
 ghost use Rattle.treenodes.specs.Tree.{IsTree};
 ghost use Rattle.treenodes.specs.Map.{HoldsMap, latest};
 ghost use Rattle.treenodes.specs.Lookup.{IsData, IsParent};
+ghost use Rattle.treenodes.specs.History.{KeepsHistory};
 ghost use Rattle.treenodes.specs.Split.{CanSplitKey, CanSplitTime, CanSplitIndexKey, CanSplitIndexTime, Halved, part, part_of};
 
 use crate::lookup::current_at;
@@ -37,7 +38,7 @@ fn is_time_splittable(time: TimeRange, instant: Instant) -> bool
     time.to.is_none() && time.from < instant && instant <= MAX_INSTANT
 }
 
-/// Whether a data node can be split at a key: it is current, and the key is strictly inside.
+/// Tells whether a data node can be split at a key: it is current, and the key is strictly inside.
 pub fn can_split_key(nodes: &Nodes, number: usize, key: &KeyBytes) -> bool
     requires { IsData nodes.now number }
     ensures { IsTrue result ↔ CanSplitKey nodes.now number key.now }
@@ -45,7 +46,8 @@ pub fn can_split_key(nodes: &Nodes, number: usize, key: &KeyBytes) -> bool
     is_key_splittable(nodes.at(number).child().rect(), key)
 }
 
-/// Whether a data node can be split at an instant: it is current, and the instant is after its start and not after the last one.
+/// Tells whether a data node can be split at an instant: it is current, and the instant is after its start and not
+/// after the greatest one.
 pub fn can_split_time(nodes: &Nodes, number: usize, instant: Instant) -> bool
     requires { IsData nodes.now number }
     ensures { IsTrue result ↔ CanSplitTime nodes.now number instant }
@@ -53,7 +55,7 @@ pub fn can_split_time(nodes: &Nodes, number: usize, instant: Instant) -> bool
     is_time_splittable(nodes.at(number).child().rect().time(), instant)
 }
 
-/// The nodes with a current data node split at a key.
+/// Splits a current data node at a key. `Memory` where it runs out.
 pub fn with_keys_split(
     alloc: Global,
     nodes: Nodes,
@@ -69,6 +71,7 @@ pub fn with_keys_split(
     ensures halved { (n : Node) (h : Area × Area) → IsAt nodes number (data_node n)
         → halves_by_key n.rect key.now ≡ Some h → IfOk result (λ s.
         Halved nodes s parent number (part n h.0) (part n h.1)) }
+    ensures history { IfOk result (KeepsHistory nodes) }
     ensures err { OnlyMemory result }
 {
     let (below, above) = split_key(current_at(&nodes, number), key)?;
@@ -82,7 +85,7 @@ pub fn with_keys_split(
     )
 }
 
-/// The nodes with a current data node split at an instant.
+/// Splits a current data node at an instant. `Memory` where it runs out.
 pub fn with_time_split(
     alloc: Global,
     nodes: Nodes,
@@ -99,6 +102,7 @@ pub fn with_time_split(
     ensures halved { (n : Node) (h : Area × Area) → IsAt nodes number (data_node n)
         → halves_by_time n.rect instant ≡ Some h → IfOk result (λ s.
         Halved nodes s parent number (part n h.0) (part n h.1)) }
+    ensures history { IfOk result (KeepsHistory nodes) }
     ensures err { OnlyMemory result }
 {
     let (past, now) = split_time(current_at(&nodes, number), instant)?;
@@ -112,7 +116,7 @@ pub fn with_time_split(
     )
 }
 
-/// The nodes with a current index node split at a key.
+/// Splits a current index node at a key. `Memory` where it runs out.
 pub fn with_index_keys_split(
     alloc: Global,
     nodes: Nodes,
@@ -130,6 +134,7 @@ pub fn with_index_keys_split(
         Halved nodes s parent number
         (part_of n h.0 (filter (λ r. reaches_below key.now r.rect)))
         (part_of n h.1 (filter (λ r. reaches_up key.now r.rect)))) }
+    ensures history { IfOk result (KeepsHistory nodes) }
     ensures err { OnlyMemory result }
 {
     let (below, above) = nodes.at(number).index().split_key(key)?;
@@ -143,7 +148,7 @@ pub fn with_index_keys_split(
     )
 }
 
-/// The nodes with a current index node split at an instant.
+/// Splits a current index node at an instant. `Memory` where it runs out.
 pub fn with_index_time_split(
     alloc: Global,
     nodes: Nodes,
@@ -161,6 +166,7 @@ pub fn with_index_time_split(
         Halved nodes s parent number
         (part_of n h.0 (filter (λ r. starts_before instant r.rect)))
         (part_of n h.1 (filter (λ r. ends_after instant r.rect)))) }
+    ensures history { IfOk result (KeepsHistory nodes) }
     ensures err { OnlyMemory result }
 {
     let (past, now) = nodes.at(number).index().split_time(instant)?;

@@ -1,4 +1,4 @@
-use Rattle.std.proofs.Common.{◌≡◌, set, sym, subst}
+use Rattle.std.proofs.Common.{◌≡◌, set, refl, sym, subst}
 use Rattle.std.specs.Prelude.{IfOk}
 use Rattle.std.proofs.lemmas.Option.{slice_get_within, get_or_from_slice_get}
 use Rattle.values.specs.Events.{put_event}
@@ -6,6 +6,8 @@ use Rattle.treenodes.specs.Node.{TreeNode, IsAt}
 use Rattle.treenodes.specs.Tree.{IsTree}
 use Rattle.treenodes.specs.Map.{HoldsMap, changes}
 use Rattle.treenodes.specs.Event.{AcceptsEvent, with_put}
+use Rattle.treenodes.specs.History.{KeepsHistory}
+use Rattle.treenodes.proofs.HistoryKept.{keeps_set}
 use Rattle.treenodes.proofs.NodeNumbers.{one_at}
 use Rattle.treenodes.proofs.ReplacementParents.{weaker}
 use Rattle.treenodes.proofs.EventTaken.{takes_next, tree_next, holds_next}
@@ -49,3 +51,11 @@ returns-clause-accepted c = λ n at.
     (λ s is. subst (λ (n : TreeNode). AcceptsEvent n c.args.event) (one_at c.args.nodes c.args.number leaf.node n leaf.there at)
     (takes_next c.args.nodes (changes c.args.nodes) c.requires.tree c.requires.holds c.args.event c.requires.next c.args.number c.requires.leaf))
     (made c n at)
+
+pub returns-clause-history : goal.returns-clause-history
+returns-clause-history c =
+    let leaf = c.requires.leaf.leaf in
+    let takes = takes_next c.args.nodes (changes c.args.nodes) c.requires.tree c.requires.holds c.args.event c.requires.next c.args.number c.requires.leaf in
+    weaker c.with_event.result (λ s. s ≡ set c.args.nodes c.args.number (with_put leaf.node c.args.event)) (KeepsHistory c.args.nodes)
+    (λ s is. subst (KeepsHistory c.args.nodes) (sym is) (keeps_set c.args.nodes c.args.number leaf.node (with_put leaf.node c.args.event) leaf.there takes.accepted.current refl))
+    (made c leaf.node leaf.there)

@@ -3,6 +3,7 @@ use Rattle.std.specs.Prelude.{IfOk}
 use Rattle.treenodes.specs.Node.{TreeNode, IsAt, seen}
 use Rattle.treenodes.specs.Tree.{IsTree}
 use Rattle.treenodes.specs.Map.{HoldsMap}
+use Rattle.treenodes.specs.History.{KeepsHistory}
 use Rattle.treenodes.specs.Split.{AreSplit, HoldCuts, Halved, HasHalves}
 use Rattle.treenodes.proofs.ReplacementParents.{parent_within, below_within, given, weaker}
 use Rattle.treenodes.proofs.NodeNumbers.{one_at}
@@ -49,3 +50,7 @@ returns-clause-halved c = λ n at. weaker c.place_halves.result (HasHalves c.arg
     (λ s. Halved c.args.nodes s c.args.parent c.args.number (seen n.level c.args.first) (seen n.level c.args.second))
     (λ s h. subst (λ q. Halved c.args.nodes s c.args.parent c.args.number q (seen n.level c.args.second)) (low_is c n at)
     (subst (λ q. Halved c.args.nodes s c.args.parent c.args.number c.in_ok-low.low q) (high_is c n at) h.halved)) (facts c)
+
+pub returns-clause-history : goal.returns-clause-history
+returns-clause-history c = λ first second. weaker c.place_halves.result (HasHalves c.args.nodes c.args.parent c.args.number c.in_ok-low.low c.in_ok-low.high) (KeepsHistory c.args.nodes)
+    (λ s h. h.history (ap (λ (q : TreeNode). q.packed) c.in_ok-low.ensures.first ∙ first) (ap (λ (q : TreeNode). q.packed) c.in_ok-low.ensures.second ∙ second)) (facts c)

@@ -1,4 +1,4 @@
-use Rattle.std.proofs.Common.{inl, subst}
+use Rattle.std.proofs.Common.{refl, inl, subst}
 use Rattle.std.specs.List.{filter}
 use Rattle.std.proofs.lemmas.Option.{slice_get_within}
 use Rattle.keyrange.specs.Rect.{Area}
@@ -45,3 +45,6 @@ returns-clause-halved c = λ n h at made.
     (λ s. Halved c.args.nodes s c.args.parent c.args.number (part_of n h.0 (filter (λ r. reaches_below c.args.key.now r.rect))) (part_of n h.1 (filter (λ r. reaches_up c.args.key.now r.rect))))
     (λ s made. alike c.args.nodes s c.args.parent c.args.number _ _ _ _ parts.0 parts.1 made)
     (c.with_halves.ensures.halved top c.at.ensures)
+
+pub returns-clause-history : goal.returns-clause-history
+returns-clause-history c = c.with_halves.ensures.history refl refl

@@ -1,4 +1,4 @@
-use Rattle.std.proofs.Common.{inr, subst}
+use Rattle.std.proofs.Common.{refl, inr, subst}
 use Rattle.std.specs.List.{filter}
 use Rattle.std.proofs.lemmas.Option.{slice_get_within}
 use Rattle.keyrange.specs.Rect.{Area}
@@ -45,3 +45,6 @@ returns-clause-halved c = λ n h at made.
     (λ s. Halved c.args.nodes s c.args.parent c.args.number (part_of n h.0 (filter (λ r. starts_before c.args.instant r.rect))) (part_of n h.1 (filter (λ r. ends_after c.args.instant r.rect))))
     (λ s made. alike c.args.nodes s c.args.parent c.args.number _ _ _ _ parts.0 parts.1 made)
     (c.with_halves.ensures.halved top c.at.ensures)
+
+pub returns-clause-history : goal.returns-clause-history
+returns-clause-history c = c.with_halves.ensures.history refl refl

@@ -1,4 +1,4 @@
-use Rattle.std.proofs.Common.{◌≡◌, None, inl, subst, ◌∙◌}
+use Rattle.std.proofs.Common.{refl, ◌≡◌, None, inl, subst, ◌∙◌}
 use Rattle.keyrange.specs.Rect.{Area}
 use Rattle.keyrange.specs.Cut.{halves_by_key}
 use Rattle.treenodes.specs.Node.{TreeNode, data_node}
@@ -41,3 +41,6 @@ returns-clause-halved c = λ n h at made.
     (λ s. Halved c.args.nodes s c.args.parent c.args.number (data_node c.in_ok-below.below) (data_node c.in_ok-below.above)) (λ s. Halved c.args.nodes s c.args.parent c.args.number (part n h.0) (part n h.1))
     (λ s made. alike c.args.nodes s c.args.parent c.args.number _ _ _ _ parts.0 parts.1 made)
     (c.with_halves.ensures.halved (data_node node) c.current_at.ensures)
+
+pub returns-clause-history : goal.returns-clause-history
+returns-clause-history c = c.with_halves.ensures.history refl refl
