@@ -28,7 +28,7 @@ use Rattle.treegrowth.specs.Growth.{AreOthersSmall, IsGrownLeaf, IsWayDown}
 use Rattle.treegrowth.specs.Commit.{IsBeforeCommit}
 use Rattle.treegrowth.proofs.PointOneKey.{filter_at_most, IsUpTo}
 
-length_put : (e : Event) (es : List Event) → length (put_event e es) ≤ length es + 1
+pub length_put : (e : Event) (es : List Event) → length (put_event e es) ≤ length es + 1
 length_put e [] = omega arith
 length_put e (d ∷ ds) = by (event_cmp e d) (length_put e ds)
   where
@@ -58,7 +58,7 @@ cut_is : (m : List Event) (r : Area) (c : Content) → IsDataNode c → IsCut m 
 cut_is m r (Events es) h is = is
 cut_is m r (References rs) h is = absurd h
 
-counted : (c : Content) → IsDataNode c → count_of c ≡ length (events_of c)
+pub counted : (c : Content) → IsDataNode c → count_of c ≡ length (events_of c)
 counted (Events es) h = refl
 counted (References rs) h = absurd h
 

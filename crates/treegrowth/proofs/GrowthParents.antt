@@ -1,35 +1,17 @@
 -- A current node's parent is current, and the nodes of a way differ.
-use Rattle.std.proofs.Common.{◌≡◌, ◌≢◌, ℕ, zero, suc, ◌+◌, ◌-◌, ◌<◌, true, List, get_or, Option, Some, None, refl, sym, ap, subst, ◌∙◌, arith}
+use Rattle.std.proofs.Common.{◌≡◌, ◌≢◌, ℕ, zero, suc, ◌+◌, ◌-◌, ◌<◌, List, get_or, None, sym, ap, subst, ◌∙◌, arith}
 use Rattle.std.specs.Prelude.{IsTrue, is_none}
-use Rattle.std.proofs.lemmas.Bool.{and_parts, and_from, ltb-true, le-leb}
-use Rattle.keyrange.specs.Rect.{Area, IsArea, IsInside, has_point}
-use Rattle.keyrange.specs.Range.{is_key_in, is_early}
-use Rattle.keyrange.proofs.RectInside.{first_key_in}
+use Rattle.keyrange.specs.Rect.{Area, IsInside}
 use Rattle.indexnode.specs.declared.reference.Reference.{Reference}
 use Rattle.indexnode.specs.Split.{is_current, AreCurrentIn}
 use Rattle.treenodes.specs.Node.{Content, Events, References, TreeNode, IsAt, references_of}
 use Rattle.treenodes.specs.Tree.{IsTree, HasContent}
 use Rattle.treenodes.specs.Lookup.{IsParent}
 use Rattle.treenodes.proofs.NodeNumbers.{one_at}
+use Rattle.treenodes.proofs.HistoryKept.{endless_outer}
 use Rattle.treenodes.proofs.ReplacementParents.{refers, below_there}
 use Rattle.treenodes.proofs.ReplacementKept.{one_above}
 use Rattle.treegrowth.specs.Growth.{IsWayDown}
-
--- a rectangle without an end lies in none with one
-endless_outer : (inner outer : Area) → IsArea inner → inner.time.to ≡ None → IsInside inner outer → outer.time.to ≡ None
-endless_outer inner outer area endless inside = by outer.time.to refl
-  where
-    point : (t : ℕ) → has_point inner inner.keys.lo (inner.time.from + t) ≡ true
-    point t = and_from _ _ (first_key_in inner area) (and_from _ _ (le-leb inner.time.from (inner.time.from + t) (omega arith)) (ap (is_early (inner.time.from + t)) endless))
-
-    by : (to : Option ℕ) → outer.time.to ≡ to → to ≡ None
-    by None is = refl
-    by (Some end) is = absurd (
-        let within = (and_parts (is_key_in outer.keys inner.keys.lo) _ (inside inner.keys.lo (inner.time.from + end) (point end))).1 in
-        let early : is_early (inner.time.from + end) (Some end) ≡ true = subst (λ o. is_early (inner.time.from + end) o ≡ true) is (and_parts _ _ within).1 in
-        let lt : inner.time.from + end < end = ltb-true (inner.time.from + end) end early in
-        omega arith
-        )
 
 current_in : (nodes : List TreeNode) (level : ℕ) (rect : Area) (content : Content) → HasContent nodes level rect content → AreCurrentIn rect (references_of content)
 current_in nodes level rect (Events es) h = λ k d lt. absurd (omega arith)

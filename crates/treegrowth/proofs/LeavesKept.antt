@@ -11,6 +11,7 @@ use Rattle.treenodes.proofs.NodeNumbers.{one_at, same_or_not, at_set, at_push, s
 use Rattle.treenodes.proofs.ReplacementParents.{refers, below_there}
 use Rattle.treenodes.proofs.ReplacementKept.{one_above}
 use Rattle.treegrowth.specs.Leaves.{IsLeafRect, HaveSameLeaves, IsLeafSplit}
+use Rattle.treegrowth.specs.Places.{DoLeavesStay, DoOtherLeavesStay}
 use Rattle.treegrowth.proofs.GrowthHalved.{Stands, Lower, Upper, Above, Other, stands, longer}
 
 rect_at : (nodes : List TreeNode) (i : ℕ) (n : TreeNode) (area : Area) → IsAt nodes i n → n.level ≡ 0 → n.rect ≡ area → IsLeafRect nodes area
@@ -35,8 +36,15 @@ module _ (before after : List TreeNode) (parent number : ℕ) (first second : Tr
       let one : n.level ≡ h.node.level = level_of n h.node (one_at before parent n h.node (ap (slice_get before) (sym same) ∙ there) h.there) in
       omega (arith, one, bottom, parent_high)
 
+  -- no data node but the split one changes
+  pub others_stay : DoOtherLeavesStay number before after
+  others_stay i q other there bottom = halved.others i q other (not_parent i q there bottom) there
+
   -- where index nodes are split, the data nodes stay
   module _ (n : TreeNode) (at : IsAt before number n) (high : 0 < n.level) (first_high : 0 < first.level) (second_high : 0 < second.level) where
+    pub leaves_stay : DoLeavesStay before after
+    leaves_stay i q there bottom = others_stay i q (λ same. let one = level_of q n (one_at before number q n (ap (slice_get before) (sym same) ∙ there) at) in omega (arith, one, bottom, high)) there bottom
+
     pub same_leaves : HaveSameLeaves before after
     same_leaves area = (back, forth)
       where
@@ -50,10 +58,7 @@ module _ (before after : List TreeNode) (parent number : ℕ) (first second : Tr
             by (Other not_number differs there) = rect_at before leaf.number leaf.node area there leaf.bottom leaf.has
 
         forth : IsLeafRect before area → IsLeafRect after area
-        forth leaf = rect_at after leaf.number leaf.node area
-            (halved.others leaf.number leaf.node (λ same. let one = level_of leaf.node n (one_at before number leaf.node n (ap (slice_get before) (sym same) ∙ leaf.there) at) in omega (arith, one, leaf.bottom, high))
-            (not_parent leaf.number leaf.node leaf.there leaf.bottom) leaf.there)
-            leaf.bottom leaf.has
+        forth leaf = rect_at after leaf.number leaf.node area (leaves_stay leaf.number leaf.node leaf.there leaf.bottom) leaf.bottom leaf.has
 
   -- where a data node is split, its halves take its place
   module _ (n : TreeNode) (at : IsAt before number n) (bottom : n.level ≡ 0) (areas : Area × Area) (first_bottom : first.level ≡ 0) (second_bottom : second.level ≡ 0) (first_is : first.rect ≡ areas.0) (second_is : second.rect ≡ areas.1) where

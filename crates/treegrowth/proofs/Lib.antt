@@ -8,6 +8,7 @@ pub mod ReliefCurrent
 pub mod ReliefSplit
 pub mod LeafHalves
 pub mod CommitTaken
+pub mod PlacesKept
 pub mod CommitDue
 pub mod SplitSteps
 pub mod CommitFew

@@ -1,19 +1,23 @@
 //! A tree takes a commit's events.
-ghost use Rattle.std.specs.Prelude.{◌≡◌, ◌<◌, ◌≤◌, IfOk, length};
+ghost use Rattle.std.specs.Prelude.{◌≡◌, ◌<◌, ◌≤◌, ◌∷◌, [], IfOk, List, length};
+ghost use Rattle.values.specs.Event.{Event as Change};
 ghost use Rattle.values.specs.Commits.{max_instant};
 ghost use Rattle.values.specs.Events.{put_event};
 ghost use Rattle.values.specs.Memory.{OnlyMemory};
 ghost use Rattle.treenodes.specs.Map.{IsNext, changes};
 ghost use Rattle.treenodes.specs.Sound.{IsSound, IsTreeOf};
+ghost use Rattle.treenodes.specs.History.{KeepsHistory};
 ghost use Rattle.treegrowth.specs.Commit.{IsCommit, IsBeforeCommit, put_each};
+ghost use Rattle.treegrowth.specs.Places.{SplitsOverfull};
 
 use crate::leaf::relieved_leaf;
 use std::alloc::Global;
 use treenodes::{Nodes, way, with_event};
 use values::{Event, Instant, Mem};
 
-/// The nodes with the events of a commit at an instant after the last one: by key, one a key. After each event a node
-/// that has too many is split, as at a time at which the last commit is the one before.
+/// Puts the events of a commit into the nodes, at an instant after the last one: by key, one for each key. After each
+/// event a node that has too many is split, as at a time at which the last commit is the one before. `Memory` where it
+/// runs out.
 pub fn with_commit(
     alloc: Global,
     mut nodes: Nodes,
@@ -28,6 +32,8 @@ pub fn with_commit(
     ensures kept { IfOk result (λ s. IsTreeOf s (put_each events.items (changes nodes))) }
     ensures changes { IfOk result (λ s. changes s ≡ put_each events.items (changes nodes)) }
     ensures sound { 0 < length events.items → IfOk result (λ s. IsSound s instant) }
+    ensures history { IfOk result (KeepsHistory nodes) }
+    ensures splits { IfOk result (SplitsOverfull events.items [] nodes) }
     ensures err { OnlyMemory result }
 {
     for event in events {
@@ -36,12 +42,15 @@ pub fn with_commit(
     Ok(nodes)
 }
 
-/// The nodes with one event of a commit after the last instant.
+/// Puts one event of a commit after the last instant into the nodes.
 fn with_change(alloc: Global, nodes: Nodes, last: Instant, event: Event) -> Mem<Nodes>
     requires kept { IsTreeOf nodes (changes nodes) }
     requires takes { IsBeforeCommit (changes nodes) last event.at }
     requires next { IsNext (changes nodes) event }
     ensures kept { IfOk result (λ s. IsTreeOf s (put_event event (changes nodes))) }
+    ensures history { IfOk result (KeepsHistory nodes) }
+    ensures splits { (rest : List Change)
+        → IfOk result (SplitsOverfull (event ∷ rest) rest nodes) }
     ensures err { OnlyMemory result }
 {
     let numbers = way(alloc, &nodes, event.key(), event.at())?;

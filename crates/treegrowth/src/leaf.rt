@@ -10,9 +10,11 @@ ghost use Rattle.treenodes.specs.Tree.{IsTree};
 ghost use Rattle.treenodes.specs.Map.{HoldsMap, latest};
 ghost use Rattle.treenodes.specs.Lookup.{IsParent};
 ghost use Rattle.treenodes.specs.Sound.{IsTreeOf};
+ghost use Rattle.treenodes.specs.History.{KeepsHistory};
 ghost use Rattle.treenodes.specs.Split.{Halved, part};
 ghost use Rattle.treegrowth.specs.Growth.{AreOthersSmall, IsGrownLeaf, IsSplittable, IsWayDown};
 ghost use Rattle.treegrowth.specs.Leaves.{IsLeafSplit};
+ghost use Rattle.treegrowth.specs.Places.{DoOtherLeavesStay, IsRelieved};
 ghost use Rattle.treegrowth.specs.Point.{CanSplitAt, IsReached, halves_at};
 
 use crate::point::{SplitPoint, overflow_point};
@@ -37,6 +39,8 @@ pub(crate) fn relieved_leaf(
     requires upto { last ≤ max_instant }
     ensures kept { (m : List Change) → HoldsMap nodes m → last ≤ latest m
         → IfOk result (λ s. IsTreeOf s m) }
+    ensures history { IfOk result (KeepsHistory nodes) }
+    ensures relieved { HoldsAt (λ number. IfOk result (IsRelieved number nodes)) way.now depth }
     ensures err { OnlyMemory result }
 {
     let node = current_at(&nodes, way[depth]);
@@ -63,6 +67,9 @@ pub(crate) fn with_leaf_split(
     ensures leaves { HoldsAt (λ number. (n : Node) (h : Area × Area)
         → IsAt nodes number (data_node n) → halves_at n.rect point.now ≡ Some h
         → IfOk result (λ s. IsLeafSplit nodes s n.rect h)) way.now depth }
+    ensures history { IfOk result (KeepsHistory nodes) }
+    ensures others { HoldsAt (λ number. IfOk result (DoOtherLeavesStay number nodes))
+        way.now depth }
     ensures err { OnlyMemory result }
 {
     let number = way[depth];
@@ -82,6 +89,8 @@ fn with_root_split(alloc: Global, nodes: Nodes, point: &SplitPoint) -> Mem<Nodes
     ensures leaves { (n : Node) (h : Area × Area)
         → IsAt nodes 0 (data_node n) → halves_at n.rect point.now ≡ Some h
         → IfOk result (λ s. IsLeafSplit nodes s n.rect h) }
+    ensures history { IfOk result (KeepsHistory nodes) }
+    ensures others { IfOk result (DoOtherLeavesStay 0 nodes) }
     ensures err { OnlyMemory result }
 {
     let number = nodes.len();
@@ -106,6 +115,7 @@ fn with_halves_at(
     ensures halved { (n : Node) (h : Area × Area)
         → IsAt nodes number (data_node n) → halves_at n.rect point.now ≡ Some h
         → IfOk result (λ s. Halved nodes s parent number (part n h.0) (part n h.1)) }
+    ensures history { IfOk result (KeepsHistory nodes) }
     ensures err { OnlyMemory result }
 {
     match point {

@@ -6,8 +6,10 @@ ghost use Rattle.treenodes.specs.Tree.{IsTree};
 ghost use Rattle.treenodes.specs.Map.{HoldsMap};
 ghost use Rattle.treenodes.specs.Lookup.{IsParent};
 ghost use Rattle.treenodes.specs.Sound.{IsTreeOf};
+ghost use Rattle.treenodes.specs.History.{KeepsHistory};
 ghost use Rattle.treegrowth.specs.Growth.{AreOthersSmall, IsGrownIndex, IsIndexSplit, IsOverfull, IsWayDown};
 ghost use Rattle.treegrowth.specs.Leaves.{HaveSameLeaves};
+ghost use Rattle.treegrowth.specs.Places.{DoLeavesStay};
 ghost use Rattle.treegrowth.specs.Point.{is_index_split_by_time};
 
 use crate::point::STAY_LIMIT;
@@ -25,6 +27,8 @@ pub(crate) fn relieve(alloc: Global, nodes: Nodes, way: &[usize], depth: usize) 
     requires grown { HoldsAt (IsGrownIndex nodes) way.now depth }
     ensures kept { (m : List Change) → HoldsMap nodes m → IfOk result (λ s. IsTreeOf s m) }
     ensures leaves { IfOk result (HaveSameLeaves nodes) }
+    ensures stay { IfOk result (DoLeavesStay nodes) }
+    ensures history { IfOk result (KeepsHistory nodes) }
     ensures err { OnlyMemory result }
 {
     let number = way[depth];
@@ -45,6 +49,8 @@ fn with_root_split(alloc: Global, nodes: Nodes) -> Mem<Nodes>
     requires grown { IsOverfull nodes 0 }
     ensures kept { (m : List Change) → HoldsMap nodes m → IfOk result (λ s. IsTreeOf s m) }
     ensures leaves { IfOk result (HaveSameLeaves nodes) }
+    ensures stay { IfOk result (DoLeavesStay nodes) }
+    ensures history { IfOk result (KeepsHistory nodes) }
     ensures err { OnlyMemory result }
 {
     let number = nodes.len();
@@ -61,6 +67,7 @@ fn with_index_split(alloc: Global, nodes: Nodes, parent: usize, number: usize) -
     ensures tree { IfOk result IsTree }
     ensures holds { (m : List Change) → HoldsMap nodes m → IfOk result (λ s. HoldsMap s m) }
     ensures split { IfOk result (λ s. IsIndexSplit nodes s parent number) }
+    ensures history { IfOk result (KeepsHistory nodes) }
     ensures err { OnlyMemory result }
 {
     let node = nodes.at(number).index();

@@ -6,6 +6,7 @@ ghost use Rattle.keyrange.specs.Cut.{halves_by_key};
 ghost use Rattle.treenodes.specs.Node.{TreeNode, IsAt};
 ghost use Rattle.treenodes.specs.Map.{changes};
 ghost use Rattle.treenodes.specs.Sound.{IsSound};
+ghost use Rattle.treenodes.specs.History.{KeepsHistory};
 ghost use Rattle.treegrowth.specs.Growth.{IsWayDown};
 ghost use Rattle.treegrowth.specs.Leaves.{IsCurrentLeaf, IsLeafSplit, IsSplitIn, halves_upto};
 ghost use Rattle.treegrowth.specs.Point.{CanSplitAt, IsReached, halves_at};
@@ -16,11 +17,12 @@ use std::alloc::Global;
 use treenodes::{Nodes, can_split_key, can_split_time, current_at, way};
 use values::{Instant, KeyBytes, MAX_INSTANT, Mem};
 
-/// The nodes with the current data node of a key split there; None where the node begins at the key.
+/// Splits the current data node of a key there; None where the node begins at the key. `Memory` where it runs out.
 pub fn key_split(alloc: Global, nodes: &Nodes, last: Instant, key: &KeyBytes) -> Mem<Option<Nodes>>
     requires { IsSound nodes.now last }
     ensures sound { IfOk result (λ o. IfSome o (λ s. IsSound s last)) }
     ensures same { IfOk result (λ o. IfSome o (λ s. changes s ≡ changes nodes.now)) }
+    ensures history { IfOk result (λ o. IfSome o (KeepsHistory nodes.now)) }
     ensures split { (n : TreeNode) → IsCurrentLeaf nodes.now key.now n → IfOk result (λ o.
         MatchOption o (halves_by_key n.rect key.now ≡ None) (λ s.
         IsSplitIn nodes.now s n.rect (halves_by_key n.rect key.now))) }
@@ -35,8 +37,8 @@ pub fn key_split(alloc: Global, nodes: &Nodes, last: Instant, key: &KeyBytes) ->
     Ok(Some(with_split(alloc, nodes, last, way, &point)?))
 }
 
-/// The nodes with the current data node of a key split at an instant; None where the instant is not after the node's
-/// start, or after the last commit.
+/// Splits the current data node of a key at an instant; None where the instant is not after the node's start, or after
+/// the last commit. `Memory` where it runs out.
 pub fn time_split(
     alloc: Global,
     nodes: &Nodes,
@@ -47,6 +49,7 @@ pub fn time_split(
     requires { IsSound nodes.now last }
     ensures sound { IfOk result (λ o. IfSome o (λ s. IsSound s last)) }
     ensures same { IfOk result (λ o. IfSome o (λ s. changes s ≡ changes nodes.now)) }
+    ensures history { IfOk result (λ o. IfSome o (KeepsHistory nodes.now)) }
     ensures split { (n : TreeNode) → IsCurrentLeaf nodes.now key.now n → IfOk result (λ o.
         MatchOption o (halves_upto last n.rect instant ≡ None) (λ s.
         IsSplitIn nodes.now s n.rect (halves_upto last n.rect instant))) }
@@ -64,7 +67,7 @@ pub fn time_split(
     Ok(Some(with_split(alloc, nodes, last, way, &point)?))
 }
 
-/// A share of the nodes, with the data node at the end of a way split.
+/// Splits the data node at the end of a way in a share of the nodes.
 fn with_split(
     alloc: Global,
     nodes: &Nodes,
@@ -79,6 +82,7 @@ fn with_split(
     requires reached { IsReached (changes nodes.now) point.now }
     ensures sound { IfOk result (λ s. IsSound s last) }
     ensures same { IfOk result (λ s. changes s ≡ changes nodes.now) }
+    ensures history { IfOk result (KeepsHistory nodes.now) }
     ensures leaves { HoldsAt (λ number. (n : TreeNode) (h : Area × Area)
         → IsAt nodes.now number n → halves_at n.rect point.now ≡ Some h
         → IfOk result (λ s. IsLeafSplit nodes.now s n.rect h)) way.now (length way.now - 1) }

@@ -1,10 +1,13 @@
 use Rattle.std.proofs.Common.{◌≡◌, ◌-◌, ◌<◌, get_or, sym, subst, arith}
 use Rattle.std.proofs.lemmas.List.{get_or_default}
+use Rattle.treenodes.specs.History.{KeepsHistory}
+use Rattle.treenodes.proofs.HistoryKept.{keeps_then}
 use Rattle.treenodes.proofs.ReplacementParents.{weaker}
 use Rattle.treegrowth.specs.Growth.{AreOthersSmall, IsGrownIndex, IsOverfull}
 use Rattle.treegrowth.specs.Leaves.{HaveSameLeaves}
+use Rattle.treegrowth.specs.Places.{DoLeavesStay}
 use Rattle.treegrowth.proofs.GrowthHalved.{positive, grown_parent, way_kept, parent_on_way}
-use Rattle.treegrowth.proofs.GrowthRaised.{index_others, index_leaves}
+use Rattle.treegrowth.proofs.GrowthRaised.{index_others, index_leaves, index_stay}
 use Rattle.treegrowth.proofs.ReliefSplit.{overfull_at}
 use Rattle.treegrowth.proofs.LeavesKept.{same_then}
 use Rattle.treegrowth.proofs.relief.+relieve.Goals as goal
@@ -59,3 +62,22 @@ returns-clause-leaves t c =
     weaker c.relieve.result (HaveSameLeaves next) (HaveSameLeaves nodes)
     (λ s same. same_then nodes next s (index_leaves nodes next parent number c.requires.tree above c.in_ok-nodes.ensures.split over) same)
     c.relieve.ensures.leaves
+
+pub returns-clause-stay : goal.returns-clause-stay
+returns-clause-stay t c =
+    let nodes = c.args.nodes in
+    let next = c.in_ok-nodes.nodes in
+    let way = c.args.way.now in
+    let some : 0 < c.args.depth = positive c.args.depth c.if-depth-eq0.false in
+    let parent = get_or way (c.args.depth - 1) 0 in
+    let number = get_or way c.args.depth 0 in
+    let above = parent_on_way nodes next way c.args.depth c.requires.tree c.requires.way some 0 in
+    let over = overfull_at nodes number (c.requires.grown 0) c.at.result.now c.at.result.now.level c.index.result.now c.references.result.now c.at.ensures c.index.ensures c.references.ensures c.if-references-le-CAPACITY.false in
+    weaker c.relieve.result (DoLeavesStay next) (DoLeavesStay nodes)
+    (λ s stay i n there bottom. stay i n (index_stay nodes next parent number c.requires.tree above c.in_ok-nodes.ensures.split over i n there bottom) bottom)
+    c.relieve.ensures.stay
+
+pub returns-clause-history : goal.returns-clause-history
+returns-clause-history t c =
+    weaker c.relieve.result (KeepsHistory c.in_ok-nodes.nodes) (KeepsHistory c.args.nodes)
+    (λ s kept. keeps_then c.args.nodes c.in_ok-nodes.nodes s c.in_ok-nodes.ensures.history kept) c.relieve.ensures.history

@@ -3,6 +3,7 @@ use Rattle.std.proofs.lemmas.List.{get_or_default}
 use Rattle.treenodes.specs.Node.{TreeNode, IsAt, data_node}
 use Rattle.treenodes.specs.Map.{HoldsMap, changes}
 use Rattle.treenodes.specs.Sound.{IsSound, IsTreeOf}
+use Rattle.treenodes.specs.History.{KeepsHistory}
 use Rattle.treenodes.proofs.NodeNumbers.{one_at}
 use Rattle.treenodes.proofs.ReplacementParents.{weaker}
 use Rattle.treegrowth.specs.Growth.{IsSplittable}
@@ -77,3 +78,8 @@ returns-clause-leaves c = λ d n h at made.
     weaker c.with_leaf_split.result (λ s. IsLeafSplit shared s node.rect h) (λ s. IsLeafSplit nodes s n.rect h)
     (λ s split. subst (λ a. IsLeafSplit a s n.rect h) same (subst (λ r. IsLeafSplit shared s r h) rects split))
     (c.with_leaf_split.ensures.leaves 0 node h there (ap (λ r. halves_at r point) rects ∙ made))
+
+pub returns-clause-history : goal.returns-clause-history
+returns-clause-history c =
+    weaker c.with_leaf_split.result (KeepsHistory c.in_ok-share.field-0) (KeepsHistory c.args.nodes.now)
+    (λ s kept. subst (λ a. KeepsHistory a s) c.in_ok-share.ensures.ok kept) c.with_leaf_split.ensures.history
