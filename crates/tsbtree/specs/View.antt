@@ -1,9 +1,10 @@
 -- A tree of changes, and a view of it, as contracts see them.
-use Rattle.std.specs.Prelude.{◌≡◌, ℕ, ◌≤◌, ◌+◌, ◌==◌, List, [], Some, None, if◌then◌else◌, slice_get}
+use Rattle.std.specs.Prelude.{◌≡◌, ℕ, ◌≤◌, ◌+◌, ◌==◌, List, [], ◌∷◌, Some, None, if◌then◌else◌, slice_get}
 use Rattle.values.specs.Event.{Event}
 use Rattle.values.specs.Commits.{max_instant}
 use Rattle.treenodes.specs.Node.{TreeNode}
 use Rattle.treenodes.specs.Map.{changes}
+use Rattle.treenodes.specs.Root.{empty_leaf}
 use Rattle.treenodes.specs.Sound.{IsSound}
 
 -- the nodes, and the instant of the last commit
@@ -24,10 +25,11 @@ pub record IsState (nodes : List TreeNode) (latest : ℕ) : Type 0 where
   pub sound : IsSound nodes latest
   pub within : latest ≤ max_instant
 
--- nothing was committed yet
+-- nothing was committed yet: the nodes are one data node over the whole, without events and unpacked
 pub record IsEmpty (c : TreeState) : Type 0 where
   pub no_event : events c ≡ []
   pub no_commit : last c ≡ 0
+  pub one_leaf : c.nodes ≡ empty_leaf ∷ []
 
 -- how many levels the nodes have
 abbrev pub levels : TreeState → ℕ

@@ -1,10 +1,12 @@
 //! What was committed, as it grows.
-ghost use Rattle.std.specs.Prelude.{◌≡◌, ◌≤◌, ◌<◌, IfOk, IfSome, MatchOption, OnOk, OnErr, true, false};
+ghost use Rattle.std.specs.Prelude.{◌≡◌, ◌≤◌, ◌<◌, [], IfOk, IfSome, MatchOption, OnOk, OnErr, true, false};
 ghost use Rattle.values.specs.Commits.{max_instant};
 ghost use Rattle.values.specs.Memory.{OnlyMemory};
 ghost use Rattle.keyrange.specs.Cut.{halves_by_key};
 ghost use Rattle.treegrowth.specs.Commit.{IsCommit};
 ghost use Rattle.treegrowth.specs.Leaves.{halves_upto};
+ghost use Rattle.treegrowth.specs.Places.{SplitsOverfull};
+ghost use Rattle.treenodes.specs.History.{KeepsHistory, KeepsPast};
 ghost use Rattle.tsbtree.specs.View.{last, IsEmpty, IsState};
 ghost use Rattle.tsbtree.specs.Growth.{Adds, HoldsSame, IsSplitAt};
 ghost use Rattle.tsbtree.specs.Packing.{IsInstalled};
@@ -35,7 +37,7 @@ impl Model for Tree {
 }
 
 impl Tree {
-    /// The tree before the first commit: one data node, without events.
+    /// Makes the tree before the first commit: one data node, without events. `Memory` where it runs out.
     pub fn new(alloc: Global) -> Mem<Tree>
         ensures ok { IfOk result IsEmpty }
         ensures err { OnlyMemory result }
@@ -44,15 +46,20 @@ impl Tree {
         Ok(Tree { alloc, view })
     }
 
-    /// What was committed until now, to be read.
+    /// Returns what was committed until now, to be read.
     pub fn current(&self) -> &View
         ensures is { result.now ≡ self.now }
         ensures sound { IsState result.now.nodes (last result.now) }
     {
-        self.view.sound()
+        // Nothing is kept beside these: with one field more this would not compile.
+        let Tree {
+            alloc: _alloc,
+            view,
+        } = self;
+        view.sound()
     }
 
-    /// What was committed until now, to be kept while the tree grows.
+    /// Returns what was committed until now, to be kept while the tree grows. `Memory` where it runs out.
     pub fn view(&self) -> Mem<View>
         ensures ok { IfOk result (λ v. v ≡ self.now) }
         ensures err { OnlyMemory result }
@@ -60,13 +67,16 @@ impl Tree {
         self.view.share()
     }
 
-    /// Adds the events of a commit at an instant after all others: by key, one for each key. Without events, or where
-    /// memory runs out, nothing has changed.
+    /// Adds the events of a commit at an instant after all others: by key, one for each key. Only nodes that they overfill
+    /// are split. Without events, or where memory runs out, nothing has changed.
     pub fn apply(&mut self, instant: Instant, changes: Vec<Event>) -> Mem<()>
         requires later { last self.old < instant }
         requires in_range { instant ≤ max_instant }
         requires commit { IsCommit instant changes.items }
         ensures ok { OnOk result (Adds instant changes.items self.old self.new) }
+        ensures history { KeepsHistory self.old.nodes self.new.nodes }
+        ensures splits { OnOk result (
+            SplitsOverfull changes.items [] self.old.nodes self.new.nodes) }
         ensures err { OnErr result (self.new ≡ self.old) }
         ensures memory { OnlyMemory result }
     {
@@ -85,6 +95,7 @@ impl Tree {
         ensures same { HoldsSame self.old self.new }
         ensures split { IfOk result (
             IsSplitAt key.now (λ r. halves_by_key r key.now) self.old self.new) }
+        ensures history { KeepsHistory self.old.nodes self.new.nodes }
         ensures err { OnErr result (self.new ≡ self.old) }
         ensures memory { OnlyMemory result }
     {
@@ -99,6 +110,7 @@ impl Tree {
         ensures same { HoldsSame self.old self.new }
         ensures split { IfOk result (
             IsSplitAt key.now (λ r. halves_upto (last self.old) r instant) self.old self.new) }
+        ensures history { KeepsHistory self.old.nodes self.new.nodes }
         ensures err { OnErr result (self.new ≡ self.old) }
         ensures memory { OnlyMemory result }
     {
@@ -113,6 +125,7 @@ impl Tree {
         requires { block.node ≡ node.now }
         ensures same { HoldsSame self.old self.new }
         ensures installed { IfOk result (λ done. IsInstalled done self.old self.new block) }
+        ensures past { KeepsPast self.old.nodes self.new.nodes }
         ensures err { OnErr result (self.new ≡ self.old) }
         ensures memory { OnlyMemory result }
     {

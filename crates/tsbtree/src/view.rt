@@ -55,7 +55,7 @@ impl View {
         View { alloc, nodes, last }
     }
 
-    /// The view: its nodes are a sound tree.
+    /// Returns the view, whose nodes are a sound tree.
     pub(crate) fn sound(&self) -> &View
         ensures is { result.now ≡ self.now }
         ensures sound { IsState self.now.nodes (last self.now) }
@@ -65,14 +65,21 @@ impl View {
         self
     }
 
+    /// Returns the nodes, which are a sound tree.
     pub(crate) fn nodes(&self) -> &Nodes
         ensures are { result.now ≡ self.now.nodes }
         ensures sound { IsSound result.now (last self.now) }
     {
-        &self.nodes
+        // Nothing is kept beside these: with one field more this would not compile.
+        let View {
+            alloc: _alloc,
+            nodes,
+            last: _last,
+        } = self;
+        nodes
     }
 
-    /// The instant of the last commit, 0 where there is none.
+    /// Returns the instant of the last commit, 0 where there is none.
     pub fn last(&self) -> Instant
         ensures last { result ≡ last self.now }
         ensures in_range { result ≤ max_instant }
@@ -82,7 +89,7 @@ impl View {
         self.last
     }
 
-    /// The same view, of which no node is copied.
+    /// Returns the same view, without copying a node. `Memory` where it runs out.
     pub fn share(&self) -> Mem<View>
         ensures ok { IfOk result (λ v. v ≡ self.now) }
         ensures err { OnlyMemory result }
@@ -94,15 +101,15 @@ impl View {
         })
     }
 
-    /// Whether two views hold equal nodes at the same numbers.
+    /// Tells whether two views hold equal nodes at the same numbers.
     pub fn same(&self, other: &View) -> bool
         ensures { IsTrue result ↔ (self.now ≡ other.now) }
     {
         self.nodes.is_same(&other.nodes)
     }
 
-    /// A key's row at an instant, which is that of its last event at the instant or before it; and how many nodes were
-    /// visited.
+    /// Returns a key's row at an instant, which is that of its last event at the instant or before it, and how many nodes
+    /// were visited. `Memory` where it runs out.
     pub fn get(&self, key: &KeyBytes, instant: Instant) -> Mem<(Option<Row>, usize)>
         ensures row { IfOk result (λ found. found.0 ≡ row_until (events self.now) key.now instant) }
         ensures visits { IfOk result (λ found. found.1 ≡ visits self.now instant) }
@@ -117,23 +124,23 @@ impl View {
         Ok((row, visits))
     }
 
-    /// The instant of a key's last event above `start`, if there is one.
+    /// Returns the instant of a key's last event above `start`, if there is one.
     pub fn changed_since(&self, key: &KeyBytes, start: Instant) -> Option<Instant>
         ensures { result ≡ event_since (events self.now) start key.now }
     {
         changed_since(&self.nodes, key, start)
     }
 
-    /// The instant of a key's first event above `after`, if there is one: there ends what holds at `after`. It takes no
-    /// memory.
+    /// Returns the instant of a key's first event above `after`, if there is one: there ends what holds at `after`. It
+    /// takes no memory.
     pub fn next_change(&self, key: &KeyBytes, after: Instant) -> Option<Instant>
         ensures { result ≡ event_after (events self.now) after key.now }
     {
         next_change(&self.nodes, key, after)
     }
 
-    /// The events of a range of keys, from an instant to another and with it, by key and then by instant. Each block that
-    /// is in question is read in place.
+    /// Lists the events of a range of keys, from an instant to another and with it, by key and then by instant. Each block
+    /// that is in question is read in place. `Memory` where it runs out.
     pub fn events(
         &self,
         alloc: Global,
@@ -148,7 +155,7 @@ impl View {
         self.events_with(alloc, &mut InPlace::new(alloc), range, from, to)
     }
 
-    /// The same, where the events of blocks are given.
+    /// Lists events like [`View::events`], where the events of blocks are given. `Memory` where it runs out.
     pub fn events_with<B: Blocks>(
         &self,
         alloc: Global,
@@ -164,8 +171,8 @@ impl View {
         events(alloc, blocks, &self.nodes, range, from, to)
     }
 
-    /// By key: of each key of a range the event that shows its row at an instant, where it has one. Each block that is in
-    /// question is read in place.
+    /// Lists by key, of each key of a range, the event that shows its row at an instant, where it has one. Each block that
+    /// is in question is read in place. `Memory` where it runs out.
     pub fn standing(
         &self,
         alloc: Global,
@@ -181,7 +188,7 @@ impl View {
         self.standing_with(alloc, &mut InPlace::new(alloc), range, instant)
     }
 
-    /// The same, where the events of blocks are given.
+    /// Lists rows like [`View::standing`], where the events of blocks are given. `Memory` where it runs out.
     pub fn standing_with<B: Blocks>(
         &self,
         alloc: Global,
@@ -198,7 +205,7 @@ impl View {
         standing(alloc, blocks, &self.nodes, range, instant)
     }
 
-    /// Each node once: its level, its rectangle, and how much it holds.
+    /// Lists each node once: its level, its rectangle, and how much it holds. `Memory` where it runs out.
     pub fn shape(&self, alloc: Global) -> Mem<Shape>
         ensures ok { IfOk result (λ s. IsShapeOf self.now.nodes s.nodes.items) }
         ensures err { OnlyMemory result }
@@ -206,7 +213,7 @@ impl View {
         tree_shape(alloc, &self.nodes)
     }
 
-    /// The data node whose rectangle has the point of a key and an instant: as it is, or its block.
+    /// Returns the data node whose rectangle has the point of a key and an instant: as it is, or its block.
     pub fn leaf(&self, key: &KeyBytes, instant: Instant) -> &Child
         requires { 1 ≤ instant }
         ensures { IsLeafOf self.now key.now instant result.now }
@@ -215,8 +222,8 @@ impl View {
         self.nodes.at(number).child()
     }
 
-    /// The first data node of history that is not packed: by the start of its time, then by its lower key. After a
-    /// rectangle it is the first that comes behind that one. The nodes of a view form a tree, so no two data nodes start at one point. It takes no memory.
+    /// Returns the first data node of history that is not packed: by the start of its time, then by its lower key. After a
+    /// rectangle it is the first that comes behind that one. No two data nodes start at one point. It takes no memory.
     pub fn first_unpacked(&self, after: Option<&Rect>) -> Option<&DataNode>
         ensures first { MatchOption result
             ((p : TreeNode) → IsWaiting self.now.nodes (option_copied after.entry) p → ⊥)
@@ -230,7 +237,7 @@ impl View {
         }
     }
 
-    /// The data node of history of a rectangle, where it is not packed. It takes no memory.
+    /// Returns the data node of history of a rectangle, where it is not packed. It takes no memory.
     pub fn historical(&self, rect: &Rect) -> Option<&DataNode>
         ensures { MatchOption result
             ((n : Node) → IsHistorical self.now.nodes rect.now n → ⊥)
