@@ -1,7 +1,12 @@
--- What a split makes of the tree.
-use Rattle.std.specs.Prelude.{Bool}
+-- What a split makes of the tree, and what a commit splits.
+use Rattle.std.specs.Prelude.{◌≡◌, ℕ, Bool, List, []}
+use Rattle.values.specs.Event.{Event}
+use Rattle.values.specs.Events.{put_net}
+use Rattle.values.specs.Log.{Net}
 use Rattle.keyrange.specs.Cut.{halves_by_key}
+use Rattle.treegrowth.specs.Commit.{IsCommit, put_each}
 use Rattle.treegrowth.specs.Leaves.{halves_upto}
+use Rattle.treegrowth.specs.Places.{SplitsOverfull}
 use Rattle.tsbtree.specs.View.{TreeState, last}
 use Rattle.tsbtree.specs.Growth.{IsSplitAt}
 use Rattle.validation.specs.declared.cut.Cut.{Cut}
@@ -13,3 +18,10 @@ abbrev pub IsSplit : Cut → TreeState → TreeState → Bool → Type 0
 IsSplit (Key key) old new done = IsSplitAt key (λ r. halves_by_key r key) old new done
 IsSplit (Time key instant) old new done =
     IsSplitAt key (λ r. halves_upto (last old) r instant) old new done
+
+-- only nodes that the events of net changes overfill are split
+pub record SplitsByNeed (instant : ℕ) (net : Net) (old new : TreeState) : Type 0 where
+  pub es : List Event
+  pub commit : IsCommit instant es
+  pub adds : (m : List Event) → put_each es m ≡ put_net instant net m
+  pub splits : SplitsOverfull es [] old.nodes new.nodes

@@ -6,12 +6,13 @@ ghost use Rattle.values.specs.Tables.{Schema};
 ghost use Rattle.values.specs.Commits.{outcome, outcome_by, conflicts_by, max_instant};
 ghost use Rattle.values.specs.Events.{AreKeysIn};
 ghost use Rattle.values.specs.Memory.{OnlyMemory};
-ghost use Rattle.tsbtree.specs.View.{events, last, IsEmpty};
+ghost use Rattle.treenodes.specs.History.{KeepsHistory, KeepsPast};
+ghost use Rattle.tsbtree.specs.View.{events, last, IsEmpty, IsState};
 ghost use Rattle.staging.specs.View.{Holds, Adds};
 ghost use Rattle.tsbtree.specs.Growth.{HoldsSame};
 ghost use Rattle.tsbtree.specs.Packing.{IsInstalled};
 ghost use Rattle.validation.specs.Outcome.{changed_in};
-ghost use Rattle.validation.specs.Split.{IsSplit};
+ghost use Rattle.validation.specs.Split.{IsSplit, SplitsByNeed};
 
 use crate::cut::Cut;
 use crate::packed_node::PackedNode;
@@ -42,7 +43,7 @@ impl Model for Engine {
 }
 
 impl Engine {
-    /// Before the first commit.
+    /// Makes the engine before the first commit. `Memory` where it runs out.
     pub fn new(alloc: Global) -> Mem<Engine>
         ensures ok { IfOk result IsEmpty }
         ensures err { OnlyMemory result }
@@ -54,21 +55,31 @@ impl Engine {
         })
     }
 
-    /// The instant of the last commit, 0 where there is none.
+    /// Returns the instant of the last commit, 0 where there is none.
     pub fn last(&self) -> Instant
         ensures { result ≡ last self.now }
     {
         self.clock.last()
     }
 
-    /// The tree that holds what was committed.
+    /// Returns the tree that holds what was committed. It is sound.
     pub fn tree(&self) -> &Tree
-        ensures { result.now ≡ self.now }
+        ensures is { result.now ≡ self.now }
+        ensures sound { IsState self.now.nodes (last self.now) }
     {
-        &self.tree
+        // Nothing is kept beside these: with one field more this would not compile.
+        let Engine {
+            alloc: _alloc,
+            tree,
+            clock: _clock,
+        } = self;
+        // Who reads a tree knows that it is sound.
+        let _view = tree.current();
+        tree
     }
 
-    /// What a transaction that begins now sees: all that was committed, whatever is committed later.
+    /// Returns what a transaction that begins now sees: all that was committed, whatever is committed later. `Memory`
+    /// where it runs out.
     pub fn begin(&self) -> Mem<View>
         ensures ok { IfOk result (λ v. v ≡ self.now) }
         ensures err { OnlyMemory result }
@@ -76,9 +87,9 @@ impl Engine {
         self.tree.view()
     }
 
-    /// Ends a transaction of this start with these net changes, by this reading of the clock, and answers its instant, none where it changed nothing.
-    /// `Conflict` with the least of its keys that was changed after its start, and the latest instant that changed it; `ClockEnd` where no instant is left.
-    /// After a refusal nothing has changed.
+    /// Ends a transaction of this start with these net changes, by this reading of the clock, and answers its instant,
+    /// none where it changed nothing. `Conflict` with the least of its keys that was changed after its start, and the
+    /// latest instant that changed it; `ClockEnd` where no instant is left. After a refusal nothing has changed.
     pub fn commit(
         &mut self,
         start: Instant,
@@ -95,6 +106,9 @@ impl Engine {
             → Holds schema self.old m → AreKeysIn schema net
             → Holds schema self.new (add_net instant m net))) }
         ensures later { IfOk result (λ end. IfSome end (λ instant. last self.old < instant)) }
+        ensures history { KeepsHistory self.old.nodes self.new.nodes }
+        ensures splits { IfOk result (λ end. IfSome end (λ instant.
+            SplitsByNeed instant net self.old self.new)) }
         ensures nothing { IfOk result (λ end. IfNone end (self.new ≡ self.old)) }
         ensures refused { OnErr result (self.new ≡ self.old) }
     {
@@ -108,8 +122,8 @@ impl Engine {
         }
     }
 
-    /// How a transaction of this start with these net changes would end now, by this reading of the clock: what `commit`
-    /// answers. Nothing has changed.
+    /// Tells how a transaction of this start with these net changes would end now, by this reading of the clock: what
+    /// `commit` answers. Nothing has changed.
     pub fn validate(
         &self,
         start: Instant,
@@ -127,11 +141,12 @@ impl Engine {
         self.outcome(start, net, reading)
     }
 
-    /// Splits the current data node of a key, where its cut lies inside the node and is no instant after the last commit; else, and where memory runs out,
-    /// nothing has changed.
+    /// Splits the current data node of a key, where its cut lies inside the node and is no instant after the last commit;
+    /// else, and where memory runs out, nothing has changed.
     pub fn split(&mut self, cut: &Cut) -> Mem<bool>
         ensures same { HoldsSame self.old self.new }
         ensures split { IfOk result (IsSplit cut.now self.old self.new) }
+        ensures history { KeepsHistory self.old.nodes self.new.nodes }
         ensures err { OnErr result (self.new ≡ self.old) }
         ensures memory { OnlyMemory result }
     {
@@ -146,6 +161,7 @@ impl Engine {
     pub fn install(&mut self, packed: PackedNode) -> Mem<bool>
         ensures same { HoldsSame self.old self.new }
         ensures installed { IfOk result (λ done. IsInstalled done self.old self.new packed) }
+        ensures past { KeepsPast self.old.nodes self.new.nodes }
         ensures err { OnErr result (self.new ≡ self.old) }
         ensures memory { OnlyMemory result }
     {
@@ -153,7 +169,8 @@ impl Engine {
         self.tree.install(&node, block)
     }
 
-    /// Adds net changes at an instant after the last, as `validate` answers it. Where memory runs out nothing has changed.
+    /// Adds net changes at an instant after the last, as `validate` answers it. Only nodes that they overfill are split.
+    /// Where memory runs out nothing has changed.
     pub fn add(&mut self, instant: Instant, net: Net) -> Mem<()>
         requires later { last self.old < instant }
         requires in_range { instant ≤ max_instant }
@@ -162,6 +179,8 @@ impl Engine {
         ensures holds { OnOk result ((schema : Schema) (m : Changes)
             → Holds schema self.old m → AreKeysIn schema net
             → Holds schema self.new (add_net instant m net)) }
+        ensures history { KeepsHistory self.old.nodes self.new.nodes }
+        ensures splits { OnOk result (SplitsByNeed instant net self.old self.new) }
         ensures err { OnErr result (self.new ≡ self.old) }
         ensures memory { OnlyMemory result }
     {
@@ -171,7 +190,7 @@ impl Engine {
         Ok(())
     }
 
-    /// How a transaction ends.
+    /// Tells how a transaction ends.
     fn outcome(
         &self,
         start: Instant,
@@ -199,7 +218,7 @@ impl Engine {
     }
 }
 
-/// The first of the keys that was changed since, with the latest instant.
+/// Finds the first of the keys that was changed since, with the latest instant.
 fn first_conflict(
     alloc: Global,
     view: &View,
