@@ -1,0 +1,90 @@
+import os
+import subprocess
+import sys
+import unittest
+
+import tsvd
+from tests.served import LONGEST, Files, needs_program, run
+from tsvd.errors import OperationalError
+from tsvd.program import Server
+from tsvd.side_by_side import side_by_side
+from tsvd.stop import use_sessions
+
+SCRIPT = b"-- a comment\nclock: 5\n1: BEGIN\r\n\n1: SELECT * FROM emp\n1: x"
+
+
+class Pairs(Files):
+    def test_each_line_has_its_reply_beside_it(self):
+        output = "loaded 1 at 1\nok\nbegun 1\nrows 1\n(1, 'a')\nE1 syntax at 3\nno,name,s,e\n"
+        self.assertEqual(list(side_by_side(SCRIPT, output, True)), [
+            "loaded 1 at 1", "-- a comment", "clock: 5              ok", "1: BEGIN              begun 1", "",
+            "1: SELECT * FROM emp  rows 1", "                      (1, 'a')", "1: x                  E1 syntax at 3",
+            "no,name,s,e"])
+
+    def test_a_script_whose_replies_end_early_is_shown(self):
+        self.assertEqual(list(side_by_side(b"1: BEGIN\n1: COMMIT\n", "begun 0\n", False)),
+                         ["1: BEGIN  begun 0", "1: COMMIT"])
+
+    @needs_program
+    def test_the_program_is_run(self):
+        script = self.file("a.script", SCRIPT)
+        out, err, status = run("side-by-side", script, "--load", "emp=" + self.file("a.csv", "no,name\n1,a\n"))
+        self.assertEqual((out.split("\n")[0], err, status), ("loaded 1 at 1", "", 0))
+        self.assertIn("\n1: SELECT * FROM emp  rows 1\n                      (1, 'a')\n", out)
+        out, err, status = run("side-by-side", script, "--load", "emp=/nowhere")
+        self.assertEqual((err, status), ("read fault\n", 1))
+
+
+@needs_program
+class Stops(unittest.TestCase):
+    def test_sessions_that_are_left_are_used_up(self):
+        with Server(sessions=3) as server:
+            with tsvd.Session(server.port) as session:
+                session.ask("BEGIN")
+            out, err, status = run("stop", str(server.port))
+            self.assertEqual((out, err, status), ("the server has ended; sessions that were left: 2\n", "", 0))
+            self.assertEqual((server.end(LONGEST), server.process.returncode), ("closed 1\n", 0))
+            with self.assertRaises(OperationalError):
+                use_sessions(server.port)
+
+    def test_a_server_with_sessions_of_others_is_not_said_to_have_ended(self):
+        with Server(sessions=2) as server:
+            with tsvd.Session(server.port) as session:
+                session.ask("BEGIN")
+                with self.assertRaisesRegex(OperationalError, "1 sessions were left"):
+                    use_sessions(server.port, 0.5)
+                self.assertEqual(session.ask("ROLLBACK"), ["rolled back"])
+            self.assertEqual(server.end(LONGEST), "closed 1\n")
+
+
+@needs_program
+class Sends(unittest.TestCase):
+    def test_a_reply_comes_before_the_next_line_is_read(self):
+        with Server(sessions=1) as server:
+            command = [sys.executable, "-m", "tsvd", "send", str(server.port)]
+            with subprocess.Popen(command, stdin=subprocess.PIPE, stdout=subprocess.PIPE) as client:
+                for line, reply in [(b"BEGIN\n", b"begun 0\n"), (b"\n-- x\nROLLBACK\r\n", b"rolled back\n"),
+                                    (b"x" * 8193 + b"\n", b"E12 line too long\n"), (b"\xff\n", b"E1 syntax at 0\n")]:
+                    client.stdin.write(line)
+                    client.stdin.flush()
+                    self.assertEqual(client.stdout.readline(), reply)
+                out, _ = client.communicate("INSERT INTO emp VALUES (1, 'a\u2028b')".encode("utf-8"), LONGEST)
+                self.assertEqual((out, client.returncode), (b"E4 no transaction\n", 0))
+            self.assertEqual(server.end(LONGEST), "closed 1\n")
+
+
+class Words(unittest.TestCase):
+    def test_words_that_are_no_command_are_told(self):
+        for words in ((), ("x",)):
+            out, err, status = run(*words)
+            self.assertEqual((out, err[:6], status), ("", "usage:", 2))
+        out, err, status = run("--help")
+        self.assertEqual((out[:6], err, status), ("usage:", "", 0))
+        self.assertEqual(run("stop", "x")[2], 2)
+
+    def test_a_program_that_is_not_there_is_told(self):
+        ran = subprocess.run([sys.executable, "-m", "tsvd", "shell", "--"], stdin=subprocess.DEVNULL, check=False,
+                             stdout=subprocess.PIPE, stderr=subprocess.PIPE, timeout=LONGEST,
+                             env=dict(os.environ, TSVD_PROGRAM="/nowhere/tsvd"))
+        self.assertEqual((ran.stdout, ran.returncode), (b"", 1))
+        self.assertTrue(ran.stderr.startswith(b"shell: "))

@@ -1,0 +1,109 @@
+import unittest
+
+from tests.served import SCHEMA, Files, needs_program, run
+from tsvd.csv_check import check_csv
+from tsvd.csv_records import read_records
+from tsvd.errors import ProgrammingError
+from tsvd.program import find_program
+from tsvd.schema import read_schema
+
+STAFF = read_schema(SCHEMA).table("staff")
+
+# A file of the table staff, and the refusal with which a load answers it; None where it is loaded.
+FILES = [
+    (b"", "E3 bad row at column 0"),
+    (b"\n\r\n", "E3 bad row at column 0"),
+    (b"site,no", None),
+    (b"SITE,No\na,1\n", None),
+    (b"\xef\xbb\xbfno,site\r\n1,a\r\n\r\n2,a\r\n", None),
+    (b"site,no,site\na,1,b\n", "E3 bad row at column 0"),
+    (b"site,no,recorded\na,1,2\n", "E3 bad row at column 0"),
+    (b"site;no\na;1\n", "E3 bad row at column 0"),
+    (b"site, no\na,1\n", "E3 bad row at column 0"),
+    (b"site,no\na\n", "E3 bad row at column 0"),
+    (b"site,no\na,1,\n", "E3 bad row at column 0"),
+    (b"no\n1\n", "E3 bad row at column 1"),
+    (b"no,site\n,a\n", "E3 bad row at column 2"),
+    (b"site,no\na, 1\n", "E3 bad row at column 2"),
+    (b"site,no\na,+1\n", "E3 bad row at column 2"),
+    (b"site,no\na,1.0\n", "E3 bad row at column 2"),
+    (b"site,no\na,-0009223372036854775808\n", None),
+    (b"site,no\na,9223372036854775808\n", "E3 bad row at column 2"),
+    (b"site,no\na," + b"9" * 40 + b"\n", "E3 bad row at column 2"),
+    (b"site,no,active\na,1,TRUE\na,2,fAlse\na,3,\n", None),
+    (b"site,no,active\na,1,yes\n", "E3 bad row at column 4"),
+    (b"site,no,active\na,x,yes\n", "E3 bad row at column 2"),
+    (b"site,no\n,1\n", None),
+    (b"site,no\n" + "é".encode() * 20 + b",1\n", None),
+    (b"site,no\n" + b"a" * 21 + b",1\n", "E3 bad row at column 1"),
+    (b"site,no,name\na,1," + b"x" * 1000 + b"\n", None),
+    (b"site,no,name\na,1," + b"x" * 1001 + b"\n", "E3 bad row at column 3"),
+    (b"site,no,name\na,1,\xff\n", "E3 bad row at column 3"),
+    (b'site,no,name\na,1,"x\ny"\n', "E3 bad row at column 3"),
+    (b'site,no,name\na,1,"x ""y"", z"\n', None),
+    (b'site,no,name\na,1,x"y"\n', None),
+    (b'site,no,name\na,1,"x"y\n', None),
+    (b'site,no,name\na,1,"x', None),
+    (b"site,no\na,1\nb,1\na,1\n", "E6 duplicate key ('a', 1)"),
+    (b"site,no\na,1\na,1\na,x\n", "E3 bad row at column 2"),
+    (b"site,no\n" + b"".join(b"a,%d\n" % n for n in range(1000)), None),
+    (b"site,no\n" + b"".join(b"a,%d\n" % n for n in range(1001)), "E9 too many writes"),
+    (b"site,no\n" + b"".join(b"a,%d\n" % (n % 1000) for n in range(1001)), "E6 duplicate key ('a', 0)"),
+]
+
+
+def refusal_of(data):
+    """Returns the refusal of a file, as the check has it."""
+    faults = check_csv(STAFF, data).faults
+    return faults[0].reply if faults else None
+
+
+class Checks(Files):
+    def test_files_have_the_refusal_of_the_rules(self):
+        for data, reply in FILES:
+            self.assertEqual(refusal_of(data), reply, data[:60])
+
+    def test_each_fault_has_its_record_line_and_field(self):
+        data = b'name,no,site\n"a\nb",1,s\n\nx,y,s\nx,2\nx,3,s\nz,3,s\n'
+        self.assertEqual([fault.text() for fault in check_csv(STAFF, data).faults], [
+            "record 2 (line 2), field 1: name: a text has one line: no line feed and no carriage return",
+            "record 3 (line 5), field 2: no: 'y' is no whole number, such as -12",
+            "record 4 (line 6): there are 2 fields where the header has 3",
+            "record 6 (line 8): the key ('s', 3) is that of record 5 too"])
+
+    def test_the_command_says_what_a_load_will_say(self):
+        schema = self.file("tables.schema", SCHEMA)
+        good, bad = self.file("good.csv", "site,no\na,1\n"), self.file("bad.csv", "site;no\na;1\n")
+        options = ("--schema", schema, "--table", "Staff")
+        self.assertEqual(run("check-csv", good, *options), (f"{good}: 1 rows, which a load takes\n", "", 0))
+        out, err, status = run("check-csv", bad, *options)
+        self.assertIn("fields are separated by commas", out)
+        self.assertEqual((out.split("\n")[-2], err, status), ("a load is refused: load: E3 bad row at column 0", "", 1))
+        for words in (("--schema", schema), (*options[:3], "dept")):
+            out, err, status = run("check-csv", good, *words)
+            self.assertEqual((out, status), ("", 1))
+            self.assertIn("note, staff", err)
+
+
+@needs_program
+class Loads(Files):
+    def test_the_program_refuses_the_same_files(self):
+        schema = self.file("tables.schema", SCHEMA)
+        for data, reply in FILES:
+            words = ("--schema", schema, "--load", "staff=" + self.file("rows.csv", data))
+            out, err, status = run(*words, program=find_program())
+            if reply is None:
+                self.assertEqual((out.split()[0], err, status), ("loaded", "", 0), data[:60])
+            else:
+                self.assertEqual((out, err, status), ("", f"load: {reply}\n", 1), data[:60])
+
+
+class Records(unittest.TestCase):
+    def test_a_record_has_its_first_line(self):
+        self.assertEqual([(r.number, r.line, r.fields) for r in read_records(b'\na,"b\n"\r\n\r\nc\rd')],
+                         [(1, 2, (b"a", b"b\n")), (2, 5, (b"c",)), (3, 5, (b"d",))])
+
+    def test_tables_are_named_where_there_are_several(self):
+        from tsvd.csv_check import chosen_table
+        with self.assertRaises(ProgrammingError):
+            chosen_table(read_schema(SCHEMA), None)

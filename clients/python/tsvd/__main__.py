@@ -1,0 +1,42 @@
+"""The commands of the package: python3 -m tsvd COMMAND."""
+
+from __future__ import annotations
+
+import sys
+from typing import Callable, Dict, List, Sequence
+
+from . import csv_check, send, shell, side_by_side, stop, timeline
+from .errors import Error
+
+COMMANDS: Dict[str, Callable[[Sequence[str]], int]] = {
+    "shell": shell.main, "send": send.main, "timeline": timeline.main, "side-by-side": side_by_side.main,
+    "check-csv": csv_check.main, "stop": stop.main,
+}
+USAGE = """usage: python3 -m tsvd COMMAND
+
+  shell PORT | shell -- OPTIONS   statements typed at a prompt, with tables and dates
+  send PORT                       the lines of standard input, each answered before the next is read
+  timeline FILE                   what --export wrote, as a page with a bar for each version
+  side-by-side SCRIPT             each line of a script with its reply
+  check-csv FILE                  what a load will refuse of a file, and why
+  stop PORT                       ends a server by using up the sessions that are left
+
+COMMAND --help says more."""
+
+
+def main(words: List[str]) -> int:
+    """Runs a command, and returns its status: 2 for words that are none."""
+    command = COMMANDS.get(words[0]) if words else None
+    if not command:
+        asked = words in (["--help"], ["-h"])
+        print(USAGE, file=sys.stdout if asked else sys.stderr)
+        return 0 if asked else 2
+    try:
+        return command(words[1:])
+    except (Error, OSError) as fault:
+        print(f"{words[0]}: {fault}", file=sys.stderr)
+        return 1
+
+
+if __name__ == "__main__":
+    sys.exit(main(sys.argv[1:]))

@@ -1,0 +1,135 @@
+"""Connections of PEP 249: one is one session, and has one transaction at a time."""
+
+from __future__ import annotations
+
+from typing import Any, Callable, List, Optional, Sequence, Type, TypeVar, Union
+
+from . import errors
+from .cursor import Cursor
+from .errors import ConflictError, ProgrammingError
+from .protocol import Session
+from .refusals import number_of, refusal_error
+from .schema import Schema, schema_of
+
+Answer = TypeVar("Answer")
+
+# After these refusals the transaction has ended, and after E4 there was none.
+ENDING = (4, 7, 8)
+
+
+class Connection:
+    """A session with its tables, and with whether a transaction is open."""
+
+    Warning = errors.Warning
+    Error = errors.Error
+    InterfaceError = errors.InterfaceError
+    DatabaseError = errors.DatabaseError
+    DataError = errors.DataError
+    OperationalError = errors.OperationalError
+    IntegrityError = errors.IntegrityError
+    InternalError = errors.InternalError
+    ProgrammingError = errors.ProgrammingError
+    NotSupportedError = errors.NotSupportedError
+
+    def __init__(self, session: Session, schema: Union[None, str, Schema] = None) -> None:
+        self.session = session
+        self.schema = schema_of(schema)
+        self.in_transaction = False
+        self.snapshot: Optional[int] = None
+        self.last_commit: Optional[int] = None
+
+    def __enter__(self) -> "Connection":
+        return self
+
+    def __exit__(self, kind: Optional[Type[BaseException]], *_: Any) -> None:
+        """Commits, or rolls back after an exception; the connection stays open, as with sqlite3."""
+        try:
+            if kind is None:
+                self.commit()
+        finally:
+            if self.session.is_open:
+                self.rollback()
+
+    def ask(self, line: str) -> List[str]:
+        """Sends a line and returns its reply's lines, or raises the refusal."""
+        reply = self.session.ask(line)
+        self.note(reply[0])
+        if number_of(reply[0]) is not None:
+            raise refusal_error(reply[0], line)
+        return reply
+
+    def note(self, head: str) -> None:
+        """Keeps what a reply says of the transaction."""
+        word, _, rest = head.partition(" ")
+        if word == "begun":
+            self.in_transaction, self.snapshot = True, int(rest)
+        elif word == "committed":
+            self.in_transaction = False
+            self.last_commit = int(rest) if rest.isdecimal() else self.last_commit
+        elif head == "rolled back" or number_of(head) in ENDING:
+            self.in_transaction = False
+        elif number_of(head) == 5:
+            self.in_transaction = True
+
+    def begin(self) -> int:
+        """Begins a transaction, and returns the last commit instant, which is its snapshot."""
+        return int(self.ask("BEGIN")[0].split()[1])
+
+    def commit(self) -> Optional[int]:
+        """Commits, and returns the instant, or None where nothing was changed or no transaction is open."""
+        if not self.in_transaction:
+            return None
+        word = self.ask("COMMIT")[0].split()[1]
+        return None if word == "nothing" else int(word)
+
+    def rollback(self) -> None:
+        """Drops the open transaction, where there is one."""
+        if self.in_transaction:
+            self.ask("ROLLBACK")
+
+    def transact(self, work: Callable[[Cursor], Answer], tries: int = 100) -> Answer:
+        """Does `work(cursor)` in a transaction and commits, again where another session was first.
+
+        Returns what the work returned; the commit's instant is `last_commit`. After `tries`
+        conflicts the last one is raised. Any other exception rolls back.
+        """
+        if self.in_transaction:
+            raise ProgrammingError("a transaction is open already")
+        for left in reversed(range(max(1, tries))):
+            try:
+                return self.attempt(work)
+            except ConflictError:
+                if left == 0:
+                    raise
+        raise AssertionError("a range of at least one turn")
+
+    def attempt(self, work: Callable[[Cursor], Answer]) -> Answer:
+        """Does the work once, in a transaction that is committed or rolled back."""
+        self.begin()
+        with self:
+            return work(self.cursor())
+
+    def cursor(self) -> Cursor:
+        """Makes a cursor over this session."""
+        return Cursor(self)
+
+    def execute(self, statement: str, values: Sequence[Any] = ()) -> Cursor:
+        """Makes a cursor and executes a statement."""
+        return self.cursor().execute(statement, values)
+
+    def close(self) -> None:
+        """Ends the session; an open transaction is dropped."""
+        self.in_transaction = False
+        self.session.close()
+
+
+def connect(port: int, schema: Union[None, str, Schema] = None, wait: float = 5.0,
+            timeout: Optional[float] = None) -> Connection:
+    """Opens a session at a port of this machine.
+
+    `schema` is the text that the server was started with, and without it the sample's. Where
+    nobody listens the port is tried again for `wait` seconds. A reply that takes longer than
+    `timeout` seconds ends the session.
+    """
+    tables = schema_of(schema)
+    return Connection(Session(port, wait, timeout), tables)

@@ -1,0 +1,232 @@
+"""What a load will refuse of a CSV file, and why."""
+
+from __future__ import annotations
+
+import argparse
+import pathlib
+import re
+from typing import Dict, Iterator, List, NamedTuple, Optional, Sequence, Set, Tuple
+
+from .csv_records import Record, read_records
+from .errors import Key, ProgrammingError, Value
+from .limits import GREATEST_INTEGER, LEAST_INTEGER, LONGEST_KEY_TEXT, LONGEST_TEXT, MOST_WRITTEN
+from .literals import literal
+from .schema import Column, Schema, Table, schema_of
+
+DIGITS = re.compile(rb"-?[0-9]+")
+TRUTHS = {b"true": True, b"false": False}
+MOST_SHOWN = 20
+
+
+class CsvFault(NamedTuple):
+    """A fault: where it is, why, and the refusal with which a load answers the file's first one."""
+
+    record: Optional[Record]
+    field: Optional[int]
+    why: str
+    reply: str
+
+    def text(self) -> str:
+        """Writes the fault for a reader."""
+        if not self.record:
+            return self.why
+        field = f", field {self.field}" if self.field else ""
+        return f"record {self.record.number} (line {self.record.line}){field}: {self.why}"
+
+
+class Checked(NamedTuple):
+    """The rows of a file, by which its keys are told apart, and its faults."""
+
+    rows: int
+    faults: List[CsvFault]
+
+
+class Refused(Exception):
+    """Says why a field writes no value of its column."""
+
+
+def bad_row(record: Optional[Record], field: Optional[int], why: str, column: int) -> CsvFault:
+    """Makes a fault of a row or of the header."""
+    return CsvFault(record, field, why, f"E3 bad row at column {column}")
+
+
+def integer_of(field: bytes) -> Value:
+    """Reads a field of an INT column."""
+    if not DIGITS.fullmatch(field):
+        blanks = "; fields are not trimmed" if field != field.strip() else ""
+        raise Refused(f"{shown(field)} is no whole number, such as -12{blanks}")
+    digits = field.lstrip(b"-").lstrip(b"0")
+    number = int(digits or b"0") if len(digits) < 20 else GREATEST_INTEGER + 2
+    number = -number if field.startswith(b"-") else number
+    if not LEAST_INTEGER <= number <= GREATEST_INTEGER:
+        raise Refused(f"{shown(field)} is no number of 64 bits")
+    return number
+
+
+def truth_of(field: bytes) -> Value:
+    """Reads a field of a BOOLEAN column."""
+    if field.lower() not in TRUTHS:
+        raise Refused(f"{shown(field)} is neither true nor false")
+    return TRUTHS[field.lower()]
+
+
+def text_of(column: Column, in_key: bool, field: bytes) -> Value:
+    """Reads a field of a TEXT or VARCHAR column."""
+    try:
+        text = field.decode("utf-8")
+    except UnicodeDecodeError:
+        raise Refused("the text is not UTF-8") from None
+    longest = LONGEST_KEY_TEXT if in_key else LONGEST_TEXT
+    if len(field) > longest:
+        raise Refused(f"a text{' of the key' if in_key else ''} has at most {longest} bytes, and this one has {len(field)}")
+    if "\n" in text or "\r" in text:
+        raise Refused("a text has one line: no line feed and no carriage return")
+    if column.characters is not None and len(text) > column.characters:
+        raise Refused(f"VARCHAR({column.characters}) has at most so many characters, and this text has {len(text)}")
+    return text
+
+
+def value_of(table: Table, column: Column, field: bytes) -> Value:
+    """Reads a field of a column, or says why it writes no value of it."""
+    if column.type == "TEXT":
+        return text_of(column, table.is_key(column), field)
+    if field == b"":
+        return null_of(table, column, "an empty field is NULL")
+    return integer_of(field) if column.type == "INT" else truth_of(field)
+
+
+def null_of(table: Table, column: Column, why: str) -> Value:
+    """Returns NULL, or says that the column cannot be NULL."""
+    if column.not_null or table.is_key(column):
+        what = "is of the key" if table.is_key(column) else "is NOT NULL"
+        raise Refused(f"{why}, and {column.name} {what}")
+    return None
+
+
+def shown(field: bytes) -> str:
+    """Writes a field for a message, cut where it is long."""
+    text = field.decode("utf-8", "replace")
+    return repr(text if len(text) <= 40 else text[:40] + "...")
+
+
+def header_places(table: Table, header: Record) -> Tuple[Dict[int, int], List[CsvFault]]:
+    """Returns for each column of the header its field's place, and the header's faults."""
+    found: Dict[int, int] = {}
+    faults: List[CsvFault] = []
+    for at, field in enumerate(header.fields):
+        place = table.place(field.decode("ascii", "replace"))
+        if place is None:
+            faults.append(bad_row(header, at + 1, no_column(table, field), 0))
+        elif place in found:
+            faults.append(bad_row(header, at + 1, f"the column {table.columns[place].name} is named twice", 0))
+        else:
+            found[place] = at
+    return found, faults
+
+
+def no_column(table: Table, field: bytes) -> str:
+    """Says that a field of the header names no user column, and what it may be instead."""
+    names = ", ".join(column.name for column in table.columns)
+    if field.decode("ascii", "replace").lower() in (table.row_start.lower(), table.row_end.lower()):
+        return f"{shown(field)} is of the period, which a load cannot set"
+    hint = "; fields are separated by commas" if b";" in field or b"\t" in field else ""
+    return f"{shown(field)} is no column of {table.name} ({names}){hint}"
+
+
+def row_of(table: Table, places: Dict[int, int], record: Record, width: int,
+           faults: List[CsvFault]) -> Optional[List[Value]]:
+    """Reads the row of a record, or adds its faults."""
+    if len(record.fields) != width:
+        why = f"there are {len(record.fields)} fields where the header has {width}"
+        faults.append(bad_row(record, None, why, 0))
+        return None
+    values: List[Value] = []
+    for place, column in enumerate(table.columns):
+        at = places.get(place)
+        try:
+            values.append(null_of(table, column, "the header leaves it out") if at is None
+                          else value_of(table, column, record.fields[at]))
+        except Refused as why:
+            faults.append(bad_row(record, None if at is None else at + 1, f"{column.name}: {why}", place + 1))
+    return values if len(values) == len(table.columns) else None
+
+
+def key_text(key: Key) -> str:
+    """Writes a key as replies do."""
+    return "(" + ", ".join(value.lower() if value in ("TRUE", "FALSE") else value
+                           for value in map(literal, key)) + ")"
+
+
+def duplicate(table: Table, record: Record, row: Sequence[Value], seen: Dict[Key, int]) -> Iterator[CsvFault]:
+    """Yields the fault of a row whose key an earlier one has, and notes the key."""
+    key = tuple(row[place] for place in (table.place(name) for name in table.key) if place is not None)
+    if key in seen:
+        yield CsvFault(record, None, f"the key {key_text(key)} is that of record {seen[key]} too",
+                       f"E6 duplicate key {key_text(key)}")
+    seen.setdefault(key, record.number)
+
+
+def check_rows(table: Table, records: Sequence[Record], places: Dict[int, int]) -> List[CsvFault]:
+    """Returns the faults of the records behind the header, those that a load finds first before others."""
+    faults: List[CsvFault] = []
+    doubles: List[CsvFault] = []
+    seen: Dict[Key, int] = {}
+    width = len(records[0].fields)
+    for record in records[1:]:
+        row = row_of(table, places, record, width, faults)
+        if row is not None:
+            doubles += duplicate(table, record, row, seen)
+    many = len(records) - 1
+    if many > MOST_WRITTEN:
+        doubles.append(CsvFault(None, None, f"there are {many} rows, and a load has at most {MOST_WRITTEN}",
+                                "E9 too many writes"))
+    return faults + doubles
+
+
+def check_csv(table: Table, data: bytes) -> Checked:
+    """Checks the bytes of a file as a load of a table reads them."""
+    records = list(read_records(data))
+    if not records:
+        return Checked(0, [bad_row(None, None, "the file has no record, so no header", 0)])
+    places, faults = header_places(table, records[0])
+    if faults:
+        return Checked(len(records) - 1, faults)
+    return Checked(len(records) - 1, check_rows(table, records, places))
+
+
+def chosen_table(schema: Schema, name: Optional[str]) -> Table:
+    """Returns the table of a name, or the only one."""
+    if name is None and len(schema.tables) == 1:
+        return next(iter(schema.tables.values()))
+    names: Set[str] = {table.name for table in schema.tables.values()}
+    if name is None:
+        raise ProgrammingError(f"--table takes one of {', '.join(sorted(names))}")
+    table = schema.table(name)
+    if not table:
+        raise ProgrammingError(f"E2 no table: {name} is none of {', '.join(sorted(names))}")
+    return table
+
+
+def report(path: str, checked: Checked) -> int:
+    """Prints what was found, and returns the status: 1 where a load would be refused."""
+    for fault in checked.faults[:MOST_SHOWN]:
+        print(f"{path}: {fault.text()}")
+    if len(checked.faults) > MOST_SHOWN:
+        print(f"{path}: and {len(checked.faults) - MOST_SHOWN} faults more")
+    if checked.faults:
+        print(f"a load is refused: load: {checked.faults[0].reply}")
+        return 1
+    print(f"{path}: {checked.rows} rows, which a load takes")
+    return 0
+
+
+def main(words: Sequence[str]) -> int:
+    """Runs `check-csv FILE [--schema FILE] [--table NAME]`."""
+    parser = argparse.ArgumentParser(prog="python3 -m tsvd check-csv")
+    parser.add_argument("file", help="a CSV file that is to be loaded")
+    parser.add_argument("--schema", help="the file of the tables; without it the sample, emp (no, name)")
+    parser.add_argument("--table", help="the table, where there are several")
+    given = parser.parse_args(words)
+    text = pathlib.Path(given.schema).read_text(encoding="utf-8") if given.schema else None
+    table = chosen_table(schema_of(text), given.table)
+    return report(given.file, check_csv(table, pathlib.Path(given.file).read_bytes()))

@@ -1,0 +1,67 @@
+"""Records of a CSV file, as the program reads them."""
+
+from __future__ import annotations
+
+from typing import Iterator, List, NamedTuple, Tuple
+
+BYTE_ORDER_MARK = b"\xef\xbb\xbf"
+ENDS = b",\r\n"
+
+
+class Record(NamedTuple):
+    """A record: its number and that of its first line, both from 1, and its fields."""
+
+    number: int
+    line: int
+    fields: Tuple[bytes, ...]
+
+
+def quoted_end(data: bytes, at: int) -> Tuple[bytes, int]:
+    """Returns what a quoted field has up to its closing quote, and the place after that."""
+    parts: List[bytes] = []
+    while True:
+        quote = data.find(b'"', at)
+        if quote < 0:
+            return b"".join(parts) + data[at:], len(data)
+        parts.append(data[at:quote])
+        if data[quote + 1:quote + 2] != b'"':
+            return b"".join(parts), quote + 1
+        parts.append(b'"')
+        at = quote + 2
+
+
+def read_field(data: bytes, at: int) -> Tuple[bytes, int]:
+    """Returns the field at a place, and the place of what ends it."""
+    inside = b""
+    if data.startswith(b'"', at):
+        inside, at = quoted_end(data, at + 1)
+    end = at
+    while end < len(data) and data[end] not in ENDS:
+        end += 1
+    return inside + data[at:end], end
+
+
+def read_fields(data: bytes, at: int) -> Tuple[Tuple[bytes, ...], int]:
+    """Returns the fields of the record at a place, and the place of what ends it."""
+    fields: List[bytes] = []
+    while True:
+        field, at = read_field(data, at)
+        fields.append(field)
+        if not data.startswith(b",", at):
+            return tuple(fields), at
+        at += 1
+
+
+def read_records(data: bytes) -> Iterator[Record]:
+    """Yields the records of a file; empty lines are passed over."""
+    at = len(BYTE_ORDER_MARK) if data.startswith(BYTE_ORDER_MARK) else 0
+    number, line, counted = 0, 1, 0
+    while at < len(data):
+        if data[at] in b"\r\n":
+            at += 1
+            continue
+        line += data.count(b"\n", counted, at)
+        counted = at
+        number += 1
+        fields, at = read_fields(data, at)
+        yield Record(number, line, fields)

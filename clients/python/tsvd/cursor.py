@@ -1,0 +1,185 @@
+"""Cursors of PEP 249: a statement, and the rows of its reply."""
+
+from __future__ import annotations
+
+import re
+from typing import TYPE_CHECKING, Any, Iterable, Iterator, List, NamedTuple, Optional, Sequence, Tuple
+
+from .errors import InterfaceError, ProgrammingError, Value
+from .literals import bind
+from .rows import read_row
+from .schema import Schema, Table
+
+if TYPE_CHECKING:
+    from .connection import Connection
+
+Row = Tuple[Value, ...]
+Description = Tuple[str, Optional[str], None, None, None, None, Optional[bool]]
+
+WORD = re.compile(r"[A-Za-z_]\w*")
+WRITES = ("INSERT", "UPDATE", "DELETE")
+COUNTED = ("inserted", "updated", "deleted")
+QUERY = re.compile(r"\s*SELECT\s*\*\s*FROM\s+(\w+)(?:\s+FOR\s+SYSTEM_TIME\s+(\w+))?", re.I)
+
+
+class Query(NamedTuple):
+    """What a SELECT asks: a table's name, and whether rows come with their periods."""
+
+    table: str
+    has_periods: bool
+
+
+def first_word(line: str) -> str:
+    """Returns the first word of a statement, in capitals."""
+    found = WORD.match(line)
+    return found.group().upper() if found else ""
+
+
+def query_of(line: str) -> Query:
+    """Returns what an answered SELECT asked."""
+    found = QUERY.match(line)
+    if not found:
+        raise InterfaceError(f"rows for a line that is no SELECT: {line!r}")
+    table, form = found.groups()
+    return Query(table, (form or "").upper() in ("FROM", "BETWEEN"))
+
+
+def named(name: str, kind: Optional[str], may_be_null: Optional[bool]) -> Description:
+    """Makes one column's entry of a description."""
+    return (name, kind, None, None, None, None, may_be_null)
+
+
+def column_descriptions(table: Table) -> List[Description]:
+    """Describes the user columns of a table."""
+    return [named(column.name, column.type, not (column.not_null or table.is_key(column)))
+            for column in table.columns]
+
+
+def describe(schema: Schema, query: Query, width: int) -> List[Description]:
+    """Describes the columns of rows; of a table that the schema lacks they are named by number."""
+    table = schema.table(query.table)
+    if table:
+        columns = column_descriptions(table)
+    else:
+        columns = [named(str(number), None, None) for number in range(1, width + 1 - 2 * query.has_periods)]
+    if query.has_periods:
+        columns.append(named(table.row_start if table else "start", "INT", False))
+        columns.append(named(table.row_end if table else "end", "INT", True))
+    return columns
+
+
+def typed_row(text: str, has_periods: bool) -> Row:
+    """Reads a row; its period, where the query shows it, is two values more, and the end None for `forever`."""
+    values, period = read_row(text)
+    if (period is not None) != has_periods:
+        raise InterfaceError(f"no row of such a query: {text!r}")
+    return values + period if period is not None else values
+
+
+class Cursor:
+    """The statements of a connection, and the rows of the last one."""
+
+    arraysize = 1
+    lastrowid = None
+
+    def __init__(self, connection: "Connection") -> None:
+        self.connection = connection
+        self.description: Optional[List[Description]] = None
+        self.rowcount = -1
+        self.reply = ""
+        self.rows: Optional[List[Row]] = None
+        self.next = 0
+        self.has_periods = False
+        self.is_open = True
+
+    def __enter__(self) -> "Cursor":
+        return self
+
+    def __exit__(self, *_: Any) -> None:
+        """Closes the cursor."""
+        self.close()
+
+    def close(self) -> None:
+        """Drops the rows; the cursor takes no more statements."""
+        self.is_open, self.rows, self.description = False, None, None
+
+    def execute(self, statement: str, values: Sequence[Any] = ()) -> "Cursor":
+        """Executes a statement with values in the places of its question marks.
+
+        A statement that writes begins a transaction where none is open. Line ends outside of
+        texts count as blanks.
+        """
+        line = bind(statement, values)
+        if self.is_open and first_word(line) in WRITES and not self.connection.in_transaction:
+            self.connection.begin()
+        return self.ask(line)
+
+    def ask(self, line: str) -> "Cursor":
+        """Sends a line as it is, begins nothing, and keeps what its reply shows."""
+        self.reset()
+        head, *rows = self.connection.ask(line)
+        self.reply = head
+        if head.startswith("rows "):
+            self.take_rows(query_of(line), rows)
+        elif head.split()[0] in COUNTED:
+            self.rowcount = int(head.split()[1])
+        return self
+
+    def executemany(self, statement: str, many: Iterable[Sequence[Any]]) -> "Cursor":
+        """Executes a statement that writes, once for each of many sequences of values."""
+        total = 0
+        for values in many:
+            self.execute(statement, values)
+            if self.rows is not None:
+                raise ProgrammingError("a SELECT is executed once")
+            total += max(0, self.rowcount)
+        self.rowcount = total
+        return self
+
+    def reset(self) -> None:
+        """Forgets the last statement."""
+        if not self.is_open:
+            raise InterfaceError("the cursor is closed")
+        self.description, self.rowcount, self.reply, self.rows, self.next = None, -1, "", None, 0
+        self.has_periods = False
+
+    def take_rows(self, query: Query, texts: List[str]) -> None:
+        """Keeps the rows of a reply, typed."""
+        rows = [typed_row(text, query.has_periods) for text in texts]
+        self.description = describe(self.connection.schema, query, len(rows[0]) if rows else 0)
+        if rows and len(self.description) != len(rows[0]):
+            raise InterfaceError(f"rows of {query.table} have {len(rows[0])} values: another schema than the server's")
+        self.rows, self.rowcount, self.has_periods = rows, len(rows), query.has_periods
+
+    def held(self) -> List[Row]:
+        """Returns all rows of the last SELECT."""
+        if self.rows is None:
+            raise InterfaceError("the last statement shows no rows")
+        return self.rows
+
+    def fetchone(self) -> Optional[Row]:
+        """Returns the next row, or None after the last."""
+        rows = self.fetchmany(1)
+        return rows[0] if rows else None
+
+    def fetchmany(self, size: Optional[int] = None) -> List[Row]:
+        """Returns the next rows, `arraysize` of them where no size is given."""
+        rows = self.held()[self.next:self.next + (self.arraysize if size is None else size)]
+        self.next += len(rows)
+        return rows
+
+    def fetchall(self) -> List[Row]:
+        """Returns all rows that are left."""
+        rows = self.held()[self.next:]
+        self.next += len(rows)
+        return rows
+
+    def __iter__(self) -> Iterator[Row]:
+        """Yields the rows that are left."""
+        return iter(self.fetchone, None)
+
+    def setinputsizes(self, _: Any) -> None:
+        """Does nothing, as PEP 249 allows."""
+
+    def setoutputsize(self, *_: Any) -> None:
+        """Does nothing, as PEP 249 allows."""

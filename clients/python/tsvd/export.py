@@ -1,0 +1,115 @@
+"""The versions that `--export` wrote, and the columns of their key."""
+
+from __future__ import annotations
+
+import csv
+import itertools
+import re
+from typing import Dict, Iterator, List, NamedTuple, Optional, Sequence, Tuple
+
+from .errors import DataError
+
+MOST_KEY_COLUMNS = 4
+INSTANT = re.compile(r"[0-9]+")
+NAME = re.compile(r"[A-Za-z_][A-Za-z0-9_]*")
+
+
+class Version(NamedTuple):
+    """A version: its row's fields, its start, and its end, which is None where it has not come."""
+
+    fields: Tuple[str, ...]
+    start: int
+    end: Optional[int]
+
+
+class Export(NamedTuple):
+    """The names of the user columns and of the period's, and the versions in the file's order."""
+
+    names: Tuple[str, ...]
+    period: Tuple[str, str]
+    versions: List[Version]
+
+
+def fields_of(line: str) -> List[str]:
+    """Splits a line into fields; no field of an export has a line's end."""
+    return next(csv.reader([line]), [])
+
+
+def is_version(fields: Sequence[str], width: int) -> bool:
+    """Returns whether fields end in a period."""
+    return (len(fields) == width and width > 2 and bool(INSTANT.fullmatch(fields[-2]))
+            and (fields[-1] == "forever" or bool(INSTANT.fullmatch(fields[-1]))))
+
+
+def is_header(fields: Sequence[str]) -> bool:
+    """Returns whether fields may be the names of a column and of a period's two."""
+    return len(fields) > 2 and all(NAME.fullmatch(field) for field in fields)
+
+
+def version_of(fields: Sequence[str]) -> Version:
+    """Makes a version of the fields of its record."""
+    return Version(tuple(fields[:-2]), int(fields[-2]), None if fields[-1] == "forever" else int(fields[-1]))
+
+
+def read_export(text: str) -> Export:
+    """Reads the export at the end of what the program wrote: replies may come before it."""
+    records = [fields_of(line) for line in text.split("\n") if line]
+    at = len(records) - 1
+    while at > 0 and is_version(records[at], len(records[-1])):
+        at -= 1
+    if at < 0 or not is_header(records[at]) or len(records[at]) != len(records[-1]):
+        raise DataError("no export: a header and records that end in a start and an end are wanted")
+    *names, row_start, row_end = records[at]
+    return Export(tuple(names), (row_start, row_end), [version_of(fields) for fields in records[at + 1:]])
+
+
+def key_of(version: Version, places: Sequence[int]) -> Tuple[str, ...]:
+    """Returns the fields of a version at places."""
+    return tuple(version.fields[place] for place in places)
+
+
+def may_be_key(export: Export, places: Sequence[int]) -> bool:
+    """Returns whether the versions with equal fields there come one behind the other and share no instant."""
+    seen = set()
+    before: Optional[Version] = None
+    for version in export.versions:
+        key = key_of(version, places)
+        if before and key == key_of(before, places):
+            if before.end is None or before.end > version.start:
+                return False
+        elif key in seen:
+            return False
+        seen.add(key)
+        before = version
+    return True
+
+
+def candidates(width: int) -> Iterator[Tuple[int, ...]]:
+    """Yields the places that a key may have, few ones first and those from the left first."""
+    for count in range(1, min(width, MOST_KEY_COLUMNS) + 1):
+        yield from itertools.combinations(range(width), count)
+
+
+def guess_key(export: Export) -> Tuple[int, ...]:
+    """Returns the first places that may be the key's: an export does not say which they are."""
+    for places in candidates(len(export.names)):
+        if may_be_key(export, places):
+            return places
+    return (0,)
+
+
+def places_of(export: Export, names: Sequence[str]) -> Tuple[int, ...]:
+    """Returns the places of named columns."""
+    lower = [name.lower() for name in export.names]
+    missing = [name for name in names if name.lower() not in lower]
+    if missing:
+        raise DataError(f"no column {missing[0]}: there are {', '.join(export.names)}")
+    return tuple(lower.index(name.lower()) for name in names)
+
+
+def by_key(export: Export, places: Sequence[int]) -> Dict[Tuple[str, ...], List[Version]]:
+    """Returns the versions of each key, in the file's order."""
+    found: Dict[Tuple[str, ...], List[Version]] = {}
+    for version in export.versions:
+        found.setdefault(key_of(version, places), []).append(version)
+    return found

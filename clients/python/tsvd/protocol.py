@@ -1,0 +1,98 @@
+"""A session over a socket: lines out, replies in."""
+
+from __future__ import annotations
+
+import socket
+import threading
+import time
+from typing import Any, List, Optional, Union
+
+from .errors import DisconnectError, InterfaceError, OperationalError
+from .lines import checked
+
+HOST = "127.0.0.1"
+PAUSE = 0.05
+
+
+def open_socket(port: int, wait: float = 5.0, timeout: Optional[float] = None) -> socket.socket:
+    """Connects to a port of this machine, and tries again for `wait` seconds while nobody listens."""
+    end = time.monotonic() + wait
+    while True:
+        try:
+            connected = socket.create_connection((HOST, port), timeout)
+            connected.setsockopt(socket.IPPROTO_TCP, socket.TCP_NODELAY, 1)
+            return connected
+        except ConnectionRefusedError:
+            if time.monotonic() >= end:
+                raise OperationalError(f"nobody listens at port {port}") from None
+            time.sleep(PAUSE)
+        except OSError as fault:
+            raise OperationalError(f"port {port}: {fault}") from fault
+
+
+class Session:
+    """One connection, which is one session of the server.
+
+    A line is sent only where it has exactly one reply, and the next one only when that was read
+    whole. Where reading breaks off (a timeout, an interrupt), the session takes no more lines.
+    """
+
+    def __init__(self, port: int, wait: float = 5.0, timeout: Optional[float] = None) -> None:
+        self.socket = open_socket(port, wait, timeout)
+        self.replies = self.socket.makefile("rb")
+        self.is_open = True
+        self.lock = threading.Lock()
+
+    def __enter__(self) -> "Session":
+        return self
+
+    def __exit__(self, *_: Any) -> None:
+        """Ends the session: what a transaction that is still open has written is dropped."""
+        self.close()
+
+    def close(self) -> None:
+        """Ends the session."""
+        self.is_open = False
+        self.replies.close()
+        self.socket.close()
+
+    def ask(self, line: Union[str, bytes]) -> List[str]:
+        """Sends a line, and returns the lines of its reply: one, and after `rows N` one for each row."""
+        data = checked(line)
+        with self.lock:
+            if not self.is_open:
+                raise InterfaceError("the session has ended")
+            self.is_open = False
+            try:
+                self.socket.sendall(data + b"\n")
+                reply = self.read_reply()
+            except OSError as fault:
+                raise self.disconnected(str(fault), data) from fault
+            except EOFError:
+                raise self.disconnected("the server has ended the session", data) from None
+            self.is_open = True
+            return reply
+
+    def disconnected(self, why: str, line: bytes) -> DisconnectError:
+        """Makes the exception of a connection that broke after a line was sent."""
+        fault = DisconnectError(f"{why}; a COMMIT that was sent may have been made")
+        fault.line = line.decode("utf-8", "replace")
+        return fault
+
+    def read_reply(self) -> List[str]:
+        """Reads the lines of one reply."""
+        head = self.read_line()
+        count = head[len("rows "):] if head.startswith("rows ") else "0"
+        if not count.isdecimal():
+            raise InterfaceError(f"no reply of the protocol: {head!r}")
+        return [head] + [self.read_line() for _ in range(int(count))]
+
+    def read_line(self) -> str:
+        """Reads up to a line feed, which alone ends a line of a reply."""
+        line = self.replies.readline()
+        if not line.endswith(b"\n"):
+            raise EOFError
+        try:
+            return line[:-1].decode("utf-8")
+        except UnicodeDecodeError:
+            raise InterfaceError(f"a reply that is not UTF-8: {line!r}") from None

@@ -1,0 +1,39 @@
+"""Sends each line of standard input to a server, and prints its reply before the next is read."""
+
+from __future__ import annotations
+
+import argparse
+import sys
+from typing import BinaryIO, Iterator, Sequence
+
+from .limits import LONGEST_LINE
+from .lines import has_reply
+from .protocol import Session
+
+TOO_LONG = "E12 line too long"
+
+
+def replies(session: Session, lines: BinaryIO) -> Iterator[str]:
+    """Yields the lines of the replies; a blank line and a comment have none, and a line too long is not sent."""
+    for line in lines:
+        body = line[:-1] if line.endswith(b"\n") else line
+        if len(body) > LONGEST_LINE:
+            yield TOO_LONG
+        elif has_reply(body):
+            yield from session.ask(body)
+
+
+def send(port: int, lines: BinaryIO, out: BinaryIO) -> None:
+    """Sends lines, and writes their replies as they come."""
+    with Session(port) as session:
+        for reply in replies(session, lines):
+            out.write(reply.encode("utf-8") + b"\n")
+            out.flush()
+
+
+def main(words: Sequence[str]) -> int:
+    """Runs `send PORT`."""
+    parser = argparse.ArgumentParser(prog="python3 -m tsvd send", usage="%(prog)s PORT < STATEMENTS")
+    parser.add_argument("port", type=int)
+    send(parser.parse_args(words).port, sys.stdin.buffer, sys.stdout.buffer)
+    return 0

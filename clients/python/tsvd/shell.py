@@ -1,0 +1,210 @@
+"""A shell over a served session: `python3 -m tsvd shell PORT`, or with a server of its own."""
+
+from __future__ import annotations
+
+import argparse
+import os
+import pathlib
+import sys
+from typing import Iterable, Iterator, List, Optional, Sequence, Tuple
+
+from .connection import Connection, connect
+from .cursor import Cursor, Row
+from .errors import DisconnectError, Error, InterfaceError
+from .explain import fault_lines
+from .instants import date_text, replace_dates
+from .layout import table_lines, visible
+from .lines import encoded, has_reply
+from .program import Server
+from .shell_commands import is_command, run_command
+
+GREETING = "tsvd shell: \\? for help, \\q to end. Nothing is kept when the server ends."
+WORDS = ("AND AS BEGIN BETWEEN COMMIT DELETE FALSE FOR FROM INSERT INTO MIGRATE NULL OF ROLLBACK SELECT SET "
+         "SPLIT SYSTEM_TIME TO TRANSACTION TRUE UPDATE VALUES WHERE").split()
+
+
+class Shell:
+    """What is typed, over one connection, and how its replies are shown."""
+
+    def __init__(self, connection: Connection) -> None:
+        self.connection = connection
+        self.with_dates = True
+
+    def prompt(self) -> str:
+        """Returns the prompt, with a star while a transaction is open."""
+        return "tsvd*> " if self.connection.in_transaction else "tsvd> "
+
+    def cursor(self) -> Cursor:
+        """Makes a cursor over the connection."""
+        return self.connection.cursor()
+
+    def print_lines(self, lines: Iterable[str]) -> None:
+        """Prints lines."""
+        for line in lines:
+            print(line)
+
+    def show(self, cursor: Cursor) -> None:
+        """Prints the reply to a statement: a table, or its text."""
+        if cursor.description is None:
+            print(self.reply_text(cursor.reply))
+        else:
+            self.show_rows(cursor, cursor.fetchall())
+
+    def reply_text(self, reply: str) -> str:
+        """Returns a reply, with the date of an instant that it ends in."""
+        instant = reply.split()[-1]
+        date = date_text(int(instant)) if self.with_dates and instant.isdecimal() else None
+        return f"{reply} ({date})" if date else visible(reply)
+
+    def show_rows(self, cursor: Cursor, rows: Sequence[Row]) -> None:
+        """Prints rows of a query below the names of their columns."""
+        names = [column[0] for column in cursor.description or []]
+        self.print_lines(table_lines(names, rows, cursor.has_periods, self.with_dates))
+
+    def take(self, line: str) -> bool:
+        """Does what a line asks, and returns whether the shell goes on."""
+        line = line.strip()
+        try:
+            if is_command(line):
+                return run_command(self, line)
+            if has_reply(encoded(line)):
+                self.show(self.cursor().ask(replace_dates(line)))
+        except (DisconnectError, InterfaceError):
+            raise
+        except Error as fault:
+            self.print_lines(fault_lines(fault, self.connection.schema))
+        return True
+
+    def run(self, lines: Iterator[str]) -> int:
+        """Takes lines up to the last, and returns the status."""
+        try:
+            for line in lines:
+                if not self.take(line):
+                    break
+        except KeyboardInterrupt:
+            print("interrupted within a reply: the session has ended")
+            return 1
+        except (DisconnectError, InterfaceError) as fault:
+            print(fault)
+            return 1
+        if self.connection.in_transaction:
+            print("the open transaction is dropped")
+        return 0
+
+
+def typed_lines(shell: Shell) -> Iterator[str]:
+    """Yields the lines that are typed at the prompt, up to Ctrl-D; Ctrl-C drops one."""
+    while True:
+        try:
+            yield input(shell.prompt())
+        except EOFError:
+            print()
+            return
+        except KeyboardInterrupt:
+            print("^C")
+
+
+def piped_lines() -> Iterator[str]:
+    """Yields the lines of standard input, which line feeds alone end."""
+    for line in sys.stdin.buffer:
+        yield line.decode("utf-8", "surrogateescape").rstrip("\n")
+
+
+def history_file() -> pathlib.Path:
+    """Returns where typed lines are kept: TSVD_HISTORY, or a file in the home folder."""
+    return pathlib.Path(os.environ.get("TSVD_HISTORY") or pathlib.Path.home() / ".tsvd_history")
+
+
+def completions(shell: Shell) -> List[str]:
+    """Returns the words of the grammar, and the names of tables and columns."""
+    tables = list(shell.connection.schema.tables.values())
+    return WORDS + [table.name for table in tables] + [column.name for table in tables for column in table.columns]
+
+
+def edit_lines(shell: Shell) -> None:
+    """Switches on line editing, history and completion, where this Python has them."""
+    try:
+        import atexit
+        import readline
+    except ImportError:
+        return
+    words = completions(shell)
+
+    def complete(text: str, turn: int) -> Optional[str]:
+        found = [word for word in words if text and word.lower().startswith(text.lower())]
+        return found[turn] + " " if turn < len(found) else None
+
+    readline.set_completer(complete)
+    readline.parse_and_bind("tab: complete")
+    try:
+        readline.read_history_file(str(history_file()))
+    except OSError:
+        pass
+    atexit.register(keep_history, readline.write_history_file)
+
+
+def keep_history(write: "object") -> None:
+    """Writes the typed lines to their file, where that can be."""
+    try:
+        write(str(history_file()))  # type: ignore[operator]
+    except OSError:
+        pass
+
+
+def run_shell(connection: Connection) -> int:
+    """Runs a shell over a connection, at a terminal or over piped lines, and returns the status."""
+    shell = Shell(connection)
+    try:
+        if not sys.stdin.isatty():
+            return shell.run(piped_lines())
+        edit_lines(shell)
+        print(GREETING)
+        return shell.run(typed_lines(shell))
+    finally:
+        connection.close()
+
+
+def schema_text(path: Optional[str]) -> Optional[str]:
+    """Reads a schema's file, where one is named."""
+    return pathlib.Path(path).read_text(encoding="utf-8") if path else None
+
+
+def option_of(options: Sequence[str], name: str) -> Optional[str]:
+    """Returns the text of an option of the program, or None."""
+    for word, behind in zip(options, [*options[1:], ""]):
+        if word == name:
+            return behind
+        if word.startswith(name + "="):
+            return word[len(name) + 1:]
+    return None
+
+
+def own_server(options: Sequence[str]) -> int:
+    """Starts a server with these options, runs a shell over it, and prints what the server writes."""
+    with Server(options) as server:
+        print("".join(server.before), end="", flush=True)
+        status = run_shell(connect(server.port, schema_text(option_of(options, "--schema"))))
+        print(server.end(), end="")
+        return status or server.process.returncode
+
+
+def split_words(words: Sequence[str]) -> Tuple[List[str], Optional[List[str]]]:
+    """Splits words at `--`, after which come the options of a server of the shell's own."""
+    if "--" not in words:
+        return list(words), None
+    at = list(words).index("--")
+    return list(words[:at]), list(words[at + 1:])
+
+
+def main(words: Sequence[str]) -> int:
+    """Runs `shell PORT [--schema FILE]` or `shell -- OPTIONS`."""
+    own, options = split_words(words)
+    parser = argparse.ArgumentParser(prog="python3 -m tsvd shell", usage="%(prog)s PORT [--schema FILE] | -- OPTIONS")
+    parser.add_argument("port", type=int, nargs="?", help="where a server listens on this machine")
+    parser.add_argument("--schema", help="the file that the server was started with")
+    given = parser.parse_args(own)
+    if (given.port is None) == (options is None):
+        parser.error("a port, or -- and the options of a server that is started")
+    if options is not None:
+        return own_server(options)
+    return run_shell(connect(given.port, schema_text(given.schema)))
