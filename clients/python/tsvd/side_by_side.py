@@ -39,7 +39,7 @@ def paired(lines: Sequence[bytes], replies: List[str]) -> Iterator[Tuple[str, Li
 
 def columns(pairs: Sequence[Tuple[str, List[str]]]) -> Iterator[str]:
     """Yields the lines of two columns."""
-    width = min(WIDEST, max([len(line) for line, reply in pairs if reply] or [0]))
+    width = max([len(line) for line, reply in pairs if reply and len(line) <= WIDEST] or [0])
     for line, reply in pairs:
         first = reply[0] if reply else ""
         yield f"{line:{width}}  {first}".rstrip()
