@@ -75,7 +75,7 @@ class Checks(Files):
         schema = self.file("tables.schema", SCHEMA)
         good, bad = self.file("good.csv", "site,no\na,1\n"), self.file("bad.csv", "site;no\na;1\n")
         options = ("--schema", schema, "--table", "Staff")
-        self.assertEqual(run("check-csv", good, *options), (f"{good}: 1 rows, which a load takes\n", "", 0))
+        self.assertEqual(run("check-csv", good, *options), (f"{good}: 1 row, which a load takes\n", "", 0))
         out, err, status = run("check-csv", bad, *options)
         self.assertIn("fields are separated by commas", out)
         self.assertEqual((out.split("\n")[-2], err, status), ("a load is refused: load: E3 bad row at column 0", "", 1))

@@ -216,7 +216,7 @@ def report(path: str, checked: Checked) -> int:
     if checked.faults:
         print(f"a load is refused: load: {checked.faults[0].reply}")
         return 1
-    print(f"{path}: {checked.rows} rows, which a load takes")
+    print(f"{path}: {checked.rows} row{'' if checked.rows == 1 else 's'}, which a load takes")
     return 0
 
 

@@ -11,7 +11,7 @@ from typing import Iterator, List, Sequence, Tuple
 from .lines import has_reply
 from .program import program_path
 
-WIDEST = 88
+WIDEST = 100
 
 
 def script_lines(script: bytes) -> List[bytes]:
