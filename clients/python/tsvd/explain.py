@@ -37,7 +37,7 @@ def column_lines(schema: Schema, line: str, number: int) -> List[str]:
 def fault_lines(fault: Error, schema: Schema) -> List[str]:
     """Returns what a terminal shows of a refusal or of another fault."""
     if fault.number is None:
-        return [f"not sent: {fault}" if fault.line is None else str(fault)]
+        return [visible(str(fault))]
     lines = [visible(fault.reply or "")]
     if fault.byte is not None and fault.line is not None:
         lines += caret_lines(fault.line, fault.byte)

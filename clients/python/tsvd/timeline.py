@@ -51,7 +51,7 @@ def schema_key(path: str, export: Export) -> Tuple[str, ...]:
     for table in read_schema(pathlib.Path(path).read_text(encoding="utf-8")).tables.values():
         columns = [column.name for column in table.columns] + [table.row_start, table.row_end]
         if [name.lower() for name in columns] == names:
-            return table.key
+            return tuple(column.name for column in table.key_columns())
     raise SystemExit(f"timeline: no table of {path} has the columns of the export")
 
 
