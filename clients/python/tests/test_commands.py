@@ -42,7 +42,7 @@ class Stops(unittest.TestCase):
             with tsvd.Session(server.port) as session:
                 session.ask("BEGIN")
             out, err, status = run("stop", str(server.port))
-            self.assertEqual((out, err, status), ("the server has ended; sessions that were left: 2\n", "", 0))
+            self.assertEqual((out, err, status), ("the server has ended; remaining sessions: 2\n", "", 0))
             self.assertEqual((server.end(LONGEST), server.process.returncode), ("closed 1\n", 0))
             with self.assertRaises(OperationalError):
                 use_sessions(server.port)
@@ -51,7 +51,7 @@ class Stops(unittest.TestCase):
         with Server(sessions=2) as server:
             with tsvd.Session(server.port) as session:
                 session.ask("BEGIN")
-                with self.assertRaisesRegex(OperationalError, "1 sessions were left"):
+                with self.assertRaisesRegex(OperationalError, "used up 1 remaining"):
                     use_sessions(server.port, 0.5)
                 self.assertEqual(session.ask("ROLLBACK"), ["rolled back"])
             self.assertEqual(server.end(LONGEST), "closed 1\n")

@@ -67,18 +67,19 @@ class Checks(Files):
         data = b'name,no,site\n"a\nb",1,s\n\nx,y,s\nx,2\nx,3,s\nz,3,s\n'
         self.assertEqual([fault.text() for fault in check_csv(STAFF, data).faults], [
             "record 2 (line 2), field 1: name: a text has one line: no line feed and no carriage return",
-            "record 3 (line 5), field 2: no: 'y' is no whole number, such as -12",
-            "record 4 (line 6): there are 2 fields where the header has 3",
-            "record 6 (line 8): the key ('s', 3) is that of record 5 too"])
+            "record 3 (line 5), field 2: no: 'y' is not a whole number such as -12",
+            "record 4 (line 6): the record has 2 fields, and the header 3",
+            "record 6 (line 8): the key ('s', 3) is also the key of record 5"])
 
     def test_the_command_says_what_a_load_will_say(self):
         schema = self.file("tables.schema", SCHEMA)
         good, bad = self.file("good.csv", "site,no\na,1\n"), self.file("bad.csv", "site;no\na;1\n")
         options = ("--schema", schema, "--table", "Staff")
-        self.assertEqual(run("check-csv", good, *options), (f"{good}: 1 row, which a load takes\n", "", 0))
+        self.assertEqual(run("check-csv", good, *options), (f"{good}: 1 row, ready to load\n", "", 0))
         out, err, status = run("check-csv", bad, *options)
         self.assertIn("fields are separated by commas", out)
-        self.assertEqual((out.split("\n")[-2], err, status), ("a load is refused: load: E3 bad row at column 0", "", 1))
+        last = out.split("\n")[-2]
+        self.assertEqual((last, err, status), ("a load fails with: load: E3 bad row at column 0", "", 1))
         for words in (("--schema", schema), (*options[:3], "dept")):
             out, err, status = run("check-csv", good, *words)
             self.assertEqual((out, status), ("", 1))

@@ -16,7 +16,8 @@ class Literals(unittest.TestCase):
         for value, written in [
                 (None, "NULL"), (True, "TRUE"), (False, "FALSE"), (0, "0"), (-5, "-5"), (Number.SEVEN, "7"),
                 (2 ** 63 - 1, "9223372036854775807"), (-2 ** 63, "-9223372036854775808"), ("", "''"),
-                ("O'Hara", "'O''Hara'"), ("'", "''''"), ("a\u2028b\x85", "'a\u2028b\x85'"), (moment, "1775001600000000")]:
+                ("O'Hara", "'O''Hara'"), ("'", "''''"), ("a\u2028b\x85", "'a\u2028b\x85'"),
+                (moment, "1775001600000000")]:
             self.assertEqual(literal(value), written)
 
     def test_what_has_no_literal_is_refused(self):

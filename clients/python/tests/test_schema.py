@@ -10,8 +10,9 @@ class Schemas(unittest.TestCase):
         schema = read_schema(SCHEMA)
         self.assertEqual(list(schema.tables), ["staff", "note"])
         staff, note = schema.tables.values()
-        self.assertEqual(staff.columns, (Column("site", "TEXT", 20, False), Column("no", "INT", None, True),
-                                         Column("name", "TEXT", None, False), Column("active", "BOOLEAN", None, False)))
+        self.assertEqual(staff.columns, (
+            Column("site", "TEXT", 20, False), Column("no", "INT", None, True), Column("name", "TEXT", None, False),
+            Column("active", "BOOLEAN", None, False)))
         self.assertEqual((staff.key, staff.row_start, staff.row_end), (("site", "no"), "recorded", "superseded"))
         self.assertEqual((note.key, note.row_start), (("no",), "sys_start"))
 

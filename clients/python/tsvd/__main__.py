@@ -14,18 +14,18 @@ COMMANDS: Dict[str, Callable[[Sequence[str]], int]] = {
 }
 USAGE = """usage: python3 -m tsvd COMMAND
 
-  shell PORT | shell -- OPTIONS   statements typed at a prompt, with tables and dates
-  send PORT                       the lines of standard input, each answered before the next is read
-  timeline FILE                   what --export wrote, as a page with a bar for each version
-  side-by-side SCRIPT             each line of a script with its reply
-  check-csv FILE                  what a load will refuse of a file, and why
-  stop PORT                       ends a server by using up the sessions that are left
+  shell PORT | shell -- OPTIONS   runs statements at a prompt, with tables and dates
+  send PORT                       sends the lines of standard input, one at a time, and prints the replies
+  timeline FILE                   turns an export into an HTML page with a bar for each version
+  side-by-side SCRIPT             runs a script and prints each line with its reply
+  check-csv FILE                  reports the records and fields that a load would refuse, and why
+  stop PORT                       ends a server by using up its remaining sessions
 
 COMMAND --help says more."""
 
 
 def main(words: List[str]) -> int:
-    """Runs a command, and returns its status: 2 for words that are none."""
+    """Runs a command and returns its exit status, 2 for an unknown command."""
     command = COMMANDS.get(words[0]) if words else None
     if not command:
         asked = words in (["--help"], ["-h"])

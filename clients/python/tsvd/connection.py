@@ -1,4 +1,4 @@
-"""Connections of PEP 249: one is one session, and has one transaction at a time."""
+"""PEP 249 connections. Each is one session, with one transaction at a time."""
 
 from __future__ import annotations
 
@@ -13,12 +13,12 @@ from .schema import Schema, schema_of
 
 Answer = TypeVar("Answer")
 
-# After these refusals the transaction has ended, and after E4 there was none.
+# After E7 and E8 the transaction has ended, and at E4 there was none.
 ENDING = (4, 7, 8)
 
 
 class Connection:
-    """A session with its tables, and with whether a transaction is open."""
+    """Represents a session, its tables and its open transaction, if any."""
 
     Warning = errors.Warning
     Error = errors.Error
@@ -51,7 +51,7 @@ class Connection:
                 self.rollback()
 
     def ask(self, line: str) -> List[str]:
-        """Sends a line and returns its reply's lines, or raises the refusal."""
+        """Sends a line and returns the lines of its reply, or raises the refusal."""
         reply = self.session.ask(line)
         self.note(reply[0])
         if number_of(reply[0]) is not None:
@@ -59,7 +59,7 @@ class Connection:
         return reply
 
     def note(self, head: str) -> None:
-        """Keeps what a reply says of the transaction."""
+        """Updates the state of the transaction from a reply."""
         word, _, rest = head.partition(" ")
         if word == "begun":
             self.in_transaction, self.snapshot = True, int(rest)
@@ -72,26 +72,26 @@ class Connection:
             self.in_transaction = True
 
     def begin(self) -> int:
-        """Begins a transaction, and returns the last commit instant, which is its snapshot."""
+        """Begins a transaction and returns its snapshot, the last commit instant."""
         return int(self.ask("BEGIN")[0].split()[1])
 
     def commit(self) -> Optional[int]:
-        """Commits, and returns the instant, or None where nothing was changed or no transaction is open."""
+        """Commits and returns the commit instant, or None if nothing changed or no transaction is open."""
         if not self.in_transaction:
             return None
         word = self.ask("COMMIT")[0].split()[1]
         return None if word == "nothing" else int(word)
 
     def rollback(self) -> None:
-        """Drops the open transaction, where there is one."""
+        """Rolls back the open transaction, if there is one."""
         if self.in_transaction:
             self.ask("ROLLBACK")
 
     def transact(self, work: Callable[[Cursor], Answer], tries: int = 100) -> Answer:
-        """Does `work(cursor)` in a transaction and commits, again where another session was first.
+        """Runs `work(cursor)` in a transaction and commits; after a conflict, runs it again.
 
-        Returns what the work returned; the commit's instant is `last_commit`. After `tries`
-        conflicts the last one is raised. Any other exception rolls back.
+        Returns what `work` returned; `last_commit` is the commit instant. Raises the last conflict
+        after `tries` attempts. Any other exception rolls back.
         """
         if self.in_transaction:
             raise ProgrammingError("a transaction is open already")
@@ -104,7 +104,7 @@ class Connection:
         raise AssertionError("a range of at least one turn")
 
     def attempt(self, work: Callable[[Cursor], Answer]) -> Answer:
-        """Does the work once, in a transaction that is committed or rolled back."""
+        """Runs the work once, in a transaction that is then committed or rolled back."""
         self.begin()
         with self:
             return work(self.cursor())
@@ -125,10 +125,10 @@ class Connection:
 
 def connect(port: int, schema: Union[None, str, Schema] = None, wait: float = 5.0,
             timeout: Optional[float] = None) -> Connection:
-    """Opens a session at a port of this machine.
+    """Opens a session with the server at a port of this machine.
 
-    `schema` is the text that the server was started with, and without it the sample's. Where
-    nobody listens the port is tried again for `wait` seconds. A reply that takes longer than
+    `schema` is the text of the server's schema file; None means the sample table. If nothing
+    listens at the port yet, tries again for `wait` seconds. A reply that takes longer than
     `timeout` seconds ends the session.
     """
     tables = schema_of(schema)

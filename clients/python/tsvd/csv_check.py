@@ -1,4 +1,4 @@
-"""What a load will refuse of a CSV file, and why."""
+"""Checks what a load would refuse in a CSV file, and why."""
 
 from __future__ import annotations
 
@@ -19,7 +19,7 @@ MOST_SHOWN = 20
 
 
 class CsvFault(NamedTuple):
-    """A fault: where it is, why, and the refusal with which a load answers the file's first one."""
+    """Describes a fault: its place, its cause, and the refusal that a load reports for it."""
 
     record: Optional[Record]
     field: Optional[int]
@@ -27,7 +27,7 @@ class CsvFault(NamedTuple):
     reply: str
 
     def text(self) -> str:
-        """Writes the fault for a reader."""
+        """Returns the fault as a message."""
         if not self.record:
             return self.why
         field = f", field {self.field}" if self.field else ""
@@ -35,14 +35,14 @@ class CsvFault(NamedTuple):
 
 
 class Checked(NamedTuple):
-    """The rows of a file, by which its keys are told apart, and its faults."""
+    """Holds the number of rows of a file, and its faults."""
 
     rows: int
     faults: List[CsvFault]
 
 
 class Refused(Exception):
-    """Says why a field writes no value of its column."""
+    """Says why a field is not a value of its column."""
 
 
 def bad_row(record: Optional[Record], field: Optional[int], why: str, column: int) -> CsvFault:
@@ -54,12 +54,12 @@ def integer_of(field: bytes) -> Value:
     """Reads a field of an INT column."""
     if not DIGITS.fullmatch(field):
         blanks = "; fields are not trimmed" if field != field.strip() else ""
-        raise Refused(f"{shown(field)} is no whole number, such as -12{blanks}")
+        raise Refused(f"{shown(field)} is not a whole number such as -12{blanks}")
     digits = field.lstrip(b"-").lstrip(b"0")
     number = int(digits or b"0") if len(digits) < 20 else GREATEST_INTEGER + 2
     number = -number if field.startswith(b"-") else number
     if not LEAST_INTEGER <= number <= GREATEST_INTEGER:
-        raise Refused(f"{shown(field)} is no number of 64 bits")
+        raise Refused(f"{shown(field)} is not in the range of 64 bits")
     return number
 
 
@@ -78,16 +78,18 @@ def text_of(column: Column, in_key: bool, field: bytes) -> Value:
         raise Refused("the text is not UTF-8") from None
     longest = LONGEST_KEY_TEXT if in_key else LONGEST_TEXT
     if len(field) > longest:
-        raise Refused(f"a text{' of the key' if in_key else ''} has at most {longest} bytes, and this one has {len(field)}")
+        where = " of the key" if in_key else ""
+        raise Refused(f"a text{where} has at most {longest} bytes; this one has {len(field)}")
     if "\n" in text or "\r" in text:
         raise Refused("a text has one line: no line feed and no carriage return")
-    if column.characters is not None and len(text) > column.characters:
-        raise Refused(f"VARCHAR({column.characters}) has at most so many characters, and this text has {len(text)}")
+    most = column.characters
+    if most is not None and len(text) > most:
+        raise Refused(f"a VARCHAR({most}) has at most {most} characters; this text has {len(text)}")
     return text
 
 
 def value_of(table: Table, column: Column, field: bytes) -> Value:
-    """Reads a field of a column, or says why it writes no value of it."""
+    """Reads a field of a column, or raises why it is not a value of the column."""
     if column.type == "TEXT":
         return text_of(column, table.is_key(column), field)
     if field == b"":
@@ -96,21 +98,21 @@ def value_of(table: Table, column: Column, field: bytes) -> Value:
 
 
 def null_of(table: Table, column: Column, why: str) -> Value:
-    """Returns NULL, or says that the column cannot be NULL."""
+    """Returns NULL, or raises that the column cannot be NULL."""
     if column.not_null or table.is_key(column):
-        what = "is of the key" if table.is_key(column) else "is NOT NULL"
+        what = "is a key column" if table.is_key(column) else "is NOT NULL"
         raise Refused(f"{why}, and {column.name} {what}")
     return None
 
 
 def shown(field: bytes) -> str:
-    """Writes a field for a message, cut where it is long."""
+    """Returns a field for a message, shortened if it is long."""
     text = field.decode("utf-8", "replace")
     return repr(text if len(text) <= 40 else text[:40] + "...")
 
 
 def header_places(table: Table, header: Record) -> Tuple[Dict[int, int], List[CsvFault]]:
-    """Returns for each column of the header its field's place, and the header's faults."""
+    """Returns the position of each column in the header, and the header's faults."""
     found: Dict[int, int] = {}
     faults: List[CsvFault] = []
     for at, field in enumerate(header.fields):
@@ -125,19 +127,19 @@ def header_places(table: Table, header: Record) -> Tuple[Dict[int, int], List[Cs
 
 
 def no_column(table: Table, field: bytes) -> str:
-    """Says that a field of the header names no user column, and what it may be instead."""
+    """Explains why a field of the header is not the name of a user column."""
     names = ", ".join(column.name for column in table.columns)
     if field.decode("ascii", "replace").lower() in (table.row_start.lower(), table.row_end.lower()):
-        return f"{shown(field)} is of the period, which a load cannot set"
+        return f"{shown(field)} is a period column, which a load cannot set"
     hint = "; fields are separated by commas" if b";" in field or b"\t" in field else ""
-    return f"{shown(field)} is no column of {table.name} ({names}){hint}"
+    return f"{shown(field)} is not a column of {table.name} ({names}){hint}"
 
 
 def row_of(table: Table, places: Dict[int, int], record: Record, width: int,
            faults: List[CsvFault]) -> Optional[List[Value]]:
-    """Reads the row of a record, or adds its faults."""
+    """Reads the row of a record, or adds its faults to the list."""
     if len(record.fields) != width:
-        why = f"there are {len(record.fields)} fields where the header has {width}"
+        why = f"the record has {len(record.fields)} fields, and the header {width}"
         faults.append(bad_row(record, None, why, 0))
         return None
     values: List[Value] = []
@@ -158,16 +160,16 @@ def key_text(key: Key) -> str:
 
 
 def duplicate(table: Table, record: Record, row: Sequence[Value], seen: Dict[Key, int]) -> Iterator[CsvFault]:
-    """Yields the fault of a row whose key an earlier one has, and notes the key."""
+    """Yields the fault of a row whose key occurred before, and notes the key."""
     key = tuple(row[place] for place in (table.place(name) for name in table.key) if place is not None)
     if key in seen:
-        yield CsvFault(record, None, f"the key {key_text(key)} is that of record {seen[key]} too",
+        yield CsvFault(record, None, f"the key {key_text(key)} is also the key of record {seen[key]}",
                        f"E6 duplicate key {key_text(key)}")
     seen.setdefault(key, record.number)
 
 
 def check_rows(table: Table, records: Sequence[Record], places: Dict[int, int]) -> List[CsvFault]:
-    """Returns the faults of the records behind the header, those that a load finds first before others."""
+    """Returns the faults of the records after the header, in the order in which a load reports them."""
     faults: List[CsvFault] = []
     doubles: List[CsvFault] = []
     seen: Dict[Key, int] = {}
@@ -178,7 +180,7 @@ def check_rows(table: Table, records: Sequence[Record], places: Dict[int, int]) 
             doubles += duplicate(table, record, row, seen)
     many = len(records) - 1
     if many > MOST_WRITTEN:
-        doubles.append(CsvFault(None, None, f"there are {many} rows, and a load has at most {MOST_WRITTEN}",
+        doubles.append(CsvFault(None, None, f"the file has {many} rows; a load takes at most {MOST_WRITTEN}",
                                 "E9 too many writes"))
     return faults + doubles
 
@@ -187,7 +189,7 @@ def check_csv(table: Table, data: bytes) -> Checked:
     """Checks the bytes of a file as a load of a table reads them."""
     records = list(read_records(data))
     if not records:
-        return Checked(0, [bad_row(None, None, "the file has no record, so no header", 0)])
+        return Checked(0, [bad_row(None, None, "the file has no header", 0)])
     places, faults = header_places(table, records[0])
     if faults:
         return Checked(len(records) - 1, faults)
@@ -200,32 +202,32 @@ def chosen_table(schema: Schema, name: Optional[str]) -> Table:
         return next(iter(schema.tables.values()))
     names: Set[str] = {table.name for table in schema.tables.values()}
     if name is None:
-        raise ProgrammingError(f"--table takes one of {', '.join(sorted(names))}")
+        raise ProgrammingError(f"the schema has several tables; give --table: {', '.join(sorted(names))}")
     table = schema.table(name)
     if not table:
-        raise ProgrammingError(f"E2 no table: {name} is none of {', '.join(sorted(names))}")
+        raise ProgrammingError(f"E2 no table: {name}; the tables are {', '.join(sorted(names))}")
     return table
 
 
 def report(path: str, checked: Checked) -> int:
-    """Prints what was found, and returns the status: 1 where a load would be refused."""
+    """Prints the result and returns the exit status, 1 if a load would be refused."""
     for fault in checked.faults[:MOST_SHOWN]:
         print(f"{path}: {fault.text()}")
     if len(checked.faults) > MOST_SHOWN:
-        print(f"{path}: and {len(checked.faults) - MOST_SHOWN} faults more")
+        print(f"{path}: and {len(checked.faults) - MOST_SHOWN} more faults")
     if checked.faults:
-        print(f"a load is refused: load: {checked.faults[0].reply}")
+        print(f"a load fails with: load: {checked.faults[0].reply}")
         return 1
-    print(f"{path}: {checked.rows} row{'' if checked.rows == 1 else 's'}, which a load takes")
+    print(f"{path}: {checked.rows} row{'' if checked.rows == 1 else 's'}, ready to load")
     return 0
 
 
 def main(words: Sequence[str]) -> int:
     """Runs `check-csv FILE [--schema FILE] [--table NAME]`."""
     parser = argparse.ArgumentParser(prog="python3 -m tsvd check-csv")
-    parser.add_argument("file", help="a CSV file that is to be loaded")
-    parser.add_argument("--schema", help="the file of the tables; without it the sample, emp (no, name)")
-    parser.add_argument("--table", help="the table, where there are several")
+    parser.add_argument("file", help="a CSV file to be loaded")
+    parser.add_argument("--schema", help="the schema file; without it the sample table emp (no, name)")
+    parser.add_argument("--table", help="the table, if the schema has several")
     given = parser.parse_args(words)
     text = pathlib.Path(given.schema).read_text(encoding="utf-8") if given.schema else None
     table = chosen_table(schema_of(text), given.table)

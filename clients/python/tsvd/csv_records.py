@@ -9,7 +9,7 @@ ENDS = b",\r\n"
 
 
 class Record(NamedTuple):
-    """A record: its number and that of its first line, both from 1, and its fields."""
+    """Holds a record: its number and the number of its first line, both from 1, and its fields."""
 
     number: int
     line: int
@@ -17,7 +17,7 @@ class Record(NamedTuple):
 
 
 def quoted_end(data: bytes, at: int) -> Tuple[bytes, int]:
-    """Returns what a quoted field has up to its closing quote, and the place after that."""
+    """Returns the contents of a quoted field up to its closing quote, and the offset after it."""
     parts: List[bytes] = []
     while True:
         quote = data.find(b'"', at)
@@ -31,7 +31,7 @@ def quoted_end(data: bytes, at: int) -> Tuple[bytes, int]:
 
 
 def read_field(data: bytes, at: int) -> Tuple[bytes, int]:
-    """Returns the field at a place, and the place of what ends it."""
+    """Returns the field at an offset, and the offset of its end."""
     inside = b""
     if data.startswith(b'"', at):
         inside, at = quoted_end(data, at + 1)
@@ -42,7 +42,7 @@ def read_field(data: bytes, at: int) -> Tuple[bytes, int]:
 
 
 def read_fields(data: bytes, at: int) -> Tuple[Tuple[bytes, ...], int]:
-    """Returns the fields of the record at a place, and the place of what ends it."""
+    """Returns the fields of the record at an offset, and the offset of its end."""
     fields: List[bytes] = []
     while True:
         field, at = read_field(data, at)
@@ -53,7 +53,7 @@ def read_fields(data: bytes, at: int) -> Tuple[Tuple[bytes, ...], int]:
 
 
 def read_records(data: bytes) -> Iterator[Record]:
-    """Yields the records of a file; empty lines are passed over."""
+    """Yields the records of a file; empty lines are skipped."""
     at = len(BYTE_ORDER_MARK) if data.startswith(BYTE_ORDER_MARK) else 0
     number, line, counted = 0, 1, 0
     while at < len(data):

@@ -1,4 +1,4 @@
-"""Cursors of PEP 249: a statement, and the rows of its reply."""
+"""PEP 249 cursors: a statement and the rows of its reply."""
 
 from __future__ import annotations
 
@@ -23,7 +23,7 @@ QUERY = re.compile(r"\s*SELECT\s*\*\s*FROM\s+(\w+)(?:\s+FOR\s+SYSTEM_TIME\s+(\w+
 
 
 class Query(NamedTuple):
-    """What a SELECT asks: a table's name, and whether rows come with their periods."""
+    """Holds the table of a SELECT, and whether its rows come with their periods."""
 
     table: str
     has_periods: bool
@@ -36,10 +36,10 @@ def first_word(line: str) -> str:
 
 
 def query_of(line: str) -> Query:
-    """Returns what an answered SELECT asked."""
+    """Returns the query of a SELECT that was answered."""
     found = QUERY.match(line)
     if not found:
-        raise InterfaceError(f"rows for a line that is no SELECT: {line!r}")
+        raise InterfaceError(f"rows in reply to a line that is not a SELECT: {line!r}")
     table, form = found.groups()
     return Query(table, (form or "").upper() in ("FROM", "BETWEEN"))
 
@@ -56,7 +56,7 @@ def column_descriptions(table: Table) -> List[Description]:
 
 
 def describe(schema: Schema, query: Query, width: int) -> List[Description]:
-    """Describes the columns of rows; of a table that the schema lacks they are named by number."""
+    """Describes the columns of rows; columns of an unknown table are named by number."""
     table = schema.table(query.table)
     if table:
         columns = column_descriptions(table)
@@ -69,15 +69,15 @@ def describe(schema: Schema, query: Query, width: int) -> List[Description]:
 
 
 def typed_row(text: str, has_periods: bool) -> Row:
-    """Reads a row; its period, where the query shows it, is two values more, and the end None for `forever`."""
+    """Reads a row. A period adds two values, its start and its end; None means `forever`."""
     values, period = read_row(text)
     if (period is not None) != has_periods:
-        raise InterfaceError(f"no row of such a query: {text!r}")
+        raise InterfaceError(f"not a row of this query: {text!r}")
     return values + period if period is not None else values
 
 
 class Cursor:
-    """The statements of a connection, and the rows of the last one."""
+    """Executes statements of a connection, and holds the rows of the last one."""
 
     arraysize = 1
     lastrowid = None
@@ -100,14 +100,14 @@ class Cursor:
         self.close()
 
     def close(self) -> None:
-        """Drops the rows; the cursor takes no more statements."""
+        """Closes the cursor; it takes no more statements."""
         self.is_open, self.rows, self.description = False, None, None
 
     def execute(self, statement: str, values: Sequence[Any] = ()) -> "Cursor":
-        """Executes a statement with values in the places of its question marks.
+        """Executes a statement, with a value for each question mark.
 
-        A statement that writes begins a transaction where none is open. Line ends outside of
-        texts count as blanks.
+        A statement that writes begins a transaction if none is open. Line ends outside texts
+        count as blanks.
         """
         line = bind(statement, values)
         if self.is_open and first_word(line) in WRITES and not self.connection.in_transaction:
@@ -115,7 +115,7 @@ class Cursor:
         return self.ask(line)
 
     def ask(self, line: str) -> "Cursor":
-        """Sends a line as it is, begins nothing, and keeps what its reply shows."""
+        """Sends a line as it is, without beginning a transaction, and keeps its reply."""
         self.reset()
         head, *rows = self.connection.ask(line)
         self.reply = head
@@ -126,7 +126,7 @@ class Cursor:
         return self
 
     def executemany(self, statement: str, many: Iterable[Sequence[Any]]) -> "Cursor":
-        """Executes a statement that writes, once for each of many sequences of values."""
+        """Executes a statement that writes once for each sequence of values."""
         total = 0
         for values in many:
             self.execute(statement, values)
@@ -137,24 +137,24 @@ class Cursor:
         return self
 
     def reset(self) -> None:
-        """Forgets the last statement."""
+        """Clears the result of the last statement."""
         if not self.is_open:
             raise InterfaceError("the cursor is closed")
         self.description, self.rowcount, self.reply, self.rows, self.next = None, -1, "", None, 0
         self.has_periods = False
 
     def take_rows(self, query: Query, texts: List[str]) -> None:
-        """Keeps the rows of a reply, typed."""
+        """Keeps the rows of a reply as typed values."""
         rows = [typed_row(text, query.has_periods) for text in texts]
         self.description = describe(self.connection.schema, query, len(rows[0]) if rows else 0)
         if rows and len(self.description) != len(rows[0]):
-            raise InterfaceError(f"rows of {query.table} have {len(rows[0])} values: another schema than the server's")
+            raise InterfaceError(f"rows of {query.table} have {len(rows[0])} values; the schema is not the server's")
         self.rows, self.rowcount, self.has_periods = rows, len(rows), query.has_periods
 
     def held(self) -> List[Row]:
         """Returns all rows of the last SELECT."""
         if self.rows is None:
-            raise InterfaceError("the last statement shows no rows")
+            raise InterfaceError("the last statement returned no rows")
         return self.rows
 
     def fetchone(self) -> Optional[Row]:
@@ -163,19 +163,19 @@ class Cursor:
         return rows[0] if rows else None
 
     def fetchmany(self, size: Optional[int] = None) -> List[Row]:
-        """Returns the next rows, `arraysize` of them where no size is given."""
+        """Returns the next rows, `arraysize` of them by default."""
         rows = self.held()[self.next:self.next + (self.arraysize if size is None else size)]
         self.next += len(rows)
         return rows
 
     def fetchall(self) -> List[Row]:
-        """Returns all rows that are left."""
+        """Returns all remaining rows."""
         rows = self.held()[self.next:]
         self.next += len(rows)
         return rows
 
     def __iter__(self) -> Iterator[Row]:
-        """Yields the rows that are left."""
+        """Yields the remaining rows."""
         return iter(self.fetchone, None)
 
     def setinputsizes(self, _: Any) -> None:

@@ -1,4 +1,4 @@
-"""The exceptions of PEP 249, with what a refusal says."""
+"""The exceptions of PEP 249, with the details of a refusal."""
 
 from __future__ import annotations
 
@@ -9,15 +9,15 @@ Key = Tuple[Value, ...]
 
 
 class Warning(Exception):  # noqa: A001  the name is that of PEP 249
-    """Exists because PEP 249 asks for it; nothing raises it."""
+    """Exists for PEP 249; never raised."""
 
 
 class Error(Exception):
     """Covers each refusal of the server and each fault of the client or the connection.
 
-    `number` is that of the refusal, 1 to 16, and None for a fault that is none; `reply` is the
-    refusal's text and `line` what was sent. `byte` is that of E1, `column` that of E3, `key` that
-    of E6, E7 and E14, and `instant` that of E7.
+    `number` is the number of the refusal, 1 to 16, or None for a fault of the client; `reply` is
+    the text of the refusal and `line` the line that was sent. E1 sets `byte`, E3 `column`, E6, E7
+    and E14 `key`, and E7 `instant`.
     """
 
     number: Optional[int] = None
@@ -30,39 +30,39 @@ class Error(Exception):
 
 
 class InterfaceError(Error):
-    """Covers a reply that is not of the protocol, and a use of the package that cannot be."""
+    """Covers an invalid reply, and the use of a closed connection or cursor."""
 
 
 class DatabaseError(Error):
-    """Covers all that concerns the server."""
+    """Covers everything that concerns the server."""
 
 
 class DataError(DatabaseError):
-    """Covers a value that does not fit, and a line that cannot be sent."""
+    """Covers values that do not fit, and lines that cannot be sent."""
 
 
 class OperationalError(DatabaseError):
-    """Covers what is no fault of the statement: a conflict, memory, a connection that broke."""
+    """Covers what is not the statement's fault: conflicts, memory, lost connections."""
 
 
 class IntegrityError(DatabaseError):
-    """Covers a key that exists already."""
+    """Covers duplicate keys and overlapping periods."""
 
 
 class InternalError(DatabaseError):
-    """Exists because PEP 249 asks for it; nothing raises it."""
+    """Exists for PEP 249; never raised."""
 
 
 class ProgrammingError(DatabaseError):
-    """Covers a statement that is not of the grammar or comes at the wrong time."""
+    """Covers syntax errors, unknown tables and statements at the wrong time."""
 
 
 class NotSupportedError(DatabaseError):
-    """Covers what the server has no means for."""
+    """Exists for PEP 249; never raised."""
 
 
 class ConflictError(OperationalError):
-    """Says that another transaction changed `key` at `instant`; this one has ended."""
+    """Reports that another transaction changed `key` at `instant` first; this one has ended."""
 
     def __init__(self, key: Key, instant: int) -> None:
         super().__init__(key, instant)
@@ -74,7 +74,7 @@ class ConflictError(OperationalError):
 
 
 class DisconnectError(OperationalError):
-    """Says that the connection broke or the session has ended.
+    """Reports that the connection broke or the server ended the session.
 
-    Where `line` is a COMMIT it may have been made: a new session can see whether it was.
+    If `line` is a COMMIT, it may have taken effect; a new session can look.
     """

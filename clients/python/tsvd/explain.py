@@ -1,4 +1,4 @@
-"""Refusals in words, with the place in the line."""
+"""Explanations of refusals for a terminal."""
 
 from __future__ import annotations
 
@@ -20,13 +20,13 @@ def caret_lines(line: str, byte: int) -> List[str]:
 
 
 def cause_lines(number: int) -> List[str]:
-    """Returns cause and cure of the refusals of a number."""
+    """Returns the cause and the cure of a refusal."""
     refusal = REFUSALS[number]
     return [f"  cause: {refusal.cause}", f"  cure:  {refusal.cure}"]
 
 
 def column_lines(schema: Schema, line: str, number: int) -> List[str]:
-    """Returns a line with the name of the column that E3 names by number."""
+    """Returns a line that names the column of an E3, if it is known."""
     found = TABLE.search(line)
     table = schema.table(found.group(1)) if found else None
     if not table or not 0 < number <= len(table.columns):
@@ -35,7 +35,7 @@ def column_lines(schema: Schema, line: str, number: int) -> List[str]:
 
 
 def fault_lines(fault: Error, schema: Schema) -> List[str]:
-    """Returns what a terminal shows of a refusal or of another fault."""
+    """Returns the lines that explain a refusal or another fault."""
     if fault.number is None:
         return [visible(str(fault))]
     lines = [visible(fault.reply or "")]

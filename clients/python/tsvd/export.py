@@ -1,4 +1,4 @@
-"""The versions that `--export` wrote, and the columns of their key."""
+"""Exports read back: the versions, and the columns of their key."""
 
 from __future__ import annotations
 
@@ -15,7 +15,7 @@ NAME = re.compile(r"[A-Za-z_][A-Za-z0-9_]*")
 
 
 class Version(NamedTuple):
-    """A version: its row's fields, its start, and its end, which is None where it has not come."""
+    """Holds a version: the fields of its row, its start, and its end, None for `forever`."""
 
     fields: Tuple[str, ...]
     start: int
@@ -23,7 +23,7 @@ class Version(NamedTuple):
 
 
 class Export(NamedTuple):
-    """The names of the user columns and of the period's, and the versions in the file's order."""
+    """Holds the names of the user columns and of the period, and the versions in order."""
 
     names: Tuple[str, ...]
     period: Tuple[str, str]
@@ -31,7 +31,7 @@ class Export(NamedTuple):
 
 
 def fields_of(line: str) -> List[str]:
-    """Splits a line into fields; no field of an export has a line's end."""
+    """Splits a line into fields; no field of an export contains a line end."""
     return next(csv.reader([line]), [])
 
 
@@ -42,34 +42,34 @@ def is_version(fields: Sequence[str], width: int) -> bool:
 
 
 def is_header(fields: Sequence[str]) -> bool:
-    """Returns whether fields may be the names of a column and of a period's two."""
+    """Returns whether the fields can be a header."""
     return len(fields) > 2 and all(NAME.fullmatch(field) for field in fields)
 
 
 def version_of(fields: Sequence[str]) -> Version:
-    """Makes a version of the fields of its record."""
+    """Makes a version from a record."""
     return Version(tuple(fields[:-2]), int(fields[-2]), None if fields[-1] == "forever" else int(fields[-1]))
 
 
 def read_export(text: str) -> Export:
-    """Reads the export at the end of what the program wrote: replies may come before it."""
+    """Reads the export at the end of the program's output; replies may come before it."""
     records = [fields_of(line) for line in text.split("\n") if line]
     at = len(records) - 1
     while at > 0 and is_version(records[at], len(records[-1])):
         at -= 1
     if at < 0 or not is_header(records[at]) or len(records[at]) != len(records[-1]):
-        raise DataError("no export: a header and records that end in a start and an end are wanted")
+        raise DataError("not an export: it needs a header, and records that end in a start and an end")
     *names, row_start, row_end = records[at]
     return Export(tuple(names), (row_start, row_end), [version_of(fields) for fields in records[at + 1:]])
 
 
 def key_of(version: Version, places: Sequence[int]) -> Tuple[str, ...]:
-    """Returns the fields of a version at places."""
+    """Returns the fields of a version in some columns."""
     return tuple(version.fields[place] for place in places)
 
 
 def may_be_key(export: Export, places: Sequence[int]) -> bool:
-    """Returns whether the versions with equal fields there come one behind the other and share no instant."""
+    """Returns whether versions with equal fields in these columns are adjacent and do not overlap."""
     seen = set()
     before: Optional[Version] = None
     for version in export.versions:
@@ -85,13 +85,13 @@ def may_be_key(export: Export, places: Sequence[int]) -> bool:
 
 
 def candidates(width: int) -> Iterator[Tuple[int, ...]]:
-    """Yields the places that a key may have, few ones first and those from the left first."""
+    """Yields the possible columns of a key: fewer columns first, then from the left."""
     for count in range(1, min(width, MOST_KEY_COLUMNS) + 1):
         yield from itertools.combinations(range(width), count)
 
 
 def guess_key(export: Export) -> Tuple[int, ...]:
-    """Returns the first places that may be the key's: an export does not say which they are."""
+    """Guesses the key columns, since an export does not name them."""
     for places in candidates(len(export.names)):
         if may_be_key(export, places):
             return places
@@ -99,11 +99,11 @@ def guess_key(export: Export) -> Tuple[int, ...]:
 
 
 def places_of(export: Export, names: Sequence[str]) -> Tuple[int, ...]:
-    """Returns the places of named columns."""
+    """Returns the positions of columns by name."""
     lower = [name.lower() for name in export.names]
     missing = [name for name in names if name.lower() not in lower]
     if missing:
-        raise DataError(f"no column {missing[0]}: there are {', '.join(export.names)}")
+        raise DataError(f"no column {missing[0]}; the columns are {', '.join(export.names)}")
     return tuple(lower.index(name.lower()) for name in names)
 
 

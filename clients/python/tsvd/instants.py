@@ -1,4 +1,4 @@
-"""Instants of a server's clock, which are microseconds since 1970, as dates and back."""
+"""Conversion between dates and instants, which are microseconds since 1970."""
 
 from __future__ import annotations
 
@@ -12,7 +12,7 @@ from .texts import map_outside_texts
 EPOCH = datetime.datetime(1970, 1, 1, tzinfo=datetime.timezone.utc)
 MICROSECOND = datetime.timedelta(microseconds=1)
 
-# An instant below this one, some day of 1973, is taken for a number of the caller's own: a load's 1, say.
+# Instants before this one, in 1973, are shown as numbers: the instant 1 of a load, for example.
 LEAST_DATE = 10 ** 14
 
 DATE = re.compile(
@@ -21,7 +21,7 @@ DATE = re.compile(
 
 
 def instant_of(moment: datetime.date) -> int:
-    """Returns the instant of a moment; a day is its first moment, and one without a zone is in local time."""
+    """Returns the instant of a date or datetime; local time unless it has a zone."""
     if not isinstance(moment, datetime.datetime):
         moment = datetime.datetime.combine(moment, datetime.time())
     if moment.tzinfo is None:
@@ -30,7 +30,7 @@ def instant_of(moment: datetime.date) -> int:
 
 
 def moment_of(instant: int) -> datetime.datetime:
-    """Returns the moment of an instant, in UTC."""
+    """Returns an instant as a datetime in UTC."""
     try:
         return EPOCH + datetime.timedelta(microseconds=instant)
     except OverflowError:
@@ -38,7 +38,7 @@ def moment_of(instant: int) -> datetime.datetime:
 
 
 def date_text(instant: int) -> Optional[str]:
-    """Writes an instant as a date in local time, or returns None where it is no reading of a clock."""
+    """Returns an instant as a date in local time, or None if it is too small to be one."""
     if instant < LEAST_DATE:
         return None
     try:
@@ -58,7 +58,7 @@ def zone_of(text: Optional[str]) -> Optional[datetime.timezone]:
 
 
 def instant_of_match(found: "re.Match[str]") -> str:
-    """Returns the digits of the instant of a date that DATE has found."""
+    """Returns the instant of a match of DATE, as digits."""
     *numbers, part, zone = found.groups()
     year, month, day, hour, minute, second = (int(number or 0) for number in numbers)
     try:
@@ -66,22 +66,22 @@ def instant_of_match(found: "re.Match[str]") -> str:
                                    zone_of(zone))
         instant = instant_of(moment)
     except (ValueError, OverflowError, OSError):
-        raise DataError(f"there is no date {found.group()}") from None
+        raise DataError(f"invalid date {found.group()}") from None
     if instant < 0:
-        raise DataError(f"{found.group()} is before 1970, and no instant")
+        raise DataError(f"{found.group()} is before 1970")
     return str(instant)
 
 
 def read_instant(text: str) -> int:
-    """Reads an instant that is written as digits or as a date."""
+    """Reads an instant written as digits or as a date."""
     if re.fullmatch(r"[0-9]+", text):
         return int(text)
     found = DATE.fullmatch(text)
     if not found:
-        raise DataError(f"no instant and no date: {text}")
+        raise DataError(f"neither an instant nor a date: {text}")
     return int(instant_of_match(found))
 
 
 def replace_dates(line: str) -> str:
-    """Puts instants in the place of the dates of a line that are in no text."""
+    """Replaces dates outside texts by their instants."""
     return map_outside_texts(lambda part: DATE.sub(instant_of_match, part), line)

@@ -10,18 +10,18 @@ from .instants import date_text
 
 
 def visible(text: str) -> str:
-    """Returns a text in which characters that move a terminal's cursor are written as escapes."""
+    """Returns a text with control characters written as escapes."""
     return "".join(char if char.isprintable() else char.encode("unicode_escape").decode("ascii") for char in text)
 
 
 def width_of(text: str) -> int:
-    """Returns the places that a text takes in a terminal."""
+    """Returns the width of a text in a terminal."""
     return sum(0 if unicodedata.combining(char) else 1 + (unicodedata.east_asian_width(char) in "WF")
                for char in text)
 
 
 def cell(value: Value) -> str:
-    """Writes a value of a table's cell."""
+    """Returns the text of a cell."""
     if value is None:
         return "NULL"
     if isinstance(value, bool):
@@ -30,14 +30,14 @@ def cell(value: Value) -> str:
 
 
 def instant_cell(instant: Value, with_dates: bool) -> str:
-    """Writes a bound of a period: `forever`, a date, or the number where it is no reading of a clock."""
+    """Returns the text of a bound of a period: `forever`, a date or a number."""
     if not isinstance(instant, int):
         return "forever"
     return (date_text(instant) if with_dates else None) or str(instant)
 
 
 def padded(text: str, width: int, to_the_right: bool) -> str:
-    """Returns a text with blanks up to a width."""
+    """Pads a text with blanks to a width."""
     blanks = " " * (width - width_of(text))
     return blanks + text if to_the_right else text + blanks
 
@@ -48,26 +48,26 @@ def is_number(value: Value) -> bool:
 
 
 def right_columns(width: int, rows: Sequence[Sequence[Value]]) -> List[bool]:
-    """Returns for each column whether it is of numbers, which are set to the right."""
+    """Returns for each column whether it is aligned to the right, as numbers are."""
     return [any(is_number(row[place]) for row in rows)
             and all(is_number(row[place]) or row[place] is None for row in rows) for place in range(width)]
 
 
 def cells_of(row: Sequence[Value], periods: bool, with_dates: bool) -> List[str]:
-    """Writes the cells of a row, of which the last two are its period."""
+    """Returns the cells of a row; with a period, the last two are instants."""
     if not periods:
         return [cell(value) for value in row]
     return [cell(value) for value in row[:-2]] + [instant_cell(bound, with_dates) for bound in row[-2:]]
 
 
 def counted(number: int) -> str:
-    """Writes the line below a table."""
+    """Returns the line below a table."""
     return f"({number} row)" if number == 1 else f"({number} rows)"
 
 
 def table_lines(names: Sequence[str], rows: Sequence[Sequence[Value]], periods: bool,
                 with_dates: bool) -> Iterator[str]:
-    """Yields the lines of a table: names of columns, a rule, rows, and their number."""
+    """Yields the lines of a table: column names, a rule, the rows and their number."""
     written = [cells_of(row, periods, with_dates) for row in rows]
     widths = [max(width_of(line[place]) for line in [list(names), *written]) for place in range(len(names))]
     right = right_columns(len(names) - 2 * periods, rows) + [False, False]

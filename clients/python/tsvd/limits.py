@@ -1,4 +1,4 @@
-"""The numbers that bound lines, values and instants."""
+"""The limits of lines, values and instants."""
 
 LONGEST_LINE = 8192
 LONGEST_TEXT = 1000

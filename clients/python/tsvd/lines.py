@@ -1,4 +1,4 @@
-"""Lines that can be sent: each has one reply, so that no reply is taken for another's."""
+"""The check of a line before it is sent: it must have exactly one reply."""
 
 from __future__ import annotations
 
@@ -25,16 +25,16 @@ def encoded(line: Union[str, bytes]) -> bytes:
     try:
         return line.encode("utf-8")
     except UnicodeEncodeError:
-        raise DataError("a line has characters that are none, such as half of a pair") from None
+        raise DataError("a line contains a lone surrogate") from None
 
 
 def checked(line: Union[str, bytes]) -> bytes:
-    """Returns the bytes of a line that has exactly one reply, or raises what is wrong with it."""
+    """Returns the bytes of a line, or raises if it does not have exactly one reply."""
     data = encoded(line)
     if b"\n" in data:
         raise DataError("a line cannot have a line feed")
     if len(data) > LONGEST_LINE:
-        raise DataError(f"a line has at most {LONGEST_LINE} bytes, and this one has {len(data)}")
+        raise DataError(f"a line has at most {LONGEST_LINE} bytes; this one has {len(data)}")
     if not has_reply(data):
         raise ProgrammingError("a blank line or a comment has no reply")
     return data

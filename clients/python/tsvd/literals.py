@@ -1,4 +1,4 @@
-"""Values as literals of the grammar, and statements in which they take the places of question marks."""
+"""Literals of the grammar, and statements with values for their question marks."""
 
 from __future__ import annotations
 
@@ -10,26 +10,26 @@ from .instants import instant_of
 from .limits import GREATEST_INTEGER, LEAST_INTEGER
 from .texts import split_texts
 
-# A literal may touch these; from anything else a blank keeps it apart.
+# A literal may touch these characters; otherwise a blank separates it.
 APART = " \t(),;=<>"
 
 
 def integer_literal(value: int) -> str:
-    """Writes a whole number of 64 bits."""
+    """Returns the literal of a whole number of 64 bits."""
     if not LEAST_INTEGER <= value <= GREATEST_INTEGER:
-        raise DataError(f"{value:d} is no whole number of 64 bits")
+        raise DataError(f"{value:d} is not in the range of 64 bits")
     return f"{int(value)}"
 
 
 def text_literal(value: str) -> str:
-    """Writes a text of one line in quotes."""
+    """Returns the literal of a text, which must be one line."""
     if "\n" in value or "\r" in value:
         raise DataError("a text cannot have a line feed or a carriage return")
     return "'" + value.replace("'", "''") + "'"
 
 
 def literal(value: Any) -> str:
-    """Writes a value; a date or a datetime is its instant, in microseconds since 1970."""
+    """Returns the literal of a value; that of a date or datetime is its instant."""
     if value is None:
         return "NULL"
     if isinstance(value, bool):
@@ -40,18 +40,18 @@ def literal(value: Any) -> str:
         return text_literal(value)
     if isinstance(value, datetime.date):
         return integer_literal(instant_of(value))
-    raise ProgrammingError(f"there is no literal for a value of type {type(value).__name__}")
+    raise ProgrammingError(f"no literal for a value of type {type(value).__name__}")
 
 
 def one_line(part: str, is_text: bool) -> str:
-    """Returns a part of a statement in one line: between texts a line's end is a blank."""
+    """Returns a part of a statement as one line; line ends outside texts become blanks."""
     if is_text and ("\n" in part or "\r" in part):
         raise DataError("a text cannot have a line feed or a carriage return")
     return part.replace("\r", " ").replace("\n", " ")
 
 
 def places(statement: str) -> List[str]:
-    """Splits a statement, in one line, at its question marks that are in no text."""
+    """Splits a statement at the question marks outside texts."""
     pieces = [""]
     for part, is_text in split_texts(statement):
         first, *others = [part] if is_text else part.split("?")
@@ -61,9 +61,9 @@ def places(statement: str) -> List[str]:
 
 
 def bind(statement: str, values: Sequence[Any] = ()) -> str:
-    """Puts literals in the places of question marks, and returns the statement as one line."""
+    """Replaces question marks by literals, and returns the statement as one line."""
     if isinstance(values, (str, bytes)) or not hasattr(values, "__len__") or hasattr(values, "keys"):
-        raise ProgrammingError("values are a sequence, one for each question mark")
+        raise ProgrammingError("values must be a sequence, with one for each question mark")
     line, *pieces = places(statement)
     if len(pieces) != len(values):
         raise ProgrammingError(f"{len(pieces)} question marks and {len(values)} values")

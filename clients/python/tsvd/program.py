@@ -1,4 +1,4 @@
-"""The program tsvd: where it is, and a server of one's own."""
+"""The program tsvd: its path, and servers started by this package."""
 
 from __future__ import annotations
 
@@ -15,13 +15,13 @@ BUILT = pathlib.Path("crates") / "tsvd" / "out" / "tsvd"
 
 
 def folders() -> Iterator[pathlib.Path]:
-    """Yields this package's folder and the current one, each with all that they are in."""
+    """Yields the parents of this file and of the current folder."""
     for place in (pathlib.Path(__file__).resolve(), pathlib.Path.cwd() / "here"):
         yield from place.parents
 
 
 def find_program() -> Optional[str]:
-    """Returns the program's path: that of TSVD_PROGRAM, else the one built in this repository, else one in PATH."""
+    """Returns the program's path: TSVD_PROGRAM, or the one built in this repository, or one in PATH."""
     named = os.environ.get(VARIABLE)
     if named:
         return named
@@ -32,7 +32,7 @@ def find_program() -> Optional[str]:
 
 
 def program_path() -> str:
-    """Returns the program's path, or raises where there is none."""
+    """Returns the program's path, or raises if there is none."""
     found = find_program()
     if not found:
         raise OperationalError(f"tsvd is not found: build it, or set {VARIABLE} to its path")
@@ -40,7 +40,7 @@ def program_path() -> str:
 
 
 class Server:
-    """A server of one's own at a port that the system chose: `before` is what it wrote first."""
+    """Runs a server at a free port; `before` holds the lines printed before the port."""
 
     def __init__(self, options: Sequence[str] = (), sessions: int = 1, errors: Optional[int] = None) -> None:
         words = [program_path(), *options, "--listen", "0", "--sessions", str(sessions)]
@@ -54,7 +54,7 @@ class Server:
         return self
 
     def __exit__(self, *_: Any) -> None:
-        """Stops the server where it has not ended."""
+        """Stops the server if it is running."""
         if self.process.poll() is None:
             self.process.kill()
             self.process.wait()
@@ -63,16 +63,17 @@ class Server:
                 stream.close()
 
     def read_port(self) -> int:
-        """Reads up to the line that names the port."""
+        """Reads the output up to the port."""
         assert self.process.stdout is not None
         for line in iter(self.process.stdout.readline, ""):
             if line.startswith("listening "):
                 return int(line.split()[1])
             self.before.append(line)
         _, told = self.process.communicate()
-        raise OperationalError(f"the server ended with status {self.process.returncode}" + (f": {told}" if told else ""))
+        status = self.process.returncode
+        raise OperationalError(f"the server ended with status {status}" + (f": {told}" if told else ""))
 
     def end(self, timeout: Optional[float] = None) -> str:
-        """Waits until the server has ended, and returns what it wrote after its sessions."""
+        """Waits for the server to end, and returns what it printed after its sessions."""
         after, _ = self.process.communicate(timeout=timeout)
         return str(after)

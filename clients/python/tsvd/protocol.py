@@ -1,4 +1,4 @@
-"""A session over a socket: lines out, replies in."""
+"""A session over a socket, which sends lines and reads replies."""
 
 from __future__ import annotations
 
@@ -15,7 +15,7 @@ PAUSE = 0.05
 
 
 def open_socket(port: int, wait: float = 5.0, timeout: Optional[float] = None) -> socket.socket:
-    """Connects to a port of this machine, and tries again for `wait` seconds while nobody listens."""
+    """Connects to a port of this machine; retries for `wait` seconds while connections are refused."""
     end = time.monotonic() + wait
     while True:
         try:
@@ -24,17 +24,17 @@ def open_socket(port: int, wait: float = 5.0, timeout: Optional[float] = None) -
             return connected
         except ConnectionRefusedError:
             if time.monotonic() >= end:
-                raise OperationalError(f"nobody listens at port {port}") from None
+                raise OperationalError(f"nothing listens at port {port}") from None
             time.sleep(PAUSE)
         except OSError as fault:
             raise OperationalError(f"port {port}: {fault}") from fault
 
 
 class Session:
-    """One connection, which is one session of the server.
+    """Represents one connection, which is one session of the server.
 
-    A line is sent only where it has exactly one reply, and the next one only when that was read
-    whole. Where reading breaks off (a timeout, an interrupt), the session takes no more lines.
+    A line is sent only if it has exactly one reply, and only after the previous reply was read
+    completely. If reading is interrupted, the session takes no more lines.
     """
 
     def __init__(self, port: int, wait: float = 5.0, timeout: Optional[float] = None) -> None:
@@ -47,7 +47,7 @@ class Session:
         return self
 
     def __exit__(self, *_: Any) -> None:
-        """Ends the session: what a transaction that is still open has written is dropped."""
+        """Ends the session; an open transaction is dropped."""
         self.close()
 
     def close(self) -> None:
@@ -57,7 +57,7 @@ class Session:
         self.socket.close()
 
     def ask(self, line: Union[str, bytes]) -> List[str]:
-        """Sends a line, and returns the lines of its reply: one, and after `rows N` one for each row."""
+        """Sends a line and returns the lines of its reply: one, and N more after `rows N`."""
         data = checked(line)
         with self.lock:
             if not self.is_open:
@@ -74,8 +74,8 @@ class Session:
             return reply
 
     def disconnected(self, why: str, line: bytes) -> DisconnectError:
-        """Makes the exception of a connection that broke after a line was sent."""
-        fault = DisconnectError(f"{why}; a COMMIT that was sent may have been made")
+        """Makes the exception for a connection that broke after a line was sent."""
+        fault = DisconnectError(f"{why}; a COMMIT that was sent may have taken effect")
         fault.line = line.decode("utf-8", "replace")
         return fault
 
@@ -84,11 +84,11 @@ class Session:
         head = self.read_line()
         count = head[len("rows "):] if head.startswith("rows ") else "0"
         if not count.isdecimal():
-            raise InterfaceError(f"no reply of the protocol: {head!r}")
+            raise InterfaceError(f"invalid reply: {head!r}")
         return [head] + [self.read_line() for _ in range(int(count))]
 
     def read_line(self) -> str:
-        """Reads up to a line feed, which alone ends a line of a reply."""
+        """Reads up to a line feed; no other character ends a line."""
         line = self.replies.readline()
         if not line.endswith(b"\n"):
             raise EOFError

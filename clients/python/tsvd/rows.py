@@ -1,4 +1,4 @@
-"""Rows as replies write them, read into Python values."""
+"""Rows of replies, read into Python values."""
 
 from __future__ import annotations
 
@@ -15,7 +15,7 @@ WORDS = {"true": True, "false": False, "null": None}
 
 
 def value_of(found: "re.Match[str]") -> Value:
-    """Returns the value that a match of VALUE writes."""
+    """Returns the value of a match of VALUE."""
     number, text, word = found.groups()
     if number is not None:
         return int(number)
@@ -23,7 +23,7 @@ def value_of(found: "re.Match[str]") -> Value:
 
 
 def read_values(text: str, at: int) -> Tuple[Key, int]:
-    """Reads values in parentheses, and returns them with the place after them."""
+    """Reads values in parentheses, and returns them with the offset after them."""
     values: List[Value] = []
     mark = "("
     while text.startswith(mark, at):
@@ -34,21 +34,21 @@ def read_values(text: str, at: int) -> Tuple[Key, int]:
         at, mark = found.end(), ", "
         if text.startswith(")", at):
             return tuple(values), at + 1
-    raise InterfaceError(f"no row: {text!r}")
+    raise InterfaceError(f"invalid row: {text!r}")
 
 
 def read_period(text: str, at: int) -> Optional[Period]:
-    """Reads what follows a row: nothing, or its period, whose end is None where it is `forever`."""
+    """Reads the period after a row, if there is one; its end is None for `forever`."""
     if at == len(text):
         return None
     found = PERIOD.fullmatch(text, at)
     if not found:
-        raise InterfaceError(f"no row: {text!r}")
+        raise InterfaceError(f"invalid row: {text!r}")
     start, end = found.groups()
     return int(start), None if end == "forever" else int(end)
 
 
 def read_row(text: str) -> Tuple[Key, Optional[Period]]:
-    """Reads a row of a reply, with its period where it has one."""
+    """Reads a row of a reply, and its period, if it has one."""
     values, at = read_values(text, 0)
     return values, read_period(text, at)

@@ -1,7 +1,7 @@
-"""Tables as a schema's text declares them; replies have no names of columns.
+"""Tables declared by a schema; replies do not contain column names.
 
-The server judges a schema. What is read here is only what a client needs, so that an entry of a
-later grammar is passed over and not refused.
+Only the server checks a schema. This reader takes what a client needs and skips entries that it
+does not know, so that later grammars can be read too.
 """
 
 from __future__ import annotations
@@ -25,7 +25,7 @@ SAMPLE_TEXT = """CREATE TABLE emp (
 
 
 class Column(NamedTuple):
-    """A user column: its type is INT, TEXT or BOOLEAN, and `characters` is the n of VARCHAR(n)."""
+    """Describes a user column; `type` is INT, TEXT or BOOLEAN, `characters` the n of VARCHAR(n)."""
 
     name: str
     type: str
@@ -34,7 +34,7 @@ class Column(NamedTuple):
 
 
 class Table(NamedTuple):
-    """A table: its user columns, the names of its key columns, and those of its period."""
+    """Describes a table: its user columns, and the names of its key and period columns."""
 
     name: str
     columns: Tuple[Column, ...]
@@ -43,33 +43,33 @@ class Table(NamedTuple):
     row_end: str
 
     def place(self, name: str) -> Optional[int]:
-        """Returns the place of a user column, from 0, or None."""
+        """Returns the position of a user column, from 0, or None."""
         names = [column.name.lower() for column in self.columns]
         return names.index(name.lower()) if name.lower() in names else None
 
     def is_key(self, column: Column) -> bool:
-        """Returns whether a column is one of the key's."""
+        """Returns whether a column is a key column."""
         return column.name.lower() in (name.lower() for name in self.key)
 
     def key_columns(self) -> List[Column]:
-        """Returns the columns of the key, in its order."""
+        """Returns the key columns, in the order of the key."""
         found = {column.name.lower(): column for column in self.columns}
         return [found[name.lower()] for name in self.key if name.lower() in found]
 
 
 class Schema:
-    """The tables of a schema, by name."""
+    """Holds the tables of a schema by name."""
 
     def __init__(self, tables: Sequence[Table]) -> None:
         self.tables: Dict[str, Table] = {table.name.lower(): table for table in tables}
 
     def table(self, name: str) -> Optional[Table]:
-        """Returns the table of a name in any case, or None."""
+        """Returns the table with a name, in any case, or None."""
         return self.tables.get(name.lower())
 
 
 class Entries:
-    """What the entries of one CREATE TABLE statement have declared so far."""
+    """Collects the entries of one CREATE TABLE statement."""
 
     def __init__(self) -> None:
         self.columns: List[Column] = []
@@ -77,7 +77,7 @@ class Entries:
         self.period = {"START": "sys_start", "END": "sys_end"}
 
     def add(self, words: List[str]) -> None:
-        """Takes one entry, as its tokens."""
+        """Adds an entry, given as tokens."""
         upper = [word.upper() for word in words]
         if upper[:2] == ["PRIMARY", "KEY"]:
             self.key = names_in(words)
@@ -89,13 +89,13 @@ class Entries:
             self.add_column(words[0], upper)
 
     def add_generated(self, name: str, upper: List[str]) -> None:
-        """Takes a ROW START or ROW END column."""
+        """Adds a ROW START or ROW END column."""
         for side in self.period:
             if side in upper:
                 self.period[side] = name
 
     def add_column(self, name: str, upper: List[str]) -> None:
-        """Takes a user column."""
+        """Adds a user column."""
         digits = upper[3] if upper[2:3] == ["("] and upper[3:4] and upper[3].isdecimal() else None
         self.columns.append(Column(name, TYPES[upper[1]], int(digits) if digits else None, "NOT" in upper))
         if "PRIMARY" in upper:
@@ -109,7 +109,7 @@ def names_in(words: List[str]) -> List[str]:
 
 
 def entries_in(tokens: List[str]) -> List[List[str]]:
-    """Splits the tokens in a table's parentheses at the commas that are in no inner ones."""
+    """Splits the tokens in a table's parentheses at the commas of the outermost level."""
     entries: List[List[str]] = [[]]
     depth = 0
     for token in tokens:
@@ -126,7 +126,7 @@ def entries_in(tokens: List[str]) -> List[List[str]]:
 def table_of(tokens: List[str]) -> Table:
     """Reads the tokens of one CREATE TABLE statement."""
     if [token.upper() for token in tokens[:2]] != ["CREATE", "TABLE"] or tokens[3:4] != ["("]:
-        raise ProgrammingError("schema: a statement that is no CREATE TABLE: " + " ".join(tokens[:4]))
+        raise ProgrammingError("schema: not a CREATE TABLE statement: " + " ".join(tokens[:4]))
     entries = Entries()
     for entry in entries_in(tokens[4:]):
         entries.add(entry)
@@ -142,12 +142,12 @@ def read_schema(text: str) -> Schema:
     statements = [TOKEN.findall(part) for part in plain.split(";")]
     tables = [table_of(tokens) for tokens in statements if tokens]
     if not tables:
-        raise ProgrammingError("schema: there is no CREATE TABLE")
+        raise ProgrammingError("schema: no CREATE TABLE statement")
     return Schema(tables)
 
 
 def schema_of(schema: Union[None, str, Schema]) -> Schema:
-    """Returns the schema of a text, or the sample's for None."""
+    """Returns the schema of a text, or the sample schema for None."""
     if isinstance(schema, Schema):
         return schema
     return read_schema(SAMPLE_TEXT if schema is None else schema)

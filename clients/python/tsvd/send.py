@@ -1,4 +1,4 @@
-"""Sends each line of standard input to a server, and prints its reply before the next is read."""
+"""Sends the lines of standard input to a server, and prints each reply before reading on."""
 
 from __future__ import annotations
 
@@ -14,7 +14,7 @@ TOO_LONG = "E12 line too long"
 
 
 def replies(session: Session, lines: BinaryIO) -> Iterator[str]:
-    """Yields the lines of the replies; a blank line and a comment have none, and a line too long is not sent."""
+    """Yields the lines of the replies; blank lines, comments and lines too long are not sent."""
     for line in lines:
         body = line[:-1] if line.endswith(b"\n") else line
         if len(body) > LONGEST_LINE:
@@ -24,7 +24,7 @@ def replies(session: Session, lines: BinaryIO) -> Iterator[str]:
 
 
 def send(port: int, lines: BinaryIO, out: BinaryIO) -> None:
-    """Sends lines, and writes their replies as they come."""
+    """Sends lines and writes each reply as it arrives."""
     with Session(port) as session:
         for reply in replies(session, lines):
             out.write(reply.encode("utf-8") + b"\n")

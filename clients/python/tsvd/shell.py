@@ -1,4 +1,4 @@
-"""A shell over a served session: `python3 -m tsvd shell PORT`, or with a server of its own."""
+"""The shell: `python3 -m tsvd shell PORT`, or with a server of its own."""
 
 from __future__ import annotations
 
@@ -24,7 +24,7 @@ WORDS = ("AND AS BEGIN BETWEEN COMMIT DELETE FALSE FOR FROM INSERT INTO MIGRATE 
 
 
 class Shell:
-    """What is typed, over one connection, and how its replies are shown."""
+    """Runs typed lines over a connection and shows their replies."""
 
     def __init__(self, connection: Connection) -> None:
         self.connection = connection
@@ -44,25 +44,25 @@ class Shell:
             print(line)
 
     def show(self, cursor: Cursor) -> None:
-        """Prints the reply to a statement: a table, or its text."""
+        """Prints the reply to a statement, as a table if it has rows."""
         if cursor.description is None:
             print(self.reply_text(cursor.reply))
         else:
             self.show_rows(cursor, cursor.fetchall())
 
     def reply_text(self, reply: str) -> str:
-        """Returns a reply, with the date of an instant that it ends in."""
+        """Returns a reply, with the date of the instant at its end, if any."""
         instant = reply.split()[-1]
         date = date_text(int(instant)) if self.with_dates and instant.isdecimal() else None
         return f"{reply} ({date})" if date else visible(reply)
 
     def show_rows(self, cursor: Cursor, rows: Sequence[Row]) -> None:
-        """Prints rows of a query below the names of their columns."""
+        """Prints rows under their column names."""
         names = [column[0] for column in cursor.description or []]
         self.print_lines(table_lines(names, rows, cursor.has_periods, self.with_dates))
 
     def take(self, line: str) -> bool:
-        """Does what a line asks, and returns whether the shell goes on."""
+        """Runs a line, and returns whether the shell continues."""
         line = line.strip()
         try:
             if is_command(line):
@@ -76,13 +76,13 @@ class Shell:
         return True
 
     def run(self, lines: Iterator[str]) -> int:
-        """Takes lines up to the last, and returns the status."""
+        """Runs lines to the end, and returns the exit status."""
         try:
             for line in lines:
                 if not self.take(line):
                     break
         except KeyboardInterrupt:
-            print("interrupted within a reply: the session has ended")
+            print("interrupted while reading a reply; the session has ended")
             return 1
         except (DisconnectError, InterfaceError) as fault:
             print(fault)
@@ -93,7 +93,7 @@ class Shell:
 
 
 def typed_lines(shell: Shell) -> Iterator[str]:
-    """Yields the lines that are typed at the prompt, up to Ctrl-D; Ctrl-C drops one."""
+    """Yields the lines typed at the prompt, until Ctrl-D; Ctrl-C discards a line."""
     while True:
         try:
             yield input(shell.prompt())
@@ -105,24 +105,24 @@ def typed_lines(shell: Shell) -> Iterator[str]:
 
 
 def piped_lines() -> Iterator[str]:
-    """Yields the lines of standard input, which line feeds alone end."""
+    """Yields the lines of standard input; only line feeds end a line."""
     for line in sys.stdin.buffer:
         yield line.decode("utf-8", "surrogateescape").rstrip("\n")
 
 
 def history_file() -> pathlib.Path:
-    """Returns where typed lines are kept: TSVD_HISTORY, or a file in the home folder."""
+    """Returns the file of typed lines: TSVD_HISTORY, or a file in the home folder."""
     return pathlib.Path(os.environ.get("TSVD_HISTORY") or pathlib.Path.home() / ".tsvd_history")
 
 
 def completions(shell: Shell) -> List[str]:
-    """Returns the words of the grammar, and the names of tables and columns."""
+    """Returns the words offered for completion."""
     tables = list(shell.connection.schema.tables.values())
     return WORDS + [table.name for table in tables] + [column.name for table in tables for column in table.columns]
 
 
 def edit_lines(shell: Shell) -> None:
-    """Switches on line editing, history and completion, where this Python has them."""
+    """Enables line editing, history and completion, if this Python has readline."""
     try:
         import atexit
         import readline
@@ -144,7 +144,7 @@ def edit_lines(shell: Shell) -> None:
 
 
 def keep_history(write: "object") -> None:
-    """Writes the typed lines to their file, where that can be."""
+    """Writes the typed lines to their file, if possible."""
     try:
         write(str(history_file()))  # type: ignore[operator]
     except OSError:
@@ -152,7 +152,7 @@ def keep_history(write: "object") -> None:
 
 
 def run_shell(connection: Connection) -> int:
-    """Runs a shell over a connection, at a terminal or over piped lines, and returns the status."""
+    """Runs a shell over a connection and returns the exit status; without a terminal it shows no prompt."""
     shell = Shell(connection)
     try:
         if not sys.stdin.isatty():
@@ -165,12 +165,12 @@ def run_shell(connection: Connection) -> int:
 
 
 def schema_text(path: Optional[str]) -> Optional[str]:
-    """Reads a schema's file, where one is named."""
+    """Reads a schema file, if one is given."""
     return pathlib.Path(path).read_text(encoding="utf-8") if path else None
 
 
 def option_of(options: Sequence[str], name: str) -> Optional[str]:
-    """Returns the text of an option of the program, or None."""
+    """Returns the value of an option in a command line, or None."""
     for word, behind in zip(options, [*options[1:], ""]):
         if word == name:
             return behind
@@ -180,7 +180,7 @@ def option_of(options: Sequence[str], name: str) -> Optional[str]:
 
 
 def own_server(options: Sequence[str]) -> int:
-    """Starts a server with these options, runs a shell over it, and prints what the server writes."""
+    """Starts a server, runs a shell over it, and prints the server's output."""
     with Server(options) as server:
         print("".join(server.before), end="", flush=True)
         status = run_shell(connect(server.port, schema_text(option_of(options, "--schema"))))
@@ -189,7 +189,7 @@ def own_server(options: Sequence[str]) -> int:
 
 
 def split_words(words: Sequence[str]) -> Tuple[List[str], Optional[List[str]]]:
-    """Splits words at `--`, after which come the options of a server of the shell's own."""
+    """Splits the command line at `--`, which the options of a new server follow."""
     if "--" not in words:
         return list(words), None
     at = list(words).index("--")
@@ -200,11 +200,11 @@ def main(words: Sequence[str]) -> int:
     """Runs `shell PORT [--schema FILE]` or `shell -- OPTIONS`."""
     own, options = split_words(words)
     parser = argparse.ArgumentParser(prog="python3 -m tsvd shell", usage="%(prog)s PORT [--schema FILE] | -- OPTIONS")
-    parser.add_argument("port", type=int, nargs="?", help="where a server listens on this machine")
-    parser.add_argument("--schema", help="the file that the server was started with")
+    parser.add_argument("port", type=int, nargs="?", help="the port of a running server")
+    parser.add_argument("--schema", help="the schema file of the server")
     given = parser.parse_args(own)
     if (given.port is None) == (options is None):
-        parser.error("a port, or -- and the options of a server that is started")
+        parser.error("give a port, or -- and the options of a new server")
     if options is not None:
         return own_server(options)
     return run_shell(connect(given.port, schema_text(given.schema)))

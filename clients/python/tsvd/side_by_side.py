@@ -1,4 +1,4 @@
-"""A script with each line's reply beside it, as the pages show them."""
+"""Scripts with the reply beside each line."""
 
 from __future__ import annotations
 
@@ -15,13 +15,13 @@ WIDEST = 100
 
 
 def script_lines(script: bytes) -> List[bytes]:
-    """Returns the lines of a script, which line feeds alone end."""
+    """Returns the lines of a script; only line feeds end a line."""
     lines = script.split(b"\n")
     return lines[:-1] if lines[-1] == b"" else lines
 
 
 def take_reply(replies: List[str]) -> List[str]:
-    """Takes the lines of one reply off a list."""
+    """Removes the lines of one reply from the start of a list."""
     if not replies:
         return []
     head = replies.pop(0)
@@ -48,7 +48,7 @@ def columns(pairs: Sequence[Tuple[str, List[str]]]) -> Iterator[str]:
 
 
 def side_by_side(script: bytes, output: str, loads: bool) -> Iterator[str]:
-    """Yields the lines of the page: what comes before the replies, the pairs, and what comes after."""
+    """Yields the report of a load, then lines with replies, then the rest of the output."""
     replies = script_lines_of(output)
     if loads and replies:
         yield replies.pop(0)
@@ -57,7 +57,7 @@ def side_by_side(script: bytes, output: str, loads: bool) -> Iterator[str]:
 
 
 def script_lines_of(output: str) -> List[str]:
-    """Returns the lines that the program has written."""
+    """Returns the lines of the program's output."""
     lines = output.split("\n")
     return lines[:-1] if lines[-1] == "" else lines
 

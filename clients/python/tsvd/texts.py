@@ -1,4 +1,4 @@
-"""The texts in single quotes of a line, and what is between them."""
+"""Texts in single quotes, and the parts of a line between them."""
 
 from __future__ import annotations
 
@@ -6,7 +6,7 @@ from typing import Callable, Iterator, Tuple
 
 
 def text_end(line: str, at: int) -> int:
-    """Returns the place after the text that begins at a quote; that of the line's end where it is not closed."""
+    """Returns the end of the text that starts at a quote; the line's end if it is not closed."""
     at += 1
     while True:
         at = line.find("'", at)
@@ -18,7 +18,7 @@ def text_end(line: str, at: int) -> int:
 
 
 def split_texts(line: str) -> Iterator[Tuple[str, bool]]:
-    """Yields the parts of a line in order, each with whether it is a text."""
+    """Yields the parts of a line, each with whether it is a text."""
     at = 0
     while at < len(line):
         quote = line.find("'", at)
@@ -31,5 +31,5 @@ def split_texts(line: str) -> Iterator[Tuple[str, bool]]:
 
 
 def map_outside_texts(change: Callable[[str], str], line: str) -> str:
-    """Changes what is in no text."""
+    """Changes the parts of a line outside texts."""
     return "".join(part if is_text else change(part) for part, is_text in split_texts(line))

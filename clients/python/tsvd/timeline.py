@@ -19,16 +19,17 @@ MOST_KEYS = 100
 
 def stops_of(export: Export) -> List[int]:
     """Returns the instants at which a version began or ended, in order."""
-    return sorted({bound for version in export.versions for bound in (version.start, version.end) if bound is not None})
+    bounds = {bound for version in export.versions for bound in (version.start, version.end)}
+    return sorted(bound for bound in bounds if bound is not None)
 
 
 def version_data(version: Version, stop: Dict[int, int]) -> List[Any]:
-    """Returns a version as the page has it: its fields, and the places of its bounds among the stops."""
+    """Returns a version for the page: its fields, and the indexes of its bounds in the stops."""
     return [list(version.fields), stop[version.start], -1 if version.end is None else stop[version.end]]
 
 
 def page_data(export: Export, places: Sequence[int], is_guess: bool) -> Dict[str, Any]:
-    """Returns what the page shows; instants are texts, since they may be above the numbers of a browser."""
+    """Returns the data of the page; instants are strings, since JavaScript numbers are too small."""
     stops = stops_of(export)
     stop = {instant: place for place, instant in enumerate(stops)}
     rows = [{"key": ", ".join(key), "versions": [version_data(version, stop) for version in versions]}
@@ -39,14 +40,14 @@ def page_data(export: Export, places: Sequence[int], is_guess: bool) -> Dict[str
 
 
 def page(export: Export, places: Optional[Sequence[int]] = None, title: str = "History") -> str:
-    """Makes the page, which needs no network; where no key is given it is guessed."""
+    """Makes the page, which needs no network; without a key, guesses it."""
     data = page_data(export, guess_key(export) if places is None else places, places is None)
     text = PAGE.read_text(encoding="utf-8").replace("TITLE", html.escape(title))
     return text.replace("DATA", json.dumps(data).replace("<", "\\u003c"))
 
 
 def schema_key(path: str, export: Export) -> Tuple[str, ...]:
-    """Returns the names of the key of the schema's table that has the export's columns."""
+    """Returns the key of the table in a schema file that has the columns of the export."""
     names = [name.lower() for name in (*export.names, *export.period)]
     for table in read_schema(pathlib.Path(path).read_text(encoding="utf-8")).tables.values():
         columns = [column.name for column in table.columns] + [table.row_start, table.row_end]
@@ -56,7 +57,7 @@ def schema_key(path: str, export: Export) -> Tuple[str, ...]:
 
 
 def chosen_places(export: Export, key: Optional[str], schema: Optional[str]) -> Optional[Tuple[int, ...]]:
-    """Returns the places of the key that the words name, or None."""
+    """Returns the positions of the key columns that the options give, or None."""
     if key:
         return places_of(export, [name.strip() for name in key.split(",")])
     return places_of(export, schema_key(schema, export)) if schema else None
@@ -65,9 +66,9 @@ def chosen_places(export: Export, key: Optional[str], schema: Optional[str]) -> 
 def main(words: Sequence[str]) -> int:
     """Runs `timeline FILE [--key NAMES] [--schema FILE] [--title TEXT]`, and writes the page to standard output."""
     parser = argparse.ArgumentParser(prog="python3 -m tsvd timeline", usage="%(prog)s FILE [options] > PAGE.html")
-    parser.add_argument("file", help="what --export wrote; - for standard input")
-    parser.add_argument("--key", help="the names of the key's columns, separated by commas")
-    parser.add_argument("--schema", help="the file of the tables, which says what the key is")
+    parser.add_argument("file", help="the output of --export, or - for standard input")
+    parser.add_argument("--key", help="the names of the key columns, separated by commas")
+    parser.add_argument("--schema", help="the schema file, which names the key")
     parser.add_argument("--title", default="History")
     given = parser.parse_args(words)
     data = sys.stdin.buffer.read() if given.file == "-" else pathlib.Path(given.file).read_bytes()

@@ -7,7 +7,7 @@ from typing import FrozenSet
 
 
 class TypeObject:
-    """Equals the type codes of a description that it stands for."""
+    """Compares equal to the type codes that it stands for."""
 
     def __init__(self, *codes: str) -> None:
         self.codes: FrozenSet[str] = frozenset(codes)
