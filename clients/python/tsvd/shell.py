@@ -6,7 +6,7 @@ import argparse
 import os
 import pathlib
 import sys
-from typing import Iterable, Iterator, List, Optional, Sequence, Tuple
+from typing import Callable, Iterable, Iterator, List, Optional, Sequence, Tuple
 
 from .connection import Connection, connect
 from .cursor import Cursor, Row
@@ -18,6 +18,7 @@ from .lines import encoded, has_reply
 from .program import Server
 from .shell_commands import is_command, run_command
 
+MOST_LINES = 1000
 GREETING = "tsvd shell: \\? for help, \\q to end. Nothing is kept when the server ends."
 WORDS = ("AND AS BEGIN BETWEEN COMMIT DELETE FALSE FOR FROM INSERT INTO MIGRATE NULL OF ROLLBACK SELECT SET "
          "SPLIT SYSTEM_TIME TO TRANSACTION TRUE UPDATE VALUES WHERE").split()
@@ -136,6 +137,7 @@ def edit_lines(shell: Shell) -> None:
 
     readline.set_completer(complete)
     readline.parse_and_bind("tab: complete")
+    readline.set_history_length(MOST_LINES)
     try:
         readline.read_history_file(str(history_file()))
     except OSError:
@@ -143,10 +145,10 @@ def edit_lines(shell: Shell) -> None:
     atexit.register(keep_history, readline.write_history_file)
 
 
-def keep_history(write: "object") -> None:
+def keep_history(write: Callable[[str], None]) -> None:
     """Writes the typed lines to their file, if possible."""
     try:
-        write(str(history_file()))  # type: ignore[operator]
+        write(str(history_file()))
     except OSError:
         pass
 
