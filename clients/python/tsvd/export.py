@@ -5,12 +5,13 @@ from __future__ import annotations
 import csv
 import itertools
 import re
-from typing import Dict, Iterator, List, NamedTuple, Optional, Sequence, Tuple
+from typing import Dict, Iterator, List, NamedTuple, Optional, Sequence, Tuple, Union
 
 from .errors import DataError
 
 MOST_KEY_COLUMNS = 4
 INSTANT = re.compile(r"[0-9]+")
+NUMBER = re.compile(r"-?[0-9]+")
 NAME = re.compile(r"[A-Za-z_][A-Za-z0-9_]*")
 
 
@@ -90,12 +91,29 @@ def candidates(width: int) -> Iterator[Tuple[int, ...]]:
         yield from itertools.combinations(range(width), count)
 
 
+def sort_values(export: Export, place: int) -> List[Union[int, bytes]]:
+    """Returns the fields of a column as keys are ordered: by size if all are numbers, else by bytes."""
+    fields = [version.fields[place] for version in export.versions]
+    if all(NUMBER.fullmatch(field) for field in fields):
+        return [int(field) for field in fields]
+    return [field.encode("utf-8", "surrogateescape") for field in fields]
+
+
+def is_in_order(export: Export, places: Sequence[int]) -> bool:
+    """Returns whether the versions are in order by these columns, as an export is by its key."""
+    keys = list(zip(*(sort_values(export, place) for place in places)))
+    return all(one <= other for one, other in zip(keys, keys[1:]))
+
+
 def guess_key(export: Export) -> Tuple[int, ...]:
     """Guesses the key columns, since an export does not name them."""
+    first: Optional[Tuple[int, ...]] = None
     for places in candidates(len(export.names)):
         if may_be_key(export, places):
-            return places
-    return (0,)
+            if is_in_order(export, places):
+                return places
+            first = first or places
+    return first or (0,)
 
 
 def places_of(export: Export, names: Sequence[str]) -> Tuple[int, ...]:
