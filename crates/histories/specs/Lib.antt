@@ -10,3 +10,4 @@ pub mod TurnLaw
 pub mod Winners
 pub mod Worked
 pub mod World
+pub mod Written

@@ -1,3 +1,4 @@
+//! What every history of steps comes to.
 ghost use Rattle.values.specs.Tables.{Schema};
 ghost use Rattle.histories.specs.Law.{OpensAtItsBegin, LogsRise, LaterStepsAdd, PastStays, PastIsReadAlike, PastIsAnsweredAlike, FirstCommitterWins, LogIsOfWinners, ReadsBySnapshot, SelectsBySnapshot, MaintenanceChangesNoReply, MaintenanceCommitsNothing, AnsweredRepliesAreDue};
 ghost use Rattle.histories.specs.Worked.{ClosedStart, OpenEnd, DegeneratePeriods, ClockRunsBack, FirstCommitter, WriteSkew, ConcurrentWinners, NetChange, NoChangeNoConflict, OwnWrites, LargestInstant, RefusalsInOrder};

@@ -11,6 +11,6 @@ pub use law::{
     maintenance_changes_no_other_reply, opens_at_its_begin, past_stays,
     reads_depend_on_snapshot_and_own_writes, worked_examples_hold,
 };
-pub use misfit::{insert_misfit, key_misfit, keys_misfit, update_misfit};
+pub use misfit::{fit_keys, fit_write, key_misfit, no_session};
 pub use step::{Listing, MAX_SESSION, Reply, Step};
 pub use turn_law::{memory_is_taken_alike, turns_give_the_replies};

@@ -1,15 +1,18 @@
-ghost use Rattle.std.specs.Prelude.{◌≡◌, ◌≢◌, ℕ, Option, IfOk, IfErr, IfSome};
+//! Why a step does not fit a schema: a statement is looked at here once.
+ghost use Rattle.std.specs.Prelude.{◌≡◌, ◌≢◌, ℕ, Option, IfOk, IfErr, IfSome, None, Some};
 ghost use Rattle.values.specs.declared.table.Table.{Table};
-ghost use Rattle.values.specs.Tables.{table_at};
-ghost use Rattle.values.specs.Fit.{rows_fault, update_fault};
+ghost use Rattle.values.specs.Tables.{table_at, IsTable};
+ghost use Rattle.values.specs.Write.{table_of};
 ghost use Rattle.histories.specs.Misfit.{misfit, misfit_of, key_misfit, no_session, keys_fault};
+ghost use Rattle.histories.specs.Written.{step_of};
 
 use crate::step::{MAX_SESSION, Step};
-use rows::{Key, Keys, Refusal, Row, Schema, Set, Table};
+use rows::{Key, Keys, Refusal, Schema, Table};
+use values::{FittingKeys, FittingWrite, Write};
 
 impl Step {
-    /// Why a step does not fit the schema: its session's number, then its table, then the first
-    /// column at fault. It is never that memory ran out.
+    /// Returns why a step does not fit the schema: its session's number, then its table, then the
+    /// first column at fault. It is never that memory ran out.
     pub fn misfit(&self, schema: &Schema) -> Option<Refusal>
         ensures why { result ≡ misfit schema.now self.now }
         ensures memory { IfSome result (λ refusal. refusal ≢ Refusal.Memory) }
@@ -19,12 +22,12 @@ impl Step {
             Step::Commit(session, _) => no_session(*session),
             Step::Rollback(session) => no_session(*session),
             Step::Insert(session, table, rows) => {
-                insert_misfit(schema, *session, *table, rows.items())
+                write_misfit(schema, *session, Write::Insert(*table, rows.items()))
             }
             Step::Update(session, keys, sets) => {
-                update_misfit(schema, *session, keys, sets.items())
+                write_misfit(schema, *session, Write::Update(keys, sets.items()))
             }
-            Step::Delete(session, keys) => keys_misfit(schema, *session, keys),
+            Step::Delete(session, keys) => write_misfit(schema, *session, Write::Delete(keys)),
             Step::Select(session, _, keys) => keys_misfit(schema, *session, keys),
             Step::SplitKey(key) => key_misfit(schema, key),
             Step::SplitTime(key, _) => key_misfit(schema, key),
@@ -33,7 +36,8 @@ impl Step {
     }
 }
 
-fn no_session(session: u8) -> Option<Refusal>
+/// Refuses a session that there is not: its number is above 64.
+pub fn no_session(session: u8) -> Option<Refusal>
     ensures { result ≡ no_session session }
 {
     if session > MAX_SESSION {
@@ -43,59 +47,91 @@ fn no_session(session: u8) -> Option<Refusal>
     }
 }
 
-/// Why rows that a session inserts into a table, by its number, do not fit: the session, the table, the first column at fault.
-pub fn insert_misfit(schema: &Schema, session: u8, table: u8, rows: &[Row]) -> Option<Refusal>
-    ensures { result ≡ misfit_of schema.now session table (λ t. rows_fault t rows.now) }
+/// Checks what a session writes: its number, then the table, then the first column at fault, rows in
+/// their order and new values before comparisons.
+pub fn fit_write<'a>(
+    schema: &'a Schema,
+    session: u8,
+    write: Write<'a>,
+) -> Result<FittingWrite<'a>, Refusal>
+    ensures table { IfOk result (λ f. table_at schema.now (table_of write.entry) ≡ Some f.table.now) }
+    ensures write { IfOk result (λ f. f.write ≡ write.entry) }
+    ensures fits { IfOk result (λ _. misfit schema.now (step_of session write.entry) ≡ None) }
+    ensures refused { IfErr result (λ e.
+        misfit schema.now (step_of session write.entry) ≡ Some e) }
+    ensures memory { IfErr result (λ e. e ≢ Refusal.Memory) }
 {
-    match table_of(schema, session, table) {
-        Ok(table) => table.check_rows(rows).err(),
-        Err(refusal) => Some(refusal),
+    match session_table(schema, session, write.table()) {
+        Ok(table) => table.fit_write(write),
+        Err(refusal) => Err(refusal),
     }
 }
 
-/// Why what a session sets by keys does not fit: the session, the table, the first column at fault, new values before comparisons.
-pub fn update_misfit(schema: &Schema, session: u8, keys: &Keys, sets: &[Set]) -> Option<Refusal>
-    ensures { result ≡
-        misfit_of schema.now session keys.now.table (λ t. update_fault t keys.now sets.now) }
+/// Checks the keys that a session asks for: its number, then the table, then the first comparison at
+/// fault.
+pub fn fit_keys<'a>(
+    schema: &'a Schema,
+    session: u8,
+    keys: &'a Keys,
+) -> Result<FittingKeys<'a>, Refusal>
+    ensures table { IfOk result (λ f. table_at schema.now keys.now.table ≡ Some f.table.now) }
+    ensures keys { IfOk result (λ f. f.keys.now ≡ keys.now) }
+    ensures fits { IfOk result (λ _.
+        misfit_of schema.now session keys.now.table (keys_fault keys.now) ≡ None) }
+    ensures refused { IfErr result (λ e.
+        misfit_of schema.now session keys.now.table (keys_fault keys.now) ≡ Some e) }
+    ensures memory { IfErr result (λ e. e ≢ Refusal.Memory) }
 {
-    match table_of(schema, session, keys.table) {
-        Ok(table) => match table.check_sets(sets) {
-            Ok(()) => table.check_comparisons(keys.comparisons.items()).err(),
-            Err(refusal) => Some(refusal),
-        },
-        Err(refusal) => Some(refusal),
+    match session_table(schema, session, keys.table) {
+        Ok(table) => table.fit_keys(keys),
+        Err(refusal) => Err(refusal),
     }
 }
 
-/// Why keys that a session names do not fit: the session, the table, the first column at fault.
-pub fn keys_misfit(schema: &Schema, session: u8, keys: &Keys) -> Option<Refusal>
-    ensures { result ≡ misfit_of schema.now session keys.now.table (keys_fault keys.now) }
-{
-    match table_of(schema, session, keys.table) {
-        Ok(table) => table.check_comparisons(keys.comparisons.items()).err(),
-        Err(refusal) => Some(refusal),
-    }
-}
-
-/// Why a key does not fit: the table, the first column at fault.
+/// Returns why a key does not fit: the table, then the first column at fault.
 pub fn key_misfit(schema: &Schema, key: &Key) -> Option<Refusal>
     ensures { result ≡ key_misfit schema.now key.now }
 {
-    match table_of(schema, 0, key.table) {
+    match session_table(schema, 0, key.table) {
         Ok(table) => table.check_key(key.parts.items()).err(),
         Err(refusal) => Some(refusal),
     }
 }
 
-/// The table that a session names, or why there is none for it.
-fn table_of(schema: &Schema, session: u8, number: u8) -> Result<&Table, Refusal>
+fn write_misfit(schema: &Schema, session: u8, write: Write<'_>) -> Option<Refusal>
+    ensures why { result ≡ misfit schema.now (step_of session write.entry) }
+    ensures memory { IfSome result (λ refusal. refusal ≢ Refusal.Memory) }
+{
+    match fit_write(schema, session, write) {
+        Ok(_) => None,
+        Err(refusal) => Some(refusal),
+    }
+}
+
+fn keys_misfit(schema: &Schema, session: u8, keys: &Keys) -> Option<Refusal>
+    ensures why { result ≡ misfit_of schema.now session keys.now.table (keys_fault keys.now) }
+    ensures memory { IfSome result (λ refusal. refusal ≢ Refusal.Memory) }
+{
+    match fit_keys(schema, session, keys) {
+        Ok(_) => None,
+        Err(refusal) => Some(refusal),
+    }
+}
+
+/// Returns the table that a session names by its number, or why there is none for it.
+fn session_table(schema: &Schema, session: u8, number: u8) -> Result<&Table, Refusal>
     ensures session { IfOk result (λ t. no_session session ≡ None) }
     ensures found { IfOk result (λ t. table_at schema.now number ≡ Some t.now) }
+    ensures good { IfOk result (λ t. IsTable number t.now) }
     ensures refused { IfErr result (λ e. (fault : Table → Option ℕ) →
         misfit_of schema.now session number fault ≡ Some e) }
+    ensures memory { IfErr result (λ e. e ≢ Refusal.Memory) }
 {
     if let Some(refusal) = no_session(session) {
         return Err(refusal);
     }
-    schema.table_at(number).ok_or(Refusal::NoTable)
+    match schema.table_at(number) {
+        Some(table) => Ok(table),
+        None => Err(Refusal::NoTable),
+    }
 }

@@ -1,4 +1,10 @@
+//! What is asked of a store, and what it replies.
+ghost use Rattle.std.specs.Prelude.{◌≡◌, ℕ};
+ghost use Rattle.histories.specs.History.{write_count};
+ghost use Rattle.histories.specs.Written.{step_of};
+
 use rows::{Form, Instant, Key, Keys, Refusal, Rows, Sets, ShownRows};
+use values::Write;
 
 /// The highest session number; 0 is the service's own.
 pub const MAX_SESSION: u8 = 64;
@@ -43,4 +49,17 @@ pub enum Reply {
     RolledBack,
     Done,
     Refused(Refusal),
+}
+
+impl Reply {
+    /// Returns the reply to a write that was done: how many rows it inserted, updated or deleted.
+    pub fn of_write(write: Write<'_>, count: usize) -> Reply
+        ensures { (i : ℕ) → result ≡ write_count (step_of i write.entry) count }
+    {
+        match write {
+            Write::Insert(_, _) => Reply::Inserted(count),
+            Write::Update(_, _) => Reply::Updated(count),
+            Write::Delete(_) => Reply::Deleted(count),
+        }
+    }
 }

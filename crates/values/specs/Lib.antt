@@ -21,4 +21,5 @@ pub mod RowReading
 pub mod Sample
 pub mod Tables
 pub mod Versions
+pub mod Write
 pub mod Writes

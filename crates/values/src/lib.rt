@@ -4,6 +4,7 @@
 mod chars;
 mod event;
 mod fit;
+mod fitting;
 mod form;
 mod key;
 mod key_encoding;
@@ -21,9 +22,11 @@ mod search_condition;
 mod sequence;
 mod table;
 mod value;
+mod write;
 
 pub use chars::Chars;
 pub use event::{Event, SharedEvent};
+pub use fitting::{FittingKeys, FittingWrite};
 pub use key::{Instant, Key, MAX_INSTANT, Net, Point, Transaction};
 pub use key_encoding::{
     KeyBuffer, KeyBytes, LONGEST_KEY, fitting_key_bytes, key_bytes, ordinal_of, push_part,
@@ -42,3 +45,4 @@ pub use schema::Schema;
 pub use sequence::Sequence;
 pub use table::{Column, ColumnType, Table, same_name};
 pub use value::{MAX_INT, Value, Values, read_values};
+pub use write::Write;
