@@ -6,3 +6,5 @@ mod PrefixBytes
 mod NarrowingSteps
 mod PartValueBytes
 mod NarrowingWithin
+mod SearchTaken
+pub mod SearchOwn

@@ -1,6 +1,5 @@
 -- The search range has each key of the table that meets the comparisons.
 use Rattle.std.proofs.Common.{◌≡◌, ℕ, ◌+◌, ◌<◌, List, [], ◌∷◌, ◌++◌, ◌==◌, ◌&&◌, Bool, true, false, not, Option, Some, None, refl, sym, subst, ap, ◌∙◌, arith, if◌then◌else◌, All}
-use Rattle.std.specs.Prelude.{is_none}
 use Rattle.std.proofs.lemmas.Bool.{and_parts}
 use Rattle.std.proofs.lemmas.List.Elements.{All-head, All-tail, All-cons, All-nil}
 use Rattle.std.specs.List.{slice_get, list_all, flat_map}
@@ -18,7 +17,7 @@ use Rattle.values.specs.KeyEncodingLaw.{IsStorable}
 use Rattle.values.specs.Versions.{holds}
 use Rattle.values.proofs.KeyLengths.{key_fits}
 use Rattle.keyrange.specs.Range.{is_before_end, is_key_in}
-use Rattle.searchrange.specs.SearchRange.{range_of_table, narrowed_from, can_narrow, search_range, Covers}
+use Rattle.searchrange.specs.SearchRange.{range_of_table, search_range, Covers}
 use Rattle.searchrange.proofs.PrefixBytes.{bytes_cmp, not_below_none}
 use Rattle.searchrange.proofs.NarrowingKeeps.{all_met, in_narrowed_from}
 use Rattle.searchrange.proofs.PartValueBytes.{storable, key_are_bytes}
@@ -38,29 +37,16 @@ in_table number bytes = ap (λ t. not t && is_before_end (number ∷ bytes) (ran
     by true = refl
     by false = ap (λ o. is_lt (ordering_then o (bytes_cmp bytes []))) (sym (nat_cmp_is number (number + 1) Less (omega arith)))
 
-pub nothing : (o : Option ℕ) → is_none o ≡ true → o ≡ None
-nothing None e = refl
-nothing (Some n) e = cc
-
-pub covers : (table : Table) (keys : Keys) → table.number < 256 → All (λ c. IsStorable c.value) keys.comparisons → Covers table keys (search_range table keys)
-covers table keys small stored key own meets = by (can_narrow table keys) refl
+pub covers : (table : Table) (keys : Keys) → table.number < 256 → comparisons_fault table keys.comparisons ≡ None → All (λ c. IsStorable c.value) keys.comparisons → Covers table keys (search_range table keys)
+covers table keys small none stored key own meets =
+    let f = key_fits table key.parts own.fits in
+    in_narrowed_from table key (bytes_of_key key) keys.comparisons
+    (all_met table key keys.comparisons ((and_parts (key.table == keys.table) (list_all (holds table key) keys.comparisons) meets).1) none stored)
+    (key_are_bytes key (subst (λ n. n < 256) (sym own.own) small) own.held) table.key key.parts 0 (table.number ∷ []) (range_of_table table.number) f.same_width f.no_fault
+    (all_storable key.parts own.held) (λ i. ap (slice_get table.key) (omega arith)) (λ i. ap (slice_get key.parts) (omega arith)) spelled first
   where
     spelled : bytes_of_key key ≡ (table.number ∷ []) ++ flat_map part_bytes key.parts
     spelled = ap (λ n. n ∷ flat_map part_bytes key.parts) own.own
 
     first : is_key_in (range_of_table table.number) (bytes_of_key key) ≡ true
     first = ap (is_key_in (range_of_table table.number)) spelled ∙ in_table table.number (flat_map part_bytes key.parts)
-
-    narrow : comparisons_fault table keys.comparisons ≡ None
-        → is_key_in (narrowed_from table keys.comparisons 0 (table.number ∷ []) table.key (range_of_table table.number)) (bytes_of_key key) ≡ true
-    narrow none =
-        let f = key_fits table key.parts own.fits in
-        in_narrowed_from table key (bytes_of_key key) keys.comparisons
-        (all_met table key keys.comparisons ((and_parts (key.table == keys.table) (list_all (holds table key) keys.comparisons) meets).1) none stored)
-        (key_are_bytes key (subst (λ n. n < 256) (sym own.own) small) own.held) table.key key.parts 0 (table.number ∷ []) (range_of_table table.number) f.same_width f.no_fault
-        (all_storable key.parts own.held) (λ i. ap (slice_get table.key) (omega arith)) (λ i. ap (slice_get key.parts) (omega arith)) spelled first
-
-    by : (t : Bool) → can_narrow table keys ≡ t
-        → is_key_in (if t then narrowed_from table keys.comparisons 0 (table.number ∷ []) table.key (range_of_table table.number) else range_of_table table.number) (bytes_of_key key) ≡ true
-    by false e = first
-    by true e = narrow (nothing (comparisons_fault table keys.comparisons) ((and_parts (keys.table == table.number) (is_none (comparisons_fault table keys.comparisons)) e).1))

@@ -1,6 +1,6 @@
 -- Keys in the range meet the comparisons of the columns that narrow it.
 use Rattle.std.proofs.Common.{◌≡◌, ◌⊎◌, ⊎_elim, inl, inr, ℕ, ◌+◌, ◌*◌, ◌<◌, ◌≤◌, List, [], ◌∷◌, ◌++◌, ◌==◌, ◌&&◌, Bool, true, false, not, Option, Some, None, length, nat_le, nat_lt, refl, sym, subst, ap, ◌∙◌, arith, if◌then◌else◌, suc, append_assoc, length-append, All, IfSome}
-use Rattle.std.specs.Prelude.{position, is_none}
+use Rattle.std.specs.Prelude.{position}
 use Rattle.std.proofs.lemmas.Bool.{and_parts}
 use Rattle.std.proofs.lemmas.Bool.Decides.{nat_tests}
 use Rattle.std.proofs.lemmas.List.Elements.{All-head, All-tail, All-cons, All-nil}
@@ -16,6 +16,7 @@ use Rattle.values.specs.declared.query.Operator.TheVariants.{Equal as IsEqual, B
 use Rattle.values.specs.declared.query.Comparison.{Comparison}
 use Rattle.values.specs.declared.query.Keys.{Keys}
 use Rattle.values.specs.Order.{value_cmp}
+use Rattle.values.specs.Tables.{IsTable}
 use Rattle.values.specs.Fit.{parts_fault, part_fault, comparison_fault, comparisons_fault}
 use Rattle.values.specs.KeyEncoding.{part_bytes, bytes_of_key}
 use Rattle.values.specs.KeyEncodingLaw.{IsStorable}
@@ -24,12 +25,12 @@ use Rattle.values.proofs.KeyLengths.{FitsKey, key_fits, part_fits, first_none, p
 use Rattle.keyrange.specs.declared.range.KeyRange.{KeyRange}
 use Rattle.keyrange.specs.Range.{is_below, is_before_end, is_key_in}
 use Rattle.keyrange.proofs.RangeOrder.{above as below_other}
-use Rattle.searchrange.specs.SearchRange.{next_prefix, is_bound, from_bytes, before_bytes, after_prefix, upto_prefix, narrowed, is_place, is_at, narrowed_at, equal_at, narrowed_from, narrowing_end, is_before_place, range_of_table, can_narrow, search_range, IsExact}
+use Rattle.searchrange.specs.SearchRange.{next_prefix, is_bound, from_bytes, before_bytes, after_prefix, upto_prefix, narrowed, is_place, is_at, narrowed_at, equal_at, narrowed_from, narrowing_end, is_before_place, range_of_table, all_narrow, search_range, TakesAll}
 use Rattle.searchrange.proofs.PrefixBytes.{AreBytes, none_above, past, not_below_none}
 use Rattle.searchrange.proofs.NarrowingInRange.{Compared, low, high, tied_low, less, greater_low, tied_high, less_high, above, not_true}
 use Rattle.searchrange.proofs.NarrowingWithin.{upto_within, at_within, from_place_within}
 use Rattle.searchrange.proofs.PartValueBytes.{compared_short, fitting_short, key_are_bytes}
-use Rattle.searchrange.proofs.NarrowingCovers.{all_storable, nothing}
+use Rattle.searchrange.proofs.NarrowingCovers.{all_storable}
 use Rattle.searchrange.proofs.NarrowingKeeps.{StandsAt, named, every, compared, holds_by_value, own_value, Agrees}
 
 -- ---- what a narrowed range says of its keys
@@ -239,13 +240,14 @@ all_hold table key end (c ∷ cs) e h =
     by None at t = cc
     by (Some p) at t = All-head (HoldsIn table key 0 end) c cs h p at (omega arith) (below p end t)
 
-pub is_exact : (table : Table) (keys : Keys) → table.number < 256 → All (λ c. IsStorable c.value) keys.comparisons → IsExact table keys (search_range table keys)
-is_exact table keys small stored is_table can all_narrow key own inside =
+pub is_exact : (table : Table) (keys : Keys) → table.number < 256 → IsTable table.number table → keys.table ≡ table.number → comparisons_fault table keys.comparisons ≡ None → All (λ c. IsStorable c.value) keys.comparisons
+    → all_narrow table keys.comparisons ≡ true → TakesAll table keys (search_range table keys)
+is_exact table keys small is_table its none stored narrow key own inside =
     ap (λ t. t && list_all (holds table key) cs) same
-    ∙ all_hold table key (narrowing_end table cs 0 table.key) cs all_narrow
+    ∙ all_hold table key (narrowing_end table cs 0 table.key) cs narrow
     (from_back table key (bytes_of_key key) cs (all_good table cs none stored) (key_are_bytes key (subst (λ n. n < 256) (sym own.own) small) own.held) table.key key.parts 0 (table.number ∷ [])
     (range_of_table table.number) f.same_width f.no_fault (all_storable key.parts own.held) (λ i. ap (slice_get table.key) (omega arith)) (λ i. ap (slice_get key.parts) (omega arith))
-    (ap (λ n. n ∷ flat_map part_bytes key.parts) own.own) (omega (arith, is_table.few_key_columns)) (omega arith) narrow)
+    (ap (λ n. n ∷ flat_map part_bytes key.parts) own.own) (omega (arith, is_table.few_key_columns)) (omega arith) inside)
   where
     cs : List Comparison
     cs = keys.comparisons
@@ -253,19 +255,8 @@ is_exact table keys small stored is_table can all_narrow key own inside =
     f : FitsKey table key.parts
     f = key_fits table key.parts own.fits
 
-    none : comparisons_fault table keys.comparisons ≡ None
-    none = nothing (comparisons_fault table keys.comparisons) ((and_parts (keys.table == table.number) (is_none (comparisons_fault table keys.comparisons)) can).1)
-
     same : (key.table == keys.table) ≡ true
-    same = numbers key.table keys.table table.number own.own ((and_parts (keys.table == table.number) (is_none (comparisons_fault table keys.comparisons)) can).0)
+    same = numbers key.table keys.table table.number own.own its
       where
-        numbers : (a b n : ℕ) → a ≡ n → (b == n) ≡ true → (a == b) ≡ true
+        numbers : (a b n : ℕ) → a ≡ n → b ≡ n → (a == b) ≡ true
         numbers a b n e h = grind (arith, nat_tests)
-
-    narrow : is_key_in (narrowed_from table keys.comparisons 0 (table.number ∷ []) table.key (range_of_table table.number)) (bytes_of_key key) ≡ true
-    narrow = by (can_narrow table keys) can inside
-      where
-        by : (t : Bool) → t ≡ true → is_key_in (if t then narrowed_from table keys.comparisons 0 (table.number ∷ []) table.key (range_of_table table.number) else range_of_table table.number) (bytes_of_key key) ≡ true
-            → is_key_in (narrowed_from table keys.comparisons 0 (table.number ∷ []) table.key (range_of_table table.number)) (bytes_of_key key) ≡ true
-        by true e h = h
-        by false e h = cc

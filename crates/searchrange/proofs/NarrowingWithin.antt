@@ -13,7 +13,7 @@ use Rattle.values.specs.KeyEncoding.{part_bytes}
 use Rattle.keyrange.specs.declared.range.KeyRange.{KeyRange}
 use Rattle.keyrange.specs.Range.{is_below, is_before_end, is_key_in}
 use Rattle.keyrange.proofs.RangeOrder.{is_less, under}
-use Rattle.searchrange.specs.SearchRange.{range_of_table, next_prefix, is_bound, from_bytes, before_bytes, after_prefix, upto_prefix, narrowed, is_at, narrowed_at, equal_at, narrowed_from, can_narrow, search_range, IsWithin}
+use Rattle.searchrange.specs.SearchRange.{range_of_table, next_prefix, is_bound, from_bytes, before_bytes, after_prefix, upto_prefix, narrowed, is_at, narrowed_at, equal_at, narrowed_from, search_range, IsWithin}
 use Rattle.searchrange.proofs.PrefixBytes.{bytes_cmp}
 use Rattle.searchrange.proofs.NarrowingInRange.{joined, not_true}
 
@@ -97,8 +97,4 @@ from_place_within table cs place prefix (n ∷ columns) range =
         chained (narrowed_from table cs (place + 1) (prefix ++ part_bytes w) columns (narrowed_at table place prefix cs range)) (narrowed_at table place prefix cs range) range (more w) here
 
 pub within_table : (table : Table) (keys : Keys) → IsWithin (search_range table keys) (range_of_table table.number)
-within_table table keys = by (can_narrow table keys)
-  where
-    by : (t : Bool) → IsWithin (if t then narrowed_from table keys.comparisons 0 (table.number ∷ []) table.key (range_of_table table.number) else range_of_table table.number) (range_of_table table.number)
-    by true = from_place_within table keys.comparisons 0 (table.number ∷ []) table.key (range_of_table table.number)
-    by false = same (range_of_table table.number)
+within_table table keys = from_place_within table keys.comparisons 0 (table.number ∷ []) table.key (range_of_table table.number)

@@ -1,5 +1,5 @@
 -- The range of key bytes that holds each key of a search condition: comparisons on the leading key columns narrow it.
-use Rattle.std.specs.Prelude.{◌≡◌, ℕ, ◌+◌, List, [], ◌∷◌, ◌++◌, Option, Some, None, Bool, true, false, ◌&&◌, ◌==◌, nat_le, nat_lt, length, is_none, position, if◌then◌else◌}
+use Rattle.std.specs.Prelude.{◌≡◌, ℕ, ◌+◌, List, [], ◌∷◌, ◌++◌, Option, Some, None, Bool, true, false, ◌&&◌, ◌==◌, nat_le, nat_lt, length, position, if◌then◌else◌}
 use Rattle.std.specs.List.{list_all}
 use Rattle.values.specs.declared.table.Table.{Table}
 use Rattle.values.specs.declared.key.Key.{Key}
@@ -8,8 +8,6 @@ use Rattle.values.specs.declared.query.Operator.{Operator}
 use Rattle.values.specs.declared.query.Operator.TheVariants.{Equal, Below, AtMost, Above, AtLeast}
 use Rattle.values.specs.declared.query.Comparison.{Comparison}
 use Rattle.values.specs.declared.query.Keys.{Keys}
-use Rattle.values.specs.Tables.{IsTable}
-use Rattle.values.specs.Fit.{comparisons_fault}
 use Rattle.values.specs.KeyEncoding.{part_bytes, bytes_of_key, longest_key}
 use Rattle.values.specs.KeyReading.{IsKeyOf}
 use Rattle.values.specs.Versions.{matches}
@@ -109,18 +107,11 @@ narrowed_from table cs place prefix (_ ∷ columns) range = elim (equal_at table
       (narrowed_at table place prefix cs range)
 ]
 
--- comparisons that the table does not refuse, on keys of its own
-abbrev pub can_narrow : Table → Keys → Bool
-can_narrow table keys =
-    keys.table == table.number && is_none (comparisons_fault table keys.comparisons)
-
--- the table's range, narrowed where the comparisons are good
+-- the table's range, narrowed by comparisons that fit the table
 abbrev pub search_range : Table → Keys → KeyRange
 search_range table keys =
-    if can_narrow table keys
-    then narrowed_from table keys.comparisons 0 (table.number ∷ []) table.key
+    narrowed_from table keys.comparisons 0 (table.number ∷ []) table.key
     (range_of_table table.number)
-    else range_of_table table.number
 
 -- each key of the table that meets the comparisons is in the range
 abbrev pub Covers : Table → Keys → KeyRange → Type 0
@@ -146,12 +137,14 @@ abbrev pub narrows : Table → List Comparison → Comparison → Bool
 narrows table cs c =
     is_before_place (narrowing_end table cs 0 table.key) (position (λ k. k == c.column) table.key)
 
--- where each comparison is of a column that narrows, each key of the table in the range meets them all
-abbrev pub IsExact : Table → Keys → KeyRange → Type 0
-IsExact table keys range =
-    IsTable table.number table → can_narrow table keys ≡ true
-    → list_all (narrows table keys.comparisons) keys.comparisons ≡ true
-    → (key : Key) → IsKeyOf table key → is_key_in range (bytes_of_key key) ≡ true
+-- each comparison is of a column that narrows
+abbrev pub all_narrow : Table → List Comparison → Bool
+all_narrow table cs = list_all (narrows table cs) cs
+
+-- each key of the table in the range meets the comparisons
+abbrev pub TakesAll : Table → Keys → KeyRange → Type 0
+TakesAll table keys range =
+    (key : Key) → IsKeyOf table key → is_key_in range (bytes_of_key key) ≡ true
     → matches table keys key ≡ true
 
 -- each key in the first range is in the second

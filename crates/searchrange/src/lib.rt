@@ -4,7 +4,8 @@
 mod narrowing;
 mod part;
 mod prefix;
+mod search;
 mod table_range;
 
-pub use narrowing::search_range;
+pub use search::Search;
 pub use table_range::range_of_table;

@@ -1,8 +1,10 @@
 //! Comparisons on the leading key columns narrow the range of a table's keys; see README.md.
-ghost use Rattle.std.specs.Prelude.{◌≡◌, IfOk, All, Option, option_copied, position, ◌==◌, [], ◌∷◌, Some, None};
+ghost use Rattle.std.specs.Prelude.{◌≡◌, IfOk, All, Option, option_copied, position, ◌==◌, [], ◌∷◌, Some, None, true};
+ghost use Rattle.values.specs.Tables.{IsTable};
+ghost use Rattle.values.specs.Fit.{comparisons_fault};
 ghost use Rattle.values.specs.KeyEncodingLaw.{IsStorable};
 ghost use Rattle.values.specs.Memory.{OnlyMemory};
-ghost use Rattle.searchrange.specs.SearchRange.{range_of_table, from_bytes, before_bytes, after_prefix, upto_prefix, narrowed, is_equality, is_at, narrowed_at, equal_at, narrowed_from, can_narrow, search_range, Covers, IsWithin, IsExact};
+ghost use Rattle.searchrange.specs.SearchRange.{range_of_table, from_bytes, before_bytes, after_prefix, upto_prefix, narrowed, is_equality, is_at, is_before_place, narrowed_at, narrowing_end, equal_at, all_narrow, narrowed_from, search_range, Covers, IsWithin, TakesAll};
 
 use crate::part::push_part;
 use crate::prefix::next_prefix;
@@ -14,15 +16,18 @@ use values::{ColumnNumber, Comparison, KeyBytes, Keys, Mem, Operator, Table, Val
 /// The range of the table's keys, narrowed by the comparisons on its leading key columns.
 ///
 /// A column that is to be equal to a value leaves the keys that go on with its bytes, and the next
-/// column narrows these; the first that is not is the last that narrows. Where the table refuses a
-/// comparison, or the keys are of another table, the range is the table's. Each key of the table that
+/// column narrows these; the first that is not is the last that narrows. Each key of the table that
 /// meets all comparisons is in the range; where each comparison is of a column that narrows, no other
 /// key of the table is, so a whole key that is given leaves a range of that key.
-pub fn search_range(alloc: Global, table: &Table, keys: &Keys) -> Mem<KeyRange>
+pub(crate) fn search_range(alloc: Global, table: &Table, keys: &Keys) -> Mem<KeyRange>
+    requires good { IsTable table.now.number table.now }
+    requires own { keys.now.table ≡ table.now.number }
+    requires fits { comparisons_fault table.now keys.now.comparisons ≡ None }
     ensures ok { IfOk result (λ range. range ≡ search_range table.now keys.now) }
     ensures covers { IfOk result (λ range. Covers table.now keys.now range) }
     ensures within { IfOk result (λ range. IsWithin range (range_of_table table.now.number)) }
-    ensures exact { IfOk result (λ range. IsExact table.now keys.now range) }
+    ensures exact { IfOk result (λ range. all_narrow table.now keys.now.comparisons ≡ true
+        → TakesAll table.now keys.now range) }
     ensures err { OnlyMemory result }
 {
     let _number = table.number;
@@ -52,17 +57,40 @@ fn range_of_keys(alloc: Global, table: &Table, keys: &Keys) -> Mem<KeyRange>
     ensures err { OnlyMemory result }
 {
     let range = range_of_table(alloc, table.number)?;
-    if can_narrow(table, keys) {
-        Ok(narrow(alloc, table, keys.comparisons.items(), range)?)
-    } else {
-        Ok(range)
-    }
+    Ok(narrow(alloc, table, keys.comparisons.items(), range)?)
 }
 
-fn can_narrow(table: &Table, keys: &Keys) -> bool
-    ensures { result ≡ can_narrow table.now keys.now }
+/// Whether each comparison is of a column that narrows.
+pub(crate) fn all_narrow(table: &Table, comparisons: &[Comparison]) -> bool
+    ensures { result ≡ all_narrow table.now comparisons.now }
 {
-    keys.table == table.number && table.check_comparisons(keys.comparisons.items()).is_ok()
+    let end = narrowing_end(table, comparisons);
+    comparisons
+        .iter()
+        .all(|comparison| is_before_place(end, place_of(table, comparison.column)))
+}
+
+/// The place behind the last column that narrows.
+fn narrowing_end(table: &Table, comparisons: &[Comparison]) -> usize
+    ensures { result ≡ narrowing_end table.now comparisons.now 0 table.now.key }
+{
+    let columns = table.key.items().len();
+    for place in 0..columns {
+        match equal_at(table, place, comparisons) {
+            None => return place + 1,
+            Some(_value) => {}
+        }
+    }
+    columns
+}
+
+fn is_before_place(end: usize, place: Option<usize>) -> bool
+    ensures { result ≡ is_before_place end place }
+{
+    match place {
+        None => false,
+        Some(place) => place < end,
+    }
 }
 
 /// The range narrowed by the comparisons on leading key columns.

@@ -23,7 +23,7 @@ use Rattle.values.specs.Log.{State, Net, Row, Changes, row_at, set_row, apply_ne
 use Rattle.values.specs.Tables.{Schema, IsTable}
 use Rattle.values.specs.Fit.{rows_fault, row_fault, key_fault, comparisons_fault, sets_fault, first_of}
 use Rattle.values.specs.Faults.{no_fault}
-use Rattle.values.specs.Writes.{Own, Written, write_keys, key_of, insert_rows, insert_all, duplicate, duplicate_from, update_rows, delete_rows, matching_keys, set_all}
+use Rattle.values.specs.Writes.{Own, Written, write_keys, key_of, insert_into, update_in, delete_from, insert_rows, duplicate, duplicate_from, update_rows, delete_rows, matching_keys, set_all}
 use Rattle.values.specs.Versions.{matches}
 use Rattle.values.specs.KeyEncoding.{IsShortKey}
 use Rattle.values.specs.RowEncoding.{IsHeld}
@@ -33,17 +33,12 @@ use Rattle.values.specs.Events.{event_cmp, events_of, IsKeyIn, AreKeysIn}
 use Rattle.values.proofs.KeyLengths.{fitting_keys_are_short, first_none}
 use Rattle.values.proofs.RowKeys.{fitting_key, keys_are_short}
 use Rattle.tsbtree.specs.View.{events, TreeState}
-use Rattle.staging.specs.Own.{Reads, rows_seen, own, write_if_fits, checked_insert, of_table, checked_update, checked_delete}
-use Rattle.staging.specs.Staged.{put_all, put_answer, insertions, updates, deletions, sees, first_seen, row_taken, rows_in}
+use Rattle.staging.specs.Own.{Reads, rows_seen, own}
+use Rattle.staging.specs.Staged.{put_all, put_answer, insertions, updates, deletions, sees, first_seen, rows_in}
+use Rattle.searchrange.specs.Search.{entry_taken}
 use Rattle.staging.proofs.StagedEntries.{sorted_from, sorted_apply, apply-updates, apply-deletions}
-use Rattle.staging.proofs.ViewBridge.{are_seen, sorted_base, sees_is, key_in}
+use Rattle.staging.proofs.ViewBridge.{are_seen, keyed_changes, sorted_base, sees_is, key_in}
 use Rattle.staging.proofs.StagedCalls.{put_is, put_keys, all_entry, all_chosen}
-
--- ---- faults
-
-pub no_fault_is : (o : Option ℕ) → ◌≡◌ {A = Result (Unit {0}) Refusal} (Ok tt) (no_fault o) → o ≡ None
-no_fault_is None e = refl
-no_fault_is (Some column) e = cc
 
 -- ---- the keys of rows that fit
 
@@ -108,17 +103,16 @@ unless_duplicate table rows o found = elim found [
   | None ↦ write_keys (map (key_of table) rows) (length rows) (insert_rows table rows o.rows) o
 ]
 
-pub insert_duplicate : (table : Table) (rows : List Row) (o : Own) (key : Key) → rows_fault table rows ≡ None → duplicate table rows o.rows ≡ Some key → ◌≡◌ {A = Written} (Err (DuplicateKey key), o) (checked_insert table rows o)
-insert_duplicate table rows o key fits is =
-    sym (ap (λ f. write_if_fits f (unless_duplicate table rows o (duplicate table rows o.rows)) o) fits ∙ ap (unless_duplicate table rows o) is)
+pub insert_duplicate : (table : Table) (rows : List Row) (o : Own) (key : Key) → duplicate table rows o.rows ≡ Some key → ◌≡◌ {A = Written} (Err (DuplicateKey key), o) (insert_into table rows o)
+insert_duplicate table rows o key is = sym (ap (unless_duplicate table rows o) is)
 
-pub insert_done : (table : Table) (rows : List Row) (m : Changes) (w new : Net) (r : Result ℕ Refusal) (cs : Net) → rows_fault table rows ≡ None → duplicate table rows (rows_seen m w) ≡ None → cs ≡ insertions (map (key_of table) rows) rows
-    → T (is_sorted key_cmp w) → r ≡ put_answer cs w → OnOk r (new ≡ put_all cs w) → OnErr r (new ≡ w) → ◌≡◌ {A = Written} (r, own m new) (checked_insert table rows (own m w))
-insert_done table rows m w new r cs fits none is sorted answer ok err =
+pub insert_done : (table : Table) (rows : List Row) (m : Changes) (w new : Net) (r : Result ℕ Refusal) (cs : Net) → duplicate table rows (rows_seen m w) ≡ None → cs ≡ insertions (map (key_of table) rows) rows
+    → T (is_sorted key_cmp w) → r ≡ put_answer cs w → OnOk r (new ≡ put_all cs w) → OnErr r (new ≡ w) → ◌≡◌ {A = Written} (r, own m new) (insert_into table rows (own m w))
+insert_done table rows m w new r cs none is sorted answer ok err =
     put_is m cs w new r sorted answer ok err
     ∙ ap (λ cs. write_keys (keys_of cs) (length cs) (apply_net (rows_seen m w) cs) (own m w)) is
     ∙ (λ i. write_keys (insertion_keys table rows i) (insertion_count table rows i) (apply_insertions table rows (rows_seen m w) i) (own m w))
-    ∙ sym (ap (λ f. write_if_fits f (unless_duplicate table rows (own m w) (duplicate table rows (rows_seen m w))) (own m w)) fits ∙ ap (unless_duplicate table rows (own m w)) none)
+    ∙ sym (ap (unless_duplicate table rows (own m w)) none)
 
 -- ---- what is put has keys of the schema
 
@@ -144,10 +138,6 @@ module _ (P : Key → Type 0) where
   all_after [] s h k = k
   all_after (c ∷ cs) s h k = all_after cs _ h.1 (all_set c.0.key c.1 s h.0 k)
 
-  all_inserted : (es s : State) → AllByRecursion (λ e. P e.0) es → AllByRecursion (λ e. P e.0) s → AllByRecursion (λ e. P e.0) (insert_all s es)
-  all_inserted [] s h k = k
-  all_inserted (e ∷ es) s h k = all_inserted es _ h.1 (all_entry {X = Row} P s e.0 e.1 h.0 k)
-
   net_keys : (w : Net) → AllByRecursion P (keys_of w) → AllByRecursion (λ c. P c.0) w
   net_keys [] h = tt
   net_keys (c ∷ w) h = (h.0, net_keys w h.1)
@@ -167,59 +157,22 @@ module _ (P : Key → Type 0) where
   deleted_entries es h = All-from_recursion (λ c. P c.0) (deletions es) (deleted_all es (recursion_from_All (λ e. P e.0) es h))
 
 -- the keys of the rows that are seen are of the schema
-pub seen_keys : (schema : Schema) (table : Table) (view : TreeState) (t : ℕ) (m : Changes) (w : Net) (p : Key × Row → Bool) → Reads schema table view w m → IsStrictlySortedBy event_cmp (events view) → All (λ e. e.at ≤ t) (events view)
-    → All (λ e. IsKeyIn schema e.0) (filter p (rows_seen m w))
-seen_keys schema table view t m w p reads sorted upto =
+pub seen_keys : (schema : Schema) (table : Table) (view : TreeState) (m : Changes) (w : Net) (p : Key × Row → Bool) → Reads schema table view w m → All (λ e. IsKeyIn schema e.0) (filter p (rows_seen m w))
+seen_keys schema table view m w p reads =
     All-from_recursion (λ e. IsKeyIn schema e.0) (filter p (rows_seen m w))
     (all_chosen {X = Row} (IsKeyIn schema) p (rows_seen m w)
     (all_applied (IsKeyIn schema) w (rows_after [] m) (net_keys (IsKeyIn schema) w (recursion_from_All (IsKeyIn schema) (keys_of w) reads.keys))
-    (all_after (IsKeyIn schema) m [] (are_seen schema view t m reads.held sorted upto).keys tt)))
+    (all_after (IsKeyIn schema) m [] (keyed_changes schema m reads.held.keys) tt)))
 
--- and those of a table are short
-read_short : (table : Table) (bytes : List ℕ) (k : Key) → IsTable table.number table → key_from table bytes ≡ Some k → IsShortKey k
-read_short table [] k is e = cc
-read_short table (b ∷ bytes) k is e = by (b == table.number) (parts_from table table.key bytes) e
-  where
-    whole : (parts : List Value) (o : Option ℕ) (empty : Bool) → key_fault table parts ≡ o → ◌≡◌ {A = Option Key} (if empty && is_none o then Some (record { table = table.number; parts = parts }) else None) (Some k) → IsShortKey k
-    whole parts None true fits e =
-        let same : record { table = table.number; parts = parts } ≡ k = cc in
-        fitting_keys_are_short table k is.few_key_columns (ap (λ (k : Key). key_fault table k.parts) (sym same) ∙ fits)
-    whole parts (Some n) true fits e = cc
-    whole parts o false fits e = cc
-
-    by : (b : Bool) (taken : Parsed (List Value)) → ◌≡◌ {A = Option Key} (if b then whole_key table taken else None) (Some k) → IsShortKey k
-    by true None e = cc
-    by true (Some (parts, rest)) e = whole parts (key_fault table parts) (is_empty rest) refl e
-    by false taken e = cc
-
-taken_short : (table : Table) (keys : Keys) (es : List Event) → IsTable table.number table → AllByRecursion (λ e. IsShortKey e.0) (filter_map (row_taken table keys) es)
-taken_short table keys [] is = tt
-taken_short table keys (e ∷ es) is = by (key_from table e.key) refl (taken_short table keys es is)
-  where
-    by : (o : Option Key) → key_from table e.key ≡ o → AllByRecursion (λ e. IsShortKey e.0) (filter_map (row_taken table keys) es)
-        → AllByRecursion (λ e. IsShortKey e.0) (cons_option (elim o [ None ↦ None | Some k ↦ if matches table keys k then option_map (λ row. (k, row)) e.row else None ]) (filter_map (row_taken table keys) es))
-    by None at rest = rest
-    by (Some k) at rest = taken (matches table keys k) e.row
-      where
-        taken : (b : Bool) (row : Option Row) → AllByRecursion (λ e. IsShortKey e.0) (cons_option (if b then option_map (λ row. (k, row)) row else None) (filter_map (row_taken table keys) es))
-        taken true (Some row) = (read_short table e.key k is at, rest)
-        taken true None = rest
-        taken false row = rest
-
-pub rows_short : (table : Table) (keys : Keys) (es : List Event) (w : Net) → IsTable table.number table → All (λ c. IsShortKey c.0) w → All (λ e. IsShortKey e.0) (rows_in table keys es w)
-rows_short table keys es w is h =
-    All-from_recursion (λ e. IsShortKey e.0) (rows_in table keys es w)
-    (all_applied IsShortKey (filter (λ c. matches table keys c.0) w) (insert_all [] (filter_map (row_taken table keys) es))
-    (all_chosen {X = Option Row} IsShortKey (λ c. matches table keys c.0) w (recursion_from_All (λ c. IsShortKey c.0) w h))
-    (all_inserted IsShortKey (filter_map (row_taken table keys) es) [] (taken_short table keys es is) tt))
+-- and those of rows with writes over them are short where both are
+pub rows_short : (found : State) (p : Key × Option Row → Bool) (w : Net) → All (λ e. IsShortKey e.0) found → All (λ c. IsShortKey c.0) w → All (λ e. IsShortKey e.0) (apply_net found (filter p w))
+rows_short found p w f h =
+    All-from_recursion (λ e. IsShortKey e.0) (apply_net found (filter p w))
+    (all_applied IsShortKey (filter p w) found
+    (all_chosen {X = Option Row} IsShortKey p w (recursion_from_All (λ c. IsShortKey c.0) w h))
+    (recursion_from_All (λ e. IsShortKey e.0) found f))
 
 -- ---- UPDATE and DELETE
-
-same_number : (a b : ℕ) → a ≡ b → (a == b) ≡ true
-same_number a b e = grind (arith, nat_tests)
-
-pub own_table : (table : Table) (keys : Keys) (w v : Written) (o : Own) → keys.table ≡ table.number → v ≡ w → v ≡ of_table table keys w o
-own_table table keys w v o same is = is ∙ sym (ap (λ (b : Bool). if b then w else (Err NoTable, o)) (same_number keys.table table.number same))
 
 update_keys : (sets : List Set) (es : State) → keys_of (updates sets es) ≡ map (λ e. e.0) es
 update_keys sets [] = refl
@@ -229,16 +182,13 @@ delete_keys : (es : State) → keys_of (deletions es) ≡ map (λ e. e.0) es
 delete_keys [] = refl
 delete_keys (e ∷ es) = ap (λ l. e.0 ∷ l) (delete_keys es)
 
-pub update_done : (table : Table) (keys : Keys) (sets : List Set) (m : Changes) (w new : Net) (r : Result ℕ Refusal) (cs : Net) (found : State) → keys.table ≡ table.number → sets_fault table [] sets ≡ None → comparisons_fault table keys.comparisons ≡ None
+pub update_done : (table : Table) (keys : Keys) (sets : List Set) (m : Changes) (w new : Net) (r : Result ℕ Refusal) (cs : Net) (found : State)
     → found ≡ filter (λ e. matches table keys e.0) (rows_seen m w) → cs ≡ updates sets found → T (is_sorted key_cmp w) → r ≡ put_answer cs w → OnOk r (new ≡ put_all cs w) → OnErr r (new ≡ w)
-    → ◌≡◌ {A = Written} (r, own m new) (checked_update table keys sets (own m w))
-update_done table keys sets m w new r cs found same no_set no_comparison found_is is sorted answer ok err =
-    own_table table keys _ (r, own m new) (own m w) same (
+    → ◌≡◌ {A = Written} (r, own m new) (update_in table keys sets (own m w))
+update_done table keys sets m w new r cs found found_is is sorted answer ok err =
     put_is m cs w new r sorted answer ok err
     ∙ ap (λ cs. write_keys (keys_of cs) (length cs) (apply_net (rows_seen m w) cs) (own m w)) (is ∙ ap (updates sets) found_is)
     ∙ (λ i. write_keys (update_keys sets kept i) (count i) (apply-updates (matches table keys) sets (rows_seen m w) (sorted_apply w (rows_after [] m) (sorted_base m)) i) (own m w))
-    ∙ sym (λ i. write_if_fits (first_of (no_set i) (no_comparison i)) (write_keys (matching_keys table keys (rows_seen m w)) (length (matching_keys table keys (rows_seen m w))) (update_rows table keys sets (rows_seen m w)) (own m w)) (own m w))
-    )
   where
     kept : State
     kept = filter (λ e. matches table keys e.0) (rows_seen m w)
@@ -246,16 +196,13 @@ update_done table keys sets m w new r cs found same no_set no_comparison found_i
     count : length (updates sets kept) ≡ length (matching_keys table keys (rows_seen m w))
     count = length-map kept (λ e. (e.0, Some (set_all sets e.1))) ∙ sym (length-map kept (λ e. e.0))
 
-pub delete_done : (table : Table) (keys : Keys) (m : Changes) (w new : Net) (r : Result ℕ Refusal) (cs : Net) (found : State) → keys.table ≡ table.number → comparisons_fault table keys.comparisons ≡ None
+pub delete_done : (table : Table) (keys : Keys) (m : Changes) (w new : Net) (r : Result ℕ Refusal) (cs : Net) (found : State)
     → found ≡ filter (λ e. matches table keys e.0) (rows_seen m w) → cs ≡ deletions found → T (is_sorted key_cmp w) → r ≡ put_answer cs w → OnOk r (new ≡ put_all cs w) → OnErr r (new ≡ w)
-    → ◌≡◌ {A = Written} (r, own m new) (checked_delete table keys (own m w))
-delete_done table keys m w new r cs found same no_comparison found_is is sorted answer ok err =
-    own_table table keys _ (r, own m new) (own m w) same (
+    → ◌≡◌ {A = Written} (r, own m new) (delete_from table keys (own m w))
+delete_done table keys m w new r cs found found_is is sorted answer ok err =
     put_is m cs w new r sorted answer ok err
     ∙ ap (λ cs. write_keys (keys_of cs) (length cs) (apply_net (rows_seen m w) cs) (own m w)) (is ∙ ap deletions found_is)
     ∙ (λ i. write_keys (delete_keys kept i) (count i) (apply-deletions (matches table keys) (rows_seen m w) (sorted_apply w (rows_after [] m) (sorted_base m)) i) (own m w))
-    ∙ sym (λ i. write_if_fits (no_comparison i) (write_keys (matching_keys table keys (rows_seen m w)) (length (matching_keys table keys (rows_seen m w))) (delete_rows table keys (rows_seen m w)) (own m w)) (own m w))
-    )
   where
     kept : State
     kept = filter (λ e. matches table keys e.0) (rows_seen m w)

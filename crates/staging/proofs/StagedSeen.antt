@@ -27,7 +27,8 @@ use Rattle.eventlist.specs.Overtaking.{overtakes}
 use Rattle.eventlist.specs.Listing.{stands_at, standing}
 use Rattle.staging.proofs.ViewKeyTable.{is_of_table}
 use Rattle.staging.specs.Own.{rows_seen}
-use Rattle.staging.specs.Staged.{row_taken, rows_in}
+use Rattle.staging.specs.Staged.{rows_in}
+use Rattle.searchrange.specs.Search.{entry_taken}
 use Rattle.eventlist.proofs.PlaceOrder.{sorted_head, is_lower}
 use Rattle.eventlist.proofs.OvertakingNext.{not_earlier, not_itself, overtakes_is, is_overtakes, never}
 use Rattle.staging.proofs.StagedEntries.{upon, apply-filter, lookup-filter, same_key}
@@ -93,18 +94,18 @@ equal a b e = grind (arith, nat_tests)
 
 -- a key of the table is read from its bytes
 read_row : (schema : Schema) (table : Table) (keys : Keys) (c : Point × Option Row) → table_at schema table.number ≡ Some table → IsKeyIn schema c.0.key → (c.0.key.table == table.number) ≡ true
-    → row_taken table keys (event_of c) ≡ (if matches table keys c.0.key then option_map (λ row. (c.0.key, row)) c.1 else None)
+    → entry_taken table keys (event_of c) ≡ (if matches table keys c.0.key then option_map (λ row. (c.0.key, row)) c.1 else None)
 read_row schema table keys c at hc is =
     ap (λ (o : Option Key). elim o [ None ↦ None | Some k ↦ if matches table keys k then option_map (λ row. (k, row)) c.1 else None ])
     (key_back table c.0.key (own_key schema table c.0.key at (equal c.0.key.table table.number is) hc))
 
 -- the rows of the events that stand are those of the last changes
 taken_is : (schema : Schema) (table : Table) (keys : Keys) (t : ℕ) (m : Changes) → table_at schema table.number ≡ Some table → keys.table ≡ table.number → AreSeen schema t m
-    → filter_map (row_taken table keys) (standing (events_of m) (is_of_table table.number) t) ≡ taken_rest table keys m
+    → filter_map (entry_taken table keys) (standing (events_of m) (is_of_table table.number) t) ≡ taken_rest table keys m
 taken_is schema table keys t [] at same h = refl
 taken_is schema table keys t (c ∷ cs) at same h =
-    ap (filter_map (row_taken table keys)) (standing_cons table.number t (event_of c) (events_of cs) h.sorted)
-    ∙ ap (λ b. filter_map (row_taken table keys) (cond (is_of_table table.number (bytes_of_key c.0.key) && b) (event_of c ∷ rest) rest))
+    ap (filter_map (entry_taken table keys)) (standing_cons table.number t (event_of c) (events_of cs) h.sorted)
+    ∙ ap (λ b. filter_map (entry_taken table keys) (cond (is_of_table table.number (bytes_of_key c.0.key) && b) (event_of c ∷ rest) rest))
     (λ i. in_time c.0.instant t h.upto.0 i && (is_some c.1 && not (overtaken_is schema t c cs cs h.keys.0 h.keys.1 h.upto.1 (sorted_head event_cmp (event_of c) (events_of cs) h.sorted) i)))
     ∙ by (c.0.key.table == table.number) c.1 refl refl
     ∙ ap (cons_option (taken_at table keys c cs)) (taken_is schema table keys t cs at same (rest_seen schema t c cs h))
@@ -113,19 +114,19 @@ taken_is schema table keys t (c ∷ cs) at same h =
     rest = standing (events_of cs) (is_of_table table.number) t
 
     by : (b : Bool) (o : Option Row) → (c.0.key.table == table.number) ≡ b → c.1 ≡ o
-        → filter_map (row_taken table keys) (cond ((c.0.key.table == table.number) && (true && (is_some c.1 && not (has_later c.0.key cs)))) (event_of c ∷ rest) rest) ≡ cons_option (taken_at table keys c cs) (filter_map (row_taken table keys) rest)
+        → filter_map (entry_taken table keys) (cond ((c.0.key.table == table.number) && (true && (is_some c.1 && not (has_later c.0.key cs)))) (event_of c ∷ rest) rest) ≡ cons_option (taken_at table keys c cs) (filter_map (entry_taken table keys) rest)
     by false o is row =
-        ap (λ b. filter_map (row_taken table keys) (cond (b && (true && (is_some c.1 && not (has_later c.0.key cs)))) (event_of c ∷ rest) rest)) is
-        ∙ sym (ap (λ b. cons_option (if b && not (has_later c.0.key cs) then option_map (λ row. (c.0.key, row)) c.1 else None) (filter_map (row_taken table keys) rest)) (other_table table keys c.0.key same is))
+        ap (λ b. filter_map (entry_taken table keys) (cond (b && (true && (is_some c.1 && not (has_later c.0.key cs)))) (event_of c ∷ rest) rest)) is
+        ∙ sym (ap (λ b. cons_option (if b && not (has_later c.0.key cs) then option_map (λ row. (c.0.key, row)) c.1 else None) (filter_map (entry_taken table keys) rest)) (other_table table keys c.0.key same is))
     by true None is row =
-        (λ i. filter_map (row_taken table keys) (cond (is i && (true && (is_some (row i) && not (has_later c.0.key cs)))) (event_of c ∷ rest) rest))
+        (λ i. filter_map (entry_taken table keys) (cond (is i && (true && (is_some (row i) && not (has_later c.0.key cs)))) (event_of c ∷ rest) rest))
         ∙ sym (nothing (matches table keys c.0.key && not (has_later c.0.key cs)) ∙ refl)
       where
-        nothing : (b : Bool) → cons_option (if b then option_map (λ row. (c.0.key, row)) c.1 else None) (filter_map (row_taken table keys) rest) ≡ filter_map (row_taken table keys) rest
-        nothing true = ap (λ o. cons_option (option_map (λ row. (c.0.key, row)) o) (filter_map (row_taken table keys) rest)) row
+        nothing : (b : Bool) → cons_option (if b then option_map (λ row. (c.0.key, row)) c.1 else None) (filter_map (entry_taken table keys) rest) ≡ filter_map (entry_taken table keys) rest
+        nothing true = ap (λ o. cons_option (option_map (λ row. (c.0.key, row)) o) (filter_map (entry_taken table keys) rest)) row
         nothing false = refl
     by true (Some r) is row =
-        (λ i. filter_map (row_taken table keys) (cond (is i && (true && (is_some (row i) && not (has_later c.0.key cs)))) (event_of c ∷ rest) rest)) ∙ last (has_later c.0.key cs)
+        (λ i. filter_map (entry_taken table keys) (cond (is i && (true && (is_some (row i) && not (has_later c.0.key cs)))) (event_of c ∷ rest) rest)) ∙ last (has_later c.0.key cs)
       where
         none_taken : (b : Bool) → (b && false) ≡ false
         none_taken true = refl
@@ -135,12 +136,12 @@ taken_is schema table keys t (c ∷ cs) at same h =
         all_taken true = refl
         all_taken false = refl
 
-        last : (b : Bool) → filter_map (row_taken table keys) (cond (not b) (event_of c ∷ rest) rest)
-            ≡ cons_option (if matches table keys c.0.key && not b then option_map (λ row. (c.0.key, row)) c.1 else None) (filter_map (row_taken table keys) rest)
-        last true = sym (ap (λ b. cons_option (if b then option_map (λ row. (c.0.key, row)) c.1 else None) (filter_map (row_taken table keys) rest)) (none_taken (matches table keys c.0.key)))
+        last : (b : Bool) → filter_map (entry_taken table keys) (cond (not b) (event_of c ∷ rest) rest)
+            ≡ cons_option (if matches table keys c.0.key && not b then option_map (λ row. (c.0.key, row)) c.1 else None) (filter_map (entry_taken table keys) rest)
+        last true = sym (ap (λ b. cons_option (if b then option_map (λ row. (c.0.key, row)) c.1 else None) (filter_map (entry_taken table keys) rest)) (none_taken (matches table keys c.0.key)))
         last false =
-            ap (λ o. cons_option o (filter_map (row_taken table keys) rest)) (read_row schema table keys c at h.keys.0 is)
-            ∙ sym (ap (λ b. cons_option (if b then option_map (λ row. (c.0.key, row)) c.1 else None) (filter_map (row_taken table keys) rest)) (all_taken (matches table keys c.0.key)))
+            ap (λ o. cons_option o (filter_map (entry_taken table keys) rest)) (read_row schema table keys c at h.keys.0 is)
+            ∙ sym (ap (λ b. cons_option (if b then option_map (λ row. (c.0.key, row)) c.1 else None) (filter_map (entry_taken table keys) rest)) (all_taken (matches table keys c.0.key)))
 
 -- ---- and these are the rows that the changes leave
 
@@ -229,7 +230,7 @@ sorted_inserted [] s h = h
 sorted_inserted (e ∷ es) s h = sorted_inserted es _ (sorted_insert key_cmp_total s e.0 e.1 h)
 
 base_is : (schema : Schema) (table : Table) (keys : Keys) (t : ℕ) (m : Changes) → table_at schema table.number ≡ Some table → keys.table ≡ table.number → AreSeen schema t m
-    → insert_all [] (filter_map (row_taken table keys) (standing (events_of m) (is_of_table table.number) t)) ≡ filter (λ e. matches table keys e.0) (rows_after [] m)
+    → insert_all [] (filter_map (entry_taken table keys) (standing (events_of m) (is_of_table table.number) t)) ≡ filter (λ e. matches table keys e.0) (rows_after [] m)
 base_is schema table keys t m at same h =
     ap (insert_all []) (taken_is schema table keys t m at same h)
     ∙ same_map key_cmp_total key_cmp-IsAntisymmetric (insert_all [] (taken_rest table keys m)) (filter (λ e. matches table keys e.0) (rows_after [] m))

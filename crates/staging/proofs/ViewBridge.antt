@@ -25,7 +25,7 @@ use Rattle.values.specs.KeyEncoding.{bytes_of_key}
 use Rattle.values.specs.KeyEncodingLaw.{IsStorable, AreKeyParts}
 use Rattle.values.specs.RowEncoding.{IsHeld}
 use Rattle.values.specs.KeyReading.{IsKeyOf}
-use Rattle.values.specs.Events.{bytes_cmp, is_bytes, event_cmp, event_of, events_of, IsKeyOfAny, IsKeyIn, AreKeysIn, later, event_until, row_until}
+use Rattle.values.specs.Events.{bytes_cmp, is_bytes, event_cmp, event_of, events_of, IsKeyOfAny, IsKeyIn, AreKeysIn, AreChangesIn, later, event_until, row_until}
 use Rattle.values.proofs.OrderTotal.{key_cmp_total, first, second}
 use Rattle.values.proofs.LogStates.{row_at-set_row, sorted_set_row}
 use Rattle.values.proofs.KeyOrder.{byte_order_is_key_order}
@@ -73,17 +73,17 @@ pub record AreSeen (schema : Schema) (t : ℕ) (m : Changes) : Type 0 where
   pub upto : AllByRecursion (λ c. c.0.instant ≤ t) m
   pub sorted : IsStrictlySortedBy event_cmp (events_of m)
 
+pub keyed_changes : (schema : Schema) (cs : Changes) → AreChangesIn schema cs → AllByRecursion (λ c. IsKeyIn schema c.0.key) cs
+keyed_changes schema [] h = tt
+keyed_changes schema (c ∷ cs) h = (All-head (λ (p : Point). IsKeyIn schema p.key) c.0 (keys_of cs) h, keyed_changes schema cs (All-tail (λ (p : Point). IsKeyIn schema p.key) c.0 (keys_of cs) h))
+
 pub are_seen : (schema : Schema) (view : TreeState) (t : ℕ) (m : Changes) → Holds schema view m → IsStrictlySortedBy event_cmp (events view) → All (λ e. e.at ≤ t) (events view) → AreSeen schema t m
 are_seen schema view t m held sorted upto = record {
-  keys = keyed m held.keys;
+  keys = keyed_changes schema m held.keys;
   upto = timed m (subst (All (λ e. e.at ≤ t)) held.events_are upto);
   sorted = subst (IsStrictlySortedBy event_cmp) held.events_are sorted;
 }
   where
-    keyed : (cs : Changes) → All (λ p. IsKeyIn schema p.key) (keys_of cs) → AllByRecursion (λ c. IsKeyIn schema c.0.key) cs
-    keyed [] h = tt
-    keyed (c ∷ cs) h = (All-head (λ (p : Point). IsKeyIn schema p.key) c.0 (keys_of cs) h, keyed cs (All-tail (λ (p : Point). IsKeyIn schema p.key) c.0 (keys_of cs) h))
-
     timed : (cs : Changes) → All (λ e. e.at ≤ t) (events_of cs) → AllByRecursion (λ c. c.0.instant ≤ t) cs
     timed [] h = tt
     timed (c ∷ cs) h = (All-head (λ (e : Event). e.at ≤ t) (event_of c) (events_of cs) h, timed cs (All-tail (λ (e : Event). e.at ≤ t) (event_of c) (events_of cs) h))

@@ -15,15 +15,17 @@ use Rattle.values.specs.Tables.{Schema, table_at}
 use Rattle.values.specs.Versions.{matches}
 use Rattle.values.specs.KeyEncoding.{bytes_of_key, part_bytes}
 use Rattle.values.specs.KeyReading.{IsKeyOf, key_from, whole_key, parts_from}
-use Rattle.values.specs.Events.{events_of, IsKeyIn, AreChangesIn}
+use Rattle.values.specs.Events.{event_of, events_of, IsKeyIn, AreChangesIn}
 use Rattle.values.proofs.KeyReads.{key_back}
 use Rattle.keyrange.specs.declared.range.KeyRange.{KeyRange}
 use Rattle.keyrange.specs.Range.{is_key_in}
 use Rattle.eventlist.specs.Listing.{stands_at}
-use Rattle.searchrange.specs.SearchRange.{Covers}
+use Rattle.searchrange.specs.SearchRange.{range_of_table, Covers, IsWithin}
+use Rattle.searchrange.specs.Search.{IsInSearch}
+use Rattle.searchrange.proofs.SearchOwn.{own_number}
 use Rattle.staging.proofs.ViewKeyTable.{is_of_table}
 use Rattle.staging.proofs.ViewBridge.{own_key}
-use Rattle.staging.specs.Staged.{row_taken}
+use Rattle.searchrange.specs.Search.{entry_taken}
 
 clash : ◌≡◌ {A = Bool} true false → ⊥
 clash h = cc
@@ -68,7 +70,7 @@ module _ (schema : Schema) (table : Table) (keys : Keys) (range : KeyRange) (cov
 -- ---- rows
 
 module _ (table : Table) (keys : Keys) where
-  pub no_row : (e : Event) → IsOut table keys e.key → row_taken table keys e ≡ None
+  pub no_row : (e : Event) → IsOut table keys e.key → entry_taken table keys e ≡ None
   no_row e out = by (key_from table e.key) refl
     where
       by : (o : Option Key) → key_from table e.key ≡ o → ◌≡◌ {A = Option (Key × Row)} (elim o [ None ↦ None | Some k ↦ cond (matches table keys k) (option_map (λ row. (k, row)) e.row) None ]) None
@@ -89,7 +91,7 @@ module _ (table : Table) (keys : Keys) where
 
   -- a test that leaves out such events alone leaves out no row
   pub narrowed : (p : List ℕ → Bool) (t : ℕ) (es ds : List Event) → AllByRecursion (λ e. p e.key ≡ false → IsOut table keys e.key) ds
-      → filter_map (row_taken table keys) (filter (λ e. p e.key && stands_at es t e) ds) ≡ filter_map (row_taken table keys) (filter (stands_at es t) ds)
+      → filter_map (entry_taken table keys) (filter (λ e. p e.key && stands_at es t e) ds) ≡ filter_map (entry_taken table keys) (filter (stands_at es t) ds)
   narrowed p t es [] h = refl
   narrowed p t es (e ∷ ds) h = by (p e.key) refl (narrowed p t es ds h.1)
     where
@@ -99,15 +101,37 @@ module _ (table : Table) (keys : Keys) where
       after : List Event
       after = filter (stands_at es t) ds
 
-      by : (b : Bool) → p e.key ≡ b → filter_map (row_taken table keys) before ≡ filter_map (row_taken table keys) after
-          → filter_map (row_taken table keys) (cond (p e.key && stands_at es t e) (e ∷ before) before) ≡ filter_map (row_taken table keys) (cond (stands_at es t e) (e ∷ after) after)
-      by true is rest = ap (λ b. filter_map (row_taken table keys) (cond (b && stands_at es t e) (e ∷ before) before)) is ∙ kept (stands_at es t e)
+      by : (b : Bool) → p e.key ≡ b → filter_map (entry_taken table keys) before ≡ filter_map (entry_taken table keys) after
+          → filter_map (entry_taken table keys) (cond (p e.key && stands_at es t e) (e ∷ before) before) ≡ filter_map (entry_taken table keys) (cond (stands_at es t e) (e ∷ after) after)
+      by true is rest = ap (λ b. filter_map (entry_taken table keys) (cond (b && stands_at es t e) (e ∷ before) before)) is ∙ kept (stands_at es t e)
         where
-          kept : (s : Bool) → filter_map (row_taken table keys) (cond s (e ∷ before) before) ≡ filter_map (row_taken table keys) (cond s (e ∷ after) after)
-          kept true = ap (cons_option (row_taken table keys e)) rest
+          kept : (s : Bool) → filter_map (entry_taken table keys) (cond s (e ∷ before) before) ≡ filter_map (entry_taken table keys) (cond s (e ∷ after) after)
+          kept true = ap (cons_option (entry_taken table keys e)) rest
           kept false = rest
-      by false is rest = ap (λ b. filter_map (row_taken table keys) (cond (b && stands_at es t e) (e ∷ before) before)) is ∙ rest ∙ sym (dropped (stands_at es t e))
+      by false is rest = ap (λ b. filter_map (entry_taken table keys) (cond (b && stands_at es t e) (e ∷ before) before)) is ∙ rest ∙ sym (dropped (stands_at es t e))
         where
-          dropped : (s : Bool) → filter_map (row_taken table keys) (cond s (e ∷ after) after) ≡ filter_map (row_taken table keys) after
-          dropped true = ap (λ o. cons_option o (filter_map (row_taken table keys) after)) (no_row e (h.0 is))
+          dropped : (s : Bool) → filter_map (entry_taken table keys) (cond s (e ∷ after) after) ≡ filter_map (entry_taken table keys) after
+          dropped true = ap (λ o. cons_option o (filter_map (entry_taken table keys) after)) (no_row e (h.0 is))
           dropped false = refl
+
+-- ---- events in a search range are of the table
+
+module _ (schema : Schema) (table : Table) (range : KeyRange) (within : IsWithin range (range_of_table table.number)) (is_table : table_at schema table.number ≡ Some table) where
+  own_in : (key : Key) → IsKeyIn schema key → is_key_in range (bytes_of_key key) ≡ true → IsInSearch table range (bytes_of_key key)
+  own_in key own inside small = record {
+    key = key;
+    own = record { is_key = own_key schema table key is_table (own_number table.number key.table (flat_map part_bytes key.parts) small (within (bytes_of_key key) inside)) own; bytes_are = refl };
+    inside = inside;
+  }
+
+  -- what a test lets pass of the events that stand for changes, if it lets none pass out of the range
+  pub in_search : (test : Event → Bool) → ((e : Event) → test e ≡ true → is_key_in range e.key ≡ true) → (m : Changes) → AreChangesIn schema m → AllByRecursion (λ e. IsInSearch table range e.key) (filter test (events_of m))
+  in_search test inside [] h = tt
+  in_search test inside (c ∷ cs) h = by (test (event_of c)) refl (in_search test inside cs (All-tail (λ (p : Point). IsKeyIn schema p.key) c.0 (keys_of cs) h))
+    where
+      rest : List Event
+      rest = filter test (events_of cs)
+
+      by : (b : Bool) → test (event_of c) ≡ b → AllByRecursion (λ e. IsInSearch table range e.key) rest → AllByRecursion (λ e. IsInSearch table range e.key) (cond b (event_of c ∷ rest) rest)
+      by true is more = (own_in c.0.key (All-head (λ (p : Point). IsKeyIn schema p.key) c.0 (keys_of cs) h) (inside (event_of c) is), more)
+      by false is more = more

@@ -1,14 +1,11 @@
 -- What a transaction does: what it sees, what a write answers, and what it leaves.
-use Rattle.std.specs.Prelude.{◌≡◌, ◌≢◌, ℕ, List, [], ◌==◌, Option, Some, None, Result, Err, if◌then◌else◌, map}
+use Rattle.std.specs.Prelude.{◌≡◌, ◌≢◌, ℕ, [], Some, Result, Err, map}
 use Rattle.values.specs.declared.table.Table.{Table}
-use Rattle.values.specs.declared.query.Keys.{Keys}
-use Rattle.values.specs.declared.query.Set.{Set}
 use Rattle.values.specs.declared.refusal.Refusal.{Refusal}
-use Rattle.values.specs.declared.refusal.Refusal.TheVariants.{NoTable, BadRow, Memory}
+use Rattle.values.specs.declared.refusal.Refusal.TheVariants.{Memory}
 use Rattle.values.specs.Tables.{Schema, table_at}
-use Rattle.values.specs.Log.{Changes, State, Net, Row, apply_net, rows_after}
-use Rattle.values.specs.Fit.{rows_fault, comparisons_fault, update_fault}
-use Rattle.values.specs.Writes.{Own, Written, insert_into, update_in, delete_from, net_of}
+use Rattle.values.specs.Log.{Changes, State, Net, apply_net, rows_after}
+use Rattle.values.specs.Writes.{Own, Written, net_of}
 use Rattle.values.specs.Events.{AreKeysIn}
 use Rattle.tsbtree.specs.View.{TreeState}
 use Rattle.staging.specs.View.{Holds}
@@ -39,25 +36,3 @@ WhenRead table view writes P =
 -- unless memory ran out, a call that leaves these writes over the changes answers and leaves this
 abbrev pub IsAnswered : Result ℕ Refusal → Changes → Net → Written → Type 0
 IsAnswered result m writes written = result ≢ Err Memory → (result, own m writes) ≡ written
-
--- a write, unless a column does not fit
-abbrev pub write_if_fits : Option ℕ → Written → Own → Written
-write_if_fits (Some column) w o = (Err (BadRow column), o)
-write_if_fits None w o = w
-
-abbrev pub checked_insert : Table → List Row → Own → Written
-checked_insert table rows o = write_if_fits (rows_fault table rows) (insert_into table rows o) o
-
--- of the rows of another table there are none here
-abbrev pub of_table : Table → Keys → Written → Own → Written
-of_table table keys w o = if keys.table == table.number then w else (Err NoTable, o)
-
-abbrev pub checked_update : Table → Keys → List Set → Own → Written
-checked_update table keys sets o =
-    of_table table keys
-    (write_if_fits (update_fault table keys sets) (update_in table keys sets o) o) o
-
-abbrev pub checked_delete : Table → Keys → Own → Written
-checked_delete table keys o =
-    of_table table keys
-    (write_if_fits (comparisons_fault table keys.comparisons) (delete_from table keys o) o) o

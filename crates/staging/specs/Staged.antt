@@ -1,6 +1,5 @@
 -- What a transaction's calls make of its own writes and of the events of its view.
-use Rattle.std.specs.Prelude.{ℕ, List, [], ◌∷◌, ◌++◌, ◌||◌, Bool, Option, Some, None, Result, Ok, Err, nat_lt, if◌then◌else◌, length, map, filter, is_some}
-use Rattle.std.specs.Option.{option_map}
+use Rattle.std.specs.Prelude.{ℕ, List, [], ◌∷◌, ◌++◌, ◌||◌, Bool, Option, Some, None, Result, Ok, Err, nat_lt, if◌then◌else◌, length, map, filter, is_some, All}
 use Rattle.std.specs.List.{list_any, filter_map}
 use Rattle.std.specs.BTreeMap.{insert_entry, is_at}
 use Rattle.std.specs.Map.{lookup, set_value, remove_entry}
@@ -16,8 +15,9 @@ use Rattle.values.specs.Log.{State, Net, Row, apply_net}
 use Rattle.values.specs.Versions.{matches}
 use Rattle.values.specs.Writes.{most_written, set_all, insert_all}
 use Rattle.values.specs.KeyEncoding.{bytes_of_key}
-use Rattle.values.specs.KeyReading.{key_from}
 use Rattle.values.specs.Events.{row_until}
+use Rattle.keyrange.specs.declared.range.KeyRange.{KeyRange}
+use Rattle.searchrange.specs.Search.{IsInSearch, entry_taken}
 
 -- changes over earlier ones, in turn
 abbrev pub put_all : Net → Net → Net
@@ -70,17 +70,14 @@ first_seen has earlier [] = None
 first_seen has earlier (k ∷ ks) =
     if has k || list_any (is_key k) earlier then Some k else first_seen has (earlier ++ k ∷ []) ks
 
--- an event's row with its key, where the keys take it
-abbrev pub row_taken : Table → Keys → Event → Option (Key × Row)
-row_taken table keys e = elim (key_from table e.key) [
-  | None ↦ None
-  | Some k ↦ if matches table keys k then option_map (λ row. (k, row)) e.row else None
-]
+-- the events' keys are of the table and in the range
+abbrev pub AreInSearch : Table → KeyRange → List Event → Type 0
+AreInSearch table range es = All (λ e. IsInSearch table range e.key) es
 
 -- the rows of events that the keys take, and the writes that they take over them
 abbrev pub rows_in : Table → Keys → List Event → Net → State
 rows_in table keys es w =
-    apply_net (insert_all [] (filter_map (row_taken table keys) es))
+    apply_net (insert_all [] (filter_map (entry_taken table keys) es))
     (filter (λ c. matches table keys c.0) w)
 
 -- what was written, without the keys that have no row both then and by the events until an instant

@@ -1,34 +1,29 @@
 //! DELETE.
 ghost use Rattle.std.specs.Prelude.{◌≡◌, IfOk, OnErr};
-ghost use Rattle.values.specs.Tables.{IsTable};
+ghost use Rattle.values.specs.Writes.{delete_from};
 ghost use Rattle.values.specs.Events.{AreKeysIn};
-ghost use Rattle.staging.specs.Own.{WhenRead, IsAnswered, own, checked_delete};
+ghost use Rattle.staging.specs.Own.{WhenRead, IsAnswered, own};
 ghost use Rattle.staging.specs.Staged.{deletions};
 
 use crate::staged::Staged;
+use searchrange::Search;
 use std::alloc::{AllocError, Global};
 use std::collections::BTreeMap;
 use tsbtree::View;
-use values::{Key, Keys, Refusal, Row, Table};
+use values::{FittingKeys, Key, Refusal, Row};
 
 impl Staged {
-    /// Deletes the rows whose keys meet all comparisons, and answers their number. `NoTable` where the keys are of another table,
-    /// `BadRow` where a comparison does not fit, `TooManyWrites` where the transaction would have written over 1,000 keys. After a refusal nothing has changed.
-    pub fn delete(&mut self, view: &View, table: &Table, keys: &Keys) -> Result<usize, Refusal>
-        requires { IsTable table.now.number table.now }
-        ensures answers { WhenRead table.now view.now self.old (λ schema m.
-            IsAnswered result m self.new (checked_delete table.now keys.now (own m self.old))) }
-        ensures keys { WhenRead table.now view.now self.old (λ schema m.
+    /// Deletes the rows that keys take.
+    pub(crate) fn delete(&mut self, view: &View, keys: FittingKeys<'_>) -> Result<usize, Refusal>
+        ensures answers { WhenRead keys.entry.table.now view.now self.old (λ schema m.
+            IsAnswered result m self.new
+            (delete_from keys.entry.table.now keys.entry.keys.now (own m self.old))) }
+        ensures keys { WhenRead keys.entry.table.now view.now self.old (λ schema m.
             AreKeysIn schema self.new) }
         ensures refused { OnErr result (self.new ≡ self.old) }
     {
-        if keys.table != table.number {
-            return Err(Refusal::NoTable);
-        }
-        if let Err(refusal) = table.check_comparisons(keys.comparisons.items()) {
-            return Err(refusal);
-        }
-        let found = self.rows_found(view, view.last(), table, keys)?;
+        let search = Search::new(self.alloc, keys)?;
+        let found = self.rows(view, &search)?;
         let changes = deletions(self.alloc, &found)?;
         self.put(changes)
     }

@@ -4,9 +4,9 @@ ghost use Rattle.values.specs.Tables.{IsTable};
 ghost use Rattle.values.specs.Fit.{rows_fault};
 ghost use Rattle.values.specs.Memory.{OnlyMemory};
 ghost use Rattle.values.specs.KeyReading.{IsKeyOf};
-ghost use Rattle.values.specs.Writes.{key_of};
+ghost use Rattle.values.specs.Writes.{insert_into, key_of};
 ghost use Rattle.values.specs.Events.{AreKeysIn};
-ghost use Rattle.staging.specs.Own.{WhenRead, IsAnswered, own, checked_insert};
+ghost use Rattle.staging.specs.Own.{WhenRead, IsAnswered, own};
 ghost use Rattle.staging.specs.Staged.{insertions};
 
 use crate::staged::Staged;
@@ -15,19 +15,21 @@ use tsbtree::View;
 use values::{Key, Mem, Refusal, Row, Table};
 
 impl Staged {
-    /// Inserts rows of a table, and answers their number. `BadRow` where one does not fit, `DuplicateKey` for the first whose key the transaction sees or an earlier one has,
-    /// `TooManyWrites` where it would have written over 1,000 keys. After a refusal nothing has changed.
-    pub fn insert(&mut self, view: &View, table: &Table, rows: &[Row]) -> Result<usize, Refusal>
-        requires { IsTable table.now.number table.now }
+    /// Inserts rows that fit their table.
+    pub(crate) fn insert(
+        &mut self,
+        view: &View,
+        table: &Table,
+        rows: &[Row],
+    ) -> Result<usize, Refusal>
+        requires good { IsTable table.now.number table.now }
+        requires fit { rows_fault table.now rows.now ≡ None }
         ensures answers { WhenRead table.now view.now self.old (λ schema m.
-            IsAnswered result m self.new (checked_insert table.now rows.now (own m self.old))) }
+            IsAnswered result m self.new (insert_into table.now rows.now (own m self.old))) }
         ensures keys { WhenRead table.now view.now self.old (λ schema m.
             AreKeysIn schema self.new) }
         ensures refused { OnErr result (self.new ≡ self.old) }
     {
-        if let Err(refusal) = table.check_rows(rows) {
-            return Err(refusal);
-        }
         let keys = keys_of(self.alloc, table, rows)?;
         if let Some(key) = self.first_seen(view, view.last(), &keys)? {
             return Err(Refusal::DuplicateKey(key));

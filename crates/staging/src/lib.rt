@@ -7,6 +7,7 @@ mod insert;
 mod net;
 mod staged;
 mod update;
+mod write;
 
 pub use net::Net;
 pub use staged::Staged;

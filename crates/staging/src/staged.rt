@@ -2,7 +2,7 @@
 ghost use Rattle.std.specs.Prelude.{◌≡◌, ◌≢◌, ◌<◌, ◌≤◌, ◌||◌, [], All, None, IfOk, IfErr, OnOk, OnErr, Result, Err, filter, is_some, length};
 ghost use Rattle.std.specs.BTreeMap.{IsOrdered, insert_entry};
 ghost use Rattle.std.specs.Map.{keys_of};
-ghost use Rattle.std.specs.List.{filter_map, list_any};
+ghost use Rattle.std.specs.List.{cons_option, filter_map, list_any};
 ghost use Rattle.std.specs.List.Sorted.{IsStrictlySortedBy};
 ghost use Rattle.values.specs.Log.{Changes, row_at, set_row, apply_net};
 ghost use Rattle.values.specs.Order.{key_cmp, is_key};
@@ -13,17 +13,15 @@ ghost use Rattle.values.specs.Writes.{most_written, insert_all};
 ghost use Rattle.values.specs.KeyEncoding.{IsShortKey, bytes_of_key};
 ghost use Rattle.values.specs.Fit.{key_fault};
 ghost use Rattle.values.specs.Events.{AreKeysIn, row_until};
-ghost use Rattle.keyrange.specs.Range.{is_key_in};
-ghost use Rattle.eventlist.specs.Listing.{standing};
 ghost use Rattle.tsbtree.specs.View.{events};
-ghost use Rattle.searchrange.specs.SearchRange.{search_range, Covers};
+ghost use Rattle.searchrange.specs.Search.{entry_taken};
 ghost use Rattle.staging.specs.View.{Holds};
 ghost use Rattle.staging.specs.Own.{WhenRead, rows_seen, net_over};
-ghost use Rattle.staging.specs.Staged.{put_all, put_back_one, put_back, put_answer, row_in, sees, first_seen, row_taken, rows_in, net_in};
+ghost use Rattle.staging.specs.Staged.{put_all, put_back_one, put_back, put_answer, row_in, sees, first_seen, rows_in, net_in, AreInSearch};
 
 use crate::bound::{is_past, least_key};
 use crate::net::Net;
-use searchrange::search_range;
+use searchrange::Search;
 use std::alloc::{AllocError, Global};
 use std::collections::{BTreeMap, BTreeSet};
 use std::marker::Model;
@@ -67,15 +65,18 @@ impl Staged {
         })
     }
 
-    /// By key: the rows that the transaction sees and that the keys of the table take.
-    pub fn rows(&self, view: &View, table: &Table, keys: &Keys) -> Mem<BTreeMap<Key, Row>>
-        ensures ok { IfOk result (λ found. WhenRead table.now view.now self.now (λ schema m.
-            keys.now.table ≡ table.now.number
-            → found.entries
-            ≡ filter (λ e. matches table.now keys.now e.0) (rows_seen m self.now))) }
+    /// Returns, by key, the rows that the transaction sees and that a search takes.
+    pub fn rows(&self, view: &View, search: &Search<'_>) -> Mem<BTreeMap<Key, Row>>
+        ensures ok { IfOk result (λ found. WhenRead search.now.table view.now self.now (λ schema m.
+            found.entries
+            ≡ filter (λ e. matches search.now.table search.now.keys e.0) (rows_seen m self.now))) }
+        ensures short { IfOk result (λ found. All (λ e. IsShortKey e.0) found.entries) }
         ensures err { OnlyMemory result }
     {
-        Ok(self.rows_found(view, view.last(), table, keys)?)
+        let standing = view.standing(self.alloc, search.range(), view.last())?;
+        let mut found = rows_taken(self.alloc, search, &standing)?;
+        put_taken(self.alloc, search.table(), search.keys(), &self.writes, &mut found)?;
+        Ok(found)
     }
 
     /// The row that the transaction sees at a key of the table, which fits it: what the transaction wrote, or else what the view has.
@@ -101,32 +102,6 @@ impl Staged {
     {
         let net = net_of(self.alloc, view, view.last(), &self.writes)?;
         Ok(Net::of(net))
-    }
-
-    /// The rows of the view at an instant, with what was written over them.
-    pub(crate) fn rows_found(
-        &self,
-        view: &View,
-        last: Instant,
-        table: &Table,
-        keys: &Keys,
-    ) -> Mem<BTreeMap<Key, Row>>
-        ensures ok { IfOk result (λ found. found.entries
-            ≡ rows_in table.now keys.now
-            (standing (events view.now) (is_key_in (search_range table.now keys.now)) last)
-            self.now) }
-        ensures covers { OnOk result
-            (Covers table.now keys.now (search_range table.now keys.now)) }
-        ensures err { OnlyMemory result }
-        ensures ordered { OnOk result (IsStrictlySortedBy key_cmp (keys_of self.now)) }
-        ensures short { IsTable table.now.number table.now
-            → IfOk result (λ found. All (λ e. IsShortKey e.0) found.entries) }
-    {
-        let range = search_range(self.alloc, table, keys)?;
-        let standing = view.standing(self.alloc, &range, last)?;
-        let mut found = rows_taken(self.alloc, table, keys, &standing)?;
-        put_taken(self.alloc, table, keys, &self.writes, &mut found)?;
-        Ok(found)
     }
 
     /// The row of a key: what was written, or else what the view has at an instant.
@@ -284,41 +259,37 @@ fn put_back_one(writes: &mut BTreeMap<Key, Option<Row>>, key: &Key, before: Opti
     }
 }
 
-/// The rows of events that the keys take.
+/// The rows of events that a search takes.
 fn rows_taken(
     alloc: Global,
-    table: &Table,
-    keys: &Keys,
+    search: &Search<'_>,
     events: &[SharedEvent],
 ) -> Mem<BTreeMap<Key, Row>>
-    ensures ok { IfOk result (λ found. found.entries
-        ≡ insert_all [] (filter_map (row_taken table.now keys.now) events.now)) }
+    ensures ok { IfOk result (λ found. AreInSearch search.now.table search.now.range events.now
+        → found.entries ≡ insert_all [] (filter_map
+        (entry_taken search.now.table search.now.keys) events.now)) }
+    ensures short { IfOk result (λ found. All (λ e. IsShortKey e.0) found.entries) }
     ensures err { OnlyMemory result }
 {
     let mut found = BTreeMap::new(alloc);
     for event in events {
-        if let Some((key, row)) = row_taken(alloc, table, keys, event.event())? {
-            found.insert(key, row)?;
-        }
+        put_entry(&mut found, search.entry_in(alloc, event.event())?)?;
     }
     Ok(found)
 }
 
-/// An event's row with its key, where the keys take it.
-fn row_taken(alloc: Global, table: &Table, keys: &Keys, event: &Event) -> Mem<Option<(Key, Row)>>
-    ensures ok { IfOk result (λ found. found ≡ row_taken table.now keys.now event.now) }
-    ensures err { OnlyMemory result }
+/// Puts a row at its key, where there is one.
+fn put_entry(
+    rows: &mut BTreeMap<Key, Row>,
+    entry: Option<(Key, Row)>,
+) -> Result<(), AllocError>
+    ensures ok { OnOk result
+        (rows.new.entries ≡ insert_all rows.old.entries (cons_option entry [])) }
 {
-    let Some(key) = read_key(alloc, table, event.key())? else {
-        return Ok(None);
-    };
-    if !keys.matches(table, &key) {
-        return Ok(None);
+    if let Some((key, row)) = entry {
+        rows.insert(key, row)?;
     }
-    match event.row() {
-        Some(row) => Ok(Some((key, row.clone()?))),
-        None => Ok(None),
-    }
+    Ok(())
 }
 
 /// Puts what was written over rows, as far as the keys take it: of the writes, which are in order by key, those are looked at that the first key column can have.

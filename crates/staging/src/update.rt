@@ -1,46 +1,37 @@
 //! UPDATE.
-ghost use Rattle.std.specs.Prelude.{◌≡◌, All, IfOk, OnErr};
+ghost use Rattle.std.specs.Prelude.{◌≡◌, [], All, IfOk, None, OnErr};
 ghost use Rattle.values.specs.RowEncoding.{IsStored};
-ghost use Rattle.values.specs.Tables.{IsTable};
-ghost use Rattle.values.specs.Writes.{set_all};
+ghost use Rattle.values.specs.Fit.{sets_fault};
+ghost use Rattle.values.specs.Writes.{set_all, update_in};
 ghost use Rattle.values.specs.Events.{AreKeysIn};
-ghost use Rattle.staging.specs.Own.{WhenRead, IsAnswered, own, checked_update};
+ghost use Rattle.staging.specs.Own.{WhenRead, IsAnswered, own};
 ghost use Rattle.staging.specs.Staged.{updates};
 
 use crate::staged::Staged;
+use searchrange::Search;
 use std::alloc::{AllocError, Global};
 use std::collections::BTreeMap;
 use tsbtree::View;
-use values::{Key, Keys, Refusal, Row, Set, Table};
+use values::{FittingKeys, Key, Refusal, Row, Set};
 
 impl Staged {
-    /// Sets columns of the rows whose keys meet all comparisons, and answers their number. `NoTable` where the keys are of another table,
-    /// `BadRow` where a set or a comparison does not fit, `TooManyWrites` where the transaction would have written over 1,000 keys. After a refusal nothing has changed.
-    pub fn update(
+    /// Sets columns of the rows that keys take. The new values fit the table.
+    pub(crate) fn update(
         &mut self,
         view: &View,
-        table: &Table,
-        keys: &Keys,
+        keys: FittingKeys<'_>,
         sets: &[Set],
     ) -> Result<usize, Refusal>
-        requires { IsTable table.now.number table.now }
-        ensures answers { WhenRead table.now view.now self.old (λ schema m.
+        requires { sets_fault keys.table.now [] sets.now ≡ None }
+        ensures answers { WhenRead keys.entry.table.now view.now self.old (λ schema m.
             IsAnswered result m self.new
-            (checked_update table.now keys.now sets.now (own m self.old))) }
-        ensures keys { WhenRead table.now view.now self.old (λ schema m.
+            (update_in keys.entry.table.now keys.entry.keys.now sets.now (own m self.old))) }
+        ensures keys { WhenRead keys.entry.table.now view.now self.old (λ schema m.
             AreKeysIn schema self.new) }
         ensures refused { OnErr result (self.new ≡ self.old) }
     {
-        if keys.table != table.number {
-            return Err(Refusal::NoTable);
-        }
-        if let Err(refusal) = table.check_sets(sets) {
-            return Err(refusal);
-        }
-        if let Err(refusal) = table.check_comparisons(keys.comparisons.items()) {
-            return Err(refusal);
-        }
-        let found = self.rows_found(view, view.last(), table, keys)?;
+        let search = Search::new(self.alloc, keys)?;
+        let found = self.rows(view, &search)?;
         let changes = updates(self.alloc, sets, &found)?;
         self.put(changes)
     }

@@ -1,9 +1,9 @@
-use Rattle.std.proofs.Common.{rules, ◌≡◌, ◌<◌, All, sym, subst}
+use Rattle.std.proofs.Common.{rules, ◌≡◌, ◌<◌, All, sym, subst, true}
 use Rattle.std.proofs.lemmas.Result.{IfOk-weaker}
 use Rattle.values.specs.declared.query.Comparison.{Comparison}
 use Rattle.values.specs.KeyEncodingLaw.{IsStorable}
 use Rattle.keyrange.specs.declared.range.KeyRange.{KeyRange}
-use Rattle.searchrange.specs.SearchRange.{search_range, range_of_table, Covers, IsWithin, IsExact}
+use Rattle.searchrange.specs.SearchRange.{search_range, range_of_table, Covers, IsWithin, TakesAll, all_narrow}
 use Rattle.searchrange.proofs.NarrowingCovers.{covers}
 use Rattle.searchrange.proofs.NarrowingExact.{is_exact}
 use Rattle.searchrange.proofs.NarrowingWithin.{within_table}
@@ -15,7 +15,7 @@ returns-clause-covers c =
     let stored : All (λ (c : Comparison). IsStorable c.value) c.args.keys.now.comparisons =
     subst (All (λ (c : Comparison). IsStorable c.value)) c.items.ensures c.read_values.ensures in
     IfOk-weaker c.range_of_keys.result (λ range. range ≡ search_range c.args.table.now c.args.keys.now) (Covers c.args.table.now c.args.keys.now)
-    (λ range e. subst (Covers c.args.table.now c.args.keys.now) (sym e) (covers c.args.table.now c.args.keys.now small stored)) c.range_of_keys.ensures.ok
+    (λ range e. subst (Covers c.args.table.now c.args.keys.now) (sym e) (covers c.args.table.now c.args.keys.now small c.requires.fits stored)) c.range_of_keys.ensures.ok
 
 pub returns-clause-within : goal.returns-clause-within
 returns-clause-within c =
@@ -27,5 +27,5 @@ returns-clause-exact c =
     let small : c.args.table.now.number < 256 = search rules in
     let stored : All (λ (c : Comparison). IsStorable c.value) c.args.keys.now.comparisons =
     subst (All (λ (c : Comparison). IsStorable c.value)) c.items.ensures c.read_values.ensures in
-    IfOk-weaker c.range_of_keys.result (λ range. range ≡ search_range c.args.table.now c.args.keys.now) (IsExact c.args.table.now c.args.keys.now)
-    (λ range e. subst (IsExact c.args.table.now c.args.keys.now) (sym e) (is_exact c.args.table.now c.args.keys.now small stored)) c.range_of_keys.ensures.ok
+    IfOk-weaker c.range_of_keys.result (λ range. range ≡ search_range c.args.table.now c.args.keys.now) (λ range. all_narrow c.args.table.now c.args.keys.now.comparisons ≡ true → TakesAll c.args.table.now c.args.keys.now range)
+    (λ range e narrow. subst (TakesAll c.args.table.now c.args.keys.now) (sym e) (is_exact c.args.table.now c.args.keys.now small c.requires.good c.requires.own c.requires.fits stored narrow)) c.range_of_keys.ensures.ok

@@ -1,0 +1,66 @@
+-- What a search condition takes of a table.
+use Rattle.std.specs.Prelude.{◌≡◌, ℕ, ◌<◌, List, Option, Some, None, Bool, true, false, if◌then◌else◌}
+use Rattle.std.specs.Option.{option_map}
+use Rattle.values.specs.declared.key.Key.{Key}
+use Rattle.values.specs.declared.table.Table.{Table}
+use Rattle.values.specs.declared.query.Keys.{Keys}
+use Rattle.values.specs.Event.{Event}
+use Rattle.values.specs.Log.{Row}
+use Rattle.values.specs.Tables.{IsTable}
+use Rattle.values.specs.Versions.{matches}
+use Rattle.values.specs.KeyReading.{IsKeyWith, key_from}
+use Rattle.keyrange.specs.declared.range.KeyRange.{KeyRange}
+use Rattle.keyrange.specs.Range.{is_key_in}
+use Rattle.searchrange.specs.SearchRange.{search_range, range_of_table, Covers, IsWithin, TakesAll}
+
+-- a table, the keys that are asked for, and the range that they leave
+pub record SearchState : Type 0 where
+  pub table : Table
+  pub keys : Keys
+  pub range : KeyRange
+
+-- what is true of every search, of one besides whose condition each key of the range meets; the range
+-- of table 255 has no end, so that nothing is said of it
+pub record IsSearch (table : Table) (keys : Keys) (range : KeyRange) (is_exact : Bool)
+    : Type 0 where
+  pub good : IsTable table.number table
+  pub own : keys.table ≡ table.number
+  pub range_is : range ≡ search_range table keys
+  pub covers : Covers table keys range
+  pub within : IsWithin range (range_of_table table.number)
+  pub small : is_exact ≡ true → table.number < 255
+  pub exact : is_exact ≡ true → TakesAll table keys range
+
+-- the bytes are of a key of the table, in the range
+pub record IsOwnKey (table : Table) (range : KeyRange) (bytes : List ℕ) : Type 0 where
+  pub key : Key
+  pub own : IsKeyWith table bytes key
+  pub inside : is_key_in range bytes ≡ true
+
+abbrev pub IsInSearch : Table → KeyRange → List ℕ → Type 0
+IsInSearch table range bytes = table.number < 255 → IsOwnKey table range bytes
+
+-- the table's key with these bytes, where the condition takes it
+abbrev pub key_taken : Table → Keys → List ℕ → Option Key
+key_taken table keys bytes = elim (key_from table bytes) [
+  | None ↦ None
+  | Some key ↦ if matches table keys key then Some key else None
+]
+
+-- the bytes are of a key that the condition takes
+abbrev pub is_taken : Table → Keys → List ℕ → Bool
+is_taken table keys bytes = elim (key_from table bytes) [
+  | None ↦ false
+  | Some key ↦ matches table keys key
+]
+
+-- an event's row, where the condition takes its key
+abbrev pub row_taken : Table → Keys → Event → Option Row
+row_taken table keys e = if is_taken table keys e.key then e.row else None
+
+-- and the key before it
+abbrev pub entry_taken : Table → Keys → Event → Option (Key × Row)
+entry_taken table keys e = elim (key_from table e.key) [
+  | None ↦ None
+  | Some k ↦ if matches table keys k then option_map (λ row. (k, row)) e.row else None
+]

@@ -1,0 +1,153 @@
+//! What a search condition takes of a table: a range of keys, and those of them that meet it.
+ghost use Rattle.std.specs.Prelude.{◌≡◌, IfOk, IfSome};
+ghost use Rattle.values.specs.Tables.{IsTable};
+ghost use Rattle.values.specs.KeyEncoding.{IsShortKey};
+ghost use Rattle.values.specs.Memory.{OnlyMemory};
+ghost use Rattle.searchrange.specs.SearchRange.{search_range, range_of_table, Covers, IsWithin};
+ghost use Rattle.searchrange.specs.Search.{IsInSearch, entry_taken, is_taken, key_taken, row_taken};
+
+use crate::narrowing::{all_narrow, search_range};
+use keyrange::KeyRange;
+use std::alloc::Global;
+use std::marker::Model;
+use values::{
+    Event, FittingKeys, Key, KeyBytes, Keys, Mem, Row, Table, fitting_keys_have_bytes, read_key,
+};
+
+/// A search condition over a table, with the range of keys that it leaves. Where each key of the range
+/// meets the condition, none is decoded.
+#[derive(Drop)]
+pub struct Search<'a> {
+    table: &'a Table,
+    keys: &'a Keys,
+    range: KeyRange,
+    is_exact: bool,
+}
+
+impl<'a> Model for Search<'a> {
+    ghost use Rattle.searchrange.specs.Search.{SearchState, IsSearch};
+
+    ghost Value = { SearchState };
+
+    ghost view = { λ s. record { table = s.table.now; keys = s.keys.now; range = s.range } };
+
+    ghost invariant = { λ s. IsSearch s.table.now s.keys.now s.range s.is_exact };
+}
+
+impl<'a> Search<'a> {
+    /// Narrows the range of a table's keys by a search condition. Out of memory is the only refusal.
+    pub fn new(alloc: Global, keys: FittingKeys<'a>) -> Mem<Search<'a>>
+        ensures table { IfOk result (λ s. s.table ≡ keys.entry.table.now) }
+        ensures keys { IfOk result (λ s. s.keys ≡ keys.entry.keys.now) }
+        ensures err { OnlyMemory result }
+    {
+        let FittingKeys { table, keys } = keys;
+        let range = search_range(alloc, table, keys)?;
+        let is_exact = table.number < 255 && all_narrow(table, keys.comparisons.items());
+        Ok(Search {
+            table,
+            keys,
+            range,
+            is_exact,
+        })
+    }
+
+    /// Returns the range: each key of the table that meets the condition is in it.
+    pub fn range(&self) -> &KeyRange
+        ensures range { result.now ≡ self.now.range }
+        ensures is { result.now ≡ search_range self.now.table self.now.keys }
+        ensures covers { Covers self.now.table self.now.keys result.now }
+        ensures within { IsWithin result.now (range_of_table self.now.table.number) }
+        ensures own { self.now.keys.table ≡ self.now.table.number }
+    {
+        &self.range
+    }
+
+    /// Returns the table.
+    pub fn table(&self) -> &Table
+        ensures table { result.now ≡ self.now.table }
+        ensures good { IsTable result.now.number result.now }
+    {
+        self.table
+    }
+
+    /// Returns the search condition.
+    pub fn keys(&self) -> &Keys
+        ensures { result.now ≡ self.now.keys }
+    {
+        self.keys
+    }
+
+    /// Returns whether the condition takes a key of the table that is in the range, by its bytes.
+    pub fn takes(&self, alloc: Global, bytes: &KeyBytes) -> Mem<bool>
+        ensures ok { IfOk result (λ b. IsInSearch self.now.table self.now.range bytes.now
+            → b ≡ is_taken self.now.table self.now.keys bytes.now) }
+        ensures err { OnlyMemory result }
+    {
+        if self.is_exact {
+            return Ok(true);
+        }
+        match read_key(alloc, self.table, bytes)? {
+            Some(key) => Ok(self.keys.matches(self.table, &key)),
+            None => Ok(false),
+        }
+    }
+
+    /// Returns the key with these bytes, of the table and in the range, where the condition takes it.
+    fn key_in(&self, alloc: Global, bytes: &KeyBytes) -> Mem<Option<Key>>
+        ensures ok { IfOk result (λ key. IsInSearch self.now.table self.now.range bytes.now
+            → key ≡ key_taken self.now.table self.now.keys bytes.now) }
+        ensures short { IfOk result (λ key. IfSome key IsShortKey) }
+        ensures err { OnlyMemory result }
+    {
+        fitting_keys_have_bytes();
+        let Some(key) = read_key(alloc, self.table, bytes)? else {
+            return Ok(None);
+        };
+        if self.is_exact || self.keys.matches(self.table, &key) {
+            Ok(Some(key))
+        } else {
+            Ok(None)
+        }
+    }
+
+    /// Returns the row of an event whose key is of the table and in the range, where the condition
+    /// takes the key.
+    pub fn row_in(&self, alloc: Global, event: &Event) -> Mem<Option<Row>>
+        ensures ok { IfOk result (λ row. IsInSearch self.now.table self.now.range event.now.key
+            → row ≡ row_taken self.now.table self.now.keys event.now) }
+        ensures err { OnlyMemory result }
+    {
+        let Some(row) = event.row() else {
+            return Ok(None);
+        };
+        if !self.takes(alloc, event.key())? {
+            return Ok(None);
+        }
+        Ok(Some(read_stored(row)?))
+    }
+
+    /// Like [`Search::row_in`], with the key before the row.
+    pub fn entry_in(&self, alloc: Global, event: &Event) -> Mem<Option<(Key, Row)>>
+        ensures ok { IfOk result (λ entry. IsInSearch self.now.table self.now.range event.now.key
+            → entry ≡ entry_taken self.now.table self.now.keys event.now) }
+        ensures short { IfOk result (λ entry. IfSome entry (λ e. IsShortKey e.0)) }
+        ensures err { OnlyMemory result }
+    {
+        let Some(row) = event.row() else {
+            return Ok(None);
+        };
+        match self.key_in(alloc, event.key())? {
+            Some(key) => Ok(Some((key, read_stored(row)?))),
+            None => Ok(None),
+        }
+    }
+}
+
+/// The row that a stored one is read as, by queries and by writes.
+fn read_stored(row: &Row) -> Mem<Row>
+    ensures ok { IfOk result (λ r. r ≡ row.now) }
+    ensures err { OnlyMemory result }
+{
+    row.copy()
+}
