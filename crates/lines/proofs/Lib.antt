@@ -1,2 +1,3 @@
 pub mod LineBufferAdding
 pub mod LinesEnding
+mod FirstFeed

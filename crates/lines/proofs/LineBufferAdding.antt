@@ -5,8 +5,7 @@ use Rattle.std.specs.List.{All, prefix_len}
 use Rattle.std.proofs.lemmas.Bool.Decides.{nat_tests}
 use Rattle.std.proofs.lemmas.List.{length_push, length-take-le, get_or-take}
 use Rattle.std.proofs.lemmas.List.Sums.{prefix_len_passes, prefix_len_stops}
-use Rattle.statement.specs.Line.{longest_line}
-use Rattle.lines.specs.Partial.{Partial, Fits, add_all, is_no_feed, partial}
+use Rattle.lines.specs.Partial.{Partial, Fits, add_all, is_no_feed, longest_line, partial}
 
 has_room : (n m : ℕ) → n + (m + 1) ≤ longest_line → nat_lt n longest_line ≡ true
 has_room n m fits = grind (arith, nat_tests)

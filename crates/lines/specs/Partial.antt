@@ -1,6 +1,9 @@
 -- A line as far as it was read.
 use Rattle.std.specs.Prelude.{ℕ, ◌+◌, ◌≤◌, List, [], ◌∷◌, ◌++◌, ◌==◌, Bool, true, false, Option, Some, None, if◌then◌else◌, length, nat_lt, not}
-use Rattle.statement.specs.Line.{longest_line}
+
+-- the bytes that a line may have before its line feed
+abbrev pub longest_line : ℕ
+longest_line = 8192
 
 -- its bytes, or none where it is too long
 abbrev pub Partial : Type 0
@@ -9,7 +12,7 @@ Partial = Option (List ℕ)
 abbrev pub partial : Bool → List ℕ → Partial
 partial is_too_long bytes = if is_too_long then None else Some bytes
 
--- with one more byte, which is no line feed
+-- with one more byte, which is not a line feed
 abbrev pub add : Partial → ℕ → Partial
 add None byte = None
 add (Some bytes) byte =

@@ -3,4 +3,4 @@
 
 mod line_buffer;
 
-pub use line_buffer::{CHUNK, LineBuffer, MOST_READS, line_length};
+pub use line_buffer::{CHUNK, LONGEST_LINE, LineBuffer, MOST_READS, line_length};

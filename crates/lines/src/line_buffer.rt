@@ -4,10 +4,13 @@ ghost use Rattle.std.specs.List.{prefix_len};
 ghost use Rattle.values.specs.Memory.{OnlyMemory};
 ghost use Rattle.lines.specs.Partial.{Fits, add_all, ended, has_byte, is_no_feed};
 
-use statement::LONGEST_LINE;
+use memchr::memchr;
 use std::alloc::Global;
 use std::marker::Model;
 use values::Mem;
+
+/// The bytes that a line may have before its line feed.
+pub const LONGEST_LINE: usize = 8192;
 
 /// The bytes of a text that are read at once.
 pub const CHUNK: usize = 4096;
@@ -15,7 +18,8 @@ pub const CHUNK: usize = 4096;
 /// The reads after which a reader that gives no end is at fault.
 pub const MOST_READS: u64 = 1 << 32;
 
-/// A line as far as it was read, or only that it is too long: it has at most 8,192 bytes before its line feed. Its room is made once.
+/// A line as far as it was read, or only that it is too long: it has at most 8,192 bytes before its
+/// line feed. Its room is made once.
 #[derive(Drop)]
 pub struct LineBuffer {
     bytes: Vec<u8>,
@@ -34,7 +38,7 @@ impl Model for LineBuffer {
 }
 
 impl LineBuffer {
-    /// An empty line.
+    /// Makes an empty line.
     pub fn new(alloc: Global) -> Mem<LineBuffer>
         ensures ok { IfOk result (λ b. b ≡ Some []) }
         ensures memory { OnlyMemory result }
@@ -46,7 +50,7 @@ impl LineBuffer {
         })
     }
 
-    /// The line, or none where it is too long.
+    /// Returns the line, or none where it is too long.
     pub fn get(&self) -> Option<&[u8]>
         ensures { MatchOption result (self.now ≡ None) (λ line. self.now ≡ Some line.now) }
     {
@@ -56,14 +60,14 @@ impl LineBuffer {
         Some(self.bytes.as_slice())
     }
 
-    /// Whether the line has a byte.
+    /// Tells whether the line has a byte.
     pub fn has_byte(&self) -> bool
         ensures { result ≡ has_byte self.now }
     {
         self.is_too_long || !self.bytes.is_empty()
     }
 
-    /// More bytes of the line, none of them its line feed. It takes no memory.
+    /// Appends bytes of the line, none of them its line feed. It takes no memory.
     pub fn add(&mut self, bytes: &[u8])
         requires { Fits self.old }
         ensures line { self.new ≡ add_all self.old bytes.now }
@@ -79,7 +83,7 @@ impl LineBuffer {
         }
     }
 
-    /// The line's own line feed. It takes no memory.
+    /// Appends the line's own line feed. It takes no memory.
     pub fn end(&mut self)
         requires { Fits self.old }
         ensures { self.new ≡ ended self.old }
@@ -99,15 +103,13 @@ impl LineBuffer {
     }
 }
 
-/// The number of bytes before the first line feed: of all, where there is none.
+/// Counts the bytes before the first line feed: all, where there is none.
 pub fn line_length(bytes: &[u8]) -> usize
     ensures length { result ≡ prefix_len is_no_feed bytes.now }
     ensures within { result ≤ length bytes.now }
 {
-    for (i, byte) in bytes.iter().enumerate() {
-        if *byte == b'\n' {
-            return i;
-        }
+    match memchr(b'\n', bytes) {
+        Some(place) => place,
+        None => bytes.len(),
     }
-    bytes.len()
 }

@@ -1,5 +1,5 @@
 use Rattle.std.proofs.Common.{arith}
-use Rattle.lines.proofs.LineBufferAdding.{adds_none, adds_fits, adds_over, adds_within, fits_of}
+use Rattle.lines.proofs.LineBufferAdding.{adds_none, adds_fits, adds_over, fits_of}
 use Rattle.lines.proofs.line_buffer.LineBuffer.add.Goals as goal
 
 pub returns-then-self-clause-line : goal.returns-then-self-clause-line
