@@ -2,13 +2,13 @@
 use Rattle.std.proofs.Common.{◌≡◌, ◌<◌, ◌≤◌, ◌-◌, ◌^◌, ℕ, ℤ, pos, neg_ℤ, Bool, true, false, List, [], ◌∷◌, ◌++◌, length, take, drop, Ok, Err, Some, None, inl, inr, refl, ap, sym, ◌∙◌, subst, arith, lit<, lit≤}
 use Rattle.std.specs.Prelude.{Option, ◌==◌, ◌||◌, nat_lt, if◌then◌else◌, codes}
 use Rattle.std.specs.Option.{option_map}
-use Rattle.std.specs.Char.{is_ascii_digit, to_ascii_lowercase, eq_ignore_ascii_case}
+use Rattle.std.specs.Char.{is_ascii_digit, to_ascii_lowercase}
 use Rattle.std.specs.Str.{IsUtf8}
 use Rattle.std.proofs.lemmas.Str.{is_utf8-from_IsUtf8}
 use Rattle.std.proofs.lemmas.List.{append-nil, append_assoc}
 use Rattle.std.proofs.lemmas.Bool.{and_parts}
 use Rattle.std.proofs.lemmas.Bool.Decides.{nat_tests}
-use Rattle.values.specs.Names.{same_name, same_letters}
+use Rattle.values.specs.Names.{same_name}
 use Rattle.values.specs.declared.value.Value.{Value}
 use Rattle.values.specs.declared.value.Value.TheVariants.{Int, Text, Bool as Truth, Null}
 use Rattle.tokens.specs.Token.{After, Read, ◌>>=◌}
@@ -153,9 +153,8 @@ pub record Lettered (letter : ℕ) (bytes : List ℕ) : Type 0 where
 pub letter_of : (letter : ℕ) (letters written at rest : List ℕ) → same_name (letter ∷ letters) written ≡ true → at ≡ written ++ rest → Lettered letter at
 letter_of letter letters [] at rest same spelled = absurd (let e = some_written (letter ∷ letters) [] (omega arith) same in omega arith)
 letter_of letter letters (b ∷ written) at rest same spelled =
-    let p = and_parts (length (letter ∷ letters) == length (b ∷ written)) (same_letters (letter ∷ letters) (b ∷ written)) same in
-    let q = and_parts (eq_ignore_ascii_case letter b) (same_letters letters written) p.1 in
-    record { first = b; others = written ++ rest; spelled = spelled; same = alike (to_ascii_lowercase letter) (to_ascii_lowercase b) q.0 }
+    let p = and_parts (to_ascii_lowercase letter == to_ascii_lowercase b) (same_name letters written) same in
+    record { first = b; others = written ++ rest; spelled = spelled; same = alike (to_ascii_lowercase letter) (to_ascii_lowercase b) p.0 }
   where
     alike : (m n : ℕ) → (m == n) ≡ true → n ≡ m
     alike m n is = grind (arith, nat_tests)

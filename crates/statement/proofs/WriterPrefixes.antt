@@ -1,5 +1,5 @@
 -- What writers took, joined.
-use Rattle.std.proofs.Common.{◌≡◌, ℕ, List, ◌++◌, Option, append_assoc, sym, ◌∙◌, ap, take, drop, take-append-drop, subst, length, get_or, suc, ◌+◌, ◌<◌, add-one, arith}
+use Rattle.std.proofs.Common.{◌≡◌, ℕ, List, ◌++◌, Option, append_assoc, sym, ◌∙◌, ap, take, drop, take-append-drop, subst, length, get_or, suc, ◌+◌, ◌<◌, add-one}
 use Rattle.std.specs.Prelude.{Result, Ok, Err, IsErrAnd}
 use Rattle.std.specs.List.{flat_map}
 use Rattle.std.proofs.Math.Seq.{drop-cons}

@@ -10,6 +10,7 @@ use Rattle.statement.specs.declared.line.Line.{Line}
 use Rattle.statement.specs.declared.line.Line.TheVariants.{Nothing, Clock, Step as IsStep}
 use Rattle.statement.specs.declared.line.Written.{Written}
 use Rattle.statement.specs.declared.line.Written.TheVariants.{Clock as SetsClock, SplitKey, SplitTime, Migrate, Session}
+use Rattle.lines.specs.Partial.{longest_line}
 use Rattle.tokens.specs.Token.{Read, ◌>>=◌}
 use Rattle.statement.specs.Token.{next, symbol_at, word_at, end_at, after_semicolon}
 use Rattle.statement.specs.Literal.{digits_at}
@@ -59,10 +60,6 @@ migrate_at bytes = do
 -- what asks for a step, if it fits
 abbrev pub line_of : Result Step Refusal → Result Line Refusal
 line_of step = step >>= λ fits. Ok (IsStep fits)
-
--- the bytes that a line may have before its line feed
-abbrev pub longest_line : ℕ
-longest_line = 8192
 
 module _ (schema : Schema) where
   unfoldable pub session_at : List ℕ → Read Written

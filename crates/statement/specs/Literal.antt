@@ -41,14 +41,15 @@ above_nought bytes = option_map (λ x. (pos x.0, x.1)) (digits_here (2 ^ 63 - 1)
 abbrev pub below_nought : List ℕ → Option (ℤ × List ℕ)
 below_nought bytes = option_map (λ x. (neg_ℤ (pos x.0), x.1)) (digits_here (2 ^ 63) bytes)
 
+-- a whole number of 64 bits at the very start: digits, or a minus and digits
+abbrev pub number_here : List ℕ → Option (ℤ × List ℕ)
+number_here bytes =
+    if begins_with 45 bytes then below_nought (drop 1 bytes) else above_nought bytes
+
 -- a whole number of 64 bits, whose minus is right before its digits
 unfoldable pub number_at : List ℕ → Read ℤ
 number_at bytes =
-    let at = next bytes in
-    elim (if begins_with 45 at then below_nought (drop 1 at) else above_nought at) [
-      | None ↦ Err at
-      | Some x ↦ Ok x
-    ]
+    elim (number_here (next bytes)) [ None ↦ Err (next bytes) | Some x ↦ Ok x ]
 
 -- the text, which goes on after what was read before, up to the quote that closes it, and the
 -- bytes after that;

@@ -3,6 +3,7 @@ use Rattle.std.specs.Prelude.{ℕ, ◌-◌, List, nat_lt, Result, Ok, Err, lengt
 use Rattle.values.specs.Tables.{Schema}
 use Rattle.values.specs.declared.refusal.Refusal.{Refusal}
 use Rattle.values.specs.declared.refusal.Refusal.TheVariants.{Syntax, LineTooLong}
+use Rattle.lines.specs.Partial.{longest_line}
 use Rattle.statement.specs.declared.line.Line.{Line}
 use Rattle.statement.specs.declared.line.Line.TheVariants.{Nothing}
 use Rattle.statement.specs.declared.line.Written.{Written}
@@ -11,7 +12,7 @@ use Rattle.tokens.specs.Token.{Read, ◌>>=◌}
 use Rattle.statement.specs.Token.{next, word_at, end_at, after_semicolon}
 use Rattle.statement.specs.Statement.{statement_at}
 use Rattle.statement.specs.Split.{split_at}
-use Rattle.statement.specs.Line.{before_feed, body_of, is_nothing, longest_line, meaning_of, migrate_at}
+use Rattle.statement.specs.Line.{before_feed, body_of, is_nothing, meaning_of, migrate_at}
 
 module _ (schema : Schema) where
   -- a statement of the session that a line comes from

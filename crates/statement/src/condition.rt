@@ -1,3 +1,4 @@
+//! Names of tables and columns, search conditions, and new values.
 ghost use Rattle.std.specs.Prelude.{◌≡◌};
 ghost use Rattle.tokens.specs.Token.{Gives, Makes};
 ghost use Rattle.statement.specs.Condition.{table_of, column_of, table_name_at, column_name_at, or_equal, operator_at, set_at, comparison_at, sets_at, comparisons_at, columns_at, keys_at};
@@ -10,7 +11,7 @@ use std::alloc::Global;
 use tokens::{After, Made, Read, Separators, name_at, symbol_at, word_at};
 use values::{ColumnNumber, Comparison, Keys, Operator, Sequence, Set, Sets};
 
-/// The number of the table with a name, or 0.
+/// Reads the name of a table: its number, or 0 where there is none of the name.
 #[tactic(auto, unfolding(crate::specs::Condition::table_name_at))]
 pub fn table_name_at<'a>(schema: &Schema, bytes: &'a [u8]) -> Read<'a, u8>
     ensures { Gives result (table_name_at schema.now bytes.now) }
@@ -162,7 +163,7 @@ impl Item for Conditions<'_> {
     }
 }
 
-/// The columns that a list names, in its order.
+/// Reads a column list, in its order.
 #[tactic(auto, unfolding(crate::specs::Condition::columns_at))]
 pub fn columns_at<'a>(
     alloc: Global,
@@ -176,6 +177,7 @@ pub fn columns_at<'a>(
     Ok((Sequence::new(columns), rest))
 }
 
+/// Reads what an UPDATE sets.
 #[tactic(auto, unfolding(crate::specs::Condition::sets_at))]
 pub fn sets_at<'a>(alloc: Global, schema: &Schema, table: u8, bytes: &'a [u8]) -> Made<'a, Sets>
     ensures { Makes result (sets_at schema.now table bytes.now) }
@@ -197,7 +199,7 @@ fn comparisons_at<'a>(
     Ok((Sequence::new(comparisons), rest))
 }
 
-/// The keys of a table that meet a WHERE; all of them where there is none.
+/// Reads a WHERE: the keys of a table that meet it; all of them where there is none.
 #[tactic(auto, unfolding(crate::specs::Condition::keys_at))]
 pub fn keys_at<'a>(alloc: Global, schema: &Schema, table: u8, bytes: &'a [u8]) -> Made<'a, Keys>
     ensures { Makes result (keys_at schema.now table bytes.now) }

@@ -1,3 +1,4 @@
+//! Lines of a script.
 ghost use Rattle.std.specs.Prelude.{◌≡◌, IsTrue, IfOk, true, false, Err};
 ghost use Rattle.tokens.specs.Token.{Makes, Gives};
 ghost use Rattle.statement.specs.Memory.{UnlessMemory, can_run_out, inserts, asks_for_rows, asks_to_split, asks_for_values, takes_memory};
@@ -9,16 +10,11 @@ use crate::split::split_at;
 use crate::statement::{Statement, instant_at, statement_at};
 use crate::token::{Blanks, after_semicolon, end_at};
 use histories::Step;
+use lines::LONGEST_LINE;
 use rows::Schema;
 use std::alloc::Global;
 use tokens::{Made, Read, Separators, Stop, symbol_at, word_at};
-use values::{Instant, Key, Refusal};
-
-/// The bytes that a line may have before its line feed.
-pub const LONGEST_LINE: usize = 8192;
-
-/// The greatest number of a session that the grammar has.
-const SESSION: u64 = (1 << 63) - 1;
+use values::{Instant, Key, MAX_INT, Refusal};
 
 /// What a line of a script says.
 #[derive(Drop)]
@@ -39,7 +35,8 @@ pub enum Written {
     /// A split in time, of the node at such a key.
     SplitTime(Key, Instant),
     Migrate,
-    /// A session's number, which is of the grammar even where there is no such session, and its statement.
+    /// A session's number, which is of the grammar even where there is no such session, and its
+    /// statement.
     Session(u64, Statement),
 }
 
@@ -53,13 +50,15 @@ fn without_last(byte: u8, bytes: &[u8]) -> &[u8]
     }
 }
 
+/// Returns a line without its line feed.
 pub(crate) fn before_feed(line: &[u8]) -> &[u8]
     ensures { result.now ≡ before_feed line.now }
 {
     without_last(b'\n', line)
 }
 
-/// The bytes of a line's tokens. A carriage return is dropped where a line feed follows it, and stays in a last line without one.
+/// Returns the bytes of a line's tokens. A carriage return is dropped where a line feed follows it,
+/// and stays in a last line without one.
 pub(crate) fn body_of(line: &[u8]) -> &[u8]
     ensures { result.now ≡ body_of line.now }
 {
@@ -71,7 +70,7 @@ pub(crate) fn body_of(line: &[u8]) -> &[u8]
     }
 }
 
-/// Whether a line is, at its first token, blank or a comment.
+/// Tells whether a line is, at its first token, blank or a comment.
 pub(crate) fn is_nothing(at: &[u8]) -> bool
     ensures { result ≡ is_nothing at.now }
 {
@@ -103,6 +102,7 @@ fn clock_at(bytes: &[u8]) -> Read<'_, Written>
     Ok((Written::Clock(instant), rest))
 }
 
+/// Reads a MIGRATE line.
 #[tactic(auto, unfolding(crate::specs::Line::migrate_at))]
 pub(crate) fn migrate_at(bytes: &[u8]) -> Read<'_, Written>
     ensures gives { Gives result (migrate_at bytes.now) }
@@ -133,7 +133,7 @@ fn session_at<'a>(alloc: Global, schema: &Schema, bytes: &'a [u8]) -> Made<'a, W
     ensures makes { Makes result (session_at schema.now bytes.now) }
     ensures memory { IsTrue (can_run_out inserts result) → asks_for_rows bytes.now ≡ true }
 {
-    let (session, rest) = digits_at(SESSION, bytes)?;
+    let (session, rest) = digits_at(MAX_INT, bytes)?;
     let rest = symbol_at::<Blanks>(b':', rest)?;
     let (statement, rest) = statement_at(alloc, schema, rest)?;
     let rest = end_at(after_semicolon(rest))?;
@@ -162,6 +162,7 @@ fn line_of(step: Result<Step, Refusal>) -> Result<Line, Refusal>
     }
 }
 
+/// Returns the step of what is written, or why it does not fit the schema.
 #[tactic(auto, unfolding(crate::specs::Line::meaning_of))]
 pub(crate) fn meaning_of(
     alloc: Global,
@@ -205,7 +206,8 @@ fn body_says(
     }
 }
 
-/// Reads a line of a script, which ends with its line feed or, as a last line may, without one. A COMMIT takes the reading of the clock.
+/// Reads a line of a script, which ends with its line feed or, as a last line may, without one. A
+/// COMMIT takes the reading of the clock.
 ///
 /// Where memory runs out that is the answer, before any refusal that is not yet reached.
 #[tactic(auto, unfolding(crate::specs::Line::line_says))]

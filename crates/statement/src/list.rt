@@ -1,3 +1,4 @@
+//! Lists of items, with a symbol between them.
 ghost use Rattle.std.specs.Prelude.{◌≡◌};
 ghost use Rattle.statement.specs.List.{MakesList, list_at, enclosed_at};
 
@@ -16,16 +17,16 @@ pub trait Item {
 
     ghost item: { Self → List ℕ → Read Self.Value };
 
-    /// The bytes after what separates two items.
+    /// Reads what separates two items: the bytes after it.
     fn after_separator<'a>(&self, bytes: &'a [u8]) -> After<'a>
         ensures { Leaves result (separator self.now bytes.now) };
 
-    /// One item.
+    /// Reads an item.
     fn item_at<'a>(&self, alloc: Global, bytes: &'a [u8]) -> Made<'a, Self::Value>
         ensures { Makes result (item self.now bytes.now) };
 }
 
-/// One item or more.
+/// Reads one item or more.
 pub fn list_at<'a, I: Item>(items: &I, alloc: Global, bytes: &'a [u8]) -> Made<'a, Vec<I::Value>>
     ensures { MakesList result (list_at (I.separator items.now) (I.item items.now) bytes.now) }
 {
@@ -45,7 +46,7 @@ pub fn list_at<'a, I: Item>(items: &I, alloc: Global, bytes: &'a [u8]) -> Made<'
     Ok((list, rest))
 }
 
-/// One item or more, in parentheses.
+/// Reads one item or more, in parentheses.
 pub fn enclosed_at<'a, I: Item>(
     items: &I,
     alloc: Global,

@@ -1,23 +1,21 @@
+//! Numbers, texts, and the literals of rows and comparisons.
 ghost use Rattle.std.specs.Prelude.{◌≡◌, ◌≤◌, ◌<◌, ◌^◌, length, [], IfOk, IfSome};
 ghost use Rattle.std.specs.Str.Parse.{AllDigits};
 ghost use Rattle.std.specs.Option.{option_map};
 ghost use Rattle.tokens.specs.Token.{Finds, Gives, Makes};
-ghost use Rattle.statement.specs.Literal.{digits_here, digits_at, value_within, above_nought, below_nought, number_at, quoted, text_of, text_at, constant_at, literal_at, row_at, rows_at};
+ghost use Rattle.statement.specs.Literal.{digits_here, digits_at, value_within, above_nought, below_nought, number_here, number_at, quoted, text_of, text_at, constant_at, literal_at, row_at, rows_at};
 
 use crate::list::{Item, enclosed_at, list_at};
 use crate::token::Blanks;
 use std::alloc::{AllocError, Global};
 use tokens::{After, Made, Read, Separators, Stop, split_digits, symbol_at, word_at};
-use values::{Chars, Sequence, Value, Values};
-
-/// The greatest number of 64 bits.
-const GREATEST: u64 = (1 << 63) - 1;
+use values::{Chars, MAX_INT, Sequence, Value, Values};
 
 /// The values of rows as they are written: any number of them, and any text.
 pub type WrittenRows = Sequence<Values>;
 
 /// The number that digits write, if it is at most so great.
-pub fn value_within(most: u64, digits: &[u8]) -> Option<u64>
+fn value_within(most: u64, digits: &[u8]) -> Option<u64>
     requires { AllDigits 10 digits.now }
     ensures value { result ≡ value_within most digits.now }
     ensures within { IfSome result (λ value. value ≤ most) }
@@ -33,9 +31,9 @@ pub fn value_within(most: u64, digits: &[u8]) -> Option<u64>
     Some(value)
 }
 
-/// The number at the very start, if it is at most so great, and the bytes after it.
+/// Reads the number at the very start, if it is at most so great, and the bytes after it.
 #[tactic(auto, unfolding(crate::specs::Literal::digits_here))]
-fn digits_here(most: u64, bytes: &[u8]) -> Option<(u64, &[u8])>
+pub fn digits_here(most: u64, bytes: &[u8]) -> Option<(u64, &[u8])>
     ensures found { Finds result (digits_here most bytes.now) }
     ensures within { IfSome result (λ x. x.0 ≤ most) }
 {
@@ -47,7 +45,7 @@ fn digits_here(most: u64, bytes: &[u8]) -> Option<(u64, &[u8])>
     Some((value, rest))
 }
 
-/// Digits whose number is at most so great.
+/// Reads digits whose number is at most so great.
 #[tactic(auto, unfolding(crate::specs::Literal::digits_at))]
 pub fn digits_at(most: u64, bytes: &[u8]) -> Read<'_, u64>
     ensures { Gives result (digits_at most bytes.now) }
@@ -56,31 +54,37 @@ pub fn digits_at(most: u64, bytes: &[u8]) -> Read<'_, u64>
     digits_here(most, at).ok_or(at)
 }
 
-/// A whole number of 64 bits, whose minus is right before its digits.
+/// Reads a whole number of 64 bits, whose minus is right before its digits.
 #[tactic(auto, unfolding(crate::specs::Literal::number_at))]
 pub fn number_at(bytes: &[u8]) -> Read<'_, i64>
     ensures { Gives result (number_at bytes.now) }
 {
     let at = Blanks::next(bytes);
-    let found = match at {
+    number_here(at).ok_or(at)
+}
+
+/// Reads the whole number of 64 bits at the very start: digits, or a minus and digits.
+pub fn number_here(bytes: &[u8]) -> Option<(i64, &[u8])>
+    ensures { Finds result (number_here bytes.now) }
+{
+    match bytes {
         [b'-', digits @ ..] => below_nought(digits),
-        _ => above_nought(at),
-    };
-    found.ok_or(at)
+        _ => above_nought(bytes),
+    }
 }
 
 #[tactic(auto, unfolding(crate::specs::Literal::digits_here))]
 fn above_nought(bytes: &[u8]) -> Option<(i64, &[u8])>
     ensures { Finds result (above_nought bytes.now) }
 {
-    let (value, rest) = digits_here(GREATEST, bytes)?;
+    let (value, rest) = digits_here(MAX_INT, bytes)?;
     Some((value as i64, rest))
 }
 
 fn below_nought(bytes: &[u8]) -> Option<(i64, &[u8])>
     ensures { Finds result (below_nought bytes.now) }
 {
-    let (value, rest) = digits_here(GREATEST + 1, bytes)?;
+    let (value, rest) = digits_here(MAX_INT + 1, bytes)?;
     Some((-(value as i128) as i64, rest))
 }
 
@@ -150,6 +154,7 @@ fn constant_at(bytes: &[u8]) -> Read<'_, Value>
     Ok((Value::Null, rest))
 }
 
+/// Reads a literal: a text, a number, TRUE, FALSE or NULL.
 #[tactic(auto, unfolding(crate::specs::Literal::literal_at))]
 pub fn literal_at(alloc: Global, bytes: &[u8]) -> Made<'_, Value>
     ensures { Makes result (literal_at bytes.now) }
@@ -187,7 +192,7 @@ impl Item for Literals {
     }
 }
 
-/// A row's values, in the order in which they stand.
+/// Reads a row's values, in the order in which they are written.
 #[tactic(auto, unfolding(crate::specs::Literal::row_at))]
 pub fn row_at(alloc: Global, bytes: &[u8]) -> Made<'_, Values>
     ensures { Makes result (row_at bytes.now) }
@@ -218,6 +223,7 @@ impl Item for ListedRows {
     }
 }
 
+/// Reads the rows of an INSERT.
 #[tactic(auto, unfolding(crate::specs::Literal::rows_at))]
 pub fn rows_at(alloc: Global, bytes: &[u8]) -> Made<'_, WrittenRows>
     ensures { Makes result (rows_at bytes.now) }

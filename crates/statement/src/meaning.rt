@@ -1,3 +1,4 @@
+//! The steps that statements ask for, or why they do not fit the schema.
 ghost use Rattle.std.specs.Prelude.{◌≡◌, ◌==◌, ◌≤◌, length, IfOk, [], Err, true};
 ghost use Rattle.std.specs.List.{list_any};
 ghost use Rattle.values.specs.Tables.{widest};
@@ -13,7 +14,8 @@ use values::{
     ColumnNumber, Instant, Mem, Refusal, Row, Rows, Table, Value, Values, fitting_rows_have_bytes,
 };
 
-/// Whether each name of a column list is a column's, and none is repeated. Columns are numbered from 1; 0 is what is no column's name.
+/// Tells whether each name of a column list is a column's, and none is repeated. Columns are
+/// numbered from 1; 0 stands for a name that no column has.
 pub fn is_column_list(columns: &[ColumnNumber]) -> bool
     ensures { result ≡ is_column_list columns.now }
 {
@@ -58,7 +60,7 @@ fn value_of(
     }
 }
 
-/// The place of a column in a column list, from 0, if it is there.
+/// Finds the place of a column in a column list, from 0, if it is there.
 #[tactic(auto, unfolding(crate::specs::Meaning::place_of))]
 pub fn place_of(columns: &[ColumnNumber], number: ColumnNumber) -> Option<usize>
     ensures { result ≡ place_of columns.now number }
@@ -92,7 +94,8 @@ fn copy_of(alloc: Global, values: &[Value]) -> Result<Vec<Value>, AllocError>
     Ok(copy)
 }
 
-/// A row of the table, whose values stand in its order; `BadRow` with the column where they do not fit it, and with 0 where they are too few or too many.
+/// Makes a row of the table, whose values are in its order; `BadRow` with the column where they do
+/// not fit it, and with 0 where they are too few or too many.
 pub fn row_in(table: &Table, values: Vec<Value>) -> Result<Row, Refusal>
     requires some { 1 ≤ length table.now.columns }
     requires few { length table.now.columns ≤ widest }
@@ -150,7 +153,7 @@ fn fitting_rows(
     Ok(Rows::new(fit))
 }
 
-/// A step, if it fits the schema.
+/// Returns a step, if it fits the schema.
 pub fn fitting_step(schema: &Schema, step: Step) -> Result<Step, Refusal>
     ensures { result ≡ fitting_step schema.now step }
 {
@@ -209,7 +212,8 @@ fn session_step(
     }
 }
 
-/// The step of a statement, or why it does not fit: its session's number, then its table, then the first column at fault.
+/// Returns the step of a statement, or why it does not fit: its session's number, then its table,
+/// then the first column at fault.
 #[tactic(auto, unfolding(crate::specs::Meaning::step_of))]
 pub fn step_of(
     alloc: Global,

@@ -1,3 +1,4 @@
+//! Replies as they are printed.
 #![tactic(auto, using(crate::proofs::WriterPrefixes::joins))]
 
 ghost use Rattle.std.specs.List.{list_any};
@@ -15,7 +16,8 @@ const QUOTE: u8 = b'\'';
 
 type Printed = Result<(), WriteFault>;
 
-/// Writes a reply: one line, and one more for each row that it shows. Where the writer fails, it took a prefix of that text.
+/// Writes a reply: one line, and one more for each row that it shows. Where the writer fails, it
+/// took a prefix of that text.
 pub fn print_reply<W: Write>(writer: &mut W, reply: &Reply) -> Printed
     ensures { Prints (W.contents writer.old) (W.contents writer.new) result (reply_text reply.now) }
 {

@@ -4,12 +4,11 @@ ghost use Rattle.tokens.specs.Token.{Makes};
 ghost use Rattle.statement.specs.Memory.{UnlessMemory, can_run_out, inserts, is_on_rows, serves_values, serving_takes_memory};
 ghost use Rattle.statement.specs.ServedLine.{request_at, served_at, served_body_says, served_line_says};
 
-use crate::line::{
-    LONGEST_LINE, Line, Written, before_feed, body_of, is_nothing, meaning_of, migrate_at,
-};
+use crate::line::{Line, Written, before_feed, body_of, is_nothing, meaning_of, migrate_at};
 use crate::split::split_at;
 use crate::statement::statement_at;
 use crate::token::{Blanks, after_semicolon, end_at};
+use lines::LONGEST_LINE;
 use rows::Schema;
 use std::alloc::Global;
 use tokens::{Made, Separators, Stop, word_at};
@@ -62,7 +61,9 @@ fn served_body_says(
     }
 }
 
-/// Reads a line that a session sends: a statement, which is that session's, or a SPLIT or MIGRATE line. It is a line of a script without the session's number. A COMMIT takes the reading of the clock.
+/// Reads a line that a session sends: a statement, which is that session's, or a SPLIT or MIGRATE
+/// line. It is a line of a script without the session's number. A COMMIT takes the reading of the
+/// clock.
 ///
 /// Where memory runs out that is the answer, before any refusal that is not yet reached.
 #[tactic(auto, unfolding(crate::specs::ServedLine::served_line_says))]

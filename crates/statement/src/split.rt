@@ -61,7 +61,7 @@ fn kind_at<'a>(alloc: Global, schema: &Schema, bytes: &'a [u8]) -> Made<'a, Writ
     split_time_at(alloc, schema, rest)
 }
 
-/// What follows the word SPLIT.
+/// Reads what follows the word SPLIT.
 #[tactic(auto, unfolding(crate::specs::Split::split_at))]
 pub fn split_at<'a>(alloc: Global, schema: &Schema, bytes: &'a [u8]) -> Made<'a, Written>
     ensures makes { Makes result (split_at schema.now bytes.now) }

@@ -1,3 +1,4 @@
+//! Statements, by their first word.
 ghost use Rattle.std.specs.Prelude.{◌≡◌, IsTrue, IfOk, true, false};
 ghost use Rattle.tokens.specs.Token.{Gives, Makes};
 ghost use Rattle.statement.specs.Memory.{can_run_out, is_insert, is_on_rows};
@@ -14,11 +15,13 @@ use values::{ColumnNumber, Form, Instant, Keys, MAX_INSTANT, Sequence, Sets};
 /// A column list, in its order.
 pub type Columns = Sequence<ColumnNumber>;
 
-/// A statement as it is written. The names of tables and columns are their numbers, or 0 where there is none.
+/// A statement as it is written. The names of tables and columns are their numbers, or 0 where
+/// there is none.
 #[derive(Drop)]
 pub enum Statement {
     Begin,
-    /// A table, the columns that its list names where there is one, and rows whose values are in the list's order or else in the table's.
+    /// A table, the columns that its list names where there is one, and rows whose values are in
+    /// the list's order or else in the table's.
     Insert(u8, Option<Columns>, WrittenRows),
     Update(Keys, Sets),
     Delete(Keys),
@@ -27,6 +30,7 @@ pub enum Statement {
     Rollback,
 }
 
+/// Reads an instant, or 0.
 #[tactic(auto, unfolding(crate::specs::Statement::instant_at))]
 pub fn instant_at(bytes: &[u8]) -> Read<'_, Instant>
     ensures { Gives result (instant_at bytes.now) }
@@ -190,7 +194,7 @@ fn start_at(bytes: &[u8]) -> Read<'_, Statement>
     Ok((Statement::Begin, rest))
 }
 
-/// Any statement, by its first word.
+/// Reads any statement, by its first word.
 #[tactic(auto, unfolding(crate::specs::Statement::statement_at))]
 pub fn statement_at<'a>(alloc: Global, schema: &Schema, bytes: &'a [u8]) -> Made<'a, Statement>
     ensures makes { Makes result (statement_at schema.now bytes.now) }

@@ -1,3 +1,4 @@
+//! Spaces and tabs between tokens, and what may be left out.
 ghost use Rattle.std.specs.Prelude.{◌≡◌};
 ghost use Rattle.tokens.specs.Token.{Leaves};
 ghost use Rattle.statement.specs.Token.{is_blank, next, end_at, after_semicolon, after_optional_word};
@@ -30,6 +31,7 @@ fn is_blank(byte: u8) -> bool
     byte == b' ' || byte == b'\t'
 }
 
+/// Reads the end of the line.
 #[tactic(auto, unfolding(crate::specs::Token::end_at))]
 pub fn end_at(bytes: &[u8]) -> After<'_>
     ensures { Leaves result (end_at bytes.now) }
@@ -38,7 +40,7 @@ pub fn end_at(bytes: &[u8]) -> After<'_>
     if at.is_empty() { Ok(at) } else { Err(at) }
 }
 
-/// The bytes after a semicolon, where one comes next.
+/// Skips a semicolon, where one comes next.
 pub fn after_semicolon(bytes: &[u8]) -> &[u8]
     ensures { result.now ≡ after_semicolon bytes.now }
 {
@@ -48,7 +50,7 @@ pub fn after_semicolon(bytes: &[u8]) -> &[u8]
     }
 }
 
-/// The bytes after a word, where it comes next.
+/// Skips a word, where it comes next.
 pub fn after_optional_word<'a>(word: &[u8], bytes: &'a [u8]) -> &'a [u8]
     ensures { result.now ≡ after_optional_word word.now bytes.now }
 {

@@ -1,3 +1,4 @@
+//! Writes texts and numbers whole, or stops in their midst.
 ghost use Rattle.std.specs.Prelude.{◌≡◌};
 ghost use Rattle.statement.specs.Writer.{Prints};
 
