@@ -1,3 +1,2 @@
-mod FieldWholes
 mod LoadFields
 mod VersionChunks

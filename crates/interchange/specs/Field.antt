@@ -1,12 +1,12 @@
 -- The values that fields of CSV write.
-use Rattle.std.specs.Prelude.{ℕ, List, ◌==◌, true, false, Option, Some, None, ℤ, length, drop, codes, if◌then◌else◌}
+use Rattle.std.specs.Prelude.{ℕ, List, ◌==◌, true, false, Option, Some, None, ℤ, length, codes, if◌then◌else◌}
 use Rattle.std.specs.Str.{is_utf8}
 use Rattle.values.specs.declared.value.Value.{Value}
 use Rattle.values.specs.declared.value.Value.TheVariants.{Int, Text, Bool as Truth, Null}
 use Rattle.values.specs.declared.table.ColumnType.{ColumnType}
 use Rattle.values.specs.declared.table.ColumnType.TheVariants.{Int as IsInt, Text as IsText, Varchar as IsVarchar, Boolean as IsBoolean}
 use Rattle.values.specs.Names.{same_name}
-use Rattle.statement.specs.Literal.{begins_with, above_nought, below_nought}
+use Rattle.statement.specs.Literal.{number_here}
 
 -- what was read, where no byte is left
 abbrev pub whole : {A : Type 0} → Option (A × List ℕ) → Option A
@@ -15,8 +15,7 @@ whole (Some x) = if length x.1 == 0 then Some x.0 else None
 
 -- a whole number of 64 bits: digits, or a minus and digits
 abbrev pub number_of : List ℕ → Option ℤ
-number_of field =
-    if begins_with 45 field then whole (below_nought (drop 1 field)) else whole (above_nought field)
+number_of field = whole (number_here field)
 
 -- a value that no column of the type holds: a field reads as it where it writes none of the type
 abbrev pub misfit_of : ColumnType → Value

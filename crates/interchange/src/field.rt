@@ -1,54 +1,37 @@
 //! The values that fields write.
-ghost use Rattle.std.specs.Prelude.{◌≡◌, ◌≤◌, ◌^◌, IfOk, IfSome, option_map};
-ghost use Rattle.statement.specs.Literal.{digits_here, above_nought, below_nought};
-ghost use Rattle.tokens.specs.Token.{Finds};
+ghost use Rattle.std.specs.Prelude.{◌≡◌, ◌≤◌, IfOk, IfSome, option_map};
+ghost use Rattle.statement.specs.Literal.{digits_here};
 ghost use Rattle.values.specs.Memory.{OnlyMemory};
 ghost use Rattle.interchange.specs.Field.{number_of, misfit_of, number_value, truth_value, text_value, field_value, whole};
 
-use statement::value_within;
+use statement::{digits_here, number_here};
 use std::alloc::Global;
 use std::str;
-use tokens::split_digits;
 use values::{Chars, ColumnType, Mem, Value, same_name};
 
-/// The greatest number of 64 bits.
-const GREATEST: u64 = (1 << 63) - 1;
+/// Returns what was read, where no byte is left.
+fn whole<T: Copy>(found: Option<(T, &[u8])>) -> Option<T>
+    ensures { result ≡ whole (option_map (λ x. (x.0, x.1.now)) found.entry) }
+{
+    match found {
+        Some((value, rest)) if rest.is_empty() => Some(value),
+        _ => None,
+    }
+}
 
-/// The number that digits and nothing else write, if it is at most so great.
-#[tactic(auto, unfolding(statement::specs::Literal::digits_here))]
+/// Reads the number that digits and nothing else write, if it is at most so great.
 pub fn whole_within(most: u64, bytes: &[u8]) -> Option<u64>
     ensures value { result ≡ whole (digits_here most bytes.now) }
     ensures within { IfSome result (λ value. value ≤ most) }
 {
-    let (digits, rest) = split_digits(bytes);
-    if digits.is_empty() || !rest.is_empty() {
-        return None;
-    }
-    value_within(most, digits)
+    whole(digits_here(most, bytes))
 }
 
-/// A whole number of 64 bits: digits, or a minus and digits.
+/// Reads a whole number of 64 bits: digits, or a minus and digits.
 fn number_of(field: &[u8]) -> Option<i64>
     ensures { result ≡ number_of field.now }
 {
-    match field {
-        [b'-', digits @ ..] => below_nought(digits),
-        _ => above_nought(field),
-    }
-}
-
-fn above_nought(bytes: &[u8]) -> Option<i64>
-    ensures { result ≡ whole (above_nought bytes.now) }
-{
-    let value = whole_within(GREATEST, bytes)?;
-    Some(value as i64)
-}
-
-fn below_nought(bytes: &[u8]) -> Option<i64>
-    ensures { result ≡ whole (below_nought bytes.now) }
-{
-    let value = whole_within(GREATEST + 1, bytes)?;
-    Some(-(value as i128) as i64)
+    whole(number_here(field))
 }
 
 /// A value that no column of the type holds.
@@ -92,7 +75,8 @@ fn text_value(alloc: Global, field: &[u8]) -> Mem<Value>
     }
 }
 
-/// The value that a field writes in a column of a type. An empty field is the empty text, and of the other types NULL.
+/// Reads the value that a field writes in a column of a type. An empty field is the empty text, and
+/// of the other types NULL.
 pub(crate) fn field_value(alloc: Global, of: ColumnType, field: &[u8]) -> Mem<Value>
     ensures ok { IfOk result (λ value. value ≡ field_value of field.now) }
     ensures err { OnlyMemory result }

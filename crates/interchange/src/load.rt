@@ -125,9 +125,13 @@ fn rows_of(alloc: Global, table: &Table, records: &[ByteRecord]) -> Mem<Vec<Row>
     rows_from(alloc, table, columns.as_slice(), records)
 }
 
-/// The rows that a file of CSV writes for a table of 1 to 16 columns: its first record names columns of the table, and each further record is a row.
+/// Reads the rows that a file of CSV writes for a table of 1 to 16 columns: its first record
+/// names columns of the table, and each further record is a row.
 ///
-/// `BadRow` names the first field that is no value of its column, or that does not fit the table, by its column; it is 0 where the file has no record, where a name is no user column's or is repeated, and where a record has another width than the first. Which rows have one key is left to the INSERT.
+/// `BadRow` names the first field that is not a value of its column, or that does not fit the
+/// table, by its column; it is 0 where the file has no record, where a name is not a user column's
+/// or is repeated, and where a record has another width than the first. Which rows have one key is
+/// left to the INSERT.
 pub fn load_rows(alloc: Global, bytes: &[u8], table: &Table) -> Mem<Vec<Row>>
     ensures { (1 ≤ length table.now.columns) → (length table.now.columns ≤ widest)
         → Loads table.now bytes.now (vec_items result) }

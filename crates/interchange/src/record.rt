@@ -6,7 +6,7 @@ ghost use Rattle.interchange.specs.Load.{AreRecordsOf};
 use csv::{ByteRecord, Error, ReaderBuilder};
 use std::alloc::Global;
 
-/// All records of a file, of any widths. A byte order mark before them is dropped.
+/// Reads all records of a file, of any widths. A byte order mark before them is dropped.
 pub(crate) fn records_of(alloc: Global, bytes: &[u8]) -> Result<Vec<ByteRecord>, Error>
     ensures { IfOk result (λ v. AreRecordsOf bytes.now (map fields_of v.items)) }
 {

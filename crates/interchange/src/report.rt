@@ -4,37 +4,30 @@ ghost use Rattle.statement.specs.Print.{numbered};
 ghost use Rattle.statement.specs.Writer.{Prints};
 ghost use Rattle.interchange.specs.Report.{loaded_text};
 
-use itoa::{Buffer, Integer};
-use statement::{WriteFault, write_all};
+use statement::{WriteFault, print_number, write_all};
 use std::alloc::{AllocError, Global};
 use std::io::Write;
 use values::Instant;
 
-fn print_number<N: Integer>(text: &mut Vec<u8>, number: N) -> Result<(), AllocError>
-    ensures { OnOk result (text.new.items ≡ text.old.items ++ N.text number) }
-{
-    let mut buffer = Buffer::new();
-    text.extend_from_slice(buffer.format(number).as_bytes())
-}
-
-/// A label and a number in decimal, as a line.
+/// Makes a line of a label and a number in decimal.
 pub fn numbered_line(alloc: Global, label: &[u8], number: u64) -> Result<Vec<u8>, AllocError>
     ensures { IfOk result (λ text. text.items ≡ numbered label.now number) }
 {
     let mut text = label.to_vec(alloc)?;
-    print_number(&mut text, number)?;
+    print_number(&mut text, number).map_err(|_| AllocError)?;
     text.push(b'\n')?;
     Ok(text)
 }
 
-/// How many rows were loaded, and at which commit instant, 0 where there were none.
+/// Makes the line `loaded N at I`: the number of rows, and their commit instant; 0 if there were
+/// none.
 pub fn loaded_line(alloc: Global, count: usize, instant: Instant) -> Result<Vec<u8>, AllocError>
     ensures { IfOk result (λ text. text.items ≡ loaded_text count instant) }
 {
     let mut text = b"loaded ".to_vec(alloc)?;
-    print_number(&mut text, count as u64)?;
+    print_number(&mut text, count as u64).map_err(|_| AllocError)?;
     text.extend_from_slice(b" at ")?;
-    print_number(&mut text, instant)?;
+    print_number(&mut text, instant).map_err(|_| AllocError)?;
     text.push(b'\n')?;
     Ok(text)
 }

@@ -29,7 +29,7 @@ const AT_ONCE: usize = 64;
 
 type Printed = Result<(), AllocError>;
 
-fn print_number<N: Integer>(fields: &mut ByteRecord, number: N) -> Printed
+fn push_number<N: Integer>(fields: &mut ByteRecord, number: N) -> Printed
     requires { partial_of fields.old ≡ [] }
     ensures fields { OnOk result (fields_of fields.new
         ≡ fields_of fields.old ++ N.text number ∷ []) }
@@ -46,7 +46,7 @@ fn print_value(fields: &mut ByteRecord, value: &Value) -> Printed
     ensures whole { OnOk result (partial_of fields.new ≡ []) }
 {
     match value {
-        Value::Int(number) => print_number(fields, *number),
+        Value::Int(number) => push_number(fields, *number),
         Value::Text(text) => fields.push_field(text.text().as_bytes()),
         Value::Bool(true) => fields.push_field(b"true"),
         Value::Bool(false) => fields.push_field(b"false"),
@@ -73,7 +73,7 @@ fn print_end(fields: &mut ByteRecord, to: Option<Instant>) -> Printed
     ensures whole { OnOk result (partial_of fields.new ≡ []) }
 {
     match to {
-        Some(instant) => print_number(fields, instant),
+        Some(instant) => push_number(fields, instant),
         None => fields.push_field(b"forever"),
     }
 }
@@ -84,7 +84,7 @@ fn print_version(fields: &mut ByteRecord, version: &Shown) -> Printed
 {
     fields.clear();
     print_row(fields, &version.row)?;
-    print_number(fields, version.from)?;
+    push_number(fields, version.from)?;
     print_end(fields, version.to)
 }
 
@@ -109,7 +109,8 @@ fn print_header(fields: &mut ByteRecord, table: &Table) -> Printed
     fields.push_field(table.row_end.text().as_bytes())
 }
 
-/// Writes a record, into memory: no other error than that it ran out can come of records that each are the first or as wide as the first.
+/// Writes a record, into memory: no other error than that it ran out can come of records that each
+/// are the first or as wide as the first.
 fn write_fields(writer: &mut Writer<Vec<u8>>, fields: &ByteRecord) -> Printed
     requires { IsReady writer.old }
     ensures ok { OnOk result (Appends (held writer.old) (held writer.new)
@@ -207,9 +208,8 @@ fn export_versions<W: Write>(
     Ok(())
 }
 
-/// Writes a table's header and all versions that are shown, each as `csv` writes a record. It holds the text of a few versions at a time.
-///
-/// At `Err` a prefix of the text was written.
+/// Writes a table's header and all versions that are shown, each as `csv` writes a record. It holds
+/// the text of a few versions at a time. At `Err` a prefix of the text was written.
 pub fn export<W: Write>(
     alloc: Global,
     writer: &mut W,
