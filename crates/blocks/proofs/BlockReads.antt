@@ -1,26 +1,27 @@
 -- Blocks read back, and nothing else is read.
-use Rattle.std.proofs.Common.{◌≡◌, ℕ, ◌^◌, ◌<◌, ◌≤◌, List, [], ◌∷◌, ◌++◌, true, Option, Some, None, length, get_or, refl, sym, subst, ap, ◌∙◌, arith, append-nil, All, IfSome, IfNone, IfOk, IsSome, inl, inr}
+use Rattle.std.proofs.Common.{◌≡◌, ℕ, ◌^◌, ◌<◌, ◌≤◌, List, [], ◌∷◌, ◌++◌, Bool, true, false, if◌then◌else◌, Option, Some, None, length, get_or, refl, sym, subst, ap, ◌∙◌, arith, append-nil, All, IfSome, IfNone, IfOk, IsSome, inl, inr}
 use Rattle.std.specs.Prelude.{nat_le}
 use Rattle.std.specs.declared.result.Result.{Result}
 use Rattle.std.specs.declared.result.Result.TheVariants.{Ok, Err}
 use Rattle.std.proofs.lemmas.Bool.{and_parts, leb-true, ltb-true}
-use Rattle.values.proofs.RowReads.{same_taken, AreBytes}
+use Rattle.values.proofs.RowReads.{chosen, same_taken, AreBytes}
 use Rattle.keyrange.specs.Range.{is_before_end, is_early}
-use Rattle.keyrange.specs.Rect.{Area, IsArea, is_instant_end}
+use Rattle.keyrange.specs.Rect.{Area, IsArea, is_area, is_instant_end}
+use Rattle.keyrange.specs.Cut.{rect_of}
 use Rattle.datanode.specs.Cut.{in_cut}
 use Rattle.datanode.specs.Node.{Node, IsNode, capacity}
 use Rattle.datanode.proofs.CutMembers.{In, In-from_filter}
 use Rattle.datanode.proofs.CutOrder.{at_In}
 use Rattle.datanode.proofs.CutLaws.{in_cut_decides}
-use Rattle.blocks.specs.Field.{byte_from}
 use Rattle.blocks.specs.Event.{event_fields, events_from}
-use Rattle.blocks.specs.Rect.{rect_field, AreShortKeys, rect_from}
+use Rattle.blocks.specs.Rect.{rect_field, AreShortKeys}
+use Rattle.blocks.specs.Head.{head_from}
 use Rattle.blocks.specs.Block.{HasBlock, IsHeldNode, IsBlockOf}
 use Rattle.blocks.specs.Gather.{IsCountedNode, NoCountedNode}
 use Rattle.blocks.specs.Law.{OneNode, OneBlock}
 use Rattle.blocks.proofs.FieldReads.{bytes_behind}
 use Rattle.blocks.proofs.EventReads.{IsWritten, events_back, events_only}
-use Rattle.blocks.proofs.RectReads.{IsPast, rect_back, rect_only}
+use Rattle.blocks.proofs.HeadReads.{IsPast, head_back, head_only}
 
 -- ---- each event of a block reads back: its instant is one
 
@@ -59,35 +60,31 @@ written n h b k d lt =
 -- ---- what is read of a block
 
 pub record ReadsAs (bytes : List ℕ) (n : Node) : Type 0 where
-  pub rect_is : rect_from bytes ≡ Some (n.rect, length n.events ∷ event_fields n.events)
+  pub head_is : head_from bytes ≡ Some ((n.rect, length n.events), event_fields n.events)
   pub events_are : events_from (length n.events) (event_fields n.events) ≡ Some (n.events, [])
 
 pub block_reads : (bytes : List ℕ) (n : Node) → IsBlockOf bytes n → ReadsAs bytes n
 block_reads bytes n b =
     let past : IsPast n.rect = record { area = b.held.node.area; ends = b.has_block.is_past; short = b.held.keys } in
     record {
-      rect_is = ap rect_from b.bytes_are ∙ rect_back n.rect (length n.events ∷ event_fields n.events) past;
+      head_is = ap head_from b.bytes_are ∙ head_back n.rect (length n.events) (event_fields n.events) past;
       events_are = ap (events_from (length n.events)) (sym (append-nil (event_fields n.events))) ∙ events_back n.events [] (written n b.held b.has_block);
     }
 
 -- ---- what is read is a block, and whose
 
-module _ (bytes : List ℕ) (r : Area) (rest : List ℕ) (k : ℕ) (left : List ℕ) (rect : rect_from bytes ≡ Some (r, rest)) (byte : byte_from rest ≡ Some (k, left)) where
-  counted : (rest : List ℕ) → byte_from rest ≡ Some (k, left) → rest ≡ k ∷ left
-  counted [] is = cc
-  counted (b ∷ bs) is = let parts = same_taken b k bs left is in ap (λ n. n ∷ bs) parts.0 ∙ ap (λ l. k ∷ l) parts.1
-
+module _ (bytes : List ℕ) (r : Area) (k : ℕ) (left : List ℕ) (head : head_from bytes ≡ Some ((r, k), left)) where
   pub found_is : AreBytes bytes → (m : Node) → IsCountedNode r k left m → IsBlockOf bytes m
   found_is h m c =
-      let p = rect_only bytes r rest h rect in
-      let behind = bytes_behind (k ∷ left) (k ∷ []) left refl (subst AreBytes (counted rest byte) (bytes_behind bytes (rect_field r) rest p.spelled h)) in
+      let p = head_only bytes r k left h head in
+      let behind = bytes_behind (k ∷ left) (k ∷ []) left refl (bytes_behind bytes (rect_field r) (k ∷ left) p.spelled h) in
       let a = events_only k left m.events [] behind c.events_are in
       let all : left ≡ event_fields m.events = a.all_spelled ∙ append-nil (event_fields m.events) in
       record {
-        held = record { node = c.is_node; keys = subst (λ (s : Area). AreShortKeys s.keys) (sym c.rect_is) p.past.short; events = a.all_kept };
-        has_block = record { is_past = subst (λ (s : Area). IsSome s.time.to) (sym c.rect_is) p.past.ends; few = subst (λ n. n ≤ capacity) (sym a.counted) c.few; instants = a.all_first };
+        held = record { node = c.is_node; keys = subst (λ (s : Area). AreShortKeys s.keys) (sym c.rect_is) p.short; events = a.all_kept };
+        has_block = record { is_past = subst (λ (s : Area). IsSome s.time.to) (sym c.rect_is) p.ends; few = subst (λ n. n ≤ capacity) (sym a.counted) c.few; instants = a.all_first };
         bytes_are =
-            p.spelled ∙ ap (λ l. rect_field r ++ l) (counted rest byte ∙ ap (λ n. n ∷ left) (sym a.counted) ∙ ap (λ l. length m.events ∷ l) all)
+            p.spelled ∙ ap (λ l. rect_field r ++ l) (ap (λ n. n ∷ left) (sym a.counted) ∙ ap (λ l. length m.events ∷ l) all)
             ∙ ap (λ (s : Area). rect_field s ++ (length m.events ∷ event_fields m.events)) (sym c.rect_is);
       }
 
@@ -98,9 +95,8 @@ module _ (bytes : List ℕ) (r : Area) (rest : List ℕ) (k : ℕ) (left : List 
 
   same_parts : (n : Node) → ReadsAs bytes n → SameParts n
   same_parts n a =
-      let one = same_taken r n.rect rest (length n.events ∷ event_fields n.events) (sym rect ∙ a.rect_is) in
-      let two = same_taken k (length n.events) left (event_fields n.events) (sym byte ∙ ap byte_from one.1) in
-      record { same_rect = one.0; same_count = two.0; same_left = two.1 }
+      let two = same_taken (r, k) (n.rect, length n.events) left (event_fields n.events) (sym head ∙ a.head_is) in
+      record { same_rect = ap (λ (x : Area × ℕ). x.0) two.0; same_count = ap (λ (x : Area × ℕ). x.1) two.0; same_left = two.1 }
 
   read_same : (n : Node) → ReadsAs bytes n → events_from k left ≡ Some (n.events, [])
   read_same n a =
@@ -118,14 +114,23 @@ module _ (bytes : List ℕ) (r : Area) (rest : List ℕ) (k : ℕ) (left : List 
       let events : m.events ≡ n.events = (same_taken m.events n.events [] [] (sym some.events_are ∙ read_same n a)).0 in
       ap (λ q. Some (record { rect = q; events = m.events })) (some.rect_is ∙ s.same_rect) ∙ ap (λ es. Some (record { rect = n.rect; events = es })) events
 
-pub none_there : (bytes : List ℕ) → rect_from bytes ≡ None → (n : Node) → IsBlockOf bytes n → ⊥
-none_there bytes none n b = let a = block_reads bytes n b in let e = sym none ∙ a.rect_is in cc
+  -- a block's ranges are a rectangle's
+  pub no_rect : rect_of r.keys r.time ≡ None → (n : Node) → IsBlockOf bytes n → ⊥
+  no_rect none n b =
+      let s = same_parts n (block_reads bytes n b) in
+      let some : rect_of n.rect.keys n.rect.time ≡ Some n.rect = chosen (is_area n.rect.keys n.rect.time) (Some n.rect) None b.held.node.area in
+      let e = sym none ∙ ap (λ (q : Area). rect_of q.keys q.time) s.same_rect ∙ some in cc
 
-pub none_behind : (bytes : List ℕ) (r : Area) (rest : List ℕ) → rect_from bytes ≡ Some (r, rest) → byte_from rest ≡ None → (n : Node) → IsBlockOf bytes n → ⊥
-none_behind bytes r rest rect none n b =
-    let a = block_reads bytes n b in
-    let one = same_taken r n.rect rest (length n.events ∷ event_fields n.events) (sym rect ∙ a.rect_is) in
-    let e = sym none ∙ ap byte_from one.1 in cc
+-- the rectangle of ranges has them
+pub same_area : (a r : Area) → rect_of a.keys a.time ≡ Some r → a ≡ r
+same_area a r is = by (is_area a.keys a.time) is
+  where
+    by : (t : Bool) → ◌≡◌ {A = Option Area} (if t then Some a else None) (Some r) → a ≡ r
+    by true is = ap (λ (o : Option Area). elim o as (λ _. Area) [ Some q ↦ q | None ↦ a ]) is
+    by false is = cc
+
+pub no_head : (bytes : List ℕ) → head_from bytes ≡ None → (n : Node) → IsBlockOf bytes n → ⊥
+no_head bytes none n b = let a = block_reads bytes n b in let e = sym none ∙ a.head_is in cc
 
 -- ---- one node for each block, and one block for each node
 
@@ -133,10 +138,10 @@ pub one_node : OneNode
 one_node bytes m n b c =
     let a = block_reads bytes m b in
     let d = block_reads bytes n c in
-    let one = same_taken m.rect n.rect (length m.events ∷ event_fields m.events) (length n.events ∷ event_fields n.events) (sym a.rect_is ∙ d.rect_is) in
-    let two = same_taken (length m.events) (length n.events) (event_fields m.events) (event_fields n.events) (ap byte_from one.1) in
-    let events = (same_taken m.events n.events [] [] (sym a.events_are ∙ ap (λ k. events_from k (event_fields m.events)) two.0 ∙ ap (events_from (length n.events)) two.1 ∙ d.events_are)).0 in
-    ap (λ q. record { rect = q; events = m.events }) one.0 ∙ ap (λ es. record { rect = n.rect; events = es }) events
+    let two = same_taken (m.rect, length m.events) (n.rect, length n.events) (event_fields m.events) (event_fields n.events) (sym a.head_is ∙ d.head_is) in
+    let count : length m.events ≡ length n.events = ap (λ (x : Area × ℕ). x.1) two.0 in
+    let events = (same_taken m.events n.events [] [] (sym a.events_are ∙ ap (λ k. events_from k (event_fields m.events)) count ∙ ap (events_from (length n.events)) two.1 ∙ d.events_are)).0 in
+    ap (λ (x : Area × ℕ). record { rect = x.0; events = m.events }) two.0 ∙ ap (λ es. record { rect = n.rect; events = es }) events
 
 pub one_block : OneBlock
 one_block a b n p q = p.bytes_are ∙ sym q.bytes_are

@@ -2,7 +2,7 @@ pub mod LookupSteps
 pub mod FieldReads
 pub mod EventReads
 pub mod EventSteps
-pub mod RectReads
+pub mod HeadReads
 pub mod BlockReads
 pub mod GatherSteps
 pub mod LookupFinds

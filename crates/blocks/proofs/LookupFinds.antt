@@ -1,5 +1,5 @@
 -- What is found in place is what the node has.
-use Rattle.std.proofs.Common.{◌≡◌, ℕ, suc, ◌≤◌, Bool, true, false, ◌&&◌, List, [], ◌∷◌, ◌++◌, Option, Some, None, length, refl, sym, ap, ◌∙◌, subst, arith, append_assoc, if◌then◌else◌, nat_le, nat_lt, All, IfSome, IsSome, inl, inr}
+use Rattle.std.proofs.Common.{◌≡◌, ℕ, suc, ◌≤◌, Bool, true, false, ◌&&◌, List, [], ◌∷◌, ◌++◌, Option, Some, None, length, refl, sym, ap, ◌∙◌, subst, arith, append_assoc, if◌then◌else◌, nat_le, nat_lt, All, IfSome, inl, inr}
 use Rattle.std.specs.Prelude.{option_and_then, option_map}
 use Rattle.std.specs.Int.{w16, w64, to_be_bytes, cast_unsigned}
 use Rattle.std.specs.List.{flat_map}
@@ -27,15 +27,13 @@ use Rattle.datanode.specs.Node.{Node, IsCutOf}
 use Rattle.datanode.proofs.CutMembers.{In}
 use Rattle.datanode.proofs.CutOrder.{head_below}
 use Rattle.datanode.proofs.LawLast.{shown_by_cut}
-use Rattle.blocks.specs.Field.{taken_then, key_field, end_field, instant_field, part_from, length_from, key_from, end_from, byte_from}
+use Rattle.blocks.specs.Field.{taken_then, part_from, length_from}
 use Rattle.blocks.specs.Event.{row_field, event_field, event_fields, IsKept, point_from, row_field_from}
-use Rattle.blocks.specs.Rect.{mark, keys_field, time_end_field, AreShortKeys}
 use Rattle.blocks.specs.Block.{IsBlockOf}
 use Rattle.blocks.specs.Lookup.{behind, past_text, past_tagged, past_value, past_values, past_row_tagged, past_row_field, is_wanted, event_place, events_place, place_in, row_of_field}
-use Rattle.blocks.proofs.FieldReads.{part_back, length_back, key_back, end_back}
+use Rattle.blocks.proofs.FieldReads.{part_back, length_back}
 use Rattle.blocks.proofs.EventReads.{IsWritten, point_back, row_field_back, regroup}
-use Rattle.blocks.proofs.RectReads.{mark_back}
-use Rattle.blocks.proofs.BlockReads.{written}
+use Rattle.blocks.proofs.BlockReads.{written, block_reads}
 
 -- ---- rows are passed over
 
@@ -68,6 +66,13 @@ pub past_row_back : (row : Option Row) (rest : List ℕ) → IfSome row IsStored
 unfolding past_row_tagged
 past_row_back None rest s = refl
 past_row_back (Some row) rest s = past_values_back row rest s.stored
+
+-- ---- the head of a block
+
+-- the number of its events, and where they begin
+pub count_of_block : (bytes : List ℕ) (n : Node) → IsBlockOf bytes n → events_place bytes ≡ Some (length n.events, event_fields n.events)
+unfolding events_place
+count_of_block bytes n b = ap (λ (t : Parsed (Area × ℕ)). taken_then t (λ head events. Some (head.1, events))) (block_reads bytes n b).head_is
 
 -- ---- the last event that is wanted
 
@@ -163,28 +168,12 @@ module _ (key : List ℕ) (low high : ℕ) where
 
   -- ---- in a block
 
-  header : (r : Area) (end : Option ℕ) (rest : List ℕ) → r.time.to ≡ end → IsSome end → AreShortKeys r.keys
-      → events_place ((mark ++ (keys_field r.keys ++ (instant_field r.time.from ++ time_end_field end))) ++ rest) ≡ byte_from rest
-  unfolding events_place
-  header r None rest e some short = cc
-  header r (Some end) rest e some short =
-      let time : List ℕ = instant_field r.time.from ++ instant_field end in
-      let h : List ℕ → List ℕ → Parsed ℕ = λ time events. byte_from events in
-      let g : Option (List ℕ) → List ℕ → Parsed ℕ = λ hi others. taken_then (part_from 16 others) h in
-      let f : List ℕ → List ℕ → Parsed ℕ = λ lo left. taken_then (end_from left) g in
-      let open_mark : Option (List ℕ) → Parsed ℕ = λ o. elim o [ None ↦ None | Some l ↦ taken_then (key_from l) f ] in
-      ap open_mark (mark_back ((keys_field r.keys ++ time) ++ rest))
-      ∙ ap (λ l. taken_then (key_from l) f) (append_assoc (keys_field r.keys) time rest ∙ append_assoc (key_field r.keys.lo) (end_field r.keys.hi) (time ++ rest))
-      ∙ ap (λ t. taken_then t f) (key_back r.keys.lo (end_field r.keys.hi ++ (time ++ rest)) short.lower)
-      ∙ ap (λ t. taken_then t g) (end_back r.keys.hi (time ++ rest) short.upper)
-      ∙ ap (λ t. taken_then t h) (part_back time rest)
-
   pub place_of_block : (bytes : List ℕ) (n : Node) → IsBlockOf bytes n → IsPlaceOf (last_wanted n.events) (place_in bytes key low high)
   unfolding place_in
   place_of_block bytes n b =
       let f : ℕ → List ℕ → Parsed ℕ = λ k events. event_place k events key low high None in
       let is : place_in bytes key low high ≡ event_place (length n.events) (event_fields n.events) key low high None =
-      ap (λ l. taken_then (events_place l) f) b.bytes_are ∙ ap (λ t. taken_then t f) (header n.rect n.rect.time.to (length n.events ∷ event_fields n.events) refl b.has_block.is_past b.held.keys) in
+      ap (λ t. taken_then t f) (count_of_block bytes n b) in
       subst (IsPlaceOf (last_wanted n.events)) (sym is)
       (subst (λ o. IsPlaceOf o (event_place (length n.events) (event_fields n.events) key low high None)) (no_more (last_wanted n.events))
       (places n.events None None b.held.node.ordered (written n b.held b.has_block) refl))
@@ -192,11 +181,6 @@ module _ (key : List ℕ) (low high : ℕ) where
       no_more : (o : Option Event) → later o None ≡ o
       no_more None = refl
       no_more (Some x) = refl
-
--- the number of its events
-pub count_of_block : (bytes : List ℕ) (n : Node) → IsBlockOf bytes n → events_place bytes ≡ Some (length n.events, event_fields n.events)
-count_of_block bytes n b =
-    ap events_place b.bytes_are ∙ header [] 0 0 n.rect n.rect.time.to (length n.events ∷ event_fields n.events) refl b.has_block.is_past b.held.keys
 
 -- ---- what the node says
 

@@ -3,6 +3,7 @@ pub mod Event
 pub mod Rect
 pub mod Block
 pub mod Gather
+pub mod Head
 pub mod Lookup
 pub mod Listing
 pub mod Law

@@ -4,9 +4,9 @@ use Rattle.values.specs.Log.{Row}
 use Rattle.values.specs.RowReading.{Parsed}
 use Rattle.values.specs.Events.{is_bytes}
 use Rattle.keyrange.specs.Range.{is_below}
-use Rattle.blocks.specs.Field.{taken_then, part_from, length_from, key_from, end_from, byte_from}
+use Rattle.blocks.specs.Field.{taken_then, part_from, length_from}
 use Rattle.blocks.specs.Event.{point_from}
-use Rattle.blocks.specs.Rect.{mark_from}
+use Rattle.blocks.specs.Head.{head_from}
 
 -- the bytes behind what was taken
 abbrev pub behind : {A : Type 0} → Parsed A → Option (List ℕ)
@@ -80,13 +80,7 @@ first_place (suc n) bytes key low high =
 
 -- the number of a block's events, and the bytes from the first on
 unfoldable pub events_place : List ℕ → Parsed ℕ
-events_place bytes = elim (mark_from bytes) [
-  | None ↦ None
-  | Some rest ↦ taken_then (key_from rest)
-      (λ lo left.
-      taken_then (end_from left)
-      (λ hi others. taken_then (part_from 16 others) (λ time events. byte_from events)))
-]
+events_place bytes = taken_then (head_from bytes) (λ head events. Some (head.1, events))
 
 unfoldable pub place_in : List ℕ → List ℕ → ℕ → ℕ → Parsed ℕ
 place_in bytes key low high =

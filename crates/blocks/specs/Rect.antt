@@ -6,7 +6,6 @@ use Rattle.values.specs.RowReading.{Parsed}
 use Rattle.keyrange.specs.declared.range.KeyRange.{KeyRange}
 use Rattle.keyrange.specs.declared.range.TimeRange.{TimeRange}
 use Rattle.keyrange.specs.Rect.{Area}
-use Rattle.keyrange.specs.Cut.{rect_of}
 use Rattle.blocks.specs.Field.{taken_then, key_field, end_field, instant_field, key_from, end_from, instant_from}
 
 -- what each block begins with: TSB1
@@ -51,17 +50,3 @@ time_from bytes =
     (λ from rest.
     taken_then (instant_from rest)
     (λ to left. Some (record { from = from; to = Some to }, left)))
-
--- the rectangle of what was taken, where it is one
-abbrev pub area_taken : Option Area → List ℕ → Parsed Area
-area_taken None rest = None
-area_taken (Some r) rest = Some (r, rest)
-
-unfoldable pub ranges_from : List ℕ → Parsed Area
-ranges_from bytes =
-    taken_then (keys_from bytes)
-    (λ keys rest.
-    taken_then (time_from rest) (λ time left. area_taken (rect_of keys time) left))
-
-unfoldable pub rect_from : List ℕ → Parsed Area
-rect_from bytes = elim (mark_from bytes) [ None ↦ None | Some rest ↦ ranges_from rest ]

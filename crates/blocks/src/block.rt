@@ -7,9 +7,9 @@ ghost use Rattle.blocks.specs.Block.{block_of, HasBlock, IsBlockOf};
 ghost use Rattle.blocks.specs.Gather.{IsCountedNode, NoCountedNode};
 
 use crate::event::push_event;
-use crate::field::byte_from;
 use crate::gather::{gather, node_in};
-use crate::rect::{push_rect, rect_from};
+use crate::head::{head_from, rect_of};
+use crate::rect::push_rect;
 use bytes::Bytes;
 use datanode::{CAPACITY, DataNode};
 use keyrange::Rect;
@@ -22,7 +22,8 @@ fn are_instants(events: &[SharedEvent]) -> bool
     events.iter().all(|event| 1 <= event.event().at())
 }
 
-/// Whether a node has a block: it is one of history, with events within the capacity of a node and none of them before instant 1.
+/// Tells whether a node has a block: it is one of history, with events within the capacity of a
+/// node and none of them before instant 1.
 pub fn has_block(node: &DataNode) -> bool
     ensures { IsTrue result ↔ HasBlock node.now }
 {
@@ -40,7 +41,7 @@ fn push_events(alloc: Global, bytes: &mut Vec<u8>, events: &[SharedEvent]) -> Me
     Ok(())
 }
 
-/// The block of a node of history: its bytes in form 1.
+/// Packs a node of history: its bytes in form 1.
 pub fn pack(alloc: Global, node: &DataNode) -> Mem<Bytes>
     requires { HasBlock node.now }
     ensures bytes { IfOk result (λ bytes. bytes ≡ block_of node.now) }
@@ -71,18 +72,19 @@ fn counted_from(alloc: Global, rect: Rect, n: u8, bytes: &[u8]) -> Mem<Option<Da
     }
 }
 
-/// The node that bytes are the block of; None where they are no node's. Each block is one node's alone.
+/// Unpacks the node that bytes are the block of; none where they are no node's. Each block is one
+/// node's alone.
 pub fn unpack(alloc: Global, bytes: &[u8]) -> Mem<Option<DataNode>>
     ensures found { IfOk result (λ found. IfSome found (IsBlockOf bytes.now)) }
     ensures of_block { IfOk result (λ found. (n : Node) →
         IsBlockOf bytes.now n → found ≡ Some n) }
     ensures err { OnlyMemory result }
 {
-    let Some((rect, rest)) = rect_from(alloc, bytes)? else {
+    let Some((head, events)) = head_from(bytes) else {
         return Ok(None);
     };
-    let Some((n, left)) = byte_from(rest) else {
+    let Some(rect) = rect_of(alloc, &head)? else {
         return Ok(None);
     };
-    counted_from(alloc, rect, n, left)
+    counted_from(alloc, rect, head.count, events)
 }

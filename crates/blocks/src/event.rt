@@ -30,6 +30,7 @@ fn push_row(alloc: Global, bytes: &mut Vec<u8>, row: Option<&Row>) -> Mem<()>
     Ok(())
 }
 
+/// Appends an event.
 pub(crate) fn push_event(alloc: Global, bytes: &mut Vec<u8>, event: &Event) -> Mem<()>
     ensures ok { OnOk result (bytes.new.items ≡ bytes.old.items ++ event_field event.now) }
     ensures kept { OnOk result (IsKept event.now) }
@@ -40,7 +41,7 @@ pub(crate) fn push_event(alloc: Global, bytes: &mut Vec<u8>, event: &Event) -> M
     push_row(alloc, bytes, event.row())
 }
 
-/// A key and an instant.
+/// Reads a key and an instant.
 #[tactic(auto, unfolding(crate::specs::Event::point_from))]
 pub(crate) fn point_from(bytes: &[u8]) -> Option<((&[u8], Instant), &[u8])>
     ensures taken { Parses (λ point. (point.0.now, point.1)) result (point_from bytes.now) }
@@ -69,6 +70,7 @@ fn row_tagged(alloc: Global, tag: u8, bytes: &[u8]) -> Mem<Parsed<'_, Option<Row
     }
 }
 
+/// Reads a row, or that there is none.
 pub(crate) fn row_field_from(alloc: Global, bytes: &[u8]) -> Mem<Parsed<'_, Option<Row>>>
     ensures ok { IfOk result (λ parsed. Parses (λ row. row) parsed (row_field_from bytes.now)) }
     ensures err { OnlyMemory result }
@@ -79,7 +81,7 @@ pub(crate) fn row_field_from(alloc: Global, bytes: &[u8]) -> Mem<Parsed<'_, Opti
     }
 }
 
-/// An event, and the bytes behind it.
+/// Reads an event, and the bytes behind it.
 #[tactic(auto, unfolding(crate::specs::Event::event_from, crate::specs::Event::event_of))]
 pub(crate) fn event_from(alloc: Global, bytes: &[u8]) -> Mem<Parsed<'_, Event>>
     ensures ok { IfOk result (λ parsed. Parses (λ event. event) parsed (event_from bytes.now)) }

@@ -7,7 +7,8 @@ ghost use Rattle.blocks.specs.Field.{key_field, end_field, instant_field, part_f
 use std::alloc::{AllocError, Global};
 use values::{Instant, KeyBytes, LONGEST_KEY};
 
-/// The length of a key. A key that is owned is known to be short enough: no clause says so of one that is lent.
+/// The length of a key. A key that is owned is known to be short enough: no clause says so of one
+/// that is lent.
 fn length_of(key: KeyBytes) -> u16
     ensures is { result ≡ length key }
     ensures short { length key ≤ longest_key }
@@ -15,7 +16,7 @@ fn length_of(key: KeyBytes) -> u16
     key.bytes().len() as u16
 }
 
-/// Adds a key behind its length, in two bytes.
+/// Appends a key behind its length, in two bytes.
 pub(crate) fn push_key(bytes: &mut Vec<u8>, key: &KeyBytes) -> Result<(), AllocError>
     ensures ok { OnOk result (bytes.new.items ≡ bytes.old.items ++ key_field key.now) }
     ensures short { OnOk result (length key.now ≤ longest_key) }
@@ -24,7 +25,7 @@ pub(crate) fn push_key(bytes: &mut Vec<u8>, key: &KeyBytes) -> Result<(), AllocE
     bytes.extend_from_slice(key.bytes())
 }
 
-/// Adds an upper key, or that there is none.
+/// Appends an upper key, or that there is none.
 pub(crate) fn push_end(bytes: &mut Vec<u8>, end: &Option<KeyBytes>) -> Result<(), AllocError>
     ensures ok { OnOk result (bytes.new.items ≡ bytes.old.items ++ end_field end.now) }
     ensures short { OnOk result (IfSome end.now (λ key. length key ≤ longest_key)) }
@@ -38,13 +39,14 @@ pub(crate) fn push_end(bytes: &mut Vec<u8>, end: &Option<KeyBytes>) -> Result<()
     }
 }
 
+/// Appends an instant.
 pub(crate) fn push_instant(bytes: &mut Vec<u8>, instant: Instant) -> Result<(), AllocError>
     ensures { OnOk result (bytes.new.items ≡ bytes.old.items ++ instant_field instant) }
 {
     bytes.extend_from_slice(&instant.to_be_bytes())
 }
 
-/// So many bytes, and those behind them.
+/// Splits off so many bytes from those behind them.
 #[tactic(auto, unfolding(crate::specs::Field::part_from))]
 pub(crate) fn part_from(n: usize, bytes: &[u8]) -> Option<(&[u8], &[u8])>
     ensures taken { Parses (λ part. part.now) result (part_from n bytes.now) }
@@ -56,6 +58,7 @@ pub(crate) fn part_from(n: usize, bytes: &[u8]) -> Option<(&[u8], &[u8])>
     Some(bytes.split_at(n))
 }
 
+/// Reads a length of two bytes.
 #[tactic(auto, unfolding(crate::specs::Field::length_from))]
 pub(crate) fn length_from(bytes: &[u8]) -> Option<(u16, &[u8])>
     ensures { Parses (λ n. n) result (length_from bytes.now) }
@@ -76,7 +79,7 @@ fn key_of_length(n: usize, bytes: &[u8]) -> Option<(&[u8], &[u8])>
     Some((key, rest))
 }
 
-/// The bytes of a key.
+/// Reads the bytes of a key.
 #[tactic(auto, unfolding(crate::specs::Field::key_from))]
 pub(crate) fn key_from(bytes: &[u8]) -> Option<(&[u8], &[u8])>
     ensures taken { Parses (λ key. key.now) result (key_from bytes.now) }
@@ -101,7 +104,7 @@ fn end_tagged(tag: u8, bytes: &[u8]) -> Option<(Option<&[u8]>, &[u8])>
     }
 }
 
-/// The bytes of an upper key, where there is one.
+/// Reads the bytes of an upper key, where there is one.
 pub(crate) fn end_from(bytes: &[u8]) -> Option<(Option<&[u8]>, &[u8])>
     ensures taken { Parses (λ end. option_copied end) result (end_from bytes.now) }
     ensures short { IfSome result (λ x. IfSome x.0 (λ key. length key.now ≤ longest_key)) }
@@ -110,6 +113,7 @@ pub(crate) fn end_from(bytes: &[u8]) -> Option<(Option<&[u8]>, &[u8])>
     end_tagged(tag, rest)
 }
 
+/// Reads an instant.
 #[tactic(auto, unfolding(crate::specs::Field::instant_from))]
 pub(crate) fn instant_from(bytes: &[u8]) -> Option<(Instant, &[u8])>
     ensures { Parses (λ instant. instant) result (instant_from bytes.now) }
@@ -118,6 +122,7 @@ pub(crate) fn instant_from(bytes: &[u8]) -> Option<(Instant, &[u8])>
     Some((u64::from_be_bytes(*instant), rest))
 }
 
+/// Reads a byte.
 pub(crate) fn byte_from(bytes: &[u8]) -> Option<(u8, &[u8])>
     ensures { Parses (λ byte. byte) result (byte_from bytes.now) }
 {
@@ -127,7 +132,7 @@ pub(crate) fn byte_from(bytes: &[u8]) -> Option<(u8, &[u8])>
     }
 }
 
-/// A key of bytes that were read.
+/// Makes a key of bytes that were read.
 pub(crate) fn key_of(alloc: Global, bytes: &[u8]) -> Result<KeyBytes, AllocError>
     requires { length bytes.now ≤ longest_key }
     ensures { IfOk result (λ key. key ≡ bytes.now) }

@@ -42,8 +42,8 @@ fn is_next(node: &DataNode, event: &Event) -> bool
     node.rect().keys().contains(event.key()) && is_behind(event, last)
 }
 
-/// The node of so many events, at all instants, and the bytes behind them; None where they are of no node of the
-/// rectangle.
+/// Gathers so many events to a node, at all instants, and the bytes behind them; none where they
+/// are of no node of the rectangle.
 pub(crate) fn gather<'a>(
     alloc: Global,
     rect: &Rect,
@@ -70,7 +70,7 @@ pub(crate) fn gather<'a>(
     Ok(Some((node, rest)))
 }
 
-/// The node of the rectangle itself, where the events are all that it holds of them.
+/// Makes the node of the rectangle itself, where the events are all that it holds of them.
 pub(crate) fn node_in(node: &DataNode, rect: Rect) -> Mem<Option<DataNode>>
     requires { node.now.rect ≡ at_all_times rect }
     ensures some { IfOk result (λ found. IfSome found (λ n.

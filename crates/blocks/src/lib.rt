@@ -5,6 +5,7 @@ mod block;
 mod event;
 mod field;
 mod gather;
+mod head;
 mod law;
 mod listing;
 mod lookup;

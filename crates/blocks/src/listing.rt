@@ -36,7 +36,8 @@ fn is_asked(range: &KeyRange, from: Instant, to: Instant, key: &[u8], at: Instan
     is_key_in(range, key) && from <= at && at <= to
 }
 
-/// The event at the start of bytes, where it is asked for, and the bytes after it; none from the end of the range on.
+/// The event at the start of bytes, where it is asked for, and the bytes after it; none from the
+/// end of the range on.
 #[tactic(auto, unfolding(crate::specs::Listing::next_asked))]
 fn next_asked<'a>(
     alloc: Global,
@@ -104,8 +105,8 @@ fn events_asked(
     Ok(found)
 }
 
-/// The events of a range of keys, from an instant to another and with it, carried ones too, of the node of a
-/// block.
+/// Lists the events of a range of keys, from an instant to another and with it, carried ones too,
+/// of the node of a block.
 pub(crate) fn events_in(
     alloc: Global,
     bytes: &[u8],

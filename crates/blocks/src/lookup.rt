@@ -12,8 +12,8 @@ ghost use Rattle.blocks.specs.Lookup.{past_text, past_tagged, past_value, past_v
 ghost use Rattle.blocks.specs.Event.{row_field_from};
 
 use crate::event::{Parsed, point_from, row_field_from};
-use crate::field::{byte_from, end_from, key_from, length_from, part_from};
-use crate::rect::mark_from;
+use crate::field::{byte_from, length_from, part_from};
+use crate::head::head_from;
 use std::alloc::Global;
 use values::{Instant, KeyBytes, Mem, Row};
 
@@ -85,7 +85,7 @@ fn past_row_tagged(tag: u8, bytes: &[u8]) -> Option<&[u8]>
     }
 }
 
-/// The bytes behind an event's row, or behind the mark that it has none.
+/// Skips an event's row, or the mark that it has none: the bytes behind it.
 pub(crate) fn past_row_field(bytes: &[u8]) -> Option<&[u8]>
     ensures { option_copied result ≡ past_row_field bytes.now }
 {
@@ -100,8 +100,8 @@ fn is_wanted(key: &[u8], low: Instant, high: Instant, other: &[u8], at: Instant)
     key.cmp(other).is_eq() && low < at && at <= high
 }
 
-/// The last event of a key above an instant and up to another, among so many events: its instant, and the bytes from
-/// its row on.
+/// The last event of a key above an instant and up to another, among so many events: its instant,
+/// and the bytes from its row on.
 fn event_place<'a>(
     n: u8,
     bytes: &'a [u8],
@@ -131,8 +131,8 @@ fn event_place<'a>(
     found
 }
 
-/// The first event of a key above an instant and up to another, among so many events: its instant, and the bytes from
-/// its row on.
+/// The first event of a key above an instant and up to another, among so many events: its instant,
+/// and the bytes from its row on.
 fn first_place<'a>(
     n: u8,
     bytes: &'a [u8],
@@ -156,16 +156,13 @@ fn first_place<'a>(
     None
 }
 
-/// How many events a block has, and the bytes from the first on.
+/// Reads the number of a block's events, and the bytes from the first on.
 #[tactic(auto, unfolding(crate::specs::Lookup::events_place))]
 pub(crate) fn events_place(bytes: &[u8]) -> Parsed<'_, u8>
     ensures { Parses (λ n. n) result (events_place bytes.now) }
 {
-    let rest = mark_from(bytes)?;
-    let (_lo, left) = key_from(rest)?;
-    let (_hi, others) = end_from(left)?;
-    let (_time, events) = part_from(16, others)?;
-    byte_from(events)
+    let (head, events) = head_from(bytes)?;
+    Some((head.count, events))
 }
 
 #[tactic(auto, unfolding(crate::specs::Lookup::place_in))]
@@ -195,7 +192,7 @@ fn row_at(alloc: Global, bytes: &[u8]) -> Mem<Option<Row>>
     }
 }
 
-/// How many events the node has that a block represents.
+/// Counts the events of the node that a block represents.
 pub fn event_count(bytes: &[u8]) -> usize
     ensures { (n : Node) → IsBlockOf bytes.now n → result ≡ length n.events }
 {
@@ -205,8 +202,8 @@ pub fn event_count(bytes: &[u8]) -> usize
     }
 }
 
-/// A key's row at an instant, in the node that a block represents, and in each map that the node is the cut of. One row
-/// is made at most.
+/// Finds a key's row at an instant, in the node that a block represents, and in each map that the
+/// node is the cut of. One row is made at most.
 pub fn at(alloc: Global, bytes: &[u8], key: &KeyBytes, instant: Instant) -> Mem<Option<Row>>
     ensures ok { IfOk result (λ row. (n : Node) →
         IsBlockOf bytes.now n → row ≡ row_until n.events key.now instant) }
@@ -221,8 +218,8 @@ pub fn at(alloc: Global, bytes: &[u8], key: &KeyBytes, instant: Instant) -> Mem<
     }
 }
 
-/// The instant of a key's last event above `start`, where there is one, in the node that a block represents. It takes
-/// no memory.
+/// Finds the instant of a key's last event above `start`, if there is one, in the node that a block
+/// represents. It takes no memory.
 pub fn changed_since(bytes: &[u8], key: &KeyBytes, start: Instant) -> Option<Instant>
     ensures { (n : Node) → IsBlockOf bytes.now n → result ≡ event_since n.events start key.now }
 {
@@ -232,8 +229,8 @@ pub fn changed_since(bytes: &[u8], key: &KeyBytes, start: Instant) -> Option<Ins
     }
 }
 
-/// The instant of a key's first event above `after`, where there is one, in the node that a block represents. It takes
-/// no memory.
+/// Finds the instant of a key's first event above `after`, if there is one, in the node that a
+/// block represents. It takes no memory.
 pub(crate) fn next_change(bytes: &[u8], key: &KeyBytes, after: Instant) -> Option<Instant>
     ensures { (n : Node) → IsBlockOf bytes.now n → result ≡ event_after n.events after key.now }
 {

@@ -19,8 +19,8 @@ use std::alloc::Global;
 use std::marker::Model;
 use values::{Instant, KeyBytes, Mem, Row, SharedEvent};
 
-/// A data node of history as its block. The rectangle is kept beside the bytes, so that asking for it reads none of
-/// them.
+/// A data node of history as its block. The rectangle is kept beside the bytes, so that asking for
+/// it reads none of them.
 #[derive(Drop)]
 pub struct Block {
     rect: Rect,
@@ -38,7 +38,7 @@ impl Model for Block {
 }
 
 impl Block {
-    /// The block of a node that has one.
+    /// Packs a node that has a block.
     pub fn pack(alloc: Global, node: &DataNode) -> Mem<Block>
         requires { HasBlock node.now }
         ensures ok { IfOk result (λ b. b
@@ -49,7 +49,7 @@ impl Block {
         block_with(node, bytes)
     }
 
-    /// The block that bytes are, which it keeps without copying them; None where they are no node's.
+    /// Takes bytes as a block, without copying them; none where they are no node's.
     pub fn from_bytes(alloc: Global, bytes: Bytes) -> Mem<Option<Block>>
         ensures bytes { IfOk result (λ found. IfSome found (λ b. b.bytes ≡ bytes)) }
         ensures block { IfOk result (λ found. IfSome found (λ b. IsBlockOf bytes b.node)) }
@@ -63,7 +63,7 @@ impl Block {
         }
     }
 
-    /// The rectangle of the node.
+    /// Returns the rectangle of the node.
     pub fn rect(&self) -> &Rect
         ensures rect { result.now ≡ self.now.node.rect }
         ensures area { IsArea result.now }
@@ -73,7 +73,7 @@ impl Block {
         &self.rect
     }
 
-    /// The bytes of the block.
+    /// Returns the bytes of the block.
     pub fn bytes(&self) -> &Bytes
         ensures bytes { result.now ≡ self.now.bytes }
         ensures block { IsBlockOf self.now.bytes self.now.node }
@@ -81,14 +81,14 @@ impl Block {
         &self.bytes
     }
 
-    /// How many events the node has.
+    /// Counts the events of the node.
     pub fn len(&self) -> usize
         ensures { result ≡ length self.now.node.events }
     {
         event_count(self.bytes.as_slice())
     }
 
-    /// The node.
+    /// Unpacks the node.
     pub fn unpack(&self, alloc: Global) -> Mem<DataNode>
         ensures ok { IfOk result (λ n. n ≡ self.now.node) }
         ensures err { OnlyMemory result }
@@ -99,7 +99,8 @@ impl Block {
         }
     }
 
-    /// A key's row at an instant, of the node and of each map that the node is the cut of. One row is made at most.
+    /// Finds a key's row at an instant, of the node and of each map that the node is the cut of.
+    /// One row is made at most.
     pub fn at(&self, alloc: Global, key: &KeyBytes, instant: Instant) -> Mem<Option<Row>>
         ensures ok { IfOk result (λ row. row
             ≡ row_until self.now.node.events key.now instant) }
@@ -111,21 +112,22 @@ impl Block {
         at(alloc, self.bytes.as_slice(), key, instant)
     }
 
-    /// The instant of a key's last event above `start`, where there is one. It takes no memory.
+    /// Finds the instant of a key's last event above `start`, if there is one. It takes no memory.
     pub fn changed_since(&self, key: &KeyBytes, start: Instant) -> Option<Instant>
         ensures { result ≡ event_since self.now.node.events start key.now }
     {
         changed_since(self.bytes.as_slice(), key, start)
     }
 
-    /// The instant of a key's first event above `after`, where there is one. It takes no memory.
+    /// Finds the instant of a key's first event above `after`, if there is one. It takes no memory.
     pub fn next_change(&self, key: &KeyBytes, after: Instant) -> Option<Instant>
         ensures { result ≡ event_after self.now.node.events after key.now }
     {
         next_change(self.bytes.as_slice(), key, after)
     }
 
-    /// The events of a range of keys, from an instant to another and with it, carried ones too. No other event is made.
+    /// Lists the events of a range of keys, from an instant to another and with it, carried ones
+    /// too. No other event is made.
     pub fn events_in(
         &self,
         alloc: Global,
@@ -140,7 +142,7 @@ impl Block {
         events_in(alloc, self.bytes.as_slice(), range, from, to)
     }
 
-    /// An equal block, which shares the bytes.
+    /// Copies the block, and shares its bytes.
     pub fn copy(&self) -> Mem<Block>
         ensures ok { IfOk result (λ b. b ≡ self.now) }
         ensures err { OnlyMemory result }
@@ -151,7 +153,7 @@ impl Block {
         })
     }
 
-    /// Whether the bytes are equal, and so the nodes.
+    /// Tells whether the bytes are equal, and so the nodes.
     pub fn is_same(&self, other: &Block) -> bool
         ensures same { IsTrue result ↔ (self.now ≡ other.now) }
         ensures node { IsTrue result ↔ (self.now.node ≡ other.now.node) }

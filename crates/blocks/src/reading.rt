@@ -10,7 +10,8 @@ use values::{Instant, Mem, SharedEvent};
 
 /// Gives the events of blocks.
 pub trait Blocks {
-    /// The events of a block's node of a range of keys, from an instant to another and with it, carried ones too.
+    /// Lists the events of a block's node of a range of keys, from an instant to another and with
+    /// it, carried ones too.
     fn events(
         &mut self,
         block: &Block,
@@ -30,6 +31,7 @@ pub struct InPlace {
 }
 
 impl InPlace {
+    /// Makes a reader that keeps nothing.
     pub fn new(alloc: Global) -> InPlace {
         InPlace { alloc }
     }

@@ -1,4 +1,4 @@
--- Rectangles read back from their bytes, and nothing else is read.
+-- Heads read back from their bytes, and nothing else is read.
 use Rattle.std.proofs.Common.{◌≡◌, ℕ, ◌^◌, ◌<◌, ◌≤◌, List, [], ◌∷◌, ◌++◌, Bool, true, false, Option, Some, None, take, drop, refl, sym, subst, ap, ◌∙◌, arith, if◌then◌else◌, append_assoc, IsSome}
 use Rattle.std.specs.Prelude.{nat_eq, nat_le}
 use Rattle.std.specs.Cmp.Lexicographic.{pointwise}
@@ -6,14 +6,14 @@ use Rattle.std.proofs.lemmas.Bool.{and_parts}
 use Rattle.std.proofs.lemmas.Bool.Decides.{nat_tests}
 use Rattle.std.proofs.lemmas.List.{take-append-drop}
 use Rattle.values.specs.RowReading.{Parsed}
-use Rattle.values.proofs.RowReads.{chosen, same_taken, AreBytes}
+use Rattle.values.proofs.RowReads.{same_taken, AreBytes}
 use Rattle.keyrange.specs.declared.range.KeyRange.{KeyRange}
 use Rattle.keyrange.specs.declared.range.TimeRange.{TimeRange}
 use Rattle.keyrange.specs.Range.{is_before_end, is_early}
 use Rattle.keyrange.specs.Rect.{Area, IsArea, is_area}
-use Rattle.keyrange.specs.Cut.{rect_of}
-use Rattle.blocks.specs.Field.{taken_then, key_field, end_field, instant_field, key_from, end_from, instant_from}
-use Rattle.blocks.specs.Rect.{mark, keys_field, time_field, rect_field, AreShortKeys, mark_from, keys_from, time_from, area_taken, ranges_from, rect_from}
+use Rattle.blocks.specs.Field.{taken_then, key_field, end_field, instant_field, key_from, end_from, instant_from, byte_from}
+use Rattle.blocks.specs.Rect.{mark, keys_field, time_field, rect_field, AreShortKeys, mark_from, keys_from, time_from}
+use Rattle.blocks.specs.Head.{body_from, head_from}
 use Rattle.blocks.proofs.FieldReads.{are_taken, bytes_behind, key_back, key_only, end_back, end_only, instant_back, instant_only}
 
 -- ---- the mark
@@ -101,7 +101,7 @@ time_only bytes time rest h is =
     } in
     subst (λ x. IsTime bytes x rest) parts.0 (subst (λ l. IsTime bytes t l) parts.1 here)
 
--- ---- rectangles
+-- ---- heads
 
 -- what a rectangle's bytes ask of it
 pub record IsPast (r : Area) : Type 0 where
@@ -126,64 +126,71 @@ fits keys from end h =
     at_most : (n : ℕ) → nat_le n 999999999999999999 ≡ true → n ≤ 999999999999999999
     at_most n e = grind (arith, nat_tests)
 
-ranges_back : (r : Area) (end : Option ℕ) (rest : List ℕ) → r.time.to ≡ end → IsSome end → IsArea r → AreShortKeys r.keys → ranges_from ((keys_field r.keys ++ time_field r.time) ++ rest) ≡ Some (r, rest)
-unfolding ranges_from
-ranges_back r None rest e some area short = cc
-ranges_back r (Some end) rest e some area short =
+body_back : (r : Area) (end : Option ℕ) (k : ℕ) (rest : List ℕ) → r.time.to ≡ end → IsSome end → IsArea r → AreShortKeys r.keys → body_from ((keys_field r.keys ++ time_field r.time) ++ k ∷ rest) ≡ Some ((r, k), rest)
+unfolding body_from
+body_back r None k rest e some area short = cc
+body_back r (Some end) k rest e some area short =
     let time : TimeRange = record { from = r.time.from; to = Some end } in
     let is : r.time ≡ time = ap (λ t. record { from = r.time.from; to = t }) e in
     let both = fits r.keys r.time.from end (subst (λ t. is_area r.keys t ≡ true) is area) in
-    let f : KeyRange → List ℕ → Parsed Area = λ keys rest. taken_then (time_from rest) (λ time left. area_taken (rect_of keys time) left) in
-    ap (λ t. taken_then (keys_from ((keys_field r.keys ++ time_field t) ++ rest)) f) is
-    ∙ ap (λ l. taken_then (keys_from l) f) (append_assoc (keys_field r.keys) (time_field time) rest)
-    ∙ ap (λ t. taken_then t f) (keys_back r.keys (time_field time ++ rest) short)
-    ∙ ap (λ t. taken_then t (λ time left. area_taken (rect_of r.keys time) left)) (time_back r.time.from end rest both.start both.stop)
-    ∙ ap (λ t. area_taken (rect_of r.keys t) rest) (sym is)
-    ∙ ap (λ o. area_taken o rest) (chosen (is_area r.keys r.time) (Some r) None area)
+    let g : KeyRange → TimeRange → List ℕ → Parsed (Area × ℕ) =
+    λ keys time left. taken_then (byte_from left) (λ count events. Some ((record { keys = keys; time = time }, count), events)) in
+    let f : KeyRange → List ℕ → Parsed (Area × ℕ) = λ keys rest. taken_then (time_from rest) (g keys) in
+    ap (λ t. taken_then (keys_from ((keys_field r.keys ++ time_field t) ++ k ∷ rest)) f) is
+    ∙ ap (λ l. taken_then (keys_from l) f) (append_assoc (keys_field r.keys) (time_field time) (k ∷ rest))
+    ∙ ap (λ t. taken_then t f) (keys_back r.keys (time_field time ++ k ∷ rest) short)
+    ∙ ap (λ t. taken_then t (g r.keys)) (time_back r.time.from end (k ∷ rest) both.start both.stop)
+    ∙ ap (λ (t : TimeRange). Some ((record { keys = r.keys; time = t }, k), rest)) (sym is)
 
-pub rect_back : (r : Area) (rest : List ℕ) → IsPast r → rect_from (rect_field r ++ rest) ≡ Some (r, rest)
-unfolding rect_from
-rect_back r rest past =
-    ap (λ (o : Option (List ℕ)). elim o [ None ↦ None | Some l ↦ ranges_from l ]) (mark_back ((keys_field r.keys ++ time_field r.time) ++ rest))
-    ∙ ranges_back r r.time.to rest refl past.ends past.area past.short
+pub head_back : (r : Area) (k : ℕ) (rest : List ℕ) → IsPast r → head_from (rect_field r ++ k ∷ rest) ≡ Some ((r, k), rest)
+unfolding head_from
+head_back r k rest past =
+    ap (λ (o : Option (List ℕ)). elim o as (λ _. Parsed (Area × ℕ)) [ None ↦ None | Some l ↦ body_from l ]) (mark_back ((keys_field r.keys ++ time_field r.time) ++ k ∷ rest))
+    ∙ body_back r r.time.to k rest refl past.ends past.area past.short
 
-pub record IsRect (bytes : List ℕ) (r : Area) (rest : List ℕ) : Type 0 where
-  pub spelled : bytes ≡ rect_field r ++ rest
-  pub past : IsPast r
+counted : (bytes : List ℕ) (k : ℕ) (rest : List ℕ) → byte_from bytes ≡ Some (k, rest) → bytes ≡ k ∷ rest
+counted [] k rest is = cc
+counted (b ∷ bytes) k rest is = let parts = same_taken b k bytes rest is in ap (λ n. n ∷ bytes) parts.0 ∙ ap (λ l. k ∷ l) parts.1
 
-record AreRanges (bytes : List ℕ) (r : Area) (rest : List ℕ) : Type 0 where
-  spelled : bytes ≡ (keys_field r.keys ++ time_field r.time) ++ rest
-  past : IsPast r
+record IsBody (bytes : List ℕ) (r : Area) (k : ℕ) (rest : List ℕ) : Type 0 where
+  spelled : bytes ≡ (keys_field r.keys ++ time_field r.time) ++ k ∷ rest
+  ends : IsSome r.time.to
+  short : AreShortKeys r.keys
 
-area_by : (bytes : List ℕ) (keys : KeyRange) (time : TimeRange) (left others : List ℕ) (r : Area) (rest : List ℕ) (t : Bool) → is_area keys time ≡ t → AreKeys bytes keys left → IsTime left time others
-    → area_taken (if t then Some (record { keys = keys; time = time }) else None) others ≡ Some (r, rest) → AreRanges bytes r rest
-area_by bytes keys time left others r rest false e k i is = cc
-area_by bytes keys time left others r rest true e k i is =
-    let a : Area = record { keys = keys; time = time } in
-    let parts = same_taken a r others rest is in
-    let here : AreRanges bytes a others = record {
-      spelled = k.spelled ∙ ap (λ l. keys_field keys ++ l) i.spelled ∙ sym (append_assoc (keys_field keys) (time_field time) others);
-      past = record { area = e; ends = i.ends; short = k.short };
-    } in
-    subst (λ x. AreRanges bytes x rest) parts.0 (subst (λ l. AreRanges bytes a l) parts.1 here)
-
-ranges_only : (bytes : List ℕ) (r : Area) (rest : List ℕ) → AreBytes bytes → ranges_from bytes ≡ Some (r, rest) → AreRanges bytes r rest
-unfolding ranges_from
-ranges_only bytes r rest h is =
-    let two = are_taken (keys_from bytes) (λ keys rest. taken_then (time_from rest) (λ time left. area_taken (rect_of keys time) left)) r rest is in
+body_only : (bytes : List ℕ) (x : Area × ℕ) (rest : List ℕ) → AreBytes bytes → body_from bytes ≡ Some (x, rest) → IsBody bytes x.0 x.1 rest
+unfolding body_from
+body_only bytes x rest h is =
+    let g : KeyRange → TimeRange → List ℕ → Parsed (Area × ℕ) =
+    λ keys time left. taken_then (byte_from left) (λ count events. Some ((record { keys = keys; time = time }, count), events)) in
+    let two = are_taken (keys_from bytes) (λ keys rest. taken_then (time_from rest) (g keys)) x rest is in
     let keys = keys_only bytes two.x two.left h two.first in
-    let next = are_taken (time_from two.left) (λ time left. area_taken (rect_of two.x time) left) r rest two.second in
+    let next = are_taken (time_from two.left) (g two.x) x rest two.second in
     let time = time_only two.left next.x next.left (bytes_behind bytes (keys_field two.x) two.left keys.spelled h) next.first in
-    area_by bytes two.x next.x two.left next.left r rest (is_area two.x next.x) refl keys time next.second
+    let last = are_taken (byte_from next.left) (λ count events. Some ((record { keys = two.x; time = next.x }, count), events)) x rest next.second in
+    let r : Area = record { keys = two.x; time = next.x } in
+    let parts = same_taken (r, last.x) x last.left rest last.second in
+    let here : IsBody bytes r last.x last.left = record {
+      spelled =
+          keys.spelled ∙ ap (λ l. keys_field two.x ++ l) (time.spelled ∙ ap (λ l. time_field next.x ++ l) (counted next.left last.x last.left last.first))
+          ∙ sym (append_assoc (keys_field two.x) (time_field next.x) (last.x ∷ last.left));
+      ends = time.ends;
+      short = keys.short;
+    } in
+    subst (λ (y : Area × ℕ). IsBody bytes y.0 y.1 rest) parts.0 (subst (λ l. IsBody bytes r last.x l) parts.1 here)
 
-rect_by : (bytes : List ℕ) (r : Area) (rest : List ℕ) (o : Option (List ℕ)) → AreBytes bytes → mark_from bytes ≡ o
-    → ◌≡◌ {A = Parsed Area} (elim o [ None ↦ None | Some l ↦ ranges_from l ]) (Some (r, rest)) → IsRect bytes r rest
-rect_by bytes r rest None h e is = cc
-rect_by bytes r rest (Some left) h e is =
+pub record IsHead (bytes : List ℕ) (r : Area) (k : ℕ) (rest : List ℕ) : Type 0 where
+  pub spelled : bytes ≡ rect_field r ++ k ∷ rest
+  pub ends : IsSome r.time.to
+  pub short : AreShortKeys r.keys
+
+head_by : (bytes : List ℕ) (r : Area) (k : ℕ) (rest : List ℕ) (o : Option (List ℕ)) → AreBytes bytes → mark_from bytes ≡ o
+    → ◌≡◌ {A = Parsed (Area × ℕ)} (elim o [ None ↦ None | Some l ↦ body_from l ]) (Some ((r, k), rest)) → IsHead bytes r k rest
+head_by bytes r k rest None h e is = cc
+head_by bytes r k rest (Some left) h e is =
     let spelled = mark_only bytes left e in
-    let ranges = ranges_only left r rest (bytes_behind bytes mark left spelled h) is in
-    record { spelled = spelled ∙ ap (λ l. mark ++ l) ranges.spelled; past = ranges.past }
+    let body = body_only left (r, k) rest (bytes_behind bytes mark left spelled h) is in
+    record { spelled = spelled ∙ ap (λ l. mark ++ l) body.spelled; ends = body.ends; short = body.short }
 
-pub rect_only : (bytes : List ℕ) (r : Area) (rest : List ℕ) → AreBytes bytes → rect_from bytes ≡ Some (r, rest) → IsRect bytes r rest
-unfolding rect_from
-rect_only bytes r rest h is = rect_by bytes r rest (mark_from bytes) h refl is
+pub head_only : (bytes : List ℕ) (r : Area) (k : ℕ) (rest : List ℕ) → AreBytes bytes → head_from bytes ≡ Some ((r, k), rest) → IsHead bytes r k rest
+unfolding head_from
+head_only bytes r k rest h is = head_by bytes r k rest (mark_from bytes) h refl is
