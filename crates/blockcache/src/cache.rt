@@ -19,11 +19,12 @@ const MOST: usize = 16;
 /// The first instant and the lower key of a block's rectangle.
 type Corner = (Instant, Vec<u8>);
 
-/// At most 16 blocks, those that were asked for last. What is asked of a block for the first time is read in place; where
-/// it is asked for again, while it is kept, it is unpacked, and its node is kept beside it. So a query that comes to many
-/// blocks once unpacks none. An entry is found by the corner of its rectangle, which is short, and answers for a block of
-/// the same bytes alone: blocks of two trees may have one rectangle. Of blocks that have one corner the last is kept. In
-/// a tree no two have. Until the first block is asked for the cache takes no memory.
+/// At most 16 blocks, those that were asked for last. What is asked of a block for the first time
+/// is read in place; where it is asked for again, while it is kept, it is unpacked, and its node is
+/// kept beside it. So a query that comes to many blocks once unpacks none. An entry is found by the
+/// corner of its rectangle, which is short, and answers for a block of the same bytes alone: blocks
+/// of two trees may have one rectangle. Of blocks that have one corner the last is kept. In a tree
+/// no two have. Until the first block is asked for the cache takes no memory.
 #[derive(Drop)]
 pub struct BlockCache {
     alloc: Global,
@@ -41,7 +42,7 @@ impl Model for BlockCache {
 }
 
 impl BlockCache {
-    /// A cache of no blocks. It takes no memory.
+    /// Makes a cache of no blocks. It takes no memory.
     pub fn new(alloc: Global) -> BlockCache
         ensures { result ≡ 0 }
     {
@@ -51,7 +52,7 @@ impl BlockCache {
         }
     }
 
-    /// How many blocks the cache keeps: at most 16.
+    /// Returns the number of blocks that the cache keeps: at most 16.
     pub fn len(&self) -> usize
         ensures is { result ≡ self.now }
         ensures most { result ≤ 16 }

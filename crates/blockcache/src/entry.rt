@@ -27,7 +27,7 @@ impl Model for Entry {
 }
 
 impl Entry {
-    /// The entry of a block that is not unpacked. It shares the block's bytes.
+    /// Makes the entry of a block that is not unpacked. It shares the block's bytes.
     pub(crate) fn new(block: &Block) -> Mem<Entry>
         ensures ok { IfOk result (λ e. e ≡ block.now) }
         ensures err { OnlyMemory result }
@@ -36,7 +36,7 @@ impl Entry {
         Ok(Entry { block, node: None })
     }
 
-    /// The entry of a block that is unpacked. It shares the block's bytes.
+    /// Unpacks a block, and makes its entry. It shares the block's bytes.
     pub(crate) fn unpack(alloc: Global, block: &Block) -> Mem<Entry>
         ensures ok { IfOk result (λ e. e ≡ block.now) }
         ensures err { OnlyMemory result }
@@ -46,14 +46,14 @@ impl Entry {
         Ok(Entry { block, node })
     }
 
-    /// Whether the entry is of this very block: the bytes are equal.
+    /// Tells whether the entry is of this very block: the bytes are equal.
     pub(crate) fn is_of(&self, block: &Block) -> bool
         ensures { IsTrue result ↔ (self.now ≡ block.now) }
     {
         self.block.is_same(block)
     }
 
-    /// The block's node, where it was unpacked.
+    /// Returns the block's node, if it was unpacked.
     pub(crate) fn node(&self) -> Option<&DataNode>
         ensures { IfSome (option_copied result) (λ node. node ≡ self.now.node) }
     {
