@@ -4,7 +4,7 @@ use Rattle.std.specs.List.{list_any}
 use Rattle.values.specs.Log.{Log}
 use Rattle.values.specs.Commits.{after}
 use Rattle.tsbtree.specs.View.{last}
-use Rattle.journal.specs.declared.entry.Begun.{Begun}
+use Rattle.journal.specs.BegunState.{BegunState}
 use Rattle.journal.specs.declared.entry.Entry.{Entry}
 use Rattle.journal.specs.declared.entry.Entry.TheVariants.{Begin, Commit, Split, Install}
 
@@ -61,8 +61,16 @@ is_commit_of number (Install rect block done) = false
 abbrev pub has_ended : Entries → ℕ → Bool
 has_ended j number = list_any (is_commit_of number) j
 
+-- what a session keeps of an entry with a number, if it is a begin
+abbrev pub begun_of : ℕ → Entry → Option BegunState
+begun_of number (Begin session earlier view) =
+    Some (record { number = number; earlier = earlier; start = last view })
+begun_of number (Commit session begin net reading end) = None
+begun_of number (Split cut done) = None
+begun_of number (Install rect block done) = None
+
 -- the begin that a session keeps
-abbrev pub is_begin : ℕ → Begun → Entry → Bool
+abbrev pub is_begin : ℕ → BegunState → Entry → Bool
 is_begin i begun (Begin session earlier view) =
     (session == i) && (earlier == begun.earlier) && (last view == begun.start)
 is_begin i begun (Commit session begin net reading end) = false
@@ -70,7 +78,7 @@ is_begin i begun (Split cut done) = false
 is_begin i begun (Install rect block done) = false
 
 -- a session's transaction is open here: the begin that it keeps has its number, and no commit names it
-abbrev pub is_open : Entries → ℕ → Begun → Bool
+abbrev pub is_open : Entries → ℕ → BegunState → Bool
 is_open j session begun =
     elim (entry_at j begun.number) [ None ↦ false | Some e ↦ is_begin session begun e ]
     && not (has_ended j begun.number)

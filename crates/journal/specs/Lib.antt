@@ -1,3 +1,4 @@
+pub mod BegunState
 pub mod Entries
 pub mod Legal
 pub mod JournalState

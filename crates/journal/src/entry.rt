@@ -1,4 +1,4 @@
-//! Entries.
+//! What happened to a store, and what a session keeps of its begin.
 ghost use Rattle.std.specs.Prelude.{◌≡◌, IfOk};
 ghost use Rattle.values.specs.Memory.{OnlyMemory};
 
@@ -58,6 +58,7 @@ impl Model for SharedEntry {
 }
 
 impl SharedEntry {
+    /// Puts an entry where it can be shared. `Memory` where it runs out.
     pub fn new(alloc: Global, entry: Entry) -> Mem<SharedEntry>
         ensures ok { IfOk result (λ s. s ≡ entry) }
         ensures err { OnlyMemory result }
@@ -66,7 +67,7 @@ impl SharedEntry {
         Ok(SharedEntry { entry })
     }
 
-    /// The same entry, of which nothing is copied.
+    /// Returns the same entry, without copying it. `Memory` where it runs out.
     pub fn share(&self) -> Mem<SharedEntry>
         ensures ok { IfOk result (λ s. s ≡ self.now) }
         ensures err { OnlyMemory result }
@@ -75,6 +76,7 @@ impl SharedEntry {
         Ok(SharedEntry { entry })
     }
 
+    /// Returns the entry.
     pub fn entry(&self) -> &Entry
         ensures { result.now ≡ self.now }
     {
@@ -83,19 +85,43 @@ impl SharedEntry {
 }
 
 /// What a session keeps of its begin: the begin's number, the number of the session's entry before that the begin names,
-/// and the instant of its snapshot.
-#[derive(Clone, Copy)]
+/// and the instant of its snapshot. The begin's receipt makes it, and nothing else.
+#[derive(Drop)]
 pub struct Begun {
-    pub number: u64,
-    pub earlier: u64,
-    pub start: Instant,
+    pub(crate) number: u64,
+    pub(crate) earlier: u64,
+    pub(crate) start: Instant,
+}
+
+impl Model for Begun {
+    ghost use Rattle.journal.specs.BegunState.{BegunState};
+
+    ghost Value = { BegunState };
+
+    ghost view = { λ b. record { number = b.number; earlier = b.earlier; start = b.start } };
+}
+
+impl Begun {
+    /// Returns the number of the begin.
+    pub fn number(&self) -> u64
+        ensures { result ≡ self.now.number }
+    {
+        self.number
+    }
+
+    /// Returns the instant of the begin's snapshot.
+    pub fn start(&self) -> Instant
+        ensures { result ≡ self.now.start }
+    {
+        self.start
+    }
 }
 
 impl Entry {
     ghost use Rattle.std.specs.Prelude.{ℕ};
-    ghost use Rattle.journal.specs.Entries.{is_entry_of, is_commit_of, is_begin, is_number};
+    ghost use Rattle.journal.specs.Entries.{begun_of, is_entry_of, is_commit_of, is_begin, is_number};
 
-    /// Whether it is a begin or a commit of a session.
+    /// Tells whether it is a begin or a commit of a session.
     pub fn is_of(&self, session: u8) -> bool
         ensures { result ≡ is_entry_of session self.now }
     {
@@ -107,7 +133,7 @@ impl Entry {
         }
     }
 
-    /// The number of the begin that it is the commit of, if it is one.
+    /// Returns the number of the begin that it is the commit of, if it is one.
     pub fn begin(&self) -> Option<u64>
         ensures { (number : ℕ) → is_commit_of number self.now ≡ is_number number result }
     {
@@ -119,7 +145,23 @@ impl Entry {
         }
     }
 
-    /// Whether it is the begin that a session keeps.
+    /// Returns what a session keeps of it at a number, if it is a begin.
+    pub(crate) fn begun(&self, number: u64) -> Option<Begun>
+        ensures { result ≡ begun_of number self.now }
+    {
+        match self {
+            Entry::Begin { earlier, view, .. } => Some(Begun {
+                number,
+                earlier: *earlier,
+                start: view.last(),
+            }),
+            Entry::Commit { .. } => None,
+            Entry::Split { .. } => None,
+            Entry::Install { .. } => None,
+        }
+    }
+
+    /// Tells whether it is the begin that a session keeps.
     pub fn is_begin(&self, session: u8, begun: &Begun) -> bool
         ensures { result ≡ is_begin session begun.now self.now }
     {

@@ -1,4 +1,4 @@
-//! The journal.
+//! The entries of a store, in the order in which they happened.
 ghost use Rattle.std.specs.Prelude.{◌≡◌, ℕ, ◌<◌, ◌+◌, ◌∷◌, ◌^◌, [], All, IsPermutation, MatchOption, None, OnOk, Some, false, length, map, reverse, slice_get, true};
 ghost use Rattle.values.specs.Memory.{OnlyMemory};
 ghost use Rattle.journal.specs.Entries.{entry_at, has_entry_of, has_ended, is_open, numbers};
@@ -11,7 +11,8 @@ use std::alloc::Global;
 use std::marker::Model;
 use values::Mem;
 
-/// The entries of a store. They are numbered from 1, the oldest first, and stay for good. Contracts see them as a list, the newest first.
+/// The entries of a store. They are numbered from 1, the oldest first, and stay for good. Contracts see them as a list,
+/// the newest first.
 #[derive(Drop)]
 pub struct Journal<J: StoreName> {
     entries: Vec<SharedEntry>,
@@ -37,7 +38,7 @@ impl<J: StoreName> Model for Journal<J> {
 }
 
 impl<J: StoreName> Journal<J> {
-    /// The journal of a store to which nothing has happened.
+    /// Makes the journal of a store to which nothing has happened.
     pub fn new(alloc: Global, opened: NewLog<SharedEntry>) -> Journal<J>
         requires { opened.seen.book ≡ J.book }
         ensures { result.entries ≡ [] }
@@ -51,14 +52,14 @@ impl<J: StoreName> Journal<J> {
         }
     }
 
-    /// How many entries there are.
+    /// Returns how many entries there are.
     pub fn len(&self) -> usize
         ensures { result ≡ length self.now.entries }
     {
         self.entries.len()
     }
 
-    /// The entry with a number.
+    /// Returns the entry with a number, if there is one.
     pub fn at(&self, number: u64) -> Option<&Entry>
         ensures { MatchOption result (entry_at self.now.entries number ≡ None) (λ e.
             entry_at self.now.entries number ≡ Some e.now) }
@@ -72,7 +73,7 @@ impl<J: StoreName> Journal<J> {
         }
     }
 
-    /// Whether the entry with a number is one of a session.
+    /// Tells whether the entry with a number is one of a session.
     pub fn has_entry_of(&self, session: u8, number: u64) -> bool
         ensures { result ≡ has_entry_of self.now.entries session number }
     {
@@ -82,7 +83,8 @@ impl<J: StoreName> Journal<J> {
         }
     }
 
-    /// Whether the transaction of a session is open here, by what the session keeps of its begin. It walks over no entries.
+    /// Tells whether the transaction of a session is open here, by what the session keeps of its begin. It walks over no
+    /// entries.
     pub fn is_open(&self, session: u8, begun: &Begun) -> bool
         ensures { result ≡ is_open self.now.entries session begun.now }
     {
@@ -100,7 +102,7 @@ impl<J: StoreName> Journal<J> {
         self.ended[number as usize - 1]
     }
 
-    /// Makes room for one more entry. Where memory runs out the entries are what they were.
+    /// Makes room for one more entry. `Memory` where it runs out; the entries are then what they were.
     pub fn reserve(&mut self) -> Mem<()>
         ensures ok { OnOk result (0 < self.new.room) }
         ensures same { self.new.entries ≡ self.old.entries }
@@ -130,8 +132,8 @@ impl<J: StoreName> Journal<J> {
         Receipt::new(number + 1, entry, self.prefix.again())
     }
 
-    /// Whether the receipts are those of the entries, one for each, in whatever order they come. It takes no memory, and looks at numbers alone: by
-    /// its type a receipt has the entry at its number.
+    /// Tells whether the receipts are those of the entries, one for each, in whatever order they come. It takes no memory,
+    /// and looks at numbers alone: by its type a receipt has the entry at its number.
     #[tactic(auto, using(crate::proofs::JournalNumbering::all_once))]
     pub fn is_covered(&self, receipts: &mut Vec<Receipt<J>>) -> bool
         ensures same { IsPermutation receipts.old.items receipts.new.items }
@@ -170,7 +172,7 @@ impl<J: StoreName> Journal<J> {
         receipt.is_in(&self.prefix)
     }
 
-    /// The entries, the oldest first.
+    /// Returns the entries, the oldest first.
     pub fn into_entries(self) -> Vec<SharedEntry>
         ensures { reverse result.items ≡ self.entries }
     {

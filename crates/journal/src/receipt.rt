@@ -1,7 +1,8 @@
-//! Receipts.
+//! The receipt of an entry.
 ghost use Rattle.std.specs.Prelude.{◌≡◌, ◌≤◌, ◌-◌, length, slice_get, Some, true};
+ghost use Rattle.journal.specs.Entries.{begun_of};
 
-use crate::entry::SharedEntry;
+use crate::entry::{Begun, SharedEntry};
 use growlog::{Prefix, StoreName};
 
 /// An entry with its number, from 1. The prefix that it keeps has the entry in its place, unless it ends before.
@@ -15,7 +16,7 @@ pub struct Receipt<J: StoreName> {
 }
 
 impl<J: StoreName> Receipt<J> {
-    /// The receipt of the entry with a number, by a prefix of the log that has the entry or ends before it.
+    /// Makes the receipt of the entry with a number, by a prefix of the log that has the entry or ends before it.
     pub fn new(number: u64, entry: SharedEntry, prefix: Prefix<SharedEntry, J>) -> Receipt<J>
         requires counts { 1 ≤ number }
         requires stands { number ≤ length prefix → slice_get prefix (number - 1) ≡ Some entry }
@@ -29,7 +30,14 @@ impl<J: StoreName> Receipt<J> {
         }
     }
 
-    /// Whether the prefix reaches the number, and so has the entry.
+    /// Returns what a session keeps of its begin, if the entry is a begin.
+    pub fn begun(&self) -> Option<Begun>
+        ensures { result ≡ begun_of self.now.number self.now.entry }
+    {
+        self.entry.entry().begun(self.number)
+    }
+
+    /// Tells whether the prefix reaches the number, and so has the entry.
     pub fn is_in(&self, whole: &Prefix<SharedEntry, J>) -> bool
         ensures has { result ≡ true →
             slice_get whole.now (self.now.number - 1) ≡ Some self.now.entry }
