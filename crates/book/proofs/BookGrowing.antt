@@ -12,10 +12,10 @@ use Rattle.values.specs.declared.key.Point.{Point}
 use Rattle.std.proofs.lemmas.List.Elements.{All-nil}
 use Rattle.values.proofs.LogPush.{add_all-push}
 use Rattle.blocks.specs.PackedNode.{Packed}
-use Rattle.tsbtree.specs.View.{TreeState, last as view_last, IsEmpty}
+use Rattle.tsbtree.specs.View.{TreeState, last as view_last, IsEmpty, IsState}
 use Rattle.tsbtree.specs.Growth.{HoldsSame}
 use Rattle.staging.specs.View.{Holds}
-use Rattle.journal.specs.declared.entry.Begun.{Begun}
+use Rattle.journal.specs.BegunState.{BegunState}
 use Rattle.journal.specs.declared.entry.Entry.{Entry}
 use Rattle.journal.specs.declared.entry.Entry.TheVariants.{Begin, Commit, Install}
 use Rattle.journal.specs.Entries.{Entries, start_of, log, has_entry_of, has_ended, is_open}
@@ -33,9 +33,10 @@ sorted_nil : IsStrictlySortedBy point_cmp []
 unfolding IsStrictlySortedBy
 sorted_nil = tt
 
-pub new_book : (schema : Schema) (engine : TreeState) (j : Entries) → IsEmpty engine → j ≡ [] → IsBook schema (book engine j)
-new_book schema engine j empty none = subst (λ j. IsBook schema (book engine j)) (sym none) (record {
+pub new_book : (schema : Schema) (engine : TreeState) (j : Entries) → IsEmpty engine → IsState engine.nodes (view_last engine) → j ≡ [] → IsBook schema (book engine j)
+new_book schema engine j empty sound none = subst (λ j. IsBook schema (book engine j)) (sym none) (record {
   legal = tt;
+  tree = sound;
   holds = record { events_are = empty.no_event; keys = All-nil (λ (p : Point). IsKeyIn schema p.key); in_order = sorted_nil };
   clock = empty.no_commit;
   room = omega arith;
@@ -67,6 +68,7 @@ may_begin schema b session number is = record {
 pub begun : (schema : Schema) (b : BookState) (session number : ℕ) → IsBook schema b → length b.entries < most_entries → IsBook schema (book b.engine (begin_entry b session number ∷ b.entries))
 begun schema b session number is few = record {
   legal = (may_begin schema b session number is, is.legal);
+  tree = is.tree;
   holds = is.holds;
   clock = is.clock;
   room = omega arith;
@@ -74,20 +76,21 @@ begun schema b session number is few = record {
 
 -- ---- an install
 
-pub was_installed : (schema : Schema) (b : BookState) (new : TreeState) (packed : Packed) (done : Bool) → IsBook schema b → HoldsSame b.engine new → length b.entries < most_entries
+pub was_installed : (schema : Schema) (b : BookState) (new : TreeState) (packed : Packed) (done : Bool) → IsBook schema b → HoldsSame b.engine new → IsState new.nodes (view_last new) → length b.entries < most_entries
     → IsBook schema (book new (Install packed.node.rect packed.bytes done ∷ b.entries))
-was_installed schema b new packed done is same few = record {
+was_installed schema b new packed done is same sound few = record {
   legal = (tt, is.legal);
+  tree = sound;
   holds = record { events_are = same.events_are ∙ is.holds.events_are; keys = is.holds.keys; in_order = is.holds.in_order };
   clock = same.last_is ∙ is.clock;
   room = omega arith;
 }
 
 -- as the calls tell it
-pub with_install : (schema : Schema) (b : BookState) (new : TreeState) (packed : Packed) (done : Bool) (put : Entry) (made grown : Entries) → IsBook schema b → HoldsSame b.engine new → length b.entries < most_entries
+pub with_install : (schema : Schema) (b : BookState) (new : TreeState) (packed : Packed) (done : Bool) (put : Entry) (made grown : Entries) → IsBook schema b → HoldsSame b.engine new → IsState new.nodes (view_last new) → length b.entries < most_entries
     → made ≡ b.entries → put ≡ Install packed.node.rect packed.bytes done → grown ≡ put ∷ made → IsBook schema (book new grown)
-with_install schema b new packed done put made grown is holds few same entry grows =
-    subst (λ j. IsBook schema (book new j)) (sym (grows ∙ (λ k. entry k ∷ same k))) (was_installed schema b new packed done is holds few)
+with_install schema b new packed done put made grown is holds sound few same entry grows =
+    subst (λ j. IsBook schema (book new j)) (sym (grows ∙ (λ k. entry k ∷ same k))) (was_installed schema b new packed done is holds sound few)
 
 -- ---- a commit
 
@@ -111,7 +114,7 @@ fits_after schema old new l net (Ok (Some instant)) keys fits is = record {
 }
 fits_after schema old new l net (Err refusal) keys fits is = subst (λ e. Fits schema e l) (sym is) fits
 
-module _ (schema : Schema) (b : BookState) (session reading : ℕ) (begun : Begun) (net : Net) (is : IsBook schema b) (f : IsFound b.entries session begun) where
+module _ (schema : Schema) (b : BookState) (session reading : ℕ) (begun : BegunState) (net : Net) (is : IsBook schema b) (f : IsFound b.entries session begun) where
   abbrev how : Result (Option ℕ) Refusal
   how = outcome (changes (log b.entries)) (last (log b.entries)) begun.start net reading
 
@@ -129,13 +132,14 @@ module _ (schema : Schema) (b : BookState) (session reading : ℕ) (begun : Begu
       (λ k. elim (start_of (f.there k)) [ None ↦ log b.entries | Some start ↦ after (log b.entries) start net reading ])
       ∙ (λ k. after (log b.entries) (f.start_is k) net reading)
 
-  pub committed : (new : TreeState) → AreKeysIn schema net → IsWritten b.engine new net (instant_of how) → length b.entries < most_entries
+  pub committed : (new : TreeState) → AreKeysIn schema net → IsWritten b.engine new net (instant_of how) → IsState new.nodes (view_last new) → length b.entries < most_entries
       → IsBook schema (book new (commit_entry b session begun net reading ∷ b.entries))
-  committed new keys written few =
+  committed new keys written sound few =
       let fits : Fits schema new (log (commit_entry b session begun net reading ∷ b.entries)) =
       subst (Fits schema new) (sym log_is) (fits_after schema b.engine new (log b.entries) net how keys (record { holds = is.holds; clock = is.clock }) written) in
       record {
         legal = (may_commit, is.legal);
+        tree = sound;
         holds = fits.holds;
         clock = fits.clock;
         room = omega arith;
@@ -158,7 +162,7 @@ fresh_as j made e put legal may same is = (λ k. has_ended (is k ∷ same k) (le
 pub fresh_begin : (j made : Entries) (put : Entry) (session earlier : ℕ) (view : TreeState) → IsLegal j → made ≡ j → put ≡ Begin session earlier view → has_ended (put ∷ made) (length made + 1) ≡ false
 fresh_begin j made put session earlier view legal same is = (λ k. has_ended (is k ∷ same k) (length (same k) + 1)) ∙ none_ahead j (length j + 1) legal (omega arith)
 
-module _ (schema : Schema) (b : BookState) (session reading : ℕ) (begun : Begun) (net : Net) (end : Result (Option ℕ) Refusal) (entry : Entry)
+module _ (schema : Schema) (b : BookState) (session reading : ℕ) (begun : BegunState) (net : Net) (end : Result (Option ℕ) Refusal) (entry : Entry)
     (is : IsBook schema b) (here : is_open b.entries session begun ≡ true) (keys : AreKeysIn schema net) (ends : IsEnd b.engine begun.start net reading end)
     (made : entry ≡ Commit session begun.number net reading end) where
   so : end ≡ outcome (changes (log b.entries)) (last (log b.entries)) begun.start net reading
@@ -170,10 +174,10 @@ module _ (schema : Schema) (b : BookState) (session reading : ℕ) (begun : Begu
   pub commit_fresh : (j : Entries) → j ≡ b.entries → has_ended (entry ∷ j) (length j + 1) ≡ false
   commit_fresh j same = fresh_as b.entries j (commit_entry b session begun net reading) entry is.legal (may_commit schema b session reading begun net is (found b.entries session begun here)) same commit_entry_is
 
-  pub commit_grows : (new : TreeState) (changed : Net) (instant : Option ℕ) (j grown : Entries) → changed ≡ net → instant ≡ instant_of end → IsWritten b.engine new changed instant → length b.entries < most_entries
+  pub commit_grows : (new : TreeState) (changed : Net) (instant : Option ℕ) (j grown : Entries) → changed ≡ net → instant ≡ instant_of end → IsWritten b.engine new changed instant → IsState new.nodes (view_last new) → length b.entries < most_entries
       → j ≡ b.entries → grown ≡ entry ∷ j → IsBook schema (book new grown)
-  commit_grows new changed instant j grown twice at written few same grows =
+  commit_grows new changed instant j grown twice at written sound few same grows =
       subst (λ j. IsBook schema (book new j)) (sym (grows ∙ (λ k. commit_entry_is k ∷ same k)))
       (committed schema b session reading begun net is (found b.entries session begun here) new keys
       (subst (λ n. IsWritten b.engine new n (instant_of (outcome (changes (log b.entries)) (last (log b.entries)) begun.start net reading))) twice
-      (subst (IsWritten b.engine new changed) (at ∙ ap instant_of so) written)) few)
+      (subst (IsWritten b.engine new changed) (at ∙ ap instant_of so) written)) sound few)

@@ -2,7 +2,7 @@
 use Rattle.std.proofs.Common.{◌≡◌, ℕ, ◌+◌, ◌<◌, ◌==◌, ◌||◌, ◌&&◌, [], ◌∷◌, length, Option, Some, None, Bool, true, false, not, refl, ap, ◌∙◌, arith}
 use Rattle.std.proofs.lemmas.Bool.Decides.{nat_tests}
 use Rattle.tsbtree.specs.View.{TreeState, last}
-use Rattle.journal.specs.declared.entry.Begun.{Begun}
+use Rattle.journal.specs.BegunState.{BegunState}
 use Rattle.journal.specs.declared.entry.Entry.{Entry}
 use Rattle.journal.specs.declared.entry.Entry.TheVariants.{Begin, Commit, Split, Install}
 use Rattle.journal.specs.Entries.{Entries, entry_at, has_ended, is_begin, is_commit_of, is_open}
@@ -31,20 +31,20 @@ fresh j e legal may = ap (λ b. b || has_ended j (length j + 1)) (ahead j e (len
 
 -- ---- a begin that is open
 
-pub record IsFound (j : Entries) (session : ℕ) (begun : Begun) : Type 0 where
+pub record IsFound (j : Entries) (session : ℕ) (begun : BegunState) : Type 0 where
   pub earlier : ℕ
   pub view : TreeState
   pub there : entry_at j begun.number ≡ Some (Begin session earlier view)
   pub start_is : last view ≡ begun.start
   pub first : has_ended j begun.number ≡ false
 
-record IsBegin (session : ℕ) (begun : Begun) (o : Option Entry) : Type 0 where
+record IsBegin (session : ℕ) (begun : BegunState) (o : Option Entry) : Type 0 where
   pub earlier : ℕ
   pub view : TreeState
   pub is : o ≡ Some (Begin session earlier view)
   pub start_is : last view ≡ begun.start
 
-abbrev begins : ℕ → Begun → Option Entry → Bool
+abbrev begins : ℕ → BegunState → Option Entry → Bool
 begins session begun o = elim o [ None ↦ false | Some e ↦ is_begin session begun e ]
 
 both : (x y : Bool) → (x && y) ≡ true → (x ≡ true) × (y ≡ true)
@@ -55,7 +55,7 @@ unnamed : (b : Bool) → not b ≡ true → b ≡ false
 unnamed false h = refl
 unnamed true h = absurd (cc)
 
-begin_is : (session : ℕ) (begun : Begun) (o : Option Entry) → begins session begun o ≡ true → IsBegin session begun o
+begin_is : (session : ℕ) (begun : BegunState) (o : Option Entry) → begins session begun o ≡ true → IsBegin session begun o
 begin_is session begun None h = absurd (cc)
 begin_is session begun (Some (Begin i earlier view)) h =
     let parts : (((i == session) && (earlier == begun.earlier)) ≡ true) × ((last view == begun.start) ≡ true) = both _ _ h in
@@ -67,7 +67,7 @@ begin_is session begun (Some (Commit i begin net reading end)) h = absurd (cc)
 begin_is session begun (Some (Split cut done)) h = absurd (cc)
 begin_is session begun (Some (Install rect block done)) h = absurd (cc)
 
-pub found : (j : Entries) (session : ℕ) (begun : Begun) → is_open j session begun ≡ true → IsFound j session begun
+pub found : (j : Entries) (session : ℕ) (begun : BegunState) → is_open j session begun ≡ true → IsFound j session begun
 found j session begun h =
     let parts : (begins session begun (entry_at j begun.number) ≡ true) × (not (has_ended j begun.number) ≡ true) = both _ _ h in
     let b : IsBegin session begun (entry_at j begun.number) = begin_is session begun (entry_at j begun.number) parts.0 in

@@ -6,12 +6,12 @@ use Rattle.values.specs.Tables.{Schema}
 use Rattle.values.specs.Log.{Net, last, changes}
 use Rattle.values.specs.Commits.{outcome}
 use Rattle.blocks.specs.PackedNode.{Packed}
-use Rattle.tsbtree.specs.View.{TreeState, last as view_last}
+use Rattle.tsbtree.specs.View.{TreeState, last as view_last, IsState}
 use Rattle.tsbtree.specs.Packing.{IsInstalled}
 use Rattle.staging.specs.View.{Holds}
 use Rattle.validation.specs.declared.cut.Cut.{Cut}
 use Rattle.validation.specs.Split.{IsSplit}
-use Rattle.journal.specs.declared.entry.Begun.{Begun}
+use Rattle.journal.specs.BegunState.{BegunState}
 use Rattle.journal.specs.declared.entry.Entry.{Entry}
 use Rattle.journal.specs.declared.entry.Entry.TheVariants.{Begin, Commit, Split, Install}
 use Rattle.journal.specs.Entries.{Entries, log, has_entry_of}
@@ -26,9 +26,10 @@ pub record BookState : Type 0 where
 abbrev pub most_entries : ℕ
 most_entries = 1000000
 
--- the journal is legal, the tree holds what its log changed, and the clock is at its last instant
+-- the journal is legal, the tree is sound and holds what its log changed, and the clock is at its last instant
 pub record IsBook (schema : Schema) (b : BookState) : Type 0 where
   pub legal : IsLegal b.entries
+  pub tree : IsState b.engine.nodes (view_last b.engine)
   pub holds : Holds schema b.engine (changes (log b.entries))
   pub clock : view_last b.engine ≡ last (log b.entries)
   pub room : length b.entries ≤ most_entries
@@ -42,7 +43,7 @@ abbrev pub begin_entry : BookState → ℕ → ℕ → Entry
 begin_entry b session earlier = Begin session (earlier_in b.entries session earlier) b.engine
 
 -- what a session keeps of a begin now
-abbrev pub begun_now : BookState → ℕ → ℕ → ℕ → Begun
+abbrev pub begun_now : BookState → ℕ → ℕ → ℕ → BegunState
 begun_now b session earlier number = record {
   number = number;
   earlier = earlier_in b.entries session earlier;
@@ -50,7 +51,7 @@ begun_now b session earlier number = record {
 }
 
 -- the entry of a commit now: the first committer wins
-abbrev pub commit_entry : BookState → ℕ → Begun → Net → ℕ → Entry
+abbrev pub commit_entry : BookState → ℕ → BegunState → Net → ℕ → Entry
 commit_entry b session begun net reading =
     Commit session begun.number net reading
     (outcome (changes (log b.entries)) (last (log b.entries)) begun.start net reading)

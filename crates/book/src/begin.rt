@@ -1,4 +1,4 @@
-//! A begin.
+//! A transaction begins.
 ghost use Rattle.std.specs.Prelude.{◌≡◌, ◌<◌, [], Err, IfOk, OnErr, length};
 ghost use Rattle.values.specs.Memory.{OnlyMemory};
 ghost use Rattle.journal.specs.declared.entry.Entry.TheVariants.{Begin};
@@ -21,8 +21,9 @@ pub struct Opening<J: StoreName> {
 }
 
 impl<J: StoreName> Book<J> {
-    /// Begins a transaction of a session, which sees all that was committed. The entry names an earlier one of the session, by its number, if that is one, or else 0.
-    /// `JournalFull` where there is no room for one more entry. After a refusal nothing has changed.
+    /// Begins a transaction of a session, which sees all that was committed. The entry names an earlier one of the session,
+    /// by its number, if that is one, or else 0. `JournalFull` where there is no room for one more entry. After a refusal
+    /// nothing has changed.
     pub fn begin(&mut self, session: u8, earlier: u64) -> Result<Opening<J>, Refusal>
         ensures entry { IfOk result (λ o.
             o.receipt.entry ≡ begin_entry self.old session earlier) }
@@ -48,10 +49,8 @@ impl<J: StoreName> Book<J> {
         let (entry, kept) = begin_entry(self.alloc, &self.engine, session, earlier)?;
         let transaction = begin_transaction(self.alloc, &self.engine)?;
         let receipt = self.journal.push(entry, kept);
-        let begun = Begun {
-            number: receipt.number,
-            earlier,
-            start: transaction.start(),
+        let Some(begun) = receipt.begun() else {
+            unreachable!()
         };
         Ok(Opening {
             begun,

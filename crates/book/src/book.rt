@@ -1,4 +1,4 @@
-//! The book.
+//! What was committed and the journal, in step.
 ghost use Rattle.std.specs.Prelude.{◌≡◌, ◌<◌, [], Err, IfOk, OnOk, length};
 ghost use Rattle.values.specs.Memory.{OnlyMemory};
 ghost use Rattle.tsbtree.specs.View.{IsEmpty};
@@ -15,7 +15,8 @@ use values::{Mem, Refusal};
 /// The entries that a journal may hold.
 const MOST_ENTRIES: usize = 1_000_000;
 
-/// What was committed, and the journal of all that led to it. Contracts see the engine, and the entries, the newest first.
+/// What was committed, and the journal of all that led to it. Contracts see the engine, and the entries, the newest
+/// first.
 #[derive(Drop)]
 pub struct Book<J: StoreName> {
     pub(crate) alloc: Global,
@@ -35,28 +36,31 @@ impl<J: StoreName> Model for Book<J> {
 }
 
 impl<J: StoreName> Book<J> {
-    /// The book of a store to which nothing has happened.
+    /// Makes the book of a store to which nothing has happened. `Memory` where it runs out.
     pub fn new(alloc: Global, opened: NewLog<SharedEntry>) -> Mem<Book<J>>
         requires { opened.seen.book ≡ J.book }
         ensures empty { IfOk result (λ b. b.entries ≡ []) }
         ensures book { IfOk result (IsBook J.schema) }
         ensures memory { OnlyMemory result }
     {
+        let engine = Engine::new(alloc)?;
+        // Who asks for the tree knows that it is sound.
+        let _tree = engine.tree();
         Ok(Book {
             alloc,
-            engine: Engine::new(alloc)?,
+            engine,
             journal: Journal::new(alloc, opened),
         })
     }
 
-    /// The tree of what was committed.
+    /// Returns the tree of what was committed.
     pub fn tree(&self) -> &Tree
         ensures { result.now ≡ self.now.engine }
     {
         self.engine.tree()
     }
 
-    /// How many entries there are.
+    /// Returns how many entries there are.
     pub fn len(&self) -> usize
         ensures { result ≡ length self.now.entries }
     {
@@ -64,7 +68,8 @@ impl<J: StoreName> Book<J> {
     }
 }
 
-/// Makes room for one more entry. `JournalFull` where there is no room. Where it is refused the entries are what they were.
+/// Makes room for one more entry. `JournalFull` where there is no room. Where it is refused the entries are what they
+/// were.
 pub(crate) fn make_room<J: StoreName>(journal: &mut Journal<J>) -> Result<(), Refusal>
     ensures ok { OnOk result (0 < journal.new.room) }
     ensures few { OnOk result (length journal.old.entries < most_entries) }

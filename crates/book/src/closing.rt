@@ -29,21 +29,21 @@ impl Model for Closed {
 impl Closed {
     ghost use Rattle.std.specs.Prelude.{reverse};
 
-    /// The entries, the oldest first.
+    /// Returns the entries, the oldest first.
     pub fn journal(&self) -> &[SharedEntry]
         ensures { reverse result.now ≡ self.now.entries }
     {
         self.entries.as_slice()
     }
 
-    /// How many entries there are.
+    /// Returns how many entries there are.
     pub fn entries(&self) -> usize
         ensures { result ≡ length self.now.entries }
     {
         self.entries.len()
     }
 
-    /// The tree of what was committed.
+    /// Returns the tree of what was committed.
     pub fn tree(&self) -> &Tree
         ensures { result.now ≡ self.now.engine }
     {
@@ -52,7 +52,8 @@ impl Closed {
 }
 
 impl<J: StoreName> Book<J> {
-    /// Whether the receipts are those of the entries, one for each, in whatever order they come. It takes no memory, and looks at numbers alone.
+    /// Tells whether the receipts are those of the entries, one for each, in whatever order they come. It takes no memory,
+    /// and looks at numbers alone.
     pub fn is_covered(&self, receipts: &mut Vec<Receipt<J>>) -> bool
         ensures same { IsPermutation receipts.old.items receipts.new.items }
         ensures stand { result ≡ true → All (λ r.
@@ -63,7 +64,7 @@ impl<J: StoreName> Book<J> {
         self.journal.is_covered(receipts)
     }
 
-    /// The tree and the entries, to which no more are added.
+    /// Ends the book: the tree and the entries, to which no more are added.
     pub fn close(self) -> Closed
         ensures is { result ≡ self }
         ensures book { IsBook J.schema result }

@@ -2,6 +2,7 @@
 ghost use Rattle.std.specs.Prelude.{◌≡◌, ◌<◌, Err, IfOk, IfSome, OnErr, OnOk, false, length, true};
 ghost use Rattle.values.specs.Events.{AreKeysIn};
 ghost use Rattle.values.specs.Memory.{OnlyMemory};
+ghost use Rattle.treenodes.specs.History.{KeepsHistory};
 ghost use Rattle.journal.specs.Entries.{is_open};
 ghost use Rattle.book.specs.Book.{Adds, IsBook, OnlyRoom, commit_entry, most_entries};
 ghost use Rattle.book.specs.Ending.{IsEnd, IsWritten, MayBeWritten, instant_of, ran_out};
@@ -14,8 +15,10 @@ use validation::Engine;
 use values::{Instant, Mem, Refusal};
 
 impl<J: StoreName> Book<J> {
-    /// Ends a session's transaction with its net changes, by this reading of the clock: how it ended is in the entry. The changes are handed in twice, once to be kept
-    /// in the entry and once to be put in the tree. `NoTransaction` where the transaction is not open here, `JournalFull` where there is no room for one more entry. After a refusal nothing has changed.
+    /// Ends a session's transaction with its net changes, by this reading of the clock: how it ended is in the entry. The
+    /// changes are handed in twice, once to be kept in the entry and once to be put in the tree. `NoTransaction` where the
+    /// transaction is not open here, `JournalFull` where there is no room for one more entry. After a refusal nothing has
+    /// changed.
     pub fn commit(
         &mut self,
         session: u8,
@@ -29,6 +32,7 @@ impl<J: StoreName> Book<J> {
         ensures entry { IfOk result (λ r.
             r.entry ≡ commit_entry self.old session begun.now net reading) }
         ensures adds { IfOk result (λ r. Adds r.entry r.number self.old self.new) }
+        ensures history { KeepsHistory self.old.engine.nodes self.new.engine.nodes }
         ensures book { IsBook J.schema self.new }
         ensures none { is_open self.old.entries session begun.now ≡ false
             → result ≡ Err Refusal.NoTransaction }
@@ -43,11 +47,11 @@ impl<J: StoreName> Book<J> {
             return Err(Refusal::NoTransaction);
         }
         make_room(&mut self.journal)?;
-        let end = ending(&self.engine, begun.start, &net, reading)?;
+        let end = ending(&self.engine, begun.start(), &net, reading)?;
         let instant = instant_of(&end);
         let entry = Entry::Commit {
             session,
-            begin: begun.number,
+            begin: begun.number(),
             net,
             reading,
             end,
@@ -55,6 +59,8 @@ impl<J: StoreName> Book<J> {
         let (entry, kept) = twice(self.alloc, entry)?;
         // What the tree takes is the last that can be refused.
         write(&mut self.engine, instant, changes)?;
+        // Who asks for the tree knows that it is sound.
+        let _tree = self.engine.tree();
         Ok(self.journal.push(entry, kept))
     }
 }
@@ -77,10 +83,12 @@ fn ending(
     Ok(end)
 }
 
-/// The write: puts the changes of a transaction in place, where it is committed. Where memory runs out nothing has changed.
+/// The write: puts the changes of a transaction in place, where it is committed. Where memory runs out nothing has
+/// changed.
 fn write(engine: &mut Engine, instant: Option<Instant>, changes: Net) -> Mem<()>
     requires { IfSome instant (MayBeWritten engine.old changes) }
     ensures ok { OnOk result (IsWritten engine.old engine.new changes instant) }
+    ensures history { KeepsHistory engine.old.nodes engine.new.nodes }
     ensures err { OnErr result (engine.new ≡ engine.old) }
     ensures memory { OnlyMemory result }
 {

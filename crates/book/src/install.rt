@@ -1,6 +1,7 @@
 //! An install of a packed node, which changes nothing that was committed.
 ghost use Rattle.std.specs.Prelude.{◌≡◌, ◌<◌, Bool, Err, IfOk, OnErr, length};
 ghost use Rattle.values.specs.Memory.{OnlyMemory};
+ghost use Rattle.treenodes.specs.History.{KeepsPast};
 ghost use Rattle.tsbtree.specs.Growth.{HoldsSame};
 ghost use Rattle.journal.specs.declared.entry.Entry.TheVariants.{Install};
 ghost use Rattle.book.specs.Book.{Adds, IsBook, IsInstallEntry, OnlyRoom, most_entries};
@@ -15,12 +16,15 @@ use validation::PackedNode;
 use values::{Mem, Refusal};
 
 impl<J: StoreName> Book<J> {
-    /// Puts a block in the place of its node, where that is in the tree unpacked: whether it was is in the entry, beside the node's rectangle and the block's bytes. `JournalFull` where there is no room for one more entry. After a refusal nothing has changed.
+    /// Puts a block in the place of its node, where that is in the tree unpacked: whether it was is in the entry, beside the
+    /// node's rectangle and the block's bytes. `JournalFull` where there is no room for one more entry. After a refusal
+    /// nothing has changed.
     pub fn install(&mut self, packed: PackedNode) -> Result<Receipt<J>, Refusal>
         ensures entry { IfOk result (λ r.
             IsInstallEntry packed self.old.engine self.new.engine r.entry) }
         ensures adds { IfOk result (λ r. Adds r.entry r.number self.old self.new) }
         ensures same { HoldsSame self.old.engine self.new.engine }
+        ensures past { KeepsPast self.old.engine.nodes self.new.engine.nodes }
         ensures book { IsBook J.schema self.new }
         ensures full { length self.old.entries ≡ most_entries
             → result ≡ Err Refusal.JournalFull }
@@ -31,6 +35,8 @@ impl<J: StoreName> Book<J> {
         make_room(&mut self.journal)?;
         let outcomes = install_outcomes(self.alloc, &packed)?;
         let is_done = self.engine.install(packed)?;
+        // Who asks for the tree knows that it is sound.
+        let _tree = self.engine.tree();
         Ok(note(&mut self.journal, outcomes, is_done))
     }
 }

@@ -1,6 +1,7 @@
 //! A split of a node, which changes nothing that was committed.
 ghost use Rattle.std.specs.Prelude.{◌≡◌, ◌<◌, Bool, Err, IfOk, OnErr, length};
 ghost use Rattle.values.specs.Memory.{OnlyMemory};
+ghost use Rattle.treenodes.specs.History.{KeepsHistory};
 ghost use Rattle.tsbtree.specs.Growth.{HoldsSame};
 ghost use Rattle.journal.specs.declared.entry.Entry.TheVariants.{Split};
 ghost use Rattle.book.specs.Book.{Adds, IsBook, IsSplitEntry, OnlyRoom, most_entries};
@@ -15,12 +16,15 @@ use validation::Cut;
 use values::{Mem, Refusal};
 
 impl<J: StoreName> Book<J> {
-    /// Splits the current data node of a key, where its cut lies inside the node and is no instant after the last commit: whether it did is in the entry. `JournalFull` where there is no room for one more entry. After a refusal nothing has changed.
+    /// Splits the current data node of a key, where its cut lies inside the node and is no instant after the last commit:
+    /// whether it did is in the entry. `JournalFull` where there is no room for one more entry. After a refusal nothing has
+    /// changed.
     pub fn split(&mut self, cut: Cut) -> Result<Receipt<J>, Refusal>
         ensures entry { IfOk result (λ r.
             IsSplitEntry cut self.old.engine self.new.engine r.entry) }
         ensures adds { IfOk result (λ r. Adds r.entry r.number self.old self.new) }
         ensures same { HoldsSame self.old.engine self.new.engine }
+        ensures history { KeepsHistory self.old.engine.nodes self.new.engine.nodes }
         ensures book { IsBook J.schema self.new }
         ensures full { length self.old.entries ≡ most_entries
             → result ≡ Err Refusal.JournalFull }
@@ -31,6 +35,8 @@ impl<J: StoreName> Book<J> {
         make_room(&mut self.journal)?;
         let outcomes = split_outcomes(self.alloc, &cut)?;
         let is_done = self.engine.split(&cut)?;
+        // Who asks for the tree knows that it is sound.
+        let _tree = self.engine.tree();
         Ok(note(&mut self.journal, outcomes, is_done))
     }
 }

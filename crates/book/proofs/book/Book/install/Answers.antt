@@ -13,4 +13,4 @@ returns-clause-book g c =
     let old = book c.self.inside.engine c.self.inside.journal.entries in
     let done = c.in_ok-is_done.is_done in
     with_install g.J.StoreName.schema old c.install.new.self c.args.packed done (entry_of c.in_ok-outcomes.outcomes done) c.make_room.new.journal.entries c.note.new.journal.entries
-    c.self.invariant c.install.ensures.same c.in_ok-make_room.ensures.few c.make_room.ensures.same (c.in_ok-outcomes.ensures.are done) c.note.ensures.entries
+    c.self.invariant c.install.ensures.same c.tree-tree.ensures.sound c.in_ok-make_room.ensures.few c.make_room.ensures.same (c.in_ok-outcomes.ensures.are done) c.note.ensures.entries
