@@ -4,7 +4,7 @@ use Rattle.std.specs.Prelude.{IsTrue, IsSome, All, ◌&&◌, is_some}
 use Rattle.std.proofs.lemmas.List.Elements.{All-filter, All-weaker}
 use Rattle.std.proofs.lemmas.Bool.{and_from, leb-true}
 use Rattle.values.specs.Commits.{max_instant}
-use Rattle.keyrange.specs.Rect.{Area, IsArea, has_point, Common}
+use Rattle.keyrange.specs.Rect.{Area, IsArea, has_point}
 use Rattle.keyrange.proofs.RectInside.{first_key_in, first_instant_in, facts_of}
 use Rattle.datanode.specs.Node.{Node}
 use Rattle.blocks.specs.Block.{HasBlock}

@@ -1,6 +1,4 @@
-use Rattle.std.proofs.Common.{[], refl, arith}
-use Rattle.treenodes.specs.Node.{TreeNode, IsAt}
-use Rattle.treegrowth.specs.Places.{IsInPlace}
+use Rattle.std.proofs.Common.{refl, arith}
 use Rattle.tsbtree.proofs.tree.Tree.apply.Goals as goal
 
 pub returns-then-is_empty-clause-splits : goal.returns-then-is_empty-clause-splits

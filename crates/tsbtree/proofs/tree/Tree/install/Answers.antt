@@ -1,4 +1,4 @@
-use Rattle.std.proofs.Common.{rules, true, sym, subst, ◌∙◌}
+use Rattle.std.proofs.Common.{rules, true, sym, subst}
 use Rattle.treenodes.specs.Sound.{IsSound}
 use Rattle.tsbtree.specs.Packing.{Installs}
 use Rattle.tsbtree.proofs.PackingPast.{past_installed}
