@@ -1,3 +1,3 @@
 pub mod LineBufferAdding
 pub mod LinesEnding
-mod FirstFeed
+mod LineBufferFeed

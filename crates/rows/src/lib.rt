@@ -4,6 +4,7 @@
 mod declaration;
 mod good_table;
 mod sample;
+mod schema;
 mod schema_grammar;
 mod schema_reading;
 mod schema_table;
@@ -11,8 +12,9 @@ mod schema_token;
 
 pub use good_table::good_tables_are_made;
 pub use sample::sample_is_a_schema;
+pub use schema::ReadSchema;
 pub use schema_grammar::{faults_are_final, schemas_are_of_the_grammar, the_grammar_is_read};
-pub use schema_reading::{LONGEST_SCHEMA, ReadSchema, SAMPLE, SchemaFault};
+pub use schema_reading::{LONGEST_SCHEMA, SAMPLE, SchemaFault};
 pub use values::{
     Chars, Column, ColumnNumber, ColumnType, Comparison, Event, Form, Instant, Key, KeyBytes, Keys,
     MAX_INSTANT, Mem, Net, Operator, Point, Refusal, Row, Rows, Schema, Sequence, Set, Sets,

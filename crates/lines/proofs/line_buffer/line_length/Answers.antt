@@ -1,4 +1,4 @@
-use Rattle.lines.proofs.FirstFeed.{none_found, found_at}
+use Rattle.lines.proofs.LineBufferFeed.{none_found, found_at}
 use Rattle.lines.proofs.line_buffer.line_length.Goals as goal
 
 pub returns-in-Some-clause-length : goal.returns-in-Some-clause-length

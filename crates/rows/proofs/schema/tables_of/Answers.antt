@@ -3,7 +3,7 @@ use Rattle.std.proofs.lemmas.Grind.{common_steps}
 use Rattle.values.specs.Tables.{AreTables}
 use Rattle.rows.specs.SchemaTable.{next_table}
 use Rattle.rows.proofs.SchemaTablesMade.{with_next}
-use Rattle.rows.proofs.schema_reading.tables_of.Goals as goal
+use Rattle.rows.proofs.schema.tables_of.Goals as goal
 
 pub loop-declaration-preserved : goal.loop-declaration-preserved
 loop-declaration-preserved c =

@@ -1,7 +1,7 @@
 use Rattle.std.proofs.Common.{◌≡◌, [], drop}
 use Rattle.values.specs.Tables.{AreTables}
 use Rattle.rows.specs.SchemaTable.{tables_from}
-use Rattle.rows.proofs.schema_reading.tables_of.Given as goal
+use Rattle.rows.proofs.schema.tables_of.Given as goal
 
 abbrev pub invariant-loop-declaration : goal.invariant-loop-declaration
 invariant-loop-declaration l = record {
