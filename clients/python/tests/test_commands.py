@@ -8,7 +8,7 @@ from tests.served import LONGEST, Files, needs_program, run
 from tsvd.errors import OperationalError
 from tsvd.program import Server
 from tsvd.side_by_side import side_by_side
-from tsvd.stop import use_sessions
+from tsvd.stop import WAS_LEFT, use_session, use_sessions
 
 SCRIPT = b"-- a comment\nclock: 5\n1: BEGIN\r\n\n1: SELECT * FROM emp\n1: x"
 
@@ -42,7 +42,7 @@ class Stops(unittest.TestCase):
             with tsvd.Session(server.port) as session:
                 session.ask("BEGIN")
             out, err, status = run("stop", str(server.port))
-            self.assertEqual((out, err, status), ("the server has ended; remaining sessions: 2\n", "", 0))
+            self.assertEqual((out, err, status), ("the server is ending; unused sessions: 2\n", "", 0))
             self.assertEqual((server.end(LONGEST), server.process.returncode), ("closed 1\n", 0))
             with self.assertRaises(OperationalError):
                 use_sessions(server.port)
@@ -51,8 +51,9 @@ class Stops(unittest.TestCase):
         with Server(sessions=2) as server:
             with tsvd.Session(server.port) as session:
                 session.ask("BEGIN")
-                with self.assertRaisesRegex(OperationalError, "used up 1 remaining"):
-                    use_sessions(server.port, 0.5)
+                self.assertEqual(use_session(server.port, LONGEST), WAS_LEFT)
+                with self.assertRaisesRegex(OperationalError, "used up 0 remaining"):
+                    use_sessions(server.port, 0.2)
                 self.assertEqual(session.ask("ROLLBACK"), ["rolled back"])
             self.assertEqual(server.end(LONGEST), "closed 1\n")
 

@@ -16,7 +16,7 @@ class Connections(Served):
         self.assertEqual(inserted.rowcount, 4)
         cursor = self.second.execute("SELECT * FROM staff")
         self.assertEqual(cursor.rowcount, 4)
-        self.assertEqual(cursor.fetchone(), rows[0])
+        self.assertEqual(next(cursor), rows[0])
         self.assertEqual(cursor.fetchmany(2), rows[1:3])
         self.assertEqual(list(cursor), rows[3:])
         self.assertIsNone(cursor.fetchone())

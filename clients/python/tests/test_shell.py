@@ -1,3 +1,5 @@
+import contextlib
+import io
 import os
 import pty
 import re
@@ -7,6 +9,8 @@ import sys
 import unittest
 
 from tests.served import LONGEST, SCHEMA, Files, needs_program, run
+from tests.test_protocol import Answers
+from tsvd import connect
 from tsvd.layout import table_lines
 from tsvd.shell import Shell
 from tsvd.shell_commands import key_parts, touches
@@ -155,6 +159,21 @@ class Layout(unittest.TestCase):
 
     def test_a_key_is_split_outside_of_texts(self):
         self.assertEqual(key_parts("1001, 'a, b' fire"), ["1001", "'a, b'", "fire"])
+
+    def test_a_fault_of_the_schema_ends_no_shell_and_a_lost_session_does(self):
+        answers = Answers(b"rows 1\n(1, 'a', true)\n", b"rows 1\n(1, 'a')\n", b"ok")
+        self.addCleanup(answers.close)
+        connection = connect(answers.port)
+        self.addCleanup(connection.close)
+        told = io.StringIO()
+        with contextlib.redirect_stdout(told):
+            status = Shell(connection).run(iter(["SELECT * FROM emp"] * 2 + ["\u2028", "BEGIN"]))
+        self.assertEqual(status, 1)
+        first, *shown, last = told.getvalue().splitlines()
+        self.assertIn("the schema is not the server's", first)
+        self.assertEqual(shown, [" no | name", "----+-----", "  1 | a", "(1 row)"])
+        self.assertIn("the server ended the session", last)
+        self.assertEqual(answers.lines[2], "\u2028\n".encode("utf-8"))
 
     def test_a_reply_is_shown_with_its_date(self):
         shell = Shell.__new__(Shell)

@@ -175,8 +175,15 @@ class Cursor:
         return rows
 
     def __iter__(self) -> Iterator[Row]:
-        """Yields the remaining rows."""
-        return iter(self.fetchone, None)
+        """Returns the cursor, which yields the remaining rows."""
+        return self
+
+    def __next__(self) -> Row:
+        """Returns the next row."""
+        row = self.fetchone()
+        if row is None:
+            raise StopIteration
+        return row
 
     def setinputsizes(self, _: Any) -> None:
         """Does nothing, as PEP 249 allows."""

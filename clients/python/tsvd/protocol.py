@@ -69,7 +69,7 @@ class Session:
             except OSError as fault:
                 raise self.disconnected(str(fault), data) from fault
             except EOFError:
-                raise self.disconnected("the server has ended the session", data) from None
+                raise self.disconnected("the server ended the session", data) from None
             self.is_open = True
             return reply
 

@@ -10,7 +10,7 @@ from typing import Callable, Iterable, Iterator, List, Optional, Sequence, Tuple
 
 from .connection import Connection, connect
 from .cursor import Cursor, Row
-from .errors import DisconnectError, Error, InterfaceError
+from .errors import Error
 from .explain import fault_lines
 from .instants import date_text, replace_dates
 from .layout import table_lines, visible
@@ -64,17 +64,15 @@ class Shell:
 
     def take(self, line: str) -> bool:
         """Runs a line, and returns whether the shell continues."""
-        line = line.strip()
+        line = line.strip(" \t\r")
         try:
             if is_command(line):
                 return run_command(self, line)
             if has_reply(encoded(line)):
                 self.show(self.cursor().ask(replace_dates(line)))
-        except (DisconnectError, InterfaceError):
-            raise
         except Error as fault:
             self.print_lines(fault_lines(fault, self.connection.schema))
-        return True
+        return self.connection.session.is_open
 
     def run(self, lines: Iterator[str]) -> int:
         """Runs lines to the end, and returns the exit status."""
@@ -84,9 +82,7 @@ class Shell:
                     break
         except KeyboardInterrupt:
             print("interrupted while reading a reply; the session has ended")
-            return 1
-        except (DisconnectError, InterfaceError) as fault:
-            print(fault)
+        if not self.connection.session.is_open:
             return 1
         if self.connection.in_transaction:
             print("the open transaction is dropped")

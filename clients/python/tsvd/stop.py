@@ -42,11 +42,11 @@ def use_sessions(port: int, wait: float = 5.0) -> int:
 
 
 def main(words: Sequence[str]) -> int:
-    """Runs `stop PORT [--wait SECONDS]`."""
+    """Runs `stop PORT [--wait SECONDS]`; the server may still write its export when this returns."""
     parser = argparse.ArgumentParser(prog="python3 -m tsvd stop")
     parser.add_argument("port", type=int)
     parser.add_argument("--wait", type=float, default=5.0, help="seconds to wait for the server to end each session")
     given = parser.parse_args(words)
     used = use_sessions(given.port, given.wait)
-    print(f"the server has ended; remaining sessions: {used}")
+    print(f"the server is ending; unused sessions: {used}")
     return 0
