@@ -63,7 +63,8 @@ class Sends(unittest.TestCase):
     def test_a_reply_comes_before_the_next_line_is_read(self):
         with Server(sessions=1) as server:
             command = [sys.executable, "-m", "tsvd", "send", str(server.port)]
-            with subprocess.Popen(command, stdin=subprocess.PIPE, stdout=subprocess.PIPE) as client:
+            buffered = {name: value for name, value in os.environ.items() if name != "PYTHONUNBUFFERED"}
+            with subprocess.Popen(command, stdin=subprocess.PIPE, stdout=subprocess.PIPE, env=buffered) as client:
                 for line, reply in [(b"BEGIN\n", b"begun 0\n"), (b"\n-- x\nROLLBACK\r\n", b"rolled back\n"),
                                     (b"x" * 8193 + b"\n", b"E12 line too long\n"), (b"\xff\n", b"E1 syntax at 0\n")]:
                     client.stdin.write(line)

@@ -140,6 +140,11 @@ class Connections(Served):
         self.first.commit()
         self.assertEqual(self.second.execute("SELECT * FROM staff WHERE no = ?", (1,)).fetchone()[2], evil)
 
+    def test_a_select_is_not_executed_many_times(self):
+        with self.assertRaises(tsvd.ProgrammingError):
+            self.first.cursor().executemany("SELECT * FROM note WHERE no = ?", [(1,), (2,)])
+        self.assertEqual(self.first.cursor().executemany("INSERT INTO note VALUES (?, 'x')", []).rowcount, 0)
+
     def test_a_closed_cursor_and_a_closed_connection_take_nothing(self):
         cursor = self.first.cursor()
         with self.assertRaises(tsvd.InterfaceError):

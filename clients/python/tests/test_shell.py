@@ -8,7 +8,7 @@ import signal
 import sys
 import unittest
 
-from tests.served import LONGEST, SCHEMA, Files, needs_program, run
+from tests.served import LONGEST, SCHEMA, Files, Served, needs_program, run
 from tests.test_protocol import Answers
 from tsvd import connect
 from tsvd.layout import table_lines
@@ -142,6 +142,33 @@ class Piped(unittest.TestCase):
                               r"committed \d{16}\nclosed 2\n\Z")
 
 
+class Asked(Served):
+    def told(self, *lines):
+        """Returns what a shell over the first connection prints for lines."""
+        told = io.StringIO()
+        with contextlib.redirect_stdout(told):
+            self.assertEqual(Shell(self.first).run(iter(lines)), 0)
+        return told.getvalue()
+
+    def test_between_lists_what_began_or_ended_at_its_bounds(self):
+        instants = []
+        for statement in ("INSERT INTO note VALUES (1, 'a'), (2, 'b')", "UPDATE note SET body = 'c' WHERE no = 1",
+                          "DELETE FROM note WHERE no = 1"):
+            self.first.execute(statement)
+            instants.append(self.first.commit())
+        first, second, third = instants
+        for low, high, number in [(second, second, 2), (third, third, 1), (first, first, 2), (first + 1, second, 2),
+                                  (first, third, 3), (third + 1, third + 5, 0), (third, first, 0), (0, first - 1, 0)]:
+            self.assertIn(f"({number} row", self.told(f"\\between note {low} {high}"), (low, high))
+
+    def test_history_takes_texts_with_and_without_quotes(self):
+        self.first.execute("INSERT INTO staff VALUES ('O''Hara', 1, 'x', TRUE), ('Graz', 1, 'y', TRUE)")
+        self.first.commit()
+        for key in ("'O''Hara' 1", "O'Hara, 1", "Graz", "Graz 1"):
+            self.assertIn("(1 row)", self.told("\\history staff " + key), key)
+        self.assertIn("needs the key: site, no", self.told("\\history staff"))
+
+
 class Layout(unittest.TestCase):
     def test_columns_are_aligned_by_width(self):
         rows = [(1, "漢字", None), (-20, "e\u0301", True)]
@@ -158,7 +185,7 @@ class Layout(unittest.TestCase):
                          [False, False, True, True, False])
 
     def test_a_key_is_split_outside_of_texts(self):
-        self.assertEqual(key_parts("1001, 'a, b' fire"), ["1001", "'a, b'", "fire"])
+        self.assertEqual(key_parts("1001, 'a, b' fire 'O''Hara'"), ["1001", "'a, b'", "fire", "'O''Hara'"])
 
     def test_a_fault_of_the_schema_ends_no_shell_and_a_lost_session_does(self):
         answers = Answers(b"rows 1\n(1, 'a', true)\n", b"rows 1\n(1, 'a')\n", b"ok")

@@ -38,7 +38,8 @@ class Exports(unittest.TestCase):
                 ("1,1,a,1,2\n1,1,b,2,3\n1,2,a,1,forever\n2,1,a,1,forever", (0, 1)), ("1,1,a,1,2\n2,1,a,1,2", (0,)),
                 ("1,1,a,1,2\n1,2,a,1,2", (1,)), ("1,1,a,1,5\n1,1,a,4,6", (0,)),
                 ("9,1,b,1,2\n10,1,a,1,2", (0,)), ("b,10,x,1,2\nb,9,y,1,2\na,8,z,1,2", (2,)),
-                ("1,8,x,1,2\n1,9,a,1,2\n2,7,c,1,2", (0, 1)), ("b,2,b,1,2\na,1,a,1,2", (0,))]:
+                ("1,8,x,1,2\n1,9,a,1,2\n2,7,c,1,2", (0, 1)), ("b,2,b,1,2\na,1,a,1,2", (0,)),
+                ("1,3,z,1,2\n1,2,y,1,2\n1,1,x,1,2", (1,))]:
             self.assertEqual(guess_key(read_export("a,b,c,s,e\n" + lines)), places, lines)
 
     def test_columns_are_found_by_name(self):

@@ -2,6 +2,7 @@
 
 from __future__ import annotations
 
+import re
 from typing import TYPE_CHECKING, Callable, Dict, Iterator, List
 
 from .cursor import Cursor, Row
@@ -12,11 +13,11 @@ from .limits import GREATEST_INSTANT
 from .literals import text_literal
 from .refusals import REFUSALS
 from .schema import Column, Table
-from .texts import split_texts
 
 if TYPE_CHECKING:
     from .shell import Shell
 
+KEY_PART = re.compile(r"'(?:[^']|'')*'|[^\s,]+")
 HELP = """\
 Type a statement on one line, such as  SELECT * FROM emp FOR SYSTEM_TIME AS OF 2026-04-01
   \\d              lists the tables; \\d TABLE lists columns
@@ -62,10 +63,7 @@ def show_tables(shell: "Shell", words: str) -> None:
 
 def key_parts(text: str) -> List[str]:
     """Splits the values of a key at commas and blanks outside texts."""
-    parts: List[str] = []
-    for part, is_text in split_texts(text):
-        parts += [part] if is_text else part.replace(",", " ").split()
-    return parts
+    return KEY_PART.findall(text)
 
 
 def key_literal(column: Column, part: str) -> str:
