@@ -3,6 +3,7 @@ pub mod HistoryGrowth
 pub mod HistoryIdle
 pub mod Maintenance
 pub mod Memory
+pub mod MisfitKeys
 pub mod HistoryNow
 pub mod StandsOpen
 pub mod HistoryOpens
@@ -16,3 +17,4 @@ pub mod Winners
 pub mod WorldGrowth
 pub mod HistoryWritten
 pub mod TurnWrites
+pub mod Written

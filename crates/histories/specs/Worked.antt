@@ -7,7 +7,7 @@ use Rattle.values.specs.declared.query.Keys.{Keys}
 use Rattle.values.specs.declared.query.Set.{Set}
 use Rattle.values.specs.declared.query.Shown.{Shown}
 use Rattle.values.specs.declared.refusal.Refusal.TheVariants.{NoTable, BadRow, NoTransaction, InTransaction, DuplicateKey, Conflict, ClockEnd}
-use Rattle.rows.specs.Sample.{sample}
+use Rattle.values.specs.Sample.{sample}
 use Rattle.values.specs.Log.{Row}
 use Rattle.values.specs.Commits.{max_instant}
 use Rattle.values.specs.declared.key.Key.{Key}

@@ -7,8 +7,7 @@ ghost use Rattle.histories.specs.Misfit.{misfit, misfit_of, key_misfit, no_sessi
 ghost use Rattle.histories.specs.Written.{step_of};
 
 use crate::step::{MAX_SESSION, Step};
-use rows::{Key, Keys, Refusal, Schema, Table};
-use values::{FittingKeys, FittingWrite, Write};
+use values::{FittingKeys, FittingWrite, Key, Keys, Refusal, Schema, Table, Write};
 
 impl Step {
     /// Returns why a step does not fit the schema: its session's number, then its table, then the

@@ -3,8 +3,7 @@ ghost use Rattle.std.specs.Prelude.{◌≡◌, ℕ};
 ghost use Rattle.histories.specs.History.{write_count};
 ghost use Rattle.histories.specs.Written.{step_of};
 
-use rows::{Form, Instant, Key, Keys, Refusal, Rows, Sets, ShownRows};
-use values::Write;
+use values::{Form, Instant, Key, Keys, Refusal, Rows, Sets, ShownRows, Write};
 
 /// The highest session number; 0 is the service's own.
 pub const MAX_SESSION: u8 = 64;
