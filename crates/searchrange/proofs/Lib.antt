@@ -4,7 +4,7 @@ mod NarrowingInRange
 mod NarrowingKeeps
 mod PrefixBytes
 mod NarrowingSteps
-mod PartValueBytes
+mod PrefixValueBytes
 mod NarrowingWithin
 mod SearchTaken
 pub mod SearchOwn

@@ -20,7 +20,7 @@ use Rattle.keyrange.specs.Range.{is_before_end, is_key_in}
 use Rattle.searchrange.specs.SearchRange.{range_of_table, search_range, Covers}
 use Rattle.searchrange.proofs.PrefixBytes.{bytes_cmp, not_below_none}
 use Rattle.searchrange.proofs.NarrowingKeeps.{all_met, in_narrowed_from}
-use Rattle.searchrange.proofs.PartValueBytes.{storable, key_are_bytes}
+use Rattle.searchrange.proofs.PrefixValueBytes.{storable, key_are_bytes}
 
 pub all_storable : (vs : List Value) → All IsHeld vs → All IsStorable vs
 all_storable [] h = All-nil IsStorable

@@ -29,7 +29,7 @@ use Rattle.searchrange.specs.SearchRange.{next_prefix, is_bound, from_bytes, bef
 use Rattle.searchrange.proofs.PrefixBytes.{AreBytes, none_above, past, not_below_none}
 use Rattle.searchrange.proofs.NarrowingInRange.{Compared, low, high, tied_low, less, greater_low, tied_high, less_high, above, not_true}
 use Rattle.searchrange.proofs.NarrowingWithin.{upto_within, at_within, from_place_within}
-use Rattle.searchrange.proofs.PartValueBytes.{compared_short, fitting_short, key_are_bytes}
+use Rattle.searchrange.proofs.PrefixValueBytes.{compared_short, fitting_short, key_are_bytes}
 use Rattle.searchrange.proofs.NarrowingCovers.{all_storable}
 use Rattle.searchrange.proofs.NarrowingKeeps.{StandsAt, named, every, compared, holds_by_value, own_value, Agrees}
 

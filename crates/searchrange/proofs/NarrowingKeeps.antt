@@ -29,7 +29,7 @@ use Rattle.keyrange.specs.Range.{is_key_in}
 use Rattle.searchrange.specs.SearchRange.{narrowed, is_equality, is_place, is_at, narrowed_at, equal_at, narrowed_from}
 use Rattle.searchrange.proofs.PrefixBytes.{AreBytes, behind, bytes_cmp}
 use Rattle.searchrange.proofs.NarrowingInRange.{Compared, in_narrowed}
-use Rattle.searchrange.proofs.PartValueBytes.{compared_cmp}
+use Rattle.searchrange.proofs.PrefixValueBytes.{compared_cmp}
 
 equal : (a b : ℕ) → (a == b) ≡ true → a ≡ b
 equal a b e = grind (arith, nat_tests)

@@ -2,7 +2,6 @@
 #![tactic(auto)]
 
 mod narrowing;
-mod part;
 mod prefix;
 mod search;
 mod table_range;

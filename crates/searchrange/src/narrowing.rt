@@ -6,12 +6,13 @@ ghost use Rattle.values.specs.KeyEncodingLaw.{IsStorable};
 ghost use Rattle.values.specs.Memory.{OnlyMemory};
 ghost use Rattle.searchrange.specs.SearchRange.{range_of_table, from_bytes, before_bytes, after_prefix, upto_prefix, narrowed, is_equality, is_at, is_before_place, narrowed_at, narrowing_end, equal_at, all_narrow, narrowed_from, search_range, Covers, IsWithin, TakesAll};
 
-use crate::part::push_part;
 use crate::prefix::next_prefix;
 use crate::table_range::range_of_table;
 use keyrange::{KeyRange, is_before_end, is_below};
 use std::alloc::{AllocError, Global};
-use values::{ColumnNumber, Comparison, KeyBytes, Keys, Mem, Operator, Table, Value};
+use values::{
+    ColumnNumber, Comparison, KeyBuffer, KeyBytes, Keys, Mem, Operator, Table, Value, push_part,
+};
 
 /// The range of the table's keys, narrowed by the comparisons on its leading key columns.
 ///
@@ -65,9 +66,7 @@ pub(crate) fn all_narrow(table: &Table, comparisons: &[Comparison]) -> bool
     ensures { result ≡ all_narrow table.now comparisons.now }
 {
     let end = narrowing_end(table, comparisons);
-    comparisons
-        .iter()
-        .all(|comparison| is_before_place(end, place_of(table, comparison.column)))
+    comparisons.iter().all(|comparison| is_before_place(end, place_of(table, comparison.column)))
 }
 
 /// The place behind the last column that narrows.
@@ -103,7 +102,8 @@ fn narrow(
     ensures { IfOk result (λ r. r ≡ narrowed_from
         table.now comparisons.now 0 (table.now.number ∷ []) table.now.key range) }
 {
-    let mut prefix = vec![in alloc; table.number]?;
+    let mut prefix = KeyBuffer::new(alloc);
+    prefix.push(table.number)?;
     let mut range = range;
     for place in 0..table.key.items().len() {
         range = narrowed_at(alloc, table, place, prefix.as_slice(), comparisons, range)?;
@@ -158,7 +158,7 @@ fn narrowed_at(
     let mut range = range;
     for comparison in comparisons {
         if is_at(table, place, comparison) {
-            let mut bytes = Vec::from_slice(alloc, prefix)?;
+            let mut bytes = KeyBuffer::from_slice(alloc, prefix)?;
             push_part(&mut bytes, &comparison.value)?;
             range = narrowed_by(alloc, comparison.operator, bytes, range)?;
         }
@@ -170,7 +170,7 @@ fn narrowed_at(
 fn narrowed_by(
     alloc: Global,
     operator: Operator,
-    bytes: Vec<u8>,
+    bytes: KeyBuffer,
     range: KeyRange,
 ) -> Result<KeyRange, AllocError>
     ensures { IfOk result (λ r. r ≡ narrowed operator bytes.items range) }
@@ -183,7 +183,7 @@ fn narrowed_by(
         Operator::Below => Ok(before_bytes(bytes, range)),
         Operator::AtMost => Ok(before_end(next_prefix(alloc, bytes.as_slice())?, range)),
         Operator::Above => match next_prefix(alloc, bytes.as_slice())? {
-            None => Ok(before_bytes(Vec::new(alloc), range)),
+            None => Ok(before_bytes(KeyBuffer::new(alloc), range)),
             Some(next) => Ok(from_bytes(next, range)),
         },
         Operator::AtLeast => Ok(from_bytes(bytes, range)),
@@ -191,7 +191,7 @@ fn narrowed_by(
 }
 
 /// The range before an end, where there is one.
-fn before_end(end: Option<Vec<u8>>, range: KeyRange) -> KeyRange
+fn before_end(end: Option<KeyBuffer>, range: KeyRange) -> KeyRange
     ensures { result ≡ elim end [ None ↦ range | Some bytes ↦ before_bytes bytes.items range ] }
 {
     match end {
@@ -201,20 +201,20 @@ fn before_end(end: Option<Vec<u8>>, range: KeyRange) -> KeyRange
 }
 
 /// The range from these bytes on.
-fn from_bytes(bytes: Vec<u8>, range: KeyRange) -> KeyRange
+fn from_bytes(bytes: KeyBuffer, range: KeyRange) -> KeyRange
     ensures { result ≡ from_bytes bytes.items range }
 {
-    match KeyBytes::new(bytes) {
+    match KeyBytes::from_buffer(bytes) {
         Some(lo) if is_below(&range.lo, &lo) => KeyRange { lo, hi: range.hi },
         _ => range,
     }
 }
 
 /// The range before these bytes.
-fn before_bytes(bytes: Vec<u8>, range: KeyRange) -> KeyRange
+fn before_bytes(bytes: KeyBuffer, range: KeyRange) -> KeyRange
     ensures { result ≡ before_bytes bytes.items range }
 {
-    match KeyBytes::new(bytes) {
+    match KeyBytes::from_buffer(bytes) {
         Some(hi) if is_before_end(&hi, &range.hi) => KeyRange {
             lo: range.lo,
             hi: Some(hi),
