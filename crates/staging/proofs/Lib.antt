@@ -9,5 +9,5 @@ pub mod ViewNarrowed
 pub mod NetEvents
 pub mod StagedPutBack
 pub mod StagedSeen
-mod StagedTaken
+pub mod StagedTaken
 pub mod UpdateStored

@@ -75,7 +75,13 @@ impl Staged {
     {
         let standing = view.standing(self.alloc, search.range(), view.last())?;
         let mut found = rows_taken(self.alloc, search, &standing)?;
-        put_taken(self.alloc, search.table(), search.keys(), &self.writes, &mut found)?;
+        put_taken(
+            self.alloc,
+            search.table(),
+            search.keys(),
+            &self.writes,
+            &mut found,
+        )?;
         Ok(found)
     }
 
@@ -260,11 +266,7 @@ fn put_back_one(writes: &mut BTreeMap<Key, Option<Row>>, key: &Key, before: Opti
 }
 
 /// The rows of events that a search takes.
-fn rows_taken(
-    alloc: Global,
-    search: &Search<'_>,
-    events: &[SharedEvent],
-) -> Mem<BTreeMap<Key, Row>>
+fn rows_taken(alloc: Global, search: &Search<'_>, events: &[SharedEvent]) -> Mem<BTreeMap<Key, Row>>
     ensures ok { IfOk result (λ found. AreInSearch search.now.table search.now.range events.now
         → found.entries ≡ insert_all [] (filter_map
         (entry_taken search.now.table search.now.keys) events.now)) }
@@ -279,10 +281,7 @@ fn rows_taken(
 }
 
 /// Puts a row at its key, where there is one.
-fn put_entry(
-    rows: &mut BTreeMap<Key, Row>,
-    entry: Option<(Key, Row)>,
-) -> Result<(), AllocError>
+fn put_entry(rows: &mut BTreeMap<Key, Row>, entry: Option<(Key, Row)>) -> Result<(), AllocError>
     ensures ok { OnOk result
         (rows.new.entries ≡ insert_all rows.old.entries (cons_option entry [])) }
 {

@@ -27,8 +27,8 @@ returns-clause-ok c = λ schema m reads.
     let inside : AreInSearch s.table s.range c.deref.result.now = subst (AreInSearch s.table s.range) (sym stand) (stand_in_search schema s.table s.range c.args.view.now c.last.result m within reads.is_table reads.held) in
     c.in_ok-put_taken.ensures.put
     ∙ (λ i. apply_net
-        ((c.in_ok-found.ensures.ok inside ∙ ap (λ es. insert_all [] (filter_map (entry_taken s.table s.keys) es)) stand) i)
-        (filter (λ w. matches (c.table.ensures.table i) (c.keys.ensures i) w.0) (c.self.view_is i)))
+    ((c.in_ok-found.ensures.ok inside ∙ ap (λ es. insert_all [] (filter_map (entry_taken s.table s.keys) es)) stand) i)
+    (filter (λ w. matches (c.table.ensures.table i) (c.keys.ensures i) w.0) (c.self.view_is i)))
     ∙ rows_of_view schema s.table s.keys s.range c.args.view.now c.last.result m c.args.self.now reads c.range.ensures.own covers c.last.ensures.ordered c.last.ensures.upto
     (subst (λ (w : Net). IsStrictlySortedBy key_cmp (keys_of w)) c.self.view_is c.in_ok-put_taken.ensures.ordered)
 
