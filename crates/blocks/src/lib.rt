@@ -2,6 +2,8 @@
 #![tactic(auto)]
 
 mod block;
+mod cache;
+mod entry;
 mod event;
 mod field;
 mod gather;
@@ -14,6 +16,7 @@ mod reading;
 mod rect;
 
 pub use block::{has_block, pack, unpack};
+pub use cache::BlockCache;
 pub use law::blocks_stand_for_nodes;
 pub use lookup::{at, changed_since, event_count};
 pub use packed_node::Block;

@@ -5,7 +5,8 @@ ghost use Rattle.values.specs.Memory.{OnlyMemory};
 ghost use Rattle.eventlist.specs.Listing.{events_in};
 
 use crate::entry::Entry;
-use blocks::{Block, Blocks};
+use crate::packed_node::Block;
+use crate::reading::Blocks;
 use keyrange::{KeyRange, Rect};
 use lru::LruCache;
 use std::alloc::Global;

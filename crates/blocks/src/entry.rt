@@ -2,7 +2,7 @@
 ghost use Rattle.std.specs.Prelude.{◌≡◌, ◌↔◌, IsTrue, IfOk, IfSome, option_copied};
 ghost use Rattle.values.specs.Memory.{OnlyMemory};
 
-use blocks::Block;
+use crate::packed_node::Block;
 use datanode::DataNode;
 use std::alloc::Global;
 use std::marker::Model;
