@@ -4,3 +4,4 @@ pub mod StandingRows
 pub mod SelectionVersions
 pub mod WindowListed
 pub mod WindowVersions
+mod StandingTaken

@@ -1,7 +1,8 @@
 -- What is shown of the events in a window is what the query selects.
-use Rattle.std.proofs.Common.{◌≡◌, ℕ, ◌≤◌, ◌<◌, Bool, true, false, cond, ◌&&◌, List, [], ◌∷◌, Option, refl, sym, ap, ◌∙◌, arith, nat_le, nat_lt, filter, All}
+use Rattle.std.proofs.Common.{◌≡◌, ℕ, ◌≤◌, ◌<◌, Bool, true, false, cond, ◌&&◌, List, [], ◌∷◌, Option, Some, refl, sym, ap, subst, ◌∙◌, arith, nat_le, nat_lt, filter, All}
 use Rattle.std.proofs.lemmas.Bool.Decides.{nat_tests}
-use Rattle.std.proofs.lemmas.List.Elements.{recursion_from_All}
+use Rattle.std.proofs.lemmas.Bool.{and_parts}
+use Rattle.std.proofs.lemmas.List.Elements.{All-from_recursion, recursion_from_All}
 use Rattle.std.proofs.lemmas.List.Kept.{IsStrictlySortedBy-filter}
 use Rattle.std.specs.List.{AllByRecursion, cons_option}
 use Rattle.std.specs.List.Sorted.{IsStrictlySortedBy}
@@ -11,16 +12,22 @@ use Rattle.values.specs.declared.query.Form.{Form}
 use Rattle.values.specs.declared.query.Form.TheVariants.{Plain, AsOf, FromTo, Between}
 use Rattle.values.specs.declared.query.Keys.{Keys}
 use Rattle.values.specs.declared.query.Shown.{Shown}
+use Rattle.values.specs.Log.{Changes}
+use Rattle.values.specs.Tables.{Schema, table_at}
 use Rattle.values.specs.Versions.{selects, ends_after, answer}
-use Rattle.values.specs.Events.{event_cmp, later}
+use Rattle.values.specs.Events.{event_cmp, events_of, later}
 use Rattle.datanode.proofs.CutMembers.{filter_twice}
 use Rattle.eventlist.proofs.PlaceOrder.{sorted_head, sorted_tail}
 use Rattle.keyrange.specs.declared.range.KeyRange.{KeyRange}
 use Rattle.keyrange.specs.Range.{is_key_in}
-use Rattle.searchrange.specs.SearchRange.{Covers}
+use Rattle.searchrange.specs.SearchRange.{range_of_table, Covers, IsWithin}
+use Rattle.searchrange.specs.Search.{IsInSearch, is_taken}
+use Rattle.staging.specs.Staged.{AreInSearch}
+use Rattle.staging.specs.View.{Holds}
+use Rattle.staging.proofs.ViewNarrowed.{in_search}
 use Rattle.datanode.specs.NextChange.{event_after}
 use Rattle.tsbtree.specs.View.{TreeState, events}
-use Rattle.systime_query.specs.Selection.{WhenShown, next_of, is_taken, shown_of}
+use Rattle.systime_query.specs.Selection.{WhenShown, next_of, shown_of}
 use Rattle.systime_query.specs.Window.{IsWindow, is_in_window, shown_in}
 use Rattle.systime_query.proofs.SelectionShown.{not_taken, none_selected, next_kept, now_shown}
 use Rattle.systime_query.proofs.SelectionVersions.{none_out, view_selected}
@@ -39,11 +46,19 @@ module _ (table : Table) (form : Form) (keys : Keys) (es : List Event) (z : ℕ)
       by false is more = ap (λ o. cons_option o (shown_in es z table form keys ds)) (not_taken table form keys e (later (next_of e ds) (event_after es z e.key)) (out.0 is)) ∙ more
 
 module _ (view : TreeState) (table : Table) (keys : Keys) where
-  pub within_is : (form : Form) (a z : ℕ) (range : KeyRange) (found : List Event) (shown : List Shown) → a ≤ z → IsWindow form a z → Covers table keys range → IsStrictlySortedBy event_cmp (events view)
-      → found ≡ filter (λ e. is_in_window (events view) a z e && is_key_in range e.key) (events view) → shown ≡ shown_in (events view) z table form keys found → WhenShown view table keys (λ m. shown ≡ answer m table form keys)
-  within_is form a z range found shown le window covers sorted are is = λ schema m held is_table same.
+  -- the events of a window are of the table
+  window_in_search : (a z : ℕ) (range : KeyRange) → IsWithin range (range_of_table table.number) → (schema : Schema) (m : Changes) → Holds schema view m → table_at schema table.number ≡ Some table
+      → AreInSearch table range (filter (λ e. is_in_window (events view) a z e && is_key_in range e.key) (events view))
+  window_in_search a z range within schema m held is_table =
+      subst (λ es. AreInSearch table range (filter (λ e. is_in_window es a z e && is_key_in range e.key) es)) (sym held.events_are)
+      (All-from_recursion (λ e. IsInSearch table range e.key) (filter (λ e. is_in_window (events_of m) a z e && is_key_in range e.key) (events_of m))
+      (in_search schema table range within is_table (λ e. is_in_window (events_of m) a z e && is_key_in range e.key) (λ e h. (and_parts (is_in_window (events_of m) a z e) (is_key_in range e.key) h).1) m held.keys))
+
+  pub within_is : (form : Form) (a z : ℕ) (range : KeyRange) (found : List Event) (shown : List Shown) → a ≤ z → IsWindow form a z → Covers table keys range → IsWithin range (range_of_table table.number) → IsStrictlySortedBy event_cmp (events view)
+      → found ≡ filter (λ e. is_in_window (events view) a z e && is_key_in range e.key) (events view) → (AreInSearch table range found → shown ≡ shown_in (events view) z table form keys found) → WhenShown view table keys (λ m. shown ≡ answer m table form keys)
+  within_is form a z range found shown le window covers within sorted are is = λ schema m held is_table same.
       let inside : List Event = filter (is_in_window (events view) a z) (events view) in
-      is
+      is (subst (AreInSearch table range) (sym are) (window_in_search a z range within schema m held is_table))
       ∙ ap (shown_in (events view) z table form keys) (are ∙ sym (filter_twice (is_in_window (events view) a z) (λ e. is_key_in range e.key) (events view)))
       ∙ sym (kept_shown table form keys (events view) z (is_key_in range) inside (IsStrictlySortedBy-filter event_cmp (is_in_window (events view) a z) (events view) sorted)
       (all_kept (λ e. is_key_in range e.key ≡ false → is_taken table keys e.key ≡ false) (is_in_window (events view) a z) (events view) (none_out view table keys range covers schema m held is_table)))

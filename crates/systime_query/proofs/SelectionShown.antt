@@ -18,7 +18,8 @@ use Rattle.values.specs.Versions.{selects, matches}
 use Rattle.values.specs.Events.{bytes_cmp, is_bytes, event_cmp}
 use Rattle.eventlist.proofs.PlaceOrder.{bytes_total, same_bytes, is_lower, sorted_head}
 use Rattle.staging.proofs.ViewNarrowed.{IsOut}
-use Rattle.systime_query.specs.Selection.{next_of, is_taken, shown_of, selected_by}
+use Rattle.searchrange.specs.Search.{is_taken}
+use Rattle.systime_query.specs.Selection.{next_of, shown_of, selected_by}
 
 clash : ◌≡◌ {A = Bool} true false → ⊥
 clash h = cc

@@ -34,7 +34,8 @@ use Rattle.staging.specs.View.{Holds}
 use Rattle.searchrange.specs.SearchRange.{Covers}
 use Rattle.staging.proofs.ViewNarrowed.{IsOut, out_of_range}
 use Rattle.systime_query.proofs.SelectionShown.{out_taken}
-use Rattle.systime_query.specs.Selection.{next_of, is_taken, shown_of, selected_by}
+use Rattle.searchrange.specs.Search.{is_taken}
+use Rattle.systime_query.specs.Selection.{next_of, shown_of, selected_by}
 
 -- ---- the next change of a key stands right behind it
 

@@ -1,5 +1,5 @@
 -- The events that stand at an instant show the rows that a query as of it does.
-use Rattle.std.proofs.Common.{◌≡◌, ℕ, ◌<◌, ◌≤◌, Bool, true, false, cond, ◌&&◌, ◌||◌, not, List, [], ◌∷◌, Option, Some, None, refl, sym, ap, ◌∙◌, arith, map, filter, filter_map, nat_le, nat_lt, is_some, All}
+use Rattle.std.proofs.Common.{◌≡◌, ℕ, ◌<◌, ◌≤◌, Bool, true, false, cond, ◌&&◌, ◌||◌, not, List, [], ◌∷◌, Option, Some, None, refl, sym, ap, subst, ◌∙◌, arith, map, filter, filter_map, nat_le, nat_lt, is_some, All}
 use Rattle.std.proofs.lemmas.Bool.Decides.{nat_tests}
 use Rattle.std.proofs.lemmas.List.Elements.{recursion_from_All}
 use Rattle.std.specs.List.{AllByRecursion, slice_get, cons_option, list_any}
@@ -12,7 +12,8 @@ use Rattle.values.specs.declared.query.Form.TheVariants.{Plain, AsOf}
 use Rattle.values.specs.declared.query.Keys.{Keys}
 use Rattle.values.specs.declared.query.Shown.{Shown}
 use Rattle.values.specs.Law.{shown_rows}
-use Rattle.values.specs.Log.{Row}
+use Rattle.values.specs.Log.{Changes, Row}
+use Rattle.values.specs.Tables.{Schema, table_at}
 use Rattle.values.specs.Versions.{ends_after}
 use Rattle.values.specs.Events.{is_bytes, event_cmp}
 use Rattle.keyrange.specs.declared.range.KeyRange.{KeyRange}
@@ -23,9 +24,12 @@ use Rattle.eventlist.specs.Overtaking.{is_overtaken}
 use Rattle.eventlist.proofs.PlaceOrder.{sorted_head, sorted_tail, same_bytes, is_lower}
 use Rattle.eventlist.proofs.OvertakingNext.{not_earlier, stands_is}
 use Rattle.tsbtree.specs.View.{TreeState, events}
-use Rattle.searchrange.specs.SearchRange.{Covers}
-use Rattle.systime_query.specs.Selection.{WhenShown, next_of, is_taken, shown_of, selected_by}
-use Rattle.systime_query.specs.Standing.{row_shown}
+use Rattle.searchrange.specs.SearchRange.{range_of_table, Covers, IsWithin}
+use Rattle.staging.specs.Staged.{AreInSearch}
+use Rattle.staging.specs.View.{Holds}
+use Rattle.staging.proofs.StagedCalls.{stand_in_search}
+use Rattle.searchrange.specs.Search.{is_taken, row_taken}
+use Rattle.systime_query.specs.Selection.{WhenShown, next_of, shown_of, selected_by}
 use Rattle.systime_query.proofs.SelectionShown.{now_shown}
 use Rattle.systime_query.proofs.SelectionVersions.{none_out, view_selected}
 
@@ -64,11 +68,11 @@ module _ (table : Table) (keys : Keys) (t : ℕ) where
   abbrev sel : List Event → List Shown
   sel es = selected_by table (AsOf t) keys es
 
-  first_row : (e : Event) (es : List Event) → IsStrictlySortedBy event_cmp (e ∷ es) → option_map (λ s. s.row) (shown_of table (AsOf t) keys e (next_of e es)) ≡ cond (stands_at (e ∷ es) t e) (row_shown table keys e) None
+  first_row : (e : Event) (es : List Event) → IsStrictlySortedBy event_cmp (e ∷ es) → option_map (λ s. s.row) (shown_of table (AsOf t) keys e (next_of e es)) ≡ cond (stands_at (e ∷ es) t e) (row_taken table keys e) None
   first_row e es sorted =
       by e.row
-      ∙ ap (λ b. cond (nat_le e.at t && (is_some e.row && b)) (row_shown table keys e) None) (sym (ends t e es (sorted_head event_cmp e es sorted)))
-      ∙ ap (λ b. cond b (row_shown table keys e) None) (sym (stands_is (e ∷ es) 0 e t sorted refl))
+      ∙ ap (λ b. cond (nat_le e.at t && (is_some e.row && b)) (row_taken table keys e) None) (sym (ends t e es (sorted_head event_cmp e es sorted)))
+      ∙ ap (λ b. cond b (row_taken table keys e) None) (sym (stands_is (e ∷ es) 0 e t sorted refl))
     where
       by : (row : Option Row) → option_map (λ (s : Shown). s.row) (elim row [
         | None ↦ None
@@ -87,29 +91,29 @@ module _ (table : Table) (keys : Keys) (t : ℕ) where
           some true false k = refl
           some false x k = refl
 
-  kept : (e : Event) (fs : List Event) (b : Bool) → filter_map (row_shown table keys) (cond b (e ∷ fs) fs) ≡ cons_option (cond b (row_shown table keys e) None) (filter_map (row_shown table keys) fs)
+  kept : (e : Event) (fs : List Event) (b : Bool) → filter_map (row_taken table keys) (cond b (e ∷ fs) fs) ≡ cons_option (cond b (row_taken table keys e) None) (filter_map (row_taken table keys) fs)
   kept e fs true = refl
   kept e fs false = refl
 
   -- the rows of what a query as of the instant selects are those of the events that stand
-  selected_stand : (es : List Event) → IsStrictlySortedBy event_cmp es → map (λ s. s.row) (sel es) ≡ filter_map (row_shown table keys) (filter (stands_at es t) es)
+  selected_stand : (es : List Event) → IsStrictlySortedBy event_cmp es → map (λ s. s.row) (sel es) ≡ filter_map (row_taken table keys) (filter (stands_at es t) es)
   selected_stand [] sorted = refl
   selected_stand (e ∷ es) sorted =
       mapped (shown_of table (AsOf t) keys e (next_of e es)) (sel es)
       ∙ (λ i. cons_option (first_row e es sorted i) (selected_stand es (sorted_tail event_cmp e es sorted) i))
       ∙ sym (kept e (filter (stands_at es t) es) (stands_at (e ∷ es) t e))
-      ∙ ap (λ fs. filter_map (row_shown table keys) (cond (stands_at (e ∷ es) t e) (e ∷ fs) fs)) (sym (later_ones t e es es (sorted_head event_cmp e es sorted)))
+      ∙ ap (λ fs. filter_map (row_taken table keys) (cond (stands_at (e ∷ es) t e) (e ∷ fs) fs)) (sym (later_ones t e es es (sorted_head event_cmp e es sorted)))
 
   -- events that the query does not take show nothing
   narrowed : (p : List ℕ → Bool) → (es ds : List Event) → AllByRecursion (λ e. p e.key ≡ false → is_taken table keys e.key ≡ false) ds
-      → filter_map (row_shown table keys) (filter (λ e. p e.key && stands_at es t e) ds) ≡ filter_map (row_shown table keys) (filter (stands_at es t) ds)
+      → filter_map (row_taken table keys) (filter (λ e. p e.key && stands_at es t e) ds) ≡ filter_map (row_taken table keys) (filter (stands_at es t) ds)
   narrowed p es [] out = refl
   narrowed p es (e ∷ ds) out =
       kept e (filter (λ e. p e.key && stands_at es t e) ds) (p e.key && stands_at es t e)
       ∙ (λ i. cons_option (one (p e.key) (stands_at es t e) refl i) (narrowed p es ds out.1 i))
       ∙ sym (kept e (filter (stands_at es t) ds) (stands_at es t e))
     where
-      one : (b s : Bool) → p e.key ≡ b → cond (b && s) (row_shown table keys e) None ≡ cond s (row_shown table keys e) None
+      one : (b s : Bool) → p e.key ≡ b → cond (b && s) (row_taken table keys e) None ≡ cond s (row_taken table keys e) None
       one true s is = refl
       one false true is = sym (ap (λ k. cond k e.row None) (out.0 is))
       one false false is = refl
@@ -120,21 +124,26 @@ module _ (view : TreeState) (table : Table) (keys : Keys) (rows : List Row) (fou
   -- the rows are those of the events that a call listed of a search range
   pub record AreOfStanding (range : KeyRange) (t : ℕ) : Type 0 where
     pub sorted : IsStrictlySortedBy event_cmp (events view)
-    pub rows_are : rows ≡ filter_map (row_shown table keys) found
+    pub rows_are : AreInSearch table range found → rows ≡ filter_map (row_taken table keys) found
     pub stand : found ≡ standing (events view) (is_key_in range) t
     pub covers : Covers table keys range
+    pub within : IsWithin range (range_of_table table.number)
 
-  selected : (range : KeyRange) (t : ℕ) → AreOfStanding range t → AllByRecursion (λ e. is_key_in range e.key ≡ false → is_taken table keys e.key ≡ false) (events view) → rows ≡ map (λ s. s.row) (selected_by table (AsOf t) keys (events view))
-  selected range t h out =
-      h.rows_are ∙ ap (filter_map (row_shown table keys)) h.stand
+  -- they are of the table
+  inside : (range : KeyRange) (t : ℕ) (schema : Schema) (m : Changes) → AreOfStanding range t → Holds schema view m → table_at schema table.number ≡ Some table → AreInSearch table range found
+  inside range t schema m h held is_table = subst (AreInSearch table range) (sym h.stand) (stand_in_search schema table range view t m h.within is_table held)
+
+  selected : (range : KeyRange) (t : ℕ) → AreOfStanding range t → AreInSearch table range found → AllByRecursion (λ e. is_key_in range e.key ≡ false → is_taken table keys e.key ≡ false) (events view) → rows ≡ map (λ s. s.row) (selected_by table (AsOf t) keys (events view))
+  selected range t h own out =
+      h.rows_are own ∙ ap (filter_map (row_taken table keys)) h.stand
       ∙ narrowed table keys t (is_key_in range) (events view) (events view) out
       ∙ sym (selected_stand table keys t (events view) h.sorted)
 
   pub shown_at : (range : KeyRange) (t : ℕ) → AreOfStanding range t → WhenShown view table keys (λ m. rows ≡ shown_rows m table (AsOf t) keys)
   shown_at range t h = λ schema m held is_table same.
-      selected range t h (none_out view table keys range h.covers schema m held is_table) ∙ ap (map (λ s. s.row)) (view_selected view table keys (AsOf t) schema m held is_table same)
+      selected range t h (inside range t schema m h held is_table) (none_out view table keys range h.covers schema m held is_table) ∙ ap (map (λ s. s.row)) (view_selected view table keys (AsOf t) schema m held is_table same)
 
   pub shown_now : (range : KeyRange) (last : ℕ) → AreOfStanding range last → All (λ e. e.at ≤ last) (events view) → WhenShown view table keys (λ m. rows ≡ shown_rows m table Plain keys)
   shown_now range last h upto = λ schema m held is_table same.
-      selected range last h (none_out view table keys range h.covers schema m held is_table)
+      selected range last h (inside range last schema m h held is_table) (none_out view table keys range h.covers schema m held is_table)
       ∙ ap (map (λ s. s.row)) (now_shown table last keys (events view) (recursion_from_All (λ (e : Event). e.at ≤ last) (events view) upto) ∙ view_selected view table keys Plain schema m held is_table same)

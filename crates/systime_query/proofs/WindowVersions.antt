@@ -18,7 +18,8 @@ use Rattle.eventlist.specs.Listing.{stands_at}
 use Rattle.eventlist.proofs.PlaceOrder.{bytes_total, is_own, same_bytes, is_lower, sorted_head, sorted_tail}
 use Rattle.eventlist.proofs.OvertakingNext.{never, not_earlier, stands_before, stands_is, is_overtakes}
 use Rattle.datanode.specs.NextChange.{event_after}
-use Rattle.systime_query.specs.Selection.{next_of, is_taken, shown_of, selected_by}
+use Rattle.searchrange.specs.Search.{is_taken}
+use Rattle.systime_query.specs.Selection.{next_of, shown_of, selected_by}
 use Rattle.systime_query.specs.Window.{IsWindow, is_in_window, end_of, shown_in}
 use Rattle.systime_query.proofs.StandingRows.{ends}
 

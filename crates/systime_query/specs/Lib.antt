@@ -1,3 +1,2 @@
 pub mod Selection
-pub mod Standing
 pub mod Window

@@ -1,5 +1,5 @@
 -- Which versions a query selects, by events in order.
-use Rattle.std.specs.Prelude.{◌≡◌, ℕ, List, [], ◌∷◌, Option, Some, None, Bool, false, ◌&&◌, if◌then◌else◌}
+use Rattle.std.specs.Prelude.{◌≡◌, ℕ, List, [], ◌∷◌, Option, Some, None, ◌&&◌, if◌then◌else◌}
 use Rattle.std.specs.List.{cons_option}
 use Rattle.values.specs.Event.{Event}
 use Rattle.values.specs.declared.table.Table.{Table}
@@ -8,23 +8,16 @@ use Rattle.values.specs.declared.query.Keys.{Keys}
 use Rattle.values.specs.declared.query.Shown.{Shown}
 use Rattle.values.specs.Log.{Changes}
 use Rattle.values.specs.Tables.{Schema, table_at}
-use Rattle.values.specs.Versions.{selects, matches}
+use Rattle.values.specs.Versions.{selects}
 use Rattle.tsbtree.specs.View.{TreeState}
 use Rattle.staging.specs.View.{Holds}
-use Rattle.values.specs.KeyReading.{key_from}
 use Rattle.values.specs.Events.{is_bytes}
+use Rattle.searchrange.specs.Search.{is_taken}
 
 -- the instant of the event behind, where it is of the same key
 abbrev pub next_of : Event → List Event → Option ℕ
 next_of e [] = None
 next_of e (d ∷ ds) = if is_bytes e.key d.key then Some d.at else None
-
--- the bytes are of a key that the query takes
-abbrev pub is_taken : Table → Keys → List ℕ → Bool
-is_taken table keys bytes = elim (key_from table bytes) [
-  | None ↦ false
-  | Some key ↦ matches table keys key
-]
 
 -- the version that an event begins, of those behind it, where the query selects it
 abbrev pub shown_of : Table → Form → Keys → Event → Option ℕ → Option Shown

@@ -2,10 +2,11 @@
 #![tactic(auto)]
 
 mod period;
+mod push;
 mod selection;
 mod standing;
 mod window;
 
-pub use blockcache::BlockCache;
+pub use blocks::BlockCache;
 pub use selection::answer;
 pub use standing::{current_rows, rows_at};

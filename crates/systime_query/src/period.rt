@@ -2,44 +2,35 @@
 ghost use Rattle.std.specs.Prelude.{◌≡◌, IfOk};
 ghost use Rattle.values.specs.Events.{is_bytes};
 ghost use Rattle.values.specs.Memory.{OnlyMemory};
-ghost use Rattle.systime_query.specs.Selection.{is_taken, shown_of};
+ghost use Rattle.searchrange.specs.Search.{IsInSearch};
+ghost use Rattle.systime_query.specs.Selection.{shown_of};
 
+use searchrange::Search;
 use std::alloc::Global;
-use values::{Event, Form, Instant, KeyBytes, Keys, Mem, Shown, Table, read_key};
+use values::{Event, Form, Instant, KeyBytes, Mem, Shown};
 
-/// The version that an event begins, where the query selects it.
+/// The version that an event begins, where the form selects it and the search takes its key.
 pub(crate) fn shown_of(
     alloc: Global,
     event: &Event,
     to: Option<Instant>,
-    table: &Table,
     form: Form,
-    keys: &Keys,
+    search: &Search<'_>,
 ) -> Mem<Option<Shown>>
-    ensures ok { IfOk result (λ s. s ≡ shown_of table.now form keys.now event.now to) }
+    ensures ok { IfOk result (λ s. IsInSearch search.now.table search.now.range event.now.key
+        → s ≡ shown_of search.now.table form search.now.keys event.now to) }
     ensures err { OnlyMemory result }
 {
-    let Some(row) = event.row() else {
-        return Ok(None);
-    };
-    if !form.selects(event.at(), to) || !is_taken(alloc, table, keys, event.key())? {
+    if !form.selects(event.at(), to) {
         return Ok(None);
     }
-    Ok(Some(Shown {
-        row: row.copy()?,
-        from: event.at(),
-        to,
-    }))
-}
-
-/// Whether bytes are of a key that the query takes.
-pub(crate) fn is_taken(alloc: Global, table: &Table, keys: &Keys, bytes: &KeyBytes) -> Mem<bool>
-    ensures ok { IfOk result (λ b. b ≡ is_taken table.now keys.now bytes.now) }
-    ensures err { OnlyMemory result }
-{
-    match read_key(alloc, table, bytes)? {
-        Some(key) => Ok(keys.matches(table, &key)),
-        None => Ok(false),
+    match search.row_in(alloc, event)? {
+        None => Ok(None),
+        Some(row) => Ok(Some(Shown {
+            row,
+            from: event.at(),
+            to,
+        })),
     }
 }
 

@@ -7,38 +7,38 @@ ghost use Rattle.systime_query.specs.Window.{IsWindow};
 
 use crate::window::{shown_in, window_events};
 use blocks::Blocks;
-use searchrange::search_range;
+use searchrange::Search;
 use std::alloc::Global;
 use tsbtree::View;
-use values::{Form, Instant, Keys, Mem, Shown, Table};
+use values::{Form, Instant, Mem, Shown};
 
-/// The versions of a table's rows that a query selects, with their periods, by key and then by start. The keys are of that table.
-/// An end after the view's last instant is none. The events of packed nodes are those that `blocks` gives.
+/// Returns the versions of a table's rows that a query selects, with their periods, by key and then by
+/// start (ISO/IEC 9075-2:2011, 7.6). An end after the view's last instant is none. The events of packed
+/// nodes are those that `blocks` gives.
 pub fn answer<B: Blocks>(
     alloc: Global,
     blocks: &mut B,
     view: &View,
-    table: &Table,
     form: Form,
-    keys: &Keys,
+    search: &Search<'_>,
 ) -> Mem<Vec<Shown>>
-    ensures ok { IfOk result (λ v. WhenShown view.now table.now keys.now (λ m.
-        v.items ≡ answer m table.now form keys.now)) }
+    ensures ok { IfOk result (λ v. WhenShown view.now search.now.table search.now.keys (λ m.
+        v.items ≡ answer m search.now.table form search.now.keys)) }
     ensures err { OnlyMemory result }
 {
     match form {
-        Form::Plain => current(alloc, blocks, view, table, keys),
-        Form::AsOf(instant) => within(alloc, blocks, view, table, form, keys, instant, instant),
+        Form::Plain => current(alloc, blocks, view, search),
+        Form::AsOf(instant) => within(alloc, blocks, view, form, search, instant, instant),
         Form::FromTo(from, to) => {
             if from < to {
-                within(alloc, blocks, view, table, form, keys, from, to - 1)
+                within(alloc, blocks, view, form, search, from, to - 1)
             } else {
                 Ok(Vec::new(alloc))
             }
         }
         Form::Between(from, to) => {
             if from <= to {
-                within(alloc, blocks, view, table, form, keys, from, to)
+                within(alloc, blocks, view, form, search, from, to)
             } else {
                 Ok(Vec::new(alloc))
             }
@@ -51,24 +51,14 @@ fn current<B: Blocks>(
     alloc: Global,
     blocks: &mut B,
     view: &View,
-    table: &Table,
-    keys: &Keys,
+    search: &Search<'_>,
 ) -> Mem<Vec<Shown>>
-    ensures ok { IfOk result (λ v. WhenShown view.now table.now keys.now (λ m.
-        v.items ≡ answer m table.now Form.Plain keys.now)) }
+    ensures ok { IfOk result (λ v. WhenShown view.now search.now.table search.now.keys (λ m.
+        v.items ≡ answer m search.now.table Form.Plain search.now.keys)) }
     ensures err { OnlyMemory result }
 {
     let last = view.last();
-    within(
-        alloc,
-        blocks,
-        view,
-        table,
-        Form::AsOf(last),
-        keys,
-        last,
-        last,
-    )
+    within(alloc, blocks, view, Form::AsOf(last), search, last, last)
 }
 
 /// The versions that a query selects which asks of the instants from one to another, and with it.
@@ -76,19 +66,17 @@ fn within<B: Blocks>(
     alloc: Global,
     blocks: &mut B,
     view: &View,
-    table: &Table,
     form: Form,
-    keys: &Keys,
+    search: &Search<'_>,
     first: Instant,
     last: Instant,
 ) -> Mem<Vec<Shown>>
     requires window { IsWindow form first last }
     requires order { first ≤ last }
-    ensures ok { IfOk result (λ v. WhenShown view.now table.now keys.now (λ m.
-        v.items ≡ answer m table.now form keys.now)) }
+    ensures ok { IfOk result (λ v. WhenShown view.now search.now.table search.now.keys (λ m.
+        v.items ≡ answer m search.now.table form search.now.keys)) }
     ensures err { OnlyMemory result }
 {
-    let range = search_range(alloc, table, keys)?;
-    let found = window_events(alloc, blocks, view, &range, first, last)?;
-    shown_in(alloc, view, &found, last, table, form, keys)
+    let found = window_events(alloc, blocks, view, search.range(), first, last)?;
+    shown_in(alloc, view, &found, last, form, search)
 }

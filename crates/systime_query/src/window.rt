@@ -4,17 +4,20 @@ ghost use Rattle.std.specs.List.Sorted.{IsStrictlySortedBy};
 ghost use Rattle.values.specs.Events.{event_cmp};
 ghost use Rattle.values.specs.Memory.{OnlyMemory};
 ghost use Rattle.keyrange.specs.Range.{is_key_in};
+ghost use Rattle.staging.specs.Staged.{AreInSearch};
 ghost use Rattle.tsbtree.specs.View.{events};
 ghost use Rattle.systime_query.specs.Selection.{next_of};
 ghost use Rattle.systime_query.specs.Window.{is_in_window, end_of, shown_in};
 
 use crate::period::{is_same, shown_of};
+use crate::push::push_some;
 use blocks::Blocks;
 use eventlist::sort_events;
 use keyrange::KeyRange;
+use searchrange::Search;
 use std::alloc::Global;
 use tsbtree::View;
-use values::{Event, Form, Instant, Keys, Mem, SharedEvent, Shown, Table};
+use values::{Event, Form, Instant, Mem, SharedEvent, Shown};
 
 /// The events of a range of keys whose rows stand at the first instant, and those after it up to the last, by key and
 /// then by instant.
@@ -48,12 +51,12 @@ pub(crate) fn shown_in(
     view: &View,
     found: &[SharedEvent],
     last: Instant,
-    table: &Table,
     form: Form,
-    keys: &Keys,
+    search: &Search<'_>,
 ) -> Mem<Vec<Shown>>
-    ensures ok { IfOk result (λ v. v.items
-        ≡ shown_in (events view.now) last table.now form keys.now found.now) }
+    ensures ok { IfOk result (λ v. AreInSearch search.now.table search.now.range found.now
+        → v.items
+        ≡ shown_in (events view.now) last search.now.table form search.now.keys found.now) }
     ensures err { OnlyMemory result }
 {
     let mut shown = Vec::new(alloc);
@@ -62,9 +65,7 @@ pub(crate) fn shown_in(
         rest = behind;
         let event = event.event();
         let end = end_of(view, last, event, behind);
-        if let Some(version) = shown_of(alloc, event, end, table, form, keys)? {
-            shown.push(version)?;
-        }
+        push_some(&mut shown, shown_of(alloc, event, end, form, search)?)?;
     }
     Ok(shown)
 }

@@ -4,4 +4,4 @@ use Rattle.systime_query.proofs.selection.current.Goals as goal
 
 pub returns-clause-ok : goal.returns-clause-ok
 returns-clause-ok g c =
-    weaker c.within.result (λ v h. current_is c.args.view.now c.args.table.now c.args.keys.now c.last-last.result v.items c.last-last.ensures.upto h) c.within.ensures.ok
+    weaker c.within.result (λ v h. current_is c.args.view.now c.args.search.now.table c.args.search.now.keys c.last-last.result v.items c.last-last.ensures.upto h) c.within.ensures.ok
