@@ -29,20 +29,20 @@ listed_past m writes table (FromTo a b) keys h = refl
 listed_past m writes table (Between a b) keys h = refl
 
 abbrev ShownIn : OpenTransactionState → Table → Form → Keys → Listing → Type 0
-ShownIn t table form keys l = WhenRead table t.view t.writes (λ schema m. keys.table ≡ table.number → l ≡ listing_in m t.writes table form keys)
+ShownIn t table form keys l = WhenRead table t.view t.writes (λ schema m. l ≡ listing_in m t.writes table form keys)
 
 -- what is shown of what was committed until its start
-pub past_shown : (r : Result Listing Refusal) (t u : OpenTransactionState) (table : Table) (form : Form) (keys : Keys) → t ≡ u → is_plain form ≡ false
+pub past_shown : (r : Result Listing Refusal) (t u : OpenTransactionState) (table : Table) (form : Form) (keys : Keys) → t ≡ u → keys.table ≡ table.number → is_plain form ≡ false
     → IfOk r (λ l. WhenShown t.view table keys (λ m. l ≡ as_listing form (answer m table form keys))) → IfOk r (ShownIn u table form keys)
-past_shown (Err refusal) t u table form keys is past h = h
-past_shown (Ok l) t u table form keys is past h =
+past_shown (Err refusal) t u table form keys is same past h = h
+past_shown (Ok l) t u table form keys is same past h =
     subst (λ u. ShownIn u table form keys l) is
-    (λ schema m reads same. h schema m reads.held reads.is_table same ∙ listed_past m t.writes table form keys past)
+    (λ schema m reads. h schema m reads.held reads.is_table same ∙ listed_past m t.writes table form keys past)
 
 -- what a plain query shows
 pub plain_shown : (t u : OpenTransactionState) (table : Table) (form : Form) (keys : Keys) (found : State) (rows : List Row) → t ≡ u → form ≡ Plain → rows ≡ map (λ e. e.1) found
-    → WhenRead table t.view t.writes (λ schema m. keys.table ≡ table.number → found ≡ filter (λ e. matches table keys e.0) (rows_seen m t.writes))
+    → WhenRead table t.view t.writes (λ schema m. found ≡ filter (λ e. matches table keys e.0) (rows_seen m t.writes))
     → ShownIn u table form keys (Rows rows)
 plain_shown t u table form keys found rows is plain are did =
     subst (λ u. ShownIn u table form keys (Rows rows)) is
-    (λ schema m reads same. ap Rows (are ∙ ap (map (λ e. e.1)) (did schema m reads same)) ∙ (λ i. listing_in m t.writes table (sym plain i) keys))
+    (λ schema m reads. ap Rows (are ∙ ap (map (λ e. e.1)) (did schema m reads)) ∙ (λ i. listing_in m t.writes table (sym plain i) keys))

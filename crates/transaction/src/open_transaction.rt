@@ -1,3 +1,4 @@
+//! An open transaction.
 ghost use Rattle.std.specs.Prelude.{◌≡◌, ◌≢◌, [], IfOk, None};
 ghost use Rattle.values.specs.Fit.{key_fault};
 ghost use Rattle.values.specs.Log.{Changes, row_at};
@@ -30,7 +31,7 @@ impl Model for OpenTransaction {
 }
 
 impl OpenTransaction {
-    /// A transaction that begins with a view, and has written nothing.
+    /// Begins a transaction with a view; it has written nothing.
     pub fn begin(alloc: Global, view: View) -> Mem<OpenTransaction>
         ensures ok { IfOk result (λ t. t ≡ record { view = view; writes = [] }) }
         ensures err { OnlyMemory result }
@@ -39,14 +40,14 @@ impl OpenTransaction {
         Ok(OpenTransaction { view, staged })
     }
 
-    /// The last commit instant at its BEGIN, 0 where there was none.
+    /// Returns the last commit instant at its BEGIN, 0 where there was none.
     pub fn start(&self) -> Instant
         ensures { result ≡ last self.now.view }
     {
         self.view.last()
     }
 
-    /// The row that the transaction sees at a key of the table, which fits it.
+    /// Returns the row that the transaction sees at a key of the table, which fits it.
     pub fn get(&self, table: &Table, key: &Key) -> Mem<Option<Row>>
         requires table { IsTable table.now.number table.now }
         requires own { key.now.table ≡ table.now.number }
@@ -58,7 +59,8 @@ impl OpenTransaction {
         self.staged.get(&self.view, table, key)
     }
 
-    /// What the transaction changes: what each key that it wrote has in the end, without those that are absent both then and in the view.
+    /// Returns what the transaction changes: what each key that it wrote has in the end, without those that
+    /// are absent both then and in the view.
     pub fn net(&self) -> Mem<Net>
         ensures ok { IfOk result (λ net. (schema : Schema) (m : Changes)
             → Holds schema self.now.view m → AreKeysIn schema self.now.writes
