@@ -1,3 +1,4 @@
+mod StepEnded
 pub mod SystemEnded
 pub mod SystemKeeps
 pub mod SystemListed

@@ -46,11 +46,11 @@ by_select w form keys s t = elim t [ None ↦ Refused NoTable | Some table ↦ S
 module _ (schema : Schema) (engine : TreeState) (sessions : List (Option OpenTransactionState)) (w : World) (i : ℕ) (table : Table) (form : Form) (keys : Keys) (is : world_of schema engine sessions ≡ w) (there : Some table ≡ table_at schema keys.table) (good : IsTable keys.table table) where
   -- what a session shows with a transaction open
   pub shows_in : (o : Option OpenTransactionState) (b : OpenTransactionState) (l : Listing) → IsSystem schema engine sessions → i ≤ 64 → o ≡ get_or sessions i o → o ≡ Some b
-      → WhenRead table b.view b.writes (λ schema m. keys.table ≡ table.number → l ≡ listing_in m b.writes table form keys) → Shown l ≡ select_reply w i form keys
+      → WhenRead table b.view b.writes (λ schema m. l ≡ listing_in m b.writes table form keys) → Shown l ≡ select_reply w i form keys
   shows_in o b l s small at some did =
       let here : Some b ≡ get_or sessions i None = sym some ∙ place_is schema engine sessions i o s small at in
       let begun : IsOpenIn schema engine b = begun_in schema engine sessions i b small s here in
-      ap Shown (did schema (changes_in schema (events b.view)) (reads schema engine b table keys.table begun there good) (sym good.numbered) ∙ in_turn (world_of schema engine sessions) schema b table form keys begun.part)
+      ap Shown (did schema (changes_in schema (events b.view)) (reads schema engine b table keys.table begun there good) ∙ in_turn (world_of schema engine sessions) schema b table form keys begun.part)
       ∙ (λ j. by_select (world_of schema engine sessions) form keys (option_map (open_of schema) (here j)) (there j))
       ∙ (λ j. by_select (world_of schema engine sessions) form keys (sym (session_is schema engine sessions i) j) (table_at schema keys.table))
       ∙ ap (λ w. select_reply w i form keys) is

@@ -1,3 +1,4 @@
 pub mod MigrateStep
+pub mod StepLeaves
 pub mod SystemState
 pub mod TreeStep

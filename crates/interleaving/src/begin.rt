@@ -5,12 +5,13 @@ ghost use Rattle.histories.specs.Memory.{is_out_of_memory};
 ghost use Rattle.histories.specs.Misfit.{max_session};
 ghost use Rattle.histories.specs.Stands.{is_open_at};
 ghost use Rattle.histories.specs.Turn.{begin_turn, rollback_turn};
+ghost use Rattle.interleaving.specs.StepLeaves.{leaves_all};
 ghost use Rattle.interleaving.specs.SystemState.{world};
 
 use crate::system::System;
 use histories::Reply;
-use rows::{Mem, Refusal};
 use transaction::OpenTransaction;
+use values::{Mem, Refusal};
 
 impl System {
     /// Opens a transaction on what is committed now.
@@ -18,7 +19,8 @@ impl System {
         requires { session ≤ max_session }
         ensures answered { is_out_of_memory result ≡ false
             → (result, world self.new) ≡ begin_turn (world self.old) session }
-        ensures out { is_out_of_memory result ≡ true → self.new ≡ self.old }
+        ensures refused { leaves_all result ≡ true → self.new ≡ self.old }
+        ensures engine { self.new.engine ≡ self.old.engine }
         ensures no_memory { is_open_at (world self.old) session ≡ true
             → is_out_of_memory result ≡ false }
     {
@@ -47,7 +49,9 @@ impl System {
     /// Ends a transaction with no trace.
     pub(crate) fn rollback(&mut self, session: u8) -> Reply
         requires { session ≤ max_session }
-        ensures { (result, world self.new) ≡ rollback_turn (world self.old) session }
+        ensures answered { (result, world self.new) ≡ rollback_turn (world self.old) session }
+        ensures refused { leaves_all result ≡ true → self.new ≡ self.old }
+        ensures engine { self.new.engine ≡ self.old.engine }
     {
         let place = session as usize;
         if self.sessions[place].is_none() {

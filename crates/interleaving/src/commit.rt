@@ -4,11 +4,14 @@ ghost use Rattle.histories.specs.Memory.{is_out_of_memory};
 ghost use Rattle.histories.specs.Stands.{is_open_at};
 ghost use Rattle.histories.specs.Misfit.{max_session};
 ghost use Rattle.histories.specs.Turn.{commit_turn};
+ghost use Rattle.histories.specs.declared.step.Step.TheVariants.{Commit};
+ghost use Rattle.treenodes.specs.History.{KeepsHistory};
+ghost use Rattle.interleaving.specs.StepLeaves.{SplitsAsReplied, leaves_all, may_change_tree};
 ghost use Rattle.interleaving.specs.SystemState.{world};
 
 use crate::system::System;
 use histories::Reply;
-use rows::{Instant, Refusal};
+use values::{Instant, Refusal};
 
 impl System {
     /// Ends a transaction by this reading of the clock.
@@ -16,7 +19,12 @@ impl System {
         requires { session ≤ max_session }
         ensures answered { is_out_of_memory result ≡ false
             → (result, world self.new) ≡ commit_turn (world self.old) session reading }
-        ensures out { is_out_of_memory result ≡ true → self.new ≡ self.old }
+        ensures refused { leaves_all result ≡ true → self.new ≡ self.old }
+        ensures engine { may_change_tree (Commit session reading) result ≡ false
+            → self.new.engine ≡ self.old.engine }
+        ensures history { KeepsHistory self.old.engine.nodes self.new.engine.nodes }
+        ensures splits { SplitsAsReplied (Commit session reading) result
+            self.old.engine self.new.engine }
         ensures no_memory { is_open_at (world self.old) session ≡ false
             → is_out_of_memory result ≡ false }
     {
@@ -30,10 +38,19 @@ impl System {
         };
         let reply = match self.engine.commit(transaction.start(), net, reading) {
             Ok(instant) => Reply::Committed(instant),
-            Err(Refusal::Memory) => return Reply::Refused(Refusal::Memory),
             Err(refusal) => Reply::Refused(refusal),
         };
+        if ran_out(&reply) {
+            return reply;
+        }
         self.sessions[place] = None;
         reply
     }
+}
+
+/// Whether memory ran out.
+fn ran_out(reply: &Reply) -> bool
+    ensures { result ≡ is_out_of_memory reply.now }
+{
+    matches!(reply, Reply::Refused(Refusal::Memory))
 }

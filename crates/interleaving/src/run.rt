@@ -6,8 +6,8 @@ ghost use Rattle.histories.specs.Due.{AllAnswered, OutWhereTaken, due};
 
 use crate::system::System;
 use histories::{Reply, Step};
-use rows::{Mem, Schema};
 use std::alloc::Global;
+use values::{Mem, Schema};
 
 impl System {
     /// The replies to steps in turn, from a store in which nothing was committed.

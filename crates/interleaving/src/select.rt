@@ -1,19 +1,20 @@
 //! SELECT.
-ghost use Rattle.std.specs.Prelude.{◌≡◌, ◌≤◌, IfOk};
+ghost use Rattle.std.specs.Prelude.{◌≡◌, IfOk, None};
 ghost use Rattle.values.specs.Memory.{OnlyMemory};
-ghost use Rattle.histories.specs.Misfit.{max_session};
+ghost use Rattle.histories.specs.declared.step.Step.TheVariants.{Select};
+ghost use Rattle.histories.specs.Misfit.{misfit};
 ghost use Rattle.histories.specs.Turn.{select_reply};
 ghost use Rattle.interleaving.specs.SystemState.{world};
 
 use crate::system::System;
 use histories::Reply;
-use rows::{Form, Keys, Mem, Refusal};
 use transaction::listing_of;
+use values::{FittingKeys, Form, Keys, Mem, Refusal};
 
 impl System {
     /// What a query of a session shows.
     pub(crate) fn select(&mut self, session: u8, form: Form, keys: &Keys) -> Mem<Reply>
-        requires { session ≤ max_session }
+        requires { misfit self.old.schema (Select session form keys.now) ≡ None }
         ensures ok { IfOk result (λ reply.
             reply ≡ select_reply (world self.old) session form keys.now) }
         ensures same { self.new ≡ self.old }
@@ -22,13 +23,12 @@ impl System {
         let Some(table) = self.schema.table_at(keys.table) else {
             return Ok(Reply::Refused(Refusal::NoTable));
         };
+        let keys = FittingKeys { table, keys };
         let listing = match &self.sessions[session as usize] {
-            Some(transaction) => {
-                transaction.select(self.alloc, &mut self.cache, form, table, keys)?
-            }
+            Some(transaction) => transaction.select(self.alloc, &mut self.cache, form, keys)?,
             None => {
                 let view = self.engine.tree().current();
-                listing_of(self.alloc, &mut self.cache, view, form, table, keys)?
+                listing_of(self.alloc, &mut self.cache, view, form, keys)?
             }
         };
         Ok(Reply::Shown(listing))

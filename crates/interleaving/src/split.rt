@@ -1,18 +1,17 @@
 //! SPLIT: a node of the tree is split, which no reply shows.
 ghost use Rattle.std.specs.Prelude.{◌≡◌, IfOk, None, true, false};
 ghost use Rattle.values.specs.KeyEncoding.{bytes_of_key};
-ghost use Rattle.values.specs.Memory.{OnlyMemory};
 ghost use Rattle.histories.specs.Memory.{is_out_of_memory};
 ghost use Rattle.histories.specs.Misfit.{key_misfit};
+ghost use Rattle.treenodes.specs.History.{KeepsHistory};
+ghost use Rattle.interleaving.specs.StepLeaves.{leaves_all};
 ghost use Rattle.interleaving.specs.TreeStep.{WasSplit};
 ghost use Rattle.interleaving.specs.SystemState.{world};
 
 use crate::system::System;
 use histories::Reply;
-use rows::{Instant, Key, KeyBytes, Mem, Refusal, Schema, key_bytes};
-use std::alloc::Global;
 use validation::Cut;
-use values::fitting_keys_have_bytes;
+use values::{Instant, Key, fitting_key_bytes};
 
 impl System {
     /// Splits the current data node of a key there.
@@ -20,7 +19,8 @@ impl System {
         requires { key_misfit self.old.schema key.now ≡ None }
         ensures done { is_out_of_memory result ≡ false → result ≡ Reply.Done }
         ensures same { world self.new ≡ world self.old }
-        ensures out { is_out_of_memory result ≡ true → self.new ≡ self.old }
+        ensures refused { leaves_all result ≡ true → self.new ≡ self.old }
+        ensures history { KeepsHistory self.old.engine.nodes self.new.engine.nodes }
         ensures split { result ≡ Reply.Done
             → WasSplit (Cut.Key (bytes_of_key key.now)) self.old.engine self.new.engine }
     {
@@ -35,7 +35,8 @@ impl System {
         requires { key_misfit self.old.schema key.now ≡ None }
         ensures done { is_out_of_memory result ≡ false → result ≡ Reply.Done }
         ensures same { world self.new ≡ world self.old }
-        ensures out { is_out_of_memory result ≡ true → self.new ≡ self.old }
+        ensures refused { leaves_all result ≡ true → self.new ≡ self.old }
+        ensures history { KeepsHistory self.old.engine.nodes self.new.engine.nodes }
         ensures split { result ≡ Reply.Done
             → WasSplit (Cut.Time (bytes_of_key key.now) instant) self.old.engine self.new.engine }
     {
@@ -49,25 +50,13 @@ impl System {
     fn split(&mut self, cut: &Cut) -> Reply
         ensures done { is_out_of_memory result ≡ false → result ≡ Reply.Done }
         ensures same { world self.new ≡ world self.old }
-        ensures out { is_out_of_memory result ≡ true → self.new ≡ self.old }
+        ensures refused { leaves_all result ≡ true → self.new ≡ self.old }
+        ensures history { KeepsHistory self.old.engine.nodes self.new.engine.nodes }
         ensures split { result ≡ Reply.Done → WasSplit cut.now self.old.engine self.new.engine }
     {
         match self.engine.split(cut) {
             Ok(_done) => Reply::Done,
             Err(refusal) => Reply::Refused(refusal),
         }
-    }
-}
-
-/// The bytes of a key that fits its table.
-fn fitting_key_bytes(alloc: Global, schema: &Schema, key: &Key) -> Mem<KeyBytes>
-    requires { key_misfit schema.now key.now ≡ None }
-    ensures ok { IfOk result (λ bytes. bytes ≡ bytes_of_key key.now) }
-    ensures err { OnlyMemory result }
-{
-    fitting_keys_have_bytes();
-    match schema.table_at(key.table) {
-        Some(_) => key_bytes(alloc, key),
-        None => unreachable!(),
     }
 }

@@ -2,28 +2,33 @@
 ghost use Rattle.std.specs.Prelude.{◌≡◌, ◌≢◌, ◌∷◌, None, true, false, IfOk, IfErr};
 ghost use Rattle.histories.specs.Misfit.{misfit};
 ghost use Rattle.histories.specs.Turn.{turn_in};
+ghost use Rattle.interleaving.specs.StepLeaves.{LeavesHistory, SplitsAsReplied, leaves_all, may_change_tree};
 ghost use Rattle.interleaving.specs.TreeStep.{IsTreeStep};
 ghost use Rattle.interleaving.specs.SystemState.{world};
 ghost use Rattle.histories.specs.Memory.{is_out_of_memory, takes_no_memory};
 
 use crate::system::System;
 use histories::{Reply, Step};
-use rows::{Mem, Refusal};
+use values::{Mem, Refusal, Write};
 
 impl System {
     ghost use Rattle.histories.specs.History.{History, reply};
     ghost use Rattle.interleaving.specs.SystemState.{Stands};
 
-    /// Takes a step. Where memory runs out nothing has changed, and the step may be taken again. A split that is done
-    /// puts the halves of the current data node of its key in the node's place, where its cut lies inside. A migrate step
-    /// puts the block of the first unpacked data node of history in the node's place, where there is one.
+    /// Takes a step. After a refusal nothing has changed, but that `Conflict` and `ClockEnd` end their
+    /// transaction; where memory ran out the step may be taken again. Only a split, a migration and a commit with
+    /// an instant change the tree, and none of them a node of history, but that a migration packs one: the first
+    /// unpacked one. A split that is done puts the halves of the current data node of its key in the node's place,
+    /// where its cut lies inside; a commit splits only nodes that it overfills.
     pub fn step(&mut self, step: Step) -> Reply
         ensures answers { (h : History) → Stands self.old h → result ≢ Reply.Refused Refusal.Memory
             → (result ≡ reply self.old.schema h step) × Stands self.new (step ∷ h) }
-        ensures out_of_memory { (h : History) → Stands self.old h
-            → result ≡ Reply.Refused Refusal.Memory → Stands self.new h }
+        ensures refused { leaves_all result ≡ true → self.new ≡ self.old }
         ensures schema { self.new.schema ≡ self.old.schema }
         ensures tree { result ≡ Reply.Done → IsTreeStep step self.old self.new }
+        ensures engine { may_change_tree step result ≡ false → self.new.engine ≡ self.old.engine }
+        ensures history { LeavesHistory step self.old.engine self.new.engine }
+        ensures splits { SplitsAsReplied step result self.old.engine self.new.engine }
         ensures no_memory { takes_no_memory (world self.old) step ≡ true
             → is_out_of_memory result ≡ false }
     {
@@ -38,16 +43,24 @@ impl System {
         requires { misfit self.old.schema step.now ≡ None }
         ensures answered { is_out_of_memory result ≡ false
             → (result, world self.new) ≡ turn_in (world self.old) step.now }
-        ensures out { is_out_of_memory result ≡ true → self.new ≡ self.old }
+        ensures refused { leaves_all result ≡ true → self.new ≡ self.old }
         ensures tree { result ≡ Reply.Done → IsTreeStep step.now self.old self.new }
+        ensures engine { may_change_tree step.now result ≡ false
+            → self.new.engine ≡ self.old.engine }
+        ensures history { LeavesHistory step.now self.old.engine self.new.engine }
+        ensures splits { SplitsAsReplied step.now result self.old.engine self.new.engine }
         ensures no_memory { takes_no_memory (world self.old) step.now ≡ true
             → is_out_of_memory result ≡ false }
     {
         match step {
             Step::Begin(session) => self.begin(*session),
-            Step::Insert(session, table, rows) => self.insert(*session, *table, rows.items()),
-            Step::Update(session, keys, sets) => self.update(*session, keys, sets.items()),
-            Step::Delete(session, keys) => self.delete(*session, keys),
+            Step::Insert(session, table, rows) => {
+                self.write(*session, Write::Insert(*table, rows.items()))
+            }
+            Step::Update(session, keys, sets) => {
+                self.write(*session, Write::Update(keys, sets.items()))
+            }
+            Step::Delete(session, keys) => self.write(*session, Write::Delete(keys)),
             Step::Select(session, form, keys) => reply_of(self.select(*session, *form, keys)),
             Step::Commit(session, reading) => self.commit(*session, *reading),
             Step::Rollback(session) => self.rollback(*session),

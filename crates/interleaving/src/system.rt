@@ -3,7 +3,6 @@ ghost use Rattle.std.specs.Prelude.{◌≡◌, IfOk};
 ghost use Rattle.values.specs.Memory.{OnlyMemory};
 
 use histories::MAX_SESSION;
-use rows::{Mem, Schema};
 use std::alloc::Global;
 use std::marker::Model;
 use systime_query::BlockCache;
@@ -11,6 +10,7 @@ use transaction::OpenTransaction;
 use treewalk::Shape;
 use tsbtree::Tree;
 use validation::Engine;
+use values::{Mem, Schema};
 
 /// How many sessions there are: they are numbered from 0.
 pub(crate) const SESSIONS: usize = MAX_SESSION as usize + 1;
