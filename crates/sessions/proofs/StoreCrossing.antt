@@ -5,7 +5,7 @@ use denote.Param.Send.{IsSend, IsSync, sendable}
 use Rattle.std.proofs.Crossing.{crosses as plain}
 use Rattle.bytes.proofs.shared.Bytes.TheSendSync as bytes
 use Rattle.values.proofs.refusal.Refusal.TheSendSync as refusal
-use Rattle.rows.proofs.schema.Schema.TheSendSync as schema
+use Rattle.values.proofs.schema.Schema.TheSendSync as schema
 use Rattle.keyrange.proofs.rect.Rect.TheSendSync as rect
 use Rattle.slots.specs.contracts.slots.Slots as Slots
 use Rattle.slots.proofs.trie.Trie.TheLaws.TheKnot as knot
@@ -14,7 +14,7 @@ use Rattle.treenodes.proofs.node.Slot.TheSendSync as slot
 use Rattle.treenodes.specs.contracts.nodes.Nodes as Nodes
 use Rattle.tsbtree.specs.contracts.tree.Tree as Tree
 use Rattle.tsbtree.specs.contracts.view.View as View
-use Rattle.blockcache.proofs.cache.BlockCache.TheSendSync as cache
+use Rattle.blocks.proofs.cache.BlockCache.TheSendSync as cache
 use Rattle.staging.proofs.net.Net.TheSendSync as net
 use Rattle.staging.proofs.staged.Staged.TheSendSync as staged
 use Rattle.validation.specs.contracts.engine.Engine as Engine

@@ -20,16 +20,16 @@ use Rattle.histories.specs.declared.step.Step.{Step}
 use Rattle.histories.specs.declared.step.Step.TheVariants.{Select}
 use Rattle.histories.specs.Misfit.{max_session, misfit, key_misfit}
 use Rattle.histories.specs.History.{write}
-use Rattle.journal.specs.declared.entry.Begun.{Begun}
+use Rattle.journal.specs.BegunState.{BegunState}
 
 -- an open transaction: its begin, what it sees of what was committed, and its own writes
 pub record SessionTransactionState : Type 0 where
-  pub begun : Begun
+  pub begun : BegunState
   pub view : TreeState
   pub writes : Net
 
 -- by its begin, and what contracts see of the transaction
-abbrev pub session_transaction : Begun → OpenTransactionState → SessionTransactionState
+abbrev pub session_transaction : BegunState → OpenTransactionState → SessionTransactionState
 session_transaction begun t = record { begun = begun; view = t.view; writes = t.writes }
 
 -- a session's number, its tables, the number of its last receipt, and its open transaction or none

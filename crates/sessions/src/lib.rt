@@ -1,13 +1,14 @@
 //! Sessions, each with a transaction of its own, round one store.
 #![tactic(auto)]
 
+mod gate;
 mod law;
 mod read;
-mod same_schema;
 mod session;
 mod store;
 mod write;
 
+pub use gate::{Gate, Place};
 pub use law::{sessions_answer_as_histories, stores_answer_as_histories};
 pub use session::Session;
 pub use store::{LockedStore, Unclosed};

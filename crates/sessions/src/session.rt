@@ -1,4 +1,4 @@
-//! A session: what its transaction sees of what was committed, and its own writes. Nothing here takes a lock.
+//! A session: what its transaction sees, and its own writes. Nothing here takes a lock.
 ghost use Rattle.std.specs.Prelude.{◌≡◌, ◌<◌, ◌≤◌, [], Err, IfOk, IsOk, MatchOption, None, Some};
 ghost use Rattle.histories.specs.Misfit.{max_session};
 ghost use Rattle.values.specs.Log.{Changes};
@@ -35,7 +35,9 @@ impl Model for SessionTransaction {
     } };
 }
 
-/// A session of a store, with a transaction open or none. It belongs to no store: at another than the one at which it began its transaction is open only where that has an equal begin of it which has not ended.
+/// A session of a store, with a transaction open or none. It belongs to no store: at another than
+/// the one at which it began, its transaction is open only where that has an equal begin of it
+/// which has not ended.
 #[derive(Drop)]
 pub struct Session {
     pub(crate) alloc: Global,
@@ -63,7 +65,8 @@ impl Model for Session {
 }
 
 impl Session {
-    /// A session of these tables, with no transaction open. `NoSession` where the number is above 64; 0 is the service's own.
+    /// Makes a session of these tables, with no transaction open. `NoSession` where the number is
+    /// above 64; 0 is the service's own.
     pub fn new(alloc: Global, number: u8, schema: Schema) -> Result<Session, Refusal>
         ensures ok { IfOk result (λ s. s
             ≡ record { number = number; schema = schema; receipt = 0; transaction = None }) }
@@ -83,38 +86,39 @@ impl Session {
         })
     }
 
-    /// The session's number, from 0 to 64.
+    /// Returns the session's number, from 0 to 64.
     pub fn number(&self) -> u8
         ensures { result ≡ self.now.number }
     {
         self.number
     }
 
-    /// The tables that the session speaks of.
+    /// Returns the tables that the session speaks of.
     pub fn schema(&self) -> &Schema
         ensures { result.now ≡ self.now.schema }
     {
         &self.schema
     }
 
-    /// The last instant that the open transaction sees, or none where none is open.
+    /// Returns the last instant that the open transaction sees, or none where none is open.
     pub fn start(&self) -> Option<Instant>
         ensures { result ≡ start_of self.now }
     {
         match &self.transaction {
             None => None,
-            Some(own) => Some(own.begun.start),
+            Some(own) => Some(own.begun.start()),
         }
     }
 
-    /// The number of the last receipt that a store gave the session, 0 at first.
+    /// Returns the number of the last receipt that a store gave the session, 0 at first.
     pub fn last_receipt(&self) -> u64
         ensures { result ≡ self.now.receipt }
     {
         self.receipt
     }
 
-    /// Ends the open transaction with no trace. `NoTransaction` where none is open. It takes no memory.
+    /// Ends the open transaction with no trace. `NoTransaction` where none is open. It takes no
+    /// memory.
     pub fn rollback(&mut self) -> Result<(), Refusal>
         ensures which { MatchOption self.old.transaction
             (result ≡ Err Refusal.NoTransaction) (λ _. IsOk result) }

@@ -1,5 +1,5 @@
 //! The store: the book under its lock.
-ghost use Rattle.std.specs.Prelude.{◌≡◌, ◌≢◌, ◌<◌, ◌≤◌, ◌⊎◌, All, Err, IfErr, IfOk, IsPermutation, IsSome, None, OnErr, Some, length, map};
+ghost use Rattle.std.specs.Prelude.{◌≡◌, ◌≢◌, ◌<◌, ◌≤◌, ◌⊎◌, ◌↔◌, All, Err, IfErr, IfOk, IsPermutation, IsSome, IsTrue, None, OnErr, Some, length, map};
 ghost use Rattle.values.specs.Events.{AreKeysIn};
 ghost use Rattle.values.specs.Log.{Changes};
 ghost use Rattle.values.specs.Memory.{OnlyMemory};
@@ -11,11 +11,10 @@ ghost use Rattle.journal.specs.Entries.{entry_at, numbers};
 ghost use Rattle.book.specs.Book.{IsBook, OnlyRoom};
 ghost use Rattle.sessions.specs.Store.{IsBegun, IsCommitted, IsInstallOf, IsSplitOf, OnlyRoomOrNone};
 
-use crate::same_schema::is_same_schema;
 use crate::session::{Session, SessionTransaction};
 use book::{Book, Closed, Opening};
 use growlog::{NewLog, StoreName};
-use journal::{Begun, Receipt, SharedEntry};
+use journal::{Receipt, SharedEntry};
 use rows::{Instant, Mem, Refusal, Schema};
 use staging::Net;
 use std::alloc::Global;
@@ -23,7 +22,7 @@ use std::sync::{Mutex, Wait};
 use transaction::OpenTransaction;
 use validation::{Cut, PackedNode};
 
-/// A store round which many threads run sessions. What its calls say they say if they return.
+/// A store round which many threads run sessions. What its calls promise holds if they return.
 #[derive(Drop)]
 pub struct LockedStore<J: StoreName> {
     schema: Schema,
@@ -31,14 +30,15 @@ pub struct LockedStore<J: StoreName> {
     pub ghost named: { schema ≡ J.schema },
 }
 
-/// A store that is not closed, since the receipts are not one for each entry. They are handed back in some order, and closing can be tried again.
+/// A store that is not closed, since the receipts are not one for each entry. They are handed back
+/// in some order, and closing can be tried again.
 #[derive(Drop)]
 pub struct Unclosed<J: StoreName> {
     pub store: LockedStore<J>,
     pub receipts: Vec<Receipt<J>>,
 }
 
-/// The net changes of a transaction, twice.
+/// Returns the net changes of a transaction, twice.
 fn nets(transaction: &OpenTransaction) -> Mem<(Net, Net)>
     ensures ok { IfOk result (λ nets. (schema : Tables) (m : Changes)
         → Holds schema transaction.now.view m → AreKeysIn schema transaction.now.writes
@@ -54,7 +54,8 @@ fn nets(transaction: &OpenTransaction) -> Mem<(Net, Net)>
 }
 
 impl<J: StoreName> LockedStore<J> {
-    /// A store of these tables to which nothing has happened.
+    /// Makes a store of these tables to which nothing has happened. Out of memory is the only
+    /// refusal.
     pub fn new(alloc: Global, schema: Schema, opened: NewLog<SharedEntry>) -> Mem<LockedStore<J>>
         requires log { opened.seen.book ≡ J.book }
         requires tables { schema ≡ J.schema }
@@ -67,7 +68,8 @@ impl<J: StoreName> LockedStore<J> {
         })
     }
 
-    /// A session of the store's tables, with no transaction open. `NoSession` or out of memory where the number is above 64, otherwise out of memory is the only refusal.
+    /// Makes a session of the store's tables, with no transaction open. `NoSession` or out of
+    /// memory where the number is above 64; otherwise out of memory is the only refusal.
     pub fn session(&self, alloc: Global, number: u8) -> Result<Session, Refusal>
         ensures ok { IfOk result (λ s. s
             ≡ record { number = number; schema = J.schema; receipt = 0; transaction = None }) }
@@ -78,8 +80,16 @@ impl<J: StoreName> LockedStore<J> {
         Session::new(alloc, number, self.schema.copy(alloc)?)
     }
 
-    /// Begins a session's transaction, which sees what its receipt's entry shows. `NoTable` where the session is of other tables, `InTransaction` where one is open,
-    /// `JournalFull` where there is no room for one more entry. After a refusal nothing has changed.
+    /// Tells whether a session is of the store's tables.
+    fn has_tables_of(&self, session: &Session) -> bool
+        ensures { IsTrue result ↔ (session.now.schema ≡ J.schema) }
+    {
+        self.schema == session.schema
+    }
+
+    /// Begins a session's transaction, which sees what its receipt's entry shows. `NoTable` where
+    /// the session is of other tables, `InTransaction` where one is open, `JournalFull` where there
+    /// is no room for one more entry. After a refusal nothing has changed.
     pub fn begin<R: Wait>(&self, rt: &R, session: &mut Session) -> Result<Receipt<J>, Refusal>
         ensures begun { IfOk result (λ r. IsBegun session.old session.new r.number r.entry) }
         ensures other { session.old.schema ≢ J.schema → result ≡ Err Refusal.NoTable }
@@ -89,7 +99,7 @@ impl<J: StoreName> LockedStore<J> {
             → OnlyRoom result }
         ensures refused { OnErr result (session.new ≡ session.old) }
     {
-        if !is_same_schema(&self.schema, &session.schema) {
+        if !self.has_tables_of(session) {
             return Err(Refusal::NoTable);
         }
         if session.transaction.is_some() {
@@ -99,8 +109,10 @@ impl<J: StoreName> LockedStore<J> {
         Ok(session.take(opening))
     }
 
-    /// Ends a session's transaction, by this reading of the clock: how it ended is in the receipt's entry. `NoTable` where the session is of other tables, `NoTransaction` where none is open, or none at this store,
-    /// `JournalFull` where there is no room for one more entry. After a refusal nothing has changed, and the transaction is open still.
+    /// Ends a session's transaction, by this reading of the clock: how it ended is in the receipt's
+    /// entry. `NoTable` where the session is of other tables, `NoTransaction` where none is open,
+    /// or none at this store, `JournalFull` where there is no room for one more entry. After a
+    /// refusal nothing has changed, and the transaction is still open.
     pub fn commit<R: Wait>(
         &self,
         rt: &R,
@@ -116,24 +128,25 @@ impl<J: StoreName> LockedStore<J> {
             → OnlyRoomOrNone result }
         ensures refused { OnErr result (session.new ≡ session.old) }
     {
-        if !is_same_schema(&self.schema, &session.schema) {
+        if !self.has_tables_of(session) {
             return Err(Refusal::NoTable);
         }
         let Some(own) = &session.transaction else {
             return Err(Refusal::NoTransaction);
         };
         let (net, changes) = nets(&own.transaction)?;
-        let begun = own.begun;
         let receipt = self
             .book
             .lock(rt)
-            .commit(session.number, &begun, net, changes, reading)?;
+            .commit(session.number, &own.begun, net, changes, reading)?;
         session.transaction = None;
         session.receipt = receipt.number;
         Ok(receipt)
     }
 
-    /// Splits the current data node of a key, where its cut lies inside the node and is no instant after the last commit: whether it did is in the receipt's entry. `JournalFull` where there is no room for one more entry. After a refusal nothing has changed.
+    /// Splits the current data node of a key, where its cut lies inside the node and is no instant
+    /// after the last commit: whether it did is in the receipt's entry. `JournalFull` where there
+    /// is no room for one more entry. After a refusal nothing has changed.
     pub fn split<R: Wait>(&self, rt: &R, cut: Cut) -> Result<Receipt<J>, Refusal>
         ensures split { IfOk result (λ r. IsSplitOf cut r.entry) }
         ensures why { OnlyRoom result }
@@ -141,7 +154,9 @@ impl<J: StoreName> LockedStore<J> {
         self.book.lock(rt).split(cut)
     }
 
-    /// Puts a block in the place of its node, where that is in the tree unpacked: whether it was is in the receipt's entry, beside the node's rectangle and the block's bytes. `JournalFull` where there is no room for one more entry. After a refusal nothing has changed.
+    /// Puts a block in the place of its node, where that is in the tree unpacked: whether it was is
+    /// in the receipt's entry, beside the node's rectangle and the block's bytes. `JournalFull`
+    /// where there is no room for one more entry. After a refusal nothing has changed.
     pub fn install<R: Wait>(&self, rt: &R, packed: PackedNode) -> Result<Receipt<J>, Refusal>
         ensures install { IfOk result (λ r. IsInstallOf packed r.entry) }
         ensures why { OnlyRoom result }
@@ -149,7 +164,8 @@ impl<J: StoreName> LockedStore<J> {
         self.book.lock(rt).install(packed)
     }
 
-    /// Closes the store where the receipts are those of its entries, one for each, in whatever order they come. It takes no memory.
+    /// Closes the store where the receipts are those of its entries, one for each, in whatever
+    /// order they come. It takes no memory.
     pub fn close(self, receipts: Vec<Receipt<J>>) -> Result<Closed, Unclosed<J>>
         ensures book { IfOk result (IsBook J.schema) }
         ensures stand { IfOk result (λ c. All (λ r.

@@ -2,14 +2,14 @@ use Rattle.std.proofs.Common.{refl, sym, ap, ◌∙◌, Some}
 use Rattle.values.specs.Log.{last, changes}
 use Rattle.values.specs.Commits.{outcome}
 use Rattle.journal.specs.Entries.{log}
-use Rattle.sessions.specs.SessionState.{SessionTransactionState, session_transaction}
+use Rattle.sessions.specs.SessionState.{SessionState, SessionTransactionState, session_transaction}
 use Rattle.sessions.proofs.SessionEnding.{keys_of_net, committed}
 use Rattle.sessions.proofs.store.LockedStore.commit.Goals as goal
 
 pub commit-requires-clause-keys : goal.commit-requires-clause-keys
 commit-requires-clause-keys g c = λ κs h.
     keys_of_net c.session.inside.schema c.session.inside.transaction (session_transaction c.own.inside.begun c.own.inside.transaction) c.session.invariant.over (c.in-Some.is ∙ ap (λ (t : SessionTransactionState). Some t) (sym c.own.view_is))
-    g.J.StoreName.schema c.in_ok-net.net c.in_ok-net.ensures.keys (sym (c.if-not-is_same_schema.ensures.0 refl) ∙ c.args.self.now.named)
+    g.J.StoreName.schema c.in_ok-net.net c.in_ok-net.ensures.keys (ap (λ (s : SessionState). s.schema) c.session.view_is ∙ c.if-not-has_tables_of.ensures.0 refl)
 
 pub returns-clause-committed : goal.returns-clause-committed
 returns-clause-committed g c =

@@ -1,5 +1,4 @@
 //! A gate that sessions and workers pass, with no lock held.
-#![tactic(auto)]
 
 use std::sync::Wait;
 
@@ -16,7 +15,8 @@ pub enum Place {
 
 /// A gate that each session passes, and each worker that packs, with no lock held.
 pub trait Gate {
-    /// Waits until the session, or the worker, may go on. False means that the gate gave up, which ends the session or the round.
-    /// `who` is the session's number, or at `Pack` the worker's, from 1.
+    /// Waits until the session, or the worker, may go on. False means that the gate gave up, which
+    /// ends the session or the round. `who` is the session's number, or at `Pack` the worker's,
+    /// from 1.
     fn pass<R: Wait>(&self, rt: &R, who: u8, place: Place) -> bool;
 }
