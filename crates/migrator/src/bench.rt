@@ -3,7 +3,7 @@ use crate::fault::Cause;
 use crate::name::RoundName;
 use crate::task::{Done, Task};
 use crossbeam_channel::{Receiver, Sender};
-use gate::{Gate, Place};
+use sessions::{Gate, Place};
 use std::alloc::{AllocError, Global};
 use std::sync::Wait;
 
@@ -18,7 +18,8 @@ pub(crate) struct Desk<N: RoundName> {
 }
 
 impl<N: RoundName> Desk<N> {
-    /// Why all workers have ended, where no task can be sent any more: as the first says that has not packed.
+    /// Returns why all workers have ended, once no task can be sent: the cause of the first that
+    /// did not pack.
     pub(crate) fn why_ended<R: Wait>(&self, rt: &R) -> Cause {
         for answer in self.answers.iter(rt) {
             if let Err(cause) = answer {
@@ -37,7 +38,9 @@ pub(crate) struct Bench<N: RoundName> {
     answers: Sender<Answer<N>, Global>,
 }
 
-/// The ends of a round and of its workers, numbered from 1. Both channels hold as many messages as there are workers: while no more tasks are without an answer, no end waits for room.
+/// Makes the ends of a round and of its workers, numbered from 1. Both channels hold as many
+/// messages as there are workers: while no more tasks than that are unanswered, no end waits for
+/// room.
 pub(crate) fn make_ends<N: RoundName>(
     alloc: Global,
     workers: u8,

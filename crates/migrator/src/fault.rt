@@ -11,7 +11,8 @@ pub enum Cause {
     Memory,
     /// The journal is full.
     Full,
-    /// The workers have ended, or a result is of a rectangle that was not asked for or has come before. Also that the session is of other tables than the store.
+    /// The workers have ended, or a result is of a rectangle that was not asked for or has come
+    /// before. Also that the session is of other tables than the store.
     Worker,
     /// The gate gave up.
     Gate,

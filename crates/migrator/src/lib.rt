@@ -1,4 +1,4 @@
-//! The migrator: a round packs all data nodes of history that one view shows unpacked, by several workers.
+//! The migrator: in a round, workers pack all data nodes of history that a view shows unpacked.
 #![tactic(auto)]
 
 mod bench;

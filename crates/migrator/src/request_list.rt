@@ -1,5 +1,5 @@
 //! The rectangles of what was asked for and has not come.
-ghost use Rattle.std.specs.Prelude.{◌≡◌, ◌↔◌, ◌<◌, ◌++◌, ◌∷◌, [], IfSome, IsTrue, OnErr, OnOk, Some, length, slice_get};
+ghost use Rattle.std.specs.Prelude.{◌≡◌, ◌<◌, ◌++◌, ◌∷◌, [], IfSome, OnErr, OnOk, Some, length, slice_get};
 ghost use Rattle.std.specs.List.Sorted.{IsPermutation};
 ghost use Rattle.keyrange.specs.Rect.{Area};
 
@@ -23,7 +23,7 @@ impl Model for RequestList {
 }
 
 impl RequestList {
-    /// None.
+    /// Makes an empty list.
     pub(crate) fn new(alloc: Global) -> RequestList
         ensures { result ≡ [] }
     {
@@ -32,13 +32,14 @@ impl RequestList {
         }
     }
 
+    /// Returns the number of rectangles.
     pub(crate) fn len(&self) -> usize
         ensures { result ≡ length self.now }
     {
         self.rects.len()
     }
 
-    /// One more.
+    /// Adds a rectangle at the end.
     pub(crate) fn push(&mut self, rect: Rect) -> Result<(), AllocError>
         ensures ok { OnOk result (self.new ≡ self.old ++ rect ∷ []) }
         ensures err { OnErr result (self.new ≡ self.old) }
@@ -46,19 +47,19 @@ impl RequestList {
         self.rects.push(rect).map_err(AllocError::from)
     }
 
-    /// The place of a rectangle, where it is one of them.
+    /// Returns the place of a rectangle, if it is in the list.
     pub(crate) fn place_of(&self, rect: &Rect) -> Option<usize>
         ensures { IfSome result (λ place. slice_get self.now place ≡ Some rect.now) }
     {
         for (place, asked) in self.rects.iter().enumerate() {
-            if is_same(asked, rect) {
+            if *asked == *rect {
                 return Some(place);
             }
         }
         None
     }
 
-    /// All but the one at a place.
+    /// Removes the rectangle at a place.
     pub(crate) fn remove(&mut self, place: usize)
         requires { place < length self.old }
         ensures { (r : Area) → slice_get self.old place ≡ Some r
@@ -66,11 +67,4 @@ impl RequestList {
     {
         let _rect = self.rects.swap_remove(place);
     }
-}
-
-/// Whether two rectangles are equal.
-fn is_same(first: &Rect, second: &Rect) -> bool
-    ensures { IsTrue result ↔ (first.now ≡ second.now) }
-{
-    first.keys() == second.keys() && first.time() == second.time()
 }

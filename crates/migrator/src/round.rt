@@ -17,7 +17,8 @@ use std::sync::Wait;
 use tsbtree::View;
 use validation::find_job;
 
-/// What a round has asked for, and its receipts so far. Contracts see the receipts as numbers and entries.
+/// What a round has asked for, and its receipts so far. Contracts see the receipts as numbers and
+/// entries.
 #[derive(Drop)]
 pub(crate) struct Round<J: StoreName> {
     /// The rectangle of the node that was asked for last.
@@ -40,7 +41,7 @@ impl<J: StoreName> Model for Round<J> {
 }
 
 impl<J: StoreName> Round<J> {
-    /// A round that has asked for nothing yet, with the receipt of its begin.
+    /// Makes a round that has asked for nothing yet, with the receipt of its begin.
     pub(crate) fn new<N: RoundName>(alloc: Global, receipts: Vec<Receipt<J>>) -> Round<J>
         requires { map (λ r. (r.number, r.entry)) receipts.items ≡ N.begin ∷ [] }
         ensures { IsUnderWay N.begin N.shown result }
@@ -52,7 +53,8 @@ impl<J: StoreName> Round<J> {
         }
     }
 
-    /// The task of packing the next node that the view shows unpacked, where there is one: from then on it counts as asked for.
+    /// Returns the task of packing the next node that the view shows unpacked, if there is one;
+    /// from then on it counts as asked for.
     fn next<N: RoundName>(&mut self, view: &View) -> Result<Option<Task<N>>, Cause>
         requires view { view.now ≡ N.shown }
         requires under { IsUnderWay N.begin N.shown self.old }
@@ -81,7 +83,7 @@ impl<J: StoreName> Round<J> {
         Ok(())
     }
 
-    /// Asks a worker for the next node that the view shows unpacked, and says whether there is one.
+    /// Asks a worker for the next node that the view shows unpacked; false if there is none.
     fn ask<N: RoundName, R: Wait>(
         &mut self,
         rt: &R,
@@ -102,7 +104,7 @@ impl<J: StoreName> Round<J> {
         }
     }
 
-    /// Asks for the next node where fewer than so many are without an answer, and says whether it did.
+    /// Asks for the next node if fewer than `room` are unanswered; false if it asked for none.
     fn ask_within<N: RoundName, R: Wait>(
         &mut self,
         rt: &R,
@@ -140,7 +142,7 @@ impl<J: StoreName> Round<J> {
         }
     }
 
-    /// Installs what was packed, where it was asked for and has not come before.
+    /// Installs what was packed, if it was asked for and has not come before.
     fn install<N: RoundName, R: Wait>(
         &mut self,
         rt: &R,
@@ -160,7 +162,8 @@ impl<J: StoreName> Round<J> {
         Ok(())
     }
 
-    /// Asks for all nodes that the view shows unpacked, at most so many at a time, and installs what comes.
+    /// Asks for all nodes that the view shows unpacked, at most `room` at a time, and installs what
+    /// comes.
     fn pack<N: RoundName, R: Wait>(
         &mut self,
         rt: &R,
@@ -188,7 +191,7 @@ impl<J: StoreName> Round<J> {
         Err(Cause::Worker)
     }
 
-    /// The receipts of the round, once all is installed.
+    /// Runs the round, and returns its receipts once all is installed.
     pub(crate) fn run<N: RoundName, R: Wait>(
         self,
         rt: &R,

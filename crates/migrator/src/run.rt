@@ -8,10 +8,9 @@ use crate::bench::{make_ends, work};
 use crate::fault::{Cause, MigrateFault};
 use crate::name::RoundName;
 use crate::round::Round;
-use gate::Gate;
 use growlog::StoreName;
 use journal::{Entry, Receipt};
-use sessions::{LockedStore, Session};
+use sessions::{Gate, LockedStore, Session};
 use std::alloc::Global;
 use std::marker::Brand;
 use std::sync::Wait;
@@ -23,7 +22,10 @@ use values::Mem;
 /// The most workers of a round.
 const MOST_WORKERS: u8 = 8;
 
-/// One round: a begin of the session, and the installs of all data nodes of history that its view shows unpacked, packed by so many workers, at least 1 and at most 8. Each worker passes the gate before it packs a node, and blocks are installed as they come. At the end no transaction of the session is open.
+/// Runs one round: a begin of the session, and the installs of all data nodes of history that its
+/// view shows unpacked, packed by `workers` workers, at least 1 and at most 8. Each worker passes
+/// the gate before it packs a node, and blocks are installed as they come. At the end no
+/// transaction of the session is open.
 ///
 /// A round that is broken off hands back the receipts that it took, and its workers have ended.
 pub fn run_migrator<J, R, G>(
@@ -77,7 +79,7 @@ fn begin<J: StoreName, R: Wait>(
     }
 }
 
-/// The receipts of a round whose begin has its receipt.
+/// Packs what the begin of a receipt shows unpacked, and returns the receipts of the round.
 fn pack_begun<J, R, G>(
     rt: &R,
     alloc: Global,
@@ -117,7 +119,7 @@ where
     }
 }
 
-/// What a begin shows.
+/// Returns the view that a begin shows.
 fn view_of(entry: &Entry) -> Mem<Option<View>>
     ensures { IfOk result (λ found. (session earlier : ℕ) (shown : TreeState)
         → entry.now ≡ Begin session earlier shown → found ≡ Some shown) }
@@ -128,7 +130,7 @@ fn view_of(entry: &Entry) -> Mem<Option<View>>
     }
 }
 
-/// The receipts of a round of the view, whose begin has its receipt.
+/// Runs the workers of a round over its view, and returns the receipts of the round.
 fn pack_all<N, J, R, G>(
     rt: &R,
     alloc: Global,

@@ -31,7 +31,8 @@ impl<N: RoundName> Model for Task<N> {
     ghost invariant = { λ t. IsWaiting N.shown.nodes None (data_node t.job) };
 }
 
-/// A node that was packed. Its type keeps that the round's view shows it unpacked, and that the block is its block.
+/// A node that was packed. Its type keeps that the round's view shows it unpacked, and that the
+/// block is its block.
 #[derive(Drop)]
 pub(crate) struct Done<N: RoundName> {
     packed: PackedNode,
@@ -54,6 +55,7 @@ impl<N: RoundName> Model for Done<N> {
 }
 
 impl<N: RoundName> Task<N> {
+    /// Makes the task of packing a node that the round's view shows unpacked.
     pub(crate) fn new(job: Job) -> Task<N>
         requires { IsWaiting N.shown.nodes None (data_node job) }
         ensures { result ≡ job }
@@ -76,14 +78,14 @@ impl<N: RoundName> Task<N> {
 }
 
 impl<N: RoundName> Done<N> {
-    /// The rectangle of the node.
+    /// Returns the rectangle of the node.
     pub(crate) fn rect(&self) -> &Rect
         ensures { result.now ≡ self.now.node.rect }
     {
         self.packed.rect()
     }
 
-    /// The node and its block.
+    /// Returns the node and its block.
     pub(crate) fn into_packed(self) -> PackedNode
         ensures packed { result ≡ self }
         ensures unpacked { IsWaiting N.shown.nodes None (data_node result.node) }
