@@ -4,6 +4,8 @@ use Rattle.std.specs.Prelude.{OnErr}
 use Rattle.std.specs.Option.{option_map}
 use Rattle.values.specs.declared.refusal.Refusal.{Refusal}
 use Rattle.values.specs.declared.refusal.Refusal.TheVariants.{Memory}
+use Rattle.values.specs.declared.write.Write.{Write}
+use Rattle.values.specs.declared.write.Write.TheVariants.{Insert, Update, Delete}
 use Rattle.values.specs.Tables.{Schema}
 use Rattle.values.specs.Log.{Net}
 use Rattle.values.specs.Writes.{Own}
@@ -12,6 +14,7 @@ use Rattle.histories.specs.declared.step.Step.{Step}
 use Rattle.histories.specs.declared.step.Reply.{Reply}
 use Rattle.histories.specs.declared.step.Reply.TheVariants.{Refused}
 use Rattle.histories.specs.Misfit.{misfit}
+use Rattle.histories.specs.Written.{step_of}
 use Rattle.histories.specs.History.{write_count, written_reply}
 use Rattle.sessions.specs.SessionState.{SessionTransactionState, SessionState, IsWrite, WithWrites, write_by, with_writes}
 use Rattle.serving.specs.declared.answer.Sent.{Sent}
@@ -96,3 +99,9 @@ pub write_stepped : (step : Step) (old new : SessionState) (result : Result ℕ 
 write_stepped step old new result takes writes rest refused =
     subst (λ s. IsStepped step old s (record { given = None; install = None; sent = sent_for step result })) (sym rest.1)
     (stepped old.number old.schema old.receipt step old.transaction rest.0 result takes (subst (λ s. IsWrite step old s result) rest.1 writes) (subst (λ s. OnErr result (s ≡ old)) rest.1 refused))
+
+-- a write takes no receipt, and answers by its own clauses
+pub takes_write : (number : ℕ) (schema : Schema) (receipt : ℕ) (w : Write) → Writes number schema receipt (step_of number w)
+takes_write number schema receipt (Insert table rows) = λ p given reply p' is. is
+takes_write number schema receipt (Update keys sets) = λ p given reply p' is. is
+takes_write number schema receipt (Delete keys) = λ p given reply p' is. is

@@ -9,7 +9,8 @@ use rows::{Mem, Refusal};
 use std::alloc::Global;
 use std::marker::Model;
 
-/// What is reported of each line so far, and the receipts that the lines took. Contracts see both, and for how many more lines there is room.
+/// What is reported of each line so far, and the receipts that the lines took. Contracts see both,
+/// and for how many more lines there is room.
 #[derive(Drop)]
 pub(crate) struct Account<J: StoreName> {
     told: Vec<Told>,
@@ -35,7 +36,7 @@ impl<J: StoreName> Account<J> {
     ghost use Rattle.std.specs.Option.{option_map};
     ghost use Rattle.serving.specs.Serving.{given_list, taken_by};
 
-    /// Of no lines.
+    /// Makes an account of no lines.
     pub(crate) fn new(alloc: Global) -> Account<J>
         ensures told { result.told ≡ [] }
         ensures given { result.given ≡ [] }
@@ -58,7 +59,8 @@ impl<J: StoreName> Account<J> {
         Ok(())
     }
 
-    /// Takes down a line: the receipts that it took, and why it was refused since there was no room, if it was.
+    /// Records a line: the receipts that it took, and the refusal, if it was refused for lack of
+    /// room.
     pub(crate) fn note(
         &mut self,
         receipt: Option<Receipt<J>>,
@@ -85,7 +87,7 @@ impl<J: StoreName> Account<J> {
         self.told.push_reserved(Told { taken, refused });
     }
 
-    /// The receipts, and what is reported of each line.
+    /// Returns the receipts, and what is reported of each line.
     pub(crate) fn into_parts(self) -> (Vec<Receipt<J>>, Vec<Told>)
         ensures receipts { map (λ r. record { number = r.number; entry = r.entry })
             result.0.items ≡ self.given }

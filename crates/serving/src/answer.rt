@@ -23,7 +23,8 @@ pub(crate) enum Sent {
     Refused(Refusal),
 }
 
-/// How a step was answered, with the receipts that it took: that of a call of the store, if it made one, and then that of an install.
+/// How a step was answered, with the receipts that it took: that of a call of the store, if it made
+/// one, and then that of an install.
 #[derive(Drop)]
 pub(crate) struct Answer<J: StoreName> {
     pub(crate) receipt: Option<Receipt<J>>,
@@ -49,7 +50,7 @@ impl<J: StoreName> Answer<J> {
     ghost use Rattle.std.specs.Option.{option_map};
     ghost use Rattle.serving.specs.Serving.{refused_of, reply_of, text_of};
 
-    /// A reply with no receipt.
+    /// Makes a reply with no receipt.
     pub(crate) fn reply(reply: Reply) -> Answer<J>
         ensures { result ≡ record { given = None; install = None; sent = Sent.Reply reply } }
     {
@@ -60,7 +61,7 @@ impl<J: StoreName> Answer<J> {
         }
     }
 
-    /// A refusal with no receipt.
+    /// Makes a refusal with no receipt.
     pub(crate) fn refusal(refusal: Refusal) -> Answer<J>
         ensures { result ≡ record { given = None; install = None; sent = Sent.Refused refusal } }
     {
@@ -71,7 +72,7 @@ impl<J: StoreName> Answer<J> {
         }
     }
 
-    /// A reply with one receipt.
+    /// Makes a reply with one receipt.
     pub(crate) fn with_receipt(receipt: Receipt<J>, sent: Sent) -> Answer<J>
         ensures { result ≡ record {
           given = Some (record { number = receipt.number; entry = receipt.entry });
@@ -86,7 +87,7 @@ impl<J: StoreName> Answer<J> {
         }
     }
 
-    /// The receipts, and why the step was refused, if it was.
+    /// Returns the receipts, and why the step was refused, if it was.
     pub(crate) fn into_parts(self) -> (Option<Receipt<J>>, Option<Receipt<J>>, Option<Refusal>)
         ensures receipt { option_map (λ r. record { number = r.number; entry = r.entry }) result.0
             ≡ self.given }

@@ -13,7 +13,8 @@ use std::alloc::Global;
 use std::sync::Wait;
 use validation::{find_job, pack_job};
 
-/// Packs the first data node of history that a begin of the service's own session shows unpacked, where there is one. It is nothing to the session that asks.
+/// Packs the first data node of history that a begin of the service's own session shows unpacked,
+/// if there is one. The session that asks is not changed.
 pub(crate) fn take_migrate<J: StoreName, R: Wait>(
     rt: &R,
     alloc: Global,
@@ -44,7 +45,7 @@ fn migrate<J: StoreName, R: Wait>(rt: &R, alloc: Global, store: &LockedStore<J>)
     }
 }
 
-/// The receipt of a begin of the service's own session, whose view is in the receipt's entry.
+/// Returns the receipt of a begin of the service's own session; the view is in its entry.
 fn begin_service<J: StoreName, R: Wait>(
     rt: &R,
     alloc: Global,
@@ -58,7 +59,8 @@ fn begin_service<J: StoreName, R: Wait>(
     store.begin(rt, &mut service)
 }
 
-/// Packs the first data node of history that the begin of a receipt shows unpacked, where there is one, and installs it.
+/// Packs the first data node of history that the begin of a receipt shows unpacked, if there is
+/// one, and installs it.
 fn pack_first<J: StoreName, R: Wait>(
     rt: &R,
     alloc: Global,

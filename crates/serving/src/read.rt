@@ -11,7 +11,7 @@ use rows::{Form, Keys, Refusal};
 use sessions::{LockedStore, Session};
 use std::sync::Wait;
 
-/// What a query shows; where no transaction is open one begins for it, and is rolled back.
+/// Answers a query; if no transaction is open, one begins for it and is rolled back.
 pub(crate) fn take_query<J: StoreName, R: Wait>(
     rt: &R,
     store: &LockedStore<J>,
@@ -37,7 +37,7 @@ pub(crate) fn take_query<J: StoreName, R: Wait>(
     Answer::with_receipt(receipt, sent)
 }
 
-/// What a query shows in the open transaction, which then ends with no trace.
+/// Answers a query in the open transaction, which then ends with no trace.
 fn read_and_roll_back(session: &mut Session, form: Form, keys: &Keys) -> Sent
     ensures sent { IsSentFor session.old form keys.now result }
     ensures left { session.new ≡ with_transaction session.old None }
@@ -49,7 +49,7 @@ fn read_and_roll_back(session: &mut Session, form: Form, keys: &Keys) -> Sent
     }
 }
 
-/// What is sent for a query.
+/// Returns what is sent for a query.
 fn sent_listing(listing: Result<Listing, Refusal>) -> Sent
     ensures { result ≡ sent_listing listing }
 {

@@ -3,6 +3,6 @@ use values::Instant;
 
 /// Readings of the clock.
 pub trait Readings {
-    /// The reading for the next commit.
+    /// Returns the reading for the next commit.
     fn reading(&mut self) -> Instant;
 }

@@ -13,18 +13,19 @@ use crate::readings::Readings;
 use crate::serve_line::serve_line;
 use crate::served_session::{End, Served};
 use crate::service::Service;
-use gate::Gate;
 use growlog::StoreName;
 use lines::{CHUNK, LineBuffer, MOST_READS, line_length};
-use sessions::{LockedStore, Session};
+use sessions::{Gate, LockedStore, Session};
 use std::alloc::Global;
 use std::io::{Read, Write};
 use std::sync::Wait;
 
-/// Serves a session: reads lines to the reader's end, takes the step of each, and writes its reply. What was written is flushed before more is read.
-/// A SELECT with no transaction open is a begin, the read and a rollback. An open transaction is dropped at the end.
+/// Serves a session: reads lines to the reader's end, takes the step of each, and writes its reply.
+/// What was written is flushed before more is read. A SELECT with no transaction open is a begin,
+/// the read and a rollback. An open transaction is dropped at the end.
 ///
-/// At `Closed` all was read and answered. At another end the replies, of which the last may be there in part, are those of the lines that are reported.
+/// At `Closed` all was read and answered. At another end the replies, of which the last may be
+/// there in part, are those of the lines that are reported.
 pub fn serve_session<J: StoreName, R: Wait, I: Read, W: Write, C: Readings, G: Gate>(
     rt: &R,
     alloc: Global,
@@ -149,7 +150,8 @@ fn feed<J: StoreName, R: Wait, C: Readings, G: Gate, W: Write>(
     flush(writer)
 }
 
-/// Takes the bytes up to the first line feed and with it, or all where there is none. The answer is their number.
+/// Takes the bytes up to and including the first line feed, or all if there is none. Returns their
+/// number.
 fn take_line<J: StoreName, R: Wait, C: Readings, G: Gate, W: Write>(
     service: &Service<'_, J, R, G>,
     readings: &mut C,
@@ -186,7 +188,7 @@ fn take_line<J: StoreName, R: Wait, C: Readings, G: Gate, W: Write>(
     }
 }
 
-/// Serves a last line without a line feed, where it has a byte.
+/// Serves a last line without a line feed, if it has a byte.
 fn finish<J: StoreName, R: Wait, C: Readings, G: Gate, W: Write>(
     service: &Service<'_, J, R, G>,
     readings: &mut C,

@@ -1,4 +1,4 @@
-//! A line: it is read, its step taken, and what is sent for it is written and taken down.
+//! A line: it is read, its step taken, and what is sent for it is written and recorded.
 ghost use Rattle.std.specs.Prelude.{◌≡◌, ◌≢◌, ◌<◌, [], ◌∷◌, IfErr, OnErr, OnOk};
 ghost use Rattle.serving.specs.Account.{IsBroken, Writes};
 ghost use Rattle.statement.specs.Writer.{Prints};
@@ -12,18 +12,18 @@ use crate::served_session::End;
 use crate::service::Service;
 use crate::step::take_step;
 use crate::write::refused_write;
-use gate::{Gate, Place};
 use growlog::StoreName;
 use histories::Step;
 use lines::LineBuffer;
 use rows::Refusal;
-use sessions::Session;
+use sessions::{Gate, Place, Session};
 use statement::{Line, read_served};
 use std::alloc::Global;
 use std::io::Write;
 use std::sync::Wait;
 
-/// Serves a line: its step is taken, and what is sent for it written. A query first passes the gate, and a commit that ended a transaction passes it when its reply is written.
+/// Serves a line: its step is taken, and what is sent for it written. A query first passes the
+/// gate, and a commit that ended a transaction passes it when its reply is written.
 pub(crate) fn serve_line<J: StoreName, R: Wait, C: Readings, G: Gate, W: Write>(
     service: &Service<'_, J, R, G>,
     readings: &mut C,
@@ -114,7 +114,7 @@ fn is_commit(step: &Step) -> bool {
     matches!(step, Step::Commit(_, _))
 }
 
-/// Writes an answer, and takes it down.
+/// Writes an answer, and records it.
 fn tell<J: StoreName, W: Write>(
     account: &mut Account<J>,
     writer: &mut W,

@@ -1,9 +1,10 @@
-//! What a served session comes to.
+//! The outcome of a served session.
 use growlog::StoreName;
 use journal::Receipt;
 use rows::Refusal;
 
-/// What is kept of a line: how many receipts it took, and what it was refused for where that was memory, a full journal, or a transaction that is not open at the store.
+/// What is kept of a line: how many receipts it took, and what it was refused for where that was
+/// memory, a full journal, or a transaction that is not open at the store.
 #[derive(Drop)]
 pub struct Told {
     pub taken: u8,
@@ -25,7 +26,8 @@ pub enum End {
     Memory,
 }
 
-/// A served session: the receipts that its lines took, in order, what is kept of each line, and why it ended.
+/// A served session: the receipts that its lines took, in order, what is kept of each line, and why
+/// it ended.
 #[derive(Drop)]
 pub struct Served<J: StoreName> {
     pub receipts: Vec<Receipt<J>>,

@@ -1,7 +1,6 @@
 //! What a session is served with.
-use gate::Gate;
 use growlog::StoreName;
-use sessions::LockedStore;
+use sessions::{Gate, LockedStore};
 use std::alloc::Global;
 use std::sync::Wait;
 

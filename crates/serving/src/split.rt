@@ -1,20 +1,17 @@
 //! SPLIT.
-ghost use Rattle.std.specs.Prelude.{◌≡◌, IfOk, None};
-ghost use Rattle.values.specs.KeyEncoding.{bytes_of_key};
-ghost use Rattle.values.specs.Memory.{OnlyMemory};
+ghost use Rattle.std.specs.Prelude.{◌≡◌, None};
 ghost use Rattle.histories.specs.declared.step.Step.TheVariants.{SplitKey, SplitTime};
-ghost use Rattle.histories.specs.Misfit.{key_misfit};
 ghost use Rattle.serving.specs.Serving.{IsCutBy, IsStepped, reply_of};
 
 use crate::answer::{Answer, Sent};
 use growlog::StoreName;
 use histories::{Reply, key_misfit};
-use rows::{Instant, Key, KeyBytes, Mem, Schema, key_bytes};
+use rows::{Instant, Key};
 use sessions::{LockedStore, Session};
 use std::alloc::Global;
 use std::sync::Wait;
 use validation::Cut;
-use values::fitting_keys_have_bytes;
+use values::fitting_key_bytes;
 
 /// Splits the current data node of a key there.
 pub(crate) fn take_key_split<J: StoreName, R: Wait>(
@@ -62,18 +59,5 @@ fn split<J: StoreName, R: Wait>(rt: &R, store: &LockedStore<J>, cut: Cut) -> Ans
     match store.split(rt, cut) {
         Ok(receipt) => Answer::with_receipt(receipt, Sent::Reply(Reply::Done)),
         Err(refusal) => Answer::refusal(refusal),
-    }
-}
-
-/// The bytes of a key that fits its table.
-fn fitting_key_bytes(alloc: Global, schema: &Schema, key: &Key) -> Mem<KeyBytes>
-    requires { key_misfit schema.now key.now ≡ None }
-    ensures ok { IfOk result (λ bytes. bytes ≡ bytes_of_key key.now) }
-    ensures err { OnlyMemory result }
-{
-    fitting_keys_have_bytes();
-    match schema.table_at(key.table) {
-        Some(_) => key_bytes(alloc, key),
-        None => unreachable!(),
     }
 }

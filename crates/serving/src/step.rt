@@ -9,12 +9,13 @@ use crate::migrate::take_migrate;
 use crate::read::take_query;
 use crate::readings::Readings;
 use crate::split::{take_key_split, take_time_split};
-use crate::write::{take_delete, take_insert, take_update};
+use crate::write::take_write;
 use growlog::StoreName;
 use histories::Step;
 use sessions::{LockedStore, Session};
 use std::alloc::Global;
 use std::sync::Wait;
+use values::Write;
 
 /// Takes a step, which is the session's whatever number it has.
 pub(crate) fn take_step<J: StoreName, R: Wait, C: Readings>(
@@ -30,9 +31,9 @@ pub(crate) fn take_step<J: StoreName, R: Wait, C: Readings>(
 {
     match step {
         Step::Begin(_) => take_begin(rt, store, session),
-        Step::Insert(_, table, rows) => take_insert(session, *table, rows.items()),
-        Step::Update(_, keys, sets) => take_update(session, keys, sets.items()),
-        Step::Delete(_, keys) => take_delete(session, keys),
+        Step::Insert(_, table, rows) => take_write(session, Write::Insert(*table, rows.items())),
+        Step::Update(_, keys, sets) => take_write(session, Write::Update(keys, sets.items())),
+        Step::Delete(_, keys) => take_write(session, Write::Delete(keys)),
         Step::Select(_, form, keys) => take_query(rt, store, session, *form, keys),
         Step::Commit(_, _) => take_commit(rt, store, session, readings),
         Step::Rollback(_) => take_rollback(session),

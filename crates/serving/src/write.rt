@@ -1,50 +1,26 @@
 //! INSERT, UPDATE and DELETE.
 ghost use Rattle.std.specs.Prelude.{◌≡◌, None};
-ghost use Rattle.histories.specs.declared.step.Step.TheVariants.{Insert, Update, Delete};
+ghost use Rattle.histories.specs.Written.{step_of};
 ghost use Rattle.serving.specs.Serving.{IsStepped, sent_refusal};
 
 use crate::answer::Answer;
 use growlog::StoreName;
 use histories::Reply;
-use rows::{Keys, Refusal, Row, Set};
+use rows::Refusal;
 use sessions::Session;
+use values::Write;
 
-/// Inserts rows of a table, by its number.
-pub(crate) fn take_insert<J: StoreName>(session: &mut Session, table: u8, rows: &[Row]) -> Answer<J>
-    ensures { IsStepped (Insert session.old.number table rows.now) session.old session.new result }
+/// Inserts, updates or deletes rows in the session's transaction.
+pub(crate) fn take_write<J: StoreName>(session: &mut Session, write: Write<'_>) -> Answer<J>
+    ensures { IsStepped (step_of session.old.number write.entry) session.old session.new result }
 {
-    match session.insert(table, rows) {
-        Ok(count) => Answer::reply(Reply::Inserted(count)),
+    match session.write(write) {
+        Ok(count) => Answer::reply(Reply::of_write(write, count)),
         Err(refusal) => refused_write(refusal),
     }
 }
 
-/// Sets columns of rows.
-pub(crate) fn take_update<J: StoreName>(
-    session: &mut Session,
-    keys: &Keys,
-    sets: &[Set],
-) -> Answer<J>
-    ensures { IsStepped (Update session.old.number keys.now sets.now)
-        session.old session.new result }
-{
-    match session.update(keys, sets) {
-        Ok(count) => Answer::reply(Reply::Updated(count)),
-        Err(refusal) => refused_write(refusal),
-    }
-}
-
-/// Deletes rows.
-pub(crate) fn take_delete<J: StoreName>(session: &mut Session, keys: &Keys) -> Answer<J>
-    ensures { IsStepped (Delete session.old.number keys.now) session.old session.new result }
-{
-    match session.delete(keys) {
-        Ok(count) => Answer::reply(Reply::Deleted(count)),
-        Err(refusal) => refused_write(refusal),
-    }
-}
-
-/// A refusal of the definitions, or that memory ran out.
+/// Makes the answer to a refused write: a reply, unless memory ran out.
 pub(crate) fn refused_write<J: StoreName>(refusal: Refusal) -> Answer<J>
     ensures { result ≡ record { given = None; install = None; sent = sent_refusal refusal } }
 {
