@@ -1,5 +1,5 @@
 //! A gate where nobody waits.
-use gate::{Gate, Place};
+use sessions::{Gate, Place};
 use std::sync::Wait;
 
 /// A gate that every session passes at once.

@@ -6,7 +6,8 @@ use rows::{Instant, MAX_INSTANT};
 use serving::Readings;
 use std::time::{Clock, SystemTime};
 
-/// The runtime's clock in microseconds since 1970, at most the greatest instant. Before 1970, and where the clock cannot be read, it is 0.
+/// The runtime's clock in microseconds since 1970, at most the greatest instant. Before 1970, and
+/// where the clock cannot be read, it is 0.
 #[derive(Drop)]
 pub struct Microseconds<'a, R: Clock> {
     pub rt: &'a R,

@@ -7,11 +7,10 @@ use crate::clock::Microseconds;
 use crate::migration::{Call, WakingGate, run_rounds};
 use book::Closed;
 use crossbeam_channel::Sender;
-use gate::Gate;
 use growlog::StoreName;
 use journal::Receipt;
 use serving::serve_session;
-use sessions::LockedStore;
+use sessions::{Gate, LockedStore};
 use std::alloc::{AllocError, Global};
 use std::io::BufWriter;
 use std::net::{Net, OpenListener, TcpListener, TcpStream};
@@ -37,11 +36,14 @@ impl From<AllocError> for ListenFault {
     }
 }
 
-/// Takes so many connections, and serves the n-th as session n, from 1, in a thread of its own. When all have ended the store is closed with their receipts and with those of what was done before.
+/// Takes `sessions` connections, and serves the n-th as session n, from 1, in a thread of its own.
+/// When all have ended, the store is closed with their receipts and those of what was done before.
 ///
-/// The closed store is a book (`IsBook`), and the receipts of what was done before are of its entries.
+/// The closed store is a book (`IsBook`), and the receipts of what was done before are of its
+/// entries.
 ///
-/// A session that ends in a fault is no fault here: its receipts count, and the others go on. Where a connection cannot be taken, or a thread not made, the sessions that run are waited for.
+/// A session that ends in a fault is not a fault here: its receipts count, and the others go on. If
+/// a connection cannot be taken, or a thread not made, the running sessions are waited for.
 pub fn listen<J, R, G>(
     rt: &R,
     alloc: Global,
@@ -68,7 +70,7 @@ where
     }
 }
 
-/// The receipts of all sessions.
+/// Serves the connections, and returns the receipts of all sessions.
 fn serve_connections<J, R, G>(
     rt: &R,
     alloc: Global,
@@ -116,7 +118,7 @@ where
     })
 }
 
-/// The receipts that a connection's session took.
+/// Serves a connection, and returns the receipts that its session took.
 fn serve_stream<J: StoreName, R: Clock + Wait, G: Gate>(
     rt: &R,
     alloc: Global,
@@ -129,7 +131,8 @@ fn serve_stream<J: StoreName, R: Clock + Wait, G: Gate>(
     let Ok(session) = store.session(alloc, number) else {
         return Vec::new(alloc);
     };
-    // A reply is sent at once, whether or not what was sent before has arrived. Where that cannot be set, it is sent all the same.
+    // A reply is sent at once, whether or not what was sent before has arrived. Where that cannot
+    // be set, it is sent all the same.
     let _ = stream.set_nodelay(true);
     let Ok(mut writer) = BufWriter::new(alloc, stream) else {
         return Vec::new(alloc);

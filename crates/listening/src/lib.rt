@@ -1,4 +1,4 @@
-//! Sessions over sockets of 127.0.0.1: each connection is served in a thread of its own, round one store.
+//! Sessions over sockets of 127.0.0.1, each served in a thread of its own round one store.
 #![tactic(auto)]
 
 mod always_open;

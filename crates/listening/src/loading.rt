@@ -10,6 +10,7 @@ use rows::{Instant, Mem, Refusal, Row};
 use sessions::{LockedStore, Session};
 use std::alloc::Global;
 use std::sync::Wait;
+use values::Write;
 
 /// What a load left: its receipts, and the instant of its commit, 0 where there was none.
 #[derive(Drop)]
@@ -18,9 +19,12 @@ pub struct Loaded<J: StoreName> {
     pub instant: Instant,
 }
 
-/// Inserts rows of a table, by its number, in one transaction of session 0 that is committed at the reading 0. Without rows there is no transaction.
+/// Inserts rows of a table, by its number, in one transaction of session 0 that is committed at the
+/// reading 0. Without rows there is no transaction.
 ///
-/// It is refused as BEGIN and INSERT are, as COMMIT is where there is no room, and with `NoTransaction` where the commit has no instant; then the store is to be given up, since its receipts are lost.
+/// It is refused as BEGIN and INSERT are, as COMMIT is if there is no room, and with
+/// `NoTransaction` if the commit has no instant. After a refusal the store is to be given up, since
+/// its receipts are lost.
 pub fn load_into<J: StoreName, R: Wait>(
     rt: &R,
     alloc: Global,
@@ -58,7 +62,7 @@ fn load_begun<J: StoreName, R: Wait>(
         (map (λ r. record { number = r.number; entry = r.entry }) l.receipts.items) l.instant) }
     ensures err { IfErr result (IsUnloaded J.schema table rows.now) }
 {
-    match session.insert(table, rows) {
+    match session.write(Write::Insert(table, rows)) {
         Ok(_) => commit_begun(rt, alloc, store, session, begun),
         Err(refusal) => Err(refusal),
     }
@@ -92,7 +96,7 @@ fn pair<J: StoreName>(alloc: Global, first: Receipt<J>, second: Receipt<J>) -> M
     Ok(vec![in alloc; first, second]?)
 }
 
-/// The instant of a commit by its entry. `NoTransaction` where it is none that changed something.
+/// Returns the instant of a commit from its entry. `NoTransaction` if the entry has none.
 fn commit_instant(entry: &Entry) -> Result<Instant, Refusal>
     ensures ok { IfOk result (IsCommitAt entry.now) }
     ensures err { IfErr result (λ refusal. refusal ≡ Refusal.NoTransaction) }

@@ -2,11 +2,10 @@
 ghost use Rattle.std.specs.Prelude.{◌≡◌, None};
 
 use crossbeam_channel::{Receiver, Sender};
-use gate::{Gate, Place};
 use growlog::StoreName;
 use journal::Receipt;
 use migrator::run_migrator;
-use sessions::{LockedStore, Session};
+use sessions::{Gate, LockedStore, Place, Session};
 use std::alloc::{AllocError, Global};
 use std::cell::Cell;
 use std::sync::Wait;
@@ -31,6 +30,7 @@ pub(crate) struct WakingGate<'a, G: Gate> {
 }
 
 impl<'a, G: Gate> WakingGate<'a, G> {
+    /// Makes a session's way through a gate, which has counted no commit.
     pub(crate) fn new(gate: &'a G, calls: Sender<Call, Global>) -> WakingGate<'a, G> {
         WakingGate {
             gate,
@@ -39,7 +39,7 @@ impl<'a, G: Gate> WakingGate<'a, G> {
         }
     }
 
-    /// Counts a commit. Where a call takes memory and there is none, there is no round, which no reply shows.
+    /// Counts a commit. If a call is out of memory there is no round, which no reply shows.
     fn count<R: Wait>(&self, rt: &R) {
         let commits = self.commits.get().saturating_add(1);
         if commits < COMMITS {
@@ -60,7 +60,8 @@ impl<G: Gate> Gate for WakingGate<'_, G> {
     }
 }
 
-/// Runs a round for each call, until there can be no more; the answer is all receipts that were taken.
+/// Runs a round for each call, until there can be no more, and returns all receipts that were
+/// taken.
 pub(crate) fn run_rounds<J, R, G>(
     rt: &R,
     alloc: Global,
@@ -84,7 +85,7 @@ where
     Ok(receipts)
 }
 
-/// The receipts of one round, also of one that was broken off.
+/// Runs one round, and returns its receipts, also if it was broken off.
 fn run_round<J, R, G>(
     rt: &R,
     alloc: Global,

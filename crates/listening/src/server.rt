@@ -4,7 +4,7 @@ ghost use Rattle.std.specs.Io.KnownBytes.{Appends, Keeps};
 ghost use Rattle.values.specs.Commits.{max_instant};
 ghost use Rattle.values.specs.Log.{changes};
 ghost use Rattle.values.specs.Memory.{OnlyMemory};
-ghost use Rattle.values.specs.Tables.{table_at};
+ghost use Rattle.values.specs.Tables.{IsTable, table_at};
 ghost use Rattle.values.specs.Versions.{answer};
 ghost use Rattle.values.specs.declared.query.Form.TheVariants.{Between};
 ghost use Rattle.statement.specs.Print.{numbered};
@@ -23,6 +23,7 @@ use growlog::{NewLog, StoreName};
 use interchange::{ExportFault, export, loaded_line, numbered_line, print_whole};
 use journal::{Receipt, SharedEntry};
 use rows::{Form, Keys, MAX_INSTANT, Mem, Refusal, Row, Schema, Shown, Table};
+use searchrange::Search;
 use sessions::LockedStore;
 use std::alloc::Global;
 use std::io::Write;
@@ -32,6 +33,7 @@ use std::sync::Wait;
 use std::thread::Threads;
 use std::time::Clock;
 use systime_query::{BlockCache, answer};
+use values::FittingKeys;
 
 /// Why a server stopped before its end.
 #[derive(Debug, Drop)]
@@ -51,7 +53,8 @@ pub struct TableRows {
     pub rows: Vec<Row>,
 }
 
-/// What a server does: the port at which it listens, 0 where the system chooses; how many connections it takes; and the number of the table that is exported at the end, where one is.
+/// What a server does: the port at which it listens, 0 where the system chooses; how many
+/// connections it takes; and the number of the table that is exported at the end, where one is.
 #[derive(Clone, Copy, Debug, PartialEq, Eq)]
 pub struct Plan {
     pub port: u16,
@@ -61,7 +64,10 @@ pub struct Plan {
 
 const OUT_OF_MEMORY: ServerFault = ServerFault::Listen(ListenFault::Memory);
 
-/// Serves connections round a store of these tables, and writes what becomes of it, each as soon as it is so: with rows to be loaded, `loaded N at I`; once it listens, `listening P`, where P is the port; when all connections have ended, `closed J`, where J is the number of entries; and then the table that is exported, with all its versions.
+/// Serves connections round a store of these tables, and reports its progress as it happens: if
+/// rows are to be loaded, `loaded N at I`; once it listens, `listening P`, where P is the port;
+/// when all connections have ended, `closed J`, where J is the number of entries; and then the
+/// table that is exported, with all its versions.
 pub fn serve<R, O>(
     rt: &R,
     alloc: Global,
@@ -119,7 +125,7 @@ where
     }
 }
 
-/// The receipts of the rows that are loaded, where some are to be, once they are reported.
+/// Loads and reports the rows that are to be loaded, if any, and returns their receipts.
 fn load_first<J: StoreName, R: Wait, O: Write>(
     rt: &R,
     alloc: Global,
@@ -261,6 +267,7 @@ fn export_closed<O: Write>(
     table: &Table,
     closed: &Closed,
 ) -> Result<(), ServerFault>
+    requires { IsTable table.now.number table.now }
     ensures ok { OnOk result ((schema : Schema) → IsBook schema closed.now
         → table_at schema table.now.number ≡ Some table.now
         → Appends (O.contents out.old) (O.contents out.new)
@@ -283,8 +290,9 @@ fn export_closed<O: Write>(
     }
 }
 
-/// All versions of a table.
+/// Returns all versions of a table.
 fn versions_of(alloc: Global, closed: &Closed, table: &Table) -> Mem<Vec<Shown>>
+    requires { IsTable table.now.number table.now }
     ensures ok { IfOk result (λ shown. (schema : Schema) → IsBook schema closed.now
         → table_at schema table.now.number ≡ Some table.now
         → shown.items ≡ answer (changes (log closed.now.entries)) table.now
@@ -292,14 +300,14 @@ fn versions_of(alloc: Global, closed: &Closed, table: &Table) -> Mem<Vec<Shown>>
     ensures err { OnlyMemory result }
 {
     let keys = Keys::all(alloc, table.number);
+    let search = Search::new(alloc, FittingKeys { table, keys: &keys })?;
     let mut cache = BlockCache::new(alloc);
     let view = closed.tree().current();
     answer(
         alloc,
         &mut cache,
         view,
-        table,
         Form::Between(0, MAX_INSTANT),
-        &keys,
+        &search,
     )
 }

@@ -2,7 +2,8 @@
 use std::io;
 use std::net::{Net, OpenListener, TcpListener, TcpStream};
 
-/// A socket that listens on 127.0.0.1 alone, at a port, or at one that the system chooses where the port is 0; and its port.
+/// Binds a socket that listens on 127.0.0.1 alone, at a port, or at one that the system chooses if
+/// the port is 0. Returns it with its port.
 pub fn bind<R: Net<Listener = TcpListener, Stream = TcpStream>>(
     rt: &R,
     port: u16,

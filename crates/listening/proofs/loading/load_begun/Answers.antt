@@ -3,9 +3,9 @@ use Rattle.listening.proofs.loading.load_begun.Goals as goal
 
 pub returns-in-Ok-clause-ok : goal.returns-in-Ok-clause-ok
 returns-in-Ok-clause-ok g c =
-    if_ok c.commit_begun.result _ _ (λ l. loads_by g.J.StoreName.schema c.args.table c.args.rows.now c.args.session.now c.insert.new.self c.args.begun.number c.in-Ok.field-0 c.args.begun.entry _ l.instant c.requires.begun c.in-Ok.ensures.answers c.in-Ok.ensures.rest)
+    if_ok c.commit_begun.result _ _ (λ l. loads_by g.J.StoreName.schema c.args.table c.args.rows.now c.args.session.now c.write.new.self c.args.begun.number c.in-Ok.field-0 c.args.begun.entry _ l.instant c.requires.begun c.in-Ok.ensures.answers c.in-Ok.ensures.rest)
     c.commit_begun.ensures.ok
 
 pub returns-in-Err-clause-err : goal.returns-in-Err-clause-err
 returns-in-Err-clause-err g c =
-    insert_refused g.J.StoreName.schema c.args.table c.args.rows.now c.args.session.now c.insert.new.self c.args.begun.number c.args.begun.entry c.in-Err.refusal c.requires.begun c.in-Err.ensures.answers
+    insert_refused g.J.StoreName.schema c.args.table c.args.rows.now c.args.session.now c.write.new.self c.args.begun.number c.args.begun.entry c.in-Err.refusal c.requires.begun c.in-Err.ensures.answers
