@@ -11,6 +11,7 @@ use Rattle.histories.specs.declared.step.Reply.{Reply}
 use Rattle.histories.specs.declared.step.Reply.TheVariants.{Refused}
 use Rattle.histories.specs.History.{History, reply}
 use Rattle.histories.specs.Memory.{is_memory, is_out_of_memory, takes_no_memory, takes_no_memory_after}
+use Rattle.interleaving.specs.StepLeaves.{leaves_all}
 use Rattle.interleaving.specs.SystemState.{world, Stands}
 use Rattle.histories.proofs.Memory.{memory_is_taken_alike}
 use Rattle.histories.proofs.TurnReplies.{not_out}
@@ -108,7 +109,7 @@ broken_as a b schema p line r e wrote = record { mark = false; wrote = subst (λ
 -- what a step answered and left
 pub record Stepped (s s' : Script) (step : Step) (r : Reply) : Type 0 where
   pub answers : (h : History) → Stands s.system h → r ≢ Refused Memory → (r ≡ reply s.system.schema h step) × Stands s'.system (step ∷ h)
-  pub out_of_memory : (h : History) → Stands s.system h → r ≡ Refused Memory → Stands s'.system h
+  pub refused : leaves_all r ≡ true → s'.system ≡ s.system
   pub no_memory : takes_no_memory (world s.system) step ≡ true → is_out_of_memory r ≡ false
   pub schema_stays : s'.system.schema ≡ s.system.schema
   pub reading_stays : s'.reading ≡ s.reading
@@ -133,7 +134,7 @@ step_answered a b s s' schema p step r so at e wrote = by (is_out_of_memory r) r
     by true is =
         let out = is_out_so r is in
         out_answered a b s' schema p s.line (step_risky s s' schema p step r so at e is) (subst (λ r. Appends a b (reply_text r)) out wrote)
-        (record { schema_is = so.schema_stays ∙ at.schema_is; stands = so.out_of_memory p.history at.stands out; reading_is = so.reading_stays ∙ at.reading_is })
+        (record { schema_is = so.schema_stays ∙ at.schema_is; stands = subst (λ x. Stands x p.history) (sym (so.refused (ap leaves_all out))) at.stands; reading_is = so.reading_stays ∙ at.reading_is })
     by false is =
         let did = so.answers p.history at.stands (not_out r is) in
         answered_as a b s' schema p s.line (Ok (Asks step)) (sym (said_is s schema p at) ∙ e)

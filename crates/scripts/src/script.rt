@@ -1,5 +1,4 @@
-//! Scripts: a line is read, its step taken and its reply written, and then the next one. What was
-//! written is flushed before more is read.
+//! Scripts: a line is read, its step taken and its reply written, and then the next one.
 ghost use Rattle.std.specs.Prelude.{◌≡◌, ◌≢◌, ◌≤◌, ◌<◌, ◌^◌, Some, None, [], ◌∷◌, OnOk, OnErr, IfOk, IfErr, Ok, Err, length, take, ◌+◌, false};
 ghost use Rattle.std.specs.Io.KnownBytes.{Keeps};
 ghost use Rattle.values.specs.Tables.{Schema};
@@ -135,8 +134,8 @@ fn take_feed<W: Write>(alloc: Global, writer: &mut W, script: &mut Script) -> Re
     end_line(alloc, writer, script)
 }
 
-/// Takes the bytes up to the first line feed and with it, or all where there is none. The answer is
-/// their number.
+/// Takes the bytes up to and including the first line feed, or all if there is none. Returns their
+/// number.
 fn take_line<W: Write>(
     alloc: Global,
     writer: &mut W,
@@ -205,7 +204,7 @@ fn finish<W: Write>(alloc: Global, writer: &mut W, script: &mut Script) -> Resul
     }
 }
 
-/// A run at the beginning of its script.
+/// Makes a run at the beginning of its script.
 fn begin(alloc: Global, system: System) -> Mem<Script>
     ensures system { IfOk result (λ s. s.system ≡ system) }
     ensures reading { IfOk result (λ s. s.reading ≡ 0) }
@@ -219,7 +218,7 @@ fn begin(alloc: Global, system: System) -> Mem<Script>
     })
 }
 
-/// The refusal in a reply, where it is one.
+/// Returns the refusal in a reply, if it is one.
 fn refusal_in(reply: Reply) -> Option<Refusal>
     ensures { result ≡ refusal_in reply }
 {
@@ -245,9 +244,9 @@ fn take_all(system: &mut System, first: Vec<Step>) -> Result<(), Refusal>
     Ok(())
 }
 
-/// A store that took these steps.
+/// Makes a store that took these steps.
 ///
-/// `First` where one was refused, or memory ran out at it; otherwise `Memory`.
+/// `First` if one was refused, or memory ran out at it; otherwise `Memory`.
 pub fn lead(alloc: Global, schema: Schema, first: Vec<Step>) -> Result<System, RunFault>
     ensures stands { IfOk result (λ s. Stands s (history_of first.items)) }
     ensures schema { IfOk result (λ s. s.schema ≡ schema) }
@@ -356,9 +355,9 @@ pub fn run_script_after<I: Read, W: Write>(
 /// that is not blank and no comment, each before the next line is taken. The replies are flushed
 /// before the next read, and at the end.
 ///
-/// The transcript of what was read was written, and nothing else, whatever the reader. At `Read` the
-/// replies to the lines that ended are written, and at `Write` a prefix of the transcript of what
-/// was read. At `Memory` nothing was read or written.
+/// The transcript of what was read was written, and nothing else, whatever the reader. At `Read`
+/// the replies to the lines that ended are written, and at `Write` a prefix of the transcript of
+/// what was read. At `Memory` nothing was read or written.
 pub fn run_script<I: Read, W: Write>(
     alloc: Global,
     reader: &mut I,

@@ -6,7 +6,7 @@ pub returns-clause-ok : goal.returns-clause-ok
 returns-clause-ok g c =
     let so : Stepped c.args.script.now (record c.args.script.now { system = c.step-reply.new.self }) c.args.step c.step-reply.result = record {
       answers = c.step-reply.ensures.answers;
-      out_of_memory = c.step-reply.ensures.out_of_memory;
+      refused = c.step-reply.ensures.refused;
       no_memory = c.step-reply.ensures.no_memory;
       schema_stays = c.step-reply.ensures.schema;
       reading_stays = refl;
@@ -17,7 +17,7 @@ pub returns-clause-err : goal.returns-clause-err
 returns-clause-err g c =
     let so : Stepped c.args.script.now (record c.args.script.now { system = c.step-reply.new.self }) c.args.step c.step-reply.result = record {
       answers = c.step-reply.ensures.answers;
-      out_of_memory = c.step-reply.ensures.out_of_memory;
+      refused = c.step-reply.ensures.refused;
       no_memory = c.step-reply.ensures.no_memory;
       schema_stays = c.step-reply.ensures.schema;
       reading_stays = refl;
