@@ -19,7 +19,8 @@ use rows::{Form, Keys, MAX_INSTANT, Schema, Shown, ShownRows, Table};
 use std::alloc::Global;
 use std::io::Write;
 
-/// The number of the table that is to be exported, where one is. `NoExport` where there is no such table.
+/// Returns the number of the table that is to be exported, if one is. `NoExport` if no table has
+/// the name.
 pub fn export_number(schema: &Schema, name: Option<&str>) -> Result<Option<u8>, Fault>
     ensures ok { IfOk result (λ number.
         Exports schema.now (option_map (λ text. text.now) name.entry) number) }
@@ -36,7 +37,7 @@ pub fn export_number(schema: &Schema, name: Option<&str>) -> Result<Option<u8>, 
     }
 }
 
-/// All versions of a table with their periods, as the service's session is shown them.
+/// Returns all versions of a table with their periods, as the service's session sees them.
 fn versions_of(alloc: Global, system: &mut System, number: u8) -> Result<ShownRows, Fault>
     ensures ok { IfOk result (λ shown. (h : History) → Stands system.old h
         → reply system.old.schema h (all_versions number) ≡ Shows (Periods shown)) }
@@ -92,7 +93,8 @@ fn export_versions<O: Write>(
     print_versions(alloc, out, table, shown.items())
 }
 
-/// Writes a table with all its versions as CSV, where one is to be exported. The text is never held whole.
+/// Writes a table with all its versions as CSV, if one is to be exported. The text is never held
+/// whole.
 pub fn export_table<O: Write>(
     alloc: Global,
     out: &mut O,

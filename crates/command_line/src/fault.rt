@@ -1,4 +1,4 @@
-//! Why the program stops before its end. Each text is written here alone, but for those of refusals and of words.
+//! Why the program stops before its end: each text but those of refusals and words.
 ghost use Rattle.std.specs.Prelude.{◌≡◌, true, false};
 ghost use Rattle.command_line.specs.Fault.{is_of_words, of_export, of_load, of_run, of_schema, of_server};
 
@@ -46,6 +46,7 @@ pub enum Fault {
     Memory,
 }
 
+/// Returns the program's fault for a fault of a schema.
 pub fn schema_fault(fault: SchemaFault) -> Fault
     ensures { result ≡ of_schema fault }
 {
@@ -56,6 +57,7 @@ pub fn schema_fault(fault: SchemaFault) -> Fault
     }
 }
 
+/// Returns the program's fault for a fault of a script.
 pub fn run_fault(fault: RunFault) -> Fault
     ensures { result ≡ of_run fault }
 {
@@ -67,7 +69,7 @@ pub fn run_fault(fault: RunFault) -> Fault
     }
 }
 
-/// The fault of the steps of a load.
+/// Returns the program's fault for a fault of the steps of a load.
 pub fn load_fault(fault: RunFault) -> Fault
     ensures { result ≡ of_load fault }
 {
@@ -77,6 +79,7 @@ pub fn load_fault(fault: RunFault) -> Fault
     }
 }
 
+/// Returns the program's fault for a fault of an export.
 pub fn export_fault(fault: ExportFault) -> Fault
     ensures { result ≡ of_export fault }
 {
@@ -86,6 +89,7 @@ pub fn export_fault(fault: ExportFault) -> Fault
     }
 }
 
+/// Returns the program's fault for a fault of a server.
 pub fn server_fault(fault: ServerFault) -> Fault
     ensures { result ≡ of_server fault }
 {
@@ -99,7 +103,7 @@ pub fn server_fault(fault: ServerFault) -> Fault
 }
 
 impl Fault {
-    /// The program's status at this fault.
+    /// Returns the program's exit status at this fault.
     fn status(&self) -> u8
         ensures words { is_of_words self.now ≡ true → result ≡ WORDS }
         ensures other { is_of_words self.now ≡ false → result ≡ FAULT }
@@ -111,7 +115,7 @@ impl Fault {
     }
 }
 
-/// Reports a fault on standard error, and gives its status.
+/// Reports a fault on standard error, and returns its status.
 pub fn tell<E: Write>(err: &mut E, fault: &Fault) -> u8
     ensures words { is_of_words fault.now ≡ true → result ≡ WORDS }
     ensures other { is_of_words fault.now ≡ false → result ≡ FAULT }

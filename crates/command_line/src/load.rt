@@ -28,7 +28,7 @@ use std::io;
 use std::io::{ErrorKind, Read, Write};
 use std::rt::Files;
 
-/// The table's name in the text of `--load`, up to the first `=`.
+/// Returns the table's name in the text of `--load`, up to the first `=`.
 fn name_of(text: &str) -> &str
     ensures { result.now ≡ name_in text.now }
 {
@@ -38,7 +38,7 @@ fn name_of(text: &str) -> &str
     }
 }
 
-/// The file in the text of `--load`, behind the first `=`.
+/// Returns the file in the text of `--load`, after the first `=`.
 fn file_of(text: &str) -> &str {
     match text.split_once('=') {
         Some((_name, file)) => file,
@@ -46,7 +46,7 @@ fn file_of(text: &str) -> &str {
     }
 }
 
-/// The table with a name.
+/// Returns the table with a name.
 fn table_named<'a>(schema: &'a Schema, name: &str) -> Option<&'a Table>
     ensures some { IfSome result (λ t. IsNamed schema.now name.now t.now) }
     ensures none { result ≡ None → table_number schema.now name.now ≡ None }
@@ -57,7 +57,7 @@ fn table_named<'a>(schema: &'a Schema, name: &str) -> Option<&'a Table>
     }
 }
 
-/// The bytes of a file.
+/// Returns the bytes of a file.
 fn bytes_of<R: AllocGlobal + Files>(rt: &R, file: &str) -> io::Result<Vec<u8>> {
     let mut bytes = Vec::new(rt.alloc());
     File::open(rt, file)?.read_to_end(&mut bytes)?;
@@ -73,7 +73,7 @@ fn file_fault(error: &io::Error) -> Fault
     }
 }
 
-/// The rows that a file's bytes write for a table.
+/// Reads the rows of a table from a file's bytes.
 fn rows_in(alloc: Global, table: &Table, bytes: &[u8]) -> Result<Vec<Row>, Fault>
     requires good { IsTable table.now.number table.now }
     ensures ok { IfOk result (λ rows. Loads table.now bytes.now (Ok rows.items)) }
@@ -85,7 +85,7 @@ fn rows_in(alloc: Global, table: &Table, bytes: &[u8]) -> Result<Vec<Row>, Fault
     }
 }
 
-/// The rows that a file writes for a table.
+/// Reads the rows of a table from a file.
 fn table_rows<R: AllocGlobal + Files>(rt: &R, table: &Table, file: &str) -> Result<Vec<Row>, Fault>
     requires good { IsTable table.now.number table.now }
     ensures ok { IfOk result (λ rows. (bytes : List ℕ) × Loads table.now bytes (Ok rows.items)) }
@@ -97,7 +97,7 @@ fn table_rows<R: AllocGlobal + Files>(rt: &R, table: &Table, file: &str) -> Resu
     }
 }
 
-/// The rows that the text of `--load` asks for, with their table's number.
+/// Reads the rows that the text of `--load` asks for, and returns them with their table's number.
 pub fn rows_for<R: AllocGlobal + Files>(
     rt: &R,
     text: &str,
@@ -118,7 +118,8 @@ pub fn rows_for<R: AllocGlobal + Files>(
     }
 }
 
-/// One transaction of the service's session that inserts the rows at reading 0; none where there are none.
+/// Makes the steps of one transaction of session 0 that inserts the rows at reading 0; none if
+/// there are no rows.
 fn steps_of(alloc: Global, loaded: TableRows) -> Mem<Vec<Step>>
     ensures { IfOk result (λ v. v.items ≡ steps_of loaded.number loaded.rows.items) }
 {
@@ -129,7 +130,7 @@ fn steps_of(alloc: Global, loaded: TableRows) -> Mem<Vec<Step>>
     Ok(vec![in alloc; Step::Begin(0), insert, Step::Commit(0, 0)]?)
 }
 
-/// A store with these rows.
+/// Makes a store with these rows.
 fn store_of(alloc: Global, schema: Schema, loaded: TableRows) -> Result<System, Fault>
     ensures stands { IfOk result (λ s.
         Stands s (history_of (steps_of loaded.number loaded.rows.items))) }
@@ -147,7 +148,7 @@ fn store_of(alloc: Global, schema: Schema, loaded: TableRows) -> Result<System, 
     }
 }
 
-/// The last commit instant, 0 where there is none.
+/// Returns the last commit instant, 0 if there is none.
 fn last_instant(system: &System) -> Instant
     ensures { (h : History) → Stands system.now h → result ≡ last (log system.now.schema h) }
 {
@@ -216,8 +217,8 @@ fn load_file<R: AllocGlobal + Files, O: Write>(
     }
 }
 
-/// The store before the script: with the rows of a file, where one is to be loaded, in one
-/// transaction of session 0. How many they are and their instant are written then.
+/// Makes the store before the script: with the rows of a file, if one is to be loaded, in one
+/// transaction of session 0. Their number and their instant are then written.
 pub fn load<R: AllocGlobal + Files, O: Write>(
     rt: &R,
     text: Option<&str>,

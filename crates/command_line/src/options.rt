@@ -125,7 +125,7 @@ fn option<'a>(alloc: Global, name: &'a str, value: &'a str, help: &'a str) -> Ar
         .help(help)
 }
 
-/// The command with no option yet.
+/// Makes the command with no option yet.
 fn bare<'a>(alloc: Global) -> Command<'a>
     ensures { app_of result ≡ bare }
 {
@@ -136,7 +136,7 @@ fn bare<'a>(alloc: Global) -> Command<'a>
         .after_help(AFTER)
 }
 
-/// The command with the options of what is read.
+/// Makes the command with the options of what is read.
 fn reading_command<'a>(alloc: Global) -> Result<Command<'a>, AllocError>
     ensures { IfOk result (λ c. app_of c ≡ reading) }
 {
@@ -145,7 +145,7 @@ fn reading_command<'a>(alloc: Global) -> Result<Command<'a>, AllocError>
         .arg(option(alloc, "script", "FILE", "Reads the script from this file"))
 }
 
-/// The same with the options of a server.
+/// Makes the command with the options of a server added.
 fn serving_command<'a>(alloc: Global) -> Result<Command<'a>, AllocError>
     ensures { IfOk result (λ c. app_of c ≡ serving) }
 {
@@ -188,7 +188,7 @@ fn fault_from(error: clap::Error) -> WordsFault
     }
 }
 
-/// Whether a file is named, behind a `=`.
+/// Tells whether a file is named, after a `=`.
 fn has_file(text: &str) -> bool
     ensures { IsTrue result ↔ HasFile text.now }
 {
@@ -212,7 +212,7 @@ fn count_of(text: &str) -> Option<u8>
     }
 }
 
-/// A server's mode by the texts of its two options.
+/// Returns a server's mode by the texts of its two options.
 fn listen_mode<'a>(listen: &str, sessions: &str) -> Result<Mode<'a>, &'static str>
     ensures ok { IfOk result (λ mode. listening (port_in listen.now) (count_in sessions.now)
         ≡ Some (mode_of mode)) }
@@ -228,7 +228,7 @@ fn listen_mode<'a>(listen: &str, sessions: &str) -> Result<Mode<'a>, &'static st
     }
 }
 
-/// What is run.
+/// Returns what is run.
 fn mode_of<'a>(texts: Texts<'a>) -> Result<Mode<'a>, &'static str>
     ensures ok { IfOk result (λ mode. mode_in (texts_of texts.entry) ≡ Some (mode_of mode)) }
     ensures err { IfErr result (λ _. mode_in (texts_of texts.entry) ≡ None) }
@@ -242,7 +242,7 @@ fn mode_of<'a>(texts: Texts<'a>) -> Result<Mode<'a>, &'static str>
     }
 }
 
-/// Whether the text of `--load`, where there is one, names a file.
+/// Tells whether the text of `--load`, if there is one, names a file.
 fn names_file(load: Option<&str>) -> bool
     ensures { IsTrue result ↔ IfSome (option_map (λ text. text.now) load.entry) HasFile }
 {
@@ -252,7 +252,7 @@ fn names_file(load: Option<&str>) -> bool
     }
 }
 
-/// The options, where they can be had together.
+/// Returns the options, if they can be given together.
 fn options_of<'a>(texts: Texts<'a>) -> Result<Options<'a>, WordsFault>
     ensures ok { IfOk result (λ o. (words : List Text) → Reads words (texts_of texts.entry)
         → Gives words o) }
@@ -273,9 +273,12 @@ fn options_of<'a>(texts: Texts<'a>) -> Result<Options<'a>, WordsFault>
     }
 }
 
-/// Reads the words that follow the program's name: `--schema F`, `--script F`, `--listen PORT`, `--sessions N`, `--load T=F` and `--export T`, each at most once.
+/// Reads the words that follow the program's name: `--schema F`, `--script F`, `--listen PORT`,
+/// `--sessions N`, `--load T=F` and `--export T`, each at most once.
 ///
-/// `Clap` where `clap` has a fault of the words, with `--help` and `--version` among them. `Words` where the text of `--load` has no `=`; where one of `--listen` and `--sessions` is given without the other, or both with `--script`; where PORT or N is no decimal number, or not in its range.
+/// `Clap` if `clap` refuses the words, or they ask for `--help` or `--version`. `Words` if the text
+/// of `--load` has no `=`; if one of `--listen` and `--sessions` is given without the other, or
+/// both with `--script`; if PORT or N is not a decimal number in its range.
 pub fn words<'a, S: AsStr>(alloc: Global, words: &'a [S]) -> Result<Options<'a>, WordsFault>
     ensures ok { IfOk result (λ o. Gives (map S.text words.entry.now) o) }
     ensures err { IfErr result (λ fault. Refuses (map S.text words.entry.now) fault) }

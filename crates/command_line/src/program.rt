@@ -32,13 +32,14 @@ use std::sync::Wait;
 use std::thread::Threads;
 use std::time::Clock;
 
-/// All was done. Refused lines are replies, and no faults.
+/// The status if all was done. Refused lines are replies, not faults.
 pub const DONE: u8 = 0;
 
-/// Runs the program: reads a script, from standard input or a file, over the schema of a file or the sample, as the
-/// words ask for, and writes its transcript, or serves connections; before it the rows of a file may
-/// be loaded, and after it a table may be exported. The answer is the status: 0 done, 1 a fault, 2 words that are refused; a
-/// fault is reported on standard error. Help and the version are written like other output.
+/// Runs the program: reads a script, from standard input or a file, over the schema of a file or
+/// the sample, as the words ask for, and writes its transcript, or serves connections; before it
+/// the rows of a file may be loaded, and after it a table may be exported. Returns the exit status:
+/// 0 done, 1 a fault, 2 words that are refused; a fault is reported on standard error. Help and the
+/// version are written like other output.
 pub fn program<R, S, I, O, E>(rt: &R, words: &[S], reader: &mut I, out: &mut O, err: &mut E) -> u8
 where
     R: AllocGlobal
@@ -69,8 +70,8 @@ where
     }
 }
 
-/// Runs the program up to its first fault: of the words, of the schema, of the table to be exported,
-/// of the load, of the script, of the export.
+/// Runs the program up to its first fault: of the words, of the schema, of the table to be
+/// exported, of the load, of the script, of the export.
 fn run<R, S, I, O>(rt: &R, words: &[S], reader: &mut I, out: &mut O) -> Result<(), Fault>
 where
     R: AllocGlobal
@@ -114,7 +115,7 @@ fn show<O: Write>(alloc: Global, out: &mut O, error: &clap::Error) -> Result<(),
     }
 }
 
-/// Help and the version are no faults: they are written as asked for.
+/// Writes help or the version, which are not faults.
 fn answer_clap<O: Write>(alloc: Global, out: &mut O, error: clap::Error) -> Result<(), Fault>
     ensures ok { OnOk result ((words : List Text) → IsAmong (kind_of error) (faults words)
         → HasAnswered words (O.contents out.old) (O.contents out.new)) }
@@ -129,7 +130,7 @@ fn answer_clap<O: Write>(alloc: Global, out: &mut O, error: clap::Error) -> Resu
     }
 }
 
-/// What words come to that are not taken.
+/// Answers words that were refused, or that ask for help or the version.
 fn answer<O: Write>(alloc: Global, out: &mut O, fault: WordsFault) -> Result<(), Fault>
     ensures ok { OnOk result ((words : List Text) → Refuses words fault
         → HasAnswered words (O.contents out.old) (O.contents out.new)) }
@@ -246,7 +247,7 @@ where
     }
 }
 
-/// The load, then the script, then the export.
+/// Runs the load, then the script, then the export.
 fn run_all<R: AllocGlobal + Files, I: Read, O: Write>(
     rt: &R,
     text: Option<&str>,
@@ -271,7 +272,7 @@ fn run_all<R: AllocGlobal + Files, I: Read, O: Write>(
     }
 }
 
-/// The script over a store, then the export.
+/// Runs the script over a store, then the export.
 fn run_on<R: AllocGlobal + Files, I: Read, O: Write>(
     rt: &R,
     file: Option<&str>,
@@ -323,7 +324,7 @@ fn run_script_of<R: AllocGlobal + Files, I: Read, O: Write>(
     }
 }
 
-/// What a run comes to: a fault is reported as it is.
+/// Returns the store after a run, or the program's fault for the run's.
 fn finish(ran: Result<System, RunFault>) -> Result<System, Fault>
     ensures { result ≡ outcome_of ran }
 {

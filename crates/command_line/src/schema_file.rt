@@ -6,16 +6,17 @@ ghost use Rattle.command_line.specs.Fault.{is_of_words};
 ghost use Rattle.command_line.specs.Program.{IsSchemaOf, IsOfSchema};
 
 use crate::fault::{Fault, schema_fault};
-use rows::{LONGEST_SCHEMA, Schema};
+use rows::{LONGEST_SCHEMA, ReadSchema, Schema};
 use std::fs::File;
 use std::io;
 use std::io::{ErrorKind, Read};
 use std::rt::Files;
 
-/// The bytes of a schema file that are read: one more than a schema may have, which shows that it is too long.
+/// The bytes of a schema file that are read: one more than a schema may have, which shows that it
+/// is too long.
 const READ: u64 = LONGEST_SCHEMA as u64 + 1;
 
-/// The schema of a file, or the sample where no file is named.
+/// Returns the schema of a file, or the sample if no file is named.
 pub fn schema_of<R: AllocGlobal + Files>(rt: &R, file: Option<&str>) -> Result<Schema, Fault>
     ensures ok { IfOk result (λ schema.
         IsSchemaOf (option_map (λ text. text.now) file.entry) schema) }

@@ -1,4 +1,4 @@
-//! Connections that are served, in the place of a script.
+//! Connections that are served, instead of a script.
 ghost use Rattle.std.specs.Prelude.{◌≡◌, IfOk, IfErr, OnOk, option_map};
 ghost use Rattle.listening.specs.Server.{IsExportOf};
 ghost use Rattle.command_line.specs.Server.{HaltsServing, HasServedAll, IsFirst, IsNoFirst};
@@ -14,7 +14,7 @@ use std::sync::Wait;
 use std::thread::Threads;
 use std::time::Clock;
 
-/// The rows that are loaded before the first connection, where a file is named.
+/// Reads the rows that are loaded before the first connection, if a file is named.
 fn first_of<R: AllocGlobal + Files>(
     rt: &R,
     text: Option<&str>,
@@ -34,7 +34,8 @@ fn first_of<R: AllocGlobal + Files>(
     }
 }
 
-/// Serves connections round a store of these tables, and exports a table of it at the end, where one is to be. Standard input is not read.
+/// Serves connections round a store of these tables, and exports a table of it at the end, if one
+/// is to be. Standard input is not read.
 pub fn run_server<R, I, O>(
     rt: &R,
     text: Option<&str>,
