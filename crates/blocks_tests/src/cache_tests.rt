@@ -1,7 +1,6 @@
 //! What is asked of a cache, block after block.
 
-use blockcache::BlockCache;
-use blocks::{Block, Blocks, InPlace};
+use blocks::{Block, BlockCache, Blocks, InPlace};
 use bytes::Bytes;
 use keyrange::KeyRange;
 use std::alloc::Global;

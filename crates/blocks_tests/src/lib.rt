@@ -1,4 +1,4 @@
-//! Tests of `blocks` and `blockcache` by their public calls.
+//! Tests of `blocks` by its public calls.
 #![tactic(auto)]
 
 #[cfg(test)]

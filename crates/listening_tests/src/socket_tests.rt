@@ -4,12 +4,11 @@ ghost use Rattle.std.specs.Prelude.{◌≡◌};
 use crate::client::{Play, Sent, run_play};
 use crate::staff::employee;
 use crate::wanted::{Wanted, is_so};
-use gate::{Gate, Place};
 use growlog::{NewLog, StoreName};
 use journal::{Receipt, SharedEntry};
 use listening::{AlwaysOpen, bind, listen};
 use rows::Schema;
-use sessions::{LockedStore, Session};
+use sessions::{Gate, LockedStore, Place, Session};
 use std::alloc::Global;
 use std::marker::Brand;
 use std::net::{Net, TcpListener, TcpStream};
@@ -18,6 +17,7 @@ use std::sync::{Mutex, Wait};
 use std::thread;
 use std::thread::Threads;
 use std::time::Clock;
+use values::Write;
 
 /// The turns after which a held read gives up.
 const TURNS: u32 = 1_000_000;
@@ -59,7 +59,7 @@ impl Gate for Shut {
 fn insert_ann(rt: &impl Abort, alloc: Global, session: &mut Session) {
     let rows = vec![in alloc; employee(rt, alloc, 1, "Ann")].expect(rt, "there is memory");
     session
-        .insert(1, rows.as_slice())
+        .write(Write::Insert(1, rows.as_slice()))
         .expect(rt, "it is inserted");
 }
 

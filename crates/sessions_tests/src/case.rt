@@ -1,11 +1,10 @@
 //! A session that is served round a store of its own.
 use crate::scene::Audit;
-use gate::{Gate, Place};
 use growlog::StoreName;
 use journal::Receipt;
 use rows::Instant;
 use serving::{End, Readings, Served, Told, serve_session};
-use sessions::LockedStore;
+use sessions::{Gate, LockedStore, Place};
 use std::alloc::Global;
 use std::io;
 use std::io::{ErrorKind, Read, Write};

@@ -6,6 +6,7 @@ use rows::{
 use sessions::Session;
 use std::alloc::Global;
 use std::process::Abort;
+use values::Write;
 
 fn text(rt: &impl Abort, alloc: Global, name: &str) -> Value {
     Value::Text(Chars::copy_of(alloc, name).expect(rt, "the name is short"))
@@ -59,7 +60,7 @@ pub(crate) fn insert(
     let rows = vec![in alloc; employee(rt, alloc, number, name)];
     let rows = rows.expect(rt, "there is memory");
     session
-        .insert(1, rows.as_slice())
+        .write(Write::Insert(1, rows.as_slice()))
         .expect(rt, "it is inserted")
 }
 
@@ -91,14 +92,16 @@ pub(crate) fn set_name(
     let keys = by(rt, alloc, number);
     let sets = sets(rt, alloc, name);
     session
-        .update(&keys, sets.as_slice())
+        .write(Write::Update(&keys, sets.as_slice()))
         .expect(rt, "the name is set")
 }
 
 /// How many employees of a number are deleted.
 pub(crate) fn delete(rt: &impl Abort, alloc: Global, session: &mut Session, number: i64) -> usize {
     let keys = by(rt, alloc, number);
-    session.delete(&keys).expect(rt, "they are deleted")
+    session
+        .write(Write::Delete(&keys))
+        .expect(rt, "they are deleted")
 }
 
 /// Whether the session sees this name at a number.

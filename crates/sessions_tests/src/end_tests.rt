@@ -1,8 +1,8 @@
 //! How served sessions end, and what is kept then.
 use crate::case::{Case, Limits, NONE};
 use crate::scene::{Scene, play};
-use gate::Place;
 use serving::End;
+use sessions::Place;
 
 const HIRE: &str = "BEGIN\nINSERT INTO emp VALUES (1, 'Ann')\nCOMMIT\nSELECT * FROM emp\n";
 

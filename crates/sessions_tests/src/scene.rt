@@ -12,8 +12,9 @@ use crate::store_tests::{commit_elsewhere, count_beside};
 use crate::thread_tests::{hire_in_threads, keep_view, name_in_threads};
 use book::Closed;
 use growlog::{NewLog, StoreName};
+use histories::fit_keys;
 use journal::{Receipt, SharedEntry};
-use rows::{Form, Keys, Schema, Table};
+use rows::{Form, Keys, Schema};
 use sessions::{LockedStore, Unclosed};
 use std::alloc::Global;
 use std::marker::Brand;
@@ -48,10 +49,11 @@ pub(crate) enum Scene<'a> {
 
 fn audit_of(rt: &impl Abort, alloc: Global, closed: &Closed) -> Audit {
     let view = closed.tree().current();
-    let table = Table::sample(alloc).expect(rt, "there is memory");
+    let schema = Schema::sample(alloc).expect(rt, "there is memory");
     let mut cache = BlockCache::new(alloc);
     let keys = Keys::all(alloc, 1);
-    let listing = listing_of(alloc, &mut cache, view, Form::Plain, &table, &keys);
+    let keys = fit_keys(&schema, 0, &keys).expect(rt, "they fit");
+    let listing = listing_of(alloc, &mut cache, view, Form::Plain, keys);
     let employees = count_in(&listing.expect(rt, "they are listed"));
     (closed.entries(), employees, view.last())
 }

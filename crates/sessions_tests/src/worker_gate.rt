@@ -1,5 +1,5 @@
 //! Gates that workers pass.
-use gate::{Gate, Place};
+use sessions::{Gate, Place};
 use std::sync::{Mutex, Wait};
 
 /// A gate that gives up once it was passed so often.

@@ -1,12 +1,12 @@
 //! A transaction that reads what it wrote.
 
-use crate::sample::{empty_tree, one_row, sets, table};
-use histories::Listing;
+use crate::sample::{empty_tree, one_row, schema, sets};
+use histories::{Listing, fit_keys, fit_write};
 use std::alloc::Global;
 use std::process::Abort;
 use systime_query::BlockCache;
 use transaction::{OpenTransaction, listing_of};
-use values::{Form, Keys, Mem};
+use values::{Form, Keys, Mem, Write};
 
 /// A transaction over nothing committed.
 fn begin_empty(rt: &impl Abort, alloc: Global) -> OpenTransaction {
@@ -14,12 +14,23 @@ fn begin_empty(rt: &impl Abort, alloc: Global) -> OpenTransaction {
     OpenTransaction::begin(alloc, view).expect(rt, "there is memory")
 }
 
+/// How many rows a write changes that fits the table of employees.
+fn change(
+    rt: &impl Abort,
+    alloc: Global,
+    transaction: &mut OpenTransaction,
+    write: Write<'_>,
+) -> Mem<usize> {
+    let schema = schema(rt, alloc);
+    let write = fit_write(&schema, 1, write).expect(rt, "it fits");
+    transaction.write(write)
+}
+
 /// A transaction that has inserted an employee.
 fn with_ann(rt: &impl Abort, alloc: Global) -> OpenTransaction {
-    let table = table(rt, alloc);
     let rows = one_row(rt, alloc, 1, "Ann");
     let mut transaction = begin_empty(rt, alloc);
-    let inserted = transaction.insert(&table, &rows);
+    let inserted = change(rt, alloc, &mut transaction, Write::Insert(1, &rows));
     assert!(rt; inserted.expect(rt, "it is inserted") == 1);
     transaction
 }
@@ -39,29 +50,25 @@ fn count(rt: &impl Abort, listing: Mem<Listing>) -> usize {
 
 /// How many rows a query of a transaction shows that has inserted an employee.
 fn count_shown(rt: &impl Abort, alloc: Global, form: Form) -> usize {
-    let table = table(rt, alloc);
-    let listing = with_ann(rt, alloc).select(
-        alloc,
-        &mut BlockCache::new(alloc),
-        form,
-        &table,
-        &Keys::all(alloc, 1),
-    );
+    let schema = schema(rt, alloc);
+    let keys = Keys::all(alloc, 1);
+    let keys = fit_keys(&schema, 1, &keys).expect(rt, "they fit");
+    let listing = with_ann(rt, alloc).select(alloc, &mut BlockCache::new(alloc), form, keys);
     count(rt, listing)
 }
 
 /// How many rows a query shows outside any transaction.
 fn count_outside(rt: &impl Abort, alloc: Global) -> usize {
-    let table = table(rt, alloc);
+    let schema = schema(rt, alloc);
     let tree = empty_tree(rt, alloc);
     let keys = Keys::all(alloc, 1);
+    let keys = fit_keys(&schema, 1, &keys).expect(rt, "they fit");
     let listing = listing_of(
         alloc,
         &mut BlockCache::new(alloc),
         tree.current(),
         Form::Plain,
-        &table,
-        &keys,
+        keys,
     );
     count(rt, listing)
 }
@@ -88,16 +95,16 @@ fn count_changes(rt: &impl Abort, transaction: &OpenTransaction) -> usize {
 
 /// How many rows an update of all rows meets.
 fn update_all(rt: &impl Abort, alloc: Global, transaction: &mut OpenTransaction) -> usize {
-    let table = table(rt, alloc);
     let sets = sets(rt, alloc, "Bea");
-    let met = transaction.update(&table, &Keys::all(alloc, 1), &sets);
+    let all = Keys::all(alloc, 1);
+    let met = change(rt, alloc, transaction, Write::Update(&all, &sets));
     met.expect(rt, "the name is set")
 }
 
 /// How many rows a deletion of all rows meets.
 fn delete_all(rt: &impl Abort, alloc: Global, transaction: &mut OpenTransaction) -> usize {
-    let table = table(rt, alloc);
-    let met = transaction.delete(&table, &Keys::all(alloc, 1));
+    let all = Keys::all(alloc, 1);
+    let met = change(rt, alloc, transaction, Write::Delete(&all));
     met.expect(rt, "they are deleted")
 }
 

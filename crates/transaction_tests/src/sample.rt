@@ -1,17 +1,32 @@
 //! Employees, and trees in which they were committed. The run ends where memory does.
-ghost use Rattle.values.specs.Tables.{IsTable};
 
+use histories::fit_write;
 use staging::{Net, Staged};
 use std::alloc::Global;
 use std::process::Abort;
 use tsbtree::{Tree, View};
-use values::{Chars, Comparison, Instant, Key, Keys, Operator, Row, Set, Table, Value, Values};
+use values::{
+    Chars, Comparison, Instant, Key, Keys, Mem, Operator, Row, Schema, Set, Value, Values, Write,
+};
 
-/// The table of employees.
-pub(crate) fn table(rt: &impl Abort, alloc: Global) -> Table
-    ensures { IsTable result.number result }
-{
-    Table::sample(alloc).expect(rt, "there is memory")
+/// The table of employees, alone.
+pub(crate) fn schema(rt: &impl Abort, alloc: Global) -> Schema {
+    Schema::sample(alloc).expect(rt, "there is memory")
+}
+
+/// What a transaction answers to a write, if it fits the table of employees.
+pub(crate) fn write(
+    rt: &impl Abort,
+    alloc: Global,
+    staged: &mut Staged,
+    view: &View,
+    write: Write<'_>,
+) -> Mem<usize> {
+    let schema = schema(rt, alloc);
+    match fit_write(&schema, 1, write) {
+        Ok(write) => staged.write(view, write),
+        Err(refusal) => Err(refusal),
+    }
 }
 
 fn text(rt: &impl Abort, alloc: Global, name: &str) -> Value {
@@ -80,7 +95,7 @@ pub(crate) fn insertion(
 ) -> Net {
     let rows = one_row(rt, alloc, number, name);
     let mut staged = nothing_staged(rt, alloc);
-    let inserted = staged.insert(view, &table(rt, alloc), &rows);
+    let inserted = write(rt, alloc, &mut staged, view, Write::Insert(1, &rows));
     assert!(rt; inserted.expect(rt, "it is inserted") == 1);
     staged.net(view).expect(rt, "there is memory")
 }

@@ -1,14 +1,15 @@
 //! Own writes over what was committed before.
 
 use crate::sample::{
-    ann, by, employee, empty_tree, key, many, nothing_staged, one_row, sets, table,
+    ann, by, employee, empty_tree, key, many, nothing_staged, one_row, schema, sets, write,
 };
-use searchrange::range_of_table;
+use histories::fit_keys;
+use searchrange::{Search, range_of_table};
 use staging::Staged;
 use std::alloc::Global;
 use std::process::Abort;
 use tsbtree::Tree;
-use values::{Instant, Keys, Mem, Operator, Refusal, Row, Value};
+use values::{Instant, Keys, Mem, Operator, Refusal, Row, Value, Write};
 
 /// How many rows of a table stand at an instant, where Ann was committed.
 fn count_standing(rt: &impl Abort, alloc: Global, table: u8, instant: Instant) -> usize {
@@ -56,14 +57,22 @@ fn desk_of_none(rt: &impl Abort, alloc: Global) -> Desk {
 }
 
 impl Desk {
+    fn write(&mut self, rt: &impl Abort, change: Write<'_>) -> Mem<usize> {
+        write(
+            rt,
+            self.alloc,
+            &mut self.staged,
+            self.tree.current(),
+            change,
+        )
+    }
+
     fn insert(&mut self, rt: &impl Abort, rows: &[Row]) -> Mem<usize> {
-        let table = table(rt, self.alloc);
-        self.staged.insert(self.tree.current(), &table, rows)
+        self.write(rt, Write::Insert(1, rows))
     }
 
     fn delete(&mut self, rt: &impl Abort, keys: &Keys) -> Mem<usize> {
-        let table = table(rt, self.alloc);
-        self.staged.delete(self.tree.current(), &table, keys)
+        self.write(rt, Write::Delete(keys))
     }
 
     /// How many rows are inserted of these.
@@ -91,18 +100,19 @@ impl Desk {
 
     /// Sets the name of all employees: how many that are.
     fn count_renamed(&mut self, rt: &impl Abort, name: &str) -> usize {
-        let table = table(rt, self.alloc);
         let sets = sets(rt, self.alloc, name);
         let all = Keys::all(self.alloc, 1);
-        let set = self.staged.update(self.tree.current(), &table, &all, &sets);
+        let set = self.write(rt, Write::Update(&all, &sets));
         set.expect(rt, "the name is set")
     }
 
     /// How many rows the transaction sees.
     fn count_rows(&self, rt: &impl Abort) -> usize {
-        let table = table(rt, self.alloc);
+        let schema = schema(rt, self.alloc);
         let all = Keys::all(self.alloc, 1);
-        let found = self.staged.rows(self.tree.current(), &table, &all);
+        let all = fit_keys(&schema, 1, &all).expect(rt, "they fit");
+        let search = Search::new(self.alloc, all).expect(rt, "there is memory");
+        let found = self.staged.rows(self.tree.current(), &search);
         found.expect(rt, "there is memory").len()
     }
 

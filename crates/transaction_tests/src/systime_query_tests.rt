@@ -1,19 +1,21 @@
 //! Two employees over time.
 
-use crate::sample::{ann, by, commit, hire, nothing_staged, sets, table};
+use crate::sample::{ann, by, commit, hire, nothing_staged, schema, sets, write};
+use histories::fit_keys;
+use searchrange::Search;
 use staging::Net;
 use std::alloc::Global;
 use std::process::Abort;
 use systime_query::{BlockCache, answer, current_rows, rows_at};
 use tsbtree::{Tree, View};
-use values::{Form, Instant, Operator, Shown};
+use values::{Form, Instant, Keys, Operator, Schema, Shown, Write};
 
 /// The net change of a transaction that calls the employee with the number 1 Bea.
 fn renaming(rt: &impl Abort, alloc: Global, view: &View) -> Net {
     let one = by(rt, alloc, Operator::Equal, 1);
     let sets = sets(rt, alloc, "Bea");
     let mut staged = nothing_staged(rt, alloc);
-    let renamed = staged.update(view, &table(rt, alloc), &one, &sets);
+    let renamed = write(rt, alloc, &mut staged, view, Write::Update(&one, &sets));
     assert!(rt; renamed.expect(rt, "it is renamed") == 1);
     staged.net(view).expect(rt, "there is memory")
 }
@@ -26,6 +28,12 @@ fn ann_then_bea(rt: &impl Abort, alloc: Global) -> Tree {
     tree
 }
 
+/// A search for keys that fit their table.
+fn search<'a>(rt: &impl Abort, alloc: Global, schema: &'a Schema, keys: &'a Keys) -> Search<'a> {
+    let keys = fit_keys(schema, 1, keys).expect(rt, "they fit");
+    Search::new(alloc, keys).expect(rt, "there is memory")
+}
+
 /// What a query shows of the keys that compare so with 1.
 fn shown_to(
     rt: &impl Abort,
@@ -34,15 +42,15 @@ fn shown_to(
     form: Form,
     operator: Operator,
 ) -> Vec<Shown> {
-    let table = table(rt, alloc);
+    let schema = schema(rt, alloc);
     let keys = by(rt, alloc, operator, 1);
+    let search = search(rt, alloc, &schema, &keys);
     let shown = answer(
         alloc,
         &mut BlockCache::new(alloc),
         tree.current(),
-        &table,
         form,
-        &keys,
+        &search,
     );
     shown.expect(rt, "there is memory")
 }
@@ -122,15 +130,15 @@ fn each_key_shows_one_version_at_an_instant(rt: HostRuntime) {
 /// How many employees there were at an instant.
 fn count_at(rt: &impl Abort, alloc: Global, at: Instant) -> usize {
     let tree = two(rt, alloc);
-    let table = table(rt, alloc);
+    let schema = schema(rt, alloc);
     let keys = by(rt, alloc, Operator::AtLeast, 1);
+    let search = search(rt, alloc, &schema, &keys);
     let rows = rows_at(
         alloc,
         &mut BlockCache::new(alloc),
         tree.current(),
-        &table,
         at,
-        &keys,
+        &search,
     );
     rows.expect(rt, "there is memory").len()
 }
@@ -138,9 +146,10 @@ fn count_at(rt: &impl Abort, alloc: Global, at: Instant) -> usize {
 /// How many employees there are.
 fn count_now(rt: &impl Abort, alloc: Global) -> usize {
     let tree = two(rt, alloc);
-    let table = table(rt, alloc);
+    let schema = schema(rt, alloc);
     let keys = by(rt, alloc, Operator::AtLeast, 1);
-    let rows = current_rows(alloc, tree.current(), &table, &keys);
+    let search = search(rt, alloc, &schema, &keys);
+    let rows = current_rows(alloc, tree.current(), &search);
     rows.expect(rt, "there is memory").len()
 }
 

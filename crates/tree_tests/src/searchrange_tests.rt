@@ -1,12 +1,12 @@
 //! Ranges worked out by hand.
 
+use histories::fit_keys;
 use keyrange::KeyRange;
-use searchrange::{range_of_table, search_range};
+use rows::{ReadSchema, Schema};
+use searchrange::{Search, range_of_table};
 use std::alloc::Global;
 use std::process::Abort;
-use values::{
-    Chars, Column, ColumnType, Comparison, KeyBytes, Keys, Operator, Sequence, Table, Value,
-};
+use values::{Chars, Comparison, KeyBytes, Keys, Operator, Sequence, Value};
 
 fn is_end(end: &Option<KeyBytes>, bytes: &[u8]) -> bool {
     match end {
@@ -40,25 +40,22 @@ fn two(rt: &impl Abort, alloc: Global, first: Comparison, second: Comparison) ->
     comparisons.expect(rt, "there is memory")
 }
 
-/// The range that comparisons leave of a table.
-fn range_left(
+/// Whether comparisons on the keys of the first table leave this range.
+fn leave_of(
     rt: &impl Abort,
     alloc: Global,
-    table: &Table,
-    number: u8,
+    schema: &Schema,
     comparisons: Vec<Comparison>,
-) -> KeyRange {
+    lo: &[u8],
+    hi: &[u8],
+) -> bool {
     let keys = Keys {
-        table: number,
+        table: 1,
         comparisons: Sequence::new(comparisons),
     };
-    let range = search_range(alloc, table, &keys);
-    range.expect(rt, "there is memory")
-}
-
-/// The sample table, whose key is a number.
-fn sample(rt: &impl Abort, alloc: Global) -> Table {
-    Table::sample(alloc).expect(rt, "there is memory")
+    let keys = fit_keys(schema, 1, &keys).expect(rt, "they fit");
+    let search = Search::new(alloc, keys).expect(rt, "there is memory");
+    is_range(search.range(), lo, hi)
 }
 
 /// Whether the comparisons leave this range of the sample table.
@@ -69,8 +66,8 @@ fn leave(
     lo: &[u8],
     hi: &[u8],
 ) -> bool {
-    let table = sample(rt, alloc);
-    is_range(&range_left(rt, alloc, &table, 1, comparisons), lo, hi)
+    let schema = Schema::sample(alloc).expect(rt, "there is memory");
+    leave_of(rt, alloc, &schema, comparisons, lo, hi)
 }
 
 /// Whether one comparison with a number leaves this range.
@@ -138,68 +135,30 @@ fn bounds_that_no_number_meets_leave_an_empty_range(rt: HostRuntime) {
     assert!(rt; contrary_leave(&rt, rt.alloc(), six, three));
 }
 
-/// Whether `= 1` and `= TRUE`, which no number can be compared with, leave this range.
-fn refused_leave(rt: &impl Abort, alloc: Global, lo: &[u8], hi: &[u8]) -> bool {
-    let wrong_type = Comparison {
-        column: 1,
-        operator: Operator::Equal,
-        value: Value::Bool(true),
-    };
-    let comparisons = two(rt, alloc, number(Operator::Equal, 1), wrong_type);
-    leave(rt, alloc, comparisons, lo, hi)
-}
-
-#[test]
-fn refused_comparisons_leave_the_table(rt: HostRuntime) {
-    assert!(rt; refused_leave(&rt, rt.alloc(), TABLE, NEXT_TABLE));
-}
-
 fn text(rt: &impl Abort, alloc: Global, text: &str) -> Chars {
     Chars::copy_of(alloc, text).expect(rt, "there is memory")
 }
 
-fn column(rt: &impl Abort, alloc: Global, name: &str, of: ColumnType) -> Column {
-    Column {
-        name: text(rt, alloc, name),
-        of,
-        not_null: true,
-    }
-}
+/// A table whose key is a name and a number.
+const TWO_COLUMNS: &[u8] = b"CREATE TABLE emp (no INT, name VARCHAR(10), \
+    s TIMESTAMP GENERATED ALWAYS AS ROW START, e TIMESTAMP GENERATED ALWAYS AS ROW END, \
+    PERIOD FOR SYSTEM_TIME (s, e), PRIMARY KEY (name, no)) WITH SYSTEM VERSIONING";
 
-/// The columns of table 255.
-fn columns(rt: &impl Abort, alloc: Global) -> Vec<Column> {
-    let number = column(rt, alloc, "no", ColumnType::Int);
-    let name = column(rt, alloc, "name", ColumnType::Varchar(10));
-    let columns = vec![in alloc; number, name];
-    columns.expect(rt, "there is memory")
-}
-
-/// Table 255, whose key is a name and a number.
-fn two_columns(rt: &impl Abort, alloc: Global) -> Table {
-    let key = vec![in alloc; 2, 1].expect(rt, "there is memory");
-    Table {
-        number: 255,
-        name: text(rt, alloc, "emp"),
-        columns: Sequence::new(columns(rt, alloc)),
-        key: Sequence::new(key),
-        row_start: text(rt, alloc, "sys_start"),
-        row_end: text(rt, alloc, "sys_end"),
-    }
-}
-
-/// Whether the comparisons leave this range of table 255.
-fn leave_255(
+/// Whether the comparisons leave this range of that table.
+fn leave_two(
     rt: &impl Abort,
     alloc: Global,
     comparisons: Vec<Comparison>,
     lo: &[u8],
     hi: &[u8],
 ) -> bool {
-    let table = two_columns(rt, alloc);
-    is_range(&range_left(rt, alloc, &table, 255, comparisons), lo, hi)
+    let Ok(schema) = Schema::read(alloc, TWO_COLUMNS) else {
+        return false;
+    };
+    leave_of(rt, alloc, &schema, comparisons, lo, hi)
 }
 
-/// Whether the name `a`, compared so, and a number of at least 2 leave this range of table 255.
+/// Whether the name `a`, compared so, and a number of at least 2 leave this range of that table.
 fn name_and_number_leave(
     rt: &impl Abort,
     alloc: Global,
@@ -213,53 +172,41 @@ fn name_and_number_leave(
         value: Value::Text(text(rt, alloc, "a")),
     };
     let comparisons = two(rt, alloc, number(Operator::AtLeast, 2), name);
-    leave_255(rt, alloc, comparisons, lo, hi)
+    leave_two(rt, alloc, comparisons, lo, hi)
 }
 
 #[test]
 fn a_column_narrows_behind_equal_ones_alone(rt: HostRuntime) {
-    let a = b"\xffa\x00\x00".as_slice();
-    let a_and_2 = b"\xffa\x00\x00\x80\x00\x00\x00\x00\x00\x00\x02".as_slice();
-    let after_a = b"\xffa\x00\x01".as_slice();
+    let a = b"\x01a\x00\x00".as_slice();
+    let a_and_2 = b"\x01a\x00\x00\x80\x00\x00\x00\x00\x00\x00\x02".as_slice();
+    let after_a = b"\x01a\x00\x01".as_slice();
     for (operator, lo, hi) in [
         (Operator::Equal, a_and_2, after_a),
-        (Operator::AtLeast, a, b"".as_slice()),
+        (Operator::AtLeast, a, NEXT_TABLE),
     ] {
         assert!(rt; name_and_number_leave(&rt, rt.alloc(), operator, lo, hi));
     }
 }
 
-/// Whether a number of 2 leaves this range of table 255.
+/// Whether a number of 2 leaves this range of that table.
 fn later_column_leaves(rt: &impl Abort, alloc: Global, lo: &[u8], hi: &[u8]) -> bool {
     let comparisons = one(rt, alloc, number(Operator::Equal, 2));
-    leave_255(rt, alloc, comparisons, lo, hi)
+    leave_two(rt, alloc, comparisons, lo, hi)
 }
 
 #[test]
 fn a_later_column_alone_leaves_the_table(rt: HostRuntime) {
-    assert!(rt; later_column_leaves(&rt, rt.alloc(), b"\xff", b""));
+    assert!(rt; later_column_leaves(&rt, rt.alloc(), TABLE, NEXT_TABLE));
 }
 
-/// The range that keys of table 2 leave of table 1.
-fn range_of_other_keys(rt: &impl Abort, alloc: Global) -> KeyRange {
-    let comparison = number(Operator::Equal, 2);
-    let keys = Keys::of_comparison(alloc, 2, comparison);
-    let keys = keys.expect(rt, "there is memory");
-    let range = search_range(alloc, &sample(rt, alloc), &keys);
-    range.expect(rt, "there is memory")
-}
-
-fn others_leave_table(rt: &impl Abort, alloc: Global) -> bool {
-    let range = range_of_table(alloc, 1).expect(rt, "there is memory");
-    range_of_other_keys(rt, alloc) == range
-}
-
-fn others_leave(rt: &impl Abort, alloc: Global, lo: &[u8], hi: &[u8]) -> bool {
-    is_range(&range_of_other_keys(rt, alloc), lo, hi)
+/// Whether the range of a table's keys is this.
+fn table_has(rt: &impl Abort, alloc: Global, table: u8, lo: &[u8], hi: &[u8]) -> bool {
+    let range = range_of_table(alloc, table).expect(rt, "there is memory");
+    is_range(&range, lo, hi)
 }
 
 #[test]
-fn keys_of_another_table_leave_the_table(rt: HostRuntime) {
-    assert!(rt; others_leave_table(&rt, rt.alloc()));
-    assert!(rt; others_leave(&rt, rt.alloc(), TABLE, NEXT_TABLE));
+fn a_table_has_the_keys_that_begin_with_its_number(rt: HostRuntime) {
+    assert!(rt; table_has(&rt, rt.alloc(), 1, TABLE, NEXT_TABLE));
+    assert!(rt; table_has(&rt, rt.alloc(), 255, b"\xff", b""));
 }
