@@ -86,7 +86,7 @@ impl Same for Reference<usize> {
 
 impl Same for Rect {
     fn is_same(&self, other: &Rect) -> bool {
-        self.keys() == other.keys() && self.time() == other.time()
+        self == other
     }
 }
 
