@@ -2,8 +2,8 @@
 use Rattle.std.specs.Prelude.{◌≡◌, ◌⊎◌, ℕ, List, Option, Some, None, Ok, Err}
 use Rattle.std.specs.Io.KnownBytes.{Appends, Keeps}
 use Rattle.clap.specs.Words.{Text}
+use Rattle.values.specs.Sample.{sample}
 use Rattle.values.specs.Tables.{Schema}
-use Rattle.rows.specs.Sample.{sample}
 use Rattle.rows.specs.SchemaTable.{read_schema}
 use Rattle.rows.specs.declared.schema_reading.SchemaFault.TheVariants as schema
 use Rattle.histories.specs.History.{History}
