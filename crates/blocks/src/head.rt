@@ -11,7 +11,7 @@ use crate::field::{byte_from, end_from, instant_from, key_from, key_of};
 use crate::rect::MARK;
 use keyrange::{KeyRange, Rect, TimeRange};
 use std::alloc::{AllocError, Global};
-use values::{Instant, KeyBytes};
+use values::KeyBytes;
 
 /// What the head of a block says. Its ranges need not be a rectangle's.
 #[derive(Clone, Copy)]

@@ -1,5 +1,5 @@
 //! Lines that tell what was done with a table or a store.
-ghost use Rattle.std.specs.Prelude.{◌≡◌, ◌++◌, IfOk, OnOk};
+ghost use Rattle.std.specs.Prelude.{◌≡◌, IfOk};
 ghost use Rattle.statement.specs.Print.{numbered};
 ghost use Rattle.statement.specs.Writer.{Prints};
 ghost use Rattle.interchange.specs.Report.{loaded_text};

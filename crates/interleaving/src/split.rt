@@ -1,5 +1,5 @@
 //! SPLIT: a node of the tree is split, which no reply shows.
-ghost use Rattle.std.specs.Prelude.{◌≡◌, IfOk, None, true, false};
+ghost use Rattle.std.specs.Prelude.{◌≡◌, None, true, false};
 ghost use Rattle.values.specs.KeyEncoding.{bytes_of_key};
 ghost use Rattle.histories.specs.Memory.{is_out_of_memory};
 ghost use Rattle.histories.specs.Misfit.{key_misfit};

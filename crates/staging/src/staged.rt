@@ -17,7 +17,7 @@ ghost use Rattle.tsbtree.specs.View.{events};
 ghost use Rattle.searchrange.specs.Search.{entry_taken};
 ghost use Rattle.staging.specs.View.{Holds};
 ghost use Rattle.staging.specs.Own.{WhenRead, rows_seen, net_over};
-ghost use Rattle.staging.specs.Staged.{put_all, put_back_one, put_back, put_answer, row_in, sees, first_seen, rows_in, net_in, AreInSearch};
+ghost use Rattle.staging.specs.Staged.{put_all, put_back_one, put_back, put_answer, row_in, sees, first_seen, net_in, AreInSearch};
 
 use crate::bound::{is_past, least_key};
 use crate::net::Net;
@@ -26,10 +26,7 @@ use std::alloc::{AllocError, Global};
 use std::collections::{BTreeMap, BTreeSet};
 use std::marker::Model;
 use tsbtree::View;
-use values::{
-    Event, Instant, Key, Keys, Mem, Refusal, Row, SharedEvent, Table, key_bytes, read_key,
-    read_values,
-};
+use values::{Instant, Key, Keys, Mem, Refusal, Row, SharedEvent, Table, key_bytes, read_values};
 
 /// The keys that a transaction may write.
 const MOST_WRITTEN: usize = 1000;
@@ -54,7 +51,7 @@ impl Model for Staged {
 }
 
 impl Staged {
-    /// A transaction that has written nothing.
+    /// Makes the writes of a transaction that has written nothing.
     pub fn new(alloc: Global) -> Mem<Staged>
         ensures ok { IfOk result (λ s. s ≡ []) }
         ensures err { OnlyMemory result }
@@ -85,7 +82,8 @@ impl Staged {
         Ok(found)
     }
 
-    /// The row that the transaction sees at a key of the table, which fits it: what the transaction wrote, or else what the view has.
+    /// Returns the row that the transaction sees at a key of the table, which fits it: what the
+    /// transaction wrote, or else what the view has.
     pub fn get(&self, view: &View, table: &Table, key: &Key) -> Mem<Option<Row>>
         requires table { IsTable table.now.number table.now }
         requires own { key.now.table ≡ table.now.number }
@@ -98,7 +96,8 @@ impl Staged {
         Ok(self.row_found(view, view.last(), key)?)
     }
 
-    /// What the transaction changes: what each key that it wrote has in the end, without those that are absent both then and in the view.
+    /// Returns what the transaction changes: what each key that it wrote has in the end, without
+    /// those that are absent both then and in the view.
     pub fn net(&self, view: &View) -> Mem<Net>
         ensures ok { IfOk result (λ net. (schema : Schema) (m : Changes)
             → Holds schema view.now m → AreKeysIn schema self.now → net ≡ net_over m self.now) }
@@ -110,7 +109,7 @@ impl Staged {
         Ok(Net::of(net))
     }
 
-    /// The row of a key: what was written, or else what the view has at an instant.
+    /// Returns the row of a key: what was written, or else what the view has at an instant.
     fn row_found(&self, view: &View, last: Instant, key: &Key) -> Mem<Option<Row>>
         requires { IsShortKey key.now }
         ensures ok { IfOk result (λ row. row ≡ row_in (events view.now) last self.now key.now) }
@@ -125,7 +124,8 @@ impl Staged {
         }
     }
 
-    /// Whether the transaction sees a row of a key: what it wrote, or else what the view has at an instant.
+    /// Tells whether the transaction sees a row of a key: what it wrote, or else what the view has at
+    /// an instant.
     fn sees(&self, view: &View, last: Instant, key: &Key) -> Mem<bool>
         requires { IsShortKey key.now }
         ensures ok { IfOk result (λ b. b ≡ sees (events view.now) last self.now key.now) }
@@ -137,7 +137,7 @@ impl Staged {
         }
     }
 
-    /// Whether the transaction sees a row of a key, or the key came before.
+    /// Tells whether the transaction sees a row of a key, or the key came before.
     fn is_taken(&self, view: &View, last: Instant, key: &Key, earlier: &BTreeSet<Key>) -> Mem<bool>
         requires { IsShortKey key.now }
         ensures ok { IfOk result (λ b. b ≡ (sees (events view.now) last self.now key.now
@@ -148,7 +148,7 @@ impl Staged {
         Ok(seen || earlier.contains(key))
     }
 
-    /// The first of the keys that the transaction sees, or that came before.
+    /// Finds the first of the keys that the transaction sees, or that came before.
     pub(crate) fn first_seen(&self, view: &View, last: Instant, keys: &[Key]) -> Mem<Option<Key>>
         requires { All IsShortKey keys.now }
         ensures ok { IfOk result (λ found. found
@@ -188,7 +188,8 @@ impl Staged {
     }
 }
 
-/// Puts changes over what was written, and keeps what was there before. `TooManyWrites` as soon as the keys are too many.
+/// Puts changes over what was written, and keeps what was there before. `TooManyWrites` as soon as
+/// the keys are too many.
 #[tactic(auto, using(crate::proofs::StagedPutBack::grown_all))]
 fn put_few(
     writes: &mut BTreeMap<Key, Option<Row>>,
@@ -210,7 +211,7 @@ fn put_few(
     check_few(writes)
 }
 
-/// `TooManyWrites` where there are more keys than a transaction may write.
+/// Refuses with `TooManyWrites` where there are more keys than a transaction may write.
 fn check_few(writes: &BTreeMap<Key, Option<Row>>) -> Result<(), Refusal>
     ensures ok { OnOk result (length writes.now.entries ≤ most_written) }
     ensures err { IfErr result (λ refusal. (refusal ≡ Refusal.TooManyWrites)
@@ -265,7 +266,7 @@ fn put_back_one(writes: &mut BTreeMap<Key, Option<Row>>, key: &Key, before: Opti
     }
 }
 
-/// The rows of events that a search takes.
+/// Reads the rows of events that a search takes.
 fn rows_taken(alloc: Global, search: &Search<'_>, events: &[SharedEvent]) -> Mem<BTreeMap<Key, Row>>
     ensures ok { IfOk result (λ found. AreInSearch search.now.table search.now.range events.now
         → found.entries ≡ insert_all [] (filter_map
@@ -291,7 +292,8 @@ fn put_entry(rows: &mut BTreeMap<Key, Row>, entry: Option<(Key, Row)>) -> Result
     Ok(())
 }
 
-/// Puts what was written over rows, as far as the keys take it: of the writes, which are in order by key, those are looked at that the first key column can have.
+/// Puts what was written over rows, as far as the keys take it: of the writes, which are in order by
+/// key, those are looked at that the first key column can have.
 fn put_taken(
     alloc: Global,
     table: &Table,
@@ -328,7 +330,7 @@ fn set_row(rows: &mut BTreeMap<Key, Row>, key: &Key, row: &Option<Row>) -> Resul
     Ok(())
 }
 
-/// The row of a key at an instant.
+/// Returns the row of a key at an instant.
 fn committed_row(alloc: Global, view: &View, instant: Instant, key: &Key) -> Mem<Option<Row>>
     requires { IsShortKey key.now }
     ensures ok { IfOk result (λ row. row
@@ -340,7 +342,7 @@ fn committed_row(alloc: Global, view: &View, instant: Instant, key: &Key) -> Mem
     Ok(row)
 }
 
-/// Whether a key has a row at an instant.
+/// Tells whether a key has a row at an instant.
 fn has_row(alloc: Global, view: &View, instant: Instant, key: &Key) -> Mem<bool>
     requires { IsShortKey key.now }
     ensures ok { IfOk result (λ b. b
@@ -371,7 +373,7 @@ fn net_of(
     Ok(net)
 }
 
-/// Whether a written key has a row, in the end or in the view.
+/// Tells whether a written key has a row, in the end or in the view.
 fn stays(alloc: Global, view: &View, last: Instant, key: &Key, row: &Option<Row>) -> Mem<bool>
     requires { IsShortKey key.now }
     ensures ok { IfOk result (λ b. b ≡ (is_some row.now

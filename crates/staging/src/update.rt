@@ -37,7 +37,7 @@ impl Staged {
     }
 }
 
-/// New rows for keys, with some columns set.
+/// Makes new rows for keys, with some columns set.
 fn updates(
     alloc: Global,
     sets: &[Set],
@@ -53,7 +53,7 @@ fn updates(
     Ok(changes)
 }
 
-/// A row with new values, set in turn.
+/// Makes a row with new values, set in turn.
 fn set_all(alloc: Global, sets: &[Set], row: &Row) -> Result<Row, AllocError>
     requires { All (λ s. IsStored s.value) sets.now }
     ensures { IfOk result (λ r. r ≡ set_all sets.now row.now) }

@@ -19,8 +19,8 @@ use std::alloc::Global;
 use tsbtree::View;
 use values::{Event, Form, Instant, Mem, SharedEvent, Shown};
 
-/// The events of a range of keys whose rows stand at the first instant, and those after it up to the last, by key and
-/// then by instant.
+/// Lists the events of a range of keys whose rows stand at the first instant, and those after it up
+/// to the last, by key and then by instant.
 pub(crate) fn window_events<B: Blocks>(
     alloc: Global,
     blocks: &mut B,
@@ -45,7 +45,7 @@ pub(crate) fn window_events<B: Blocks>(
     Ok(found)
 }
 
-/// The versions that a query selects, of events in a window that ends with an instant.
+/// Returns the versions that a query selects, of events in a window that ends with an instant.
 pub(crate) fn shown_in(
     alloc: Global,
     view: &View,
@@ -70,7 +70,8 @@ pub(crate) fn shown_in(
     Ok(shown)
 }
 
-/// When the version of an event ends: at the event behind it, or else at its key's first change after the last instant.
+/// Returns when the version of an event ends: at the event behind it, or else at its key's first
+/// change after the last instant.
 fn end_of(view: &View, last: Instant, event: &Event, behind: &[SharedEvent]) -> Option<Instant>
     ensures { result ≡ end_of (events view.now) last event.now behind.now }
 {
@@ -80,7 +81,7 @@ fn end_of(view: &View, last: Instant, event: &Event, behind: &[SharedEvent]) -> 
     }
 }
 
-/// The instant of the first of the events, where it is of the same key.
+/// Returns the instant of the first of the events, where it is of the same key.
 fn next_of(event: &Event, behind: &[SharedEvent]) -> Option<Instant>
     ensures { result ≡ next_of event.now behind.now }
 {
