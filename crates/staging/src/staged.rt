@@ -124,8 +124,8 @@ impl Staged {
         }
     }
 
-    /// Tells whether the transaction sees a row of a key: what it wrote, or else what the view has at
-    /// an instant.
+    /// Tells whether the transaction sees a row of a key: what it wrote, or else what the view has
+    /// at an instant.
     fn sees(&self, view: &View, last: Instant, key: &Key) -> Mem<bool>
         requires { IsShortKey key.now }
         ensures ok { IfOk result (λ b. b ≡ sees (events view.now) last self.now key.now) }
@@ -292,8 +292,8 @@ fn put_entry(rows: &mut BTreeMap<Key, Row>, entry: Option<(Key, Row)>) -> Result
     Ok(())
 }
 
-/// Puts what was written over rows, as far as the keys take it: of the writes, which are in order by
-/// key, those are looked at that the first key column can have.
+/// Puts what was written over rows, as far as the keys take it: of the writes, which are in order
+/// by key, those are looked at that the first key column can have.
 fn put_taken(
     alloc: Global,
     table: &Table,
@@ -349,8 +349,8 @@ fn has_row(alloc: Global, view: &View, instant: Instant, key: &Key) -> Mem<bool>
         ≡ is_some (row_until (events view.now) (bytes_of_key key.now) instant)) }
     ensures err { OnlyMemory result }
 {
-    let row = committed_row(alloc, view, instant, key)?;
-    Ok(row.is_some())
+    let bytes = key_bytes(alloc, key)?;
+    view.has_row(&bytes, instant)
 }
 
 fn net_of(

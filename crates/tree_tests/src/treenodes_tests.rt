@@ -8,7 +8,7 @@ use crate::tree::{grow_by, leaf, pack_at, split_root_at, time_split};
 use std::alloc::Global;
 use std::process::Abort;
 use treenodes::{Nodes, Slot, can_split_key, leaf_at, way, with_keys_split};
-use treewalk::row_in;
+use treewalk::{has_row_in, row_in};
 use values::{Instant, KeyBytes};
 
 /// The root with a row of key 1 from 100 on, and one of key 2 from 200 on.
@@ -64,7 +64,8 @@ fn three_parts(rt: &impl Abort, alloc: Global) -> Nodes
     }
 }
 
-/// The data node of two rows split at 150, below a new root, and again at 200: nodes 1 and 2 are of history.
+/// The data node of two rows split at 150, below a new root, and again at 200: nodes 1 and 2 are of
+/// history.
 fn two_of_history(rt: &impl Abort, alloc: Global) -> Nodes
     ensures { IsTree result }
 {
@@ -92,8 +93,10 @@ fn has_row(rt: &impl Abort, alloc: Global, nodes: &Nodes, number: u8, at: Instan
     let key = key(rt, alloc, number);
     let (leaf, _visits) = leaf_at(nodes, &key, at);
     let slot = nodes.get(leaf).expect(rt, "there is such a node");
-    let row = row_in(alloc, slot.child(), &key, at);
-    row.expect(rt, "there is memory").is_some()
+    let row = row_in(alloc, slot.child(), &key, at).expect(rt, "there is memory");
+    let is_there = has_row_in(alloc, slot.child(), &key, at).expect(rt, "there is memory");
+    assert!(rt; is_there == row.is_some());
+    is_there
 }
 
 /// How many nodes the tree of two rows has, and whether a key has a row at an instant.
@@ -126,8 +129,8 @@ fn share(rt: &impl Abort, nodes: &Nodes) -> Nodes
     share
 }
 
-/// How many nodes a share of the tree of two rows has, and how many the tree that is split thereafter, if key 2 has a
-/// row in both.
+/// How many nodes a share of the tree of two rows has, and how many the tree that is split
+/// thereafter, if key 2 has a row in both.
 fn counts_of_both(rt: &impl Abort, alloc: Global) -> Option<(usize, usize)> {
     let nodes = two_rows(rt, alloc);
     let before = share(rt, &nodes);
@@ -144,7 +147,8 @@ fn a_share_keeps_its_nodes(rt: HostRuntime) {
     assert!(rt; counts_of_both(&rt, rt.alloc()) == Some((1, 3)));
 }
 
-/// The number of the data node of a key at an instant, and how many nodes lead to it, in the tree of two halves.
+/// The number of the data node of a key at an instant, and how many nodes lead to it, in the tree
+/// of two halves.
 fn place_in_halves(rt: &impl Abort, alloc: Global, number: u8, at: Instant) -> (usize, usize)
     requires { 1 ≤ at }
 {
@@ -190,7 +194,8 @@ fn start(slot: Option<&Slot>) -> Instant {
     }
 }
 
-/// When the first unpacked node of history starts, and when the next one does; 0 where there is none.
+/// When the first unpacked node of history starts, and when the next one does; 0 where there is
+/// none.
 fn first_starts(nodes: &Nodes) -> (Instant, Instant) {
     match nodes.first_unpacked(None) {
         None => (0, 0),
@@ -242,7 +247,8 @@ fn a_row_is_read_off_the_block_of_its_node(rt: HostRuntime) {
     }
 }
 
-/// When the first unpacked nodes start of a share, and of the nodes of which one was packed thereafter.
+/// When the first unpacked nodes start of a share, and of the nodes of which one was packed
+/// thereafter.
 fn starts_of_both(rt: &impl Abort, alloc: Global) -> (Instant, Instant) {
     let nodes = two_of_history(rt, alloc);
     let before = share(rt, &nodes);

@@ -40,7 +40,7 @@ pub(crate) fn leaf_of(nodes: &Nodes, number: usize) -> &Child
     nodes.at(number).child()
 }
 
-/// A key's row at an instant, as a data node has it.
+/// Returns a key's row at an instant, as a data node has it.
 pub fn row_in(alloc: Global, child: &Child, key: &KeyBytes, instant: Instant) -> Mem<Option<Row>>
     ensures ok { IfOk result (λ row. row ≡ row_until (node_in child.now).events key.now instant) }
     ensures err { OnlyMemory result }
@@ -49,6 +49,20 @@ pub fn row_in(alloc: Global, child: &Child, key: &KeyBytes, instant: Instant) ->
         Child::Data(node) => Ok(copy_of(node.at(key, instant))?),
         Child::Packed(block) => block.at(alloc, key, instant),
         Child::Index(_) => Ok(None),
+    }
+}
+
+/// Tells whether a key has a row at an instant, as a data node has it. Of a node no row is made, of
+/// a block one.
+pub fn has_row_in(alloc: Global, child: &Child, key: &KeyBytes, instant: Instant) -> Mem<bool>
+    ensures ok { IfOk result (λ b. b
+        ≡ is_some (row_until (node_in child.now).events key.now instant)) }
+    ensures err { OnlyMemory result }
+{
+    match child {
+        Child::Data(node) => Ok(node.at(key, instant).is_some()),
+        Child::Packed(block) => Ok(block.at(alloc, key, instant)?.is_some()),
+        Child::Index(_) => Ok(false),
     }
 }
 

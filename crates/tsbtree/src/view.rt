@@ -1,5 +1,5 @@
 //! What was committed until an instant.
-ghost use Rattle.std.specs.Prelude.{◌≡◌, ◌↔◌, ◌≤◌, All, IfOk, IfSome, IsTrue, MatchOption, option_copied};
+ghost use Rattle.std.specs.Prelude.{◌≡◌, ◌↔◌, ◌≤◌, All, IfOk, IfSome, IsTrue, MatchOption, is_some, option_copied};
 ghost use Rattle.std.specs.List.Sorted.{IsStrictlySortedBy};
 ghost use Rattle.values.specs.Commits.{max_instant};
 ghost use Rattle.values.specs.Events.{event_cmp, row_until, event_since};
@@ -26,10 +26,13 @@ use keyrange::{KeyRange, Rect};
 use std::alloc::Global;
 use std::marker::Model;
 use treenodes::{Child, Nodes, leaf_at};
-use treewalk::{Shape, changed_since, events, next_change, row_in, standing, tree_shape};
+use treewalk::{
+    Shape, changed_since, events, has_row_in, next_change, row_in, standing, tree_shape,
+};
 use values::{Instant, KeyBytes, Mem, Row, SharedEvent};
 
-/// The nodes of a tree as they were at one time. A view never changes; what it holds is shared with the tree.
+/// The nodes of a tree as they were at one time. A view never changes; what it holds is shared with
+/// the tree.
 #[derive(Drop)]
 pub struct View {
     alloc: Global,
@@ -108,8 +111,8 @@ impl View {
         self.nodes.is_same(&other.nodes)
     }
 
-    /// Returns a key's row at an instant, which is that of its last event at the instant or before it, and how many nodes
-    /// were visited. `Memory` where it runs out.
+    /// Returns a key's row at an instant, which is that of its last event at the instant or before
+    /// it, and how many nodes were visited. `Memory` where it runs out.
     pub fn get(&self, key: &KeyBytes, instant: Instant) -> Mem<(Option<Row>, usize)>
         ensures row { IfOk result (λ found. found.0 ≡ row_until (events self.now) key.now instant) }
         ensures visits { IfOk result (λ found. found.1 ≡ visits self.now instant) }
@@ -124,6 +127,22 @@ impl View {
         Ok((row, visits))
     }
 
+    /// Tells whether a key has a row at an instant. Of a node no row is made, of a block one.
+    /// `Memory` where it runs out.
+    pub fn has_row(&self, key: &KeyBytes, instant: Instant) -> Mem<bool>
+        ensures ok { IfOk result (λ b. b
+            ≡ is_some (row_until (events self.now) key.now instant)) }
+        ensures err { OnlyMemory result }
+    {
+        let nodes = self.nodes();
+        if instant == 0 {
+            return Ok(false);
+        }
+        let (number, _visits) = leaf_at(nodes, key, instant);
+        let is_there = has_row_in(self.alloc, nodes.at(number).child(), key, instant)?;
+        Ok(is_there)
+    }
+
     /// Returns the instant of a key's last event above `start`, if there is one.
     pub fn changed_since(&self, key: &KeyBytes, start: Instant) -> Option<Instant>
         ensures { result ≡ event_since (events self.now) start key.now }
@@ -131,16 +150,16 @@ impl View {
         changed_since(&self.nodes, key, start)
     }
 
-    /// Returns the instant of a key's first event above `after`, if there is one: there ends what holds at `after`. It
-    /// takes no memory.
+    /// Returns the instant of a key's first event above `after`, if there is one: there ends what
+    /// holds at `after`. It takes no memory.
     pub fn next_change(&self, key: &KeyBytes, after: Instant) -> Option<Instant>
         ensures { result ≡ event_after (events self.now) after key.now }
     {
         next_change(&self.nodes, key, after)
     }
 
-    /// Lists the events of a range of keys, from an instant to another and with it, by key and then by instant. Each block
-    /// that is in question is read in place. `Memory` where it runs out.
+    /// Lists the events of a range of keys, from an instant to another and with it, by key and then
+    /// by instant. Each block that is in question is read in place. `Memory` where it runs out.
     pub fn events(
         &self,
         alloc: Global,
@@ -155,7 +174,8 @@ impl View {
         self.events_with(alloc, &mut InPlace::new(alloc), range, from, to)
     }
 
-    /// Lists events like [`View::events`], where the events of blocks are given. `Memory` where it runs out.
+    /// Lists events like [`View::events`], where the events of blocks are given. `Memory` where it
+    /// runs out.
     pub fn events_with<B: Blocks>(
         &self,
         alloc: Global,
@@ -171,8 +191,8 @@ impl View {
         events(alloc, blocks, &self.nodes, range, from, to)
     }
 
-    /// Lists by key, of each key of a range, the event that shows its row at an instant, where it has one. Each block that
-    /// is in question is read in place. `Memory` where it runs out.
+    /// Lists by key, of each key of a range, the event that shows its row at an instant, where it
+    /// has one. Each block that is in question is read in place. `Memory` where it runs out.
     pub fn standing(
         &self,
         alloc: Global,
@@ -188,7 +208,8 @@ impl View {
         self.standing_with(alloc, &mut InPlace::new(alloc), range, instant)
     }
 
-    /// Lists rows like [`View::standing`], where the events of blocks are given. `Memory` where it runs out.
+    /// Lists rows like [`View::standing`], where the events of blocks are given. `Memory` where it
+    /// runs out.
     pub fn standing_with<B: Blocks>(
         &self,
         alloc: Global,
@@ -205,7 +226,8 @@ impl View {
         standing(alloc, blocks, &self.nodes, range, instant)
     }
 
-    /// Lists each node once: its level, its rectangle, and how much it holds. `Memory` where it runs out.
+    /// Lists each node once: its level, its rectangle, and how much it holds. `Memory` where it
+    /// runs out.
     pub fn shape(&self, alloc: Global) -> Mem<Shape>
         ensures ok { IfOk result (λ s. IsShapeOf self.now.nodes s.nodes.items) }
         ensures err { OnlyMemory result }
@@ -213,7 +235,8 @@ impl View {
         tree_shape(alloc, &self.nodes)
     }
 
-    /// Returns the data node whose rectangle has the point of a key and an instant: as it is, or its block.
+    /// Returns the data node whose rectangle has the point of a key and an instant: as it is, or
+    /// its block.
     pub fn leaf(&self, key: &KeyBytes, instant: Instant) -> &Child
         requires { 1 ≤ instant }
         ensures { IsLeafOf self.now key.now instant result.now }
@@ -222,8 +245,9 @@ impl View {
         self.nodes.at(number).child()
     }
 
-    /// Returns the first data node of history that is not packed: by the start of its time, then by its lower key. After a
-    /// rectangle it is the first that comes behind that one. No two data nodes start at one point. It takes no memory.
+    /// Returns the first data node of history that is not packed: by the start of its time, then by
+    /// its lower key. After a rectangle it is the first that comes behind that one. No two data
+    /// nodes start at one point. It takes no memory.
     pub fn first_unpacked(&self, after: Option<&Rect>) -> Option<&DataNode>
         ensures first { MatchOption result
             ((p : TreeNode) → IsWaiting self.now.nodes (option_copied after.entry) p → ⊥)

@@ -36,8 +36,10 @@ pub(crate) fn number_in_row(
     number: u8,
     at: Instant,
 ) -> (Option<i64>, usize) {
-    let found = view.get(&key(rt, alloc, number), at);
-    let (row, visits) = found.expect(rt, "there is memory");
+    let key = key(rt, alloc, number);
+    let (row, visits) = view.get(&key, at).expect(rt, "there is memory");
+    let is_there = view.has_row(&key, at).expect(rt, "there is memory");
+    assert!(rt; is_there == row.is_some());
     (number_in(row.as_ref()), visits)
 }
 
@@ -48,8 +50,8 @@ fn number_in(row: Option<&Row>) -> Option<i64> {
     }
 }
 
-/// The number in a key's row at an instant, when the key was last changed after it and when it is next, how many events
-/// there are from it on, and how many rows stand.
+/// The number in a key's row at an instant, when the key was last changed after it and when it is
+/// next, how many events there are from it on, and how many rows stand.
 pub(crate) type Answers = (Option<i64>, Option<Instant>, Option<Instant>, usize, usize);
 
 pub(crate) fn answers(
