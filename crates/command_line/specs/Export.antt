@@ -8,10 +8,10 @@ use Rattle.values.specs.declared.query.Shown.{Shown}
 use Rattle.values.specs.declared.query.Form.TheVariants.{Between}
 use Rattle.values.specs.Names.{table_number}
 use Rattle.values.specs.Tables.{Schema, table_at}
-use Rattle.histories.specs.declared.step.Step.{Step}
-use Rattle.histories.specs.declared.step.Step.TheVariants.{Select}
-use Rattle.histories.specs.declared.step.Listing.TheVariants.{Periods}
-use Rattle.histories.specs.declared.step.Reply.TheVariants.{Shown as Shows}
+use Rattle.steps.specs.declared.step.Step.{Step}
+use Rattle.steps.specs.declared.step.Step.TheVariants.{Select}
+use Rattle.steps.specs.declared.step.Listing.TheVariants.{Periods}
+use Rattle.steps.specs.declared.step.Reply.TheVariants.{Shown as Shows}
 use Rattle.histories.specs.History.{History, reply}
 use Rattle.statement.specs.Writer.{AppendsPrefix}
 use Rattle.interchange.specs.Version.{export_text}

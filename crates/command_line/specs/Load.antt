@@ -8,8 +8,8 @@ use Rattle.values.specs.declared.refusal.Refusal.TheVariants.{NoTable, Memory as
 use Rattle.values.specs.Log.{Row, last}
 use Rattle.values.specs.Names.{table_number}
 use Rattle.values.specs.Tables.{Schema, IsTable, table_at}
-use Rattle.histories.specs.declared.step.Step.{Step}
-use Rattle.histories.specs.declared.step.Step.TheVariants.{Begin, Insert, Commit}
+use Rattle.steps.specs.declared.step.Step.{Step}
+use Rattle.steps.specs.declared.step.Step.TheVariants.{Begin, Insert, Commit}
 use Rattle.histories.specs.History.{History, log}
 use Rattle.statement.specs.Writer.{AppendsPrefix}
 use Rattle.interleaving.specs.SystemState.{SystemState, Stands}

@@ -5,7 +5,7 @@ use Rattle.clap.specs.Words.{App, IsAmong, Kinds, Rule, Text, fault_of, first_of
 use Rattle.clap.specs.declared.parser.matches.Found.{Found}
 use Rattle.clap.specs.declared.error.kind.ErrorKind.{ErrorKind}
 use Rattle.clap.specs.declared.error.kind.ErrorKind.TheVariants as kind
-use Rattle.histories.specs.Misfit.{max_session}
+use Rattle.steps.specs.Misfit.{max_session}
 use Rattle.statement.specs.Literal.{digits_here}
 use Rattle.interchange.specs.Field.{whole}
 use Rattle.command_line.specs.declared.options.Options.{Options}

@@ -2,8 +2,8 @@
 ghost use Rattle.std.specs.Prelude.{◌≡◌, IfOk, IfErr, OnOk, option_map};
 ghost use Rattle.std.specs.Io.KnownBytes.{Appends};
 ghost use Rattle.histories.specs.History.{History, reply};
-ghost use Rattle.histories.specs.declared.step.Listing.TheVariants.{Periods};
-ghost use Rattle.histories.specs.declared.step.Reply.TheVariants.{Shown as Shows};
+ghost use Rattle.steps.specs.declared.step.Listing.TheVariants.{Periods};
+ghost use Rattle.steps.specs.declared.step.Reply.TheVariants.{Shown as Shows};
 ghost use Rattle.interchange.specs.Version.{export_text};
 ghost use Rattle.interleaving.specs.SystemState.{Stands};
 ghost use Rattle.listening.specs.Server.{IsExportOf};
@@ -12,12 +12,12 @@ ghost use Rattle.command_line.specs.Export.{Exports, HasExported, IsOfWriting, I
 
 use crate::fault::{Fault, export_fault};
 use crate::output::flush;
-use histories::{Listing, Reply, Step};
 use interchange::export;
 use interleaving::System;
-use rows::{Form, Keys, MAX_INSTANT, Schema, Shown, ShownRows, Table};
 use std::alloc::Global;
 use std::io::Write;
+use steps::{Listing, Reply, Step};
+use values::{Form, Keys, MAX_INSTANT, Schema, Shown, ShownRows, Table};
 
 /// Returns the number of the table that is to be exported, if one is. `NoExport` if no table has
 /// the name.

@@ -5,11 +5,12 @@ ghost use Rattle.command_line.specs.Fault.{is_of_words, of_export, of_load, of_r
 use crate::options::WordsFault;
 use interchange::ExportFault;
 use listening::{ListenFault, ServerFault};
-use rows::{Refusal, SchemaFault};
+use rows::SchemaFault;
 use scripts::RunFault;
 use statement::print_refusal;
 use std::io::Write;
 use thiserror::Error;
+use values::Refusal;
 
 /// A fault of a stream, of a file, of a socket, of a schema, of a load, of an export or of memory.
 pub const FAULT: u8 = 1;

@@ -16,17 +16,17 @@ ghost use Rattle.command_line.specs.Load.{IsLed, IsNamed, FileSays, HasNoRows, I
 
 use crate::fault::{Fault, load_fault};
 use crate::output::print;
-use histories::Step;
 use interchange::{load_rows, loaded_line};
 use interleaving::System;
 use listening::TableRows;
-use rows::{Instant, Mem, Refusal, Row, Rows, Schema, Table};
 use scripts::lead;
 use std::alloc::Global;
 use std::fs::File;
 use std::io;
 use std::io::{ErrorKind, Read, Write};
 use std::rt::Files;
+use steps::Step;
+use values::{Instant, Mem, Refusal, Row, Rows, Schema, Table};
 
 /// Returns the table's name in the text of `--load`, up to the first `=`.
 fn name_of(text: &str) -> &str

@@ -5,10 +5,10 @@ ghost use Rattle.command_line.specs.Options.{Gives, HasFile, Reads, Refuses, bar
 
 use clap::error::ErrorKind;
 use clap::{Arg, ArgMatches, Command};
-use histories::MAX_SESSION;
 use interchange::whole_within;
 use std::alloc::{AllocError, Global};
 use std::convert::AsStr;
+use steps::MAX_SESSION;
 use thiserror::Error;
 
 /// The program's version, for `--version`.

@@ -20,7 +20,6 @@ use crate::server::run_server;
 use clap::error::ErrorKind;
 use interleaving::System;
 use listening::Plan;
-use rows::Schema;
 use scripts::{RunFault, run_script_in};
 use std::alloc::Global;
 use std::convert::AsStr;
@@ -31,6 +30,7 @@ use std::rt::Files;
 use std::sync::Wait;
 use std::thread::Threads;
 use std::time::Clock;
+use values::Schema;
 
 /// The status if all was done. Refused lines are replies, not faults.
 pub const DONE: u8 = 0;

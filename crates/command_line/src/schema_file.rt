@@ -6,11 +6,12 @@ ghost use Rattle.command_line.specs.Fault.{is_of_words};
 ghost use Rattle.command_line.specs.Program.{IsSchemaOf, IsOfSchema};
 
 use crate::fault::{Fault, schema_fault};
-use rows::{LONGEST_SCHEMA, ReadSchema, Schema};
+use rows::{LONGEST_SCHEMA, ReadSchema};
 use std::fs::File;
 use std::io;
 use std::io::{ErrorKind, Read};
 use std::rt::Files;
+use values::Schema;
 
 /// The bytes of a schema file that are read: one more than a schema may have, which shows that it
 /// is too long.

@@ -6,13 +6,13 @@ ghost use Rattle.command_line.specs.Server.{HaltsServing, HasServedAll, IsFirst,
 use crate::fault::{Fault, server_fault};
 use crate::load::rows_for;
 use listening::{Plan, TableRows, serve};
-use rows::Schema;
 use std::io::{Read, Write};
 use std::net::{Net, TcpListener, TcpStream};
 use std::rt::Files;
 use std::sync::Wait;
 use std::thread::Threads;
 use std::time::Clock;
+use values::Schema;
 
 /// Reads the rows that are loaded before the first connection, if a file is named.
 fn first_of<R: AllocGlobal + Files>(

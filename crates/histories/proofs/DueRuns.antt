@@ -5,13 +5,14 @@ use Rattle.std.specs.List.{list_all}
 use Rattle.values.specs.Tables.{Schema}
 use Rattle.values.specs.declared.refusal.Refusal.{Refusal}
 use Rattle.values.specs.declared.refusal.Refusal.TheVariants.{Memory, Syntax, NoTable, BadRow, NoTransaction, InTransaction, DuplicateKey, Conflict, ClockEnd, TooManyWrites, NoSession, LineTooLong, JournalFull, Overlap, BadPeriod, TransactionsOpen}
-use Rattle.histories.specs.declared.step.Step.{Step}
-use Rattle.histories.specs.declared.step.Reply.{Reply}
-use Rattle.histories.specs.declared.step.Reply.TheVariants.{Begun, Inserted, Updated, Deleted, Shown, Committed, RolledBack, Done, Refused}
+use Rattle.steps.specs.declared.step.Step.{Step}
+use Rattle.steps.specs.declared.step.Reply.{Reply}
+use Rattle.steps.specs.declared.step.Reply.TheVariants.{Begun, Inserted, Updated, Deleted, Shown, Committed, RolledBack, Done, Refused}
 use Rattle.histories.specs.History.{History, reply, replies}
 use Rattle.histories.specs.World.{World}
 use Rattle.histories.specs.Stands.{Stands}
-use Rattle.histories.specs.Memory.{is_memory, is_out_of_memory, takes_no_memory, takes_no_memory_after}
+use Rattle.steps.specs.Reply.{is_memory, is_out_of_memory}
+use Rattle.histories.specs.Memory.{takes_no_memory, takes_no_memory_after}
 use Rattle.histories.specs.Due.{AllAnswered, due, is_out_where_taken, OutWhereTaken}
 use Rattle.histories.proofs.Memory.{memory_is_taken_alike}
 

@@ -11,8 +11,8 @@ use Rattle.values.specs.declared.query.Form.TheVariants.{AsOf}
 use Rattle.values.specs.Commits.{conflicts, outcome, log_after, after, max_instant}
 use Rattle.values.proofs.LawAsOf.{as_of_stays}
 use Rattle.values.proofs.LogPush.{Rises-push}
-use Rattle.histories.specs.declared.step.Step.{Step}
-use Rattle.histories.specs.declared.step.Step.TheVariants.{Begin, Insert, Update, Delete, Select, Commit, Rollback, SplitKey, SplitTime, Migrate}
+use Rattle.steps.specs.declared.step.Step.{Step}
+use Rattle.steps.specs.declared.step.Step.TheVariants.{Begin, Insert, Update, Delete, Select, Commit, Rollback, SplitKey, SplitTime, Migrate}
 use Rattle.histories.specs.History.{History, log, log_at_begin, own, net_change_of}
 use Rattle.histories.specs.Law.{LogsRise, LaterStepsAdd, PastStays}
 

@@ -10,11 +10,13 @@ use Rattle.values.specs.Log.{Log, last, changes}
 use Rattle.values.specs.Tables.{table_at}
 use Rattle.values.specs.Writes.{Own}
 use Rattle.values.specs.Commits.{after}
-use Rattle.histories.specs.declared.step.Step.{Step}
-use Rattle.histories.specs.declared.step.Step.TheVariants.{Begin, Insert, Update, Delete, Select, Commit, Rollback, SplitKey, SplitTime, Migrate}
-use Rattle.histories.specs.declared.step.Reply.TheVariants.{Refused}
-use Rattle.histories.specs.Misfit.{max_session, misfit, misfit_of, bad_row, no_session}
-use Rattle.histories.specs.History.{History, log, log_at_begin, own, own_of, write, written_reply, write_reply, is_write_of, is_refused, ends, begins, net_change_of}
+use Rattle.steps.specs.declared.step.Step.{Step}
+use Rattle.steps.specs.declared.step.Step.TheVariants.{Begin, Insert, Update, Delete, Select, Commit, Rollback, SplitKey, SplitTime, Migrate}
+use Rattle.steps.specs.declared.step.Reply.TheVariants.{Refused}
+use Rattle.steps.specs.Misfit.{max_session, misfit, misfit_of, bad_row, no_session}
+use Rattle.histories.specs.History.{History, log, log_at_begin, own, own_of, ends, begins, net_change_of}
+use Rattle.steps.specs.Write.{write, is_write_of}
+use Rattle.steps.specs.Reply.{written_reply, write_reply, is_refused}
 use Rattle.histories.specs.World.{World}
 use Rattle.histories.specs.Stands.{Stands, open_in, open_from}
 

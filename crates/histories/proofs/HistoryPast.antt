@@ -9,10 +9,11 @@ use Rattle.values.specs.Tables.{Schema}
 use Rattle.values.specs.Log.{Log, last, upto, replay, changes}
 use Rattle.values.specs.Law.{IsLog, shown_rows}
 use Rattle.values.proofs.LawAsOf.{as_of_shows_state, Rises-upto, upto-append}
-use Rattle.histories.specs.Misfit.{max_session}
-use Rattle.histories.specs.declared.step.Step.{Step}
-use Rattle.histories.specs.declared.step.Listing.TheVariants.{Rows}
-use Rattle.histories.specs.History.{History, log, log_at_begin, snap, snap_of, rows_taken}
+use Rattle.steps.specs.Misfit.{max_session}
+use Rattle.steps.specs.declared.step.Step.{Step}
+use Rattle.steps.specs.declared.step.Listing.TheVariants.{Rows}
+use Rattle.histories.specs.History.{History, log, log_at_begin, snap, snap_of}
+use Rattle.steps.specs.Listing.{rows_taken}
 use Rattle.histories.specs.Law.{PastIsReadAlike, PastIsAnsweredAlike}
 use Rattle.histories.proofs.HistoryGrowth.{log_rises, later_steps_add}
 use Rattle.histories.proofs.HistoryPrefixes.{opened_below}

@@ -15,14 +15,15 @@ use Rattle.values.specs.Versions.{answer}
 use Rattle.values.specs.Law.{IsLog}
 use Rattle.values.proofs.LawAsOf.{Rises-front, upto-append}
 use Rattle.values.proofs.LogPush.{upto_all}
-use Rattle.histories.specs.declared.step.Step.{Step}
-use Rattle.histories.specs.declared.step.Step.TheVariants.{Begin, Insert, Update, Delete, Select, Commit, Rollback, SplitKey, SplitTime, Migrate}
-use Rattle.histories.specs.declared.step.Listing.{Listing}
-use Rattle.histories.specs.declared.step.Listing.TheVariants.{Rows, Periods}
-use Rattle.histories.specs.declared.step.Reply.{Reply}
-use Rattle.histories.specs.declared.step.Reply.TheVariants.{Refused, Shown as Shows}
-use Rattle.histories.specs.Misfit.{max_session, bad_row}
-use Rattle.histories.specs.History.{History, ends, begins, log, log_at_begin, own, snap_of, rewrite_all, rows_taken, rows_of, listing}
+use Rattle.steps.specs.declared.step.Step.{Step}
+use Rattle.steps.specs.declared.step.Step.TheVariants.{Begin, Insert, Update, Delete, Select, Commit, Rollback, SplitKey, SplitTime, Migrate}
+use Rattle.steps.specs.declared.step.Listing.{Listing}
+use Rattle.steps.specs.declared.step.Listing.TheVariants.{Rows, Periods}
+use Rattle.steps.specs.declared.step.Reply.{Reply}
+use Rattle.steps.specs.declared.step.Reply.TheVariants.{Refused, Shown as Shows}
+use Rattle.steps.specs.Misfit.{max_session, bad_row}
+use Rattle.histories.specs.History.{History, ends, begins, log, log_at_begin, own, snap_of, rewrite_all, listing}
+use Rattle.steps.specs.Listing.{rows_taken, rows_of}
 use Rattle.histories.specs.Law.{ReadsBySnapshot, SelectsBySnapshot}
 use Rattle.histories.proofs.HistoryGrowth.{log_rises}
 use Rattle.histories.proofs.HistoryPrefixes.{opened_prefix}

@@ -3,7 +3,6 @@ pub mod HistoryGrowth
 pub mod HistoryIdle
 pub mod Maintenance
 pub mod Memory
-pub mod MisfitKeys
 pub mod HistoryNow
 pub mod StandsOpen
 pub mod HistoryOpens
@@ -15,6 +14,5 @@ pub mod HistorySnapshots
 pub mod TurnReplies
 pub mod Winners
 pub mod WorldGrowth
-pub mod HistoryWritten
 pub mod TurnWrites
-pub mod Written
+pub mod TurnWritten

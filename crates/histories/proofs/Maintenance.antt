@@ -10,12 +10,14 @@ use Rattle.values.specs.Tables.{Schema, table_at}
 use Rattle.values.specs.Log.{last, upto, changes}
 use Rattle.values.specs.Versions.{answer}
 use Rattle.values.specs.Commits.{outcome, after}
-use Rattle.histories.specs.declared.step.Step.{Step}
-use Rattle.histories.specs.declared.step.Step.TheVariants.{Begin, Insert, Update, Delete, Select, Commit, Rollback, SplitKey, SplitTime, Migrate}
-use Rattle.histories.specs.declared.step.Listing.TheVariants.{Rows, Periods}
-use Rattle.histories.specs.declared.step.Reply.TheVariants.{Begun, RolledBack, Refused, Shown as Shows}
-use Rattle.histories.specs.Misfit.{misfit}
-use Rattle.histories.specs.History.{History, log, log_at_begin, own, own_of, mine_of, snap_of, net_change_of, is_kept, ends, begins, commit_reply, rows_taken, rows_of, write_reply, listing, reply, reply_in, replies}
+use Rattle.steps.specs.declared.step.Step.{Step}
+use Rattle.steps.specs.declared.step.Step.TheVariants.{Begin, Insert, Update, Delete, Select, Commit, Rollback, SplitKey, SplitTime, Migrate}
+use Rattle.steps.specs.declared.step.Listing.TheVariants.{Rows, Periods}
+use Rattle.steps.specs.declared.step.Reply.TheVariants.{Begun, RolledBack, Refused, Shown as Shows}
+use Rattle.steps.specs.Misfit.{misfit}
+use Rattle.histories.specs.History.{History, log, log_at_begin, own, own_of, mine_of, snap_of, net_change_of, is_kept, ends, begins, listing, reply, reply_in, replies}
+use Rattle.steps.specs.Reply.{commit_reply, write_reply}
+use Rattle.steps.specs.Listing.{rows_taken, rows_of}
 use Rattle.histories.specs.Maintenance.{is_maintenance, without_maintenance, with_maintenance, maintenance_reply}
 use Rattle.histories.specs.Law.{MaintenanceChangesNoReply, MaintenanceCommitsNothing}
 

@@ -4,11 +4,11 @@ use Rattle.std.specs.Prelude.{◌||◌, is_some, not}
 use Rattle.values.specs.declared.refusal.Refusal.{Refusal}
 use Rattle.values.specs.Tables.{Schema}
 use Rattle.values.specs.Log.{Log}
-use Rattle.histories.specs.declared.step.Step.{Step}
-use Rattle.histories.specs.declared.step.Step.TheVariants.{Begin, Insert, Update, Delete, Select, Commit, Rollback, SplitKey, SplitTime, Migrate}
-use Rattle.histories.specs.Misfit.{max_session, misfit}
+use Rattle.steps.specs.declared.step.Step.{Step}
+use Rattle.steps.specs.declared.step.Step.TheVariants.{Begin, Insert, Update, Delete, Select, Commit, Rollback, SplitKey, SplitTime, Migrate}
+use Rattle.steps.specs.Misfit.{max_session, misfit}
 use Rattle.histories.specs.History.{History, log, log_at_begin, own}
-use Rattle.histories.specs.Memory.{takes_no_memory_by}
+use Rattle.steps.specs.Reply.{takes_no_memory_by}
 use Rattle.histories.specs.TurnLaw.{MemoryIsTakenAlike}
 use Rattle.histories.specs.World.{World}
 use Rattle.histories.specs.Stands.{Stands, open_at, open_from}

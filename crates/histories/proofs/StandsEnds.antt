@@ -11,13 +11,14 @@ use Rattle.values.specs.declared.key.Key.{Key}
 use Rattle.values.specs.Log.{Log, Net, Changes, last, changes, add_net, state, row_at}
 use Rattle.values.specs.Commits.{outcome, after, log_after}
 use Rattle.values.proofs.LogPush.{add_all-push}
-use Rattle.histories.specs.Misfit.{max_session}
+use Rattle.steps.specs.Misfit.{max_session}
 use Rattle.histories.proofs.HistoryNow.{was_there_is}
-use Rattle.histories.specs.declared.step.Step.{Step}
-use Rattle.histories.specs.declared.step.Step.TheVariants.{Commit, Rollback}
-use Rattle.histories.specs.declared.step.Reply.{Reply}
-use Rattle.histories.specs.declared.step.Reply.TheVariants.{Refused, RolledBack}
-use Rattle.histories.specs.History.{History, log, log_at_begin, own, reply_in, net, net_change_of, commit_reply, snap, snap_of, mine_of, written_of}
+use Rattle.steps.specs.declared.step.Step.{Step}
+use Rattle.steps.specs.declared.step.Step.TheVariants.{Commit, Rollback}
+use Rattle.steps.specs.declared.step.Reply.{Reply}
+use Rattle.steps.specs.declared.step.Reply.TheVariants.{Refused, RolledBack}
+use Rattle.histories.specs.History.{History, log, log_at_begin, own, reply_in, net, net_change_of, snap, snap_of, mine_of, written_of}
+use Rattle.steps.specs.Reply.{commit_reply}
 use Rattle.histories.specs.World.{OpenTransaction, World}
 use Rattle.histories.specs.Stands.{Stands, open_in, open_from, open_at}
 use Rattle.histories.specs.Turn.{put, Turn, rollback_turn, commit_turn, end_turn, net_in, was_there}

@@ -6,15 +6,16 @@ use Rattle.std.proofs.lemmas.List.{get_or-set_same, get_or-set_other}
 use Rattle.std.proofs.Math.ListN.{length-set}
 use Rattle.values.specs.Tables.{Schema}
 use Rattle.values.specs.Log.{Log, last, state}
-use Rattle.histories.specs.Misfit.{max_session}
+use Rattle.steps.specs.Misfit.{max_session}
 use Rattle.histories.proofs.HistoryNow.{rows_now}
 use Rattle.histories.proofs.HistoryGrowth.{log_rises}
-use Rattle.histories.specs.declared.step.Step.{Step}
-use Rattle.histories.specs.declared.step.Step.TheVariants.{Begin}
-use Rattle.histories.specs.declared.step.Reply.{Reply}
-use Rattle.histories.specs.declared.step.Reply.TheVariants.{Begun, Refused}
+use Rattle.steps.specs.declared.step.Step.{Step}
+use Rattle.steps.specs.declared.step.Step.TheVariants.{Begin}
+use Rattle.steps.specs.declared.step.Reply.{Reply}
+use Rattle.steps.specs.declared.step.Reply.TheVariants.{Begun, Refused}
 use Rattle.values.specs.declared.refusal.Refusal.TheVariants.{InTransaction}
-use Rattle.histories.specs.History.{History, log, log_at_begin, own, reply_in, ends, begins, is_write_of}
+use Rattle.histories.specs.History.{History, log, log_at_begin, own, reply_in, ends, begins}
+use Rattle.steps.specs.Write.{is_write_of}
 use Rattle.histories.specs.World.{OpenTransaction, World}
 use Rattle.histories.specs.Stands.{Stands, open_in, open_from, open_at}
 use Rattle.values.specs.Log.{rows_after}

@@ -10,13 +10,14 @@ use Rattle.values.specs.Law.{changes_upto}
 use Rattle.values.specs.Tables.{table_at}
 use Rattle.values.specs.Versions.{answer}
 use Rattle.values.proofs.LogUpto.{changes_upto_is}
-use Rattle.histories.specs.Misfit.{max_session}
-use Rattle.histories.specs.declared.step.Listing.TheVariants.{Rows, Periods}
-use Rattle.histories.specs.declared.step.Reply.{Reply}
-use Rattle.histories.specs.declared.step.Reply.TheVariants.{Refused, Shown}
-use Rattle.histories.specs.declared.step.Step.TheVariants.{Select}
+use Rattle.steps.specs.Misfit.{max_session}
+use Rattle.steps.specs.declared.step.Listing.TheVariants.{Rows, Periods}
+use Rattle.steps.specs.declared.step.Reply.{Reply}
+use Rattle.steps.specs.declared.step.Reply.TheVariants.{Refused, Shown}
+use Rattle.steps.specs.declared.step.Step.TheVariants.{Select}
 use Rattle.histories.specs.History as history
-use Rattle.histories.specs.History.{History, log, log_at_begin, own, snap, snap_of, rows_taken, rows_of, mine_of, reply_in}
+use Rattle.histories.specs.History.{History, log, log_at_begin, own, snap, snap_of, mine_of, reply_in}
+use Rattle.steps.specs.Listing.{rows_taken, rows_of}
 use Rattle.histories.specs.World.{OpenTransaction, World}
 use Rattle.histories.specs.Stands.{Stands, open_in, open_at, open_from}
 use Rattle.histories.specs.Turn.{start_of, listing, select_reply}

@@ -9,17 +9,19 @@ use Rattle.values.specs.declared.refusal.Refusal.TheVariants.{NoSession, NoTable
 use Rattle.values.specs.Log.{Net, Changes}
 use Rattle.values.specs.Tables.{table_at}
 use Rattle.values.specs.Commits.{conflicts, outcome, max_instant}
-use Rattle.histories.specs.declared.step.Step.{Step}
-use Rattle.histories.specs.declared.step.Step.TheVariants.{Begin, Insert, Update, Delete, Select, Commit, Rollback, SplitKey, SplitTime, Migrate}
-use Rattle.histories.specs.declared.step.Reply.{Reply}
-use Rattle.histories.specs.declared.step.Reply.TheVariants.{Begun, RolledBack, Refused}
-use Rattle.histories.specs.Misfit.{max_session, misfit, bad_row}
-use Rattle.histories.specs.History.{History, reply, reply_in, write, written_reply}
+use Rattle.steps.specs.declared.step.Step.{Step}
+use Rattle.steps.specs.declared.step.Step.TheVariants.{Begin, Insert, Update, Delete, Select, Commit, Rollback, SplitKey, SplitTime, Migrate}
+use Rattle.steps.specs.declared.step.Reply.{Reply}
+use Rattle.steps.specs.declared.step.Reply.TheVariants.{Begun, RolledBack, Refused}
+use Rattle.steps.specs.Misfit.{max_session, misfit, bad_row}
+use Rattle.histories.specs.History.{History, reply, reply_in}
+use Rattle.steps.specs.Write.{write}
+use Rattle.steps.specs.Reply.{written_reply}
 use Rattle.histories.specs.World.{OpenTransaction, World}
 use Rattle.histories.specs.Stands.{Stands, open_at}
 use Rattle.histories.specs.Turn.{put, Turn, turn, turn_in, end_turn, net_in, opened_now, own_in, with_own}
-use Rattle.histories.specs.Memory.{is_memory, is_out_of_memory}
-use Rattle.histories.proofs.HistoryWritten.{names_memory, write_is}
+use Rattle.steps.specs.Reply.{is_memory, is_out_of_memory}
+use Rattle.steps.proofs.WriteLeaves.{names_memory, write_is}
 use Rattle.histories.proofs.StandsOpen.{begin_answers}
 use Rattle.histories.proofs.StandsEnds.{rollback_answers, commit_answers}
 use Rattle.histories.proofs.TurnWrites.{insert_answers, update_answers, delete_answers}

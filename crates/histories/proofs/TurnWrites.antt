@@ -8,16 +8,18 @@ use Rattle.values.specs.declared.refusal.Refusal.TheVariants.{NoTransaction}
 use Rattle.values.specs.Tables.{Schema}
 use Rattle.values.specs.Log.{Log, Row, last, changes}
 use Rattle.values.specs.Writes.{Own}
-use Rattle.histories.specs.declared.step.Step.{Step}
-use Rattle.histories.specs.declared.step.Step.TheVariants.{Insert, Update, Delete}
-use Rattle.histories.specs.declared.step.Reply.{Reply}
-use Rattle.histories.specs.declared.step.Reply.TheVariants.{Refused}
-use Rattle.histories.specs.Misfit.{max_session, misfit}
-use Rattle.histories.specs.History.{History, log, log_at_begin, own, own_of, reply_in, seen_of, write, written_reply, write_reply, rewrite_all, is_write_of, is_refused, ends, begins}
+use Rattle.steps.specs.declared.step.Step.{Step}
+use Rattle.steps.specs.declared.step.Step.TheVariants.{Insert, Update, Delete}
+use Rattle.steps.specs.declared.step.Reply.{Reply}
+use Rattle.steps.specs.declared.step.Reply.TheVariants.{Refused}
+use Rattle.steps.specs.Misfit.{max_session, misfit}
+use Rattle.histories.specs.History.{History, log, log_at_begin, own, own_of, reply_in, seen_of, rewrite_all, ends, begins}
+use Rattle.steps.specs.Write.{write, is_write_of}
+use Rattle.steps.specs.Reply.{written_reply, write_reply, is_refused}
 use Rattle.histories.specs.World.{OpenTransaction, World}
 use Rattle.histories.specs.Stands.{Stands, open_in, open_from, open_at}
 use Rattle.histories.specs.Turn.{put, Turn, own_in, with_own, write_turn}
-use Rattle.histories.proofs.HistoryWritten.{is_err, write_is}
+use Rattle.steps.proofs.WriteLeaves.{is_err, write_is}
 use Rattle.histories.proofs.StandsEnds.{stands_put, stands_still, not_other, itself}
 
 rewrite_more : (schema : Schema) (own : List Step) (step : Step) (o : Own) → rewrite_all schema (own ++ step ∷ []) o ≡ (write schema step (rewrite_all schema own o)).1

@@ -20,7 +20,7 @@ use Rattle.values.specs.Log.{Log, Net, Row, Changes, last, changes, add_net, add
 use Rattle.values.specs.Commits.{changed_since, or_else, conflicts, outcome, log_after, after, max_instant}
 use Rattle.values.proofs.OrderTotal.{key_cmp_total, point_cmp-IsAntisymmetric}
 use Rattle.rows.proofs.SchemaPlaces.{Apart, apart_push, apart_no_two, each_to}
-use Rattle.histories.specs.declared.step.Step.TheVariants.{Begin, Insert, Update, Delete, Select, Commit, Rollback, SplitKey, SplitTime, Migrate}
+use Rattle.steps.specs.declared.step.Step.TheVariants.{Begin, Insert, Update, Delete, Select, Commit, Rollback, SplitKey, SplitTime, Migrate}
 use Rattle.histories.specs.History.{History, log, log_at_begin, net}
 use Rattle.histories.specs.Winners.{Winner, winners, winners_with, AreConcurrent, ShareAKey}
 use Rattle.histories.specs.Law.{FirstCommitterWins, LogIsOfWinners}

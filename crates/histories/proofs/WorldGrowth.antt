@@ -7,8 +7,8 @@ use Rattle.values.specs.declared.refusal.Refusal.{Refusal}
 use Rattle.values.specs.Tables.{Schema}
 use Rattle.values.specs.Log.{Log, Net, replay, last, last_from, upto, state, changes}
 use Rattle.values.specs.Commits.{outcome, log_after, after}
-use Rattle.histories.specs.declared.step.Step.{Step}
-use Rattle.histories.specs.declared.step.Step.TheVariants.{Commit}
+use Rattle.steps.specs.declared.step.Step.{Step}
+use Rattle.steps.specs.declared.step.Step.TheVariants.{Commit}
 use Rattle.histories.proofs.HistoryGrowth.{outcome_above}
 use Rattle.histories.proofs.HistoryPrefixes.{opened_below}
 use Rattle.histories.specs.Stands.{open_in, open_from}

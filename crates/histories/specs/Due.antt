@@ -2,10 +2,11 @@
 use Rattle.std.specs.Prelude.{◌≡◌, List, [], ◌∷◌, Bool, true, if◌then◌else◌, not, ◌&&◌}
 use Rattle.std.specs.List.{list_all}
 use Rattle.values.specs.Tables.{Schema}
-use Rattle.histories.specs.declared.step.Step.{Step}
-use Rattle.histories.specs.declared.step.Reply.{Reply}
+use Rattle.steps.specs.declared.step.Step.{Step}
+use Rattle.steps.specs.declared.step.Reply.{Reply}
 use Rattle.histories.specs.History.{History, reply, replies}
-use Rattle.histories.specs.Memory.{is_out_of_memory, takes_no_memory_after}
+use Rattle.steps.specs.Reply.{is_out_of_memory}
+use Rattle.histories.specs.Memory.{takes_no_memory_after}
 
 -- at none did memory run out
 abbrev pub AllAnswered : List Reply → Type 0

@@ -1,5 +1,5 @@
 -- What a list of steps comes to, and the reply to each.
-use Rattle.std.specs.Prelude.{ℕ, List, [], ◌∷◌, ◌++◌, ◌&&◌, Option, Some, None, Result, Ok, Err, Bool, true, false, filter, map, is_some, is_none, if◌then◌else◌, not, nat_le, ◌==◌}
+use Rattle.std.specs.Prelude.{ℕ, List, [], ◌∷◌, ◌++◌, ◌&&◌, Option, Some, None, Bool, true, false, is_some, is_none, if◌then◌else◌, not, nat_le, ◌==◌}
 use Rattle.values.specs.declared.key.Key.{Key}
 use Rattle.values.specs.declared.table.Table.{Table}
 use Rattle.values.specs.declared.query.Form.{Form}
@@ -9,17 +9,20 @@ use Rattle.values.specs.declared.query.Shown.{Shown}
 use Rattle.values.specs.declared.refusal.Refusal.{Refusal}
 use Rattle.values.specs.declared.refusal.Refusal.TheVariants.{NoTable, NoTransaction, InTransaction}
 use Rattle.values.specs.Tables.{Schema, table_at}
-use Rattle.values.specs.Log.{Log, State, Net, Row, last, upto, state, changes}
-use Rattle.values.specs.Versions.{matches, answer}
+use Rattle.values.specs.Log.{Log, State, Net, last, upto, state, changes}
+use Rattle.values.specs.Versions.{answer}
 use Rattle.values.specs.Commits.{outcome, after}
-use Rattle.values.specs.Writes.{Own, Written, insert_into, update_in, delete_from, net_of}
-use Rattle.histories.specs.declared.step.Step.{Step}
-use Rattle.histories.specs.declared.step.Step.TheVariants.{Begin, Insert, Update, Delete, Select, Commit, Rollback, SplitKey, SplitTime, Migrate}
-use Rattle.histories.specs.declared.step.Listing.{Listing}
-use Rattle.histories.specs.declared.step.Listing.TheVariants.{Rows, Periods}
-use Rattle.histories.specs.declared.step.Reply.{Reply}
-use Rattle.histories.specs.declared.step.Reply.TheVariants.{Begun, Inserted, Updated, Deleted, Shown as Shows, Committed, RolledBack, Done, Refused}
-use Rattle.histories.specs.Misfit.{max_session, misfit}
+use Rattle.values.specs.Writes.{Own, net_of}
+use Rattle.steps.specs.declared.step.Step.{Step}
+use Rattle.steps.specs.declared.step.Step.TheVariants.{Begin, Select, Commit, Rollback, SplitKey, SplitTime, Migrate}
+use Rattle.steps.specs.declared.step.Listing.{Listing}
+use Rattle.steps.specs.declared.step.Listing.TheVariants.{Rows, Periods}
+use Rattle.steps.specs.declared.step.Reply.{Reply}
+use Rattle.steps.specs.declared.step.Reply.TheVariants.{Begun, Shown as Shows, RolledBack, Done, Refused}
+use Rattle.steps.specs.Misfit.{max_session, misfit}
+use Rattle.steps.specs.Write.{write, writer, is_write_of}
+use Rattle.steps.specs.Reply.{commit_reply, is_refused, write_reply}
+use Rattle.steps.specs.Listing.{rows_of, rows_taken}
 
 -- the steps so far, the newest first
 abbrev pub History : Type 0
@@ -43,57 +46,10 @@ before_open i (step ∷ h) =
     else if begins i step then elim (before_open i h) [ Some g ↦ Some g | None ↦ Some h ]
     else before_open i h
 
--- a write of a table
-abbrev pub write_table : Schema → ℕ → (Table → Own → Written) → Own → Written
-write_table schema number write o = elim (table_at schema number) [
-  | None ↦ (Err NoTable, o)
-  | Some table ↦ write table o
-]
-
--- what a write answers, and what it leaves of its transaction's own rows and keys
-abbrev pub write : Schema → Step → Own → Written
-write schema (Insert i number rows) o =
-    write_table schema number (λ table. insert_into table rows) o
-write schema (Update i keys sets) o =
-    write_table schema keys.table (λ table. update_in table keys sets) o
-write schema (Delete i keys) o =
-    write_table schema keys.table (λ table. delete_from table keys) o
-write schema step o = (Ok 0, o)
-
 -- what writes leave, one after another
 abbrev pub rewrite_all : Schema → List Step → Own → Own
 rewrite_all schema [] o = o
 rewrite_all schema (step ∷ own) o = rewrite_all schema own (write schema step o).1
-
-abbrev pub write_count : Step → ℕ → Reply
-write_count (Insert i number rows) count = Inserted count
-write_count (Update i keys sets) count = Updated count
-write_count (Delete i keys) count = Deleted count
-write_count step count = Done
-
-abbrev pub written_reply : Step → Result ℕ Refusal → Reply
-written_reply step (Ok count) = write_count step count
-written_reply step (Err refusal) = Refused refusal
-
--- the reply to a write of an open transaction, by the rows that it sees and the keys that it wrote
-abbrev pub write_reply : Schema → Step → Own → Reply
-write_reply schema step o = elim (misfit schema step) [
-  | Some refusal ↦ Refused refusal
-  | None ↦ written_reply step (write schema step o).0
-]
-
-abbrev pub is_refused : Reply → Bool
-is_refused (Refused _) = true
-is_refused _ = false
-
-abbrev pub writer : Step → Option ℕ
-writer (Insert i number rows) = Some i
-writer (Update i keys sets) = Some i
-writer (Delete i keys) = Some i
-writer step = None
-
-abbrev pub is_write_of : ℕ → Step → Bool
-is_write_of i step = elim (writer step) [ Some j ↦ i == j | None ↦ false ]
 
 -- of an open transaction, by the log now, the log at its BEGIN, where one is open, and its writes
 -- so far
@@ -103,16 +59,6 @@ snap_of now (Some before) = last before
 
 abbrev pub seen_of : Log → Option Log → State
 seen_of now log_at_begin = state now (snap_of now log_at_begin)
-
-abbrev pub rows_taken : Table → Keys → State → List Row
-rows_taken table keys m = map (λ e. e.1) (filter (λ e. matches table keys e.0) m)
-
-abbrev pub rows_of : List Shown → List Row
-rows_of shown = map (λ s. s.row) shown
-
-abbrev pub commit_reply : Result (Option ℕ) Refusal → Reply
-commit_reply (Ok instant) = Committed instant
-commit_reply (Err refusal) = Refused refusal
 
 module _ (schema : Schema) where
   abbrev pub own_of : Log → Option Log → List Step → Own

@@ -9,12 +9,12 @@ use Rattle.rows.specs.GoodTable.{NoTwo}
 use Rattle.values.specs.declared.table.Table.{Table}
 use Rattle.values.specs.Log.{Log, last, changes}
 use Rattle.values.specs.Law.{IsLog, shown_rows}
-use Rattle.histories.specs.declared.step.Step.{Step}
-use Rattle.histories.specs.declared.step.Step.TheVariants.{Select}
-use Rattle.histories.specs.declared.step.Reply.{Reply}
+use Rattle.steps.specs.declared.step.Step.{Step}
+use Rattle.steps.specs.declared.step.Step.TheVariants.{Select}
+use Rattle.steps.specs.declared.step.Reply.{Reply}
 use Rattle.histories.specs.Due.{AllAnswered, due}
 use Rattle.histories.specs.Maintenance.{without_maintenance, with_maintenance}
-use Rattle.histories.specs.Misfit.{max_session}
+use Rattle.steps.specs.Misfit.{max_session}
 use Rattle.histories.specs.History.{History, before_open, log, log_at_begin, own, snap, listing, reply, replies}
 use Rattle.histories.specs.Winners.{winners, AreConcurrent, ShareAKey}
 

@@ -3,11 +3,9 @@ pub mod History
 pub mod Law
 pub mod Maintenance
 pub mod Memory
-pub mod Misfit
 pub mod Stands
 pub mod Turn
 pub mod TurnLaw
 pub mod Winners
 pub mod Worked
 pub mod World
-pub mod Written

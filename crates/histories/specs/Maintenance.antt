@@ -1,11 +1,11 @@
 -- Steps that split a node or pack nodes: they say nothing of rows.
 use Rattle.std.specs.Prelude.{List, [], ◌∷◌, Some, None, Bool, true, false, if◌then◌else◌, not, filter}
 use Rattle.values.specs.Tables.{Schema}
-use Rattle.histories.specs.declared.step.Step.{Step}
-use Rattle.histories.specs.declared.step.Step.TheVariants.{SplitKey, SplitTime, Migrate}
-use Rattle.histories.specs.declared.step.Reply.{Reply}
-use Rattle.histories.specs.declared.step.Reply.TheVariants.{Done, Refused}
-use Rattle.histories.specs.Misfit.{misfit}
+use Rattle.steps.specs.declared.step.Step.{Step}
+use Rattle.steps.specs.declared.step.Step.TheVariants.{SplitKey, SplitTime, Migrate}
+use Rattle.steps.specs.declared.step.Reply.{Reply}
+use Rattle.steps.specs.declared.step.Reply.TheVariants.{Done, Refused}
+use Rattle.steps.specs.Misfit.{misfit}
 
 abbrev pub is_maintenance : Step → Bool
 is_maintenance (SplitKey key) = true

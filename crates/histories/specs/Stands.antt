@@ -2,8 +2,8 @@
 use Rattle.std.specs.Prelude.{◌≡◌, ℕ, ◌≤◌, ◌+◌, List, Bool, Option, Some, None, is_some, slice_index_or, length}
 use Rattle.values.specs.Tables.{Schema}
 use Rattle.values.specs.Log.{Log, last, changes}
-use Rattle.histories.specs.declared.step.Step.{Step}
-use Rattle.histories.specs.Misfit.{max_session}
+use Rattle.steps.specs.declared.step.Step.{Step}
+use Rattle.steps.specs.Misfit.{max_session}
 use Rattle.histories.specs.History.{History, log, log_at_begin, own, mine_of, written_of}
 use Rattle.histories.specs.World.{OpenTransaction, World}
 

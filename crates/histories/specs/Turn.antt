@@ -16,14 +16,16 @@ use Rattle.values.specs.Tables.{table_at}
 use Rattle.values.specs.Versions.{answer}
 use Rattle.values.specs.Writes.{Own}
 use Rattle.values.specs.Commits.{outcome}
-use Rattle.histories.specs.declared.step.Step.{Step}
-use Rattle.histories.specs.declared.step.Step.TheVariants.{Begin, Insert, Update, Delete, Select, Commit, Rollback, SplitKey, SplitTime, Migrate}
-use Rattle.histories.specs.declared.step.Listing.{Listing}
-use Rattle.histories.specs.declared.step.Listing.TheVariants.{Rows, Periods}
-use Rattle.histories.specs.declared.step.Reply.{Reply}
-use Rattle.histories.specs.declared.step.Reply.TheVariants.{Begun, Shown, Committed, RolledBack, Done, Refused}
-use Rattle.histories.specs.Misfit.{misfit}
-use Rattle.histories.specs.History.{write, written_reply, rows_taken, rows_of}
+use Rattle.steps.specs.declared.step.Step.{Step}
+use Rattle.steps.specs.declared.step.Step.TheVariants.{Begin, Insert, Update, Delete, Select, Commit, Rollback, SplitKey, SplitTime, Migrate}
+use Rattle.steps.specs.declared.step.Listing.{Listing}
+use Rattle.steps.specs.declared.step.Listing.TheVariants.{Rows, Periods}
+use Rattle.steps.specs.declared.step.Reply.{Reply}
+use Rattle.steps.specs.declared.step.Reply.TheVariants.{Begun, Shown, Committed, RolledBack, Done, Refused}
+use Rattle.steps.specs.Misfit.{misfit}
+use Rattle.steps.specs.Write.{write}
+use Rattle.steps.specs.Reply.{written_reply}
+use Rattle.steps.specs.Listing.{rows_taken, rows_of}
 use Rattle.histories.specs.World.{OpenTransaction, World}
 use Rattle.histories.specs.Stands.{open_at}
 

@@ -1,6 +1,6 @@
 -- What turns amount to.
 use Rattle.std.specs.Prelude.{◌≡◌, ◌∷◌}
-use Rattle.histories.specs.declared.step.Step.{Step}
+use Rattle.steps.specs.declared.step.Step.{Step}
 use Rattle.histories.specs.History.{History, reply}
 use Rattle.histories.specs.Memory.{takes_no_memory, takes_no_memory_after}
 use Rattle.histories.specs.World.{World}

@@ -7,7 +7,7 @@ use Rattle.values.specs.declared.refusal.Refusal.{Refusal}
 use Rattle.values.specs.Tables.{Schema}
 use Rattle.values.specs.Log.{Log, Net, last, changes}
 use Rattle.values.specs.Commits.{outcome}
-use Rattle.histories.specs.declared.step.Step.TheVariants.{Commit}
+use Rattle.steps.specs.declared.step.Step.TheVariants.{Commit}
 use Rattle.histories.specs.History.{History, log, log_at_begin, net}
 
 -- a committed transaction, and the instant of its snapshot

@@ -1,9 +1,7 @@
-//! Steps, replies, what a history of steps comes to, and what contracts see of a system.
+//! What a history of steps comes to, and what contracts see of a system that takes steps.
 #![tactic(auto)]
 
 mod law;
-mod misfit;
-mod step;
 mod turn_law;
 
 pub use law::{
@@ -11,6 +9,4 @@ pub use law::{
     maintenance_changes_no_other_reply, opens_at_its_begin, past_stays,
     reads_depend_on_snapshot_and_own_writes, worked_examples_hold,
 };
-pub use misfit::{fit_keys, fit_write, key_misfit, no_session};
-pub use step::{Listing, MAX_SESSION, Reply, Step};
 pub use turn_law::{memory_is_taken_alike, turns_give_the_replies};

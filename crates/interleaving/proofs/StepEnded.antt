@@ -9,7 +9,7 @@ use Rattle.values.specs.Log.{Net}
 use Rattle.tsbtree.specs.View.{TreeState}
 use Rattle.staging.specs.View.{Adds}
 use Rattle.validation.specs.Split.{SplitsByNeed}
-use Rattle.histories.specs.declared.step.Step.TheVariants.{Commit}
+use Rattle.steps.specs.declared.step.Step.TheVariants.{Commit}
 use Rattle.interleaving.specs.StepLeaves.{SplitsAsReplied, leaves_all, may_change_tree}
 use Rattle.interleaving.proofs.SystemEnded.{end_reply}
 

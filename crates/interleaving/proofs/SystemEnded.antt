@@ -28,11 +28,11 @@ use Rattle.tsbtree.specs.View.{TreeState, events, last}
 use Rattle.staging.specs.View.{Holds, Adds}
 use Rattle.staging.specs.Own.{rows_seen, net_over}
 use Rattle.transaction.specs.OpenTransactionState.{OpenTransactionState}
-use Rattle.histories.specs.declared.step.Reply.{Reply}
-use Rattle.histories.specs.declared.step.Reply.TheVariants.{Committed as Commits, Refused}
+use Rattle.steps.specs.declared.step.Reply.{Reply}
+use Rattle.steps.specs.declared.step.Reply.TheVariants.{Committed as Commits, Refused}
 use Rattle.histories.specs.World.{OpenTransaction, World}
 use Rattle.histories.specs.Turn.{Turn, put, last_until, was_there, net_in, after_commit, end_turn, commit_turn}
-use Rattle.histories.specs.Memory.{is_out_of_memory}
+use Rattle.steps.specs.Reply.{is_out_of_memory}
 use Rattle.histories.proofs.HistoryNow.{row_after, flat, value, last_value, there}
 use Rattle.interleaving.specs.SystemState.{changes_in, open_of, world_of, IsOpen, IsSystem}
 use Rattle.interleaving.proofs.SystemKeeps.{changes_again, session_is, put_is}

@@ -23,7 +23,7 @@ use Rattle.values.proofs.KeyReads.{key_back}
 use Rattle.tsbtree.specs.View.{TreeState, events, last, IsEmpty}
 use Rattle.eventlist.proofs.PlaceOrder.{sorted_none}
 use Rattle.values.specs.Log.{point_cmp}
-use Rattle.histories.specs.declared.step.Reply.TheVariants.{Begun as Begins, RolledBack, Refused}
+use Rattle.steps.specs.declared.step.Reply.TheVariants.{Begun as Begins, RolledBack, Refused}
 use Rattle.histories.specs.World.{OpenTransaction, World}
 use Rattle.histories.specs.Turn.{Turn, put, opened_now, begin_turn, rollback_turn}
 use Rattle.histories.specs.Stands.{Stands as WorldStands, open_at}

@@ -13,9 +13,9 @@ use Rattle.values.specs.Versions.{answer}
 use Rattle.tsbtree.specs.View.{TreeState, events, last}
 use Rattle.staging.specs.View.{Holds}
 use Rattle.staging.specs.Own.{WhenRead}
-use Rattle.histories.specs.declared.step.Reply.{Reply}
-use Rattle.histories.specs.declared.step.Reply.TheVariants.{Refused, Shown}
-use Rattle.histories.specs.declared.step.Listing.{Listing}
+use Rattle.steps.specs.declared.step.Reply.{Reply}
+use Rattle.steps.specs.declared.step.Reply.TheVariants.{Refused, Shown}
+use Rattle.steps.specs.declared.step.Listing.{Listing}
 use Rattle.histories.specs.World.{OpenTransaction, World}
 use Rattle.histories.specs.Turn.{listing, select_reply}
 use Rattle.interleaving.specs.SystemState.{changes_in, open_of, world_of, IsOpenIn, IsSystem}

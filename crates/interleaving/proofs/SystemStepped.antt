@@ -2,16 +2,16 @@
 use Rattle.std.proofs.Common.{◌≡◌, List, ◌≢◌, true, false, None, ◌∷◌, refl, sym, ap, subst}
 use Rattle.values.specs.declared.refusal.Refusal.{Refusal}
 use Rattle.values.specs.declared.refusal.Refusal.TheVariants.{Memory}
-use Rattle.histories.specs.declared.step.Step.{Step}
-use Rattle.histories.specs.declared.step.Step.TheVariants.{Begin, Insert, Update, Delete, Select, Commit, Rollback, SplitKey, SplitTime, Migrate}
-use Rattle.histories.specs.declared.step.Reply.{Reply}
-use Rattle.histories.specs.declared.step.Reply.TheVariants.{Refused}
-use Rattle.histories.specs.Misfit.{misfit}
+use Rattle.steps.specs.declared.step.Step.{Step}
+use Rattle.steps.specs.declared.step.Step.TheVariants.{Begin, Insert, Update, Delete, Select, Commit, Rollback, SplitKey, SplitTime, Migrate}
+use Rattle.steps.specs.declared.step.Reply.{Reply}
+use Rattle.steps.specs.declared.step.Reply.TheVariants.{Refused}
+use Rattle.steps.specs.Misfit.{misfit}
 use Rattle.histories.specs.History.{History, reply}
 use Rattle.histories.specs.World.{World}
 use Rattle.histories.specs.Turn.{Turn, turn_in}
 use Rattle.histories.specs.Stands.{Stands}
-use Rattle.histories.specs.Memory.{is_memory, is_out_of_memory}
+use Rattle.steps.specs.Reply.{is_memory, is_out_of_memory}
 use Rattle.histories.proofs.TurnReplies.{Stepped, stepped, fitting_turn}
 use Rattle.treenodes.specs.Node.{TreeNode}
 use Rattle.treenodes.specs.History.{KeepsHistory, KeepsPast}

@@ -13,18 +13,20 @@ use Rattle.values.specs.Writes.{Own, Written}
 use Rattle.tsbtree.specs.View.{TreeState, events}
 use Rattle.staging.specs.Own.{own, Reads, WhenRead}
 use Rattle.transaction.specs.OpenTransactionState.{OpenTransactionState}
-use Rattle.histories.specs.declared.step.Reply.{Reply}
-use Rattle.histories.specs.declared.step.Reply.TheVariants.{Refused}
-use Rattle.histories.specs.declared.step.Step.{Step}
-use Rattle.histories.specs.Misfit.{max_session, bad_row, misfit_of}
-use Rattle.histories.specs.History.{write, written_reply}
+use Rattle.steps.specs.declared.step.Reply.{Reply}
+use Rattle.steps.specs.declared.step.Reply.TheVariants.{Refused}
+use Rattle.steps.specs.declared.step.Step.{Step}
+use Rattle.steps.specs.Misfit.{max_session, bad_row, misfit_of}
+use Rattle.steps.specs.Write.{write}
+use Rattle.steps.specs.Reply.{written_reply}
 use Rattle.histories.specs.World.{OpenTransaction, World}
 use Rattle.histories.specs.Stands.{open_at}
 use Rattle.histories.specs.Turn.{Turn, put, own_in, with_own, turn_in}
-use Rattle.histories.specs.Memory.{is_out_of_memory}
-use Rattle.histories.specs.Written.{step_of}
-use Rattle.histories.proofs.MisfitKeys.{no_fault}
-use Rattle.histories.proofs.Written.{turn_is, write_is}
+use Rattle.steps.specs.Reply.{is_out_of_memory}
+use Rattle.steps.specs.Write.{step_of}
+use Rattle.steps.proofs.MisfitKeys.{no_fault}
+use Rattle.histories.proofs.TurnWritten.{turn_is}
+use Rattle.steps.proofs.WriteStep.{write_is}
 use Rattle.interleaving.specs.SystemState.{changes_in, open_of, world_of, IsOpenIn, IsOpen, IsSystem}
 use Rattle.interleaving.proofs.SystemKeeps.{session_is, put_is, begun_at, place_is}
 

@@ -6,10 +6,10 @@ use Rattle.treenodes.specs.History.{KeepsHistory, KeepsPast}
 use Rattle.tsbtree.specs.View.{TreeState}
 use Rattle.staging.specs.View.{Adds}
 use Rattle.validation.specs.Split.{SplitsByNeed}
-use Rattle.histories.specs.declared.step.Step.{Step}
-use Rattle.histories.specs.declared.step.Step.TheVariants.{Commit, SplitKey, SplitTime, Migrate}
-use Rattle.histories.specs.declared.step.Reply.{Reply}
-use Rattle.histories.specs.declared.step.Reply.TheVariants.{Refused, Committed}
+use Rattle.steps.specs.declared.step.Step.{Step}
+use Rattle.steps.specs.declared.step.Step.TheVariants.{Commit, SplitKey, SplitTime, Migrate}
+use Rattle.steps.specs.declared.step.Reply.{Reply}
+use Rattle.steps.specs.declared.step.Reply.TheVariants.{Refused, Committed}
 
 -- a refusal after which nothing has changed: each but a conflict and the clock's end, which end a transaction
 abbrev pub leaves_all : Reply → Bool

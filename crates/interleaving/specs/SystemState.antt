@@ -15,7 +15,7 @@ use Rattle.tsbtree.specs.View.{TreeState, events, last}
 use Rattle.staging.specs.View.{Holds}
 use Rattle.staging.specs.Own.{rows_seen}
 use Rattle.transaction.specs.OpenTransactionState.{OpenTransactionState}
-use Rattle.histories.specs.Misfit.{max_session}
+use Rattle.steps.specs.Misfit.{max_session}
 use Rattle.histories.specs.History.{History}
 use Rattle.histories.specs.World.{OpenTransaction, World}
 use Rattle.histories.specs.Stands.{Stands as WorldStands}

@@ -5,8 +5,8 @@ use Rattle.tsbtree.specs.View.{TreeState}
 use Rattle.validation.specs.declared.cut.Cut.{Cut}
 use Rattle.validation.specs.declared.cut.Cut.TheVariants.{Key as KeyCut, Time as TimeCut}
 use Rattle.validation.specs.Split.{IsSplit}
-use Rattle.histories.specs.declared.step.Step.{Step}
-use Rattle.histories.specs.declared.step.Step.TheVariants.{SplitKey, SplitTime, Migrate}
+use Rattle.steps.specs.declared.step.Step.{Step}
+use Rattle.steps.specs.declared.step.Step.TheVariants.{SplitKey, SplitTime, Migrate}
 use Rattle.interleaving.specs.MigrateStep.{WasPacked}
 use Rattle.interleaving.specs.SystemState.{SystemState}
 

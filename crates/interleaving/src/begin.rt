@@ -1,15 +1,15 @@
 //! BEGIN and ROLLBACK.
 ghost use Rattle.std.specs.Prelude.{◌≡◌, ◌≤◌, [], true, false, IfOk};
 ghost use Rattle.values.specs.Memory.{OnlyMemory};
-ghost use Rattle.histories.specs.Memory.{is_out_of_memory};
-ghost use Rattle.histories.specs.Misfit.{max_session};
+ghost use Rattle.steps.specs.Reply.{is_out_of_memory};
+ghost use Rattle.steps.specs.Misfit.{max_session};
 ghost use Rattle.histories.specs.Stands.{is_open_at};
 ghost use Rattle.histories.specs.Turn.{begin_turn, rollback_turn};
 ghost use Rattle.interleaving.specs.StepLeaves.{leaves_all};
 ghost use Rattle.interleaving.specs.SystemState.{world};
 
 use crate::system::System;
-use histories::Reply;
+use steps::Reply;
 use transaction::OpenTransaction;
 use values::{Mem, Refusal};
 

@@ -1,16 +1,16 @@
 //! COMMIT: the first committer wins.
 ghost use Rattle.std.specs.Prelude.{◌≡◌, ◌≤◌, true, false};
-ghost use Rattle.histories.specs.Memory.{is_out_of_memory};
+ghost use Rattle.steps.specs.Reply.{is_out_of_memory};
 ghost use Rattle.histories.specs.Stands.{is_open_at};
-ghost use Rattle.histories.specs.Misfit.{max_session};
+ghost use Rattle.steps.specs.Misfit.{max_session};
 ghost use Rattle.histories.specs.Turn.{commit_turn};
-ghost use Rattle.histories.specs.declared.step.Step.TheVariants.{Commit};
+ghost use Rattle.steps.specs.declared.step.Step.TheVariants.{Commit};
 ghost use Rattle.treenodes.specs.History.{KeepsHistory};
 ghost use Rattle.interleaving.specs.StepLeaves.{SplitsAsReplied, leaves_all, may_change_tree};
 ghost use Rattle.interleaving.specs.SystemState.{world};
 
 use crate::system::System;
-use histories::Reply;
+use steps::Reply;
 use values::{Instant, Refusal};
 
 impl System {

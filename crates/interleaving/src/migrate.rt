@@ -2,21 +2,21 @@
 ghost use Rattle.std.specs.Prelude.{◌≡◌, true, false, OnErr, OnOk};
 ghost use Rattle.values.specs.Memory.{OnlyMemory};
 ghost use Rattle.tsbtree.specs.Growth.{HoldsSame};
-ghost use Rattle.histories.specs.Memory.{is_out_of_memory};
+ghost use Rattle.steps.specs.Reply.{is_out_of_memory};
 ghost use Rattle.treenodes.specs.History.{KeepsPast};
 ghost use Rattle.interleaving.specs.StepLeaves.{leaves_all};
 ghost use Rattle.interleaving.specs.MigrateStep.{WasPacked};
 ghost use Rattle.interleaving.specs.SystemState.{world};
 
 use crate::system::System;
-use histories::Reply;
 use std::alloc::Global;
+use steps::Reply;
 use validation::{Engine, find_job, pack_job};
 use values::Mem;
 
 impl System {
-    /// Packs the first data node of history that is not packed: by the start of its time, then by its lower key. Where
-    /// there is none nothing has changed.
+    /// Packs the first data node of history that is not packed: by the start of its time, then by
+    /// its lower key. Where there is none nothing has changed.
     pub(crate) fn migrate(&mut self) -> Reply
         ensures done { is_out_of_memory result ≡ false → result ≡ Reply.Done }
         ensures same { world self.new ≡ world self.old }

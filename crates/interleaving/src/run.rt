@@ -5,12 +5,14 @@ ghost use Rattle.histories.specs.History.{replies};
 ghost use Rattle.histories.specs.Due.{AllAnswered, OutWhereTaken, due};
 
 use crate::system::System;
-use histories::{Reply, Step};
 use std::alloc::Global;
+use steps::{Reply, Step};
 use values::{Mem, Schema};
 
 impl System {
-    /// The replies to steps in turn, from a store in which nothing was committed.
+    /// Answers steps in turn, from a store in which nothing was committed. Where memory runs out at
+    /// a step, its reply is that, it is as if it were not there, and the steps after it go on.
+    /// `Memory` where the store or the list of replies cannot be made.
     pub fn run(alloc: Global, schema: Schema, steps: Vec<Step>) -> Mem<Vec<Reply>>
         ensures answers { IfOk result (λ v.
             AllAnswered v.items → v.items ≡ replies schema [] steps.items) }

@@ -1,13 +1,13 @@
 //! SELECT.
 ghost use Rattle.std.specs.Prelude.{◌≡◌, IfOk, None};
 ghost use Rattle.values.specs.Memory.{OnlyMemory};
-ghost use Rattle.histories.specs.declared.step.Step.TheVariants.{Select};
-ghost use Rattle.histories.specs.Misfit.{misfit};
+ghost use Rattle.steps.specs.declared.step.Step.TheVariants.{Select};
+ghost use Rattle.steps.specs.Misfit.{misfit};
 ghost use Rattle.histories.specs.Turn.{select_reply};
 ghost use Rattle.interleaving.specs.SystemState.{world};
 
 use crate::system::System;
-use histories::Reply;
+use steps::Reply;
 use transaction::listing_of;
 use values::{FittingKeys, Form, Keys, Mem, Refusal};
 

@@ -1,15 +1,15 @@
 //! SPLIT: a node of the tree is split, which no reply shows.
 ghost use Rattle.std.specs.Prelude.{◌≡◌, None, true, false};
 ghost use Rattle.values.specs.KeyEncoding.{bytes_of_key};
-ghost use Rattle.histories.specs.Memory.{is_out_of_memory};
-ghost use Rattle.histories.specs.Misfit.{key_misfit};
+ghost use Rattle.steps.specs.Reply.{is_out_of_memory};
+ghost use Rattle.steps.specs.Misfit.{key_misfit};
 ghost use Rattle.treenodes.specs.History.{KeepsHistory};
 ghost use Rattle.interleaving.specs.StepLeaves.{leaves_all};
 ghost use Rattle.interleaving.specs.TreeStep.{WasSplit};
 ghost use Rattle.interleaving.specs.SystemState.{world};
 
 use crate::system::System;
-use histories::Reply;
+use steps::Reply;
 use validation::Cut;
 use values::{Instant, Key, fitting_key_bytes};
 

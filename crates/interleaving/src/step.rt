@@ -1,25 +1,27 @@
 //! Each step in turn.
 ghost use Rattle.std.specs.Prelude.{◌≡◌, ◌≢◌, ◌∷◌, None, true, false, IfOk, IfErr};
-ghost use Rattle.histories.specs.Misfit.{misfit};
+ghost use Rattle.steps.specs.Misfit.{misfit};
 ghost use Rattle.histories.specs.Turn.{turn_in};
 ghost use Rattle.interleaving.specs.StepLeaves.{LeavesHistory, SplitsAsReplied, leaves_all, may_change_tree};
 ghost use Rattle.interleaving.specs.TreeStep.{IsTreeStep};
 ghost use Rattle.interleaving.specs.SystemState.{world};
-ghost use Rattle.histories.specs.Memory.{is_out_of_memory, takes_no_memory};
+ghost use Rattle.steps.specs.Reply.{is_out_of_memory};
+ghost use Rattle.histories.specs.Memory.{takes_no_memory};
 
 use crate::system::System;
-use histories::{Reply, Step};
+use steps::{Reply, Step};
 use values::{Mem, Refusal, Write};
 
 impl System {
     ghost use Rattle.histories.specs.History.{History, reply};
     ghost use Rattle.interleaving.specs.SystemState.{Stands};
 
-    /// Takes a step. After a refusal nothing has changed, but that `Conflict` and `ClockEnd` end their
-    /// transaction; where memory ran out the step may be taken again. Only a split, a migration and a commit with
-    /// an instant change the tree, and none of them a node of history, but that a migration packs one: the first
-    /// unpacked one. A split that is done puts the halves of the current data node of its key in the node's place,
-    /// where its cut lies inside; a commit splits only nodes that it overfills.
+    /// Takes a step. After a refusal nothing has changed, but that `Conflict` and `ClockEnd` end
+    /// their transaction; where memory ran out the step may be taken again. Only a split, a
+    /// migration and a commit with an instant change the tree, and none of them a node of history,
+    /// but that a migration packs one: the first unpacked one. A split that is done puts the halves
+    /// of the current data node of its key in the node's place, where its cut lies inside; a commit
+    /// splits only nodes that it overfills.
     pub fn step(&mut self, step: Step) -> Reply
         ensures answers { (h : History) → Stands self.old h → result ≢ Reply.Refused Refusal.Memory
             → (result ≡ reply self.old.schema h step) × Stands self.new (step ∷ h) }

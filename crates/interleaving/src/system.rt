@@ -2,9 +2,9 @@
 ghost use Rattle.std.specs.Prelude.{◌≡◌, IfOk};
 ghost use Rattle.values.specs.Memory.{OnlyMemory};
 
-use histories::MAX_SESSION;
 use std::alloc::Global;
 use std::marker::Model;
+use steps::MAX_SESSION;
 use systime_query::BlockCache;
 use transaction::OpenTransaction;
 use treewalk::Shape;
@@ -44,7 +44,8 @@ impl System {
     ghost use Rattle.tsbtree.specs.View.{events, last, IsState};
     ghost use Rattle.interleaving.specs.SystemState.{Stands, world};
 
-    /// A store in which nothing was committed.
+    /// Makes a store in which nothing was committed: its tree is one node without events. `Memory`
+    /// where it runs out.
     pub fn new(alloc: Global, schema: Schema) -> Mem<System>
         ensures empty { IfOk result (λ s. Stands s []) }
         ensures schema { IfOk result (λ s. s.schema ≡ schema) }
@@ -64,7 +65,8 @@ impl System {
         })
     }
 
-    /// The tree of what was committed. It holds the changes that contracts see, and nothing else.
+    /// Returns the tree of what was committed. It holds the changes that contracts see, and nothing
+    /// else.
     pub fn tree(&self) -> &Tree
         ensures is { result.now ≡ self.now.engine }
         ensures sound { IsState result.now.nodes (last result.now) }
@@ -76,7 +78,8 @@ impl System {
         tree
     }
 
-    /// Each node of the tree once: its level, its rectangle, and how much it holds.
+    /// Lists each node of the tree once: its level, its rectangle, and how much it holds. `Memory`
+    /// where it runs out.
     pub fn shape(&self) -> Mem<Shape>
         ensures ok { IfOk result (λ s. IsShapeOf self.now.engine.nodes s.nodes.items) }
         ensures memory { OnlyMemory result }
@@ -84,7 +87,7 @@ impl System {
         self.engine.tree().current().shape(self.alloc)
     }
 
-    /// The tables.
+    /// Returns the tables.
     pub fn schema(&self) -> &Schema
         ensures { result.now ≡ self.now.schema }
     {

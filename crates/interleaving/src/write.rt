@@ -1,15 +1,15 @@
 //! INSERT, UPDATE and DELETE: a session's open transaction keeps them, and nobody else sees them.
 ghost use Rattle.std.specs.Prelude.{◌≡◌, None, true, false};
-ghost use Rattle.histories.specs.Misfit.{misfit};
-ghost use Rattle.histories.specs.Memory.{is_out_of_memory};
+ghost use Rattle.steps.specs.Misfit.{misfit};
+ghost use Rattle.steps.specs.Reply.{is_out_of_memory};
 ghost use Rattle.histories.specs.Stands.{is_open_at};
 ghost use Rattle.histories.specs.Turn.{turn_in};
-ghost use Rattle.histories.specs.Written.{step_of};
+ghost use Rattle.steps.specs.Write.{step_of};
 ghost use Rattle.interleaving.specs.StepLeaves.{leaves_all};
 ghost use Rattle.interleaving.specs.SystemState.{world};
 
 use crate::system::System;
-use histories::Reply;
+use steps::Reply;
 use values::{FittingWrite, Refusal, Write};
 
 impl System {

@@ -7,9 +7,9 @@ use Rattle.values.specs.declared.refusal.Refusal.TheVariants.{NoTransaction, Jou
 use Rattle.tsbtree.specs.View.{TreeState}
 use Rattle.staging.specs.View.{Holds}
 use Rattle.staging.specs.Own.{net_over, own}
-use Rattle.histories.specs.declared.step.Step.TheVariants.{Insert}
-use Rattle.histories.specs.History.{write}
-use Rattle.histories.specs.Misfit.{misfit}
+use Rattle.steps.specs.declared.step.Step.TheVariants.{Insert}
+use Rattle.steps.specs.Write.{write}
+use Rattle.steps.specs.Misfit.{misfit}
 use Rattle.journal.specs.declared.entry.Entry.{Entry}
 use Rattle.journal.specs.declared.entry.Entry.TheVariants.{Begin, Commit}
 use Rattle.sessions.specs.SessionState.{SessionState, write_by}

@@ -2,9 +2,9 @@
 ghost use Rattle.std.specs.Prelude.{◌≤◌};
 ghost use Rattle.values.specs.Commits.{max_instant};
 
-use rows::{Instant, MAX_INSTANT};
 use serving::Readings;
 use std::time::{Clock, SystemTime};
+use values::{Instant, MAX_INSTANT};
 
 /// The runtime's clock in microseconds since 1970, at most the greatest instant. Before 1970, and
 /// where the clock cannot be read, it is 0.

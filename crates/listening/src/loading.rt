@@ -6,11 +6,10 @@ ghost use Rattle.listening.specs.Loading.{HasEnded, IsCommitAt, IsLoaded, IsLoad
 
 use growlog::StoreName;
 use journal::{Entry, Receipt};
-use rows::{Instant, Mem, Refusal, Row};
 use sessions::{LockedStore, Session};
 use std::alloc::Global;
 use std::sync::Wait;
-use values::Write;
+use values::{Instant, Mem, Refusal, Row, Write};
 
 /// What a load left: its receipts, and the instant of its commit, 0 where there was none.
 #[derive(Drop)]

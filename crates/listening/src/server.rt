@@ -22,7 +22,6 @@ use book::Closed;
 use growlog::{NewLog, StoreName};
 use interchange::{ExportFault, export, loaded_line, numbered_line, print_whole};
 use journal::{Receipt, SharedEntry};
-use rows::{Form, Keys, MAX_INSTANT, Mem, Refusal, Row, Schema, Shown, Table};
 use searchrange::Search;
 use sessions::LockedStore;
 use std::alloc::Global;
@@ -33,7 +32,7 @@ use std::sync::Wait;
 use std::thread::Threads;
 use std::time::Clock;
 use systime_query::{BlockCache, answer};
-use values::FittingKeys;
+use values::{FittingKeys, Form, Keys, MAX_INSTANT, Mem, Refusal, Row, Schema, Shown, Table};
 
 /// Why a server stopped before its end.
 #[derive(Debug, Drop)]

@@ -2,13 +2,13 @@
 use crate::staff::employee;
 use crate::wanted::{Wanted, is_so};
 use listening::{Plan, ServerFault, TableRows, serve};
-use rows::{Refusal, Schema};
 use std::alloc::Global;
 use std::net::{Net, TcpListener, TcpStream};
 use std::process::Abort;
 use std::sync::Wait;
 use std::thread::Threads;
 use std::time::Clock;
+use values::{Refusal, Schema};
 
 /// Ann and Bea, with these numbers.
 fn staff(rt: &impl Abort, alloc: Global, ann: i64, bea: i64) -> TableRows {

@@ -7,7 +7,6 @@ use crate::wanted::{Wanted, is_so};
 use growlog::{NewLog, StoreName};
 use journal::{Receipt, SharedEntry};
 use listening::{AlwaysOpen, bind, listen};
-use rows::Schema;
 use sessions::{Gate, LockedStore, Place, Session};
 use std::alloc::Global;
 use std::marker::Brand;
@@ -17,7 +16,7 @@ use std::sync::{Mutex, Wait};
 use std::thread;
 use std::thread::Threads;
 use std::time::Clock;
-use values::Write;
+use values::{Schema, Write};
 
 /// The turns after which a held read gives up.
 const TURNS: u32 = 1_000_000;

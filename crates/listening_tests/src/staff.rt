@@ -1,7 +1,7 @@
 //! Employees.
-use rows::{Chars, Row, Value};
 use std::alloc::Global;
 use std::process::Abort;
+use values::{Chars, Row, Value};
 
 pub(crate) fn employee(rt: &impl Abort, alloc: Global, number: i64, name: &str) -> Row {
     let name = Chars::copy_of(alloc, name).expect(rt, "the name is short");

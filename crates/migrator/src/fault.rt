@@ -1,8 +1,8 @@
 //! How a round is broken off.
 use growlog::StoreName;
 use journal::Receipt;
-use rows::Refusal;
 use std::alloc::AllocError;
+use values::Refusal;
 
 /// Why a round was broken off.
 #[derive(Clone, Copy, Debug, PartialEq, Eq)]

@@ -1,4 +1,4 @@
-//! The texts that declare tables. The types and calls of `values` are offered under this name too.
+//! The texts that declare tables.
 #![tactic(auto)]
 
 mod declaration;
@@ -15,9 +15,3 @@ pub use sample::sample_is_a_schema;
 pub use schema::ReadSchema;
 pub use schema_grammar::{faults_are_final, schemas_are_of_the_grammar, the_grammar_is_read};
 pub use schema_reading::{LONGEST_SCHEMA, SAMPLE, SchemaFault};
-pub use values::{
-    Chars, Column, ColumnNumber, ColumnType, Comparison, Event, Form, Instant, Key, KeyBytes, Keys,
-    MAX_INSTANT, Mem, Net, Operator, Point, Refusal, Row, Rows, Schema, Sequence, Set, Sets,
-    SharedEvent, Shown, ShownRows, Table, Transaction, Value, Values, key_bytes, read_key,
-    read_row, row_bytes, same_name,
-};

@@ -11,8 +11,8 @@ use values::Schema;
 
 /// Makes schemas of texts: `Schema::read`.
 pub trait ReadSchema {
-    /// Reads CREATE TABLE statements. A text of over 65,536 bytes is a fault of syntax at that byte,
-    /// and syntax is looked for in the whole text before any table is.
+    /// Reads CREATE TABLE statements. A text of over 65,536 bytes is a fault of syntax at that
+    /// byte, and syntax is looked for in the whole text before any table is.
     fn read(alloc: Global, text: &[u8]) -> Result<Schema, SchemaFault>
         ensures { IsOrMemory result (read_schema text.now) };
 }

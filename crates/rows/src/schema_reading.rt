@@ -19,8 +19,8 @@ pub const SAMPLE: &str = "CREATE TABLE emp (
 /// Why a text is no schema.
 #[derive(Debug, PartialEq, Eq, Drop)]
 pub enum SchemaFault {
-    /// The text is not of the grammar: the offset, from 0, of the first unexpected token, or the text's
-    /// length where it ends too early; 65,536 where it is longer.
+    /// The text is not of the grammar: the offset, from 0, of the first unexpected token, or the
+    /// text's length where it ends too early; 65,536 where it is longer.
     Syntax(usize),
     /// The number, from 1, of the first table that breaks a rule of tables.
     BadTable(usize),

@@ -1,4 +1,5 @@
-//! Tests of `values`, `tokens` and `rows` by their public calls: events, keys, rows, tokens, and texts of schemas.
+//! Tests of `values`, `tokens` and `rows` by their public calls: events, keys, rows, tokens, and
+//! texts of schemas.
 #![tactic(auto)]
 
 #[cfg(test)]

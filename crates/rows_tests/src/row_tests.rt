@@ -92,7 +92,8 @@ fn is_read(rt: &impl Abort, alloc: Global, bytes: &[u8]) -> bool {
         .is_some()
 }
 
-/// Whether a row of one text of so many letters is read, with the two bytes of its length before it.
+/// Whether a row of one text of so many letters is read, with the two bytes of its length before
+/// it.
 fn is_text_read(rt: &impl Abort, alloc: Global, high: u8, low: u8, letters: usize) -> bool {
     let front = vec![in alloc; 1u8, 2, high, low];
     let mut bytes = front.expect(rt, "there is memory");

@@ -1,9 +1,9 @@
 //! Schemas and values that the tests share. The run ends where memory does.
 
-use rows::{ReadSchema, Schema};
+use rows::ReadSchema;
 use std::alloc::Global;
 use std::process::Abort;
-use values::{Chars, KeyBytes, Value};
+use values::{Chars, KeyBytes, Schema, Value};
 
 /// What a text declares, which must be a schema.
 pub(crate) fn schema(rt: &impl Abort, alloc: Global, text: &str) -> Schema {

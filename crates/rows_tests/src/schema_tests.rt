@@ -1,9 +1,10 @@
 //! Texts of schemas, and the faults that they are refused for.
 
 use crate::sample::schema;
-use rows::{Column, ColumnNumber, ColumnType, ReadSchema, SAMPLE, Schema, SchemaFault, Table};
+use rows::{ReadSchema, SAMPLE, SchemaFault};
 use std::alloc::Global;
 use std::process::Abort;
+use values::{Column, ColumnNumber, ColumnType, Schema, Table};
 
 /// Whether a text is refused for its syntax, at this byte.
 fn is_syntax_at(alloc: Global, text: &[u8], offset: usize) -> bool {
@@ -21,7 +22,8 @@ fn is_bad_table(alloc: Global, text: &[u8], number: usize) -> bool {
     }
 }
 
-/// How many tables the sample has, the number of the one named EMP, and those of three columns of its table.
+/// How many tables the sample has, the number of the one named EMP, and those of three columns of
+/// its table.
 fn numbers_of_sample(
     rt: &impl Abort,
     alloc: Global,
@@ -90,7 +92,8 @@ fn push_table(rt: &impl Abort, text: &mut String, column: &str) {
     );
 }
 
-/// Whether two tables of one name, with one user column each, are refused for the table of this number.
+/// Whether two tables of one name, with one user column each, are refused for the table of this
+/// number.
 fn is_bad_twice(rt: &impl Abort, alloc: Global, column: &str, number: usize) -> bool {
     let mut text = String::new(alloc);
     push_table(rt, &mut text, column);

@@ -15,7 +15,8 @@ impl Separators for Nothing {
     }
 }
 
-/// Whether a semicolon is read where these bytes begin and leaves the rest, or is refused and leaves them all.
+/// Whether a semicolon is read where these bytes begin and leaves the rest, or is refused and
+/// leaves them all.
 fn is_semicolon(bytes: &[u8], is_read: bool, rest: &[u8]) -> bool {
     match symbol_at::<Nothing>(b';', bytes) {
         Ok(after) => is_read && after == rest,

@@ -6,11 +6,12 @@ use Rattle.std.proofs.KnownBytes.{Appends-kept}
 use Rattle.values.specs.Tables.{Schema}
 use Rattle.values.specs.declared.refusal.Refusal.{Refusal}
 use Rattle.values.specs.declared.refusal.Refusal.TheVariants.{Syntax, NoTable, BadRow, NoTransaction, InTransaction, DuplicateKey, Conflict, ClockEnd, TooManyWrites, Memory, NoSession, LineTooLong, JournalFull, Overlap, BadPeriod, TransactionsOpen}
-use Rattle.histories.specs.declared.step.Step.{Step}
-use Rattle.histories.specs.declared.step.Reply.{Reply}
-use Rattle.histories.specs.declared.step.Reply.TheVariants.{Refused}
+use Rattle.steps.specs.declared.step.Step.{Step}
+use Rattle.steps.specs.declared.step.Reply.{Reply}
+use Rattle.steps.specs.declared.step.Reply.TheVariants.{Refused}
 use Rattle.histories.specs.History.{History, reply}
-use Rattle.histories.specs.Memory.{is_memory, is_out_of_memory, takes_no_memory, takes_no_memory_after}
+use Rattle.steps.specs.Reply.{is_memory, is_out_of_memory}
+use Rattle.histories.specs.Memory.{takes_no_memory, takes_no_memory_after}
 use Rattle.interleaving.specs.StepLeaves.{leaves_all}
 use Rattle.interleaving.specs.SystemState.{world, Stands}
 use Rattle.histories.proofs.Memory.{memory_is_taken_alike}

@@ -11,14 +11,13 @@ ghost use Rattle.interleaving.specs.SystemState.{Stands};
 ghost use Rattle.scripts.specs.Transcript.{IsRun, IsCut, IsStopped, IsRunAfter, IsCutAfter, IsStoppedAfter};
 ghost use Rattle.scripts.specs.Script.{said_by, IsRead, IsAt, AnswersLine, BreaksLine, TakesBytes, BreaksBytes, EndsScript, BreaksEnd, IsIdle};
 
-use histories::{Reply, Step};
 use interleaving::System;
 use lines::{CHUNK, LineBuffer, MOST_READS, line_length};
-use rows::Schema;
 use statement::{Line, WriteFault, print_refusal, print_reply, read_line, write_all};
 use std::alloc::Global;
 use std::io::{Read, Write};
-use values::{Instant, Mem, Refusal};
+use steps::{Reply, Step};
+use values::{Instant, Mem, Refusal, Schema};
 
 /// Why a run stopped before the end of its script.
 #[derive(Debug, PartialEq, Eq, Drop)]

@@ -2,7 +2,7 @@
 use Rattle.std.proofs.Common.{◌≡◌, ◌≢◌, ◌⊎◌, Result, Err, inl, inr, refl}
 use Rattle.values.specs.declared.refusal.Refusal.{Refusal}
 use Rattle.values.specs.declared.refusal.Refusal.TheVariants.{Syntax, NoTable, BadRow, NoTransaction, InTransaction, DuplicateKey, Conflict, ClockEnd, TooManyWrites, Memory, NoSession, LineTooLong, JournalFull, Overlap, BadPeriod, TransactionsOpen}
-use Rattle.histories.specs.declared.step.Reply.TheVariants.{Refused}
+use Rattle.steps.specs.declared.step.Reply.TheVariants.{Refused}
 use Rattle.statement.specs.Memory.{UnlessMemory}
 use Rattle.serving.specs.declared.answer.Sent.TheVariants.{Reply as Says}
 use Rattle.serving.specs.Serving.{sent_refusal}

@@ -5,8 +5,8 @@ use Rattle.std.proofs.KnownBytes.{Appends-nil}
 use Rattle.values.specs.declared.refusal.Refusal.{Refusal}
 use Rattle.values.specs.declared.refusal.Refusal.TheVariants.{Memory}
 use Rattle.values.specs.Tables.{Schema}
-use Rattle.histories.specs.declared.step.Step.{Step}
-use Rattle.histories.specs.declared.step.Reply.TheVariants.{Refused}
+use Rattle.steps.specs.declared.step.Step.{Step}
+use Rattle.steps.specs.declared.step.Reply.TheVariants.{Refused}
 use Rattle.statement.specs.declared.line.Line.{Line}
 use Rattle.statement.specs.declared.line.Line.TheVariants.{Nothing, Clock, Step as Asks}
 use Rattle.statement.specs.Memory.{UnlessMemory}

@@ -14,11 +14,11 @@ use Rattle.values.specs.Writes.{Own, net_of}
 use Rattle.tsbtree.specs.View.{last}
 use Rattle.staging.specs.Own.{own}
 use Rattle.transaction.specs.Listing.{listing_in}
-use Rattle.histories.specs.declared.step.Listing.{Listing}
-use Rattle.histories.specs.declared.step.Step.TheVariants.{Begin, Select, Commit, Rollback}
-use Rattle.histories.specs.declared.step.Reply.{Reply}
-use Rattle.histories.specs.declared.step.Reply.TheVariants.{Begun, Shown, RolledBack, Refused}
-use Rattle.histories.specs.Misfit.{misfit}
+use Rattle.steps.specs.declared.step.Listing.{Listing}
+use Rattle.steps.specs.declared.step.Step.TheVariants.{Begin, Select, Commit, Rollback}
+use Rattle.steps.specs.declared.step.Reply.{Reply}
+use Rattle.steps.specs.declared.step.Reply.TheVariants.{Begun, Shown, RolledBack, Refused}
+use Rattle.steps.specs.Misfit.{misfit}
 use Rattle.journal.specs.declared.entry.Entry.{Entry}
 use Rattle.journal.specs.declared.entry.Entry.TheVariants.{Commit as Commits}
 use Rattle.sessions.specs.SessionState.{SessionTransactionState, SessionState, IsSelect, select_in, start_of, with_transaction}

@@ -10,12 +10,12 @@ use Rattle.values.specs.Tables.{Schema}
 use Rattle.values.specs.Log.{Net}
 use Rattle.values.specs.Writes.{Own}
 use Rattle.staging.specs.Own.{own}
-use Rattle.histories.specs.declared.step.Step.{Step}
-use Rattle.histories.specs.declared.step.Reply.{Reply}
-use Rattle.histories.specs.declared.step.Reply.TheVariants.{Refused}
-use Rattle.histories.specs.Misfit.{misfit}
-use Rattle.histories.specs.Written.{step_of}
-use Rattle.histories.specs.History.{write_count, written_reply}
+use Rattle.steps.specs.declared.step.Step.{Step}
+use Rattle.steps.specs.declared.step.Reply.{Reply}
+use Rattle.steps.specs.declared.step.Reply.TheVariants.{Refused}
+use Rattle.steps.specs.Misfit.{misfit}
+use Rattle.steps.specs.Write.{step_of}
+use Rattle.steps.specs.Reply.{write_count, written_reply}
 use Rattle.sessions.specs.SessionState.{SessionTransactionState, SessionState, IsWrite, WithWrites, write_by, with_writes}
 use Rattle.serving.specs.declared.answer.Sent.{Sent}
 use Rattle.serving.specs.declared.answer.Sent.TheVariants.{Reply as Says}

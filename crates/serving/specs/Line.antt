@@ -4,7 +4,7 @@ use Rattle.std.specs.Io.KnownBytes.{Appends}
 use Rattle.values.specs.declared.refusal.Refusal.{Refusal}
 use Rattle.values.specs.declared.refusal.Refusal.TheVariants.{Memory}
 use Rattle.values.specs.Tables.{Schema}
-use Rattle.histories.specs.declared.step.Step.{Step}
+use Rattle.steps.specs.declared.step.Step.{Step}
 use Rattle.statement.specs.declared.line.Line.{Line}
 use Rattle.statement.specs.Memory.{UnlessMemory}
 use Rattle.statement.specs.Writer.{AppendsPrefix}

@@ -22,14 +22,15 @@ use Rattle.staging.specs.View.{Holds}
 use Rattle.staging.specs.Own.{own}
 use Rattle.validation.specs.declared.cut.Cut.{Cut}
 use Rattle.validation.specs.declared.cut.Cut.TheVariants.{Key as KeyCut, Time as TimeCut}
-use Rattle.histories.specs.declared.step.Listing.{Listing}
-use Rattle.histories.specs.declared.step.Listing.TheVariants.{Rows}
-use Rattle.histories.specs.declared.step.Step.{Step}
-use Rattle.histories.specs.declared.step.Step.TheVariants.{Begin, Insert, Update, Delete, Select, Commit, Rollback, SplitKey, SplitTime, Migrate}
-use Rattle.histories.specs.declared.step.Reply.{Reply}
-use Rattle.histories.specs.declared.step.Reply.TheVariants.{Begun, Shown, RolledBack, Done, Refused}
-use Rattle.histories.specs.Misfit.{misfit, key_misfit}
-use Rattle.histories.specs.History.{commit_reply, rows_taken, written_reply}
+use Rattle.steps.specs.declared.step.Listing.{Listing}
+use Rattle.steps.specs.declared.step.Listing.TheVariants.{Rows}
+use Rattle.steps.specs.declared.step.Step.{Step}
+use Rattle.steps.specs.declared.step.Step.TheVariants.{Begin, Insert, Update, Delete, Select, Commit, Rollback, SplitKey, SplitTime, Migrate}
+use Rattle.steps.specs.declared.step.Reply.{Reply}
+use Rattle.steps.specs.declared.step.Reply.TheVariants.{Begun, Shown, RolledBack, Done, Refused}
+use Rattle.steps.specs.Misfit.{misfit, key_misfit}
+use Rattle.steps.specs.Reply.{commit_reply, written_reply}
+use Rattle.steps.specs.Listing.{rows_taken}
 use Rattle.transaction.specs.Listing.{as_listing}
 use Rattle.journal.specs.declared.entry.Entry.{Entry}
 use Rattle.journal.specs.declared.entry.Entry.TheVariants.{Begin as Begins, Commit as Commits, Split as Splits, Install as Installs}

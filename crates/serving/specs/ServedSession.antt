@@ -4,7 +4,7 @@ use Rattle.std.specs.Io.KnownBytes.{Appends, Consumes, IsAtEnd}
 use Rattle.values.specs.declared.refusal.Refusal.{Refusal}
 use Rattle.values.specs.declared.refusal.Refusal.TheVariants.{LineTooLong, Memory}
 use Rattle.values.specs.Tables.{Schema}
-use Rattle.histories.specs.declared.step.Reply.{Reply}
+use Rattle.steps.specs.declared.step.Reply.{Reply}
 use Rattle.statement.specs.declared.line.Line.{Line}
 use Rattle.statement.specs.declared.line.Line.TheVariants.{Nothing, Clock, Step as Asks}
 use Rattle.statement.specs.ServedLine.{served_line_says}

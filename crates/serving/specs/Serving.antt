@@ -11,11 +11,11 @@ use Rattle.tsbtree.specs.View.{TreeState}
 use Rattle.staging.specs.View.{Holds}
 use Rattle.staging.specs.Own.{own}
 use Rattle.validation.specs.declared.cut.Cut.{Cut}
-use Rattle.histories.specs.declared.step.Listing.{Listing}
-use Rattle.histories.specs.declared.step.Step.{Step}
-use Rattle.histories.specs.declared.step.Reply.{Reply}
-use Rattle.histories.specs.declared.step.Reply.TheVariants.{Refused, Shown, Done}
-use Rattle.histories.specs.History.{commit_reply}
+use Rattle.steps.specs.declared.step.Listing.{Listing}
+use Rattle.steps.specs.declared.step.Step.{Step}
+use Rattle.steps.specs.declared.step.Reply.{Reply}
+use Rattle.steps.specs.declared.step.Reply.TheVariants.{Refused, Shown, Done}
+use Rattle.steps.specs.Reply.{commit_reply}
 use Rattle.statement.specs.Print.{refusal_text, reply_text}
 use Rattle.journal.specs.declared.entry.Entry.{Entry}
 use Rattle.journal.specs.declared.entry.Entry.TheVariants.{Begin, Commit, Split, Install}

@@ -5,9 +5,9 @@ ghost use Rattle.values.specs.Memory.{OnlyMemory};
 use crate::served_session::Told;
 use growlog::StoreName;
 use journal::Receipt;
-use rows::{Mem, Refusal};
 use std::alloc::Global;
 use std::marker::Model;
+use values::{Mem, Refusal};
 
 /// What is reported of each line so far, and the receipts that the lines took. Contracts see both,
 /// and for how many more lines there is room.

@@ -2,16 +2,16 @@
 ghost use Rattle.std.specs.Prelude.{◌≡◌};
 ghost use Rattle.statement.specs.Writer.{Prints};
 ghost use Rattle.statement.specs.Print.{reply_text};
-ghost use Rattle.histories.specs.History.{commit_reply};
+ghost use Rattle.steps.specs.Reply.{commit_reply};
 ghost use Rattle.serving.specs.Serving.{ending_in};
 
 use growlog::StoreName;
-use histories::Reply;
 use journal::{Entry, Receipt};
-use rows::{Instant, Refusal};
 use statement::{WriteFault, print_refusal, print_reply};
 use std::io::Write;
 use std::marker::Model;
+use steps::Reply;
+use values::{Instant, Refusal};
 
 /// What is sent for a step.
 #[derive(Drop)]

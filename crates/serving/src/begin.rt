@@ -1,14 +1,14 @@
 //! BEGIN.
 ghost use Rattle.std.specs.Prelude.{◌≡◌};
-ghost use Rattle.histories.specs.declared.step.Step.TheVariants.{Begin};
+ghost use Rattle.steps.specs.declared.step.Step.TheVariants.{Begin};
 ghost use Rattle.serving.specs.Serving.{IsStepped};
 
 use crate::answer::{Answer, Sent};
 use growlog::StoreName;
-use histories::Reply;
-use rows::Refusal;
 use sessions::{LockedStore, Session};
 use std::sync::Wait;
+use steps::Reply;
+use values::Refusal;
 
 /// Begins the session's transaction, unless one is open.
 pub(crate) fn take_begin<J: StoreName, R: Wait>(

@@ -1,15 +1,15 @@
 //! COMMIT and ROLLBACK.
 ghost use Rattle.std.specs.Prelude.{◌≡◌};
-ghost use Rattle.histories.specs.declared.step.Step.TheVariants.{Commit, Rollback};
+ghost use Rattle.steps.specs.declared.step.Step.TheVariants.{Commit, Rollback};
 ghost use Rattle.serving.specs.Serving.{IsStepped};
 
 use crate::answer::{Answer, Sent};
 use crate::readings::Readings;
 use growlog::StoreName;
-use histories::Reply;
-use rows::Refusal;
 use sessions::{LockedStore, Session};
 use std::sync::Wait;
+use steps::Reply;
+use values::Refusal;
 
 /// Ends the session's transaction, if one is open, by the next reading of the clock.
 pub(crate) fn take_commit<J: StoreName, R: Wait, C: Readings>(

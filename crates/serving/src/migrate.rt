@@ -1,17 +1,17 @@
 //! MIGRATE.
 ghost use Rattle.std.specs.Prelude.{◌≡◌, IfErr, IfOk};
-ghost use Rattle.histories.specs.declared.step.Step.TheVariants.{Migrate};
+ghost use Rattle.steps.specs.declared.step.Step.TheVariants.{Migrate};
 ghost use Rattle.serving.specs.Serving.{HasServiceBegun, IsMigrated, IsNoRoom, IsPackedOf, IsStepped, given_of, reply_of};
 
 use crate::answer::{Answer, Sent};
 use growlog::StoreName;
-use histories::Reply;
 use journal::{Entry, Receipt};
-use rows::Refusal;
 use sessions::{LockedStore, Session};
 use std::alloc::Global;
 use std::sync::Wait;
+use steps::Reply;
 use validation::{find_job, pack_job};
+use values::Refusal;
 
 /// Packs the first data node of history that a begin of the service's own session shows unpacked,
 /// if there is one. The session that asks is not changed.

@@ -1,15 +1,15 @@
 //! SELECT.
 ghost use Rattle.std.specs.Prelude.{◌≡◌, None};
-ghost use Rattle.histories.specs.declared.step.Step.TheVariants.{Select};
+ghost use Rattle.steps.specs.declared.step.Step.TheVariants.{Select};
 ghost use Rattle.sessions.specs.SessionState.{with_transaction};
 ghost use Rattle.serving.specs.Serving.{IsSentFor, IsStepped, sent_listing};
 
 use crate::answer::{Answer, Sent};
 use growlog::StoreName;
-use histories::{Listing, Reply};
-use rows::{Form, Keys, Refusal};
 use sessions::{LockedStore, Session};
 use std::sync::Wait;
+use steps::{Listing, Reply};
+use values::{Form, Keys, Refusal};
 
 /// Answers a query; if no transaction is open, one begins for it and is rolled back.
 pub(crate) fn take_query<J: StoreName, R: Wait>(

@@ -13,14 +13,14 @@ use crate::service::Service;
 use crate::step::take_step;
 use crate::write::refused_write;
 use growlog::StoreName;
-use histories::Step;
 use lines::LineBuffer;
-use rows::Refusal;
 use sessions::{Gate, Place, Session};
 use statement::{Line, read_served};
 use std::alloc::Global;
 use std::io::Write;
 use std::sync::Wait;
+use steps::Step;
+use values::Refusal;
 
 /// Serves a line: its step is taken, and what is sent for it written. A query first passes the
 /// gate, and a commit that ended a transaction passes it when its reply is written.

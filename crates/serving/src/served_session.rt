@@ -1,7 +1,7 @@
 //! The outcome of a served session.
 use growlog::StoreName;
 use journal::Receipt;
-use rows::Refusal;
+use values::Refusal;
 
 /// What is kept of a line: how many receipts it took, and what it was refused for where that was
 /// memory, a full journal, or a transaction that is not open at the store.

@@ -1,17 +1,16 @@
 //! SPLIT.
 ghost use Rattle.std.specs.Prelude.{◌≡◌, None};
-ghost use Rattle.histories.specs.declared.step.Step.TheVariants.{SplitKey, SplitTime};
+ghost use Rattle.steps.specs.declared.step.Step.TheVariants.{SplitKey, SplitTime};
 ghost use Rattle.serving.specs.Serving.{IsCutBy, IsStepped, reply_of};
 
 use crate::answer::{Answer, Sent};
 use growlog::StoreName;
-use histories::{Reply, key_misfit};
-use rows::{Instant, Key};
 use sessions::{LockedStore, Session};
 use std::alloc::Global;
 use std::sync::Wait;
+use steps::{Reply, key_misfit};
 use validation::Cut;
-use values::fitting_key_bytes;
+use values::{Instant, Key, fitting_key_bytes};
 
 /// Splits the current data node of a key there.
 pub(crate) fn take_key_split<J: StoreName, R: Wait>(

@@ -11,10 +11,10 @@ use crate::readings::Readings;
 use crate::split::{take_key_split, take_time_split};
 use crate::write::take_write;
 use growlog::StoreName;
-use histories::Step;
 use sessions::{LockedStore, Session};
 use std::alloc::Global;
 use std::sync::Wait;
+use steps::Step;
 use values::Write;
 
 /// Takes a step, which is the session's whatever number it has.

@@ -1,14 +1,13 @@
 //! INSERT, UPDATE and DELETE.
 ghost use Rattle.std.specs.Prelude.{◌≡◌, None};
-ghost use Rattle.histories.specs.Written.{step_of};
+ghost use Rattle.steps.specs.Write.{step_of};
 ghost use Rattle.serving.specs.Serving.{IsStepped, sent_refusal};
 
 use crate::answer::Answer;
 use growlog::StoreName;
-use histories::Reply;
-use rows::Refusal;
 use sessions::Session;
-use values::Write;
+use steps::Reply;
+use values::{Refusal, Write};
 
 /// Inserts, updates or deletes rows in the session's transaction.
 pub(crate) fn take_write<J: StoreName>(session: &mut Session, write: Write<'_>) -> Answer<J>

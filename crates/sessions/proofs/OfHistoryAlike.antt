@@ -7,14 +7,16 @@ use Rattle.values.specs.declared.refusal.Refusal.TheVariants.{NoTransaction}
 use Rattle.values.specs.Tables.{Schema}
 use Rattle.values.specs.Log.{Log, upto, changes}
 use Rattle.values.specs.Writes.{Own}
-use Rattle.histories.specs.declared.step.Step.{Step}
-use Rattle.histories.specs.declared.step.Step.TheVariants.{Begin, Insert, Update, Delete, Select, Commit, Rollback, SplitKey, SplitTime, Migrate}
-use Rattle.histories.specs.declared.step.Reply.{Reply}
-use Rattle.histories.specs.declared.step.Reply.TheVariants.{Refused}
-use Rattle.histories.specs.Misfit.{misfit}
-use Rattle.histories.specs.History.{History, ends, begins, is_write_of, is_refused, log, log_at_begin, own, own_of, reply, reply_in, rewrite_all, seen_of, snap, snap_of, write, write_reply, writer, written_reply}
+use Rattle.steps.specs.declared.step.Step.{Step}
+use Rattle.steps.specs.declared.step.Step.TheVariants.{Begin, Insert, Update, Delete, Select, Commit, Rollback, SplitKey, SplitTime, Migrate}
+use Rattle.steps.specs.declared.step.Reply.{Reply}
+use Rattle.steps.specs.declared.step.Reply.TheVariants.{Refused}
+use Rattle.steps.specs.Misfit.{misfit}
+use Rattle.histories.specs.History.{History, ends, begins, log, log_at_begin, own, own_of, reply, reply_in, rewrite_all, seen_of, snap, snap_of}
+use Rattle.steps.specs.Write.{is_write_of, write, writer}
+use Rattle.steps.specs.Reply.{is_refused, write_reply, written_reply}
 use Rattle.histories.proofs.StandsEnds.{itself}
-use Rattle.histories.proofs.HistoryWritten.{write_is, is_err}
+use Rattle.steps.proofs.WriteLeaves.{write_is, is_err}
 use Rattle.sessions.specs.SessionState.{write_by}
 use Rattle.sessions.specs.OfHistory.{own_at, WritesAnswerAlike, WritesLeaveAlike}
 

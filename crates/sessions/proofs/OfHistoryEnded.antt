@@ -10,10 +10,10 @@ use Rattle.values.specs.Tables.{Schema}
 use Rattle.values.specs.Log.{Log, Changes, Row, row_at}
 use Rattle.values.specs.Writes.{Own}
 use Rattle.staging.specs.Own.{own as own_over, rows_seen}
-use Rattle.histories.specs.declared.step.Step.{Step}
-use Rattle.histories.specs.declared.step.Step.TheVariants.{Rollback}
-use Rattle.histories.specs.declared.step.Reply.TheVariants.{Refused, RolledBack}
-use Rattle.histories.specs.Misfit.{key_misfit, max_session, no_session}
+use Rattle.steps.specs.declared.step.Step.{Step}
+use Rattle.steps.specs.declared.step.Step.TheVariants.{Rollback}
+use Rattle.steps.specs.declared.step.Reply.TheVariants.{Refused, RolledBack}
+use Rattle.steps.specs.Misfit.{key_misfit, max_session, no_session}
 use Rattle.histories.specs.History.{History, log, log_at_begin, own, own_of, mine_of}
 use Rattle.histories.proofs.StandsEnds.{itself}
 use Rattle.sessions.specs.SessionState.{SessionTransactionState}

@@ -16,10 +16,10 @@ use Rattle.staging.specs.Own.{rows_seen}
 use Rattle.staging.proofs.ViewBridge.{sorted_base}
 use Rattle.staging.proofs.StagedEntries.{lookup-filter, same_key, sorted_apply}
 use Rattle.transaction.specs.Listing.{listing_in}
-use Rattle.histories.specs.declared.step.Listing.TheVariants.{Rows}
-use Rattle.histories.specs.declared.step.Step.TheVariants.{Select}
-use Rattle.histories.specs.declared.step.Reply.TheVariants.{Shown}
-use Rattle.histories.specs.Misfit.{key_misfit}
+use Rattle.steps.specs.declared.step.Listing.TheVariants.{Rows}
+use Rattle.steps.specs.declared.step.Step.TheVariants.{Select}
+use Rattle.steps.specs.declared.step.Reply.TheVariants.{Shown}
+use Rattle.steps.specs.Misfit.{key_misfit}
 use Rattle.histories.specs.History.{reply}
 use Rattle.sessions.specs.SessionState.{SessionTransactionState}
 use Rattle.sessions.specs.OfHistory.{row_alone, shown_reply, GetsAsListed}

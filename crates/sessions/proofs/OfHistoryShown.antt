@@ -13,12 +13,13 @@ use Rattle.values.specs.Versions.{answer}
 use Rattle.values.specs.Writes.{Own}
 use Rattle.staging.specs.Own.{own as own_over}
 use Rattle.transaction.specs.Listing.{listing_in}
-use Rattle.histories.specs.declared.step.Listing.TheVariants.{Rows, Periods}
-use Rattle.histories.specs.declared.step.Step.TheVariants.{Select}
-use Rattle.histories.specs.declared.step.Reply.TheVariants.{Refused, Shown}
-use Rattle.histories.specs.Misfit.{misfit}
+use Rattle.steps.specs.declared.step.Listing.TheVariants.{Rows, Periods}
+use Rattle.steps.specs.declared.step.Step.TheVariants.{Select}
+use Rattle.steps.specs.declared.step.Reply.TheVariants.{Refused, Shown}
+use Rattle.steps.specs.Misfit.{misfit}
 use Rattle.histories.specs.History as history
-use Rattle.histories.specs.History.{History, log, log_at_begin, own, own_of, mine_of, rows_of, rows_taken, snap}
+use Rattle.histories.specs.History.{History, log, log_at_begin, own, own_of, mine_of, snap}
+use Rattle.steps.specs.Listing.{rows_of, rows_taken}
 use Rattle.sessions.specs.SessionState.{SessionTransactionState, SessionState}
 use Rattle.sessions.specs.OfHistory.{IsIn, shown_reply, QueriesAnswerAlike}
 

@@ -15,12 +15,14 @@ use Rattle.tsbtree.specs.View.{TreeState, last as view_last}
 use Rattle.staging.specs.View.{Holds}
 use Rattle.staging.specs.Own.{own as own_over, net_over}
 use Rattle.validation.specs.declared.cut.Cut.{Cut}
-use Rattle.histories.specs.declared.step.Step.{Step}
-use Rattle.histories.specs.declared.step.Step.TheVariants.{Begin as BeginStep, Commit as CommitStep, Insert, Update, Delete, Select, Rollback, SplitKey, SplitTime, Migrate}
-use Rattle.histories.specs.declared.step.Reply.{Reply}
-use Rattle.histories.specs.declared.step.Reply.TheVariants.{Begun, Done, Refused}
-use Rattle.histories.specs.Misfit.{max_session, misfit}
-use Rattle.histories.specs.History.{History, begins, commit_reply, is_refused, log, log_at_begin, own, own_of, net, net_change_of, reply, reply_in, rewrite_all, snap, snap_of, write_reply, writer}
+use Rattle.steps.specs.declared.step.Step.{Step}
+use Rattle.steps.specs.declared.step.Step.TheVariants.{Begin as BeginStep, Commit as CommitStep, Insert, Update, Delete, Select, Rollback, SplitKey, SplitTime, Migrate}
+use Rattle.steps.specs.declared.step.Reply.{Reply}
+use Rattle.steps.specs.declared.step.Reply.TheVariants.{Begun, Done, Refused}
+use Rattle.steps.specs.Misfit.{max_session, misfit}
+use Rattle.histories.specs.History.{History, begins, log, log_at_begin, own, own_of, net, net_change_of, reply, reply_in, rewrite_all, snap, snap_of}
+use Rattle.steps.specs.Reply.{commit_reply, is_refused, write_reply}
+use Rattle.steps.specs.Write.{writer}
 use Rattle.histories.proofs.StandsEnds.{itself}
 use Rattle.histories.proofs.HistoryGrowth.{log_rises, step_adds}
 use Rattle.histories.proofs.HistoryNow.{rows_now}

@@ -13,14 +13,16 @@ use Rattle.values.specs.Order.{is_key}
 use Rattle.values.specs.Versions.{matches}
 use Rattle.values.specs.Log.{Changes, Row, row_at, upto, changes}
 use Rattle.values.specs.Writes.{Own}
-use Rattle.histories.specs.declared.step.Listing.{Listing}
-use Rattle.histories.specs.declared.step.Listing.TheVariants.{Rows}
-use Rattle.histories.specs.declared.step.Reply.{Reply}
-use Rattle.histories.specs.declared.step.Reply.TheVariants.{Refused, RolledBack, Shown}
-use Rattle.histories.specs.declared.step.Step.{Step}
-use Rattle.histories.specs.declared.step.Step.TheVariants.{Rollback, Select}
-use Rattle.histories.specs.Misfit.{key_misfit, max_session, misfit}
-use Rattle.histories.specs.History.{History, log, log_at_begin, mine, own, own_of, reply, snap, writer, written_reply}
+use Rattle.steps.specs.declared.step.Listing.{Listing}
+use Rattle.steps.specs.declared.step.Listing.TheVariants.{Rows}
+use Rattle.steps.specs.declared.step.Reply.{Reply}
+use Rattle.steps.specs.declared.step.Reply.TheVariants.{Refused, RolledBack, Shown}
+use Rattle.steps.specs.declared.step.Step.{Step}
+use Rattle.steps.specs.declared.step.Step.TheVariants.{Rollback, Select}
+use Rattle.steps.specs.Misfit.{key_misfit, max_session, misfit}
+use Rattle.histories.specs.History.{History, log, log_at_begin, mine, own, own_of, reply, snap}
+use Rattle.steps.specs.Write.{writer}
+use Rattle.steps.specs.Reply.{written_reply}
 use Rattle.sessions.specs.SessionState.{SessionState, get_in, own_in, select_in, with_transaction, write_in}
 
 -- the rows that the history's open transaction sees and the keys that it wrote

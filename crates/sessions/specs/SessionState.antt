@@ -15,11 +15,11 @@ use Rattle.staging.specs.View.{Holds}
 use Rattle.staging.specs.Own.{own, rows_seen}
 use Rattle.transaction.specs.Listing.{listing_in}
 use Rattle.transaction.specs.OpenTransactionState.{OpenTransactionState}
-use Rattle.histories.specs.declared.step.Listing.{Listing}
-use Rattle.histories.specs.declared.step.Step.{Step}
-use Rattle.histories.specs.declared.step.Step.TheVariants.{Select}
-use Rattle.histories.specs.Misfit.{max_session, misfit, key_misfit}
-use Rattle.histories.specs.History.{write}
+use Rattle.steps.specs.declared.step.Listing.{Listing}
+use Rattle.steps.specs.declared.step.Step.{Step}
+use Rattle.steps.specs.declared.step.Step.TheVariants.{Select}
+use Rattle.steps.specs.Misfit.{max_session, misfit, key_misfit}
+use Rattle.steps.specs.Write.{write}
 use Rattle.journal.specs.BegunState.{BegunState}
 
 -- an open transaction: its begin, what it sees of what was committed, and its own writes

@@ -11,12 +11,14 @@ use Rattle.tsbtree.specs.View.{last as view_last}
 use Rattle.staging.specs.View.{Holds}
 use Rattle.validation.specs.declared.cut.Cut.{Cut}
 use Rattle.validation.specs.declared.cut.Cut.TheVariants.{Key, Time}
-use Rattle.histories.specs.declared.step.Reply.{Reply}
-use Rattle.histories.specs.declared.step.Reply.TheVariants.{Begun, Done, Refused}
-use Rattle.histories.specs.declared.step.Step.{Step}
-use Rattle.histories.specs.declared.step.Step.TheVariants.{Begin as BeginStep, Commit as CommitStep, Rollback, Select, SplitKey, SplitTime, Migrate}
-use Rattle.histories.specs.Misfit.{max_session, misfit}
-use Rattle.histories.specs.History.{History, begins, commit_reply, ends, is_write_of, log, reply, snap, writer}
+use Rattle.steps.specs.declared.step.Reply.{Reply}
+use Rattle.steps.specs.declared.step.Reply.TheVariants.{Begun, Done, Refused}
+use Rattle.steps.specs.declared.step.Step.{Step}
+use Rattle.steps.specs.declared.step.Step.TheVariants.{Begin as BeginStep, Commit as CommitStep, Rollback, Select, SplitKey, SplitTime, Migrate}
+use Rattle.steps.specs.Misfit.{max_session, misfit}
+use Rattle.histories.specs.History.{History, begins, ends, log, reply, snap}
+use Rattle.steps.specs.Reply.{commit_reply}
+use Rattle.steps.specs.Write.{is_write_of, writer}
 use Rattle.journal.specs.declared.entry.Entry.{Entry}
 use Rattle.journal.specs.declared.entry.Entry.TheVariants.{Begin, Commit, Split, Install}
 use Rattle.journal.specs.Entries.{Entries, entry_at, log as journal_log}

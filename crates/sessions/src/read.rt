@@ -1,12 +1,12 @@
 //! Reads: by the session's own view and its own writes, with no lock.
 ghost use Rattle.std.specs.Prelude.{◌≡◌};
-ghost use Rattle.histories.specs.declared.step.Step.TheVariants.{Select};
-ghost use Rattle.histories.specs.Misfit.{misfit, key_misfit};
+ghost use Rattle.steps.specs.declared.step.Step.TheVariants.{Select};
+ghost use Rattle.steps.specs.Misfit.{misfit, key_misfit};
 ghost use Rattle.sessions.specs.SessionState.{IsGet, IsSelect, TakesNoMemory};
 
 use crate::session::Session;
-use histories::{Listing, fit_keys, key_misfit};
-use rows::{Form, Key, Keys, Refusal, Row};
+use steps::{Listing, fit_keys, key_misfit};
+use values::{Form, Key, Keys, Refusal, Row};
 
 impl Session {
     /// Returns the row that the transaction sees at a key, if there is one. `NoTable`; `BadRow`

@@ -1,6 +1,6 @@
 //! A session: what its transaction sees, and its own writes. Nothing here takes a lock.
 ghost use Rattle.std.specs.Prelude.{◌≡◌, ◌<◌, ◌≤◌, [], Err, IfOk, IsOk, MatchOption, None, Some};
-ghost use Rattle.histories.specs.Misfit.{max_session};
+ghost use Rattle.steps.specs.Misfit.{max_session};
 ghost use Rattle.values.specs.Log.{Changes};
 ghost use Rattle.tsbtree.specs.View.{last};
 ghost use Rattle.staging.specs.View.{Holds};
@@ -8,13 +8,13 @@ ghost use Rattle.sessions.specs.SessionState.{session_transaction, start_of, wit
 
 use book::Opening;
 use growlog::StoreName;
-use histories::MAX_SESSION;
 use journal::{Begun, Receipt};
-use rows::{Instant, Refusal, Schema};
 use std::alloc::Global;
 use std::marker::Model;
+use steps::MAX_SESSION;
 use systime_query::BlockCache;
 use transaction::OpenTransaction;
+use values::{Instant, Refusal, Schema};
 
 /// A transaction that a session has open, and where it began.
 #[derive(Drop)]

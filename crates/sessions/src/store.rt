@@ -4,7 +4,7 @@ ghost use Rattle.values.specs.Events.{AreKeysIn};
 ghost use Rattle.values.specs.Log.{Changes};
 ghost use Rattle.values.specs.Memory.{OnlyMemory};
 ghost use Rattle.values.specs.Tables.{Schema as Tables};
-ghost use Rattle.histories.specs.Misfit.{max_session};
+ghost use Rattle.steps.specs.Misfit.{max_session};
 ghost use Rattle.staging.specs.Own.{net_over};
 ghost use Rattle.staging.specs.View.{Holds};
 ghost use Rattle.journal.specs.Entries.{entry_at, numbers};
@@ -15,12 +15,12 @@ use crate::session::{Session, SessionTransaction};
 use book::{Book, Closed, Opening};
 use growlog::{NewLog, StoreName};
 use journal::{Receipt, SharedEntry};
-use rows::{Instant, Mem, Refusal, Schema};
 use staging::Net;
 use std::alloc::Global;
 use std::sync::{Mutex, Wait};
 use transaction::OpenTransaction;
 use validation::{Cut, PackedNode};
+use values::{Instant, Mem, Refusal, Schema};
 
 /// A store round which many threads run sessions. What its calls promise holds if they return.
 #[derive(Drop)]

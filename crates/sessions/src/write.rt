@@ -1,13 +1,12 @@
 //! INSERT, UPDATE and DELETE: the open transaction keeps them, and nobody else sees them.
 ghost use Rattle.std.specs.Prelude.{◌≡◌, OnErr};
-ghost use Rattle.histories.specs.Misfit.{misfit};
-ghost use Rattle.histories.specs.Written.{step_of};
+ghost use Rattle.steps.specs.Misfit.{misfit};
+ghost use Rattle.steps.specs.Write.{step_of};
 ghost use Rattle.sessions.specs.SessionState.{IsWrite, TakesNoMemory, WithWrites};
 
 use crate::session::Session;
-use histories::fit_write;
-use rows::Refusal;
-use values::Write;
+use steps::fit_write;
+use values::{Refusal, Write};
 
 impl Session {
     /// Inserts, updates or deletes rows of a table, and returns how many. `NoTable`; `BadRow` with

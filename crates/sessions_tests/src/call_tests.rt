@@ -4,12 +4,12 @@ use crate::scene::{Audit, Scene, play};
 use crate::step::{begin, split};
 use growlog::StoreName;
 use journal::Receipt;
-use rows::{Form, KeyBytes, Keys};
 use sessions::{LockedStore, Session};
 use std::alloc::Global;
 use std::process::Abort;
 use std::sync::Wait;
 use validation::Cut;
+use values::{Form, KeyBytes, Keys};
 
 /// An open transaction writes: whether the new name is seen, and how many rows are seen after a deletion.
 fn write_all(rt: &impl Abort, alloc: Global, session: &mut Session) -> (bool, usize) {

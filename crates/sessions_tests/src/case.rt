@@ -2,7 +2,6 @@
 use crate::scene::Audit;
 use growlog::StoreName;
 use journal::Receipt;
-use rows::Instant;
 use serving::{End, Readings, Served, Told, serve_session};
 use sessions::{Gate, LockedStore, Place};
 use std::alloc::Global;
@@ -10,6 +9,7 @@ use std::io;
 use std::io::{ErrorKind, Read, Write};
 use std::process::Abort;
 use std::sync::Wait;
+use values::Instant;
 
 /// A session that is served: what it reads, how far that and its replies can go, what is written until it ends, why it
 /// ends, how many lines it has then, how many reads it had left, and what the store shows that is closed with its receipts.

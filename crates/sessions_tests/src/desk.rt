@@ -1,12 +1,9 @@
 //! Employees, and what a session does and sees of them. The run ends where a call that must succeed does not.
-use histories::Listing;
-use rows::{
-    Chars, Comparison, Form, Key, Keys, Operator, Refusal, Row, Schema, Set, Value, Values,
-};
 use sessions::Session;
 use std::alloc::Global;
 use std::process::Abort;
-use values::Write;
+use steps::Listing;
+use values::{Chars, Comparison, Form, Key, Keys, Operator, Refusal, Row, Schema, Set, Value, Values, Write};
 
 fn text(rt: &impl Abort, alloc: Global, name: &str) -> Value {
     Value::Text(Chars::copy_of(alloc, name).expect(rt, "the name is short"))

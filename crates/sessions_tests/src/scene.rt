@@ -12,17 +12,17 @@ use crate::store_tests::{commit_elsewhere, count_beside};
 use crate::thread_tests::{hire_in_threads, keep_view, name_in_threads};
 use book::Closed;
 use growlog::{NewLog, StoreName};
-use histories::fit_keys;
 use journal::{Receipt, SharedEntry};
-use rows::{Form, Keys, Schema};
 use sessions::{LockedStore, Unclosed};
 use std::alloc::Global;
 use std::marker::Brand;
 use std::process::Abort;
 use std::sync::Wait;
 use std::thread::Threads;
+use steps::fit_keys;
 use systime_query::BlockCache;
 use transaction::listing_of;
+use values::{Form, Keys, Schema};
 
 /// What a closed store shows: how many entries, how many employees, and the instant of the last commit.
 pub(crate) type Audit = (usize, usize, u64);

@@ -2,12 +2,12 @@
 use crate::desk::{insert, sees, set_name};
 use growlog::StoreName;
 use journal::{Entry, Receipt};
-use rows::{Instant, KeyBytes, Refusal};
 use sessions::{LockedStore, Session};
 use std::alloc::Global;
 use std::process::Abort;
 use std::sync::Wait;
 use validation::Cut;
+use values::{Instant, KeyBytes, Refusal};
 
 /// Begins a session's transaction.
 pub(crate) fn begin<J: StoreName, R: Abort + Wait>(

@@ -6,12 +6,12 @@ use crate::scene::{Audit, Scene, closed_with, play};
 use crate::step::{begin, commit};
 use growlog::{NewLog, StoreName};
 use journal::{Receipt, SharedEntry};
-use rows::Schema;
 use sessions::{LockedStore, Session};
 use std::alloc::Global;
 use std::marker::Brand;
 use std::process::Abort;
 use std::sync::Wait;
+use values::Schema;
 
 /// A transaction of a session inserts an employee, and the session begins again: how many it sees then.
 pub(crate) fn hire_and_count<J: StoreName, R: Abort + Wait>(

@@ -7,9 +7,9 @@ use Rattle.values.specs.Fit.{row_fault}
 use Rattle.values.specs.Log.{Row}
 use Rattle.values.specs.declared.refusal.Refusal.{Refusal}
 use Rattle.values.specs.declared.refusal.Refusal.TheVariants.{Syntax, NoTable, BadRow, NoSession}
-use Rattle.histories.specs.declared.step.Step.{Step}
-use Rattle.histories.specs.declared.step.Step.TheVariants.{Begin as Begins, Insert as Inserts, Update as Updates, Delete as Deletes, Select as Selects, Commit as Commits, Rollback as RollsBack, SplitKey as SplitsKey, SplitTime as SplitsTime}
-use Rattle.histories.specs.Misfit.{max_session, misfit, misfit_of, no_session, bad_row}
+use Rattle.steps.specs.declared.step.Step.{Step}
+use Rattle.steps.specs.declared.step.Step.TheVariants.{Begin as Begins, Insert as Inserts, Update as Updates, Delete as Deletes, Select as Selects, Commit as Commits, Rollback as RollsBack, SplitKey as SplitsKey, SplitTime as SplitsTime}
+use Rattle.steps.specs.Misfit.{max_session, misfit, misfit_of, no_session, bad_row}
 use Rattle.tokens.specs.Token.{◌>>=◌}
 use Rattle.statement.specs.declared.line.Line.{Line}
 use Rattle.statement.specs.declared.line.Written.{Written}

@@ -2,8 +2,8 @@
 use Rattle.std.specs.Prelude.{ℕ, ◌-◌, ◌^◌, List, [], ◌∷◌, ◌==◌, ◌&&◌, nat_lt, Bool, true, false, Result, Ok, Err, slice_index, length, take, codes, if◌then◌else◌}
 use Rattle.std.specs.Char.{is_ascii_digit}
 use Rattle.values.specs.Tables.{Schema}
-use Rattle.histories.specs.declared.step.Step.{Step}
-use Rattle.histories.specs.declared.step.Step.TheVariants.{SplitKey as SplitsKey, SplitTime as SplitsTime, Migrate as Migrates}
+use Rattle.steps.specs.declared.step.Step.{Step}
+use Rattle.steps.specs.declared.step.Step.TheVariants.{SplitKey as SplitsKey, SplitTime as SplitsTime, Migrate as Migrates}
 use Rattle.values.specs.declared.refusal.Refusal.{Refusal}
 use Rattle.values.specs.declared.refusal.Refusal.TheVariants.{Syntax, LineTooLong}
 use Rattle.statement.specs.declared.line.Line.{Line}

@@ -13,9 +13,9 @@ use Rattle.values.specs.Tables.{table_at}
 use Rattle.values.specs.Fit.{row_fault}
 use Rattle.statement.specs.declared.statement.Statement.{Statement}
 use Rattle.statement.specs.declared.statement.Statement.TheVariants.{Begin, Insert, Update, Delete, Select, Commit, Rollback}
-use Rattle.histories.specs.declared.step.Step.{Step}
-use Rattle.histories.specs.declared.step.Step.TheVariants.{Begin as Begins, Insert as Inserts, Update as Updates, Delete as Deletes, Select as Selects, Commit as Commits, Rollback as RollsBack}
-use Rattle.histories.specs.Misfit.{max_session, misfit}
+use Rattle.steps.specs.declared.step.Step.{Step}
+use Rattle.steps.specs.declared.step.Step.TheVariants.{Begin as Begins, Insert as Inserts, Update as Updates, Delete as Deletes, Select as Selects, Commit as Commits, Rollback as RollsBack}
+use Rattle.steps.specs.Misfit.{max_session, misfit}
 use Rattle.tokens.specs.Token.{◌>>=◌}
 
 -- each name of a column list is a column's, and none is repeated

@@ -6,10 +6,9 @@ ghost use Rattle.statement.specs.Condition.{table_of, column_of, table_name_at, 
 use crate::list::{Item, enclosed_at, list_at};
 use crate::literal::literal_at;
 use crate::token::Blanks;
-use rows::Schema;
 use std::alloc::Global;
 use tokens::{After, Made, Read, Separators, name_at, symbol_at, word_at};
-use values::{ColumnNumber, Comparison, Keys, Operator, Sequence, Set, Sets};
+use values::{ColumnNumber, Comparison, Keys, Operator, Schema, Sequence, Set, Sets};
 
 /// Reads the name of a table: its number, or 0 where there is none of the name.
 #[tactic(auto, unfolding(crate::specs::Condition::table_name_at))]

@@ -18,10 +18,10 @@ pub use grammar_law::{
     faults_are_final, lines_are_read_by_the_grammar, printed_rows_are_read,
     served_faults_are_final, served_lines_are_read_by_the_grammar,
 };
-pub use histories::{Listing, Reply, Step};
 pub use line::{Line, read_line};
 pub use literal::{digits_here, number_here};
 pub use meaning::{is_column_list, place_of, row_in};
 pub use print::{print_refusal, print_reply};
 pub use served_line::read_served;
+pub use steps::{Listing, Reply, Step};
 pub use writer::{WriteFault, print_number, write_all};

@@ -9,12 +9,11 @@ use crate::meaning::{fitting_step, step_of};
 use crate::split::split_at;
 use crate::statement::{Statement, instant_at, statement_at};
 use crate::token::{Blanks, after_semicolon, end_at};
-use histories::Step;
 use lines::LONGEST_LINE;
-use rows::Schema;
 use std::alloc::Global;
+use steps::Step;
 use tokens::{Made, Read, Separators, Stop, symbol_at, word_at};
-use values::{Instant, Key, MAX_INT, Refusal};
+use values::{Instant, Key, MAX_INT, Refusal, Schema};
 
 /// What a line of a script says.
 #[derive(Drop)]

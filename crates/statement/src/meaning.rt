@@ -7,11 +7,11 @@ ghost use Rattle.statement.specs.Memory.{UnlessMemory, is_insert};
 
 use crate::literal::WrittenRows;
 use crate::statement::{Columns, Statement};
-use histories::{MAX_SESSION, Step};
-use rows::Schema;
 use std::alloc::{AllocError, Global};
+use steps::{MAX_SESSION, Step};
 use values::{
-    ColumnNumber, Instant, Mem, Refusal, Row, Rows, Table, Value, Values, fitting_rows_have_bytes,
+    ColumnNumber, Instant, Mem, Refusal, Row, Rows, Schema, Table, Value, Values,
+    fitting_rows_have_bytes,
 };
 
 /// Tells whether each name of a column list is a column's, and none is repeated. Columns are

@@ -7,8 +7,8 @@ ghost use Rattle.statement.specs.Writer.{Prints};
 ghost use Rattle.statement.specs.Print.{line, numbered, quoted_byte, quoted, value_text, next_text, values_text, end_text, row_line, shown_line, listing_text, refusal_text, reply_text};
 
 use crate::writer::{WriteFault, print_number, write_all};
-use histories::{Listing, Reply};
 use std::io::Write;
+use steps::{Listing, Reply};
 use values::{Instant, Key, Refusal, Row, Shown, Value};
 
 /// What encloses a text, and is doubled inside it.

@@ -9,10 +9,9 @@ use crate::split::split_at;
 use crate::statement::statement_at;
 use crate::token::{Blanks, after_semicolon, end_at};
 use lines::LONGEST_LINE;
-use rows::Schema;
 use std::alloc::Global;
 use tokens::{Made, Separators, Stop, word_at};
-use values::{Instant, Refusal};
+use values::{Instant, Refusal, Schema};
 
 /// A statement of the session that a line comes from.
 #[tactic(auto, unfolding(crate::specs::ServedLine::request_at))]

@@ -11,10 +11,9 @@ use crate::line::Written;
 use crate::literal::row_at;
 use crate::statement::instant_at;
 use crate::token::{Blanks, end_at};
-use rows::Schema;
 use std::alloc::Global;
 use tokens::{Made, symbol_at, word_at};
-use values::Key;
+use values::{Key, Schema};
 
 /// A table's number, which is 0 where there is no such table, and the values for its key.
 #[tactic(auto, unfolding(crate::specs::Split::key_at))]

@@ -7,10 +7,9 @@ ghost use Rattle.statement.specs.Statement.{instant_at, as_of_at, from_to_at, be
 use crate::condition::{columns_at, keys_at, sets_at, table_name_at};
 use crate::literal::{WrittenRows, digits_at, rows_at};
 use crate::token::{Blanks, after_optional_word};
-use rows::Schema;
 use std::alloc::Global;
 use tokens::{Made, Read, symbol_at, word_at};
-use values::{ColumnNumber, Form, Instant, Keys, MAX_INSTANT, Sequence, Sets};
+use values::{ColumnNumber, Form, Instant, Keys, MAX_INSTANT, Schema, Sequence, Sets};
 
 /// A column list, in its order.
 pub type Columns = Sequence<ColumnNumber>;

@@ -1,10 +1,9 @@
 //! Steps before a script.
-use histories::Step;
-use rows::Schema;
 use scripts::{RunFault, run_script_after};
 use std::alloc::Global;
 use std::process::Abort;
-use values::{Refusal, Row, Rows, Value};
+use steps::Step;
+use values::{Refusal, Row, Rows, Schema, Value};
 
 /// Steps of the service's session that insert one row.
 fn one_row(rt: &impl Abort, alloc: Global) -> Vec<Step> {

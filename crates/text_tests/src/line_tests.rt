@@ -1,10 +1,10 @@
-use histories::Step;
-use rows::{ReadSchema, Schema};
+use rows::ReadSchema;
 use statement::{Line, read_line};
 use std::alloc::Global;
 use std::fmt::Write;
 use std::process::Abort;
-use values::{Comparison, Form, Instant, Key, Keys, Operator, Refusal, Row, Rows, Value};
+use steps::Step;
+use values::{Comparison, Form, Instant, Key, Keys, Operator, Refusal, Row, Rows, Schema, Value};
 
 /// Lines, and the byte of the first unexpected token.
 static WRONG_TOKENS: [(&str, usize); 234] = [

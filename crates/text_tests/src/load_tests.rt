@@ -1,9 +1,9 @@
 //! Files of CSV.
 use interchange::load_rows;
-use rows::{ReadSchema, Schema};
+use rows::ReadSchema;
 use std::alloc::Global;
 use std::process::Abort;
-use values::{Refusal, Row, Table, Value};
+use values::{Refusal, Row, Schema, Table, Value};
 
 /// The rows of a file for the sample table.
 fn load(rt: &impl Abort, alloc: Global, bytes: &[u8]) -> Result<Vec<Row>, Refusal> {

@@ -1,12 +1,12 @@
 //! Scripts run over readers and writers that give and take few bytes, and that fail.
-use histories::Step;
-use rows::Schema;
 use scripts::{RunFault, run_script};
 use statement::print_reply;
 use std::alloc::Global;
 use std::io;
 use std::io::{ErrorKind, Read, Write};
 use std::process::Abort;
+use steps::Step;
+use values::Schema;
 
 /// Lines at the edges of what a line may say, the last without its line feed.
 const SCRIPT: &str = "64: BEGIN\n\

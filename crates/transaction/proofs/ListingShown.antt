@@ -9,8 +9,8 @@ use Rattle.values.specs.Log.{Changes, State, Net, Row}
 use Rattle.values.specs.Versions.{answer, matches}
 use Rattle.staging.specs.Own.{WhenRead, rows_seen}
 use Rattle.systime_query.specs.Selection.{WhenShown}
-use Rattle.histories.specs.declared.step.Listing.{Listing}
-use Rattle.histories.specs.declared.step.Listing.TheVariants.{Rows}
+use Rattle.steps.specs.declared.step.Listing.{Listing}
+use Rattle.steps.specs.declared.step.Listing.TheVariants.{Rows}
 use Rattle.transaction.specs.OpenTransactionState.{OpenTransactionState}
 use Rattle.transaction.specs.Listing.{as_listing, listing_in}
 

@@ -8,9 +8,9 @@ use Rattle.values.specs.declared.query.Shown.{Shown as Version}
 use Rattle.values.specs.Log.{Changes, Net}
 use Rattle.values.specs.Versions.{answer}
 use Rattle.staging.specs.Own.{rows_seen}
-use Rattle.histories.specs.declared.step.Listing.{Listing}
-use Rattle.histories.specs.declared.step.Listing.TheVariants.{Rows, Periods}
-use Rattle.histories.specs.History.{rows_taken, rows_of}
+use Rattle.steps.specs.declared.step.Listing.{Listing}
+use Rattle.steps.specs.declared.step.Listing.TheVariants.{Rows, Periods}
+use Rattle.steps.specs.Listing.{rows_taken, rows_of}
 
 -- versions: their rows, or the rows with their periods
 abbrev pub as_listing : Form → List Version → Listing

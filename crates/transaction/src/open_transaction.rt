@@ -59,8 +59,8 @@ impl OpenTransaction {
         self.staged.get(&self.view, table, key)
     }
 
-    /// Returns what the transaction changes: what each key that it wrote has in the end, without those that
-    /// are absent both then and in the view.
+    /// Returns what the transaction changes: what each key that it wrote has in the end, without
+    /// those that are absent both then and in the view.
     pub fn net(&self) -> Mem<Net>
         ensures ok { IfOk result (λ net. (schema : Schema) (m : Changes)
             → Holds schema self.now.view m → AreKeysIn schema self.now.writes

@@ -8,17 +8,18 @@ ghost use Rattle.transaction.specs.Listing.{as_listing, listing_in};
 
 use crate::open_transaction::OpenTransaction;
 use blocks::Blocks;
-use histories::Listing;
 use searchrange::Search;
 use std::alloc::Global;
 use std::collections::BTreeMap;
+use steps::Listing;
 use systime_query::{answer, current_rows, rows_at};
 use tsbtree::View;
 use values::{FittingKeys, Form, Key, Mem, Row, Rows, ShownRows};
 
 impl OpenTransaction {
-    /// Returns what a query of a table shows: a plain one the rows that the transaction sees, any other what
-    /// was committed until its start. The events of packed nodes are those that `blocks` gives.
+    /// Returns what a query of a table shows: a plain one the rows that the transaction sees, any
+    /// other what was committed until its start. The events of packed nodes are those that `blocks`
+    /// gives.
     pub fn select<B: Blocks>(
         &self,
         alloc: Global,
@@ -44,8 +45,8 @@ impl OpenTransaction {
     }
 }
 
-/// Returns what a query of a table shows of what was committed. The events of packed nodes are those that
-/// `blocks` gives.
+/// Returns what a query of a table shows of what was committed. The events of packed nodes are
+/// those that `blocks` gives.
 pub fn listing_of<B: Blocks>(
     alloc: Global,
     blocks: &mut B,

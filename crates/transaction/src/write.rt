@@ -8,9 +8,10 @@ use crate::open_transaction::OpenTransaction;
 use values::{FittingWrite, Refusal};
 
 impl OpenTransaction {
-    /// Inserts, updates or deletes rows of a table, and returns how many. `DuplicateKey` with the first
-    /// key of an INSERT that the transaction sees or that an earlier row has; `TooManyWrites` where the
-    /// transaction would have written over 1,000 keys. After a refusal nothing has changed.
+    /// Inserts, updates or deletes rows of a table, and returns how many. `DuplicateKey` with the
+    /// first key of an INSERT that the transaction sees or that an earlier row has; `TooManyWrites`
+    /// where the transaction would have written over 1,000 keys. After a refusal nothing has
+    /// changed.
     pub fn write(&mut self, write: FittingWrite<'_>) -> Result<usize, Refusal>
         ensures answers { WhenRead write.entry.table.now self.old.view self.old.writes (λ schema m.
             IsAnswered result m self.new.writes

@@ -4,11 +4,11 @@ use crate::interleaving_tests::Action::{
     Select, SplitKey, SplitTime,
 };
 use crate::sample::{by, employee, key, many, one_row, sets};
-use histories::{Listing, Reply, Step};
 use interleaving::System;
-use rows::{Form, Instant, Keys, Operator, Refusal, Row, Rows, Schema, Sets, Shown, Value};
 use std::alloc::Global;
 use std::process::Abort;
+use steps::{Listing, Reply, Step};
+use values::{Form, Instant, Keys, Operator, Refusal, Row, Rows, Schema, Sets, Shown, Value};
 
 /// A step on the table of employees: its session, and what it is about.
 #[derive(Clone, Copy)]
@@ -460,7 +460,8 @@ fn rename(rt: &impl Abort, alloc: Global, system: &mut System, at: Instant, name
     take(rt, alloc, system, &actions);
 }
 
-/// Employee 1 has each name from its place on, in a data node of its own. All of these but the last are history.
+/// Employee 1 has each name from its place on, in a data node of its own. All of these but the last
+/// are history.
 fn many_names(rt: &impl Abort, alloc: Global) -> System {
     let mut system = new_system(rt, alloc);
     take(

@@ -1,4 +1,5 @@
-//! Tests of transactions by public calls, a file for each crate: what one writes, shows and commits.
+//! Tests of transactions by public calls, a file for each crate: what one writes, shows and
+//! commits.
 #![tactic(auto)]
 
 #[cfg(test)]

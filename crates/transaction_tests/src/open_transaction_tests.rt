@@ -1,9 +1,9 @@
 //! A transaction that reads what it wrote.
 
 use crate::sample::{empty_tree, one_row, schema, sets};
-use histories::{Listing, fit_keys, fit_write};
 use std::alloc::Global;
 use std::process::Abort;
+use steps::{Listing, fit_keys, fit_write};
 use systime_query::BlockCache;
 use transaction::{OpenTransaction, listing_of};
 use values::{Form, Keys, Mem, Write};

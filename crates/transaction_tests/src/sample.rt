@@ -1,9 +1,9 @@
 //! Employees, and trees in which they were committed. The run ends where memory does.
 
-use histories::fit_write;
 use staging::{Net, Staged};
 use std::alloc::Global;
 use std::process::Abort;
+use steps::fit_write;
 use tsbtree::{Tree, View};
 use values::{
     Chars, Comparison, Instant, Key, Keys, Mem, Operator, Row, Schema, Set, Value, Values, Write,

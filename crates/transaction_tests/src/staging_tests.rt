@@ -3,11 +3,11 @@
 use crate::sample::{
     ann, by, employee, empty_tree, key, many, nothing_staged, one_row, schema, sets, write,
 };
-use histories::fit_keys;
 use searchrange::{Search, range_of_table};
 use staging::Staged;
 use std::alloc::Global;
 use std::process::Abort;
+use steps::fit_keys;
 use tsbtree::Tree;
 use values::{Instant, Keys, Mem, Operator, Refusal, Row, Value, Write};
 

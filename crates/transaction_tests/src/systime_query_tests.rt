@@ -1,11 +1,11 @@
 //! Two employees over time.
 
 use crate::sample::{ann, by, commit, hire, nothing_staged, schema, sets, write};
-use histories::fit_keys;
 use searchrange::Search;
 use staging::Net;
 use std::alloc::Global;
 use std::process::Abort;
+use steps::fit_keys;
 use systime_query::{BlockCache, answer, current_rows, rows_at};
 use tsbtree::{Tree, View};
 use values::{Form, Instant, Keys, Operator, Schema, Shown, Write};

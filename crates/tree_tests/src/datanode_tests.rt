@@ -42,7 +42,8 @@ fn a_node_has_the_row_until_it_is_deleted(rt: HostRuntime) {
     assert!(rt; sample_last(&rt, rt.alloc()) == (200, 2));
 }
 
-/// Whether the sample takes a row of key 1 at 200, one at 201, and one of key 2 at 100, and how many events it then has.
+/// Whether the sample takes a row of key 1 at 200, one at 201, and one of key 2 at 100, and how
+/// many events it then has.
 fn put_three(rt: &impl Abort, alloc: Global) -> (bool, bool, bool, usize) {
     let mut node = sample_node(rt, alloc);
     let at_last = put(rt, alloc, &mut node, 1, 200, true);

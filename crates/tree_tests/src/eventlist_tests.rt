@@ -51,7 +51,8 @@ fn put(
     done.expect(rt, "there is memory");
 }
 
-/// Of table 1 the keys 1 (a row at 100, deleted at 200) and 2 (a row at 150), of table 2 the key 1 (a row at 50).
+/// Of table 1 the keys 1 (a row at 100, deleted at 200) and 2 (a row at 150), of table 2 the key 1
+/// (a row at 50).
 #[tactic(auto, using(eventlist::proofs::PlaceOrder::sorted_none))]
 fn some(rt: &impl Abort, alloc: Global) -> Vec<SharedEvent>
     ensures { IsStrictlySortedBy event_cmp result.items }
@@ -71,7 +72,8 @@ fn key_places(rt: &impl Abort, alloc: Global, number: u8) -> (usize, usize) {
     (place_of_key(&events, &key), place_behind_key(&events, &key))
 }
 
-/// The place after the events of key 1 of table 1 until an instant, and the key's last change if it is later.
+/// The place after the events of key 1 of table 1 until an instant, and the key's last change if it
+/// is later.
 fn place_and_change_after(
     rt: &impl Abort,
     alloc: Global,
@@ -123,7 +125,8 @@ fn second_place(events: &[SharedEvent]) -> Option<usize>
     Some(place_of(events, events.get(1)?.event()))
 }
 
-/// The place of the second event, and how many events there are with another at its point, and with one more after it.
+/// The place of the second event, and how many events there are with another at its point, and with
+/// one more after it.
 fn second_and_counts(rt: &impl Abort, alloc: Global) -> (Option<usize>, usize, usize) {
     let mut events = some(rt, alloc);
     let second = second_place(&events);
@@ -196,7 +199,8 @@ fn the_events_of_a_range_stand_together(rt: HostRuntime) {
     }
 }
 
-/// How many events the first key has, how many of them until 199, and how many events other keys have.
+/// How many events the first key has, how many of them until 199, and how many events other keys
+/// have.
 fn first_key_sizes(events: &[SharedEvent]) -> Option<(usize, usize, usize)>
     requires { IsStrictlySortedBy event_cmp events.now }
 {

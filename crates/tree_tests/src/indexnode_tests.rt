@@ -1,5 +1,5 @@
-//! A node of all keys from instant 1 on: a historical reference before instant 200, and two current ones from it on that
-//! meet at key 33.
+//! A node of all keys from instant 1 on: a historical reference before instant 200, and two current
+//! ones from it on that meet at key 33.
 ghost use Rattle.std.specs.Prelude.{◌≡◌, None, All};
 ghost use Rattle.keyrange.specs.Rect.{IsInside};
 ghost use Rattle.keyrange.specs.Cut.{AreHalves};
@@ -191,7 +191,8 @@ fn digits_by_time(rt: &impl Abort, alloc: Global) -> (usize, usize) {
     digits_of(halves_by_time(rt, &numbers(rt, alloc)))
 }
 
-/// The least start of a current reference, how many of these there are, and how many stay at 200 and at 199.
+/// The least start of a current reference, how many of these there are, and how many stay at 200
+/// and at 199.
 fn counts(rt: &impl Abort, alloc: Global) -> (Option<Instant>, usize, usize, usize) {
     let node = numbers(rt, alloc);
     (

@@ -27,8 +27,8 @@ fn first_byte(key: &KeyBytes) -> u8 {
     key.bytes().first().copied().unwrap_or(0)
 }
 
-/// The middle key's byte, and how many events the halves there hold; zeros where there is no such key. None where a node
-/// has too few events.
+/// The middle key's byte, and how many events the halves there hold; zeros where there is no such
+/// key. None where a node has too few events.
 fn split(rt: &impl Abort, node: &DataNode) -> Option<(u8, usize, usize)> {
     if node.len() < 33 {
         return None;

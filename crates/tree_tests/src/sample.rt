@@ -1,4 +1,5 @@
-//! Keys, rectangles and events that several files of tests are made of. The run ends where memory runs out.
+//! Keys, rectangles and events that several files of tests are made of. The run ends where memory
+//! runs out.
 ghost use Rattle.std.specs.Prelude.{◌≡◌};
 ghost use Rattle.keyrange.specs.Cut.{PartsTime};
 

@@ -1,12 +1,12 @@
 //! Ranges worked out by hand.
 
-use histories::fit_keys;
 use keyrange::KeyRange;
-use rows::{ReadSchema, Schema};
+use rows::ReadSchema;
 use searchrange::{Search, range_of_table};
 use std::alloc::Global;
 use std::process::Abort;
-use values::{Chars, Comparison, KeyBytes, Keys, Operator, Sequence, Value};
+use steps::fit_keys;
+use values::{Chars, Comparison, KeyBytes, Keys, Operator, Schema, Sequence, Value};
 
 fn is_end(end: &Option<KeyBytes>, bytes: &[u8]) -> bool {
     match end {

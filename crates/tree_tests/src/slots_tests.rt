@@ -68,7 +68,8 @@ fn has_grown(list: &Slots<usize>, last: usize) -> bool {
         && number_at(list, last.saturating_add(1)).is_none()
 }
 
-/// Whether a list has each number once it is added, keeps one in the middle, and has nothing behind it.
+/// Whether a list has each number once it is added, keeps one in the middle, and has nothing behind
+/// it.
 fn grows(rt: &impl Abort, alloc: Global, bound: usize) -> bool {
     let mut list = Slots::new(alloc);
     for number in 0..bound {
@@ -86,7 +87,8 @@ fn a_list_grows_over_full_nodes(rt: HostRuntime) {
     assert!(rt; grows(&rt, rt.alloc(), 300));
 }
 
-/// Puts 7 in each place of a list of 300 numbers, and 8 behind them: whether it then has these alone.
+/// Puts 7 in each place of a list of 300 numbers, and 8 behind them: whether it then has these
+/// alone.
 fn is_changed(rt: &impl Abort, list: &mut Slots<usize>) -> bool {
     fill(rt, list, 7);
     list.push(8).expect(rt, "there is memory");
@@ -106,7 +108,8 @@ fn a_share_keeps_what_was_there(rt: HostRuntime) {
     assert!(rt; changed_beside_share(&rt, rt.alloc()) == (true, 300, true));
 }
 
-/// The last numbers of a list, of its share, and of a share of that one, once both shares were filled.
+/// The last numbers of a list, of its share, and of a share of that one, once both shares were
+/// filled.
 type Last = (Option<usize>, Option<usize>, Option<usize>);
 
 fn filled_shares(rt: &impl Abort, alloc: Global) -> Last {
@@ -131,7 +134,8 @@ fn is_added(list: &mut Slots<usize>, number: usize) -> bool {
     list.push(number).is_ok()
 }
 
-/// Whether a list takes the number that it is long, where a growth that is refused changes nothing and is tried again.
+/// Whether a list takes the number that it is long, where a growth that is refused changes nothing
+/// and is tried again.
 fn is_added_at_last(list: &mut Slots<usize>, number: usize) -> bool {
     is_added(list, number) || (list.len() == number && is_added(list, number))
 }
@@ -206,7 +210,8 @@ fn has_marks(list: &Slots<Mark>, marks: (usize, usize, usize)) -> bool {
     is_mark(list, 16, marks.0) && is_mark(list, 17, marks.1) && is_mark(list, 299, marks.2)
 }
 
-/// Whether a share of a list of marks, of which one was updated, and the list after two updates more have these marks.
+/// Whether a share of a list of marks, of which one was updated, and the list after two updates
+/// more have these marks.
 fn are_updated(
     rt: &impl Abort,
     alloc: Global,

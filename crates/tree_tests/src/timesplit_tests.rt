@@ -22,7 +22,8 @@ fn halves(rt: &impl Abort, node: &DataNode, instant: Instant) -> (DataNode, Data
     split_time(node, instant).expect(rt, "there is memory")
 }
 
-/// How many events both halves hold, how many stay, the end of the first half and the start of the second.
+/// How many events both halves hold, how many stay, the end of the first half and the start of the
+/// second.
 type Halves = (usize, usize, usize, Option<Instant>, Instant);
 
 fn sizes_and_ends(rt: &impl Abort, node: &DataNode, instant: Instant) -> Halves {
@@ -58,7 +59,8 @@ fn halves_end_and_begin_at_the_instant(rt: HostRuntime) {
     assert!(rt; (end, start) == (Some(150), 150));
 }
 
-/// A change of a key's byte at an instant, to a row or to none, and where the node is split after it.
+/// A change of a key's byte at an instant, to a row or to none, and where the node is split after
+/// it.
 #[derive(Clone, Copy)]
 struct Change(u8, Instant, bool, Option<Instant>);
 
@@ -74,7 +76,8 @@ fn split(rt: &impl Abort, node: &mut DataNode, instant: Instant) -> usize {
     past.len()
 }
 
-/// Puts a change, and splits the node after it where that is wanted: the sizes with that of the historical half.
+/// Puts a change, and splits the node after it where that is wanted: the sizes with that of the
+/// historical half.
 fn put_change(
     rt: &impl Abort,
     alloc: Global,
@@ -89,8 +92,8 @@ fn put_change(
     }
 }
 
-/// How many events the nodes hold, two digits for each, the historical ones first and then the current one, of changes
-/// that come one after another.
+/// How many events the nodes hold, two digits for each, the historical ones first and then the
+/// current one, of changes that come one after another.
 fn shape(rt: &impl Abort, alloc: Global, changes: &[Change]) -> usize {
     let mut sizes: usize = 0;
     let mut node = empty_node(rt, alloc);

@@ -1,4 +1,5 @@
-//! Trees of a few nodes, which take events, and are split and packed by hand. The run ends where memory runs out.
+//! Trees of a few nodes, which take events, and are split and packed by hand. The run ends where
+//! memory runs out.
 ghost use Rattle.std.specs.Prelude.{◌≡◌, ◌<◌, ◌≤◌, [], IfSome};
 ghost use Rattle.values.specs.Commits.{max_instant};
 ghost use Rattle.treenodes.specs.Node.{IsAt, data_node};

@@ -31,7 +31,8 @@ fn count_nodes(rt: &impl Abort, nodes: Mem<Option<Nodes>>) -> usize {
     }
 }
 
-/// How many nodes there are before a split at a key, and how many after it, or 0 where there is none.
+/// How many nodes there are before a split at a key, and how many after it, or 0 where there is
+/// none.
 fn by_key_split(rt: &impl Abort, alloc: Global, number: u8) -> (usize, usize) {
     let nodes = one_row(rt, alloc);
     let split = key_split(alloc, &nodes, 100, &key(rt, alloc, number));

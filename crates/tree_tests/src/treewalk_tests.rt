@@ -19,8 +19,8 @@ fn single(rt: &impl Abort, alloc: Global) -> Nodes
     grow_by(rt, nodes, change(rt, alloc, 1, 200, false))
 }
 
-/// The same in two leaves, of which the second begins at 250 and has the row of key 2 alone. The first is packed, where
-/// it is to be.
+/// The same in two leaves, of which the second begins at 250 and has the row of key 2 alone. The
+/// first is packed, where it is to be.
 fn some(rt: &impl Abort, alloc: Global, is_packed: bool) -> Nodes
     ensures { IsTree result }
 {

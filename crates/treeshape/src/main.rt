@@ -6,10 +6,10 @@ mod print;
 
 use crate::fault::ShapeFault;
 use crate::print::print_shape;
-use rows::Schema;
 use scripts::run_script;
 use std::io::{BufWriter, Write};
 use std::process::ExitCode;
+use values::Schema;
 
 fn main(rt: HostRuntime) -> ExitCode {
     match run(&rt) {
@@ -22,7 +22,8 @@ fn main(rt: HostRuntime) -> ExitCode {
     }
 }
 
-/// Runs the script of standard input over the sample schema, and prints the shape of its tree behind its replies.
+/// Runs the script of standard input over the sample schema, and prints the shape of its tree
+/// behind its replies.
 fn run(rt: &HostRuntime) -> Result<(), ShapeFault> {
     let mut out = BufWriter::new(rt.alloc(), rt.stdout())?;
     let schema = Schema::sample(rt.alloc())?;

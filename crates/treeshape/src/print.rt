@@ -4,8 +4,9 @@ use std::io::Write;
 use treewalk::{NodeShape, Shape};
 use values::{Instant, KeyBytes};
 
-/// Writes a line for each node: its level from the root, its lower and its upper key in hexadecimal, the start and the end
-/// of its time, how much it holds, and whether it is packed. A dash is the empty lower key, or no end.
+/// Writes a line for each node: its level from the root, its lower and its upper key in
+/// hexadecimal, the start and the end of its time, how much it holds, and whether it is packed. A
+/// dash is the empty lower key, or no end.
 pub fn print_shape<W: Write>(shape: &Shape, out: &mut W) -> Result<(), ShapeFault> {
     let Some(root) = shape.nodes.first() else {
         return Ok(());

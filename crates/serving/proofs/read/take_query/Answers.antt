@@ -1,6 +1,6 @@
 use Rattle.std.proofs.Common.{None, sym, ap, subst, ◌∙◌}
 use Rattle.std.specs.Option.{is_some}
-use Rattle.histories.specs.declared.step.Step.TheVariants.{Select}
+use Rattle.steps.specs.declared.step.Step.TheVariants.{Select}
 use Rattle.sessions.specs.SessionState.{SessionState}
 use Rattle.serving.specs.Serving.{IsStepped}
 use Rattle.serving.proofs.StepOpening.{query_stepped, alone_stepped, is_open, not_open}

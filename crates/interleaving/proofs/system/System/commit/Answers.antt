@@ -1,7 +1,7 @@
 use Rattle.std.proofs.Common.{◌≡◌, subst, sym, ap, ◌∙◌, None, set}
-use Rattle.histories.specs.declared.step.Reply.{Reply}
-use Rattle.histories.specs.Memory.{is_out_of_memory}
-use Rattle.histories.specs.declared.step.Step.TheVariants.{Commit}
+use Rattle.steps.specs.declared.step.Reply.{Reply}
+use Rattle.steps.specs.Reply.{is_out_of_memory}
+use Rattle.steps.specs.declared.step.Step.TheVariants.{Commit}
 use Rattle.values.specs.Commits.{changed_since}
 use Rattle.tsbtree.specs.View.{events, last}
 use Rattle.interleaving.specs.StepLeaves.{SplitsAsReplied, leaves_all, may_change_tree}

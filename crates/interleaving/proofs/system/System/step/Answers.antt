@@ -1,7 +1,7 @@
 use Rattle.std.proofs.Common.{ap, ◌∙◌}
 use Rattle.values.specs.Tables.{Schema}
-use Rattle.histories.specs.declared.step.Reply.TheVariants.{Refused}
-use Rattle.histories.specs.Misfit.{misfit}
+use Rattle.steps.specs.declared.step.Reply.TheVariants.{Refused}
+use Rattle.steps.specs.Misfit.{misfit}
 use Rattle.histories.proofs.TurnReplies.{stepped, refused_turn}
 use Rattle.interleaving.specs.SystemState.{SystemState, world}
 use Rattle.interleaving.proofs.SystemStepped.{answers, out_leaves, same_leaves, same_schema}

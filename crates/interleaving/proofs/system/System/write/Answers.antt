@@ -1,11 +1,12 @@
 use Rattle.std.proofs.Common.{◌≤◌, ap, ◌∙◌, sym, subst}
 use Rattle.values.specs.Tables.{IsTable, table_at}
 use Rattle.values.specs.Write.{table_of}
-use Rattle.histories.specs.History.{written_reply}
-use Rattle.histories.specs.Misfit.{max_session}
-use Rattle.histories.specs.Written.{step_of}
+use Rattle.steps.specs.Reply.{written_reply}
+use Rattle.steps.specs.Misfit.{max_session}
+use Rattle.steps.specs.Write.{step_of}
 use Rattle.histories.proofs.HistoryIdle.{fits_table}
-use Rattle.histories.proofs.Written.{misfit_is, turn_is}
+use Rattle.histories.proofs.TurnWritten.{turn_is}
+use Rattle.steps.proofs.WriteStep.{misfit_is}
 use Rattle.interleaving.specs.SystemState.{world}
 use Rattle.interleaving.proofs.SystemWritten.{written_turn, found, none_turn}
 use Rattle.interleaving.proofs.system.System.write.Goals as goal

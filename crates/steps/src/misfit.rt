@@ -3,8 +3,8 @@ ghost use Rattle.std.specs.Prelude.{◌≡◌, ◌≢◌, ℕ, Option, IfOk, IfE
 ghost use Rattle.values.specs.declared.table.Table.{Table};
 ghost use Rattle.values.specs.Tables.{table_at, IsTable};
 ghost use Rattle.values.specs.Write.{table_of};
-ghost use Rattle.histories.specs.Misfit.{misfit, misfit_of, key_misfit, no_session, keys_fault};
-ghost use Rattle.histories.specs.Written.{step_of};
+ghost use Rattle.steps.specs.Misfit.{misfit, misfit_of, key_misfit, no_session, keys_fault};
+ghost use Rattle.steps.specs.Write.{step_of};
 
 use crate::step::{MAX_SESSION, Step};
 use values::{FittingKeys, FittingWrite, Key, Keys, Refusal, Schema, Table, Write};
@@ -46,8 +46,8 @@ pub fn no_session(session: u8) -> Option<Refusal>
     }
 }
 
-/// Checks what a session writes: its number, then the table, then the first column at fault, rows in
-/// their order and new values before comparisons.
+/// Checks what a session writes: its number, then the table, then the first column at fault, rows
+/// in their order and new values before comparisons.
 pub fn fit_write<'a>(
     schema: &'a Schema,
     session: u8,
@@ -66,8 +66,8 @@ pub fn fit_write<'a>(
     }
 }
 
-/// Checks the keys that a session asks for: its number, then the table, then the first comparison at
-/// fault.
+/// Checks the keys that a session asks for: its number, then the table, then the first comparison
+/// at fault.
 pub fn fit_keys<'a>(
     schema: &'a Schema,
     session: u8,

@@ -10,10 +10,10 @@ use Rattle.values.specs.declared.refusal.Refusal.TheVariants.{NoTable, Duplicate
 use Rattle.values.specs.Tables.{Schema, table_at}
 use Rattle.values.specs.Log.{State, Row}
 use Rattle.values.specs.Writes.{Own, Written, most_written, write_keys, insert_into, update_in, delete_from, key_of, duplicate, insert_rows, update_rows, delete_rows, matching_keys, add_keys}
-use Rattle.histories.specs.declared.step.Step.{Step}
-use Rattle.histories.specs.declared.step.Step.TheVariants.{Begin, Insert, Update, Delete, Select, Commit, Rollback, SplitKey, SplitTime, Migrate}
-use Rattle.histories.specs.History.{write}
-use Rattle.histories.specs.Memory.{is_memory}
+use Rattle.steps.specs.declared.step.Step.{Step}
+use Rattle.steps.specs.declared.step.Step.TheVariants.{Begin, Insert, Update, Delete, Select, Commit, Rollback, SplitKey, SplitTime, Migrate}
+use Rattle.steps.specs.Write.{write}
+use Rattle.steps.specs.Reply.{is_memory}
 
 abbrev pub is_err : Result ℕ Refusal → Bool
 is_err (Ok count) = false

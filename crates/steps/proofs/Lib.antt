@@ -1,0 +1,3 @@
+pub mod MisfitKeys
+pub mod WriteLeaves
+pub mod WriteStep

@@ -1,0 +1,4 @@
+pub mod Listing
+pub mod Misfit
+pub mod Reply
+pub mod Write
