@@ -1,11 +1,15 @@
 //! Nodes of history are found, packed and installed.
 
+use crate::sample::schema;
 use crate::validation_tests::{begin, empty_engine, instant_of, is_split};
 use std::alloc::Global;
 use std::process::Abort;
+use steps::fit_keys;
+use systime_query::BlockCache;
+use transaction::listing_of;
 use tsbtree::View;
 use validation::{Engine, Job, PackedNode, find_job, pack_job};
-use values::{Instant, Mem};
+use values::{Form, Instant, Keys, Mem};
 
 /// Commits the insertion of an employee at an instant, and splits the one current node there.
 fn commit_and_split(rt: &impl Abort, alloc: Global, engine: &mut Engine, number: i64, at: Instant) {
@@ -14,7 +18,8 @@ fn commit_and_split(rt: &impl Abort, alloc: Global, engine: &mut Engine, number:
     assert!(rt; is_split(rt, alloc, engine, at));
 }
 
-/// Two nodes of history: one from 1 to 100 without events, and one from 100 to 200 with the first employee's.
+/// Two nodes of history: one from 1 to 100 without events, and one from 100 to 200 with the first
+/// employee's.
 fn with_history(rt: &impl Abort, alloc: Global) -> Engine {
     let mut engine = empty_engine(rt, alloc);
     commit_and_split(rt, alloc, &mut engine, 1, 100);
@@ -45,7 +50,8 @@ fn install(rt: &impl Abort, engine: &mut Engine, packed: PackedNode) -> bool {
     engine.install(packed).expect(rt, "there is memory")
 }
 
-/// Packs a node from an instant with so many events: whether it is installed, and then a copy of it.
+/// Packs a node from an instant with so many events: whether it is installed, and then a copy of
+/// it.
 fn install_twice(
     rt: &impl Abort,
     alloc: Global,
@@ -88,7 +94,8 @@ fn start(job: &Job) -> Instant {
     job.rect().time().from
 }
 
-/// The starts of the first node that is to be packed and of the one after it, and whether there is one more.
+/// The starts of the first node that is to be packed and of the one after it, and whether there is
+/// one more.
 fn starts(rt: &impl Abort, alloc: Global) -> (Instant, Instant, bool) {
     let view = begin(rt, &with_history(rt, alloc));
     let first = expect_job(rt, find_job(&view, None));
@@ -100,4 +107,39 @@ fn starts(rt: &impl Abort, alloc: Global) -> (Instant, Instant, bool) {
 #[test]
 fn jobs_are_found_in_turn(rt: HostRuntime) {
     assert!(rt; starts(&rt, rt.alloc()) == (1, 100, false));
+}
+
+/// Two nodes of history, both packed.
+fn with_packed_history(rt: &impl Abort, alloc: Global) -> Engine {
+    let mut engine = with_history(rt, alloc);
+    for _ in 0..2 {
+        let packed = pack_first(rt, alloc, &engine);
+        assert!(rt; install(rt, &mut engine, packed));
+    }
+    engine
+}
+
+/// How many blocks the cache keeps that was handed to a query.
+fn count_kept(rt: &impl Abort, alloc: Global, form: Form) -> usize {
+    let engine = with_packed_history(rt, alloc);
+    let schema = schema(rt, alloc);
+    let keys = Keys::all(alloc, 1);
+    let keys = fit_keys(&schema, 1, &keys).expect(rt, "they fit");
+    let mut cache = BlockCache::new(alloc);
+    let listing = listing_of(alloc, &mut cache, engine.tree().current(), form, keys);
+    assert!(rt; listing.is_ok());
+    cache.len()
+}
+
+#[test]
+fn a_query_of_packed_history_asks_the_cache(rt: HostRuntime) {
+    let kept = [
+        (Form::AsOf(150), 1),
+        (Form::Between(1, 200), 2),
+        (Form::AsOf(200), 0),
+        (Form::Plain, 0),
+    ];
+    for (form, blocks) in kept {
+        assert!(rt; count_kept(&rt, rt.alloc(), form) == blocks, "{form:?}");
+    }
 }
