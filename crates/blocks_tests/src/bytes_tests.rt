@@ -43,7 +43,8 @@ fn a_node_is_packed_to_its_60_bytes_and_read_back(rt: HostRuntime) {
     assert!(rt; is_block(&rt, rt.alloc(), first_block()) == Some(true));
 }
 
-/// How many other values of a byte leave a block; None where one of these is not that of the node that it is read as.
+/// How many other values of a byte leave a block; None where one of these is not that of the node
+/// that it is read as.
 fn count_at(
     rt: &impl Abort,
     alloc: Global,
@@ -69,8 +70,8 @@ fn count_at(
     Some(count)
 }
 
-/// How many bytes of a list, each set to each other value in turn, leave a block; None where one of these is not that of
-/// the node that it is read as.
+/// How many bytes of a list, each set to each other value in turn, leave a block; None where one of
+/// these is not that of the node that it is read as.
 fn count_changed(rt: &impl Abort, alloc: Global, block: &[u8]) -> Option<usize> {
     let mut count = 0usize;
     let mut bytes = Vec::from_slice(alloc, block).expect(rt, "there is memory");
@@ -119,8 +120,8 @@ fn nothing_may_follow_a_block(rt: HostRuntime) {
     }
 }
 
-/// The block with carried events with parts of it in another place: from the first, from the second and from the third
-/// place on.
+/// The block with carried events with parts of it in another place: from the first, from the second
+/// and from the third place on.
 fn exchange_parts(rt: &impl Abort, alloc: Global, places: (usize, usize, usize)) -> Vec<u8> {
     let (one, two, three) = places;
     let block = carrying_block();
@@ -301,7 +302,8 @@ fn with_key_of(rt: &impl Abort, alloc: Global, length: usize) -> Vec<u8> {
     bytes
 }
 
-/// Whether the first block with a key of so many bytes is a block, and then that of the node that it is read as.
+/// Whether the first block with a key of so many bytes is a block, and then that of the node that
+/// it is read as.
 fn is_block_with_key_of(rt: &impl Abort, alloc: Global, length: usize) -> Option<bool> {
     let bytes = with_key_of(rt, alloc, length);
     is_block(rt, alloc, bytes.as_slice())

@@ -7,7 +7,8 @@ use std::alloc::Global;
 use std::process::Abort;
 use values::{Instant, KeyBytes};
 
-/// The block of all keys from an instant to another, with one event: key 1 has a row of one number from `at` on.
+/// The block of all keys from an instant to another, with one event: key 1 has a row of one number
+/// from `at` on.
 fn block_of(rt: &impl Abort, alloc: Global, from: u8, to: u8, at: u8) -> Block {
     let bytes = &[
         84, 83, 66, 49, 0, 0, 0, 0, 0, 0, 0, 0, 0, 0, from, 0, 0, 0, 0, 0, 0, 0, to, 1, 0, 9, 1,
@@ -42,7 +43,8 @@ fn event_between<B: Blocks>(
     }
 }
 
-/// The instant of the one event of keys from a byte on that is given of a block: the block is made anew.
+/// The instant of the one event of keys from a byte on that is given of a block: the block is made
+/// anew.
 fn event_of_block<B: Blocks>(
     rt: &impl Abort,
     blocks: &mut B,
@@ -96,8 +98,8 @@ fn two_blocks_of_one_rectangle_give_their_own_events(rt: HostRuntime) {
     assert!(rt; own == 6 && cache.len() == 1);
 }
 
-/// How many ranges of a block's keys and instants are answered as they should be, of five. A cache reads the first in
-/// place, unpacks the block at the second, and has its node for the others.
+/// How many ranges of a block's keys and instants are answered as they should be, of five. A cache
+/// reads the first in place, unpacks the block at the second, and has its node for the others.
 fn count_ranges<B: Blocks>(rt: &impl Abort, blocks: &mut B, alloc: Global) -> usize {
     let mut right = 0usize;
     for (lower, since, expected) in [

@@ -97,8 +97,8 @@ fn width(row: Option<&Row>) -> usize {
     }
 }
 
-/// Whether a block and its node have a row of one width of a key at an instant, and one last and one next change after
-/// it.
+/// Whether a block and its node have a row of one width of a key at an instant, and one last and
+/// one next change after it.
 fn agree(
     rt: &impl Abort,
     alloc: Global,
@@ -251,7 +251,8 @@ fn count_windows(
     count
 }
 
-/// For how many ranges of keys from a number on, and windows of instants, a block and its node list the same events.
+/// For how many ranges of keys from a number on, and windows of instants, a block and its node list
+/// the same events.
 fn count_ranges(rt: &impl Abort, alloc: Global, block: &Block, node: &DataNode, from: u8) -> usize {
     let mut count = 0usize;
     for to in 1..10u8 {

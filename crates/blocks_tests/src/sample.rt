@@ -18,8 +18,8 @@ pub(crate) fn first_block() -> &'static [u8]
     ]
 }
 
-/// Keys 2 to 5 from 200 to 300: key 2 has a row of 100, which is carried; key 3 a row of six values of 200 and its
-/// deletion of 250; key 4 a row of 299.
+/// Keys 2 to 5 from 200 to 300: key 2 has a row of 100, which is carried; key 3 a row of six values
+/// of 200 and its deletion of 250; key 4 a row of 299.
 pub(crate) fn carrying_block() -> &'static [u8]
     ensures { length result.now ≡ 174 }
 {

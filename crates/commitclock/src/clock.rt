@@ -1,10 +1,12 @@
+//! The instants of commits.
 ghost use Rattle.std.specs.Prelude.{◌≡◌, ◌<◌, ◌≤◌, IfOk};
 ghost use Rattle.commitclock.specs.NextInstant.{next_instant};
 
 use std::marker::Model;
 use values::{Instant, MAX_INSTANT, Refusal};
 
-/// The last commit instant, which contracts see as a number: 0 before the first commit, and never above `MAX_INSTANT`.
+/// The last commit instant, which contracts see as a number: 0 before the first commit, and never
+/// above `MAX_INSTANT`.
 #[derive(Debug, Drop)]
 pub struct Clock {
     last: Instant,
@@ -24,14 +26,14 @@ impl Model for Clock {
 impl Clock {
     ghost use Rattle.values.specs.Commits.{max_instant};
 
-    /// The clock before the first commit.
+    /// Makes the clock as it is before the first commit: its last instant is 0.
     pub fn new() -> Clock
         ensures { result ≡ 0 }
     {
         Clock { last: 0 }
     }
 
-    /// The instant of the last commit, 0 where there is none.
+    /// Returns the instant of the last commit, 0 where there is none.
     pub fn last(&self) -> Instant
         ensures last { result ≡ self.now }
         ensures in_range { result ≤ max_instant }
@@ -39,9 +41,9 @@ impl Clock {
         self.last
     }
 
-    /// The instant of a commit at a reading of the clock: the reading, or where that has passed the instant after the
-    /// last one.
-    /// `ClockEnd` where that is above `MAX_INSTANT`. The clock stays as it is until it is moved.
+    /// Returns the instant of a commit at a reading of the clock: the reading, or where that has
+    /// passed the instant after the last one. `ClockEnd` where that is above `MAX_INSTANT`. The
+    /// clock stays as it is until it is moved.
     pub fn next(&self, reading: Instant) -> Result<Instant, Refusal>
         ensures next { result ≡ next_instant self.now reading }
         ensures rises { IfOk result (λ instant. self.now < instant) }

@@ -82,6 +82,7 @@ pub struct NewLog<E> {
 }
 
 impl<E> NewLog<E> {
+    /// Opens a log without entries.
     pub fn new() -> NewLog<E> {
         let (seen, mut first, _second) = Seen::open(Start::alone(), 0, 0);
         NewLog {
@@ -90,7 +91,7 @@ impl<E> NewLog<E> {
         }
     }
 
-    /// The log of a store, and the prefix without entries.
+    /// Makes the log of a store, and the prefix without entries.
     pub fn for_store<J: StoreName>(self) -> (Log<E, J>, Prefix<E, J>)
         requires { self.seen.book ≡ J.book }
         ensures { result.1 ≡ [] }

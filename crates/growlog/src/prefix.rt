@@ -38,14 +38,14 @@ impl<E, J: StoreName> Prefix<E, J> {
         }
     }
 
-    /// How many entries it has.
+    /// Returns how many entries it has.
     pub fn len(&self) -> u64
         ensures { result ≡ length self.now }
     {
         self.count
     }
 
-    /// The same prefix.
+    /// Returns the same prefix.
     pub fn again(&self) -> Prefix<E, J>
         ensures { result ≡ self.now }
     {
@@ -56,7 +56,8 @@ impl<E, J: StoreName> Prefix<E, J> {
         }
     }
 
-    /// Two prefixes have the same entry at each place that both have. At run time nothing is done.
+    /// Shows that two prefixes have the same entry at each place that both have. At run time
+    /// nothing is done.
     pub fn agrees(&self, other: &Prefix<E, J>)
         ensures { Agree self.now other.now }
     {

@@ -18,8 +18,8 @@ use values::{
 ///
 /// A column that is to be equal to a value leaves the keys that go on with its bytes, and the next
 /// column narrows these; the first that is not is the last that narrows. Each key of the table that
-/// meets all comparisons is in the range; where each comparison is of a column that narrows, no other
-/// key of the table is, so a whole key that is given leaves a range of that key.
+/// meets all comparisons is in the range; where each comparison is of a column that narrows, no
+/// other key of the table is, so a whole key that is given leaves a range of that key.
 pub(crate) fn search_range(alloc: Global, table: &Table, keys: &Keys) -> Mem<KeyRange>
     requires good { IsTable table.now.number table.now }
     requires own { keys.now.table ≡ table.now.number }

@@ -14,8 +14,8 @@ use values::{
     Event, FittingKeys, Key, KeyBytes, Keys, Mem, Row, Table, fitting_keys_have_bytes, read_key,
 };
 
-/// A search condition over a table, with the range of keys that it leaves. Where each key of the range
-/// meets the condition, none is decoded.
+/// A search condition over a table, with the range of keys that it leaves. Where each key of the
+/// range meets the condition, none is decoded.
 #[derive(Drop)]
 pub struct Search<'a> {
     table: &'a Table,
@@ -35,7 +35,8 @@ impl<'a> Model for Search<'a> {
 }
 
 impl<'a> Search<'a> {
-    /// Narrows the range of a table's keys by a search condition. Out of memory is the only refusal.
+    /// Narrows the range of a table's keys by a search condition. Out of memory is the only
+    /// refusal.
     pub fn new(alloc: Global, keys: FittingKeys<'a>) -> Mem<Search<'a>>
         ensures table { IfOk result (λ s. s.table ≡ keys.entry.table.now) }
         ensures keys { IfOk result (λ s. s.keys ≡ keys.entry.keys.now) }
@@ -93,7 +94,8 @@ impl<'a> Search<'a> {
         }
     }
 
-    /// Returns the key with these bytes, of the table and in the range, where the condition takes it.
+    /// Returns the key with these bytes, of the table and in the range, where the condition takes
+    /// it.
     fn key_in(&self, alloc: Global, bytes: &KeyBytes) -> Mem<Option<Key>>
         ensures ok { IfOk result (λ key. IsInSearch self.now.table self.now.range bytes.now
             → key ≡ key_taken self.now.table self.now.keys bytes.now) }
@@ -127,7 +129,7 @@ impl<'a> Search<'a> {
         Ok(Some(read_stored(row)?))
     }
 
-    /// Like [`Search::row_in`], with the key before the row.
+    /// Reads an event like [`Search::row_in`], and returns the key with the row.
     pub fn entry_in(&self, alloc: Global, event: &Event) -> Mem<Option<(Key, Row)>>
         ensures ok { IfOk result (λ entry. IsInSearch self.now.table self.now.range event.now.key
             → entry ≡ entry_taken self.now.table self.now.keys event.now) }

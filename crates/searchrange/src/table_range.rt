@@ -7,7 +7,7 @@ use keyrange::KeyRange;
 use std::alloc::Global;
 use values::{KeyBytes, Mem};
 
-/// The range of a table's keys, by its number: the first byte of each.
+/// Returns the range of a table's keys, by its number: the first byte of each.
 pub fn range_of_table(alloc: Global, table: u8) -> Mem<KeyRange>
     ensures ok { IfOk result (λ range. range ≡ range_of_table table) }
     ensures err { OnlyMemory result }

@@ -15,7 +15,8 @@ use std::collections::BTreeMap;
 use std::marker::Model;
 use values::{Event, Instant, Key, KeyBytes, Mem, Row, key_bytes};
 
-/// What a transaction changed, by key: the row that each key has from then on, or none. Its keys strictly rise. Contracts see it as a list.
+/// What a transaction changed, by key: the row that each key has from then on, or none. Its keys
+/// strictly rise. Contracts see it as a list.
 #[derive(Drop)]
 pub struct Net {
     changes: Vec<(Key, Option<Row>)>,
@@ -40,7 +41,7 @@ impl Net {
         Net { changes }
     }
 
-    /// The changes, by key.
+    /// Returns the changes, by key.
     pub fn changes(&self) -> &[(Key, Option<Row>)]
         ensures changes { result.now ≡ self.now }
         ensures ordered { IsStrictlySortedBy key_cmp (keys_of result.now) }
@@ -49,7 +50,7 @@ impl Net {
         self.changes.as_slice()
     }
 
-    /// Equal net changes.
+    /// Copies the net changes. `Memory` where it runs out.
     pub fn copy(&self) -> Mem<Net>
         ensures ok { IfOk result (λ n. n ≡ self.now) }
         ensures err { OnlyMemory result }
@@ -59,7 +60,8 @@ impl Net {
         })
     }
 
-    /// The changes as events of an instant, by the bytes of their keys, one a key.
+    /// Makes the changes events of an instant, one per key, by the bytes of their keys. `Memory`
+    /// where it runs out.
     pub fn into_events(self, alloc: Global, instant: Instant) -> Mem<Vec<Event>>
         ensures adds { IfOk result (λ v. (m : List Change)
             → put_each v.items m ≡ put_net instant self m) }

@@ -9,9 +9,10 @@ use tsbtree::View;
 use values::{FittingKeys, FittingWrite, Refusal, Write};
 
 impl Staged {
-    /// Inserts, updates or deletes rows of a table, and returns how many. `DuplicateKey` with the first
-    /// key of an INSERT that the transaction sees or that an earlier row has; `TooManyWrites` where the
-    /// transaction would have written over 1,000 keys. After a refusal nothing has changed.
+    /// Inserts, updates or deletes rows of a table, and returns how many. `DuplicateKey` with the
+    /// first key of an INSERT that the transaction sees or that an earlier row has; `TooManyWrites`
+    /// where the transaction would have written over 1,000 keys. After a refusal nothing has
+    /// changed.
     pub fn write(&mut self, view: &View, write: FittingWrite<'_>) -> Result<usize, Refusal>
         ensures answers { WhenRead write.entry.table.now view.now self.old (λ schema m.
             IsAnswered result m self.new

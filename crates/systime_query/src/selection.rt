@@ -12,9 +12,9 @@ use std::alloc::Global;
 use tsbtree::View;
 use values::{Form, Instant, Mem, Shown};
 
-/// Returns the versions of a table's rows that a query selects, with their periods, by key and then by
-/// start (ISO/IEC 9075-2:2011, 7.6). An end after the view's last instant is none. The events of packed
-/// nodes are those that `blocks` gives.
+/// Returns the versions of a table's rows that a query selects, with their periods, by key and then
+/// by start (ISO/IEC 9075-2:2011, 7.6). An end after the view's last instant is none. The events of
+/// packed nodes are those that `blocks` gives.
 pub fn answer<B: Blocks>(
     alloc: Global,
     blocks: &mut B,

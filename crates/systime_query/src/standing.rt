@@ -15,8 +15,8 @@ use std::alloc::Global;
 use tsbtree::View;
 use values::{Instant, Mem, Row, SharedEvent};
 
-/// Returns, by key, the rows of a table that a query as of an instant shows. The events of packed nodes
-/// are those that `blocks` gives.
+/// Returns, by key, the rows of a table that a query as of an instant shows. The events of packed
+/// nodes are those that `blocks` gives.
 pub fn rows_at<B: Blocks>(
     alloc: Global,
     blocks: &mut B,
@@ -32,8 +32,8 @@ pub fn rows_at<B: Blocks>(
     Ok(rows_shown(alloc, &standing, search)?)
 }
 
-/// Returns, by key, the rows of a table that a query without a form of time shows, the current ones. They
-/// are in current nodes, of which none is packed.
+/// Returns, by key, the rows of a table that a query without a form of time shows, the current
+/// ones. They are in current nodes, of which none is packed.
 pub fn current_rows(alloc: Global, view: &View, search: &Search<'_>) -> Mem<Vec<Row>>
     ensures ok { IfOk result (λ v. WhenShown view.now search.now.table search.now.keys (λ m.
         v.items ≡ shown_rows m search.now.table Plain search.now.keys)) }

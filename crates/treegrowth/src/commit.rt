@@ -15,9 +15,9 @@ use std::alloc::Global;
 use treenodes::{Nodes, way, with_event};
 use values::{Event, Instant, Mem};
 
-/// Puts the events of a commit into the nodes, at an instant after the last one: by key, one for each key. After each
-/// event a node that has too many is split, as at a time at which the last commit is the one before. `Memory` where it
-/// runs out.
+/// Puts the events of a commit into the nodes, at an instant after the last one: by key, one for
+/// each key. After each event a node that has too many is split, as at a time at which the last
+/// commit is the one before. `Memory` where it runs out.
 pub fn with_commit(
     alloc: Global,
     mut nodes: Nodes,

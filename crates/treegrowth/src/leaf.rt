@@ -24,7 +24,8 @@ use std::alloc::Global;
 use treenodes::{Nodes, current_at, with_keys_split, with_new_root, with_time_split};
 use values::{Instant, Mem};
 
-/// The nodes with a data node within its capacity, which took an event of a commit after the last instant.
+/// The nodes with a data node within its capacity, which took an event of a commit after the last
+/// instant.
 pub(crate) fn relieved_leaf(
     alloc: Global,
     nodes: Nodes,
@@ -51,7 +52,8 @@ pub(crate) fn relieved_leaf(
     with_leaf_split(alloc, nodes, way, depth, &point)
 }
 
-/// The nodes with the data node at the end of a way split, and those above it within their capacity.
+/// The nodes with the data node at the end of a way split, and those above it within their
+/// capacity.
 pub(crate) fn with_leaf_split(
     alloc: Global,
     nodes: Nodes,

@@ -21,8 +21,8 @@ pub enum SplitPoint {
     Time(Instant),
 }
 
-/// Where a data node with one event too many is split: at the last instant, if it is after the node's start and at most
-/// 42 events stay, else at the middle key.
+/// Where a data node with one event too many is split: at the last instant, if it is after the
+/// node's start and at most 42 events stay, else at the middle key.
 pub(crate) fn overflow_point(node: &DataNode, last: Instant) -> Mem<SplitPoint>
     requires current { node.now.rect.time.to ≡ None }
     requires full { length node.now.events ≡ capacity + 1 }

@@ -19,7 +19,8 @@ use std::alloc::Global;
 use treenodes::{Nodes, with_index_keys_split, with_index_time_split, with_new_root};
 use values::{Instant, Mem};
 
-/// The nodes with an index node and those above it within their capacity, by splits up the way to the root.
+/// The nodes with an index node and those above it within their capacity, by splits up the way to
+/// the root.
 pub(crate) fn relieve(alloc: Global, nodes: Nodes, way: &[usize], depth: usize) -> Mem<Nodes>
     requires tree { IsTree nodes }
     requires way { IsWayDown nodes way.now depth }
@@ -58,8 +59,9 @@ fn with_root_split(alloc: Global, nodes: Nodes) -> Mem<Nodes>
     with_index_split(alloc, nodes, 0, number)
 }
 
-/// The nodes with an index node split. By time where one reference is current, or where the least start of a current one
-/// is after the node's start and at most 42 references stay; else at the middle key of the current references.
+/// The nodes with an index node split. By time where one reference is current, or where the least
+/// start of a current one is after the node's start and at most 42 references stay; else at the
+/// middle key of the current references.
 fn with_index_split(alloc: Global, nodes: Nodes, parent: usize, number: usize) -> Mem<Nodes>
     requires tree { IsTree nodes }
     requires parent { IsParent nodes parent number }

@@ -17,7 +17,8 @@ use std::alloc::Global;
 use treenodes::{Nodes, can_split_key, can_split_time, current_at, way};
 use values::{Instant, KeyBytes, MAX_INSTANT, Mem};
 
-/// Splits the current data node of a key there; None where the node begins at the key. `Memory` where it runs out.
+/// Splits the current data node of a key there; None where the node begins at the key. `Memory`
+/// where it runs out.
 pub fn key_split(alloc: Global, nodes: &Nodes, last: Instant, key: &KeyBytes) -> Mem<Option<Nodes>>
     requires { IsSound nodes.now last }
     ensures sound { IfOk result (λ o. IfSome o (λ s. IsSound s last)) }
@@ -37,8 +38,8 @@ pub fn key_split(alloc: Global, nodes: &Nodes, last: Instant, key: &KeyBytes) ->
     Ok(Some(with_split(alloc, nodes, last, way, &point)?))
 }
 
-/// Splits the current data node of a key at an instant; None where the instant is not after the node's start, or after
-/// the last commit. `Memory` where it runs out.
+/// Splits the current data node of a key at an instant; None where the instant is not after the
+/// node's start, or after the last commit. `Memory` where it runs out.
 pub fn time_split(
     alloc: Global,
     nodes: &Nodes,

@@ -14,8 +14,8 @@ use std::marker::Model;
 use std::sync::Arc;
 use values::Mem;
 
-/// The numbers of the unpacked data nodes of history, the first of them last: so the first goes without moving others.
-/// A share of them is the same list.
+/// The numbers of the unpacked data nodes of history, the first of them last: so the first goes
+/// without moving others. A share of them is the same list.
 #[derive(Drop)]
 pub(crate) struct Backlog {
     alloc: Global,
@@ -31,7 +31,7 @@ impl Model for Backlog {
 }
 
 impl Backlog {
-    /// No numbers.
+    /// Makes an empty list.
     pub fn new(alloc: Global) -> Mem<Backlog>
         ensures ok { IfOk result (λ b. b ≡ []) }
         ensures err { OnlyMemory result }
@@ -40,6 +40,7 @@ impl Backlog {
         Ok(Backlog { alloc, numbers })
     }
 
+    /// Shares the list, without copying it. `Memory` where it runs out.
     pub fn share(&self) -> Mem<Backlog>
         ensures ok { IfOk result (λ b. b ≡ self.now) }
         ensures err { OnlyMemory result }
@@ -62,7 +63,7 @@ impl Backlog {
         }
     }
 
-    /// The numbers without one, if it is among them.
+    /// Takes a number out, if it is in the list.
     pub fn without(self, slots: &Slots<Slot>, number: usize) -> Mem<Backlog>
         requires inside { number < length slots.now }
         requires backlog { IsBacklog slots.now self }
@@ -81,7 +82,7 @@ impl Backlog {
         Ok(Backlog { alloc, numbers })
     }
 
-    /// The numbers with one more, if its node is unpacked.
+    /// Adds a number, if its node is unpacked.
     pub fn with(self, slots: &Slots<Slot>, number: usize) -> Mem<Backlog>
         requires inside { number < length slots.now }
         requires backlog { IsBacklogBut slots.now number self }
@@ -100,7 +101,7 @@ impl Backlog {
         Ok(Backlog { alloc, numbers })
     }
 
-    /// The number of the first node, or of the first that comes after a rectangle.
+    /// Returns the number of the first node, or of the first that comes after a rectangle.
     pub fn first(&self, slots: &Slots<Slot>, after: Option<&Rect>) -> Option<usize>
         requires { IsBacklog slots.now self.now }
         ensures { MatchOption result

@@ -12,8 +12,8 @@ ghost use Rattle.treenodes.specs.History.{KeepsHistory};
 use crate::nodes::Nodes;
 use values::{Event, Mem};
 
-/// Puts an event into the data node at its point. A node that nobody shares is written in place. `Memory` where it runs
-/// out.
+/// Puts an event into the data node at its point. A node that nobody shares is written in place.
+/// `Memory` where it runs out.
 pub fn with_event(nodes: Nodes, number: usize, event: Event) -> Mem<Nodes>
     requires tree { IsTree nodes }
     requires holds { HoldsMap nodes (changes nodes) }

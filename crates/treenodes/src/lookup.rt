@@ -11,7 +11,8 @@ use datanode::DataNode;
 use std::alloc::Global;
 use values::{Instant, KeyBytes, Mem};
 
-/// The number of the data node at a point, and how many nodes the way to it visits, one a level.
+/// Returns the number of the data node at a point, and how many nodes the way to it visits, one a
+/// level.
 pub fn leaf_at(nodes: &Nodes, key: &KeyBytes, instant: Instant) -> (usize, usize)
     requires tree { IsTree nodes.now }
     requires instant { 1 ≤ instant }
@@ -29,7 +30,7 @@ pub fn leaf_at(nodes: &Nodes, key: &KeyBytes, instant: Instant) -> (usize, usize
     (number, visits)
 }
 
-/// The numbers of the nodes from the root to the data node at a point.
+/// Lists the numbers of the nodes from the root to the data node at a point.
 pub fn way(alloc: Global, nodes: &Nodes, key: &KeyBytes, instant: Instant) -> Mem<Vec<usize>>
     requires tree { IsTree nodes.now }
     requires instant { 1 ≤ instant }
@@ -48,7 +49,7 @@ pub fn way(alloc: Global, nodes: &Nodes, key: &KeyBytes, instant: Instant) -> Me
     Ok(way)
 }
 
-/// The current data node of a number.
+/// Returns the current data node of a number.
 pub fn current_at(nodes: &Nodes, number: usize) -> &DataNode
     requires data { IsData nodes.now number }
     requires current { (n : TreeNode) → IsAt nodes.now number n → n.rect.time.to ≡ None }

@@ -16,7 +16,8 @@ use std::marker::Model;
 use std::sync::Arc;
 use values::{Event, Mem};
 
-/// A data node, as it is or as its block, or an index node whose references name nodes one level down.
+/// A data node, as it is or as its block, or an index node whose references name nodes one level
+/// down.
 #[derive(Drop)]
 pub enum Child {
     Data(DataNode),
@@ -24,7 +25,8 @@ pub enum Child {
     Index(IndexNode<usize>),
 }
 
-/// What is at a number: a node and its level, counted from the data nodes up. A share of it is the same node.
+/// What is at a number: a node and its level, counted from the data nodes up. A share of it is the
+/// same node.
 #[derive(Drop)]
 pub struct Slot {
     level: usize,
@@ -42,6 +44,7 @@ impl Model for Slot {
 }
 
 impl Child {
+    /// Returns the rectangle of keys and time that the node covers.
     pub fn rect(&self) -> &Rect
         ensures rect { result.now ≡ rect_of self.now }
         ensures area { IsArea result.now }
@@ -89,6 +92,8 @@ impl Child {
 }
 
 impl Slot {
+    /// Puts a node of a level, 0 for data nodes, where it can be shared. `Memory` where it runs
+    /// out.
     pub fn new(alloc: Global, level: usize, child: Child) -> Mem<Slot>
         ensures ok { IfOk result (λ s. s ≡ seen level child) }
         ensures err { OnlyMemory result }
@@ -97,12 +102,14 @@ impl Slot {
         Ok(Slot { level, child })
     }
 
+    /// Returns the level of the node: 0 for a data node, one more for each index node above.
     pub fn level(&self) -> usize
         ensures { result ≡ self.now.level }
     {
         self.level
     }
 
+    /// Returns the node: a data node, its block, or an index node.
     pub fn child(&self) -> &Child
         ensures { self.now ≡ seen self.now.level result.now }
     {
@@ -124,7 +131,7 @@ impl Slot {
         child
     }
 
-    /// The current data node that is here.
+    /// Returns the current data node that is here.
     pub fn current(&self) -> &DataNode
         requires data { IsDataNode self.now.content }
         requires current { self.now.rect.time.to ≡ None }
@@ -133,7 +140,7 @@ impl Slot {
         self.child().current()
     }
 
-    /// The index node that is here.
+    /// Returns the index node that is here.
     pub fn index(&self) -> &IndexNode<usize>
         requires { IsIndexNode self.now.content }
         ensures { self.now ≡ seen self.now.level (Child.Index result.now) }
@@ -144,7 +151,7 @@ impl Slot {
         }
     }
 
-    /// Whether a data node of history is here that is not packed.
+    /// Tells whether a data node of history is here that is not packed.
     pub fn is_unpacked(&self) -> bool
         ensures { result ≡ is_unpacked self.now }
     {
@@ -154,7 +161,7 @@ impl Slot {
         }
     }
 
-    /// The data node of history that is here unpacked.
+    /// Returns the data node of history that is here unpacked.
     pub fn data_node(&self) -> &DataNode
         requires { IsTrue (is_unpacked self.now) }
         ensures { self.now ≡ seen self.now.level (Child.Data result.now) }

@@ -13,8 +13,9 @@ use std::alloc::Global;
 use std::marker::Model;
 use values::{Event, Mem};
 
-/// The nodes of a tree by their numbers. A share of them is the same list. Beside it is kept which data nodes of history
-/// are still to be packed, so that the first of them is found without passing over all nodes.
+/// The nodes of a tree by their numbers. A share of them is the same list. Beside it is kept which
+/// data nodes of history are still to be packed, so that the first of them is found without passing
+/// over all nodes.
 #[derive(Drop)]
 pub struct Nodes {
     slots: Slots<Slot>,
@@ -72,7 +73,8 @@ impl Nodes {
         self.slots.get(number)
     }
 
-    /// Returns an equal list, which later changes of this one leave as it is. `Memory` where it runs out.
+    /// Returns an equal list, which later changes of this one leave as it is. `Memory` where it
+    /// runs out.
     pub fn share(&self) -> Mem<Nodes>
         ensures ok { IfOk result (λ s. s ≡ self.now) }
         ensures err { OnlyMemory result }
@@ -82,8 +84,8 @@ impl Nodes {
         Ok(Nodes { slots, backlog })
     }
 
-    /// Returns the first data node of history that is not packed: by the start of time, then by the lower key. After a
-    /// rectangle it is the first that comes behind that one. It takes no memory.
+    /// Returns the first data node of history that is not packed: by the start of time, then by the
+    /// lower key. After a rectangle it is the first that comes behind that one. It takes no memory.
     pub fn first_unpacked(&self, after: Option<&Rect>) -> Option<&Slot>
         ensures { MatchOption result
             ((p : TreeNode) → IsWaiting self.now (option_copied after.entry) p → ⊥)
@@ -95,7 +97,8 @@ impl Nodes {
         }
     }
 
-    /// The nodes with an event in the data node of a number. A node that nobody shares is written in place.
+    /// The nodes with an event in the data node of a number. A node that nobody shares is written
+    /// in place.
     pub(crate) fn with_event(self, number: usize, event: Event) -> Mem<Nodes>
         requires inside { number < length self }
         requires can { HoldsAt (λ n. AcceptsEvent n event) self number }

@@ -13,7 +13,7 @@ use blocks::Block;
 use std::alloc::Global;
 use values::Mem;
 
-/// The nodes with a block in the place of its node. They hold what they held.
+/// Puts a block in the place of its node. The nodes hold what they held.
 pub fn with_block(alloc: Global, nodes: Nodes, number: usize, block: Block) -> Mem<Nodes>
     requires node { IsAt nodes number (data_node block.node) }
     ensures ok { IfOk result (λ s. s ≡ slice_set nodes number (packed_node block)) }

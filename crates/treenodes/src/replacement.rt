@@ -70,8 +70,9 @@ fn references_to(
     Ok((lower, upper))
 }
 
-/// The parent of a node, with references to two halves in the place of the one to the node. Its clause speaks of the
-/// nodes with all three in their places: the parent, the first half at the node's number, the second after the last.
+/// The parent of a node, with references to two halves in the place of the one to the node. Its
+/// clause speaks of the nodes with all three in their places: the parent, the first half at the
+/// node's number, the second after the last.
 fn parent_of_halves(
     alloc: Global,
     nodes: &Nodes,
@@ -98,8 +99,8 @@ fn parent_of_halves(
     Slot::new(alloc, above.level(), Child::Index(node))
 }
 
-/// The nodes with two halves in the place of one: the first has its number, the second a new one, and both stand below
-/// its parent.
+/// The nodes with two halves in the place of one: the first has its number, the second a new one,
+/// and both stand below its parent.
 pub(crate) fn with_halves(
     alloc: Global,
     nodes: Nodes,

@@ -63,8 +63,8 @@ fn above(alloc: Global, root: &Slot, level: usize, number: usize) -> Mem<Slot>
     Slot::new(alloc, level, Child::Index(node))
 }
 
-/// Puts a new root over the old one, which has a new number then: the new one's only reference is to it. `Memory` where
-/// it runs out.
+/// Puts a new root over the old one, which has a new number then: the new one's only reference is
+/// to it. `Memory` where it runs out.
 pub fn with_new_root(alloc: Global, nodes: Nodes) -> Mem<Nodes>
     requires { IsTree nodes }
     ensures tree { IfOk result IsTree }

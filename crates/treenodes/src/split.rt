@@ -46,8 +46,8 @@ pub fn can_split_key(nodes: &Nodes, number: usize, key: &KeyBytes) -> bool
     is_key_splittable(nodes.at(number).child().rect(), key)
 }
 
-/// Tells whether a data node can be split at an instant: it is current, and the instant is after its start and not
-/// after the greatest one.
+/// Tells whether a data node can be split at an instant: it is current, and the instant is after
+/// its start and not after the greatest one.
 pub fn can_split_time(nodes: &Nodes, number: usize, instant: Instant) -> bool
     requires { IsData nodes.now number }
     ensures { IsTrue result ↔ CanSplitTime nodes.now number instant }

@@ -9,8 +9,8 @@ use crate::leaf::{is_known_in, leaf, next_change_in};
 use treenodes::Nodes;
 use values::{Instant, KeyBytes, MAX_INSTANT};
 
-/// The least instant above `after` that changes a key, if there is one. From the greatest instant on there is none. It takes
-/// no memory.
+/// Returns the least instant above `after` that changes a key, if there is one. From the greatest
+/// instant on there is none. It takes no memory.
 pub fn next_change(nodes: &Nodes, key: &KeyBytes, after: Instant) -> Option<Instant>
     requires { IsTree nodes.now }
     ensures { (m : List Change) → HoldsMap nodes.now m → result ≡ event_after m after key.now }
@@ -29,8 +29,9 @@ pub fn next_change(nodes: &Nodes, key: &KeyBytes, after: Instant) -> Option<Inst
     }
 }
 
-/// The same, where the next change is rather in a later leaf. A leaf that holds an event of the key from `after` or
-/// before it shows that nothing happened until the leaf's start. One without tells nothing: a deletion is not carried.
+/// The same, where the next change is rather in a later leaf. A leaf that holds an event of the key
+/// from `after` or before it shows that nothing happened until the leaf's start. One without tells
+/// nothing: a deletion is not carried.
 fn later_change(nodes: &Nodes, key: &KeyBytes, after: Instant) -> Option<Instant>
     requires { IsTree nodes.now }
     ensures { (m : List Change) → HoldsMap nodes.now m → result ≡ event_after m after key.now }
@@ -42,8 +43,9 @@ fn later_change(nodes: &Nodes, key: &KeyBytes, after: Instant) -> Option<Instant
     change_before(nodes, key, after, current.rect().time().from - 1)
 }
 
-/// The same, where the leaves up to `bound` are tried by steps. Each goes as far as all those before it; one that goes
-/// too far, or comes to a leaf that tells nothing, moves the bound. What is left is walked.
+/// The same, where the leaves up to `bound` are tried by steps. Each goes as far as all those
+/// before it; one that goes too far, or comes to a leaf that tells nothing, moves the bound. What
+/// is left is walked.
 fn change_before(nodes: &Nodes, key: &KeyBytes, after: Instant, bound: Instant) -> Option<Instant>
     requires { IsTree nodes.now }
     ensures { (m : List Change) → HoldsMap nodes.now m → result ≡ event_after m after key.now }

@@ -7,8 +7,8 @@ ghost use Rattle.treewalk.specs.Level.{IsAround};
 use keyrange::{KeyRange, Rect, TimeRange, is_below};
 use treenodes::{Child, Nodes};
 
-/// The number of a node that has all points of a rectangle: the first on the way down from the root that is a data node,
-/// or of whose children none has them all. It takes no memory.
+/// The number of a node that has all points of a rectangle: the first on the way down from the root
+/// that is a data node, or of whose children none has them all. It takes no memory.
 pub(crate) fn node_around(nodes: &Nodes, rect: &Rect) -> usize
     requires { IsTree nodes.now }
     ensures { IsAround nodes.now rect.now result }

@@ -45,7 +45,8 @@ pub(crate) fn gather<B: Blocks>(
     }
 }
 
-/// The same, where there are points in question. A leaf that has them all is asked alone, and no list is made of it.
+/// The same, where there are points in question. A leaf that has them all is asked alone, and no
+/// list is made of it.
 fn gather_in<B: Blocks>(
     alloc: Global,
     blocks: &mut B,
@@ -79,7 +80,8 @@ fn instants(query: Query) -> (Instant, Instant)
     }
 }
 
-/// The rectangle of a range of keys and of the instants from one to another and with it; None where it is empty.
+/// The rectangle of a range of keys and of the instants from one to another and with it; None where
+/// it is empty.
 fn rect_between(range: &KeyRange, from: Instant, to: Instant) -> Mem<Option<Rect>>
     ensures ok { IfOk result (λ r. r ≡ area_between range.now from to) }
     ensures err { OnlyMemory result }

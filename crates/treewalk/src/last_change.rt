@@ -9,8 +9,8 @@ use crate::leaf::{last_change_in, leaf};
 use treenodes::Nodes;
 use values::{Instant, KeyBytes, MAX_INSTANT};
 
-/// The latest instant above `start` that changed a key. A node that holds no event of the key tells nothing of the time
-/// before it began: a deletion is not carried.
+/// Returns the latest instant above `start` that changed a key. A node that holds no event of the
+/// key tells nothing of the time before it began: a deletion is not carried.
 pub fn changed_since(nodes: &Nodes, key: &KeyBytes, start: Instant) -> Option<Instant>
     requires { IsTree nodes.now }
     ensures { (m : List Change) → HoldsMap nodes.now m → result ≡ event_since m start key.now }

@@ -60,7 +60,7 @@ fn level_below(alloc: Global, nodes: &Nodes, numbers: &[usize], rect: &Rect) -> 
     Ok(next)
 }
 
-/// The numbers of the data nodes that have a point of a rectangle, each once and in order.
+/// Lists the numbers of the data nodes that have a point of a rectangle, each once and in order.
 pub fn leaves_in(alloc: Global, nodes: &Nodes, rect: &Rect) -> Mem<Vec<usize>>
     requires { IsTree nodes.now }
     ensures ok { IfOk result (λ v. AreMeeting nodes.now 0 rect.now v.items) }

@@ -17,8 +17,8 @@ use std::alloc::Global;
 use treenodes::Nodes;
 use values::{Instant, MAX_INSTANT, Mem, SharedEvent};
 
-/// The events of a range of keys, from an instant to another and with it, by key and then by instant, each once however
-/// many nodes hold it.
+/// Lists the events of a range of keys, from an instant to another and with it, by key and then by
+/// instant, each once however many nodes hold it.
 pub fn events<B: Blocks>(
     alloc: Global,
     blocks: &mut B,
@@ -38,8 +38,8 @@ pub fn events<B: Blocks>(
     Ok(found)
 }
 
-/// By key: of each key of a range the event that shows its row at an instant, where it has one. It looks into the nodes
-/// at that instant alone.
+/// Lists by key, of each key of a range, the event that shows its row at an instant, where it has
+/// one. It looks into the nodes at that instant alone.
 pub fn standing<B: Blocks>(
     alloc: Global,
     blocks: &mut B,

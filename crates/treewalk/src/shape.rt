@@ -11,8 +11,8 @@ use std::cmp::Ordering;
 use treenodes::{Child, Nodes, Slot};
 use values::Mem;
 
-/// A node's level, counted from the data nodes up, its rectangle, how many events or references it holds, and whether it
-/// is packed.
+/// A node's level, counted from the data nodes up, its rectangle, how many events or references it
+/// holds, and whether it is packed.
 #[derive(Debug, Drop)]
 pub struct NodeShape {
     pub level: usize,
@@ -21,13 +21,14 @@ pub struct NodeShape {
     pub packed: bool,
 }
 
-/// The nodes of a tree: from the root's level down, in each level by the start of time, then by the lower key.
+/// The nodes of a tree: from the root's level down, in each level by the start of time, then by the
+/// lower key.
 #[derive(Debug, Drop)]
 pub struct Shape {
     pub nodes: Vec<NodeShape>,
 }
 
-/// The shape of a tree: each of its nodes once, whatever the number of its parents.
+/// Returns the shape of a tree: each of its nodes once, whatever the number of its parents.
 pub fn tree_shape(alloc: Global, nodes: &Nodes) -> Mem<Shape>
     requires { IsTree nodes.now }
     ensures ok { IfOk result (λ s. IsShapeOf nodes.now s.nodes.items) }

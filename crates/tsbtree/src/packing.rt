@@ -28,7 +28,8 @@ pub(crate) fn number_of(nodes: &Nodes, rect: &Rect) -> Option<usize>
     }
 }
 
-/// The number at which a data node of history is unpacked, with its rectangle and its events, if it does.
+/// The number at which a data node of history is unpacked, with its rectangle and its events, if it
+/// does.
 pub(crate) fn number_of_node(nodes: &Nodes, node: &DataNode) -> Option<usize>
     requires tree { IsTree nodes.now }
     requires past { IsSome node.now.rect.time.to }

@@ -21,7 +21,8 @@ use treegrowth::{key_split, time_split, with_commit};
 use treenodes::{Nodes, leaf_alone, with_block};
 use values::{Event, Instant, KeyBytes, Mem};
 
-/// The tree of all changes. A change makes new nodes aside and puts them in place at once, so views stay as they are.
+/// The tree of all changes. A change makes new nodes aside and puts them in place at once, so views
+/// stay as they are.
 #[derive(Drop)]
 pub struct Tree {
     alloc: Global,
@@ -37,7 +38,8 @@ impl Model for Tree {
 }
 
 impl Tree {
-    /// Makes the tree before the first commit: one data node, without events. `Memory` where it runs out.
+    /// Makes the tree before the first commit: one data node, without events. `Memory` where it
+    /// runs out.
     pub fn new(alloc: Global) -> Mem<Tree>
         ensures ok { IfOk result IsEmpty }
         ensures err { OnlyMemory result }
@@ -59,7 +61,8 @@ impl Tree {
         view.sound()
     }
 
-    /// Returns what was committed until now, to be kept while the tree grows. `Memory` where it runs out.
+    /// Returns what was committed until now, to be kept while the tree grows. `Memory` where it
+    /// runs out.
     pub fn view(&self) -> Mem<View>
         ensures ok { IfOk result (λ v. v ≡ self.now) }
         ensures err { OnlyMemory result }
@@ -67,8 +70,9 @@ impl Tree {
         self.view.share()
     }
 
-    /// Adds the events of a commit at an instant after all others: by key, one for each key. Only nodes that they overfill
-    /// are split. Without events, or where memory runs out, nothing has changed.
+    /// Adds the events of a commit at an instant after all others: by key, one for each key. Only
+    /// nodes that they overfill are split. Without events, or where memory runs out, nothing has
+    /// changed.
     pub fn apply(&mut self, instant: Instant, changes: Vec<Event>) -> Mem<()>
         requires later { last self.old < instant }
         requires in_range { instant ≤ max_instant }
@@ -89,8 +93,8 @@ impl Tree {
         Ok(())
     }
 
-    /// Splits the current data node of a key there. False where the node begins at the key; then, and where memory runs
-    /// out, nothing has changed.
+    /// Splits the current data node of a key there. False where the node begins at the key; then,
+    /// and where memory runs out, nothing has changed.
     pub fn key_split(&mut self, key: &KeyBytes) -> Mem<bool>
         ensures same { HoldsSame self.old self.new }
         ensures split { IfOk result (
@@ -104,8 +108,9 @@ impl Tree {
         Ok(self.put(nodes, last))
     }
 
-    /// Splits the current data node of a key at an instant. False where the instant is not after the node's start, or
-    /// after the last commit; then, and where memory runs out, nothing has changed.
+    /// Splits the current data node of a key at an instant. False where the instant is not after
+    /// the node's start, or after the last commit; then, and where memory runs out, nothing has
+    /// changed.
     pub fn time_split(&mut self, key: &KeyBytes, instant: Instant) -> Mem<bool>
         ensures same { HoldsSame self.old self.new }
         ensures split { IfOk result (
@@ -119,8 +124,9 @@ impl Tree {
         Ok(self.put(nodes, last))
     }
 
-    /// Puts a block in the place of its node, where that is unpacked: one of the same rectangle and the same events.
-    /// False where there is none; then, and where memory runs out, nothing has changed.
+    /// Puts a block in the place of its node, where that is unpacked: one of the same rectangle and
+    /// the same events. False where there is none; then, and where memory runs out, nothing has
+    /// changed.
     pub fn install(&mut self, node: &DataNode, block: Block) -> Mem<bool>
         requires { block.node ≡ node.now }
         ensures same { HoldsSame self.old self.new }

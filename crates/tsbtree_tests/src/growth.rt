@@ -164,8 +164,8 @@ pub(crate) fn one_key_split(rt: &impl Abort, alloc: Global) -> Tree {
     tree
 }
 
-/// Keys 10 and 40 are changed at two instants, the data node is split at the second, and then at many keys: a historical
-/// node has two parents.
+/// Keys 10 and 40 are changed at two instants, the data node is split at the second, and then at
+/// many keys: a historical node has two parents.
 pub(crate) fn two_parents(rt: &impl Abort, alloc: Global) -> Tree {
     let mut tree = new_tree(rt, alloc);
     put_two(rt, alloc, &mut tree, 100, 10, 40);

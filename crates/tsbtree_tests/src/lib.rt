@@ -1,4 +1,5 @@
-//! Tests of `tsbtree` by its public calls: trees that grow, nodes that are packed, and views that stay.
+//! Tests of `tsbtree` by its public calls: trees that grow, nodes that are packed, and views that
+//! stay.
 #![tactic(auto)]
 
 #[cfg(test)]

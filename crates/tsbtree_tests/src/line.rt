@@ -6,8 +6,8 @@ use treewalk::Shape;
 use tsbtree::Tree;
 use values::{Instant, KeyBytes};
 
-/// A node: the level from the root down, the lower and the upper key, or 0, the start and the end, and how much the node
-/// holds.
+/// A node: the level from the root down, the lower and the upper key, or 0, the start and the end,
+/// and how much the node holds.
 pub(crate) type Line = (usize, u8, u8, Instant, Option<Instant>, usize);
 
 pub(crate) fn shape_of(rt: &impl Abort, alloc: Global, tree: Tree) -> Shape {

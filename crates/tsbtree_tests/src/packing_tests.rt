@@ -14,7 +14,8 @@ use treewalk::Shape;
 use tsbtree::{Tree, View};
 use values::{Instant, MAX_INSTANT};
 
-/// Puts the block of a view's first unpacked node of history into a tree, where the node is unpacked there.
+/// Puts the block of a view's first unpacked node of history into a tree, where the node is
+/// unpacked there.
 fn install_first(rt: &impl Abort, alloc: Global, tree: &mut Tree, view: &View) -> bool {
     match view.first_unpacked(None) {
         None => false,
@@ -70,8 +71,8 @@ fn start(node: Option<&DataNode>) -> Instant {
     }
 }
 
-/// Whether a tree's data node at a point is packed, and when its unpacked node of history of that node's rectangle
-/// starts; 0 where there is none.
+/// Whether a tree's data node at a point is packed, and when its unpacked node of history of that
+/// node's rectangle starts; 0 where there is none.
 fn leaf_at(rt: &impl Abort, alloc: Global, tree: Tree, number: u8, at: Instant) -> (bool, Instant)
     requires { 1 ≤ at }
 {
@@ -100,7 +101,8 @@ fn a_node_of_two_parents_is_packed_once(rt: HostRuntime) {
     }
 }
 
-/// When a view's first unpacked node starts, and when its unpacked node of a rectangle does; 0 where there is none.
+/// When a view's first unpacked node starts, and when its unpacked node of a rectangle does; 0
+/// where there is none.
 fn starts(view: &View, rect: &Rect) -> (Instant, Instant) {
     (
         start(view.first_unpacked(None)),
@@ -108,8 +110,8 @@ fn starts(view: &View, rect: &Rect) -> (Instant, Instant) {
     )
 }
 
-/// The same of the tree whose historical node has two parents, for that node's rectangle: before it is packed, and
-/// thereafter. And whether both views are the same.
+/// The same of the tree whose historical node has two parents, for that node's rectangle: before it
+/// is packed, and thereafter. And whether both views are the same.
 type Starts = ((Instant, Instant), (Instant, Instant), bool);
 
 fn starts_of_both(rt: &impl Abort, alloc: Global) -> Starts {
@@ -140,7 +142,8 @@ fn a_node_of_history_is_found_by_its_rectangle(rt: HostRuntime) {
     }
 }
 
-/// Whether a tree takes the block of a view's first unpacked node. It is then as it was just where it does not.
+/// Whether a tree takes the block of a view's first unpacked node. It is then as it was just where
+/// it does not.
 fn takes_first(rt: &impl Abort, alloc: Global, tree: Tree, view: View) -> bool {
     let mut tree = tree;
     let before = view_of(rt, &tree);
@@ -206,8 +209,8 @@ fn packed_nodes_answer_as_before(rt: HostRuntime) {
     }
 }
 
-/// Packs a tree's first unpacked nodes that start at 1, at 2 and so on: when the last of these starts, when the first
-/// starts that is left, and how many are packed.
+/// Packs a tree's first unpacked nodes that start at 1, at 2 and so on: when the last of these
+/// starts, when the first starts that is left, and how many are packed.
 fn packed_in_turn(rt: &impl Abort, alloc: Global) -> (Instant, Instant, usize) {
     let mut tree = one_key_split(rt, alloc);
     let mut last = 0;

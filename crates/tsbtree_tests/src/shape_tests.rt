@@ -125,7 +125,8 @@ fn an_index_node_is_split_by_time(rt: HostRuntime) {
     assert!(rt; is_of_one_key_split(&shape));
 }
 
-/// Whether each current data node but the first is that of one key, and those of keys 10 and 40 have an event.
+/// Whether each current data node but the first is that of one key, and those of keys 10 and 40
+/// have an event.
 fn are_of_one_key(shape: &Shape) -> bool {
     for lo in 2..65u8 {
         let hi = if lo < 64 { lo + 1 } else { 0 };

@@ -1,4 +1,5 @@
-//! What views answer, of trees with few changes and with many. A test keeps no tree: each helper makes its own.
+//! What views answer, of trees with few changes and with many. A test keeps no tree: each helper
+//! makes its own.
 use crate::answer::{answers_of, count, number_in_row};
 use crate::growth::{
     few_changes, few_changes_split, grow, new_tree, one_key, one_key_split, one_row, split_at,
@@ -119,8 +120,8 @@ fn a_look_up_visits_one_node_of_each_level(rt: HostRuntime) {
     }
 }
 
-/// What a view answers: the instant of the last commit, the number in the row of key 2, how many events there are, and
-/// how many nodes.
+/// What a view answers: the instant of the last commit, the number in the row of key 2, how many
+/// events there are, and how many nodes.
 type Answers = (Instant, Option<i64>, usize, usize);
 
 fn answers(rt: &impl Abort, alloc: Global, view: &View) -> Answers {

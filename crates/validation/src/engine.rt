@@ -78,8 +78,8 @@ impl Engine {
         tree
     }
 
-    /// Returns what a transaction that begins now sees: all that was committed, whatever is committed later. `Memory`
-    /// where it runs out.
+    /// Returns what a transaction that begins now sees: all that was committed, whatever is
+    /// committed later. `Memory` where it runs out.
     pub fn begin(&self) -> Mem<View>
         ensures ok { IfOk result (λ v. v ≡ self.now) }
         ensures err { OnlyMemory result }
@@ -87,9 +87,10 @@ impl Engine {
         self.tree.view()
     }
 
-    /// Ends a transaction of this start with these net changes, by this reading of the clock, and answers its instant,
-    /// none where it changed nothing. `Conflict` with the least of its keys that was changed after its start, and the
-    /// latest instant that changed it; `ClockEnd` where no instant is left. After a refusal nothing has changed.
+    /// Ends a transaction of this start with these net changes, by this reading of the clock, and
+    /// answers its instant, none where it changed nothing. `Conflict` with the least of its keys
+    /// that was changed after its start, and the latest instant that changed it; `ClockEnd` where
+    /// no instant is left. After a refusal nothing has changed.
     pub fn commit(
         &mut self,
         start: Instant,
@@ -122,8 +123,8 @@ impl Engine {
         }
     }
 
-    /// Tells how a transaction of this start with these net changes would end now, by this reading of the clock: what
-    /// `commit` answers. Nothing has changed.
+    /// Tells how a transaction of this start with these net changes would end now, by this reading
+    /// of the clock: what `commit` answers. Nothing has changed.
     pub fn validate(
         &self,
         start: Instant,
@@ -141,8 +142,8 @@ impl Engine {
         self.outcome(start, net, reading)
     }
 
-    /// Splits the current data node of a key, where its cut lies inside the node and is no instant after the last commit;
-    /// else, and where memory runs out, nothing has changed.
+    /// Splits the current data node of a key, where its cut lies inside the node and is no instant
+    /// after the last commit; else, and where memory runs out, nothing has changed.
     pub fn split(&mut self, cut: &Cut) -> Mem<bool>
         ensures same { HoldsSame self.old self.new }
         ensures split { IfOk result (IsSplit cut.now self.old self.new) }
@@ -156,8 +157,9 @@ impl Engine {
         }
     }
 
-    /// Puts a block in the place of its node, where that is in the tree unpacked: one of the same rectangle and the same
-    /// events. False where there is none; then, and where memory runs out, nothing has changed.
+    /// Puts a block in the place of its node, where that is in the tree unpacked: one of the same
+    /// rectangle and the same events. False where there is none; then, and where memory runs out,
+    /// nothing has changed.
     pub fn install(&mut self, packed: PackedNode) -> Mem<bool>
         ensures same { HoldsSame self.old self.new }
         ensures installed { IfOk result (λ done. IsInstalled done self.old self.new packed) }
@@ -169,8 +171,8 @@ impl Engine {
         self.tree.install(&node, block)
     }
 
-    /// Adds net changes at an instant after the last, as `validate` answers it. Only nodes that they overfill are split.
-    /// Where memory runs out nothing has changed.
+    /// Adds net changes at an instant after the last, as `validate` answers it. Only nodes that
+    /// they overfill are split. Where memory runs out nothing has changed.
     pub fn add(&mut self, instant: Instant, net: Net) -> Mem<()>
         requires later { last self.old < instant }
         requires in_range { instant ≤ max_instant }

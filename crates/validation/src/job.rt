@@ -13,7 +13,8 @@ use std::marker::Model;
 use tsbtree::View;
 use values::Mem;
 
-/// A data node of history that is to be packed, as a view shows it. Its type keeps that it has a block.
+/// A data node of history that is to be packed, as a view shows it. Its type keeps that it has a
+/// block.
 #[derive(Drop)]
 pub struct Job {
     node: DataNode,
@@ -31,7 +32,7 @@ impl Model for Job {
 }
 
 impl Job {
-    /// The rectangle of the node.
+    /// Returns the rectangle of the node.
     pub fn rect(&self) -> &Rect
         ensures rect { result.now ≡ self.now.rect }
         ensures area { IsArea result.now }
@@ -49,8 +50,9 @@ impl Job {
     }
 }
 
-/// The first data node of history that a view shows unpacked: by the start of its time, then by its lower key. After a
-/// rectangle it is the first that comes behind that one. None where there is no such node.
+/// Returns the first data node of history that a view shows unpacked: by the start of its time,
+/// then by its lower key. After a rectangle it is the first that comes behind that one. None where
+/// there is no such node.
 pub fn find_job(view: &View, after: Option<&Rect>) -> Mem<Option<Job>>
     ensures ok { IfOk result (λ found. MatchOption found
         ((p : TreeNode) → IsWaiting view.now.nodes (option_copied after.entry) p → ⊥)

@@ -31,7 +31,7 @@ impl Model for PackedNode {
 }
 
 impl PackedNode {
-    /// The rectangle of the node.
+    /// Returns the rectangle of the node.
     pub fn rect(&self) -> &Rect
         ensures rect { result.now ≡ self.now.node.rect }
         ensures area { IsArea result.now }
@@ -39,21 +39,21 @@ impl PackedNode {
         self.block.rect()
     }
 
-    /// The node.
+    /// Returns the node.
     pub fn node(&self) -> &DataNode
         ensures { result.now ≡ self.now.node }
     {
         &self.node
     }
 
-    /// The block.
+    /// Returns the block.
     pub fn block(&self) -> &Block
         ensures { result.now ≡ self.now }
     {
         &self.block
     }
 
-    /// An equal node with an equal block. No event is copied, and no byte of the block.
+    /// Copies the node and its block. No event is copied, and no byte of the block.
     pub fn copy(&self) -> Mem<PackedNode>
         ensures ok { IfOk result (λ p. p ≡ self.now) }
         ensures err { OnlyMemory result }

@@ -109,8 +109,8 @@ impl Table {
         self.key.items().iter().any(|column| *column == number)
     }
 
-    /// Refuses the values of a row that does not fit by the number of its first column that does not,
-    /// or by 0 for its width, which comes first.
+    /// Refuses the values of a row that does not fit by the number of its first column that does
+    /// not, or by 0 for its width, which comes first.
     pub fn check_row(&self, values: &[Value]) -> Result<(), Refusal>
         ensures { result ≡ no_fault (row_fault self.now values.now) }
     {
@@ -139,8 +139,8 @@ impl Table {
         no_fault(self.parts_fault(self.key.items(), parts))
     }
 
-    /// Refuses comparisons by the first that names no column (0), one outside the key, or a value that
-    /// it cannot be compared with.
+    /// Refuses comparisons by the first that names no column (0), one outside the key, or a value
+    /// that it cannot be compared with.
     pub fn check_comparisons(&self, comparisons: &[Comparison]) -> Result<(), Refusal>
         ensures { result ≡ no_fault (comparisons_fault self.now comparisons.now) }
     {

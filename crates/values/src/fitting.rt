@@ -31,8 +31,8 @@ pub struct FittingWrite<'a> {
 }
 
 impl Table {
-    /// Checks a search condition over the table's keys. `BadRow` with the column, from 1, of the first comparison
-    /// that does not fit, or 0 where that names no column.
+    /// Checks a search condition over the table's keys. `BadRow` with the column, from 1, of the
+    /// first comparison that does not fit, or 0 where that names no column.
     pub fn fit_keys<'a>(&'a self, keys: &'a Keys) -> Result<FittingKeys<'a>, Refusal>
         requires good { IsTable self.now.number self.now }
         requires own { keys.now.table ≡ self.now.number }
@@ -47,8 +47,9 @@ impl Table {
         Ok(FittingKeys { table: self, keys })
     }
 
-    /// Checks what is written of the table. `BadRow` with the first column at fault, from 1: rows in their order, and
-    /// new values before comparisons; 0 for a width, or a name that is no column.
+    /// Checks what is written of the table. `BadRow` with the first column at fault, from 1: rows
+    /// in their order, and new values before comparisons; 0 for a width, or a name that is no
+    /// column.
     pub fn fit_write<'a>(&'a self, write: Write<'a>) -> Result<FittingWrite<'a>, Refusal>
         requires good { IsTable self.now.number self.now }
         requires own { table_of write ≡ self.now.number }

@@ -8,13 +8,13 @@ pub type Mem<T> = Result<T, Refusal>;
 /// Why a step is refused.
 #[derive(Debug, PartialEq, Eq, Drop)]
 pub enum Refusal {
-    /// The line is not of the grammar: the offset, from 0, of the first unexpected token, or the length
-    /// of a line that ends too early.
+    /// The line is not of the grammar: the offset, from 0, of the first unexpected token, or the
+    /// length of a line that ends too early.
     Syntax(usize),
     /// No such table.
     NoTable,
-    /// A row, a name or a comparison does not fit the table: the user column, from 1, or 0 for a width
-    /// or a name.
+    /// A row, a name or a comparison does not fit the table: the user column, from 1, or 0 for a
+    /// width or a name.
     BadRow(usize),
     /// A step that needs an open transaction, with none open.
     NoTransaction,
@@ -22,8 +22,8 @@ pub enum Refusal {
     InTransaction,
     /// An INSERT of a key that the transaction sees, or that an earlier row of the statement has.
     DuplicateKey(Key),
-    /// The least key of the net changes that a later transaction changed, and the latest instant that it
-    /// did so.
+    /// The least key of the net changes that a later transaction changed, and the latest instant
+    /// that it did so.
     Conflict(Key, Instant),
     /// The commit instant would be above `MAX_INSTANT`, the greatest.
     ClockEnd,

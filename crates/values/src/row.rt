@@ -37,8 +37,8 @@ impl Model for Row {
 }
 
 impl Row {
-    /// Makes a row; none where the values are not 1 to 16, or one is a text of over 1,000 bytes or of
-    /// two lines.
+    /// Makes a row; none where the values are not 1 to 16, or one is a text of over 1,000 bytes or
+    /// of two lines.
     #[tactic(auto, using(crate::proofs::RowStored::stored_row, crate::proofs::RowStored::is_stored_row_of))]
     pub fn new(values: Vec<Value>) -> Option<Row>
         ensures are { IfSome result (λ r. r ≡ values.items) }

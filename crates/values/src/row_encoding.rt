@@ -149,8 +149,8 @@ fn values_from(
     Ok(Some((values, rest)))
 }
 
-/// Reads a row from the start of bytes, and the number of its bytes; none where there is none. A row
-/// that fits no table is read too.
+/// Reads a row from the start of bytes, and the number of its bytes; none where there is none. A
+/// row that fits no table is read too.
 pub fn read_row(alloc: Global, bytes: &[u8]) -> Mem<Option<(Row, usize)>>
     ensures exact { IfOk result (λ read. read ≡ row_from bytes.now) }
     ensures found { IfOk result (λ read. IfSome read (λ x. StandsIn bytes.now x.1 x.0)) }
