@@ -5,6 +5,7 @@ ghost use Rattle.journal.specs.Entries.{entry_at, has_entry_of, has_ended, is_op
 ghost use Rattle.journal.specs.JournalState.{IsGrown, marked};
 
 use crate::entry::{Begun, Entry, SharedEntry};
+use crate::gone::JournalGone;
 use crate::receipt::Receipt;
 use growlog::{Log, NewLog, Prefix, StoreName};
 use std::alloc::Global;
@@ -172,8 +173,9 @@ impl<J: StoreName> Journal<J> {
         receipt.is_in(&self.prefix)
     }
 
-    /// Returns the entries, the oldest first.
-    pub fn into_entries(self) -> Vec<SharedEntry>
+    /// Ends the journal and these receipts, whichever they are, and returns the entries, the oldest
+    /// first.
+    pub fn into_entries(self, receipts: Vec<Receipt<J>>) -> Vec<SharedEntry>
         ensures { reverse result.items ≡ self.entries }
     {
         let Journal {
@@ -185,7 +187,16 @@ impl<J: StoreName> Journal<J> {
         drop(ended);
         drop(log);
         drop(prefix);
+        let gone = JournalGone::new();
+        gone.end(receipts);
         entries
+    }
+
+    /// Gives the journal up with its entries, and ends these receipts, whichever they are: for who
+    /// cannot go on.
+    pub fn give_up(self, receipts: Vec<Receipt<J>>) -> JournalGone<J> {
+        let _entries = self.into_entries(receipts);
+        JournalGone::new()
     }
 }
 

@@ -2,9 +2,11 @@
 #![tactic(auto)]
 
 mod entry;
+mod gone;
 mod journal;
 mod receipt;
 
 pub use entry::{Begun, Entry, SharedEntry};
+pub use gone::JournalGone;
 pub use journal::Journal;
 pub use receipt::Receipt;

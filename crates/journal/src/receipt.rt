@@ -5,8 +5,10 @@ ghost use Rattle.journal.specs.Entries.{begun_of};
 use crate::entry::{Begun, SharedEntry};
 use growlog::{Prefix, StoreName};
 
-/// An entry with its number, from 1. The prefix that it keeps has the entry in its place, unless it ends before.
-#[derive(Drop)]
+/// An entry with its number, from 1. The prefix that it keeps has the entry in its place, unless it
+/// ends before.
+///
+/// It cannot be dropped: whoever has one moves it on, until it ends with its journal.
 pub struct Receipt<J: StoreName> {
     pub number: u64,
     pub entry: SharedEntry,
@@ -17,7 +19,7 @@ pub struct Receipt<J: StoreName> {
 
 impl<J: StoreName> Receipt<J> {
     /// Makes the receipt of the entry with a number, by a prefix of the log that has the entry or ends before it.
-    pub fn new(number: u64, entry: SharedEntry, prefix: Prefix<SharedEntry, J>) -> Receipt<J>
+    pub(crate) fn new(number: u64, entry: SharedEntry, prefix: Prefix<SharedEntry, J>) -> Receipt<J>
         requires counts { 1 ≤ number }
         requires stands { number ≤ length prefix → slice_get prefix (number - 1) ≡ Some entry }
         ensures number { result.number ≡ number }
@@ -28,6 +30,15 @@ impl<J: StoreName> Receipt<J> {
             entry,
             prefix,
         }
+    }
+
+    /// Ends the receipt.
+    pub(crate) fn end(self) {
+        let Receipt {
+            number: _,
+            entry: _,
+            prefix: _,
+        } = self;
     }
 
     /// Returns what a session keeps of its begin, if the entry is a begin.
