@@ -13,7 +13,6 @@ use validation::Engine;
 use values::{Mem, Refusal};
 
 /// A transaction that begins: what its session keeps of the begin, the begin's receipt, and the transaction.
-#[derive(Drop)]
 pub struct Opening<J: StoreName> {
     pub begun: Begun,
     pub receipt: Receipt<J>,

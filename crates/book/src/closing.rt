@@ -5,7 +5,7 @@ ghost use Rattle.book.specs.Book.{IsBook};
 
 use crate::book::Book;
 use growlog::StoreName;
-use journal::{Receipt, SharedEntry};
+use journal::{JournalGone, Receipt, SharedEntry};
 use std::marker::Model;
 use tsbtree::Tree;
 use validation::Engine;
@@ -64,8 +64,9 @@ impl<J: StoreName> Book<J> {
         self.journal.is_covered(receipts)
     }
 
-    /// Ends the book: the tree and the entries, to which no more are added.
-    pub fn close(self) -> Closed
+    /// Ends the book and these receipts, whichever they are: the tree and the entries, to which no
+    /// more are added.
+    pub fn close(self, receipts: Vec<Receipt<J>>) -> Closed
         ensures is { result ≡ self }
         ensures book { IsBook J.schema result }
     {
@@ -76,7 +77,17 @@ impl<J: StoreName> Book<J> {
         } = self;
         Closed {
             engine,
-            entries: journal.into_entries(),
+            entries: journal.into_entries(receipts),
         }
+    }
+
+    /// Gives the book up, and ends these receipts, whichever they are: for who cannot go on.
+    pub fn give_up(self, receipts: Vec<Receipt<J>>) -> JournalGone<J> {
+        let Book {
+            alloc: _,
+            engine: _,
+            journal,
+        } = self;
+        journal.give_up(receipts)
     }
 }
