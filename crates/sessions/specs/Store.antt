@@ -1,5 +1,5 @@
 -- What the store's calls do to a session.
-use Rattle.std.specs.Prelude.{◌≡◌, ◌⊎◌, ℕ, [], Option, Some, None, Result, IfErr, Bool, true, ◌==◌, ◌||◌}
+use Rattle.std.specs.Prelude.{◌≡◌, ◌⊎◌, ℕ, [], Option, Some, None, Result, IfErr, Bool, false, true, ◌==◌, ◌||◌}
 use Rattle.values.specs.declared.refusal.Refusal.{Refusal}
 use Rattle.values.specs.declared.refusal.Refusal.TheVariants.{NoTransaction, JournalFull, Memory}
 use Rattle.values.specs.Log.{Changes, Net}
@@ -10,6 +10,8 @@ use Rattle.staging.specs.Own.{net_over}
 use Rattle.validation.specs.declared.cut.Cut.{Cut}
 use Rattle.journal.specs.declared.entry.Entry.{Entry}
 use Rattle.journal.specs.declared.entry.Entry.TheVariants.{Begin, Commit, Split, Install}
+use Rattle.journal.specs.Entries.{Entries, is_open}
+use Rattle.book.specs.Book.{BookState, commit_entry}
 use Rattle.sessions.specs.SessionState.{SessionTransactionState, SessionState}
 
 -- a transaction that has written nothing, by its begin's number, the entry before that it names, and its view
@@ -32,6 +34,23 @@ pub record IsBegun (old new : SessionState) (number : ℕ) (e : Entry) : Type 0 
     schema = old.schema;
     receipt = number;
     transaction = Some (begun_with number earlier view);
+  }
+
+-- the session's transaction is open in a journal with these entries
+abbrev pub is_open_at : Entries → SessionState → Bool
+is_open_at j s = elim s.transaction [ None ↦ false | Some t ↦ is_open j s.number t.begun ]
+
+-- the entry is that of a commit at the book of what the session has open, and the transaction has ended
+pub record IsCommitAt (book : BookState) (old new : SessionState) (net : Net) (reading number : ℕ)
+    (e : Entry) : Type 0 where
+  pub ran : SessionTransactionState
+  pub was_open : old.transaction ≡ Some ran
+  pub entry_is : e ≡ commit_entry book old.number ran.begun net reading
+  pub session_is : new ≡ record {
+    number = old.number;
+    schema = old.schema;
+    receipt = number;
+    transaction = None;
   }
 
 -- the entry names the session's begin, with what the session changed and the reading, and the transaction has ended

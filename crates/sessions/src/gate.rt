@@ -20,3 +20,16 @@ pub trait Gate {
     /// from 1.
     fn pass<R: Wait>(&self, rt: &R, who: u8, place: Place) -> bool;
 }
+
+/// That a gate gave up. Only `pass_gate` makes one, where `Gate::pass` answered false.
+#[derive(Clone, Copy, Debug, PartialEq, Eq)]
+pub struct GaveUp(());
+
+/// Passes a gate, or returns that it gave up.
+pub fn pass_gate<G: Gate, R: Wait>(gate: &G, rt: &R, who: u8, place: Place) -> Result<(), GaveUp> {
+    if gate.pass(rt, who, place) {
+        Ok(())
+    } else {
+        Err(GaveUp(()))
+    }
+}

@@ -1,6 +1,7 @@
 //! Sessions, each with a transaction of its own, round one store.
 #![tactic(auto)]
 
+mod commit;
 mod gate;
 mod law;
 mod read;
@@ -8,7 +9,7 @@ mod session;
 mod store;
 mod write;
 
-pub use gate::{Gate, Place};
+pub use gate::{Gate, GaveUp, Place, pass_gate};
 pub use law::{sessions_answer_as_histories, stores_answer_as_histories};
 pub use session::Session;
 pub use store::{LockedStore, Unclosed};

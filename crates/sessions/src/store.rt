@@ -1,24 +1,18 @@
 //! The store: the book under its lock.
 ghost use Rattle.std.specs.Prelude.{◌≡◌, ◌≢◌, ◌<◌, ◌≤◌, ◌⊎◌, ◌↔◌, All, Err, IfErr, IfOk, IsPermutation, IsSome, IsTrue, None, OnErr, Some, length, map};
-ghost use Rattle.values.specs.Events.{AreKeysIn};
-ghost use Rattle.values.specs.Log.{Changes};
 ghost use Rattle.values.specs.Memory.{OnlyMemory};
-ghost use Rattle.values.specs.Tables.{Schema as Tables};
 ghost use Rattle.steps.specs.Misfit.{max_session};
-ghost use Rattle.staging.specs.Own.{net_over};
-ghost use Rattle.staging.specs.View.{Holds};
 ghost use Rattle.journal.specs.Entries.{entry_at, numbers};
 ghost use Rattle.book.specs.Book.{IsBook, OnlyRoom};
 ghost use Rattle.sessions.specs.Store.{IsBegun, IsCommitted, IsInstallOf, IsSplitOf, OnlyRoomOrNone};
 
-use crate::session::{Session, SessionTransaction};
-use book::{Book, Closed, Opening};
+use crate::commit::nets;
+use crate::session::Session;
+use book::{Book, Closed};
 use growlog::{NewLog, StoreName};
-use journal::{Receipt, SharedEntry};
-use staging::Net;
+use journal::{JournalGone, Receipt, SharedEntry};
 use std::alloc::Global;
 use std::sync::{Mutex, Wait};
-use transaction::OpenTransaction;
 use validation::{Cut, PackedNode};
 use values::{Instant, Mem, Refusal, Schema};
 
@@ -31,26 +25,10 @@ pub struct LockedStore<J: StoreName> {
 }
 
 /// A store that is not closed, since the receipts are not one for each entry. They are handed back
-/// in some order, and closing can be tried again.
-#[derive(Drop)]
+/// in some order. Closing can be tried again, or the store given up.
 pub struct Unclosed<J: StoreName> {
     pub store: LockedStore<J>,
     pub receipts: Vec<Receipt<J>>,
-}
-
-/// Returns the net changes of a transaction, twice.
-fn nets(transaction: &OpenTransaction) -> Mem<(Net, Net)>
-    ensures ok { IfOk result (λ nets. (schema : Tables) (m : Changes)
-        → Holds schema transaction.now.view m → AreKeysIn schema transaction.now.writes
-        → nets.0 ≡ net_over m transaction.now.writes) }
-    ensures keys { IfOk result (λ nets. (schema : Tables)
-        → AreKeysIn schema transaction.now.writes → AreKeysIn schema nets.0) }
-    ensures twice { IfOk result (λ nets. nets.1 ≡ nets.0) }
-    ensures err { OnlyMemory result }
-{
-    let net = transaction.net()?;
-    let changes = net.copy()?;
-    Ok((net, changes))
 }
 
 impl<J: StoreName> LockedStore<J> {
@@ -102,6 +80,20 @@ impl<J: StoreName> LockedStore<J> {
         if !self.has_tables_of(session) {
             return Err(Refusal::NoTable);
         }
+        self.begin_lent(rt, session)
+    }
+
+    /// Begins a transaction like `begin`, of a session that is known to be of the store's tables, as
+    /// one that `session` has made: no tables are compared. `InTransaction` where one is open,
+    /// `JournalFull` where there is no room for one more entry. After a refusal nothing has changed.
+    pub fn begin_lent<R: Wait>(&self, rt: &R, session: &mut Session) -> Result<Receipt<J>, Refusal>
+        requires { session.old.schema ≡ J.schema }
+        ensures begun { IfOk result (λ r. IsBegun session.old session.new r.number r.entry) }
+        ensures open_before { IsSome session.old.transaction
+            → result ≡ Err Refusal.InTransaction }
+        ensures why { session.old.transaction ≡ None → OnlyRoom result }
+        ensures refused { OnErr result (session.new ≡ session.old) }
+    {
         if session.transaction.is_some() {
             return Err(Refusal::InTransaction);
         }
@@ -131,17 +123,32 @@ impl<J: StoreName> LockedStore<J> {
         if !self.has_tables_of(session) {
             return Err(Refusal::NoTable);
         }
+        self.commit_lent(rt, session, reading)
+    }
+
+    /// Ends a transaction like `commit`, of a session that is known to be of the store's tables, as
+    /// one that `session` has made: no tables are compared. `NoTransaction` where none is open, or
+    /// none at this store, `JournalFull` where there is no room for one more entry. After a refusal
+    /// nothing has changed, and the transaction is still open.
+    pub fn commit_lent<R: Wait>(
+        &self,
+        rt: &R,
+        session: &mut Session,
+        reading: Instant,
+    ) -> Result<Receipt<J>, Refusal>
+        requires { session.old.schema ≡ J.schema }
+        ensures committed { IfOk result (λ r.
+            IsCommitted session.old session.new reading r.number r.entry) }
+        ensures none { session.old.transaction ≡ None → result ≡ Err Refusal.NoTransaction }
+        ensures why { IsSome session.old.transaction → OnlyRoomOrNone result }
+        ensures refused { OnErr result (session.new ≡ session.old) }
+    {
         let Some(own) = &session.transaction else {
             return Err(Refusal::NoTransaction);
         };
         let (net, changes) = nets(&own.transaction)?;
-        let receipt = self
-            .book
-            .lock(rt)
-            .commit(session.number, &own.begun, net, changes, reading)?;
-        session.transaction = None;
-        session.receipt = receipt.number;
-        Ok(receipt)
+        let mut book = self.book.lock(rt);
+        session.commit_at(&mut *book, net, changes, reading)
     }
 
     /// Splits the current data node of a key, where its cut lies inside the node and is no instant
@@ -178,12 +185,20 @@ impl<J: StoreName> LockedStore<J> {
         let LockedStore { schema, book } = self;
         let book = book.into_inner();
         if book.is_covered(&mut receipts) {
-            return Ok(book.close());
+            return Ok(book.close(receipts));
         }
         let store = LockedStore {
             schema,
             book: Mutex::new(book),
         };
         Err(Unclosed { store, receipts })
+    }
+
+    /// Gives the store up unclosed, and ends these receipts, whichever they are: for a server that
+    /// cannot go on, as where memory ran out. What it returns ends the receipts that are not among
+    /// them. It takes no memory.
+    pub fn give_up(self, receipts: Vec<Receipt<J>>) -> JournalGone<J> {
+        let LockedStore { schema: _, book } = self;
+        book.into_inner().give_up(receipts)
     }
 }

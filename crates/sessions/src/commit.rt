@@ -1,0 +1,66 @@
+//! The end of a session's transaction, in the book that was locked for it.
+ghost use Rattle.std.specs.Prelude.{◌≡◌, Err, IfOk, OnErr, false, true};
+ghost use Rattle.values.specs.Events.{AreKeysIn};
+ghost use Rattle.values.specs.Log.{Changes};
+ghost use Rattle.values.specs.Memory.{OnlyMemory};
+ghost use Rattle.values.specs.Tables.{Schema as Tables};
+ghost use Rattle.staging.specs.Own.{net_over};
+ghost use Rattle.staging.specs.View.{Holds};
+ghost use Rattle.book.specs.Book.{Adds, OnlyRoom};
+ghost use Rattle.sessions.specs.Store.{IsCommitAt, is_open_at};
+
+use crate::session::Session;
+use book::Book;
+use growlog::StoreName;
+use journal::Receipt;
+use staging::Net;
+use transaction::OpenTransaction;
+use values::{Instant, Mem, Refusal};
+
+impl Session {
+    /// Ends the open transaction at a book, by this reading of the clock: the step of
+    /// `LockedStore::commit` that runs under the lock. Its net changes are handed in twice.
+    /// `NoTransaction` where none is open, or none at this book, `JournalFull` where there is no
+    /// room for one more entry. After a refusal neither the book nor the session has changed.
+    pub fn commit_at<J: StoreName>(
+        &mut self,
+        book: &mut Book<J>,
+        net: Net,
+        changes: Net,
+        reading: Instant,
+    ) -> Result<Receipt<J>, Refusal>
+        requires keys { AreKeysIn J.schema net }
+        requires twice { changes ≡ net }
+        ensures committed { IfOk result (λ r.
+            IsCommitAt book.old self.old self.new net reading r.number r.entry) }
+        ensures adds { IfOk result (λ r. Adds r.entry r.number book.old book.new) }
+        ensures none { is_open_at book.old.entries self.old ≡ false
+            → result ≡ Err Refusal.NoTransaction }
+        ensures why { is_open_at book.old.entries self.old ≡ true → OnlyRoom result }
+        ensures book { OnErr result (book.new ≡ book.old) }
+        ensures refused { OnErr result (self.new ≡ self.old) }
+    {
+        let Some(own) = &self.transaction else {
+            return Err(Refusal::NoTransaction);
+        };
+        let receipt = book.commit(self.number, &own.begun, net, changes, reading)?;
+        self.transaction = None;
+        self.receipt = receipt.number;
+        Ok(receipt)
+    }
+}
+
+/// Returns the net changes of a transaction, twice.
+pub(crate) fn nets(transaction: &OpenTransaction) -> Mem<(Net, Net)>
+    ensures ok { IfOk result (λ nets. (schema : Tables) (m : Changes)
+        → Holds schema transaction.now.view m → AreKeysIn schema transaction.now.writes
+        → nets.0 ≡ net_over m transaction.now.writes) }
+    ensures keys { IfOk result (λ nets. (schema : Tables)
+        → AreKeysIn schema transaction.now.writes → AreKeysIn schema nets.0) }
+    ensures twice { IfOk result (λ nets. nets.1 ≡ nets.0) }
+    ensures err { OnlyMemory result }
+{
+    let net = transaction.net()?;
+    let changes = net.copy()?;
+    Ok((net, changes))
+}
