@@ -64,10 +64,6 @@ abbrev round : Option Area → List Area → List Given → RoundState
 round after asked given = record { after = after; asked = asked; given = given }
 
 module _ (begin : Given) (view : TreeState) where
-  -- what is so of a round's parts is so of the round
-  by_parts : (q : RoundState) → IsUnderWay begin view (round q.after q.asked q.given) → IsUnderWay begin view q
-  by_parts q u = record { rects = u.rects; installs = u.installs; given_are = u.given_are; installed = u.installed; last = u.last; upto = u.upto }
-
   pub begins : (asked : List Area) (given : List Given) → asked ≡ [] → given ≡ begin ∷ [] → IsUnderWay begin view (round None asked given)
   begins asked given none are = record {
     rects = [];
@@ -143,19 +139,12 @@ module _ (begin : Given) (view : TreeState) where
         upto = covered;
       })
 
-    asked_for : (shown : TreeState) (last : Option Area) (found : Option Node) (node : Node) (rect end : Area) (more : List Area) → shown ≡ view → last ≡ q.after → found ≡ Some node → Found shown last found → end ≡ node.rect → rect ≡ node.rect → more ≡ q.asked ++ rect ∷ [] → IsUnderWay begin view (round (Some end) more q.given)
+    pub asked_for : (shown : TreeState) (last : Option Area) (found : Option Node) (node : Node) (rect end : Area) (more : List Area) → shown ≡ view → last ≡ q.after → found ≡ Some node → Found shown last found → end ≡ node.rect → rect ≡ node.rect → more ≡ q.asked ++ rect ∷ [] → IsUnderWay begin view (round (Some end) more q.given)
     asked_for shown last found node rect end more same is some all ends here are =
         let first : IsFirstWaiting shown.nodes last (data_node node) = subst (Found shown last) some all in
         let first_here : IsFirstWaiting view.nodes q.after (data_node node) = subst (λ (v : TreeState). IsFirstWaiting v.nodes q.after (data_node node)) same (subst (λ (a : Option Area). IsFirstWaiting shown.nodes a (data_node node)) is first) in
         subst (λ (r : Area). IsUnderWay begin view (round (Some r) more q.given)) (sym ends)
         (asks node first_here more (are ∙ ap (λ r. q.asked ++ r ∷ []) here))
-
-    pub asks_for : (s : RoundState) (shown : TreeState) (last : Option Area) (found : Option Node) (node : Node) (rect end : Area) → shown ≡ view → last ≡ q.after → found ≡ Some node → Found shown last found → end ≡ node.rect → rect ≡ node.rect → s.after ≡ Some end → s.asked ≡ q.asked ++ rect ∷ [] → s.given ≡ q.given → IsUnderWay begin view s
-    asks_for s shown last found node rect end same is some all ends here after_is asked_are given_are =
-        by_parts s
-        (subst (λ a. IsUnderWay begin view (round a s.asked s.given)) (sym after_is)
-        (subst (λ g. IsUnderWay begin view (round (Some end) s.asked g)) (sym given_are)
-        (asked_for shown last found node rect end s.asked same is some all ends here asked_are)))
 
     -- ---- one comes
 

@@ -3,7 +3,7 @@ use crate::fault::Cause;
 use crate::name::RoundName;
 use crate::task::{Done, Task};
 use crossbeam_channel::{Receiver, Sender};
-use sessions::{Gate, Place};
+use sessions::{Gate, Place, pass_gate};
 use std::alloc::{AllocError, Global};
 use std::sync::Wait;
 
@@ -99,9 +99,7 @@ fn answer<N: RoundName, R: Wait, G: Gate>(
     who: u8,
     task: Task<N>,
 ) -> Answer<N> {
-    if !gate.pass(rt, who, Place::Pack) {
-        return Err(Cause::Gate);
-    }
+    pass_gate(gate, rt, who, Place::Pack)?;
     match task.pack(alloc) {
         Ok(done) => Ok(done),
         Err(_) => Err(Cause::Memory),

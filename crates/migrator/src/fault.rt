@@ -1,6 +1,7 @@
 //! How a round is broken off.
 use growlog::StoreName;
 use journal::Receipt;
+use sessions::GaveUp;
 use std::alloc::AllocError;
 use values::Refusal;
 
@@ -15,11 +16,10 @@ pub enum Cause {
     /// before. Also that the session is of other tables than the store.
     Worker,
     /// The gate gave up.
-    Gate,
+    Gate(GaveUp),
 }
 
 /// A round that was broken off, with the receipts that it took until then.
-#[derive(Drop)]
 pub struct MigrateFault<J: StoreName> {
     pub cause: Cause,
     pub receipts: Vec<Receipt<J>>,
@@ -33,6 +33,17 @@ impl From<AllocError> for Cause {
 
     fn from(_: AllocError) -> Cause {
         Cause::Memory
+    }
+}
+
+impl From<GaveUp> for Cause {
+    ghost use Rattle.std.specs.Prelude.{◌≡◌};
+    ghost use Rattle.migrator.specs.declared.fault.Cause.TheVariants.{Gate};
+
+    ghost from_gives = { λ gave_up cause. cause ≡ Gate gave_up };
+
+    fn from(gave_up: GaveUp) -> Cause {
+        Cause::Gate(gave_up)
     }
 }
 

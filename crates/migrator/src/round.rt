@@ -1,6 +1,6 @@
 //! A round under way.
-ghost use Rattle.std.specs.Prelude.{◌≡◌, ◌<◌, ◌++◌, ◌∷◌, [], IfErr, IfOk, MatchOption, None, OnErr, OnOk, Some, false, length, map};
-ghost use Rattle.migrator.specs.Round.{IsOver, IsPart, IsUnderWay, IsWhole};
+ghost use Rattle.std.specs.Prelude.{◌≡◌, ◌<◌, ◌∷◌, [], IfErr, IfOk, MatchOption, OnOk, false, length, map, true};
+ghost use Rattle.migrator.specs.Round.{IsOver, IsPart, IsWhole};
 
 use crate::bench::Desk;
 use crate::fault::{Cause, MigrateFault};
@@ -12,24 +12,24 @@ use journal::Receipt;
 use keyrange::Rect;
 use sessions::LockedStore;
 use std::alloc::Global;
-use std::marker::Model;
+use std::marker::{Model, PhantomData};
 use std::sync::Wait;
 use tsbtree::View;
 use validation::find_job;
 
-/// What a round has asked for, and its receipts so far. Contracts see the receipts as numbers and
-/// entries.
-#[derive(Drop)]
-pub(crate) struct Round<J: StoreName> {
+/// What a round has asked for, and its receipts so far: a begin, and installs of what its view shows
+/// unpacked. Contracts see the receipts as numbers and entries.
+pub(crate) struct Round<J: StoreName, N: RoundName> {
     /// The rectangle of the node that was asked for last.
-    pub(crate) after: Option<Rect>,
-    pub(crate) asked: RequestList,
-    pub(crate) receipts: Vec<Receipt<J>>,
+    after: Option<Rect>,
+    asked: RequestList,
+    receipts: Vec<Receipt<J>>,
+    of: PhantomData<N>,
 }
 
-impl<J: StoreName> Model for Round<J> {
+impl<J: StoreName, N: RoundName> Model for Round<J, N> {
     ghost use Rattle.std.specs.Prelude.{map};
-    ghost use Rattle.migrator.specs.Round.{RoundState};
+    ghost use Rattle.migrator.specs.Round.{IsUnderWay, RoundState};
 
     ghost Value = { RoundState };
 
@@ -38,64 +38,50 @@ impl<J: StoreName> Model for Round<J> {
       asked = r.asked;
       given = map (λ r. (r.number, r.entry)) r.receipts.items;
     } };
+
+    ghost invariant = { λ r. IsUnderWay N.begin N.shown record {
+      after = r.after;
+      asked = r.asked;
+      given = map (λ r. (r.number, r.entry)) r.receipts.items;
+    } };
 }
 
-impl<J: StoreName> Round<J> {
+impl<J: StoreName, N: RoundName> Round<J, N> {
     /// Makes a round that has asked for nothing yet, with the receipt of its begin.
-    pub(crate) fn new<N: RoundName>(alloc: Global, receipts: Vec<Receipt<J>>) -> Round<J>
+    pub(crate) fn new(alloc: Global, receipts: Vec<Receipt<J>>) -> Round<J, N>
         requires { map (λ r. (r.number, r.entry)) receipts.items ≡ N.begin ∷ [] }
-        ensures { IsUnderWay N.begin N.shown result }
     {
         Round {
             after: None,
             asked: RequestList::new(alloc),
             receipts,
+            of: PhantomData,
         }
     }
 
     /// Returns the task of packing the next node that the view shows unpacked, if there is one;
     /// from then on it counts as asked for.
-    fn next<N: RoundName>(&mut self, view: &View) -> Result<Option<Task<N>>, Cause>
-        requires view { view.now ≡ N.shown }
-        requires under { IsUnderWay N.begin N.shown self.old }
-        ensures under { IsUnderWay N.begin N.shown self.new }
-        ensures none { IfOk result (λ found. MatchOption found
+    fn next(&mut self, view: &View) -> Result<Option<Task<N>>, Cause>
+        requires { view.now ≡ N.shown }
+        ensures { IfOk result (λ found. MatchOption found
             (IsOver N.shown self.new.after) (λ _. Unit {0})) }
     {
         let Some(job) = find_job(view, self.after.as_ref())? else {
             return Ok(None);
         };
-        self.count(job.rect())?;
+        let asked = job.rect().copy()?;
+        let after = job.rect().copy()?;
+        self.asked.push(asked)?;
+        self.after = Some(after);
         Ok(Some(Task::new(job)))
     }
 
-    /// Counts the node of a rectangle as asked for.
-    fn count(&mut self, rect: &Rect) -> Result<(), Cause>
-        ensures asked { OnOk result (self.new.asked ≡ self.old.asked ++ rect.now ∷ []) }
-        ensures after { OnOk result (self.new.after ≡ Some rect.now) }
-        ensures given { self.new.given ≡ self.old.given }
-        ensures refused { OnErr result (self.new ≡ self.old) }
-    {
-        let asked = rect.copy()?;
-        let after = rect.copy()?;
-        self.asked.push(asked)?;
-        self.after = Some(after);
-        Ok(())
-    }
-
     /// Asks a worker for the next node that the view shows unpacked; false if there is none.
-    fn ask<N: RoundName, R: Wait>(
-        &mut self,
-        rt: &R,
-        view: &View,
-        desk: &Desk<N>,
-    ) -> Result<bool, Cause>
-        requires view { view.now ≡ N.shown }
-        requires under { IsUnderWay N.begin N.shown self.old }
-        ensures under { IsUnderWay N.begin N.shown self.new }
-        ensures none { IfOk result (λ asked. asked ≡ false → IsOver N.shown self.new.after) }
+    fn ask<R: Wait>(&mut self, rt: &R, view: &View, desk: &Desk<N>) -> Result<bool, Cause>
+        requires { view.now ≡ N.shown }
+        ensures { IfOk result (λ asked. asked ≡ false → IsOver N.shown self.new.after) }
     {
-        match self.next::<N>(view)? {
+        match self.next(view)? {
             None => Ok(false),
             Some(task) => match desk.tasks.send(rt, task) {
                 Ok(()) => Ok(true),
@@ -105,7 +91,7 @@ impl<J: StoreName> Round<J> {
     }
 
     /// Asks for the next node if fewer than `room` are unanswered; false if it asked for none.
-    fn ask_within<N: RoundName, R: Wait>(
+    fn ask_within<R: Wait>(
         &mut self,
         rt: &R,
         view: &View,
@@ -114,9 +100,7 @@ impl<J: StoreName> Round<J> {
     ) -> Result<bool, Cause>
         requires room { 0 < room }
         requires view { view.now ≡ N.shown }
-        requires under { IsUnderWay N.begin N.shown self.old }
-        ensures under { IsUnderWay N.begin N.shown self.new }
-        ensures none { IfOk result (λ asked. asked ≡ false → length self.new.asked ≡ 0
+        ensures { IfOk result (λ asked. asked ≡ false → length self.new.asked ≡ 0
             → IsOver N.shown self.new.after) }
     {
         if self.asked.len() >= room {
@@ -126,15 +110,12 @@ impl<J: StoreName> Round<J> {
     }
 
     /// Waits for an answer, and installs what was packed.
-    fn take_in<N: RoundName, R: Wait>(
+    fn take_in<R: Wait>(
         &mut self,
         rt: &R,
         store: &LockedStore<J>,
         desk: &Desk<N>,
-    ) -> Result<(), Cause>
-        requires under { IsUnderWay N.begin N.shown self.old }
-        ensures under { IsUnderWay N.begin N.shown self.new }
-    {
+    ) -> Result<(), Cause> {
         match desk.answers.recv(rt) {
             Ok(Ok(done)) => self.install(rt, store, done),
             Ok(Err(cause)) => Err(cause),
@@ -143,15 +124,12 @@ impl<J: StoreName> Round<J> {
     }
 
     /// Installs what was packed, if it was asked for and has not come before.
-    fn install<N: RoundName, R: Wait>(
+    fn install<R: Wait>(
         &mut self,
         rt: &R,
         store: &LockedStore<J>,
         done: Done<N>,
-    ) -> Result<(), Cause>
-        requires under { IsUnderWay N.begin N.shown self.old }
-        ensures under { IsUnderWay N.begin N.shown self.new }
-    {
+    ) -> Result<(), Cause> {
         let Some(place) = self.asked.place_of(done.rect()) else {
             return Err(Cause::Worker);
         };
@@ -164,7 +142,7 @@ impl<J: StoreName> Round<J> {
 
     /// Asks for all nodes that the view shows unpacked, at most `room` at a time, and installs what
     /// comes.
-    fn pack<N: RoundName, R: Wait>(
+    pub(crate) fn pack<R: Wait>(
         &mut self,
         rt: &R,
         store: &LockedStore<J>,
@@ -174,9 +152,7 @@ impl<J: StoreName> Round<J> {
     ) -> Result<(), Cause>
         requires room { 0 < room }
         requires view { view.now ≡ N.shown }
-        requires under { IsUnderWay N.begin N.shown self.old }
-        ensures ok { OnOk result (IsWhole N.begin N.shown self.new.given) }
-        ensures err { OnErr result (IsPart N.begin N.shown self.new.given) }
+        ensures { OnOk result (IsWhole N.begin N.shown self.new.given) }
     {
         for _ in rt.forever() {
             if self.ask_within(rt, view, room, desk)? {
@@ -191,30 +167,61 @@ impl<J: StoreName> Round<J> {
         Err(Cause::Worker)
     }
 
-    /// Runs the round, and returns its receipts once all is installed.
-    pub(crate) fn run<N: RoundName, R: Wait>(
+    /// Tells whether all that the view shows unpacked was asked for and installed.
+    fn is_whole(&mut self, view: &View) -> Result<bool, Cause>
+        requires { view.now ≡ N.shown }
+        ensures { IfOk result (λ whole.
+            whole ≡ true → IsWhole N.begin N.shown self.new.given) }
+    {
+        let None = self.next(view)? else {
+            return Ok(false);
+        };
+        Ok(self.asked.len() == 0)
+    }
+
+    /// Ends the round once it was packed, and returns its receipts.
+    pub(crate) fn finish(
         self,
-        rt: &R,
-        store: &LockedStore<J>,
         view: &View,
-        room: usize,
-        desk: Desk<N>,
+        packed: Result<(), Cause>,
     ) -> Result<Vec<Receipt<J>>, MigrateFault<J>>
-        requires room { 0 < room }
-        requires view { view.now ≡ N.shown }
-        requires under { IsUnderWay N.begin N.shown self }
+        requires { view.now ≡ N.shown }
         ensures ok { IfOk result (λ rs.
             IsWhole N.begin N.shown (map (λ r. (r.number, r.entry)) rs.items)) }
         ensures err { IfErr result (λ f.
             IsPart N.begin N.shown (map (λ r. (r.number, r.entry)) f.receipts.items)) }
     {
         let mut round = self;
-        match round.pack(rt, store, view, room, &desk) {
-            Ok(()) => Ok(round.receipts),
-            Err(cause) => Err(MigrateFault {
-                cause,
-                receipts: round.receipts,
-            }),
+        if let Err(cause) = packed {
+            return Err(round.break_off(cause));
         }
+        match round.is_whole(view) {
+            Ok(true) => Ok(round.into_receipts()),
+            Ok(false) => Err(round.break_off(Cause::Worker)),
+            Err(cause) => Err(round.break_off(cause)),
+        }
+    }
+
+    /// Breaks the round off, and hands back its receipts.
+    fn break_off(self, cause: Cause) -> MigrateFault<J>
+        ensures { IsPart N.begin N.shown (map (λ r. (r.number, r.entry)) result.receipts.items) }
+    {
+        MigrateFault {
+            cause,
+            receipts: self.into_receipts(),
+        }
+    }
+
+    /// Returns the receipts.
+    fn into_receipts(self) -> Vec<Receipt<J>>
+        ensures { map (λ r. (r.number, r.entry)) result.items ≡ self.given }
+    {
+        let Round {
+            after: _,
+            asked: _,
+            receipts,
+            of: _,
+        } = self;
+        receipts
     }
 }

@@ -2,7 +2,7 @@
 ghost use Rattle.std.specs.Prelude.{◌≡◌, ◌∷◌, [], IfErr, IfOk, None, OnErr, Some, map, ℕ, ◌<◌};
 ghost use Rattle.journal.specs.declared.entry.Entry.TheVariants.{Begin};
 ghost use Rattle.tsbtree.specs.View.{TreeState};
-ghost use Rattle.migrator.specs.Round.{HasBegun, IsBroken, IsOne, IsPart, IsPartOf, IsRound, IsUnderWay, IsWhole, IsWholeOf};
+ghost use Rattle.migrator.specs.Round.{HasBegun, IsBroken, IsOne, IsPart, IsPartOf, IsRound, IsWhole, IsWholeOf};
 
 use crate::bench::{make_ends, work};
 use crate::fault::{Cause, MigrateFault};
@@ -159,28 +159,23 @@ where
             receipts,
         });
     };
-    let round = Round::new::<N>(alloc, receipts);
-    thread::scope(
+    let mut round = Round::<J, N>::new(alloc, receipts);
+    // A closure may not hold what cannot be dropped, as a round, but may borrow it.
+    let held = &mut round;
+    let packed = thread::scope(
         thread::scope_env(),
         rt,
-        move |scope| -> Result<Vec<Receipt<J>>, MigrateFault<J>>
+        move |scope| -> Result<(), Cause>
             requires some { 0 < workers }
             requires view { view.now ≡ N.shown }
-            requires under { IsUnderWay N.begin N.shown round }
-            ensures ok { IfOk result (λ rs.
-                IsWhole N.begin N.shown (map (λ r. (r.number, r.entry)) rs.items)) }
-            ensures err { IfErr result (λ f.
-                IsPart N.begin N.shown (map (λ r. (r.number, r.entry)) f.receipts.items)) }
         {
             for bench in benches {
                 if scope.spawn(move || work(rt, alloc, gate, bench)).is_err() {
-                    return Err(MigrateFault {
-                        cause: Cause::Memory,
-                        receipts: round.receipts,
-                    });
+                    return Err(Cause::Memory);
                 }
             }
-            round.run(rt, store, view, usize::from(workers), desk)
+            held.pack(rt, store, view, usize::from(workers), &desk)
         },
-    )
+    );
+    round.finish(view, packed)
 }

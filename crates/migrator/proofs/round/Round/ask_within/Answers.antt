@@ -1,5 +1,5 @@
 use Rattle.std.proofs.lemmas.Result.{IfOk-weaker}
 use Rattle.migrator.proofs.round.Round.ask_within.Goals as goal
 
-pub returns-clause-none : goal.returns-clause-none
-returns-clause-none g c = IfOk-weaker c.ask.result _ _ (λ asked none. λ no. λ empty. none no) c.ask.ensures.none
+pub returns : goal.returns
+returns g c = IfOk-weaker c.ask.result _ _ (λ asked none. λ no. λ empty. none no) c.ask.ensures
