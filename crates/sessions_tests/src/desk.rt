@@ -3,7 +3,9 @@ use sessions::Session;
 use std::alloc::Global;
 use std::process::Abort;
 use steps::Listing;
-use values::{Chars, Comparison, Form, Key, Keys, Operator, Refusal, Row, Schema, Set, Value, Values, Write};
+use values::{
+    Chars, Comparison, Form, Key, Keys, Operator, Refusal, Row, Schema, Set, Value, Values, Write,
+};
 
 fn text(rt: &impl Abort, alloc: Global, name: &str) -> Value {
     Value::Text(Chars::copy_of(alloc, name).expect(rt, "the name is short"))

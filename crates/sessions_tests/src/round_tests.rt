@@ -1,8 +1,8 @@
 //! Rounds over a store with 17 unpacked data nodes of history.
 use crate::desk::Desk;
 use crate::scene::{Audit, Scene, play};
-use crate::step::write_history;
-use crate::worker_gate::{Meeting, Turnstile};
+use crate::step::{keep, write_history};
+use crate::worker_gate::{Badge, Barred, Meeting, Turnstile};
 use growlog::StoreName;
 use journal::{Entry, Receipt};
 use migrator::{Cause, MigrateFault, run_migrator};
@@ -34,16 +34,16 @@ fn count<J: StoreName>(
 ) -> Tally {
     let (cause, receipts) = match round {
         Ok(receipts) => (None, receipts),
-        Err(fault) => (Some(fault.cause), fault.receipts),
+        Err(MigrateFault { cause, receipts }) => (Some(cause), receipts),
     };
     let mut begins = 0usize;
     let mut installs = 0usize;
-    for receipt in receipts {
+    for receipt in receipts.iter() {
         let entry = receipt.entry.entry();
         begins = begins.saturating_add(is_begin(entry) as usize);
         installs = installs.saturating_add(is_done_install(entry) as usize);
-        all.push(receipt).expect(rt, "there is memory");
     }
+    keep(rt, all, receipts);
     (cause, begins, installs)
 }
 
@@ -109,7 +109,7 @@ pub(crate) fn pack_in_two<J: StoreName, R: Abort + Threads + Wait + Sync>(
 ) -> Audit {
     write_history(rt, alloc, store, &mut desk.first, (1, 18), receipts);
     let (cause, begins, installs) = run_round_of(rt, alloc, store, 3, 5, receipts);
-    assert!(rt; cause == Some(Cause::Gate));
+    assert!(rt; matches!(cause, Some(Cause::Gate(_))));
     assert!(rt; begins == 1 && installs <= 5);
     let rest = 17usize.saturating_sub(installs);
     assert!(rt; run_round_of(rt, alloc, store, 1, 17, receipts) == (None, 1, rest));
@@ -138,4 +138,43 @@ pub(crate) fn pack_together<J: StoreName, R: Abort + Threads + Wait + Sync>(
 #[test]
 fn two_packers(rt: HostRuntime) {
     play(&rt, rt.alloc(), Scene::TwoPackers);
+}
+
+/// Two rounds whose gates let the workers 1 to 3, and 1 alone, pass to pack.
+pub(crate) fn pack_by_number<J: StoreName, R: Abort + Threads + Wait + Sync>(
+    rt: &R,
+    alloc: Global,
+    store: &LockedStore<J>,
+    desk: &mut Desk,
+    receipts: &mut Vec<Receipt<J>>,
+) -> Audit {
+    write_history(rt, alloc, store, &mut desk.first, (1, 18), receipts);
+    assert!(rt; run_round(rt, alloc, store, 3, &Badge { last: 3 }, receipts) == ALL);
+    assert!(rt; run_round(rt, alloc, store, 1, &Badge { last: 1 }, receipts) == (None, 1, 0));
+    PACKED
+}
+
+#[test]
+fn a_gate_is_told_the_workers_from_1(rt: HostRuntime) {
+    play(&rt, rt.alloc(), Scene::Badges);
+}
+
+/// A round whose gate never opens.
+pub(crate) fn pack_nothing<J: StoreName, R: Abort + Threads + Wait + Sync>(
+    rt: &R,
+    alloc: Global,
+    store: &LockedStore<J>,
+    desk: &mut Desk,
+    receipts: &mut Vec<Receipt<J>>,
+) -> Audit {
+    write_history(rt, alloc, store, &mut desk.first, (10, 11), receipts);
+    let (cause, begins, installs) = run_round(rt, alloc, store, 2, &Barred::new(), receipts);
+    assert!(rt; matches!(cause, Some(Cause::Gate(_))));
+    assert!(rt; begins == 1 && installs == 0);
+    (6, 1, 11)
+}
+
+#[test]
+fn a_gate_that_never_opens_gives_up(rt: HostRuntime) {
+    play(&rt, rt.alloc(), Scene::Barred);
 }

@@ -6,7 +6,7 @@ use crate::case::{Case, serve_case};
 use crate::closing_tests::read_back;
 use crate::desk::{Desk, count_in, open_desk};
 use crate::install_tests::install_twice;
-use crate::round_tests::{pack_all, pack_in_two, pack_together};
+use crate::round_tests::{pack_all, pack_by_number, pack_in_two, pack_nothing, pack_together};
 use crate::run_tests::{hire_by_two, name_by_two};
 use crate::store_tests::{commit_elsewhere, count_beside};
 use crate::thread_tests::{hire_in_threads, keep_view, name_in_threads};
@@ -44,6 +44,8 @@ pub(crate) enum Scene<'a> {
     PackAll,
     PackInTwo,
     TwoPackers,
+    Badges,
+    Barred,
     Serve(&'a Case<'a>),
 }
 
@@ -58,7 +60,7 @@ fn audit_of(rt: &impl Abort, alloc: Global, closed: &Closed) -> Audit {
     (closed.entries(), employees, view.last())
 }
 
-/// Closes a store and looks at what it shows; none where it does not close.
+/// Closes a store and looks at what it shows; none where it does not close, and is given up.
 pub(crate) fn closed_with<J: StoreName>(
     rt: &impl Abort,
     alloc: Global,
@@ -67,12 +69,15 @@ pub(crate) fn closed_with<J: StoreName>(
 ) -> Option<Audit> {
     match store.close(receipts) {
         Ok(closed) => Some(audit_of(rt, alloc, &closed)),
-        Err(_) => None,
+        Err(Unclosed { store, receipts }) => {
+            let _gone = store.give_up(receipts);
+            None
+        }
     }
 }
 
-/// Closes a store with one receipt more than those with which it must not close; none where it does, or does not close in
-/// the end.
+/// Closes a store with one receipt more than those with which it must not close; none where it does
+/// not close in the end.
 fn closed_at_last<J: StoreName>(
     rt: &impl Abort,
     alloc: Global,
@@ -80,16 +85,22 @@ fn closed_at_last<J: StoreName>(
     receipts: Vec<Receipt<J>>,
     last: Receipt<J>,
 ) -> Option<Audit> {
-    let Err(Unclosed { store, receipts }) = store.close(receipts) else {
-        return None;
-    };
-    let mut receipts = receipts;
-    receipts.push(last).expect(rt, "there is memory");
-    closed_with(rt, alloc, store, receipts)
+    match store.close(receipts) {
+        Ok(_) => panic!(rt; "it closed without the last receipt"),
+        Err(
+            Unclosed {
+                store,
+                mut receipts,
+            },
+        ) => {
+            receipts.push(last).expect(rt, "there is memory");
+            closed_with(rt, alloc, store, receipts)
+        }
+    }
 }
 
-/// Closes a store with these receipts, but first tries to without the last one. None where it closes without it, or does
-/// not close with all.
+/// Closes a store with these receipts, but first tries to without the last one, which must fail.
+/// None where it does not close with all.
 fn closed_in_two<J: StoreName>(
     rt: &impl Abort,
     alloc: Global,
@@ -126,6 +137,8 @@ fn play_at<J: StoreName, R: Abort + Threads + Wait + Sync>(
         Scene::PackAll => pack_all(rt, alloc, store, desk, receipts),
         Scene::PackInTwo => pack_in_two(rt, alloc, store, desk, receipts),
         Scene::TwoPackers => pack_together(rt, alloc, store, desk, receipts),
+        Scene::Badges => pack_by_number(rt, alloc, store, desk, receipts),
+        Scene::Barred => pack_nothing(rt, alloc, store, desk, receipts),
         Scene::Serve(case) => serve_case(rt, alloc, store, case, receipts),
     }
 }

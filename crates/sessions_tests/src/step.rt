@@ -9,6 +9,16 @@ use std::sync::Wait;
 use validation::Cut;
 use values::{Instant, KeyBytes, Refusal};
 
+/// Keeps more receipts with the others.
+pub(crate) fn keep<J: StoreName>(
+    rt: &impl Abort,
+    receipts: &mut Vec<Receipt<J>>,
+    mut more: Vec<Receipt<J>>,
+) {
+    receipts.append(&mut more).expect(rt, "there is memory");
+    more.destroy_empty();
+}
+
 /// Begins a session's transaction.
 pub(crate) fn begin<J: StoreName, R: Abort + Wait>(
     rt: &R,

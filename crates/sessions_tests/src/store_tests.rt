@@ -63,9 +63,13 @@ fn refuses_commit<K: StoreName, R: Abort + Wait>(
     requires tables { schema ≡ K.schema }
 {
     let other = LockedStore::<K>::new(alloc, schema, opened).expect(rt, "there is memory");
-    let is_refused = is_no_transaction(other.commit(rt, session, 0).err());
-    let shown = closed_with(rt, alloc, other, Vec::new(alloc));
-    is_refused && shown == Some((0, 0, 0))
+    match other.commit(rt, session, 0) {
+        Ok(_receipt) => panic!(rt; "it was committed elsewhere"),
+        Err(refusal) => {
+            let shown = closed_with(rt, alloc, other, Vec::new(alloc));
+            is_no_transaction(Some(refusal)) && shown == Some((0, 0, 0))
+        }
+    }
 }
 
 /// A session begins at one store, commits at another that is new, and then where it began.

@@ -1,14 +1,14 @@
 //! Sessions in threads of their own.
 use crate::desk::{count, session};
 use crate::scene::{Audit, Scene, play};
-use crate::step::{begin, end_of, hire_twenty, name_often};
+use crate::step::{begin, end_of, hire_twenty, keep, name_often};
 use crate::store_tests::hire_and_count;
 use growlog::StoreName;
 use journal::Receipt;
 use sessions::{LockedStore, Session};
 use std::alloc::Global;
 use std::process::Abort;
-use std::sync::Wait;
+use std::sync::{Mutex, Wait};
 use std::thread;
 use std::thread::Threads;
 
@@ -29,40 +29,55 @@ fn transact<J: StoreName, R: Abort + Wait>(
     receipts
 }
 
-/// The same of a session that is new.
+/// A tray in which threads put receipts: what a thread returns may be dropped, and a receipt may
+/// not.
+type Tray<J> = Mutex<Vec<Receipt<J>>>;
+
+/// Transactions of a session that is new, whose receipts are put in the tray.
 fn run_session<J: StoreName, R: Abort + Wait>(
     rt: &R,
     alloc: Global,
     store: &LockedStore<J>,
     number: u8,
     hires: bool,
-) -> Vec<Receipt<J>> {
+    tray: &Tray<J>,
+) {
     let mut session = session(rt, alloc, number);
-    transact(rt, alloc, store, &mut session, hires)
+    let receipts = transact(rt, alloc, store, &mut session, hires);
+    let mut all = tray.lock(rt);
+    keep(rt, &mut *all, receipts);
 }
 
-/// The receipts of so many sessions, each in a thread of its own, of which each inserts employees of its own, or all write
-/// one row.
+/// So many sessions, each in a thread of its own, of which each inserts employees of its own, or all
+/// write one row.
 fn run_in_threads<J: StoreName, R: Abort + Threads + Wait + Sync>(
     rt: &R,
     alloc: Global,
     store: &LockedStore<J>,
     threads: u8,
     hires: bool,
-) -> Vec<Receipt<J>> {
+    tray: &Tray<J>,
+) {
     thread::scope(thread::scope_env(), rt, |scope| {
-        let mut handles = Vec::new(alloc);
         for number in 1..=threads {
-            let handle = scope.spawn(move || run_session(rt, alloc, store, number, hires));
-            let handle = handle.expect(rt, "a thread starts");
-            handles.push(handle).expect(rt, "there is memory");
+            let handle = scope.spawn(move || run_session(rt, alloc, store, number, hires, tray));
+            let _running = handle.expect(rt, "a thread starts");
         }
-        let mut all = Vec::new(alloc);
-        for handle in handles {
-            all.extend(handle.join(rt)).expect(rt, "there is memory");
-        }
-        all
     })
+}
+
+/// The same, where the receipts are kept.
+fn keep_of_threads<J: StoreName, R: Abort + Threads + Wait + Sync>(
+    rt: &R,
+    alloc: Global,
+    store: &LockedStore<J>,
+    threads: u8,
+    hires: bool,
+    receipts: &mut Vec<Receipt<J>>,
+) {
+    let tray = Mutex::new(Vec::new(alloc));
+    run_in_threads(rt, alloc, store, threads, hires, &tray);
+    keep(rt, receipts, tray.into_inner());
 }
 
 /// How many of these are receipts of transactions that were committed.
@@ -82,7 +97,7 @@ pub(crate) fn hire_in_threads<J: StoreName, R: Abort + Threads + Wait + Sync>(
     store: &LockedStore<J>,
     receipts: &mut Vec<Receipt<J>>,
 ) -> Audit {
-    *receipts = run_in_threads(rt, alloc, store, 2, true);
+    keep_of_threads(rt, alloc, store, 2, true, receipts);
     (80, 40, 40)
 }
 
@@ -98,7 +113,7 @@ pub(crate) fn name_in_threads<J: StoreName, R: Abort + Threads + Wait + Sync>(
     store: &LockedStore<J>,
     receipts: &mut Vec<Receipt<J>>,
 ) -> Audit {
-    *receipts = run_in_threads(rt, alloc, store, 8, false);
+    keep_of_threads(rt, alloc, store, 8, false, receipts);
     (160, 1, count_committed(receipts.as_slice()))
 }
 
@@ -145,7 +160,7 @@ pub(crate) fn keep_view<J: StoreName, R: Abort + Threads + Wait + Sync>(
     begin(rt, store, &mut before, receipts);
     let (seen, (own, others)) = count_in_threads(rt, alloc, store, before);
     assert!(rt; seen == 0 && own == 1);
-    receipts.extend(others).expect(rt, "there is memory");
+    keep(rt, receipts, others);
     (4, 1, 1)
 }
 

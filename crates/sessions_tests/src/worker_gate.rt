@@ -67,3 +67,43 @@ impl Gate for Meeting {
         false
     }
 }
+
+/// A gate that lets the workers from 1 to the last one pass, to pack.
+#[derive(Clone, Copy)]
+pub(crate) struct Badge {
+    pub(crate) last: u8,
+}
+
+impl Gate for Badge {
+    fn pass<R: Wait>(&self, _rt: &R, who: u8, place: Place) -> bool {
+        place == Place::Pack && 1 <= who && who <= self.last
+    }
+}
+
+/// How often a worker looks whether a barred gate is open, before the gate gives up.
+const LOOKS: u32 = 1_000_000;
+
+/// A gate that never opens.
+#[derive(Drop)]
+pub(crate) struct Barred {
+    open: Mutex<bool>,
+}
+
+impl Barred {
+    pub(crate) fn new() -> Barred {
+        Barred {
+            open: Mutex::new(false),
+        }
+    }
+}
+
+impl Gate for Barred {
+    fn pass<R: Wait>(&self, rt: &R, _who: u8, _place: Place) -> bool {
+        for _ in 0..LOOKS {
+            if *self.open.lock(rt) {
+                return true;
+            }
+        }
+        false
+    }
+}

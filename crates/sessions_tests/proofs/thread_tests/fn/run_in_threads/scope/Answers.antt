@@ -8,10 +8,4 @@ pub spawn-handle-requires-send-F : goal.spawn-handle-requires-send-F
 spawn-handle-requires-send-F g c κs = λ within.
     let named : IsSend g.row.J = search (rules, c.requires) parts 8 in
     let handle : IsSync g.row.R = search (rules, c.requires) parts 8 in
-    search (store_sync, sendable, crosses) depth 60 fits 20000
-
-pub spawn-handle-requires-send-T : goal.spawn-handle-requires-send-T
-spawn-handle-requires-send-T g c κs = λ within.
-    let named : IsSend g.row.J = search (rules, c.requires) parts 8 in
-    let handle : IsSync g.row.R = search (rules, c.requires) parts 8 in
-    search (receipt_send, receipt_field_send, sendable, crosses) depth 60 fits 20000
+    search (store_sync, receipt_send, receipt_field_send, sendable, crosses) depth 60 fits 20000
