@@ -1,5 +1,5 @@
 //! The runtime's clock as readings for commits.
-ghost use Rattle.std.specs.Prelude.{◌≤◌};
+ghost use Rattle.std.specs.Prelude.{◌≤◌, nat_le};
 ghost use Rattle.values.specs.Commits.{max_instant};
 
 use serving::Readings;
@@ -14,6 +14,8 @@ pub struct Microseconds<'a, R: Clock> {
 }
 
 impl<R: Clock> Readings for Microseconds<'_, R> {
+    ghost may_give = { λ t. nat_le t max_instant };
+
     fn reading(&mut self) -> Instant {
         since_1970(self.rt)
     }

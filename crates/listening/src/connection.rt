@@ -128,7 +128,7 @@ fn serve_stream<J: StoreName, R: Clock + Wait, G: Gate>(
     stream: &TcpStream,
     number: u8,
 ) -> Vec<Receipt<J>> {
-    let Ok(session) = store.session(alloc, number) else {
+    let Ok(mut session) = store.session(alloc, number) else {
         return Vec::new(alloc);
     };
     // A reply is sent at once, whether or not what was sent before has arrived. Where that cannot
@@ -145,7 +145,7 @@ fn serve_stream<J: StoreName, R: Clock + Wait, G: Gate>(
         alloc,
         &mut reader,
         &mut writer,
-        session,
+        &mut session,
         store,
         &gate,
         &mut readings,

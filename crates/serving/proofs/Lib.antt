@@ -1,6 +1,7 @@
 pub mod ServeFeeding
 pub mod ServeJoining
 pub mod MigrateIdle
+pub mod ProgressAsking
 pub mod StepOpening
 pub mod AnswerRefusing
 pub mod ServeStarting

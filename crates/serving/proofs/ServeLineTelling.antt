@@ -1,5 +1,5 @@
 -- A line that is served: what is sent for it, and what is told of it.
-use Rattle.std.proofs.Common.{◌≡◌, ◌≢◌, ℕ, List, [], ◌∷◌, ◌++◌, ◌+◌, true, Option, Some, None, length, inl, inr, refl, sym, ap, ◌∙◌, subst}
+use Rattle.std.proofs.Common.{◌≡◌, ◌≢◌, ℕ, List, [], ◌∷◌, ◌++◌, ◌+◌, Bool, true, append-nil, Option, Some, None, length, inl, inr, refl, sym, ap, ◌∙◌, subst}
 use Rattle.std.specs.Prelude.{◌⊎◌, Result, Ok, Err, OnOk, OnErr}
 use Rattle.std.proofs.KnownBytes.{Appends-nil}
 use Rattle.values.specs.declared.refusal.Refusal.{Refusal}
@@ -16,9 +16,8 @@ use Rattle.lines.specs.Partial.{Partial}
 use Rattle.sessions.specs.SessionState.{SessionState}
 use Rattle.serving.specs.declared.answer.Sent.{Sent}
 use Rattle.serving.specs.declared.answer.Sent.TheVariants.{Reply as Says, Ending, Refused as Denies}
-use Rattle.serving.specs.declared.served_session.Told.{Told}
 use Rattle.serving.specs.Progress.{Given, Progress}
-use Rattle.serving.specs.ServedSession.{Answers, IsAnswered, IsKept, IsRefusedLine, reading_takes, said}
+use Rattle.serving.specs.ServedSession.{Told, Answers, IsAnswered, IsKept, IsRefusedLine, reading_takes, said}
 use Rattle.serving.specs.Serving.{AnswerState, IsAt, IsReplied, given_list, given_of, taken_by, taken_of, refused_of, reply_by, reply_of, sent_refusal, text_of}
 use Rattle.serving.specs.Account.{AccountState, IsBroken, Served, Writes}
 use Rattle.serving.specs.Line.{IsBrokenStep, IsRead, IsTaken, IsReported, Sends}
@@ -35,72 +34,66 @@ counted_given None (Some h) = refl
 counted_given (Some g) None = refl
 counted_given (Some g) (Some h) = refl
 
--- room was made, and nothing else
-pub record SameLists (a b : AccountState) : Type 0 where
-  pub told_is : b.told ≡ a.told
-  pub given_is : b.given ≡ a.given
-
-module _ (line : Partial) (old : SessionState) (a m b : AccountState) (room : SameLists a m) where
+module _ (may_give : ℕ → Bool) (line : Partial) (old : SessionState) (a b : AccountState) where
   abbrev schema : Schema
   schema = old.schema
 
   abbrev i : ℕ
   i = old.number
 
-  one : (new : SessionState) (t : Told) (g : List Given) (o : List ℕ) → b.told ≡ m.told ++ t ∷ [] → b.given ≡ m.given ++ g → new.schema ≡ old.schema → new.number ≡ old.number
-      → ((p : Progress) → IsAt old p → (p' : Progress) × (IsAt new p' × IsAnswered schema i line t p g o p')) → Served (line ∷ []) o old new a b
-  one new t g o told given same number steps = record {
+  one : (new : SessionState) (t : Told) (g : List Given) (o : List ℕ) → b.given ≡ a.given ++ g → new.schema ≡ old.schema → new.number ≡ old.number
+      → ((p : Progress) → IsAt old p → (p' : Progress) × (IsAt new p' × IsAnswered may_give schema i line t p g o p')) → Served may_give (line ∷ []) o old new a b
+  one new t g o given same number steps = record {
     told = t ∷ [];
     given = g;
-    told_is = told ∙ ap (λ k. k ++ t ∷ []) room.told_is;
-    given_is = given ∙ ap (λ k. k ++ g) room.given_is;
+    given_is = given;
     schema_is = same;
     number_is = number;
-    steps = λ p at. let s = steps p at in (s.0, (s.1.0, serves_one schema i line t p s.0 g o s.1.1));
+    steps = λ p at. let s = steps p at in (s.0, (s.1.0, serves_one may_give schema i line t p s.0 g o s.1.1));
   }
 
   -- a line that is nothing
-  pub nothing_written : (w : Option (List ℕ)) → said schema i line ≡ Ok Nothing → b.told ≡ m.told ++ record { taken = 0; refused = None } ∷ [] → b.given ≡ m.given ++ [] → Writes (line ∷ []) old old a b w w
-  nothing_written w is told given = record {
+  pub nothing_written : (w : Option (List ℕ)) → said schema i line ≡ Ok Nothing → b.given ≡ a.given ++ [] → Writes may_give (line ∷ []) old old a b w w
+  nothing_written w is given = record {
     out = [];
     wrote = Appends-nil w;
-    served = one old (record { taken = 0; refused = None }) [] [] told given refl refl (λ p at. (
+    served = one old (record { taken = 0; refused = None }) [] [] given refl refl (λ p at. (
       p,
-      (at, record { counted = refl; kept = subst (λ s. Answers schema i s p [] [] p) (sym is) (record { takes = refl; out_is = refl; left = refl }) }),
+      (at, record { counted = refl; kept = subst (λ s. Answers may_give schema i s p [] [] p) (sym is) (record { takes = refl; out_is = refl; left = refl }) }),
     ));
   }
 
-  pub clock_written : (w : Option (List ℕ)) (reading : ℕ) → said schema i line ≡ Ok (Clock reading) → b.told ≡ m.told ++ record { taken = 0; refused = None } ∷ [] → b.given ≡ m.given ++ [] → Writes (line ∷ []) old old a b w w
-  clock_written w reading is told given = record {
+  pub clock_written : (w : Option (List ℕ)) (reading : ℕ) → said schema i line ≡ Ok (Clock reading) → b.given ≡ a.given ++ [] → Writes may_give (line ∷ []) old old a b w w
+  clock_written w reading is given = record {
     out = [];
     wrote = Appends-nil w;
-    served = one old (record { taken = 0; refused = None }) [] [] told given refl refl (λ p at. (
+    served = one old (record { taken = 0; refused = None }) [] [] given refl refl (λ p at. (
       p,
-      (at, record { counted = refl; kept = subst (λ s. Answers schema i s p [] [] p) (sym is) (record { takes = refl; out_is = refl; left = refl }) }),
+      (at, record { counted = refl; kept = subst (λ s. Answers may_give schema i s p [] [] p) (sym is) (record { takes = refl; out_is = refl; left = refl }) }),
     ));
   }
 
   -- a step
-  kept_step : (step : Step) (all : List Given) (given : Option Given) (sent : Sent) (p p' : Progress) → said schema i line ≡ Ok (Asks step) → IsReplied schema i step p all (reply_by given sent) p'
-      → IsKept schema i (refused_of sent) line p all (text_of (reply_by given sent)) p'
-  kept_step step all given (Says reply) p p' is r = subst (λ s. Answers schema i s p all (reply_text reply) p') (sym is) (record { reply = reply; taken = r; out_is = refl })
-  kept_step step all given Ending p p' is r = subst (λ s. Answers schema i s p all (text_of (reply_by given Ending)) p') (sym is) (record { reply = _; taken = r; out_is = refl })
-  kept_step step all given (Denies refusal) p p' is r = record { refused = subst (λ s. IsRefusedLine schema i line s p all refusal p') (sym is) r; out_is = refl }
+  kept_step : (step : Step) (all : List Given) (given : Option Given) (sent : Sent) (p p' : Progress) → said schema i line ≡ Ok (Asks step) → IsReplied may_give schema i step p all (reply_by given sent) p'
+      → IsKept may_give schema i (refused_of sent) line p all (text_of (reply_by given sent)) p'
+  kept_step step all given (Says reply) p p' is r = subst (λ s. Answers may_give schema i s p all (reply_text reply) p') (sym is) (record { reply = reply; taken = r; out_is = refl })
+  kept_step step all given Ending p p' is r = subst (λ s. Answers may_give schema i s p all (text_of (reply_by given Ending)) p') (sym is) (record { reply = _; taken = r; out_is = refl })
+  kept_step step all given (Denies refusal) p p' is r = record { refused = subst (λ s. IsRefusedLine schema i line s p all refusal p') (sym is) (inr r); out_is = refl }
 
-  taken_served : (new : SessionState) (step : Step) (answer : AnswerState) → said schema i line ≡ Ok (Asks step) → IsTaken step answer old new m b → Served (line ∷ []) (text_of (reply_of answer)) old new a b
+  taken_served : (new : SessionState) (step : Step) (answer : AnswerState) → said schema i line ≡ Ok (Asks step) → IsTaken may_give step answer old new a b → Served may_give (line ∷ []) (text_of (reply_of answer)) old new a b
   taken_served new step answer is t =
-      one new (record { taken = taken_of answer; refused = refused_of answer.sent }) (given_of answer) (text_of (reply_of answer)) t.told.told_is t.told.given_is t.stepped.schema_is t.stepped.number_is (λ p at.
+      one new (record { taken = taken_of answer; refused = refused_of answer.sent }) (given_of answer) (text_of (reply_of answer)) t.told t.stepped.schema_is t.stepped.number_is (λ p at.
       let s = t.stepped.steps p at in (s.0, (s.1.0, record { counted = counted_given answer.given answer.install; kept = kept_step step (given_of answer) answer.given answer.sent p s.0 is s.1.1 })))
 
-  pub step_written : {E : Type 0} (r : Result (Unit {0}) E) (new : SessionState) (step : Step) (w v : Option (List ℕ)) → said schema i line ≡ Ok (Asks step) → OnOk r (Sends step old new m b w v) → OnOk r (Writes (line ∷ []) old new a b w v)
+  pub step_written : {E : Type 0} (r : Result (Unit {0}) E) (new : SessionState) (step : Step) (w v : Option (List ℕ)) → said schema i line ≡ Ok (Asks step) → OnOk r (Sends may_give step old new a b w v) → OnOk r (Writes may_give (line ∷ []) old new a b w v)
   step_written (Ok x) new step w v is s = record { out = text_of (reply_of s.answer); wrote = s.wrote; served = taken_served new step s.answer is s.taken }
   step_written (Err e) new step w v is s = tt
 
-  broken : (new : SessionState) (step : Step) (w v : Option (List ℕ)) → said schema i line ≡ Ok (Asks step) → IsBrokenStep step old new m b w v → IsBroken (line ∷ []) old new a b w v
+  broken : (new : SessionState) (step : Step) (w v : Option (List ℕ)) → said schema i line ≡ Ok (Asks step) → IsBrokenStep may_give step old new a b w v → IsBroken may_give (line ∷ []) old new a b w v
   broken new step w v is (inl s) = inl (record { out = text_of (reply_of s.answer); wrote = s.wrote; served = taken_served new step s.answer is s.taken })
-  broken new step w v is (inr s) = inr (record { session_is = s.session_is; told_is = s.told_is ∙ room.told_is; given_is = s.given_is ∙ room.given_is; wrote = s.wrote })
+  broken new step w v is (inr s) = inr s
 
-  pub step_broken : {E : Type 0} (r : Result (Unit {0}) E) (new : SessionState) (step : Step) (w v : Option (List ℕ)) → said schema i line ≡ Ok (Asks step) → OnErr r (IsBrokenStep step old new m b w v) → OnErr r (IsBroken (line ∷ []) old new a b w v)
+  pub step_broken : {E : Type 0} (r : Result (Unit {0}) E) (new : SessionState) (step : Step) (w v : Option (List ℕ)) → said schema i line ≡ Ok (Asks step) → OnErr r (IsBrokenStep may_give step old new a b w v) → OnErr r (IsBroken may_give (line ∷ []) old new a b w v)
   step_broken (Ok x) new step w v is s = tt
   step_broken (Err e) new step w v is s = broken new step w v is s
 
@@ -108,28 +101,28 @@ module _ (line : Partial) (old : SessionState) (a m b : AccountState) (room : Sa
   memory_line : (s : Result Line Refusal) (p : Progress) → reading_takes schema i line ≡ true → IsRefusedLine schema i line s p [] Memory p
   memory_line (Ok Nothing) p takes = (takes, (refl, (refl, refl)))
   memory_line (Ok (Clock reading)) p takes = (takes, (refl, (refl, refl)))
-  memory_line (Ok (Asks step)) p takes = record { may = refl; takes = refl; left = refl }
+  memory_line (Ok (Asks step)) p takes = inl (takes, (refl, (refl, refl)))
   memory_line (Err refusal) p takes = (takes, (refl, (refl, refl)))
 
-  kept_refusal : (refusal : Refusal) (p : Progress) → IsRead schema i line (Err refusal) → IsKept schema i (refused_of (sent_refusal refusal)) line p [] (text_of (reply_by None (sent_refusal refusal))) p
+  kept_refusal : (refusal : Refusal) (p : Progress) → IsRead schema i line (Err refusal) → IsKept may_give schema i (refused_of (sent_refusal refusal)) line p [] (text_of (reply_by None (sent_refusal refusal))) p
   kept_refusal refusal p read = by (memory_or_reply refusal)
     where
-      by : (refusal ≡ Memory) ⊎ ((refusal ≢ Memory) × (sent_refusal refusal ≡ Says (Refused refusal))) → IsKept schema i (refused_of (sent_refusal refusal)) line p [] (text_of (reply_by None (sent_refusal refusal))) p
-      by (inl e) = subst (λ r. IsKept schema i (refused_of (sent_refusal r)) line p [] (text_of (reply_by None (sent_refusal r))) p) (sym e)
+      by : (refusal ≡ Memory) ⊎ ((refusal ≢ Memory) × (sent_refusal refusal ≡ Says (Refused refusal))) → IsKept may_give schema i (refused_of (sent_refusal refusal)) line p [] (text_of (reply_by None (sent_refusal refusal))) p
+      by (inl e) = subst (λ r. IsKept may_give schema i (refused_of (sent_refusal r)) line p [] (text_of (reply_by None (sent_refusal r))) p) (sym e)
           (record { refused = memory_line (said schema i line) p (read.memory (ap (λ (x : Refusal). Err x) e)); out_is = refl })
-      by (inr f) = subst (λ s. IsKept schema i (refused_of s) line p [] (text_of (reply_by None s)) p) (sym f.1)
-          (subst (λ s. Answers schema i s p [] (refusal_text refusal) p) (sym (unless_is refusal (said schema i line) f.0 read.unless)) (record { takes = refl; out_is = refl; left = refl }))
+      by (inr f) = subst (λ s. IsKept may_give schema i (refused_of s) line p [] (text_of (reply_by None s)) p) (sym f.1)
+          (subst (λ s. Answers may_give schema i s p [] (refusal_text refusal) p) (sym (unless_is refusal (said schema i line) f.0 read.unless)) (record { takes = refl; out_is = refl; left = refl }))
 
-  refusal_served : (refusal : Refusal) (answer : AnswerState) → answer ≡ record { given = None; install = None; sent = sent_refusal refusal } → IsRead schema i line (Err refusal) → IsReported answer m b → Served (line ∷ []) (text_of (reply_of answer)) old old a b
-  refusal_served refusal answer is read told = subst (λ (x : AnswerState). IsReported x m b → Served (line ∷ []) (text_of (reply_of x)) old old a b) (sym is) (λ t.
-      one old (record { taken = 0; refused = refused_of (sent_refusal refusal) }) [] (text_of (reply_by None (sent_refusal refusal))) t.told_is t.given_is refl refl (λ p at. (p, (at, record { counted = refl; kept = kept_refusal refusal p read })))) told
+  refusal_served : (refusal : Refusal) (answer : AnswerState) → answer ≡ record { given = None; install = None; sent = sent_refusal refusal } → IsRead schema i line (Err refusal) → IsReported answer a b → Served may_give (line ∷ []) (text_of (reply_of answer)) old old a b
+  refusal_served refusal answer is read told = subst (λ (x : AnswerState). IsReported x a b → Served may_give (line ∷ []) (text_of (reply_of x)) old old a b) (sym is) (λ t.
+      one old (record { taken = 0; refused = refused_of (sent_refusal refusal) }) [] (text_of (reply_by None (sent_refusal refusal))) t refl refl (λ p at. (p, (at, record { counted = refl; kept = kept_refusal refusal p read })))) told
 
-  pub refusal_written : {E : Type 0} (r : Result (Unit {0}) E) (refusal : Refusal) (answer : AnswerState) (w v : Option (List ℕ)) → answer ≡ record { given = None; install = None; sent = sent_refusal refusal } → IsRead schema i line (Err refusal) → IsReported answer m b
-      → Prints w v r (text_of (reply_of answer)) → OnOk r (Writes (line ∷ []) old old a b w v)
+  pub refusal_written : {E : Type 0} (r : Result (Unit {0}) E) (refusal : Refusal) (answer : AnswerState) (w v : Option (List ℕ)) → answer ≡ record { given = None; install = None; sent = sent_refusal refusal } → IsRead schema i line (Err refusal) → IsReported answer a b
+      → Prints w v r (text_of (reply_of answer)) → OnOk r (Writes may_give (line ∷ []) old old a b w v)
   refusal_written (Ok x) refusal answer w v is read told printed = record { out = text_of (reply_of answer); wrote = printed; served = refusal_served refusal answer is read told }
   refusal_written (Err e) refusal answer w v is read told printed = tt
 
-  pub refusal_broken : {E : Type 0} (r : Result (Unit {0}) E) (refusal : Refusal) (answer : AnswerState) (w v : Option (List ℕ)) → answer ≡ record { given = None; install = None; sent = sent_refusal refusal } → IsRead schema i line (Err refusal) → IsReported answer m b
-      → Prints w v r (text_of (reply_of answer)) → OnErr r (IsBroken (line ∷ []) old old a b w v)
+  pub refusal_broken : {E : Type 0} (r : Result (Unit {0}) E) (refusal : Refusal) (answer : AnswerState) (w v : Option (List ℕ)) → answer ≡ record { given = None; install = None; sent = sent_refusal refusal } → IsRead schema i line (Err refusal) → IsReported answer a b
+      → Prints w v r (text_of (reply_of answer)) → OnErr r (IsBroken may_give (line ∷ []) old old a b w v)
   refusal_broken (Ok x) refusal answer w v is read told printed = tt
   refusal_broken (Err e) refusal answer w v is read told printed = inl (record { out = text_of (reply_of answer); wrote = printed; served = refusal_served refusal answer is read told })

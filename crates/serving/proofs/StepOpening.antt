@@ -1,7 +1,7 @@
 -- Steps that begin, end or read a transaction.
-use Rattle.std.proofs.Common.{◌≡◌, ◌≢◌, ◌⊎◌, ℕ, [], ◌∷◌, true, false, Option, Some, None, Result, Ok, Err, inl, inr, refl, sym, ap, ◌∙◌, subst}
+use Rattle.std.proofs.Common.{◌≡◌, ◌≢◌, ◌⊎◌, ℕ, [], ◌∷◌, Bool, true, false, not, Option, Some, None, Result, Ok, Err, inl, inr, refl, sym, ap, ◌∙◌, subst}
 use Rattle.std.specs.Prelude.{◌==◌, ◌||◌, IsOk, MatchOption}
-use Rattle.std.specs.Option.{is_some, option_map, unwrap_or}
+use Rattle.std.specs.Option.{is_none, is_some, option_map, unwrap_or}
 use Rattle.values.specs.declared.query.Form.{Form}
 use Rattle.values.specs.declared.query.Form.TheVariants.{Plain, AsOf, FromTo, Between}
 use Rattle.values.specs.declared.query.Keys.{Keys}
@@ -21,13 +21,14 @@ use Rattle.steps.specs.declared.step.Reply.TheVariants.{Begun, Shown, RolledBack
 use Rattle.steps.specs.Misfit.{misfit}
 use Rattle.journal.specs.declared.entry.Entry.{Entry}
 use Rattle.journal.specs.declared.entry.Entry.TheVariants.{Commit as Commits}
-use Rattle.sessions.specs.SessionState.{SessionTransactionState, SessionState, IsSelect, select_in, start_of, with_transaction}
+use Rattle.sessions.specs.SessionState.{SessionTransactionState, SessionState, IsSelect, TakesNoMemory, select_in, start_of, with_transaction}
 use Rattle.sessions.specs.Store.{IsBegun, IsCommitted, begun_with}
 use Rattle.serving.specs.declared.answer.Sent.{Sent}
 use Rattle.serving.specs.declared.answer.Sent.TheVariants.{Reply as Says, Ending, Refused as Denies}
 use Rattle.serving.specs.Progress.{Given, ServedTransaction, Progress, after, unwritten, listed, query, IsBegin, Replies, TakesBegin}
 use Rattle.serving.specs.Serving.{IsAt, IsOpened, IsOpenAs, IsReplied, IsSentFor, IsStepped, ending_in, reply_by, sent_listing, sent_refusal}
 use Rattle.serving.proofs.AnswerRefusing.{memory_or_reply}
+use Rattle.serving.proofs.ProgressAsking.{fits_of, never, nothing_of, or_right}
 
 pub none_open : (schema : Schema) (t : Option SessionTransactionState) (o : Option ServedTransaction) → t ≡ None → IsOpenAs schema t o → o ≡ None
 none_open schema None None e is = refl
@@ -97,11 +98,12 @@ module _ (old new : SessionState) (n : ℕ) (e : Entry) (b : IsBegun old new n e
     left = refl;
   }
 
-  pub begin_stepped : (instant : ℕ) → instant ≡ unwrap_or (start_of new) 0 → old.transaction ≡ None
-      → IsStepped (Begin old.number) old new (record { given = Some (given_as n e); install = None; sent = Says (Begun instant) })
-  begin_stepped instant is none = record {
+  pub begin_stepped : (may_give : ℕ → Bool) (instant : ℕ) → instant ≡ unwrap_or (start_of new) 0 → old.transaction ≡ None
+      → IsStepped may_give (Begin old.number) old new (record { given = Some (given_as n e); install = None; sent = Says (Begun instant) })
+  begin_stepped may_give instant is none = record {
     schema_is = ap (λ s. s.schema) b.session_is;
     number_is = ap (λ s. s.number) b.session_is;
+    alone = never (not (is_some old.transaction)) (ap (λ t. not (is_some t)) none);
     steps = λ p at. (
       after n (Some (unwritten n shown)),
       (begun_at, by_none _ _ p.transaction (none_open old.schema old.transaction p.transaction none at.open_is) (begun instant (is ∙ ap (λ s. unwrap_or (start_of s) 0) b.session_is) p at)),
@@ -110,10 +112,12 @@ module _ (old new : SessionState) (n : ℕ) (e : Entry) (b : IsBegun old new n e
 
 -- ---- the end of a transaction
 
-pub commit_stepped : (old new : SessionState) (reading n : ℕ) (e : Entry) → IsCommitted old new reading n e → IsStepped (Commit old.number 0) old new (record { given = Some (given_as n e); install = None; sent = Ending })
-commit_stepped old new reading n e b = record {
+pub commit_stepped : (may_give : ℕ → Bool) (old new : SessionState) (reading n : ℕ) (e : Entry) → IsCommitted old new reading n e → may_give reading ≡ true
+    → IsStepped may_give (Commit old.number 0) old new (record { given = Some (given_as n e); install = None; sent = Ending })
+commit_stepped may_give old new reading n e b may = record {
   schema_is = ap (λ s. s.schema) b.session_is;
   number_is = ap (λ s. s.number) b.session_is;
+  alone = never (is_some old.transaction) (ap is_some b.was_open);
   steps = λ p at.
       let o = some_open old.schema old.transaction b.ran p.transaction b.was_open at.open_is in (
         after n None,
@@ -123,6 +127,7 @@ commit_stepped old new reading n e b = record {
             receipt = given_as n e;
             reading = reading;
             end = b.end;
+            may = may;
             takes = refl;
             entry_is = b.entry_is ∙ (λ k. Commits old.number (sym o.opened.begin_is k) (net o.one o.opened k) reading b.end);
             reply_is = ap ending_in b.entry_is;
@@ -139,10 +144,11 @@ abbrev pub rolled : Option SessionTransactionState → Reply
 rolled None = Refused NoTransaction
 rolled (Some t) = RolledBack
 
-pub rollback_stepped : (old new : SessionState) (reply : Reply) → reply ≡ rolled old.transaction → new ≡ with_transaction old None → IsStepped (Rollback old.number) old new (record { given = None; install = None; sent = Says reply })
-rollback_stepped old new reply is left = record {
+pub rollback_stepped : (may_give : ℕ → Bool) (old new : SessionState) (reply : Reply) → reply ≡ rolled old.transaction → new ≡ with_transaction old None → IsStepped may_give (Rollback old.number) old new (record { given = None; install = None; sent = Says reply })
+rollback_stepped may_give old new reply is left = record {
   schema_is = ap (λ s. s.schema) left;
   number_is = ap (λ s. s.number) left;
+  alone = λ e. refl;
   steps = λ p at. (after p.receipt None, (subst (λ s. IsAt s (after p.receipt None)) (sym left) (record { receipt_is = at.receipt_is; open_is = tt }), by p old.transaction p.transaction refl is at.open_is));
 }
   where
@@ -203,7 +209,7 @@ module _ (number : ℕ) (schema : Schema) (receipt : ℕ) (t : SessionTransactio
 
   -- it is sent, or memory ran out
   pub sent_query : (listing : Result Listing Refusal) → IsSelect s form keys listing
-      → (sent_listing listing ≡ Denies Memory) ⊎ (sent_listing listing ≡ Says (query schema number o.changes o.own form keys))
+      → ((listing ≡ Err Memory) × (sent_listing listing ≡ Denies Memory)) ⊎ (sent_listing listing ≡ Says (query schema number o.changes o.own form keys))
   sent_query (Ok listing) select = inr (ap (λ r. Says (said r)) (select o.changes is.held (λ e. cc)) ∙ ap Says said_is)
   sent_query (Err refusal) select = by (memory_or_reply refusal)
     where
@@ -215,32 +221,38 @@ module _ (number : ℕ) (schema : Schema) (receipt : ℕ) (t : SessionTransactio
       memory_of e = ap refusal_in e
 
       by : (refusal ≡ Memory) ⊎ ((refusal ≢ Memory) × (sent_refusal refusal ≡ Says (Refused refusal)))
-          → (sent_refusal refusal ≡ Denies Memory) ⊎ (sent_refusal refusal ≡ Says (query schema number o.changes o.own form keys))
-      by (inl e) = inl (ap sent_refusal e)
+          → (◌≡◌ {A = Result Listing Refusal} (Err refusal) (Err Memory) × (sent_refusal refusal ≡ Denies Memory)) ⊎ (sent_refusal refusal ≡ Says (query schema number o.changes o.own form keys))
+      by (inl e) = inl (ap (λ x. Err x) e, ap sent_refusal e)
       by (inr f) = inr (f.1 ∙ ap (λ r. Says (said r)) (select o.changes is.held (λ e. f.0 (memory_of e))) ∙ ap Says said_is)
 
 -- with a transaction open
-pub query_stepped : (s : SessionState) (form : Form) (keys : Keys) (sent : Sent) (ran : SessionTransactionState) → s.transaction ≡ Some ran → IsSentFor s form keys sent
-    → IsStepped (Select s.number form keys) s s (record { given = None; install = None; sent = sent })
-query_stepped s form keys sent ran there so = record {
+pub query_stepped : (may_give : ℕ → Bool) (s : SessionState) (form : Form) (keys : Keys) (sent : Sent) (ran : SessionTransactionState) → s.transaction ≡ Some ran → IsSentFor s form keys sent
+    → IsStepped may_give (Select s.number form keys) s s (record { given = None; install = None; sent = sent })
+query_stepped may_give s form keys sent ran there so = record {
   schema_is = refl;
   number_is = refl;
+  alone = λ e. refl;
   steps = λ p at.
       let o = some_open s.schema s.transaction ran p.transaction there at.open_is in
       (p, (at, by p o (sent_query s.number s.schema s.receipt ran o.one o.opened form keys so.0 (subst (λ (x : Option SessionTransactionState). IsSelect (record { number = s.number; schema = s.schema; receipt = s.receipt; transaction = x }) form keys so.0) there so.1.0))));
 }
   where
-    by : (p : Progress) (o : Open s.schema ran p.transaction) → (sent_listing so.0 ≡ Denies Memory) ⊎ (sent_listing so.0 ≡ Says (query s.schema s.number (o.one).changes (o.one).own form keys))
-        → IsReplied s.schema s.number (Select s.number form keys) p [] (reply_by None sent) p
-    by p o (inl e) = subst (λ x. IsReplied s.schema s.number (Select s.number form keys) p [] (reply_by None x) p) (sym (so.1.1 ∙ e)) (record { may = refl; takes = refl; left = refl })
-    by p o (inr e) = subst (λ x. IsReplied s.schema s.number (Select s.number form keys) p [] (reply_by None x) p) (sym (so.1.1 ∙ e)) (by_some _ _ p.transaction o.one o.is (record { takes = refl; reply_is = refl; left = refl }))
+    by : (p : Progress) (o : Open s.schema ran p.transaction) → ((so.0 ≡ Err Memory) × (sent_listing so.0 ≡ Denies Memory)) ⊎ (sent_listing so.0 ≡ Says (query s.schema s.number (o.one).changes (o.one).own form keys))
+        → IsReplied may_give s.schema s.number (Select s.number form keys) p [] (reply_by None sent) p
+    by p o (inl e) = subst (λ x. IsReplied may_give s.schema s.number (Select s.number form keys) p [] (reply_by None x) p) (sym (so.1.1.1 ∙ e.1)) (record {
+      may = or_right (not (is_some p.transaction)) _ (fits_of (misfit s.schema (Select s.number form keys)) (is_none s.transaction) (λ unfit. so.1.1.0 unfit e.0));
+      takes = refl;
+      left = refl;
+    })
+    by p o (inr e) = subst (λ x. IsReplied may_give s.schema s.number (Select s.number form keys) p [] (reply_by None x) p) (sym (so.1.1.1 ∙ e)) (by_some _ _ p.transaction o.one o.is (record { takes = refl; reply_is = refl; left = refl }))
 
 -- with none open: a begin, the query, and a rollback
-pub alone_stepped : (old between new : SessionState) (n : ℕ) (e : Entry) (form : Form) (keys : Keys) (sent : Sent) (b : IsBegun old between n e) → old.transaction ≡ None → IsSentFor between form keys sent
-    → new ≡ with_transaction between None → IsStepped (Select old.number form keys) old new (record { given = Some (given_as n e); install = None; sent = sent })
-alone_stepped old between new n e form keys sent b none so left = record {
+pub alone_stepped : (may_give : ℕ → Bool) (old between new : SessionState) (n : ℕ) (e : Entry) (form : Form) (keys : Keys) (sent : Sent) (b : IsBegun old between n e) → old.transaction ≡ None → IsSentFor between form keys sent
+    → new ≡ with_transaction between None → IsStepped may_give (Select old.number form keys) old new (record { given = Some (given_as n e); install = None; sent = sent })
+alone_stepped may_give old between new n e form keys sent b none so left = record {
   schema_is = ap (λ s. s.schema) left ∙ ap (λ s. s.schema) b.session_is;
   number_is = ap (λ s. s.number) left ∙ ap (λ s. s.number) b.session_is;
+  alone = never (not (is_some old.transaction)) (ap (λ t. not (is_some t)) none);
   steps = λ p at. (
     after n None,
     (
@@ -254,9 +266,12 @@ alone_stepped old between new n e form keys sent b none so left = record {
     m : Changes
     m = shown old between n e b
 
-    by : (p : Progress) → IsAt old p → p.transaction ≡ None → (sent_listing so.0 ≡ Denies Memory) ⊎ (sent_listing so.0 ≡ Says (query old.schema old.number m (own m []) form keys))
-        → IsReplied old.schema old.number (Select old.number form keys) p (given_as n e ∷ []) (reply_by (Some (given_as n e)) sent) (after n None)
-    by p at is (inl f) = subst (λ x. IsReplied old.schema old.number (Select old.number form keys) p (given_as n e ∷ []) (reply_by (Some (given_as n e)) x) (after n None)) (sym (so.1.1 ∙ f))
-        (is, record { receipt = given_as n e; changes = m; view = b.view; takes = refl; begins = begins old between n e b p at; refusal_is = refl; left = refl })
-    by p at is (inr f) = subst (λ x. IsReplied old.schema old.number (Select old.number form keys) p (given_as n e ∷ []) (reply_by (Some (given_as n e)) x) (after n None)) (sym (so.1.1 ∙ f))
+    unfit : TakesNoMemory (record { number = old.number; schema = old.schema; receipt = n; transaction = Some (begun_with n b.earlier b.view) }) (misfit old.schema (Select old.number form keys)) so.0
+    unfit = subst (λ s. TakesNoMemory s (misfit s.schema (Select s.number form keys)) so.0) b.session_is so.1.1.0
+
+    by : (p : Progress) → IsAt old p → p.transaction ≡ None → ((so.0 ≡ Err Memory) × (sent_listing so.0 ≡ Denies Memory)) ⊎ (sent_listing so.0 ≡ Says (query old.schema old.number m (own m []) form keys))
+        → IsReplied may_give old.schema old.number (Select old.number form keys) p (given_as n e ∷ []) (reply_by (Some (given_as n e)) sent) (after n None)
+    by p at is (inl f) = subst (λ x. IsReplied may_give old.schema old.number (Select old.number form keys) p (given_as n e ∷ []) (reply_by (Some (given_as n e)) x) (after n None)) (sym (so.1.1.1 ∙ f.1))
+        (is, (nothing_of (misfit old.schema (Select old.number form keys)) false (λ u. unfit u f.0), record { receipt = given_as n e; changes = m; view = b.view; takes = refl; begins = begins old between n e b p at; refusal_is = refl; left = refl }))
+    by p at is (inr f) = subst (λ x. IsReplied may_give old.schema old.number (Select old.number form keys) p (given_as n e ∷ []) (reply_by (Some (given_as n e)) x) (after n None)) (sym (so.1.1.1 ∙ f))
         (by_none _ _ p.transaction is (record { receipt = given_as n e; changes = m; view = b.view; takes = refl; begins = begins old between n e b p at; reply_is = refl; left = refl }))

@@ -1,5 +1,5 @@
 -- What serving one line does.
-use Rattle.std.specs.Prelude.{◌≡◌, ◌⊎◌, ℕ, List, [], ◌∷◌, ◌++◌, true, Option, Result, Err}
+use Rattle.std.specs.Prelude.{◌≡◌, ◌⊎◌, ℕ, List, ◌++◌, Bool, true, Option, Result, Err}
 use Rattle.std.specs.Io.KnownBytes.{Appends}
 use Rattle.values.specs.declared.refusal.Refusal.{Refusal}
 use Rattle.values.specs.declared.refusal.Refusal.TheVariants.{Memory}
@@ -11,7 +11,7 @@ use Rattle.statement.specs.Writer.{AppendsPrefix}
 use Rattle.lines.specs.Partial.{Partial}
 use Rattle.sessions.specs.SessionState.{SessionState}
 use Rattle.serving.specs.ServedSession.{said, reading_takes}
-use Rattle.serving.specs.Serving.{AnswerState, IsStepped, given_of, taken_of, refused_of, reply_of, text_of}
+use Rattle.serving.specs.Serving.{AnswerState, IsStepped, given_of, reply_of, text_of}
 use Rattle.serving.specs.Account.{AccountState, LeavesAll}
 
 -- this was read of a line: memory may have run out where reading it takes some
@@ -20,34 +20,34 @@ pub record IsRead (schema : Schema) (i : ℕ) (line : Partial)
   pub unless : UnlessMemory r (said schema i line)
   pub memory : r ≡ Err Memory → reading_takes schema i line ≡ true
 
--- an answer was taken down
-pub record IsReported (answer : AnswerState) (a b : AccountState) : Type 0 where
-  pub told_is : b.told
-      ≡ a.told ++ record { taken = taken_of answer; refused = refused_of answer.sent } ∷ []
-  pub given_is : b.given ≡ a.given ++ given_of answer
+-- an answer's receipts were put behind those of the lines before
+abbrev pub IsReported : AnswerState → AccountState → AccountState → Type 0
+IsReported answer a b = b.given ≡ a.given ++ given_of answer
 
--- a step was taken, and taken down
-pub record IsTaken (step : Step) (answer : AnswerState) (old new : SessionState)
-    (a b : AccountState) : Type 0 where
-  pub stepped : IsStepped step old new answer
-  pub told : IsReported answer a b
+-- by which readings of the clock may be given
+module _ (may_give : ℕ → Bool) where
+  -- a step was taken, and its receipts were kept
+  pub record IsTaken (step : Step) (answer : AnswerState) (old new : SessionState)
+      (a b : AccountState) : Type 0 where
+    pub stepped : IsStepped may_give step old new answer
+    pub told : IsReported answer a b
 
--- and what is sent for it was written
-pub record Sends (step : Step) (old new : SessionState) (a b : AccountState)
-    (w w' : Option (List ℕ)) : Type 0 where
-  pub answer : AnswerState
-  pub taken : IsTaken step answer old new a b
-  pub wrote : Appends w w' (text_of (reply_of answer))
+  -- and what is sent for it was written
+  pub record Sends (step : Step) (old new : SessionState) (a b : AccountState)
+      (w w' : Option (List ℕ)) : Type 0 where
+    pub answer : AnswerState
+    pub taken : IsTaken step answer old new a b
+    pub wrote : Appends w w' (text_of (reply_of answer))
 
--- or a prefix of that
-pub record SendsPrefix (step : Step) (old new : SessionState) (a b : AccountState)
-    (w w' : Option (List ℕ)) : Type 0 where
-  pub answer : AnswerState
-  pub taken : IsTaken step answer old new a b
-  pub wrote : AppendsPrefix w w' (text_of (reply_of answer))
+  -- or a prefix of that
+  pub record SendsPrefix (step : Step) (old new : SessionState) (a b : AccountState)
+      (w w' : Option (List ℕ)) : Type 0 where
+    pub answer : AnswerState
+    pub taken : IsTaken step answer old new a b
+    pub wrote : AppendsPrefix w w' (text_of (reply_of answer))
 
--- the session ended in a step: it was taken, or nothing was done
-abbrev pub IsBrokenStep : Step → SessionState → SessionState → AccountState → AccountState
-    → Option (List ℕ) → Option (List ℕ) → Type 0
-IsBrokenStep step old new a b w w' =
-    SendsPrefix step old new a b w w' ⊎ LeavesAll old new a b w w'
+  -- the session ended in a step: it was taken, or nothing was done
+  abbrev pub IsBrokenStep : Step → SessionState → SessionState → AccountState → AccountState
+      → Option (List ℕ) → Option (List ℕ) → Type 0
+  IsBrokenStep step old new a b w w' =
+      SendsPrefix step old new a b w w' ⊎ LeavesAll old new a b w w'

@@ -1,5 +1,5 @@
 -- How a step of a served session is taken: the receipts that it takes, its reply, and what it leaves.
-use Rattle.std.specs.Prelude.{◌≡◌, ℕ, List, [], ◌∷◌, Bool, true, false, Option, Some, None, Result, ◌==◌, ◌||◌, ◌⊎◌, is_some, is_none, MatchOption}
+use Rattle.std.specs.Prelude.{◌≡◌, ℕ, List, [], ◌∷◌, Bool, true, false, not, Option, Some, None, Result, ◌==◌, ◌||◌, ◌&&◌, ◌⊎◌, is_some, is_none, MatchOption}
 use Rattle.std.specs.Option.{option_map}
 use Rattle.values.specs.declared.key.Key.{Key}
 use Rattle.values.specs.declared.table.Table.{Table}
@@ -139,19 +139,6 @@ module _ (schema : Schema) (i : ℕ) where
     pub reply_is : reply ≡ query changes (own changes []) form keys
     pub left : p' ≡ after receipt.number None
 
-  -- COMMIT: its receipt names the transaction's begin, with its net changes, and tells how it ended
-  pub record TakesCommit (t : ServedTransaction) (given : List Given) (reply : Reply)
-      (p' : Progress) : Type 0 where
-    pub receipt : Given
-    pub reading : ℕ
-    pub end : Result (Option ℕ) Refusal
-    pub takes : given ≡ receipt ∷ []
-    pub entry_is : receipt.entry
-        ≡ Commits i t.begin (net_of (rows_after [] t.changes) t.own.rows t.own.written)
-        reading end
-    pub reply_is : reply ≡ commit_reply end
-    pub left : p' ≡ after receipt.number None
-
   -- a write: what the definitions answer and leave
   pub record TakesWrite (step : Step) (p : Progress) (given : List Given) (reply : Reply)
       (p' : Progress) : Type 0 where
@@ -190,43 +177,30 @@ module _ (schema : Schema) (i : ℕ) where
     pub reply_is : reply ≡ Done
     pub left : p' ≡ p
 
-  -- how a step of the session is taken
-  abbrev pub Takes : Step → Progress → List Given → Reply → Progress → Type 0
-  Takes (Begin j) p given reply p' = MatchOption p.transaction
-      (TakesBegin p given reply p')
-      (λ t. Replies (Refused InTransaction) p given reply p')
-  Takes (Insert j number rows) p given reply p' = TakesWrite (Insert i number rows) p given reply p'
-  Takes (Update j keys sets) p given reply p' = TakesWrite (Update i keys sets) p given reply p'
-  Takes (Delete j keys) p given reply p' = TakesWrite (Delete i keys) p given reply p'
-  Takes (Select j form keys) p given reply p' = MatchOption p.transaction
-      (TakesQuery form keys p given reply p')
-      (λ t. Replies (query t.changes t.own form keys) p given reply p')
-  Takes (Commit j reading) p given reply p' = MatchOption p.transaction
-      (Replies (Refused NoTransaction) p given reply p')
-      (λ t. TakesCommit t given reply p')
-  Takes (Rollback j) p given reply p' = MatchOption p.transaction
-      (Replies (Refused NoTransaction) p given reply p')
-      (λ t. Replies RolledBack (after p.receipt None) given reply p')
-  Takes (SplitKey key) p given reply p' =
-      takes_split key (KeyCut (bytes_of_key key)) p given reply p'
-  Takes (SplitTime key instant) p given reply p' =
-      takes_split key (TimeCut (bytes_of_key key) instant) p given reply p'
-  Takes Migrate p given reply p' = TakesMigrate p given reply p'
+  -- the step asks the store for an entry, by whether a transaction is open
+  abbrev pub asks_store : Step → Bool → Bool
+  asks_store (Begin j) is_open = not is_open
+  asks_store (Select j form keys) is_open = not is_open
+  asks_store (Commit j reading) is_open = is_open
+  asks_store (SplitKey key) is_open = is_none (key_misfit schema key)
+  asks_store (SplitTime key instant) is_open = is_none (key_misfit schema key)
+  asks_store Migrate is_open = true
+  asks_store step is_open = false
 
-  -- the step asks the store for an entry
-  abbrev pub asks_store : Step → Option ServedTransaction → Bool
-  asks_store (Begin j) t = is_none t
-  asks_store (Select j form keys) t = is_none t
-  asks_store (Commit j reading) t = is_some t
-  asks_store (SplitKey key) t = true
-  asks_store (SplitTime key instant) t = true
-  asks_store Migrate t = true
-  asks_store step t = false
+  -- the step takes memory: it asks the store, or writes or reads rows in a transaction and fits the tables
+  abbrev pub may_run_out : Step → Bool → Bool
+  may_run_out (Insert j number rows) is_open =
+      is_open && is_none (misfit schema (Insert i number rows))
+  may_run_out (Update j keys sets) is_open = is_open && is_none (misfit schema (Update i keys sets))
+  may_run_out (Delete j keys) is_open = is_open && is_none (misfit schema (Delete i keys))
+  may_run_out (Select j form keys) is_open =
+      not is_open || is_none (misfit schema (Select i form keys))
+  may_run_out step is_open = asks_store step is_open
 
-  -- what the store may refuse a step for, beside memory: a full journal, and a COMMIT also for a transaction that is not open there
+  -- what a step may be refused for: memory where it takes some, and where it asks the store a full journal, and a COMMIT also a transaction that is not open there
   abbrev pub may_be_refused : Step → Option ServedTransaction → Refusal → Bool
-  may_be_refused step t Memory = true
-  may_be_refused step t JournalFull = asks_store step t
+  may_be_refused step t Memory = may_run_out step (is_some t)
+  may_be_refused step t JournalFull = asks_store step (is_some t)
   may_be_refused (Commit j reading) t NoTransaction = is_some t
   may_be_refused step t refusal = false
 
@@ -237,7 +211,7 @@ module _ (schema : Schema) (i : ℕ) where
     pub takes : given ≡ []
     pub left : p' ≡ p
 
-  -- a SELECT with none open began, and memory ran out
+  -- a SELECT with none open began, and memory ran out while it read
   pub record IsLeftUnread (p : Progress) (given : List Given) (refusal : Refusal) (p' : Progress)
       : Type 0 where
     pub receipt : Given
@@ -262,10 +236,50 @@ module _ (schema : Schema) (i : ℕ) where
   -- a step is refused after a receipt was taken
   abbrev pub IsLeft : Step → Progress → List Given → Refusal → Progress → Type 0
   IsLeft (Select j form keys) p given refusal p' =
-      (p.transaction ≡ None) × IsLeftUnread p given refusal p'
+      (p.transaction ≡ None)
+      × ((misfit schema (Select i form keys) ≡ None) × IsLeftUnread p given refusal p')
   IsLeft Migrate p given refusal p' = IsLeftUnpacked p given refusal p'
   IsLeft step p given refusal p' = ⊥
 
   abbrev pub IsRefusedStep : Step → Progress → List Given → Refusal → Progress → Type 0
   IsRefusedStep step p (g ∷ given) refusal p' = IsLeft step p (g ∷ given) refusal p'
   IsRefusedStep step p [] refusal p' = IsTurnedAway step p [] refusal p'
+
+-- by which readings of the clock may be given
+module _ (may_give : ℕ → Bool) (schema : Schema) (i : ℕ) where
+  -- COMMIT: its receipt names the transaction's begin, with its net changes and a reading that may be given, and tells how it ended
+  pub record TakesCommit (t : ServedTransaction) (given : List Given) (reply : Reply)
+      (p' : Progress) : Type 0 where
+    pub receipt : Given
+    pub reading : ℕ
+    pub end : Result (Option ℕ) Refusal
+    pub may : may_give reading ≡ true
+    pub takes : given ≡ receipt ∷ []
+    pub entry_is : receipt.entry
+        ≡ Commits i t.begin (net_of (rows_after [] t.changes) t.own.rows t.own.written)
+        reading end
+    pub reply_is : reply ≡ commit_reply end
+    pub left : p' ≡ after receipt.number None
+
+  -- how a step of the session is taken
+  abbrev pub Takes : Step → Progress → List Given → Reply → Progress → Type 0
+  Takes (Begin j) p given reply p' = MatchOption p.transaction
+      (TakesBegin schema i p given reply p')
+      (λ t. Replies (Refused InTransaction) p given reply p')
+  Takes (Insert j number rows) p given reply p' = TakesWrite schema i (Insert i number rows) p given reply p'
+  Takes (Update j keys sets) p given reply p' = TakesWrite schema i (Update i keys sets) p given reply p'
+  Takes (Delete j keys) p given reply p' = TakesWrite schema i (Delete i keys) p given reply p'
+  Takes (Select j form keys) p given reply p' = MatchOption p.transaction
+      (TakesQuery schema i form keys p given reply p')
+      (λ t. Replies (query schema i t.changes t.own form keys) p given reply p')
+  Takes (Commit j reading) p given reply p' = MatchOption p.transaction
+      (Replies (Refused NoTransaction) p given reply p')
+      (λ t. TakesCommit t given reply p')
+  Takes (Rollback j) p given reply p' = MatchOption p.transaction
+      (Replies (Refused NoTransaction) p given reply p')
+      (λ t. Replies RolledBack (after p.receipt None) given reply p')
+  Takes (SplitKey key) p given reply p' =
+      takes_split schema i key (KeyCut (bytes_of_key key)) p given reply p'
+  Takes (SplitTime key instant) p given reply p' =
+      takes_split schema i key (TimeCut (bytes_of_key key) instant) p given reply p'
+  Takes Migrate p given reply p' = TakesMigrate schema i p given reply p'

@@ -1,5 +1,5 @@
 -- What a client is sent, by the lines that it sends, what is kept of each, and its receipts.
-use Rattle.std.specs.Prelude.{◌≡◌, ℕ, List, [], ◌∷◌, ◌++◌, Bool, true, false, Option, Some, None, Result, Ok, Err, length}
+use Rattle.std.specs.Prelude.{◌≡◌, ℕ, List, [], ◌∷◌, ◌++◌, ◌⊎◌, Bool, true, false, Option, Some, None, Result, Ok, Err, length}
 use Rattle.std.specs.Io.KnownBytes.{Appends, Consumes, IsAtEnd}
 use Rattle.values.specs.declared.refusal.Refusal.{Refusal}
 use Rattle.values.specs.declared.refusal.Refusal.TheVariants.{LineTooLong, Memory}
@@ -13,8 +13,12 @@ use Rattle.statement.specs.Print.{refusal_text, reply_text}
 use Rattle.statement.specs.Writer.{AppendsPrefix}
 use Rattle.lines.specs.Partial.{Partial}
 use Rattle.lines.specs.Lines.{lines_of}
-use Rattle.serving.specs.declared.served_session.Told.{Told}
 use Rattle.serving.specs.Progress.{Given, Progress, Takes, IsRefusedStep}
+
+-- what is told of a line: how many receipts it took, and what it was refused for where that was memory, a full journal, or a transaction that is not open at the store
+pub record Told : Type 0 where
+  pub taken : ℕ
+  pub refused : Option Refusal
 
 module _ (schema : Schema) (i : ℕ) where
   -- what a line says; a COMMIT's reading is its receipt's
@@ -26,6 +30,25 @@ module _ (schema : Schema) (i : ℕ) where
   reading_takes None = false
   reading_takes (Some line) = serving_takes_memory line
 
+  -- memory ran out while the line was read, and nothing is changed
+  abbrev pub IsUnread : Partial → Progress → List Given → Refusal → Progress → Type 0
+  IsUnread line p given refusal p' =
+      (reading_takes line ≡ true) × ((refusal ≡ Memory) × ((given ≡ []) × (p' ≡ p)))
+
+  -- memory ran out while the line was read, or its step is refused
+  abbrev pub IsRefusedLine : Partial → Result Line Refusal → Progress → List Given → Refusal
+      → Progress → Type 0
+  IsRefusedLine line (Ok (Asks step)) p given refusal p' =
+      IsUnread line p given refusal p' ⊎ IsRefusedStep schema i step p given refusal p'
+  IsRefusedLine line said p given refusal p' = IsUnread line p given refusal p'
+
+  pub record RefusesLine (line : Partial) (p : Progress) (given : List Given) (refusal : Refusal)
+      (out : List ℕ) (p' : Progress) : Type 0 where
+    pub refused : IsRefusedLine line (said line) p given refusal p'
+    pub out_is : out ≡ refusal_text refusal
+
+-- by which readings of the clock may be given
+module _ (may_give : ℕ → Bool) (schema : Schema) (i : ℕ) where
   -- no receipt, this text, and nothing is changed
   pub record PrintsText (text : List ℕ) (p : Progress) (given : List Given) (out : List ℕ)
       (p' : Progress) : Type 0 where
@@ -45,33 +68,21 @@ module _ (schema : Schema) (i : ℕ) where
   Answers (Err refusal) p given out p' = PrintsText (refusal_text refusal) p given out p'
   Answers (Ok Nothing) p given out p' = PrintsText [] p given out p'
   Answers (Ok (Clock reading)) p given out p' = PrintsText [] p given out p'
-  Answers (Ok (Asks step)) p given out p' = PrintsReply (Takes schema i step p) given out p'
+  Answers (Ok (Asks step)) p given out p' =
+      PrintsReply (Takes may_give schema i step p) given out p'
 
-  -- memory ran out while the line was read, or its step is refused
-  abbrev pub IsRefusedLine : Partial → Result Line Refusal → Progress → List Given → Refusal
-      → Progress → Type 0
-  IsRefusedLine line (Ok (Asks step)) p given refusal p' =
-      IsRefusedStep schema i step p given refusal p'
-  IsRefusedLine line said p given refusal p' =
-      (reading_takes line ≡ true) × ((refusal ≡ Memory) × ((given ≡ []) × (p' ≡ p)))
-
-  pub record RefusesLine (line : Partial) (p : Progress) (given : List Given) (refusal : Refusal)
-      (out : List ℕ) (p' : Progress) : Type 0 where
-    pub refused : IsRefusedLine line (said line) p given refusal p'
-    pub out_is : out ≡ refusal_text refusal
-
-  -- by what is kept of it, a line was refused since there was no room, or answered by its meaning
+  -- by what is told of it, a line was refused since there was no room, or answered by its meaning
   abbrev pub IsKept : Option Refusal → Partial → Progress → List Given → List ℕ → Progress → Type 0
-  IsKept (Some refusal) line p given out p' = RefusesLine line p given refusal out p'
-  IsKept None line p given out p' = Answers (said line) p given out p'
+  IsKept (Some refusal) line p given out p' = RefusesLine schema i line p given refusal out p'
+  IsKept None line p given out p' = Answers (said schema i line) p given out p'
 
-  -- a line takes as many receipts as are reported of it
+  -- a line takes as many receipts as are told of it
   pub record IsAnswered (line : Partial) (told : Told) (p : Progress) (given : List Given)
       (out : List ℕ) (p' : Progress) : Type 0 where
     pub counted : length given ≡ told.taken
     pub kept : IsKept told.refused line p given out p'
 
-  -- each line has its own of what is reported, and the receipts that it takes come next, and none is left over
+  -- each line has its own of what is told, and the receipts that it takes come next, and none is left over
   abbrev pub Serves : List Partial → List Told → Progress → List Given → List ℕ → Progress → Type 0
   Serves [] [] p given out p' = (given ≡ []) × ((out ≡ []) × (p' ≡ p))
   Serves (line ∷ lines) (t ∷ told) p given out p' =
@@ -81,20 +92,23 @@ module _ (schema : Schema) (i : ℕ) where
   Serves [] (t ∷ told) p given out p' = ⊥
   Serves (line ∷ lines) [] p given out p' = ⊥
 
-  -- a text was read to its end, and what follows for its lines was written
-  pub record IsServed (told : List Told) (given : List Given) (p : Progress)
+  -- a text was read to its end, what follows for its lines was written, and this is the number of the last receipt
+  pub record IsServed (given : List Given) (p : Progress) (receipt : ℕ)
       (unread left old new : Option (List ℕ)) : Type 0 where
+    pub told : List Told
     pub text : List ℕ
     pub took : Consumes unread left text
     pub ended_there : IsAtEnd left
     pub out : List ℕ
     pub wrote : Appends old new out
     pub later : Progress
+    pub last : receipt ≡ later.receipt
     pub serves : Serves (lines_of text) told p given out later
 
-  -- a text was read, and of what follows for its first lines a prefix was written
-  pub record IsServedInPart (told : List Told) (given : List Given) (p : Progress)
+  -- a text was read, of what follows for its first lines a prefix was written, and this is the number of their last receipt
+  pub record IsServedInPart (given : List Given) (p : Progress) (receipt : ℕ)
       (unread left old new : Option (List ℕ)) : Type 0 where
+    pub told : List Told
     pub text : List ℕ
     pub took : Consumes unread left text
     pub lines : List Partial
@@ -103,4 +117,5 @@ module _ (schema : Schema) (i : ℕ) where
     pub out : List ℕ
     pub wrote : AppendsPrefix old new out
     pub later : Progress
+    pub last : receipt ≡ later.receipt
     pub serves : Serves lines told p given out later

@@ -1,6 +1,6 @@
 -- What a served session has come to, and what a step makes of it.
 use Rattle.std.specs.Option.{option_map}
-use Rattle.std.specs.Prelude.{◌≡◌, ◌⊎◌, ◌+◌, ◌++◌, ℕ, List, [], ◌∷◌, Bool, Option, Some, None, Result, Ok, Err, is_some, if◌then◌else◌}
+use Rattle.std.specs.Prelude.{◌≡◌, ◌⊎◌, ◌+◌, ◌++◌, ℕ, List, [], ◌∷◌, Bool, false, Option, Some, None, Result, Ok, Err, is_some, if◌then◌else◌}
 use Rattle.values.specs.declared.refusal.Refusal.{Refusal}
 use Rattle.values.specs.declared.refusal.Refusal.TheVariants.{Memory, JournalFull}
 use Rattle.values.specs.declared.query.Form.{Form}
@@ -13,16 +13,18 @@ use Rattle.staging.specs.Own.{own}
 use Rattle.validation.specs.declared.cut.Cut.{Cut}
 use Rattle.steps.specs.declared.step.Listing.{Listing}
 use Rattle.steps.specs.declared.step.Step.{Step}
+use Rattle.steps.specs.declared.step.Step.TheVariants.{Select}
 use Rattle.steps.specs.declared.step.Reply.{Reply}
 use Rattle.steps.specs.declared.step.Reply.TheVariants.{Refused, Shown, Done}
+use Rattle.steps.specs.Misfit.{misfit}
 use Rattle.steps.specs.Reply.{commit_reply}
 use Rattle.statement.specs.Print.{refusal_text, reply_text}
 use Rattle.journal.specs.declared.entry.Entry.{Entry}
 use Rattle.journal.specs.declared.entry.Entry.TheVariants.{Begin, Commit, Split, Install}
-use Rattle.sessions.specs.SessionState.{IsSelect, SessionTransactionState, SessionState}
+use Rattle.sessions.specs.SessionState.{IsSelect, TakesNoMemory, SessionTransactionState, SessionState}
 use Rattle.serving.specs.declared.answer.Sent.{Sent}
 use Rattle.serving.specs.declared.answer.Sent.TheVariants.{Reply as Replies, Ending, Refused as Refuses}
-use Rattle.serving.specs.Progress.{Given, IsServiceBegin, ServedTransaction, PacksFirst, Progress, Takes, IsRefusedStep}
+use Rattle.serving.specs.Progress.{Given, IsServiceBegin, ServedTransaction, PacksFirst, Progress, Takes, IsRefusedStep, asks_store}
 
 -- how a step was answered: with the receipts that it took
 pub record AnswerState : Type 0 where
@@ -86,7 +88,9 @@ sent_listing (Err refusal) = sent_refusal refusal
 abbrev pub IsSentFor : SessionState → Form → Keys → Sent → Type 0
 IsSentFor s form keys sent =
     (listing : Result Listing Refusal)
-    × (IsSelect s form keys listing × (sent ≡ sent_listing listing))
+    × (IsSelect s form keys listing
+    × (TakesNoMemory s (misfit s.schema (Select s.number form keys)) listing
+    × (sent ≡ sent_listing listing)))
 
 -- a session's transaction is this
 pub record IsOpened (schema : Schema) (t : SessionTransactionState) (o : ServedTransaction)
@@ -106,19 +110,23 @@ pub record IsAt (s : SessionState) (p : Progress) : Type 0 where
   pub receipt_is : p.receipt ≡ s.receipt
   pub open_is : IsOpenAs s.schema s.transaction p.transaction
 
--- a step is replied to, or refused
-abbrev pub IsReplied : Schema → ℕ → Step → Progress → List Given → Result Reply Refusal → Progress
-    → Type 0
-IsReplied schema i step p given (Ok reply) p' = Takes schema i step p given reply p'
-IsReplied schema i step p given (Err refusal) p' = IsRefusedStep schema i step p given refusal p'
+-- by which readings of the clock may be given
+module _ (may_give : ℕ → Bool) where
+  -- a step is replied to, or refused
+  abbrev pub IsReplied : Schema → ℕ → Step → Progress → List Given → Result Reply Refusal → Progress
+      → Type 0
+  IsReplied schema i step p given (Ok reply) p' = Takes may_give schema i step p given reply p'
+  IsReplied schema i step p given (Err refusal) p' = IsRefusedStep schema i step p given refusal p'
 
--- what an answer to a step makes of a session, whatever it has come to
-pub record IsStepped (step : Step) (old new : SessionState) (a : AnswerState) : Type 0 where
-  pub schema_is : new.schema ≡ old.schema
-  pub number_is : new.number ≡ old.number
-  pub steps : (p : Progress) → IsAt old p
-      → (p' : Progress)
-      × (IsAt new p' × IsReplied old.schema old.number step p (given_of a) (reply_of a) p')
+  -- what an answer to a step makes of a session, whatever it has come to; one that does not ask the store takes no receipt
+  pub record IsStepped (step : Step) (old new : SessionState) (a : AnswerState) : Type 0 where
+    pub schema_is : new.schema ≡ old.schema
+    pub number_is : new.number ≡ old.number
+    pub alone : asks_store old.schema old.number step (is_some old.transaction) ≡ false
+        → given_of a ≡ []
+    pub steps : (p : Progress) → IsAt old p
+        → (p' : Progress)
+        × (IsAt new p' × IsReplied old.schema old.number step p (given_of a) (reply_of a) p')
 
 -- a cut was made, if it lies inside a node, and its receipt tells whether; or there was no room for it
 abbrev pub IsCutBy : Cut → Option Given → Result Reply Refusal → Type 0

@@ -47,8 +47,7 @@ impl<J: StoreName> Model for Answer<J> {
 
 impl<J: StoreName> Answer<J> {
     ghost use Rattle.std.specs.Prelude.{None, Some};
-    ghost use Rattle.std.specs.Option.{option_map};
-    ghost use Rattle.serving.specs.Serving.{refused_of, reply_of, text_of};
+    ghost use Rattle.serving.specs.Serving.{reply_of, text_of};
 
     /// Makes a reply with no receipt.
     pub(crate) fn reply(reply: Reply) -> Answer<J>
@@ -84,26 +83,6 @@ impl<J: StoreName> Answer<J> {
             receipt: Some(receipt),
             install: None,
             sent,
-        }
-    }
-
-    /// Returns the receipts, and why the step was refused, if it was.
-    pub(crate) fn into_parts(self) -> (Option<Receipt<J>>, Option<Receipt<J>>, Option<Refusal>)
-        ensures receipt { option_map (λ r. record { number = r.number; entry = r.entry }) result.0
-            ≡ self.given }
-        ensures install { option_map (λ r. record { number = r.number; entry = r.entry }) result.1
-            ≡ self.install }
-        ensures refused { result.2 ≡ refused_of self.sent }
-    {
-        let Answer {
-            receipt,
-            install,
-            sent,
-        } = self;
-        match sent {
-            Sent::Refused(refusal) => (receipt, install, Some(refusal)),
-            Sent::Reply(_) => (receipt, install, None),
-            Sent::Ending => (receipt, install, None),
         }
     }
 

@@ -1,5 +1,5 @@
 //! BEGIN.
-ghost use Rattle.std.specs.Prelude.{◌≡◌};
+ghost use Rattle.std.specs.Prelude.{◌≡◌, ℕ, Bool};
 ghost use Rattle.steps.specs.declared.step.Step.TheVariants.{Begin};
 ghost use Rattle.serving.specs.Serving.{IsStepped};
 
@@ -17,7 +17,8 @@ pub(crate) fn take_begin<J: StoreName, R: Wait>(
     session: &mut Session,
 ) -> Answer<J>
     requires { session.old.schema ≡ J.schema }
-    ensures { IsStepped (Begin session.old.number) session.old session.new result }
+    ensures { (may_give : ℕ → Bool)
+        → IsStepped may_give (Begin session.old.number) session.old session.new result }
 {
     if session.start().is_some() {
         return Answer::reply(Reply::Refused(Refusal::InTransaction));

@@ -1,5 +1,5 @@
 //! COMMIT and ROLLBACK.
-ghost use Rattle.std.specs.Prelude.{◌≡◌};
+ghost use Rattle.std.specs.Prelude.{◌≡◌, ℕ, Bool};
 ghost use Rattle.steps.specs.declared.step.Step.TheVariants.{Commit, Rollback};
 ghost use Rattle.serving.specs.Serving.{IsStepped};
 
@@ -19,7 +19,8 @@ pub(crate) fn take_commit<J: StoreName, R: Wait, C: Readings>(
     readings: &mut C,
 ) -> Answer<J>
     requires { session.old.schema ≡ J.schema }
-    ensures { IsStepped (Commit session.old.number 0) session.old session.new result }
+    ensures { IsStepped C.may_give (Commit session.old.number 0)
+        session.old session.new result }
 {
     if session.start().is_none() {
         return Answer::reply(Reply::Refused(Refusal::NoTransaction));
@@ -32,7 +33,8 @@ pub(crate) fn take_commit<J: StoreName, R: Wait, C: Readings>(
 
 /// Ends the session's transaction with no trace, if one is open.
 pub(crate) fn take_rollback<J: StoreName>(session: &mut Session) -> Answer<J>
-    ensures { IsStepped (Rollback session.old.number) session.old session.new result }
+    ensures { (may_give : ℕ → Bool)
+        → IsStepped may_give (Rollback session.old.number) session.old session.new result }
 {
     match session.rollback() {
         Ok(()) => Answer::reply(Reply::RolledBack),

@@ -18,4 +18,4 @@ mod write;
 
 pub use readings::Readings;
 pub use serve::serve_session;
-pub use served_session::{End, Served, Told};
+pub use served_session::{End, Served};

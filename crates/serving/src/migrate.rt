@@ -1,5 +1,5 @@
 //! MIGRATE.
-ghost use Rattle.std.specs.Prelude.{◌≡◌, IfErr, IfOk};
+ghost use Rattle.std.specs.Prelude.{◌≡◌, ℕ, Bool, IfErr, IfOk};
 ghost use Rattle.steps.specs.declared.step.Step.TheVariants.{Migrate};
 ghost use Rattle.serving.specs.Serving.{HasServiceBegun, IsMigrated, IsNoRoom, IsPackedOf, IsStepped, given_of, reply_of};
 
@@ -22,7 +22,7 @@ pub(crate) fn take_migrate<J: StoreName, R: Wait>(
     session: &mut Session,
 ) -> Answer<J>
     requires { session.old.schema ≡ J.schema }
-    ensures { IsStepped Migrate session.old session.new result }
+    ensures { (may_give : ℕ → Bool) → IsStepped may_give Migrate session.old session.new result }
 {
     migrate(rt, alloc, store)
 }

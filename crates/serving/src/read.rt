@@ -1,5 +1,5 @@
 //! SELECT.
-ghost use Rattle.std.specs.Prelude.{◌≡◌, None};
+ghost use Rattle.std.specs.Prelude.{◌≡◌, ℕ, Bool, None};
 ghost use Rattle.steps.specs.declared.step.Step.TheVariants.{Select};
 ghost use Rattle.sessions.specs.SessionState.{with_transaction};
 ghost use Rattle.serving.specs.Serving.{IsSentFor, IsStepped, sent_listing};
@@ -20,7 +20,8 @@ pub(crate) fn take_query<J: StoreName, R: Wait>(
     keys: &Keys,
 ) -> Answer<J>
     requires { session.old.schema ≡ J.schema }
-    ensures { IsStepped (Select session.old.number form keys.now) session.old session.new result }
+    ensures { (may_give : ℕ → Bool) → IsStepped may_give
+        (Select session.old.number form keys.now) session.old session.new result }
 {
     if session.start().is_some() {
         return Answer {

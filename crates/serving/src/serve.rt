@@ -22,34 +22,39 @@ use std::sync::Wait;
 
 /// Serves a session: reads lines to the reader's end, takes the step of each, and writes its reply.
 /// What was written is flushed before more is read. A SELECT with no transaction open is a begin,
-/// the read and a rollback. An open transaction is dropped at the end.
+/// the read and a rollback. An open transaction is rolled back at the end.
 ///
 /// At `Closed` all was read and answered. At another end the replies, of which the last may be
-/// there in part, are those of the lines that are reported.
+/// there in part, are those of the first lines. At every end no transaction is open, and the
+/// session has the number of the last receipt, which is among those that are returned.
 pub fn serve_session<J: StoreName, R: Wait, I: Read, W: Write, C: Readings, G: Gate>(
     rt: &R,
     alloc: Global,
     reader: &mut I,
     writer: &mut W,
-    session: Session,
+    session: &mut Session,
     store: &LockedStore<J>,
     gate: &G,
     readings: &mut C,
 ) -> Served<J>
-    requires tables { session.schema ≡ J.schema }
-    requires none { session.transaction ≡ None }
-    ensures closed { result.end ≡ End.Closed → IsServed session.schema session.number
-        result.told.items
+    requires tables { session.old.schema ≡ J.schema }
+    requires none { session.old.transaction ≡ None }
+    ensures closed { result.end ≡ End.Closed
+        → IsServed C.may_give session.old.schema session.old.number
         (map (λ r. record { number = r.number; entry = r.entry }) result.receipts.items)
-        (after session.receipt None) (I.remaining reader.old) (I.remaining reader.new)
+        (after session.old.receipt None) session.new.receipt
+        (I.remaining reader.old) (I.remaining reader.new)
         (W.contents writer.old) (W.contents writer.new) }
-    ensures in_part { result.end ≢ End.Closed → IsServedInPart session.schema session.number
-        result.told.items
+    ensures in_part { result.end ≢ End.Closed
+        → IsServedInPart C.may_give session.old.schema session.old.number
         (map (λ r. record { number = r.number; entry = r.entry }) result.receipts.items)
-        (after session.receipt None) (I.remaining reader.old) (I.remaining reader.new)
+        (after session.old.receipt None) session.new.receipt
+        (I.remaining reader.old) (I.remaining reader.new)
         (W.contents writer.old) (W.contents writer.new) }
+    ensures ended { session.new.transaction ≡ None }
+    ensures number { session.new.number ≡ session.old.number }
+    ensures same_tables { session.new.schema ≡ session.old.schema }
 {
-    let mut session = session;
     let mut account = Account::new(alloc);
     let service = Service {
         rt,
@@ -57,18 +62,10 @@ pub fn serve_session<J: StoreName, R: Wait, I: Read, W: Write, C: Readings, G: G
         store,
         gate,
     };
-    let end = serve(
-        &service,
-        reader,
-        writer,
-        readings,
-        &mut session,
-        &mut account,
-    );
-    let (receipts, told) = account.into_parts();
+    let end = serve(&service, reader, writer, readings, session, &mut account);
+    let _ = session.rollback();
     Served {
-        receipts,
-        told,
+        receipts: account.into_receipts(),
         end,
     }
 }
@@ -82,11 +79,11 @@ fn serve<J: StoreName, R: Wait, I: Read, W: Write, C: Readings, G: Gate>(
     account: &mut Account<J>,
 ) -> End
     requires { session.old.schema ≡ J.schema }
-    ensures closed { result ≡ End.Closed → Ends session.old session.new account.old account.new
+    ensures closed { result ≡ End.Closed → Ends C.may_give session.old session.new account.old account.new
         (I.remaining reader.old) (I.remaining reader.new)
         (W.contents writer.old) (W.contents writer.new) }
-    ensures in_part { result ≢ End.Closed → EndsInPart session.old session.new
-        account.old account.new (I.remaining reader.old) (I.remaining reader.new)
+    ensures in_part { result ≢ End.Closed → EndsInPart C.may_give
+        session.old session.new account.old account.new (I.remaining reader.old) (I.remaining reader.new)
         (W.contents writer.old) (W.contents writer.new) }
 {
     let Ok(mut line) = LineBuffer::new(service.alloc) else {
@@ -132,9 +129,9 @@ fn feed<J: StoreName, R: Wait, C: Readings, G: Gate, W: Write>(
 ) -> Result<(), End>
     requires tables { session.old.schema ≡ J.schema }
     requires fits { Fits line.old }
-    ensures ok { OnOk result (Feeds line.old line.new bytes.now session.old session.new
+    ensures ok { OnOk result (Feeds C.may_give line.old line.new bytes.now session.old session.new
         account.old account.new (W.contents writer.old) (W.contents writer.new)) }
-    ensures err { OnErr result (Breaks line.old bytes.now session.old session.new
+    ensures err { OnErr result (Breaks C.may_give line.old bytes.now session.old session.new
         account.old account.new (W.contents writer.old) (W.contents writer.new)) }
     ensures why { IfErr result (λ e. e ≢ End.Closed) }
     ensures tables { session.new.schema ≡ session.old.schema }
@@ -163,9 +160,9 @@ fn take_line<J: StoreName, R: Wait, C: Readings, G: Gate, W: Write>(
 ) -> Result<usize, End>
     requires tables { session.old.schema ≡ J.schema }
     requires fits { Fits line.old }
-    ensures ok { IfOk result (λ n. Feeds line.old line.new (take n bytes.now) session.old
+    ensures ok { IfOk result (λ n. Feeds C.may_give line.old line.new (take n bytes.now) session.old
         session.new account.old account.new (W.contents writer.old) (W.contents writer.new)) }
-    ensures err { OnErr result (Breaks line.old bytes.now session.old session.new
+    ensures err { OnErr result (Breaks C.may_give line.old bytes.now session.old session.new
         account.old account.new (W.contents writer.old) (W.contents writer.new)) }
     ensures why { IfErr result (λ e. e ≢ End.Closed) }
     ensures tables { session.new.schema ≡ session.old.schema }
@@ -198,9 +195,9 @@ fn finish<J: StoreName, R: Wait, C: Readings, G: Gate, W: Write>(
     line: &LineBuffer,
 ) -> Result<(), End>
     requires { session.old.schema ≡ J.schema }
-    ensures ok { OnOk result (Writes (lines_from line.now []) session.old session.new
+    ensures ok { OnOk result (Writes C.may_give (lines_from line.now []) session.old session.new
         account.old account.new (W.contents writer.old) (W.contents writer.new)) }
-    ensures err { OnErr result (IsBroken (lines_from line.now []) session.old session.new
+    ensures err { OnErr result (IsBroken C.may_give (lines_from line.now []) session.old session.new
         account.old account.new (W.contents writer.old) (W.contents writer.new)) }
     ensures why { IfErr result (λ e. e ≢ End.Closed) }
 {

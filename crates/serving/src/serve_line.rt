@@ -1,6 +1,6 @@
-//! A line: it is read, its step taken, and what is sent for it is written and recorded.
-ghost use Rattle.std.specs.Prelude.{◌≡◌, ◌≢◌, ◌<◌, [], ◌∷◌, IfErr, OnErr, OnOk};
-ghost use Rattle.serving.specs.Account.{IsBroken, Writes};
+//! A line: it is read, its step taken, its receipts kept, and what is sent for it is written.
+ghost use Rattle.std.specs.Prelude.{◌≡◌, ◌≢◌, [], ◌∷◌, IfErr, OnErr, OnOk};
+ghost use Rattle.serving.specs.Account.{HasRoomFor, IsBroken, Writes};
 ghost use Rattle.statement.specs.Writer.{Prints};
 ghost use Rattle.serving.specs.Line.{IsBrokenStep, IsRead, IsReported, Sends};
 ghost use Rattle.serving.specs.Serving.{reply_of, text_of};
@@ -10,7 +10,7 @@ use crate::answer::Answer;
 use crate::readings::Readings;
 use crate::served_session::End;
 use crate::service::Service;
-use crate::step::take_step;
+use crate::step::answer_step;
 use crate::write::refused_write;
 use growlog::StoreName;
 use lines::LineBuffer;
@@ -33,25 +33,16 @@ pub(crate) fn serve_line<J: StoreName, R: Wait, C: Readings, G: Gate, W: Write>(
     line: &LineBuffer,
 ) -> Result<(), End>
     requires { session.old.schema ≡ J.schema }
-    ensures ok { OnOk result (Writes (line.now ∷ []) session.old session.new
+    ensures ok { OnOk result (Writes C.may_give (line.now ∷ []) session.old session.new
         account.old account.new (W.contents writer.old) (W.contents writer.new)) }
-    ensures err { OnErr result (IsBroken (line.now ∷ []) session.old session.new
+    ensures err { OnErr result (IsBroken C.may_give (line.now ∷ []) session.old session.new
         account.old account.new (W.contents writer.old) (W.contents writer.new)) }
     ensures why { IfErr result (λ e. e ≢ End.Closed) }
 {
-    if account.reserve().is_err() {
-        return Err(End::Memory);
-    }
     match read(service.alloc, session, line) {
-        Ok(Line::Nothing) => {
-            account.note(None, None, None);
-            Ok(())
-        }
-        Ok(Line::Clock(_)) => {
-            account.note(None, None, None);
-            Ok(())
-        }
-        Ok(Line::Step(step)) => { serve_step(service, readings, session, account, writer, &step) }
+        Ok(Line::Nothing) => Ok(()),
+        Ok(Line::Clock(_)) => Ok(()),
+        Ok(Line::Step(step)) => serve_step(service, readings, session, account, writer, &step),
         Err(refusal) => tell(account, writer, refused_write(refusal)),
     }
 }
@@ -75,25 +66,17 @@ fn serve_step<J: StoreName, R: Wait, C: Readings, G: Gate, W: Write>(
     writer: &mut W,
     step: &Step,
 ) -> Result<(), End>
-    requires tables { session.old.schema ≡ J.schema }
-    requires room { 0 < account.old.room }
-    ensures ok { OnOk result (Sends step.now session.old session.new
+    requires { session.old.schema ≡ J.schema }
+    ensures ok { OnOk result (Sends C.may_give step.now session.old session.new
         account.old account.new (W.contents writer.old) (W.contents writer.new)) }
-    ensures err { OnErr result (IsBrokenStep step.now session.old session.new
+    ensures err { OnErr result (IsBrokenStep C.may_give step.now session.old session.new
         account.old account.new (W.contents writer.old) (W.contents writer.new)) }
     ensures why { IfErr result (λ e. e ≢ End.Closed) }
 {
     if is_query(step) && !service.gate.pass(service.rt, session.number(), Place::Read) {
         return Err(End::Gate);
     }
-    let answer = take_step(
-        service.rt,
-        service.alloc,
-        service.store,
-        session,
-        readings,
-        step,
-    );
+    let answer = answer_step(service, readings, session, account, step);
     let ended = is_commit(step) && answer.receipt.is_some();
     tell(account, writer, answer)?;
     if ended
@@ -114,21 +97,20 @@ fn is_commit(step: &Step) -> bool {
     matches!(step, Step::Commit(_, _))
 }
 
-/// Writes an answer, and records it.
+/// Writes an answer, and keeps its receipts.
 fn tell<J: StoreName, W: Write>(
     account: &mut Account<J>,
     writer: &mut W,
     answer: Answer<J>,
 ) -> Result<(), End>
-    requires { 0 < account.old.room }
-    ensures told { IsReported answer account.old account.new }
+    requires { HasRoomFor answer account.old }
+    ensures given { IsReported answer account.old account.new }
     ensures wrote { Prints (W.contents writer.old) (W.contents writer.new) result
         (text_of (reply_of answer)) }
     ensures why { IfErr result (λ e. e ≢ End.Closed) }
 {
     let wrote = answer.print(writer);
-    let (receipt, install, refused) = answer.into_parts();
-    account.note(receipt, install, refused);
+    account.keep(answer);
     match wrote {
         Ok(()) => Ok(()),
         Err(_) => Err(End::Write),

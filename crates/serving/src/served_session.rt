@@ -1,15 +1,6 @@
 //! The outcome of a served session.
 use growlog::StoreName;
 use journal::Receipt;
-use values::Refusal;
-
-/// What is kept of a line: how many receipts it took, and what it was refused for where that was
-/// memory, a full journal, or a transaction that is not open at the store.
-#[derive(Drop)]
-pub struct Told {
-    pub taken: u8,
-    pub refused: Option<Refusal>,
-}
 
 /// Why a served session ended.
 #[derive(Clone, Copy, Debug, PartialEq, Eq)]
@@ -22,15 +13,13 @@ pub enum End {
     Write,
     /// The gate gave up.
     Gate,
-    /// Memory ran out before a line could be taken.
+    /// Memory ran out before anything was read.
     Memory,
 }
 
-/// A served session: the receipts that its lines took, in order, what is kept of each line, and why
-/// it ended.
+/// A served session: the receipts that its lines took, in order, and why it ended.
 #[derive(Drop)]
 pub struct Served<J: StoreName> {
     pub receipts: Vec<Receipt<J>>,
-    pub told: Vec<Told>,
     pub end: End,
 }

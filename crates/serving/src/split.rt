@@ -1,5 +1,5 @@
 //! SPLIT.
-ghost use Rattle.std.specs.Prelude.{◌≡◌, None};
+ghost use Rattle.std.specs.Prelude.{◌≡◌, ℕ, Bool, None};
 ghost use Rattle.steps.specs.declared.step.Step.TheVariants.{SplitKey, SplitTime};
 ghost use Rattle.serving.specs.Serving.{IsCutBy, IsStepped, reply_of};
 
@@ -20,7 +20,8 @@ pub(crate) fn take_key_split<J: StoreName, R: Wait>(
     session: &mut Session,
     key: &Key,
 ) -> Answer<J>
-    ensures { IsStepped (SplitKey key.now) session.old session.new result }
+    ensures { (may_give : ℕ → Bool)
+        → IsStepped may_give (SplitKey key.now) session.old session.new result }
 {
     if let Some(refusal) = key_misfit(session.schema(), key) {
         return Answer::reply(Reply::Refused(refusal));
@@ -40,7 +41,8 @@ pub(crate) fn take_time_split<J: StoreName, R: Wait>(
     key: &Key,
     instant: Instant,
 ) -> Answer<J>
-    ensures { IsStepped (SplitTime key.now instant) session.old session.new result }
+    ensures { (may_give : ℕ → Bool)
+        → IsStepped may_give (SplitTime key.now instant) session.old session.new result }
 {
     if let Some(refusal) = key_misfit(session.schema(), key) {
         return Answer::reply(Reply::Refused(refusal));

@@ -1,5 +1,5 @@
 //! INSERT, UPDATE and DELETE.
-ghost use Rattle.std.specs.Prelude.{◌≡◌, None};
+ghost use Rattle.std.specs.Prelude.{◌≡◌, ℕ, Bool, None};
 ghost use Rattle.steps.specs.Write.{step_of};
 ghost use Rattle.serving.specs.Serving.{IsStepped, sent_refusal};
 
@@ -11,7 +11,8 @@ use values::{Refusal, Write};
 
 /// Inserts, updates or deletes rows in the session's transaction.
 pub(crate) fn take_write<J: StoreName>(session: &mut Session, write: Write<'_>) -> Answer<J>
-    ensures { IsStepped (step_of session.old.number write.entry) session.old session.new result }
+    ensures { (may_give : ℕ → Bool) → IsStepped may_give
+        (step_of session.old.number write.entry) session.old session.new result }
 {
     match session.write(write) {
         Ok(count) => Answer::reply(Reply::of_write(write, count)),

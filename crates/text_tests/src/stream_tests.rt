@@ -139,6 +139,53 @@ fn a_script_has_its_replies_however_it_is_read(rt: HostRuntime) {
     }
 }
 
+/// The lines of a script before its last one, and their replies.
+const BEFORE: (&str, &str) = (
+    "clock: 100\n1: BEGIN\n1: INSERT INTO emp VALUES (1, 'Ann')\n",
+    "ok\nbegun 0\ninserted 1\n",
+);
+
+/// Last lines without a line feed that say nothing, and their replies.
+static BROKEN_OFF: [(&[u8], &str); 4] = [
+    (b"1", "E1 syntax at 1\n"),
+    (b"1: COMM", "E1 syntax at 3\n"),
+    (b"\xff", "E1 syntax at 0\n"),
+    (
+        b"1: SELECT * FROM emp WHERE no = 99999999999999999999",
+        "E1 syntax at 32\n",
+    ),
+];
+
+fn joined(rt: &impl Abort, alloc: Global, first: &[u8], last: &[u8]) -> Vec<u8> {
+    let mut text = Vec::new(alloc);
+    text.extend_from_slice(first).expect(rt, "there is memory");
+    text.extend_from_slice(last).expect(rt, "there is memory");
+    text
+}
+
+/// Whether a script with this last line, read in pieces of so many bytes, has this last reply.
+fn has_last_reply(rt: &impl Abort, alloc: Global, last: (&[u8], &str), most: usize) -> bool {
+    let script = joined(rt, alloc, BEFORE.0.as_bytes(), last.0);
+    let mut out = Vec::new(alloc);
+    let mut reader = Cut {
+        rest: script.as_slice(),
+        most,
+        calls: 1000,
+    };
+    let fault = fault_of(rt, alloc, &mut reader, &mut out);
+    let replies = joined(rt, alloc, BEFORE.1.as_bytes(), last.1.as_bytes());
+    fault.is_none() && out.as_slice() == replies.as_slice()
+}
+
+#[test]
+fn a_last_line_that_breaks_off_is_answered(rt: HostRuntime) {
+    for last in &BROKEN_OFF {
+        for most in [1usize, 4096] {
+            assert!(rt; has_last_reply(&rt, rt.alloc(), *last, most), "{}", last.1);
+        }
+    }
+}
+
 /// Whether a reader that fails at a call is a read fault, and just the replies to the lines that ended are written.
 fn reader_fails(rt: &impl Abort, alloc: Global, calls: usize) -> bool {
     let mut out = Vec::new(alloc);

@@ -5,7 +5,7 @@ use Rattle.serving.proofs.serve.feed.Given as goal
 
 abbrev pub invariant-loop-rest : goal.invariant-loop-rest
 invariant-loop-rest g l = record {
-  some : Some_fed l.fn.line l.line l.bytes l.rest l.fn.session l.session l.fn.account l.account (g.W.Write.contents l.fn.writer) (g.W.Write.contents l.writer);
+  some : Some_fed g.C.Readings.may_give l.fn.line l.line l.bytes l.rest l.fn.session l.session l.fn.account l.account (g.W.Write.contents l.fn.writer) (g.W.Write.contents l.writer);
   fits : Fits l.line;
   tables : l.session.schema ≡ l.fn.session.schema;
 }

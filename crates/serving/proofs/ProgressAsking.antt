@@ -1,0 +1,78 @@
+-- Which steps ask the store, and which may run out of memory.
+use Rattle.std.proofs.Common.{◌≡◌, ◌⊎◌, ℕ, Bool, true, false, not, Option, Some, None, inl, inr, refl, sym, ap, ◌∙◌, subst}
+use Rattle.std.specs.Prelude.{◌||◌}
+use Rattle.std.specs.Option.{is_none, is_some}
+use Rattle.values.specs.declared.refusal.Refusal.{Refusal}
+use Rattle.values.specs.declared.refusal.Refusal.TheVariants.{Memory, JournalFull, NoTransaction}
+use Rattle.values.specs.Tables.{Schema}
+use Rattle.steps.specs.declared.step.Step.{Step}
+use Rattle.steps.specs.declared.step.Step.TheVariants.{Begin, Insert, Update, Delete, Select, Commit, Rollback, SplitKey, SplitTime, Migrate}
+use Rattle.steps.specs.Misfit.{misfit}
+use Rattle.sessions.specs.SessionState.{SessionTransactionState, SessionState}
+use Rattle.serving.specs.declared.answer.Sent.TheVariants.{Refused as Refuses}
+use Rattle.serving.specs.Progress.{ServedTransaction, Progress, asks_store, may_be_refused, may_run_out}
+use Rattle.serving.specs.Serving.{IsAt, IsNoRoom, IsOpenAs, IsStepped}
+
+pub never : {A : Type 0} (b : Bool) → b ≡ true → b ≡ false → A
+never b e f = cc
+
+pub or_right : (a b : Bool) → b ≡ true → (a || b) ≡ true
+or_right true b e = refl
+or_right false b e = e
+
+-- what is not unfit fits
+pub nothing_of : {A : Type 0} (unfit : Option A) (b : Bool) → ((is_some unfit || b) ≡ true → ⊥) → unfit ≡ None
+nothing_of None b never = refl
+nothing_of (Some r) b never = absurd (never refl)
+
+pub fits_of : {A : Type 0} (unfit : Option A) (b : Bool) → ((is_some unfit || b) ≡ true → ⊥) → is_none unfit ≡ true
+fits_of unfit b never = ap is_none (nothing_of unfit b never)
+
+-- and one is open
+pub open_of : {A B : Type 0} (unfit : Option A) (t : Option B) → ((is_some unfit || is_none t) ≡ true → ⊥) → is_some t ≡ true
+open_of None None never = absurd (never refl)
+open_of None (Some x) never = refl
+open_of (Some r) t never = absurd (never refl)
+
+pub open_same : (schema : Schema) (t : Option SessionTransactionState) (o : Option ServedTransaction) → IsOpenAs schema t o → is_some t ≡ is_some o
+open_same schema None None is = refl
+open_same schema None (Some o) is = absurd is
+open_same schema (Some t) None is = absurd is
+open_same schema (Some t) (Some o) is = refl
+
+-- what asks the store may run out of memory
+pub asks_run : (schema : Schema) (i : ℕ) (step : Step) (b : Bool) → asks_store schema i step b ≡ true → may_run_out schema i step b ≡ true
+asks_run schema i (Begin j) b e = e
+asks_run schema i (Insert j number rows) b e = cc
+asks_run schema i (Update j keys sets) b e = cc
+asks_run schema i (Delete j keys) b e = cc
+asks_run schema i (Select j form keys) b e = ap (λ x. x || is_none (misfit schema (Select i form keys))) e
+asks_run schema i (Commit j reading) b e = e
+asks_run schema i (Rollback j) b e = e
+asks_run schema i (SplitKey key) b e = e
+asks_run schema i (SplitTime key instant) b e = e
+asks_run schema i Migrate b e = e
+
+-- it may be refused where there is no room
+may_lack_room : (schema : Schema) (i : ℕ) (step : Step) (o : Option ServedTransaction) (refusal : Refusal) → IsNoRoom refusal → asks_store schema i step (is_some o) ≡ true → may_be_refused schema i step o refusal ≡ true
+may_lack_room schema i step o refusal (inl e) asks = subst (λ r. may_be_refused schema i step o r ≡ true) (sym e) asks
+may_lack_room schema i step o refusal (inr e) asks = subst (λ r. may_be_refused schema i step o r ≡ true) (sym e) (asks_run schema i step (is_some o) asks)
+
+pub lacks_room : (may_give : ℕ → Bool) (step : Step) (s : SessionState) (refusal : Refusal) → IsNoRoom refusal → asks_store s.schema s.number step (is_some s.transaction) ≡ true
+    → IsStepped may_give step s s (record { given = None; install = None; sent = Refuses refusal })
+lacks_room may_give step s refusal room asks = record {
+  schema_is = refl;
+  number_is = refl;
+  alone = λ e. refl;
+  steps = λ p at. (
+    p,
+    (
+      at,
+      record {
+        may = may_lack_room s.schema s.number step p.transaction refusal room (subst (λ b. asks_store s.schema s.number step b ≡ true) (open_same s.schema s.transaction p.transaction at.open_is) asks);
+        takes = refl;
+        left = refl;
+      },
+    ),
+  );
+}
