@@ -1,17 +1,16 @@
 -- Which steps ask the store, and which may run out of memory.
-use Rattle.std.proofs.Common.{◌≡◌, ◌⊎◌, ℕ, Bool, true, false, not, Option, Some, None, inl, inr, refl, sym, ap, ◌∙◌, subst}
+use Rattle.std.proofs.Common.{◌≡◌, ℕ, Bool, true, false, not, Option, Some, None, inl, inr, refl, sym, ap, subst}
 use Rattle.std.specs.Prelude.{◌||◌}
 use Rattle.std.specs.Option.{is_none, is_some}
 use Rattle.values.specs.declared.refusal.Refusal.{Refusal}
-use Rattle.values.specs.declared.refusal.Refusal.TheVariants.{Memory, JournalFull, NoTransaction}
 use Rattle.values.specs.Tables.{Schema}
 use Rattle.steps.specs.declared.step.Step.{Step}
 use Rattle.steps.specs.declared.step.Step.TheVariants.{Begin, Insert, Update, Delete, Select, Commit, Rollback, SplitKey, SplitTime, Migrate}
 use Rattle.steps.specs.Misfit.{misfit}
 use Rattle.sessions.specs.SessionState.{SessionTransactionState, SessionState}
 use Rattle.serving.specs.declared.answer.Sent.TheVariants.{Refused as Refuses}
-use Rattle.serving.specs.Progress.{ServedTransaction, Progress, asks_store, may_be_refused, may_run_out}
-use Rattle.serving.specs.Serving.{IsAt, IsNoRoom, IsOpenAs, IsStepped}
+use Rattle.serving.specs.Progress.{ServedTransaction, asks_store, may_be_refused, may_run_out}
+use Rattle.serving.specs.Serving.{IsNoRoom, IsOpenAs, IsStepped}
 
 pub never : {A : Type 0} (b : Bool) → b ≡ true → b ≡ false → A
 never b e f = cc

@@ -1,12 +1,11 @@
 -- A served session from its start to its end.
 use Rattle.std.proofs.Common.{◌≡◌, ◌≢◌, ◌⊎◌, ℕ, List, [], ◌++◌, Bool, Option, None, inl, inr, refl, sym, ap, ◌∙◌, subst}
 use Rattle.lines.specs.Partial.{Partial}
-use Rattle.values.specs.Tables.{Schema}
 use Rattle.sessions.specs.SessionState.{SessionTransactionState, SessionState}
 use Rattle.serving.specs.declared.served_session.End.{End}
 use Rattle.serving.specs.declared.served_session.End.TheVariants.{Closed, Read, Write, Gate, Memory}
 use Rattle.serving.specs.Progress.{Given, Progress, after}
-use Rattle.serving.specs.ServedSession.{Told, Serves, IsServed, IsServedInPart}
+use Rattle.serving.specs.ServedSession.{Serves, IsServed, IsServedInPart}
 use Rattle.serving.specs.Serving.{IsAt, IsOpenAs}
 use Rattle.serving.specs.Account.{AccountState, Served}
 use Rattle.serving.specs.Ends.{Ends, EndsInPart}
@@ -40,7 +39,7 @@ closed_or_other : (e : End) → (e ≡ Closed) ⊎ (e ≢ Closed)
 closed_or_other Closed = inl refl
 closed_or_other Read = inr (λ e. cc)
 closed_or_other Write = inr (λ e. cc)
-closed_or_other Gate = inr (λ e. cc)
+closed_or_other (Gate gave_up) = inr (λ e. cc)
 closed_or_other Memory = inr (λ e. cc)
 
 -- and either way its number and its tables stay

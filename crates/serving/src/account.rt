@@ -11,7 +11,6 @@ use values::Mem;
 
 /// The receipts that the lines took so far. Contracts see them, and for how many more there is
 /// room.
-#[derive(Drop)]
 pub(crate) struct Account<J: StoreName> {
     receipts: Vec<Receipt<J>>,
 }
@@ -62,11 +61,13 @@ impl<J: StoreName> Account<J> {
             install,
             sent: _,
         } = answer;
-        if let Some(receipt) = receipt {
-            self.receipts.push_reserved(receipt);
+        match receipt {
+            Some(receipt) => self.receipts.push_reserved(receipt),
+            None => {}
         }
-        if let Some(install) = install {
-            self.receipts.push_reserved(install);
+        match install {
+            Some(install) => self.receipts.push_reserved(install),
+            None => {}
         }
     }
 

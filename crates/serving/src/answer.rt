@@ -25,7 +25,6 @@ pub(crate) enum Sent {
 
 /// How a step was answered, with the receipts that it took: that of a call of the store, if it made
 /// one, and then that of an install.
-#[derive(Drop)]
 pub(crate) struct Answer<J: StoreName> {
     pub(crate) receipt: Option<Receipt<J>>,
     pub(crate) install: Option<Receipt<J>>,

@@ -23,7 +23,7 @@ pub(crate) fn take_begin<J: StoreName, R: Wait>(
     if session.start().is_some() {
         return Answer::reply(Reply::Refused(Refusal::InTransaction));
     }
-    match store.begin(rt, session) {
+    match store.begin_lent(rt, session) {
         Ok(receipt) => {
             let instant = session.start().unwrap_or(0);
             Answer::with_receipt(receipt, Sent::Reply(Reply::Begun(instant)))

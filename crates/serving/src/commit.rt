@@ -25,7 +25,7 @@ pub(crate) fn take_commit<J: StoreName, R: Wait, C: Readings>(
     if session.start().is_none() {
         return Answer::reply(Reply::Refused(Refusal::NoTransaction));
     }
-    match store.commit(rt, session, readings.reading()) {
+    match store.commit_lent(rt, session, readings.reading()) {
         Ok(receipt) => Answer::with_receipt(receipt, Sent::Ending),
         Err(refusal) => Answer::refusal(refusal),
     }

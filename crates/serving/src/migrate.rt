@@ -56,7 +56,7 @@ fn begin_service<J: StoreName, R: Wait>(
     ensures err { IfErr result IsNoRoom }
 {
     let mut service = store.session(alloc, 0)?;
-    store.begin(rt, &mut service)
+    store.begin_lent(rt, &mut service)
 }
 
 /// Packs the first data node of history that the begin of a receipt shows unpacked, if there is

@@ -30,7 +30,7 @@ pub(crate) fn take_query<J: StoreName, R: Wait>(
             sent: sent_listing(session.select(form, keys)),
         };
     }
-    let receipt = match store.begin(rt, session) {
+    let receipt = match store.begin_lent(rt, session) {
         Ok(receipt) => receipt,
         Err(refusal) => return Answer::refusal(refusal),
     };

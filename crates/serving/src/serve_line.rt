@@ -14,7 +14,7 @@ use crate::step::answer_step;
 use crate::write::refused_write;
 use growlog::StoreName;
 use lines::LineBuffer;
-use sessions::{Gate, Place, Session};
+use sessions::{Gate, Place, Session, pass_gate};
 use statement::{Line, read_served};
 use std::alloc::Global;
 use std::io::Write;
@@ -73,20 +73,30 @@ fn serve_step<J: StoreName, R: Wait, C: Readings, G: Gate, W: Write>(
         account.old account.new (W.contents writer.old) (W.contents writer.new)) }
     ensures why { IfErr result (λ e. e ≢ End.Closed) }
 {
-    if is_query(step) && !service.gate.pass(service.rt, session.number(), Place::Read) {
-        return Err(End::Gate);
+    if is_query(step) {
+        pass(service, session, Place::Read)?;
     }
     let answer = answer_step(service, readings, session, account, step);
     let ended = is_commit(step) && answer.receipt.is_some();
     tell(account, writer, answer)?;
-    if ended
-        && !service
-            .gate
-            .pass(service.rt, session.number(), Place::Committed)
-    {
-        return Err(End::Gate);
+    if ended {
+        pass(service, session, Place::Committed)?;
     }
     Ok(())
+}
+
+/// Passes the gate.
+fn pass<J: StoreName, R: Wait, G: Gate>(
+    service: &Service<'_, J, R, G>,
+    session: &Session,
+    place: Place,
+) -> Result<(), End>
+    ensures { IfErr result (λ e. e ≢ End.Closed) }
+{
+    match pass_gate(service.gate, service.rt, session.number(), place) {
+        Ok(()) => Ok(()),
+        Err(gave_up) => Err(End::Gate(gave_up)),
+    }
 }
 
 fn is_query(step: &Step) -> bool {

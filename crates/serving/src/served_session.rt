@@ -1,6 +1,7 @@
 //! The outcome of a served session.
 use growlog::StoreName;
 use journal::Receipt;
+use sessions::GaveUp;
 
 /// Why a served session ended.
 #[derive(Clone, Copy, Debug, PartialEq, Eq)]
@@ -12,13 +13,13 @@ pub enum End {
     /// The writer failed.
     Write,
     /// The gate gave up.
-    Gate,
+    Gate(GaveUp),
     /// Memory ran out before anything was read.
     Memory,
 }
 
-/// A served session: the receipts that its lines took, in order, and why it ended.
-#[derive(Drop)]
+/// A served session: the receipts that its lines took, in order, and why it ended. Whoever has it
+/// hands the receipts on.
 pub struct Served<J: StoreName> {
     pub receipts: Vec<Receipt<J>>,
     pub end: End,

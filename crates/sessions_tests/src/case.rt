@@ -1,8 +1,11 @@
-//! A session that is served round a store of its own.
+//! Sessions that are served round a store of their own.
+ghost use Rattle.std.specs.Prelude.{true};
+
 use crate::scene::Audit;
+use crate::step::keep;
 use growlog::StoreName;
 use journal::Receipt;
-use serving::{End, Readings, Served, Told, serve_session};
+use serving::{End, Readings, Served, serve_session};
 use sessions::{Gate, LockedStore, Place};
 use std::alloc::Global;
 use std::io;
@@ -11,22 +14,42 @@ use std::process::Abort;
 use std::sync::Wait;
 use values::Instant;
 
-/// A session that is served: what it reads, how far that and its replies can go, what is written until it ends, why it
-/// ends, how many lines it has then, how many reads it had left, and what the store shows that is closed with its receipts.
+/// A session that is served: its number, what it reads, how far that and its replies can go, what
+/// is written until it ends, why it ends, how many receipts it hands back, and how many reads it had
+/// left.
+#[derive(Clone, Copy)]
+pub(crate) struct Visit<'a> {
+    pub(crate) number: u8,
+    pub(crate) text: &'a str,
+    pub(crate) limits: Limits,
+    pub(crate) replies: &'a str,
+    pub(crate) end: Ended,
+    pub(crate) receipts: usize,
+    pub(crate) reads_left: usize,
+}
+
+/// Why a session ends.
+#[derive(Clone, Copy, PartialEq, Eq)]
+pub(crate) enum Ended {
+    Closed,
+    Read,
+    Write,
+    Gate,
+    Memory,
+}
+
+/// Sessions that are served one after another, and what the store shows that is closed with their
+/// receipts.
 #[derive(Clone, Copy)]
 pub(crate) struct Case<'a> {
     pub(crate) what: &'static str,
-    pub(crate) text: &'a str,
-    pub(crate) limits: Limits,
-    pub(crate) replies: &'static str,
-    pub(crate) end: End,
-    pub(crate) lines: usize,
-    pub(crate) reads_left: usize,
+    pub(crate) visits: &'a [Visit<'a>],
     pub(crate) shows: Audit,
 }
 
 /// How many bytes are read at most at a call, and the calls after which the reader fails; how many bytes are written and
-/// how often they are passed on until the writer fails; and where the gate gives up.
+/// how often they are passed on until the writer fails; where the gate gives up, and how often it
+/// looks before.
 #[derive(Clone, Copy)]
 pub(crate) struct Limits {
     pub(crate) most: usize,
@@ -34,6 +57,7 @@ pub(crate) struct Limits {
     pub(crate) room: usize,
     pub(crate) flushes: usize,
     pub(crate) shut: Option<Place>,
+    pub(crate) turns: u32,
 }
 
 /// Nothing fails.
@@ -43,20 +67,35 @@ pub(crate) const NONE: Limits = Limits {
     room: 10_000,
     flushes: 1000,
     shut: None,
+    turns: 1,
 };
 
-/// A gate that gives up at one place, or at none.
+/// The gate of one session. At one place, or at none, it never opens, and gives up after so many
+/// turns; it gives up at once where another number is named.
 #[derive(Clone, Copy)]
 struct Door {
+    number: u8,
     shut: Option<Place>,
+    turns: u32,
+}
+
+impl Door {
+    fn is_open(&self, place: Place) -> bool {
+        self.shut != Some(place)
+    }
 }
 
 impl Gate for Door {
-    fn pass<R: Wait>(&self, _rt: &R, _session: u8, place: Place) -> bool {
-        match self.shut {
-            None => true,
-            Some(shut) => shut != place,
+    fn pass<R: Wait>(&self, _rt: &R, who: u8, place: Place) -> bool {
+        if who != self.number {
+            return false;
         }
+        for _ in 0..self.turns {
+            if self.is_open(place) {
+                return true;
+            }
+        }
+        false
     }
 }
 
@@ -67,6 +106,8 @@ struct Ticks {
 }
 
 impl Readings for Ticks {
+    ghost may_give = { λ t. true };
+
     fn reading(&mut self) -> Instant {
         let now = self.next;
         self.next = now.saturating_add(1);
@@ -124,40 +165,75 @@ impl Write for Pipe {
     }
 }
 
-/// Serves a session whose number is 3.
+fn kind_of(end: End) -> Ended {
+    match end {
+        End::Closed => Ended::Closed,
+        End::Read => Ended::Read,
+        End::Write => Ended::Write,
+        End::Gate(_) => Ended::Gate,
+        End::Memory => Ended::Memory,
+    }
+}
+
+/// Serves the session of a visit. When it has ended, it has no transaction open.
 fn serve<J: StoreName, R: Abort + Wait>(
     rt: &R,
     alloc: Global,
     store: &LockedStore<J>,
-    shut: Option<Place>,
+    visit: &Visit<'_>,
     reader: &mut Source<'_>,
     writer: &mut Pipe,
 ) -> Served<J> {
-    let session = store
-        .session(alloc, 3)
-        .expect(rt, "the number is at most 64");
-    let door = Door { shut };
+    let session = store.session(alloc, visit.number);
+    let mut session = session.expect(rt, "the number is at most 64");
+    let door = Door {
+        number: visit.number,
+        shut: visit.limits.shut,
+        turns: visit.limits.turns,
+    };
     let mut ticks = Ticks { next: 10 };
-    serve_session(rt, alloc, reader, writer, session, store, &door, &mut ticks)
+    serve_session(
+        rt,
+        alloc,
+        reader,
+        writer,
+        &mut session,
+        store,
+        &door,
+        &mut ticks,
+    )
 }
 
-fn receipts_told(told: &[Told]) -> usize {
-    let mut sum = 0usize;
-    for t in told {
-        sum = sum.saturating_add(usize::from(t.taken));
-    }
-    sum
+/// Serves the session of a visit, and keeps its receipts: it is sent its replies, leaves as many
+/// reads, hands back as many receipts, and ends as it must.
+fn serve_visit<J: StoreName, R: Abort + Wait>(
+    rt: &R,
+    alloc: Global,
+    store: &LockedStore<J>,
+    visit: &Visit<'_>,
+    receipts: &mut Vec<Receipt<J>>,
+) -> bool {
+    let mut reader = Source {
+        rest: visit.text.as_bytes(),
+        most: visit.limits.most,
+        calls: visit.limits.reads,
+    };
+    let mut writer = Pipe {
+        taken: Vec::new(alloc),
+        room: visit.limits.room,
+        flushes: visit.limits.flushes,
+    };
+    let Served {
+        receipts: taken,
+        end,
+    } = serve(rt, alloc, store, visit, &mut reader, &mut writer);
+    let is_sent = writer.taken.as_slice() == visit.replies.as_bytes();
+    let is_ended = kind_of(end) == visit.end && taken.len() == visit.receipts;
+    keep(rt, receipts, taken);
+    is_sent && is_ended && reader.calls == visit.reads_left
 }
 
-/// Whether a session that is served ended as its case says.
-fn is_ended<J: StoreName>(case: &Case<'_>, served: &Served<J>) -> bool {
-    served.end == case.end
-        && served.told.len() == case.lines
-        && receipts_told(served.told.as_slice()) == case.shows.0
-        && served.receipts.len() == case.shows.0
-}
-
-/// Serves the session of a case: it is sent the replies of the case, leaves as many reads, and ends as the case says.
+/// Serves the sessions of a case, one after another.
 pub(crate) fn serve_case<J: StoreName, R: Abort + Wait>(
     rt: &R,
     alloc: Global,
@@ -165,21 +241,12 @@ pub(crate) fn serve_case<J: StoreName, R: Abort + Wait>(
     case: &Case<'_>,
     receipts: &mut Vec<Receipt<J>>,
 ) -> Audit {
-    let limits = case.limits;
-    let mut reader = Source {
-        rest: case.text.as_bytes(),
-        most: limits.most,
-        calls: limits.reads,
-    };
-    let mut writer = Pipe {
-        taken: Vec::new(alloc),
-        room: limits.room,
-        flushes: limits.flushes,
-    };
-    let served = serve(rt, alloc, store, limits.shut, &mut reader, &mut writer);
-    let is_sent = writer.taken.as_slice() == case.replies.as_bytes();
-    let is_so = is_sent && reader.calls == case.reads_left && is_ended(case, &served);
-    assert!(rt; is_so, "{}", case.what);
-    *receipts = served.receipts;
+    for visit in case.visits {
+        assert!(rt;
+            serve_visit(rt, alloc, store, visit, receipts),
+            "{}",
+            case.what
+        );
+    }
     case.shows
 }

@@ -1,26 +1,33 @@
 //! What a session is sent for its lines.
-use crate::case::{Case, NONE};
+use crate::case::{Case, Ended, NONE, Visit};
 use crate::scene::{Audit, Scene, play};
-use serving::End;
 use std::alloc::Global;
 use std::process::Abort;
+use std::sync::Wait;
+use std::thread::Threads;
 
-/// What is shown, what a session reads to its end, what it is sent, how many lines that are, how many reads of 1,000 are
+/// What is shown, what a session reads to its end, what it is sent, how many reads of 1,000 are
 /// left, and what the store shows then.
-type Dialogue<'a> = (&'static str, &'a str, &'static str, usize, usize, Audit);
+type Dialogue<'a> = (&'static str, &'a str, &'a str, usize, Audit);
 
-fn case_of<'a>(dialogue: Dialogue<'a>) -> Case<'a> {
-    let (what, text, replies, lines, reads_left, shows) = dialogue;
-    Case {
-        what,
+fn play_dialogue<R: Abort + Threads + Wait + Sync>(rt: &R, alloc: Global, dialogue: Dialogue<'_>) {
+    let (what, text, replies, reads_left, shows) = dialogue;
+    let visit = Visit {
+        number: 3,
         text,
         limits: NONE,
         replies,
-        end: End::Closed,
-        lines,
+        end: Ended::Closed,
+        receipts: shows.0,
         reads_left,
+    };
+    let visits = [visit];
+    let case = Case {
+        what,
+        visits: &visits,
         shows,
-    }
+    };
+    play(rt, alloc, Scene::Serve(&case));
 }
 
 const LINES: &[Dialogue<'static>] = &[
@@ -42,7 +49,6 @@ const LINES: &[Dialogue<'static>] = &[
         committed 10\n\
         rows 1\n\
         (2, 'Bea')\n",
-        7,
         998,
         (3, 1, 10),
     ),
@@ -50,7 +56,6 @@ const LINES: &[Dialogue<'static>] = &[
         "a SELECT alone begins and rolls back",
         "SELECT * FROM emp\nROLLBACK\n",
         "rows 0\nE4 no transaction\n",
-        2,
         998,
         (1, 0, 0),
     ),
@@ -58,7 +63,6 @@ const LINES: &[Dialogue<'static>] = &[
         "what is no line of a session is refused",
         "\n-- a comment\nBEGN\n3: BEGIN\nclock: 5\nSELECT * FROM nobody\nBEGIN;\n",
         "E1 syntax at 0\nE1 syntax at 0\nE1 syntax at 0\nE2 no table\nbegun 0\n",
-        7,
         998,
         (1, 0, 0),
     ),
@@ -66,16 +70,14 @@ const LINES: &[Dialogue<'static>] = &[
         "a last line wants no line feed",
         "BEGIN\r\nROLLBACK",
         "begun 0\nrolled back\n",
-        2,
         998,
         (1, 0, 0),
     ),
-    ("no line", "", "", 0, 999, (0, 0, 0)),
+    ("no line", "", "", 999, (0, 0, 0)),
     (
         "splits take receipts and so does a migration",
         "SPLIT: KEY emp (5)\nSPLIT: TIME emp (1) AT 3\nMIGRATE:\nSPLIT: KEY emp ('x')\n",
         "ok\nok\nok\nE3 bad row at column 1\n",
-        4,
         998,
         (3, 0, 0),
     ),
@@ -102,7 +104,6 @@ const LINES: &[Dialogue<'static>] = &[
         ok\n\
         rows 1\n\
         (1, 'a')\n",
-        10,
         998,
         (9, 1, 11),
     ),
@@ -111,7 +112,7 @@ const LINES: &[Dialogue<'static>] = &[
 #[test]
 fn a_session_is_answered_line_by_line(rt: HostRuntime) {
     for dialogue in LINES {
-        play(&rt, rt.alloc(), Scene::Serve(&case_of(*dialogue)));
+        play_dialogue(&rt, rt.alloc(), *dialogue);
     }
 }
 
@@ -129,6 +130,6 @@ fn long_text(rt: &impl Abort, alloc: Global) -> String {
 fn a_line_that_is_too_long_is_refused_and_the_next_is_read(rt: HostRuntime) {
     let text = long_text(&rt, rt.alloc());
     let replies = "E12 line too long\nbegun 0\n";
-    let dialogue = ("a long line", text.as_str(), replies, 2, 996, (1, 0, 0));
-    play(&rt, rt.alloc(), Scene::Serve(&case_of(dialogue)));
+    let dialogue = ("a long line", text.as_str(), replies, 996, (1, 0, 0));
+    play_dialogue(&rt, rt.alloc(), dialogue);
 }

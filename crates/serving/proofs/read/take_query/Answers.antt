@@ -13,5 +13,5 @@ returns-then-is_some g c = λ may_give.
     (query_stepped may_give c.args.session.now c.args.form c.args.keys.now c.sent_listing.result t.0 t.1 (c.select.result, (c.select.ensures.answer, (c.select.ensures.no_memory, c.sent_listing.ensures))))
 
 pub returns : goal.returns
-returns g c = λ may_give. rw c.with_receipt.ensures (alone_stepped may_give c.args.session.now c.begin.new.session c.read_and_roll_back-sent.new.session c.in-Ok.receipt.number c.in-Ok.receipt.entry c.args.form c.args.keys.now c.read_and_roll_back-sent.result c.in-Ok.ensures.begun
+returns g c = λ may_give. rw c.with_receipt.ensures (alone_stepped may_give c.args.session.now c.begin_lent.new.session c.read_and_roll_back-sent.new.session c.in-Ok.receipt.number c.in-Ok.receipt.entry c.args.form c.args.keys.now c.read_and_roll_back-sent.result c.in-Ok.ensures.begun
     (not_open c.args.session.now (ap is_some (sym c.start.ensures) ∙ sym c.is_some.ensures ∙ c.if-is_some.false)) c.read_and_roll_back-sent.ensures.sent c.read_and_roll_back-sent.ensures.left)
