@@ -1,6 +1,12 @@
 /* Loaded before the C library under a program: refuses one request for memory, the one whose number, from 1, is in
-   REFUSE, and writes to the file named in TOLD how many there were. */
+   REFUSE, and one thread, the one whose number, from 1, is in REFUSE_THREAD. Writes to the file named in TOLD how many
+   requests for memory there were. */
+#define _GNU_SOURCE
+#include <dlfcn.h>
+#include <errno.h>
 #include <fcntl.h>
+#include <pthread.h>
+#include <stdatomic.h>
 #include <stdio.h>
 #include <stdlib.h>
 #include <unistd.h>
@@ -8,26 +14,41 @@
 extern void *__libc_malloc(size_t size);
 extern void *__libc_realloc(void *old, size_t size);
 
-static unsigned long requests, refused;
+static atomic_ulong requests, threads;
+static unsigned long refused, refused_thread;
 
-static int is_refused(void) { return ++requests == refused; }
+static int is_refused(void) { return atomic_fetch_add(&requests, 1) + 1 == refused; }
 
 void *malloc(size_t size) { return is_refused() ? NULL : __libc_malloc(size); }
 
 void *realloc(void *old, size_t size) { return is_refused() ? NULL : __libc_realloc(old, size); }
 
+int pthread_create(pthread_t *thread, const pthread_attr_t *attributes, void *(*start)(void *), void *argument)
+{
+    int (*create)(pthread_t *, const pthread_attr_t *, void *(*)(void *), void *) = dlsym(RTLD_NEXT, "pthread_create");
+    if (atomic_fetch_add(&threads, 1) + 1 == refused_thread)
+        return EAGAIN;
+    return create(thread, attributes, start, argument);
+}
+
+static unsigned long number_in(const char *name)
+{
+    const char *number = getenv(name);
+    return number ? strtoul(number, NULL, 10) : 0;
+}
+
 __attribute__((constructor)) static void begin(void)
 {
-    const char *number = getenv("REFUSE");
-    refused = number ? strtoul(number, NULL, 10) : 0;
-    requests = 0;
+    refused = number_in("REFUSE");
+    refused_thread = number_in("REFUSE_THREAD");
+    atomic_store(&requests, 0);
 }
 
 __attribute__((destructor)) static void tell(void)
 {
     char text[32];
     const char *path = getenv("TOLD");
-    int length = snprintf(text, sizeof text, "%lu\n", requests);
+    int length = snprintf(text, sizeof text, "%lu\n", atomic_load(&requests));
     int file = path ? open(path, O_WRONLY | O_CREAT | O_TRUNC, 0600) : -1;
     if (file >= 0 && write(file, text, length) == length)
         close(file);

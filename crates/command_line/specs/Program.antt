@@ -1,5 +1,5 @@
 -- What a run of the program leaves, by its words, its standard input and its standard output.
-use Rattle.std.specs.Prelude.{◌≡◌, ◌⊎◌, ℕ, List, Option, Some, None, Ok, Err}
+use Rattle.std.specs.Prelude.{◌≡◌, ◌⊎◌, ◌≤◌, ℕ, List, Option, Some, None, Ok, Err, length}
 use Rattle.std.specs.Io.KnownBytes.{Appends, Keeps}
 use Rattle.clap.specs.Words.{Text}
 use Rattle.values.specs.Sample.{sample}
@@ -172,10 +172,11 @@ Halts fault asked schema unread left old new =
 
 -- ---- the words
 
--- help or the version was asked for, and a text was written
+-- help or the version was asked for, and a text was written, which is not empty
 pub record HasAnswered (words : List Text) (old new : Option (List ℕ)) : Type 0 where
   pub request : AreRequest words
   pub text : List ℕ
+  pub some : 1 ≤ length text
   pub wrote : Appends old new text
 
 -- the writer failed in that text

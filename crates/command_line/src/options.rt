@@ -33,6 +33,16 @@ clock: 100\n  \
 Example, to be pasted as it is where tsvd can be found:\n  \
 printf \"clock: 100\\n1: BEGIN\\n1: INSERT INTO emp VALUES (1, 'Ann')\\n1: COMMIT\\n\" | tsvd --export emp\n\
 \n\
+Statements, each on a line of its own:\n  \
+BEGIN, START TRANSACTION, COMMIT, ROLLBACK\n  \
+INSERT INTO table [(column, ..)] VALUES (value, ..), ..\n  \
+UPDATE table SET column = value, .. [WHERE comparisons]\n  \
+DELETE FROM table [WHERE comparisons]\n  \
+SELECT * FROM table [FOR SYSTEM_TIME form] [WHERE comparisons]\n\
+A form is AS OF instant, FROM instant TO instant or BETWEEN instant AND instant.\n\
+Comparisons are a column, one of = < <= > >= and a value, joined by AND.\n\
+A value is a number, a 'text', TRUE, FALSE or NULL.\n\
+\n\
 With --listen each connection to 127.0.0.1 is a session, and its lines are statements alone, such as BEGIN.\n\
 The port is printed as 'listening PORT'. When --sessions connections have come and ended, the server ends.\n\
 \n\
@@ -50,9 +60,12 @@ const NO_FILE: &str =
 const BOTH: &str =
     "error: --script and --listen exclude each other\n\nFor more information, try '--help'.\n";
 
-/// What is said where one of the two is missing.
-const ALONE: &str =
-    "error: --listen and --sessions are given together\n\nFor more information, try '--help'.\n";
+/// What is said where there is a port, and no number of connections.
+const NO_SESSIONS: &str =
+    "error: --listen needs --sessions\n\nFor more information, try '--help'.\n";
+
+/// What is said where there is a number of connections, and no port.
+const NO_LISTEN: &str = "error: --sessions needs --listen\n\nFor more information, try '--help'.\n";
 
 /// What is said of a port that is none.
 const NO_PORT: &str =
@@ -237,8 +250,8 @@ fn mode_of<'a>(texts: Texts<'a>) -> Result<Mode<'a>, &'static str>
         (script, None, None) => Ok(Mode::Script(script)),
         (None, Some(listen), Some(sessions)) => listen_mode(listen, sessions),
         (Some(_), Some(_), Some(_)) => Err(BOTH),
-        (_, Some(_), None) => Err(ALONE),
-        (_, None, Some(_)) => Err(ALONE),
+        (_, Some(_), None) => Err(NO_SESSIONS),
+        (_, None, Some(_)) => Err(NO_LISTEN),
     }
 }
 

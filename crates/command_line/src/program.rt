@@ -1,5 +1,5 @@
 //! What the program does with its words and streams.
-ghost use Rattle.std.specs.Prelude.{◌≡◌, ◌≤◌, ℕ, List, IfOk, IfErr, OnOk, map, option_map, true, false};
+ghost use Rattle.std.specs.Prelude.{◌≡◌, ◌≤◌, ℕ, List, IfOk, IfErr, OnOk, length, map, option_map, true, false};
 ghost use Rattle.std.specs.Io.KnownBytes.{Appends};
 ghost use Rattle.clap.specs.Words.{IsAmong, Text, kind_of};
 ghost use Rattle.histories.specs.History.{History};
@@ -102,17 +102,30 @@ where
     }
 }
 
-/// Writes the text of help or of the version.
+/// Writes the text of help or of the version. One that is empty is as one for which memory ran out.
 fn show<O: Write>(alloc: Global, out: &mut O, error: &clap::Error) -> Result<(), Fault>
-    ensures ok { OnOk result ((text : List ℕ)
+    ensures ok { OnOk result ((text : List ℕ) × (1 ≤ length text)
         × Appends (O.contents out.old) (O.contents out.new) text) }
     ensures err { IfErr result (λ fault.
         IsUnshown fault (O.contents out.old) (O.contents out.new)) }
 {
     match format!(in alloc; "{error}") {
-        Ok(text) => print(out, text.as_str().as_bytes()),
+        Ok(text) => print_some(out, text.as_str().as_bytes()),
         Err(_) => Err(Fault::Memory),
     }
+}
+
+/// Writes a text that is not empty. `Memory` if it is.
+fn print_some<O: Write>(out: &mut O, text: &[u8]) -> Result<(), Fault>
+    ensures ok { OnOk result ((1 ≤ length text.now)
+        × Appends (O.contents out.old) (O.contents out.new) text.now) }
+    ensures err { IfErr result (λ fault.
+        IsUnshown fault (O.contents out.old) (O.contents out.new)) }
+{
+    if text.is_empty() {
+        return Err(Fault::Memory);
+    }
+    print(out, text)
 }
 
 /// Writes help or the version, which are not faults.

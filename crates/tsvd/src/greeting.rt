@@ -3,9 +3,9 @@ use std::io;
 use std::io::{IsTerminal, Read, Write};
 use std::rt::{Stderr, Stdin};
 
-/// How a line begins, and how to get help.
+/// How a line begins, how to leave, and how to get help.
 const GREETING: &str =
-    "tsvd: a line is a session's number, a colon and a statement, like 1: BEGIN; tsvd --help says more";
+    "tsvd: a line is a session's number, a colon and a statement, like 1: BEGIN; Ctrl-D ends; tsvd --help says more";
 
 /// Standard input. Where it is a terminal, the first read is preceded by a line on standard error.
 #[derive(Drop)]
