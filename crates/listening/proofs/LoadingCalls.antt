@@ -1,11 +1,11 @@
 -- A load, from what its calls do.
 use Rattle.std.proofs.Common.{◌≡◌, ◌≢◌, ℕ, List, [], ◌∷◌, Option, Some, None, sym, ap, ◌∙◌, subst, inl, inr}
-use Rattle.std.specs.Prelude.{◌⊎◌, Result, Ok, Err, IfOk}
+use Rattle.std.specs.Prelude.{◌⊎◌, Result, Ok, Err, IfErr, IfOk}
 use Rattle.values.specs.Log.{Changes, Net, Row}
 use Rattle.values.specs.Tables.{Schema}
 use Rattle.values.specs.Writes.{Own}
 use Rattle.values.specs.declared.refusal.Refusal.{Refusal}
-use Rattle.values.specs.declared.refusal.Refusal.TheVariants.{Memory}
+use Rattle.values.specs.declared.refusal.Refusal.TheVariants.{Memory, NoTransaction}
 use Rattle.tsbtree.specs.View.{TreeState}
 use Rattle.staging.specs.View.{Holds}
 use Rattle.staging.specs.Own.{net_over, own}
@@ -19,7 +19,11 @@ use Rattle.sessions.specs.SessionState.{IsWrite, SessionState, WithWrites, with_
 use Rattle.sessions.specs.Store.{IsBegun, begun_with}
 use Rattle.serving.specs.Progress.{Given}
 use Rattle.serving.proofs.AnswerRefusing.{memory_or_reply}
-use Rattle.listening.specs.Loading.{HasEnded, IsLoadedBy, IsUnloaded, Inserts, unbegun}
+use Rattle.listening.specs.Loading.{HasEnded, IsLoadedBy, IsRefusedInsert, IsRoom, IsUnended, IsUnloaded, Inserts, unbegun}
+
+pub if_err : {A E : Type 0} (r : Result A E) (P Q : E → Type 0) → ((x : E) → P x → Q x) → IfErr r P → IfErr r Q
+if_err (Ok x) P Q f p = tt
+if_err (Err e) P Q f p = f e p
 
 pub if_ok : {A E : Type 0} (r : Result A E) (P Q : A → Type 0) → ((x : A) → P x → Q x) → IfOk r P → IfOk r Q
 if_ok (Ok x) P Q f p = f x p
@@ -101,9 +105,15 @@ without_third (inl a) = inl a
 without_third (inr p) = inr p.0
 
 -- an INSERT that is refused in a session that has begun
-pub insert_refused : (schema : Schema) (table : ℕ) (rows : List Row) (s t : SessionState) (number : ℕ) (entry : Entry) (refusal : Refusal)
-    → IsBegun (unbegun schema) s number entry → IsWrite (Insert s.number table rows) s t (Err refusal) → IsUnloaded schema table rows refusal
-insert_refused schema table rows s t number entry refusal begun wrote = by (without_third (memory_or_reply refusal))
+pub insert_refused : (schema : Schema) (table : ℕ) (rows : List Row) (s t : SessionState) (number : ℕ) (entry : Entry) (refusal : Refusal) (receipts : List Given)
+    → IsBegun (unbegun schema) s number entry → IsWrite (Insert s.number table rows) s t (Err refusal) → receipts ≡ record { number = number; entry = entry } ∷ [] → IsUnloaded schema table rows refusal receipts
+insert_refused schema table rows s t number entry refusal receipts begun wrote are = inr (inl (record {
+  begin = number;
+  earlier = begun.earlier;
+  view = begun.view;
+  why = by (without_third (memory_or_reply refusal));
+  receipts_are = are ∙ (λ k. record { number = number; entry = begun.entry_is k } ∷ []);
+}))
   where
     before : SessionState
     before = record { number = 0; schema = schema; receipt = number; transaction = Some (begun_with number begun.earlier begun.view) }
@@ -115,6 +125,31 @@ insert_refused schema table rows s t number entry refusal begun wrote = by (with
     writes : IsWrite (Insert 0 table rows) before t (Err refusal)
     writes = subst (λ s. IsWrite (Insert s.number table rows) s t (Err refusal)) begun.session_is wrote
 
-    by : (refusal ≡ Memory) ⊎ (refusal ≢ Memory) → IsUnloaded schema table rows refusal
-    by (inl e) = inl (inr (inr e))
-    by (inr other) = inr (begun.shows.0, sym (ap (λ p. p.0) (writes begun.shows.0 begun.shows.1 (λ e. other (ap refusal_in e)))))
+    by : (refusal ≡ Memory) ⊎ (refusal ≢ Memory) → IsRefusedInsert schema begun.view table rows refusal ⊎ ((refusal ≡ NoTransaction) ⊎ IsRoom refusal)
+    by (inl e) = inr (inr (inr e))
+    by (inr other) = inl (record {
+      m = begun.shows.0;
+      holds = begun.shows.1;
+      refused = sym (ap (λ p. p.0) (writes begun.shows.0 begun.shows.1 (λ e. other (ap refusal_in e))));
+    })
+
+-- a commit that did not end at an instant, in a session that has begun
+pub unended_unloaded : (schema : Schema) (table : ℕ) (rows : List Row) (s : SessionState) (number : ℕ) (entry : Entry) (refusal : Refusal) (receipts : List Given)
+    → IsBegun (unbegun schema) s number entry → IsUnended (record { number = number; entry = entry }) refusal receipts → IsUnloaded schema table rows refusal receipts
+unended_unloaded schema table rows s number entry refusal receipts begun (inl (why, are)) = inr (inl (record {
+  begin = number;
+  earlier = begun.earlier;
+  view = begun.view;
+  why = inr why;
+  receipts_are = are ∙ (λ k. record { number = number; entry = begun.entry_is k } ∷ []);
+}))
+unended_unloaded schema table rows s number entry refusal receipts begun (inr (why, rest)) = inr (inr (record {
+  begin = number;
+  earlier = begun.earlier;
+  view = begun.view;
+  end = rest.0;
+  entry = rest.1;
+  why = why;
+  no_instant = rest.2;
+  receipts_are = rest.3 ∙ (λ k. record { number = number; entry = begun.entry_is k } ∷ record { number = rest.0; entry = rest.1 } ∷ []);
+}))

@@ -63,16 +63,60 @@ IsLoaded schema table [] receipts instant = (receipts ≡ []) × (instant ≡ 0)
 IsLoaded schema table (row ∷ rows) receipts instant =
     IsLoadedBy schema table (row ∷ rows) receipts instant
 
--- the INSERT of the rows over some changes is refused for this
-abbrev pub IsRefusedInsert : Schema → ℕ → List Row → Refusal → Type 0
-IsRefusedInsert schema table rows refusal =
-    (m : Changes)
-    × ((write_by schema (Insert 0 table rows) (misfit schema (Insert 0 table rows))
-    (Some (own m []))).0
-    ≡ Err refusal)
+-- ---- why rows are not loaded, by the receipts that were taken before
 
--- why rows are not loaded: there is no room, the commit has nothing to end, or the INSERT is refused
-abbrev pub IsUnloaded : Schema → ℕ → List Row → Refusal → Type 0
-IsUnloaded schema table rows refusal =
-    ((refusal ≡ NoTransaction) ⊎ ((refusal ≡ JournalFull) ⊎ (refusal ≡ Memory)))
-    ⊎ IsRefusedInsert schema table rows refusal
+-- the INSERT of the rows is refused for this over what a view shows
+pub record IsRefusedInsert (schema : Schema) (view : TreeState) (table : ℕ) (rows : List Row)
+    (refusal : Refusal) : Type 0 where
+  pub m : Changes
+  pub holds : Holds schema view m
+  pub refused : (write_by schema (Insert 0 table rows) (misfit schema (Insert 0 table rows))
+      (Some (own m []))).0
+      ≡ Err refusal
+
+-- there is no room
+abbrev pub IsRoom : Refusal → Type 0
+IsRoom refusal = (refusal ≡ JournalFull) ⊎ (refusal ≡ Memory)
+
+-- with no receipt: no transaction was begun, since there is no room
+pub record IsUnbegun (refusal : Refusal) (receipts : List Given) : Type 0 where
+  pub why : IsRoom refusal
+  pub receipts_are : receipts ≡ []
+
+-- with the receipt of the begin: the INSERT is refused over what the begin shows; or the transaction
+-- is not committed, since there is no room or it is not open at the store
+pub record IsUncommitted (schema : Schema) (table : ℕ) (rows : List Row) (refusal : Refusal)
+    (receipts : List Given) : Type 0 where
+  pub begin : ℕ
+  pub earlier : ℕ
+  pub view : TreeState
+  pub why : IsRefusedInsert schema view table rows refusal
+      ⊎ ((refusal ≡ NoTransaction) ⊎ IsRoom refusal)
+  pub receipts_are : receipts ≡ record { number = begin; entry = Begin 0 earlier view } ∷ []
+
+-- with the receipts of the begin and of its commit: the commit has no instant
+pub record IsWithoutInstant (refusal : Refusal) (receipts : List Given) : Type 0 where
+  pub begin : ℕ
+  pub earlier : ℕ
+  pub view : TreeState
+  pub end : ℕ
+  pub entry : Entry
+  pub why : refusal ≡ NoTransaction
+  pub no_instant : (instant : ℕ) → IsCommitAt entry instant → ⊥
+  pub receipts_are : receipts ≡
+      record { number = begin; entry = Begin 0 earlier view }
+      ∷ record { number = end; entry = entry } ∷ []
+
+-- a session's transaction was not committed at an instant: the receipt of its begin, and that of its
+-- commit where it has one
+abbrev pub IsUnended : Given → Refusal → List Given → Type 0
+IsUnended begun refusal receipts =
+    (((refusal ≡ NoTransaction) ⊎ IsRoom refusal) × (receipts ≡ begun ∷ []))
+    ⊎ ((refusal ≡ NoTransaction)
+    × ((end : ℕ) × (entry : Entry) × ((instant : ℕ) → IsCommitAt entry instant → ⊥)
+    × (receipts ≡ begun ∷ record { number = end; entry = entry } ∷ [])))
+
+abbrev pub IsUnloaded : Schema → ℕ → List Row → Refusal → List Given → Type 0
+IsUnloaded schema table rows refusal receipts =
+    IsUnbegun refusal receipts
+    ⊎ (IsUncommitted schema table rows refusal receipts ⊎ IsWithoutInstant refusal receipts)

@@ -151,7 +151,7 @@ IsOther (Listen fault) = Unit {0}
 abbrev pub IsRefusedFirst : Schema → Option TableRows → Refusal → Type 0
 IsRefusedFirst schema None refusal = ⊥
 IsRefusedFirst schema (Some first) refusal =
-    IsUnloaded schema first.number first.rows.items refusal
+    (receipts : List Given) × IsUnloaded schema first.number first.rows.items refusal receipts
 
 -- nothing was loaded and written, or a prefix of the report
 abbrev pub HasNoFirst : ServerFault → Schema → Option TableRows

@@ -3,51 +3,56 @@ ghost use Rattle.std.specs.Prelude.{◌≡◌, All, IfOk, Some};
 ghost use Rattle.book.specs.Book.{IsBook};
 ghost use Rattle.journal.specs.Entries.{entry_at};
 
+use crate::acceptor::{Acceptor, refuse};
 use crate::clock::Microseconds;
+use crate::guarded::Guarded;
 use crate::migration::{Call, WakingGate, run_rounds};
+use crate::pile::{Pile, hand_over};
 use book::Closed;
-use crossbeam_channel::Sender;
+use crossbeam_channel::{Receiver, Sender};
 use growlog::StoreName;
 use journal::Receipt;
-use serving::serve_session;
-use sessions::{Gate, LockedStore};
+use serving::{End, Served, serve_session};
+use sessions::{Gate, LockedStore, Unclosed};
+use statement::print_refusal;
 use std::alloc::{AllocError, Global};
-use std::io::BufWriter;
-use std::net::{Net, OpenListener, TcpListener, TcpStream};
-use std::sync::Wait;
+use std::io::{BufWriter, Write};
+use std::net::{Net, OpenStream, TcpListener, TcpStream};
+use std::sync::{Mutex, Wait};
 use std::thread;
 use std::thread::Threads;
 use std::time::Clock;
+use values::Refusal;
 
 /// Why sessions were not served to a closed store.
 #[derive(Clone, Copy, Debug, PartialEq, Eq)]
 pub enum ListenFault {
-    /// The port could not be listened at, or a connection not be taken.
+    /// The port could not be listened at.
     Socket,
-    /// Memory ran out, or a thread could not be made.
+    /// Memory ran out before the first connection was taken.
     Memory,
     /// The receipts are not those of the store's entries, one for each.
     NotClosed,
 }
 
-impl From<AllocError> for ListenFault {
-    fn from(_: AllocError) -> ListenFault {
-        ListenFault::Memory
-    }
-}
+/// The most entries that a journal may have, and so the most receipts of a store.
+const MOST_RECEIPTS: usize = 1_000_000;
 
 /// Takes `sessions` connections, and serves the n-th as session n, from 1, in a thread of its own.
-/// When all have ended, the store is closed with their receipts and those of what was done before.
+/// Once the last one is taken, nobody listens any more. When all have ended, the store is closed
+/// with their receipts and those of what was done before.
 ///
 /// The closed store is a book (`IsBook`), and the receipts of what was done before are of its
 /// entries.
 ///
-/// A session that ends in a fault is not a fault here: its receipts count, and the others go on. If
-/// a connection cannot be taken, or a thread not made, the running sessions are waited for.
+/// A session that ends in a fault is not a fault here: its receipts count, and the others go on.
+/// Nor is a connection that cannot be served, as there is no memory, no thread or no descriptor for
+/// it: it is answered `E10 memory` where that can be sent, and counts as one of `sessions`. `Memory`
+/// if there is no room for the receipts before the first connection.
 pub fn listen<J, R, G>(
     rt: &R,
     alloc: Global,
-    listener: &TcpListener,
+    listener: TcpListener,
     sessions: u8,
     store: LockedStore<J>,
     before: Vec<Receipt<J>>,
@@ -62,23 +67,51 @@ where
         entry_at c.entries r.number ≡ Some r.entry) before.items) }
 {
     let mut receipts = before;
-    let mut others = serve_connections(rt, alloc, listener, sessions, &store, gate)?;
-    receipts.append(&mut others)?;
+    // All room for receipts is made before a session runs. Nobody touches what is not used of it.
+    if receipts.reserve(MOST_RECEIPTS).is_err() {
+        return give_up(store, receipts, ListenFault::Memory);
+    }
+    let Ok(pile) = Vec::with_capacity(alloc, MOST_RECEIPTS) else {
+        return give_up(store, receipts, ListenFault::Memory);
+    };
+    let pile = Mutex::new(pile);
+    let served = serve_connections(rt, alloc, listener, sessions, &store, gate, &pile);
+    let mut others = pile.into_inner();
+    if served.is_err() || receipts.append(&mut others).is_err() {
+        let gone = store.give_up(receipts);
+        gone.end(others);
+        return Err(ListenFault::Memory);
+    }
+    others.destroy_empty();
     match store.close(receipts) {
         Ok(closed) => Ok(closed),
-        Err(_) => Err(ListenFault::NotClosed),
+        Err(Unclosed { store, receipts }) => give_up(store, receipts, ListenFault::NotClosed),
     }
 }
 
-/// Serves the connections, and returns the receipts of all sessions.
+/// Gives up a store, and its receipts with it, for a fault.
+fn give_up<J: StoreName>(
+    store: LockedStore<J>,
+    receipts: Vec<Receipt<J>>,
+    fault: ListenFault,
+) -> Result<Closed, ListenFault>
+    ensures { IfOk result (λ _. ⊥) }
+{
+    let _gone = store.give_up(receipts);
+    Err(fault)
+}
+
+/// Serves the connections, with rounds beside them, until all have ended, and has all their
+/// receipts handed over. An error comes before the first connection.
 fn serve_connections<J, R, G>(
     rt: &R,
     alloc: Global,
-    listener: &TcpListener,
+    listener: TcpListener,
     sessions: u8,
     store: &LockedStore<J>,
     gate: &G,
-) -> Result<Vec<Receipt<J>>, ListenFault>
+    pile: &Pile<J>,
+) -> Result<(), AllocError>
 where
     J: StoreName,
     R: Net<Listener = TcpListener, Stream = TcpStream> + Clock + Threads + Wait + Sync,
@@ -86,39 +119,37 @@ where
 {
     let (calls, called) = crossbeam_channel::unbounded::<Call, Global>(alloc)?;
     thread::scope(thread::scope_env(), rt, move |scope| {
-        let Ok(rounds) = scope.spawn(move || run_rounds(rt, alloc, store, gate, called)) else {
-            return Err(ListenFault::Memory);
-        };
-        let mut receipts = Vec::new(alloc);
-        let mut handles = Vec::with_capacity(alloc, sessions as usize)?;
+        // Without a thread for them there are no rounds, which no reply shows.
+        let _ = scope.spawn(move || run_rounds(rt, alloc, store, gate, called, pile));
+        let mut acceptor = Acceptor::new(listener);
         for turn in 0..sessions {
             let number = turn + 1;
-            let Ok((stream, _peer)) = listener.accept() else {
-                return Err(ListenFault::Socket);
+            let Some(stream) = acceptor.accept() else {
+                continue;
             };
-            let calls = calls.clone()?;
-            match scope.spawn(move || serve_stream(
-                rt, alloc, store, gate, calls, &stream, number,
-            )) {
-                Ok(handle) => handles.push(handle).map_err(AllocError::from)?,
-                Err(_) => return Err(ListenFault::Memory),
+            let Ok(calls) = calls.clone() else {
+                refuse(&stream);
+                continue;
+            };
+            // By this a client is answered for which there is no thread.
+            let answer = stream.try_clone();
+            let served = scope.spawn(move || serve_stream(
+                rt, alloc, store, gate, calls, &stream, number, pile,
+            ));
+            if let (Err(_), Ok(stream)) = (served, answer) {
+                refuse(&stream);
             }
         }
-        while let Some(handle) = handles.pop() {
-            for receipt in handle.join(rt) {
-                receipts.push(receipt).map_err(AllocError::from)?;
-            }
-        }
-        // Nobody calls any more, so the rounds come to their end.
+        // Nobody listens any more. When the sessions have ended nobody calls, so the rounds come
+        // to their end.
+        drop(acceptor);
         drop(calls);
-        for receipt in rounds.join(rt)? {
-            receipts.push(receipt).map_err(AllocError::from)?;
-        }
-        Ok(receipts)
+        Ok(())
     })
 }
 
-/// Serves a connection, and returns the receipts that its session took.
+/// Serves a connection, and hands over the receipts that its session took. Where memory runs out
+/// before a line is taken, that is answered.
 fn serve_stream<J: StoreName, R: Clock + Wait, G: Gate>(
     rt: &R,
     alloc: Global,
@@ -127,20 +158,21 @@ fn serve_stream<J: StoreName, R: Clock + Wait, G: Gate>(
     calls: Sender<Call, Global>,
     stream: &TcpStream,
     number: u8,
-) -> Vec<Receipt<J>> {
+    pile: &Pile<J>,
+) {
     let Ok(mut session) = store.session(alloc, number) else {
-        return Vec::new(alloc);
+        return refuse(stream);
     };
     // A reply is sent at once, whether or not what was sent before has arrived. Where that cannot
     // be set, it is sent all the same.
     let _ = stream.set_nodelay(true);
     let Ok(mut writer) = BufWriter::new(alloc, stream) else {
-        return Vec::new(alloc);
+        return refuse(stream);
     };
-    let mut reader = stream;
+    let mut reader = Guarded::new(stream);
     let mut readings = Microseconds { rt };
     let gate = WakingGate::new(gate, calls);
-    let served = serve_session(
+    let Served { receipts, end } = serve_session(
         rt,
         alloc,
         &mut reader,
@@ -150,5 +182,9 @@ fn serve_stream<J: StoreName, R: Clock + Wait, G: Gate>(
         &gate,
         &mut readings,
     );
-    served.receipts
+    if end == End::Memory {
+        let _ = print_refusal(&mut writer, &Refusal::Memory);
+        let _ = writer.flush();
+    }
+    hand_over(rt, pile, receipts);
 }

@@ -1,17 +1,20 @@
 //! Sessions over sockets of 127.0.0.1, each served in a thread of its own round one store.
 #![tactic(auto)]
 
+mod acceptor;
 mod always_open;
 mod clock;
 mod connection;
+mod guarded;
 mod loading;
 mod migration;
+mod pile;
 mod server;
 mod socket;
 
 pub use always_open::AlwaysOpen;
 pub use clock::Microseconds;
 pub use connection::{ListenFault, listen};
-pub use loading::{Loaded, load_into};
+pub use loading::{Loaded, Unloaded, load_into};
 pub use server::{Plan, ServerFault, TableRows, serve};
 pub use socket::bind;

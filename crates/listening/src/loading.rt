@@ -1,39 +1,47 @@
 //! Rows that a store has before the first connection.
-ghost use Rattle.std.specs.Prelude.{◌≡◌, ◌∷◌, [], IfOk, IfErr, IsSome, map};
-ghost use Rattle.values.specs.Memory.{OnlyMemory};
-ghost use Rattle.sessions.specs.Store.{IsBegun, OnlyRoomOrNone};
-ghost use Rattle.listening.specs.Loading.{HasEnded, IsCommitAt, IsLoaded, IsLoadedBy, IsUnloaded, unbegun};
+ghost use Rattle.std.specs.Prelude.{◌≡◌, ◌≤◌, ℕ, [], IfErr, IfOk, IfSome, IsSome, None, map, vec_capacity};
+ghost use Rattle.sessions.specs.Store.{IsBegun};
+ghost use Rattle.listening.specs.Loading.{HasEnded, IsCommitAt, IsLoaded, IsLoadedBy, IsUnended, IsUnloaded, unbegun};
 
 use growlog::StoreName;
 use journal::{Entry, Receipt};
 use sessions::{LockedStore, Session};
 use std::alloc::Global;
 use std::sync::Wait;
-use values::{Instant, Mem, Refusal, Row, Write};
+use values::{Instant, Refusal, Row, Write};
 
 /// What a load left: its receipts, and the instant of its commit, 0 where there was none.
-#[derive(Drop)]
 pub struct Loaded<J: StoreName> {
     pub receipts: Vec<Receipt<J>>,
     pub instant: Instant,
 }
 
+/// Why rows were not loaded, and the receipts that were taken before.
+pub struct Unloaded<J: StoreName> {
+    pub refusal: Refusal,
+    pub receipts: Vec<Receipt<J>>,
+}
+
+/// The receipts of a load: of its begin and of its commit.
+const MOST_RECEIPTS: usize = 2;
+
 /// Inserts rows of a table, by its number, in one transaction of session 0 that is committed at the
 /// reading 0. Without rows there is no transaction.
 ///
 /// It is refused as BEGIN and INSERT are, as COMMIT is if there is no room, and with
-/// `NoTransaction` if the commit has no instant. After a refusal the store is to be given up, since
-/// its receipts are lost.
+/// `NoTransaction` if the commit has no instant. A refusal comes with the receipts that were taken:
+/// none before the begin, then that of the begin, and with a commit that has no instant both.
 pub fn load_into<J: StoreName, R: Wait>(
     rt: &R,
     alloc: Global,
     store: &LockedStore<J>,
     table: u8,
     rows: &[Row],
-) -> Result<Loaded<J>, Refusal>
+) -> Result<Loaded<J>, Unloaded<J>>
     ensures ok { IfOk result (λ l. IsLoaded J.schema table rows.now
         (map (λ r. record { number = r.number; entry = r.entry }) l.receipts.items) l.instant) }
-    ensures err { IfErr result (IsUnloaded J.schema table rows.now) }
+    ensures err { IfErr result (λ u. IsUnloaded J.schema table rows.now u.refusal
+        (map (λ r. record { number = r.number; entry = r.entry }) u.receipts.items)) }
 {
     if rows.is_empty() {
         return Ok(Loaded {
@@ -41,70 +49,105 @@ pub fn load_into<J: StoreName, R: Wait>(
             instant: 0,
         });
     }
-    let mut session = store.session(alloc, 0)?;
-    let begun = store.begin(rt, &mut session)?;
-    load_begun(rt, alloc, store, &mut session, begun, table, rows)
+    let mut session = match store.session(alloc, 0) {
+        Ok(session) => session,
+        Err(refusal) => return unbegun(Vec::new(alloc), refusal),
+    };
+    let Ok(receipts) = Vec::with_capacity(alloc, MOST_RECEIPTS) else {
+        return unbegun(Vec::new(alloc), Refusal::Memory);
+    };
+    match store.begin(rt, &mut session) {
+        Ok(begun) => load_begun(rt, store, &mut session, begun, receipts, table, rows),
+        Err(refusal) => unbegun(receipts, refusal),
+    }
+}
+
+/// Returns a refusal without receipts.
+fn unbegun<J: StoreName>(
+    receipts: Vec<Receipt<J>>,
+    refusal: Refusal,
+) -> Result<Loaded<J>, Unloaded<J>>
+    requires { receipts.items ≡ [] }
+    ensures ok { IfOk result (λ _. ⊥) }
+    ensures err { IfErr result (λ u. (u.refusal ≡ refusal) × (u.receipts.items ≡ [])) }
+{
+    Err(Unloaded { refusal, receipts })
 }
 
 /// Inserts rows in a transaction that has just begun, and commits it.
 fn load_begun<J: StoreName, R: Wait>(
     rt: &R,
-    alloc: Global,
     store: &LockedStore<J>,
     session: &mut Session,
     begun: Receipt<J>,
+    receipts: Vec<Receipt<J>>,
     table: u8,
     rows: &[Row],
-) -> Result<Loaded<J>, Refusal>
+) -> Result<Loaded<J>, Unloaded<J>>
     requires begun { IsBegun (unbegun J.schema) session.old begun.number begun.entry }
+    requires none { receipts.items ≡ [] }
+    requires room { MOST_RECEIPTS ≤ vec_capacity receipts }
     ensures ok { IfOk result (λ l. IsLoadedBy J.schema table rows.now
         (map (λ r. record { number = r.number; entry = r.entry }) l.receipts.items) l.instant) }
-    ensures err { IfErr result (IsUnloaded J.schema table rows.now) }
+    ensures err { IfErr result (λ u. IsUnloaded J.schema table rows.now u.refusal
+        (map (λ r. record { number = r.number; entry = r.entry }) u.receipts.items)) }
 {
+    let mut receipts = receipts;
     match session.write(Write::Insert(table, rows)) {
-        Ok(_) => commit_begun(rt, alloc, store, session, begun),
-        Err(refusal) => Err(refusal),
+        Ok(_) => commit_begun(rt, store, session, begun, receipts),
+        Err(refusal) => {
+            receipts.push_reserved(begun);
+            Err(Unloaded { refusal, receipts })
+        }
     }
 }
 
 /// Commits a transaction at the reading 0.
 fn commit_begun<J: StoreName, R: Wait>(
     rt: &R,
-    alloc: Global,
     store: &LockedStore<J>,
     session: &mut Session,
     begun: Receipt<J>,
-) -> Result<Loaded<J>, Refusal>
+    receipts: Vec<Receipt<J>>,
+) -> Result<Loaded<J>, Unloaded<J>>
     requires tables { session.old.schema ≡ J.schema }
     requires open { IsSome session.old.transaction }
+    requires none { receipts.items ≡ [] }
+    requires room { MOST_RECEIPTS ≤ vec_capacity receipts }
     ensures ok { IfOk result (λ l. HasEnded session.old
         (record { number = begun.number; entry = begun.entry })
         (map (λ r. record { number = r.number; entry = r.entry }) l.receipts.items) l.instant) }
-    ensures err { OnlyRoomOrNone result }
+    ensures err { IfErr result (λ u. IsUnended
+        (record { number = begun.number; entry = begun.entry }) u.refusal
+        (map (λ r. record { number = r.number; entry = r.entry }) u.receipts.items)) }
 {
-    let done = store.commit(rt, session, 0)?;
-    let instant = commit_instant(done.entry.entry())?;
-    let receipts = pair(alloc, begun, done)?;
-    Ok(Loaded { receipts, instant })
+    let mut receipts = receipts;
+    receipts.push_reserved(begun);
+    let done = match store.commit(rt, session, 0) {
+        Ok(done) => done,
+        Err(refusal) => return Err(Unloaded { refusal, receipts }),
+    };
+    let ended = commit_instant(done.entry.entry());
+    receipts.push_reserved(done);
+    match ended {
+        Some(instant) => Ok(Loaded { receipts, instant }),
+        None => Err(Unloaded {
+            refusal: Refusal::NoTransaction,
+            receipts,
+        }),
+    }
 }
 
-fn pair<J: StoreName>(alloc: Global, first: Receipt<J>, second: Receipt<J>) -> Mem<Vec<Receipt<J>>>
-    ensures ok { IfOk result (λ v. v.items ≡ first ∷ second ∷ []) }
-    ensures err { OnlyMemory result }
-{
-    Ok(vec![in alloc; first, second]?)
-}
-
-/// Returns the instant of a commit from its entry. `NoTransaction` if the entry has none.
-fn commit_instant(entry: &Entry) -> Result<Instant, Refusal>
-    ensures ok { IfOk result (IsCommitAt entry.now) }
-    ensures err { IfErr result (λ refusal. refusal ≡ Refusal.NoTransaction) }
+/// Returns the instant of a commit from its entry, if it has one.
+fn commit_instant(entry: &Entry) -> Option<Instant>
+    ensures some { IfSome result (IsCommitAt entry.now) }
+    ensures none { result ≡ None → (instant : ℕ) → IsCommitAt entry.now instant → ⊥ }
 {
     match entry {
         Entry::Commit {
             end: Ok(Some(instant)),
             ..
-        } => Ok(*instant),
-        _ => Err(Refusal::NoTransaction),
+        } => Some(*instant),
+        _ => None,
     }
 }

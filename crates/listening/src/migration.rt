@@ -1,12 +1,13 @@
 //! Rounds of the migrator beside the sessions.
 ghost use Rattle.std.specs.Prelude.{◌≡◌, None};
 
+use crate::pile::{Pile, hand_over};
 use crossbeam_channel::{Receiver, Sender};
 use growlog::StoreName;
 use journal::Receipt;
-use migrator::run_migrator;
+use migrator::{MigrateFault, run_migrator};
 use sessions::{Gate, LockedStore, Place, Session};
-use std::alloc::{AllocError, Global};
+use std::alloc::Global;
 use std::cell::Cell;
 use std::sync::Wait;
 use std::thread::Threads;
@@ -60,29 +61,28 @@ impl<G: Gate> Gate for WakingGate<'_, G> {
     }
 }
 
-/// Runs a round for each call, until there can be no more, and returns all receipts that were
-/// taken.
+/// Runs a round for each call, until there can be no more, and hands over the receipts of each.
+/// Where there is no memory for a session there are no rounds.
 pub(crate) fn run_rounds<J, R, G>(
     rt: &R,
     alloc: Global,
     store: &LockedStore<J>,
     gate: &G,
     calls: Receiver<Call, Global>,
-) -> Result<Vec<Receipt<J>>, AllocError>
+    pile: &Pile<J>,
+)
 where
     J: StoreName,
     R: Threads + Wait + Sync,
     G: Gate + Sync,
 {
-    let mut receipts = Vec::new(alloc);
     let Ok(mut service) = store.session(alloc, 0) else {
-        return Err(AllocError);
+        return;
     };
     for _call in calls.iter(rt) {
-        let mut taken = run_round(rt, alloc, store, &mut service, gate);
-        receipts.append(&mut taken)?;
+        let receipts = run_round(rt, alloc, store, &mut service, gate);
+        hand_over(rt, pile, receipts);
     }
-    Ok(receipts)
 }
 
 /// Runs one round, and returns its receipts, also if it was broken off.
@@ -102,6 +102,6 @@ where
 {
     match run_migrator(rt, alloc, store, service, WORKERS, gate) {
         Ok(receipts) => receipts,
-        Err(fault) => fault.receipts,
+        Err(MigrateFault { cause: _, receipts }) => receipts,
     }
 }

@@ -16,7 +16,7 @@ ghost use Rattle.listening.specs.Server.{EndsAfter, HasFirst, HasListened, HasNo
 
 use crate::always_open::AlwaysOpen;
 use crate::connection::{ListenFault, listen};
-use crate::loading::load_into;
+use crate::loading::{Loaded, Unloaded, load_into};
 use crate::socket::bind;
 use book::Closed;
 use growlog::{NewLog, StoreName};
@@ -59,6 +59,12 @@ pub struct Plan {
     pub port: u16,
     pub sessions: u8,
     pub export: Option<u8>,
+}
+
+/// Why a server stopped while it had receipts, and these.
+struct Stopped<J: StoreName> {
+    fault: ServerFault,
+    receipts: Vec<Receipt<J>>,
 }
 
 const OUT_OF_MEMORY: ServerFault = ServerFault::Listen(ListenFault::Memory);
@@ -116,7 +122,10 @@ where
     };
     let receipts = match load_first(rt, alloc, out, &store, first) {
         Ok(receipts) => receipts,
-        Err(fault) => return Err(fault),
+        Err(Stopped { fault, receipts }) => {
+            let _gone = store.give_up(receipts);
+            return Err(fault);
+        }
     };
     match serve_to_close(rt, alloc, out, plan, store, receipts) {
         Ok(closed) => close_with(alloc, out, &tables, plan.export, &closed),
@@ -131,11 +140,11 @@ fn load_first<J: StoreName, R: Wait, O: Write>(
     out: &mut O,
     store: &LockedStore<J>,
     first: Option<TableRows>,
-) -> Result<Vec<Receipt<J>>, ServerFault>
+) -> Result<Vec<Receipt<J>>, Stopped<J>>
     ensures ok { IfOk result (λ receipts. HasFirst J.schema first
         (map (λ r. record { number = r.number; entry = r.entry }) receipts.items)
         (O.contents out.old) (O.contents out.new)) }
-    ensures err { IfErr result (λ fault. HasNoFirst fault J.schema first
+    ensures err { IfErr result (λ stopped. HasNoFirst stopped.fault J.schema first
         (O.contents out.old) (O.contents out.new)) }
 {
     match first {
@@ -150,25 +159,45 @@ fn load_and_report<J: StoreName, R: Wait, O: Write>(
     out: &mut O,
     store: &LockedStore<J>,
     first: &TableRows,
-) -> Result<Vec<Receipt<J>>, ServerFault>
+) -> Result<Vec<Receipt<J>>, Stopped<J>>
     ensures ok { IfOk result (λ receipts. HasReported J.schema first.now
         (map (λ r. record { number = r.number; entry = r.entry }) receipts.items)
         (O.contents out.old) (O.contents out.new)) }
-    ensures err { IfErr result (λ fault. HasNoFirst fault J.schema (Some first.now)
+    ensures err { IfErr result (λ stopped. HasNoFirst stopped.fault J.schema (Some first.now)
         (O.contents out.old) (O.contents out.new)) }
 {
     let rows = first.rows.as_slice();
     let loaded = match load_into(rt, alloc, store, first.number, rows) {
         Ok(loaded) => loaded,
-        Err(refusal) => return Err(ServerFault::Load(refusal)),
+        Err(Unloaded { refusal, receipts }) => {
+            let fault = ServerFault::Load(refusal);
+            return Err(Stopped { fault, receipts });
+        }
     };
     let Ok(line) = loaded_line(alloc, rows.len(), loaded.instant) else {
-        return Err(OUT_OF_MEMORY);
+        let fault = OUT_OF_MEMORY;
+        let receipts = receipts_of(loaded);
+        return Err(Stopped { fault, receipts });
     };
     match print_whole(out, line.as_slice()) {
-        Ok(()) => Ok(loaded.receipts),
-        Err(_) => Err(ServerFault::Write),
+        Ok(()) => Ok(receipts_of(loaded)),
+        Err(_) => {
+            let fault = ServerFault::Write;
+            let receipts = receipts_of(loaded);
+            Err(Stopped { fault, receipts })
+        }
     }
+}
+
+/// Returns the receipts of a load.
+fn receipts_of<J: StoreName>(loaded: Loaded<J>) -> Vec<Receipt<J>>
+    ensures { result.items ≡ loaded.receipts.items }
+{
+    let Loaded {
+        receipts,
+        instant: _,
+    } = loaded;
+    receipts
 }
 
 /// Writes a label and a number as a line.
@@ -212,16 +241,20 @@ where
         × StopsListening (O.contents out.old) (O.contents out.new)) }
 {
     let Ok((listener, port)) = bind(rt, plan.port) else {
+        let _gone = store.give_up(receipts);
         return Err(ServerFault::Listen(ListenFault::Socket));
     };
     match report(alloc, out, b"listening ", u64::from(port)) {
         Ok(()) => {}
-        Err(fault) => return Err(fault),
+        Err(fault) => {
+            let _gone = store.give_up(receipts);
+            return Err(fault);
+        }
     }
     match listen(
         rt,
         alloc,
-        &listener,
+        listener,
         plan.sessions,
         store,
         receipts,

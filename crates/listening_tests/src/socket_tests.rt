@@ -77,6 +77,27 @@ fn hire_ann<J: StoreName, R: Abort + Wait>(
     receipts.push(done).expect(rt, "there is memory");
 }
 
+/// A store that is to be served, with the receipts of what was done before. A closure cannot hold
+/// them, so it takes them out of here.
+type Held<J> = Mutex<Option<(LockedStore<J>, Vec<Receipt<J>>)>>;
+
+/// Serves two connections, and returns how many entries the store closes with.
+fn serve_held<J: StoreName, R, G>(
+    rt: &R,
+    alloc: Global,
+    listener: TcpListener,
+    held: &Held<J>,
+    gate: &G,
+) -> usize
+where
+    R: Abort + Net<Listener = TcpListener, Stream = TcpStream> + Clock + Threads + Wait + Sync,
+    G: Gate + Sync,
+{
+    let (store, before) = held.lock(rt).take().expect(rt, "it is held");
+    let closed = listen(rt, alloc, listener, 2, store, before, gate);
+    closed.expect(rt, "the store closes").entries()
+}
+
 /// What clients are sent by a store that is served to two, and how many entries it closes with.
 fn serve_two<J: StoreName, R, G>(
     rt: &R,
@@ -92,13 +113,18 @@ where
     let mut before = Vec::new(alloc);
     hire_ann(rt, alloc, &store, &mut before);
     let (listener, port) = bind(rt, 0).expect(rt, "it listens");
-    thread::scope(thread::scope_env(), rt, |scope| {
+    let held = Mutex::new(Some((store, before)));
+    let shared = &held;
+    let found = thread::scope(thread::scope_env(), rt, |scope| {
         let clients = scope.spawn(move || run_play(rt, alloc, port, play));
-        let closed = listen(rt, alloc, &listener, 2, store, before, gate);
-        let entries = closed.expect(rt, "the store closes").entries();
+        let entries = serve_held(rt, alloc, listener, shared, gate);
         let clients = clients.expect(rt, "a thread starts");
         (clients.join(rt), entries)
-    })
+    });
+    if let Some((store, before)) = held.into_inner() {
+        let _gone = store.give_up(before);
+    }
+    found
 }
 
 /// The same of a store that is new, with one employee.

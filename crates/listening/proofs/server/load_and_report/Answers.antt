@@ -1,18 +1,20 @@
-use Rattle.std.proofs.Common.{◌∙◌, ap, length, map, refl, subst}
+use Rattle.std.proofs.Common.{◌∙◌, List, ap, length, map, refl, subst}
 use Rattle.statement.specs.Writer.{AppendsPrefix}
 use Rattle.interchange.specs.Report.{loaded_text}
 use Rattle.serving.specs.Progress.{Given}
 use Rattle.listening.specs.Loading.{IsLoaded}
 use Rattle.listening.proofs.server.load_and_report.Goals as goal
 
-pub returns-in-Err-print_whole-clause-err : goal.returns-in-Err-print_whole-clause-err
-returns-in-Err-print_whole-clause-err g c = record {
-  rows = c.args.first.now;
-  first_is = refl;
-  receipts = map (λ r. record { number = r.number; entry = r.entry }) c.in-Ok.loaded.receipts.items;
-  instant = c.in-Ok.loaded.instant;
-  loaded = subst (λ rows. IsLoaded g.J.StoreName.schema c.args.first.now.number rows (map {B = Given} (λ r. record { number = r.number; entry = r.entry }) c.in-Ok.loaded.receipts.items) c.in-Ok.loaded.instant) c.as_slice-rows.ensures.value c.in-Ok.ensures.ok;
-  wrote = subst (AppendsPrefix (g.O.Write.contents c.args.out.now) (g.O.Write.contents c.print_whole.new.out))
-      (c.as_slice.ensures.value ∙ c.in-Ok-loaded_line.ensures ∙ ap (λ rows. loaded_text (length rows) c.in-Ok.loaded.instant) c.as_slice-rows.ensures.value)
-      c.in-Err-print_whole.ensures;
-}
+pub returns-clause-err : goal.returns-clause-err
+returns-clause-err g c =
+    let given : List Given = map (λ r. record { number = r.number; entry = r.entry }) c.in-Ok.loaded.receipts.items in
+    record {
+      rows = c.args.first.now;
+      first_is = refl;
+      receipts = given;
+      instant = c.in-Ok.loaded.instant;
+      loaded = subst (λ rows. IsLoaded g.J.StoreName.schema c.args.first.now.number rows given c.in-Ok.loaded.instant) c.as_slice-rows.ensures.value c.in-Ok.ensures.ok;
+      wrote = subst (AppendsPrefix (g.O.Write.contents c.args.out.now) (g.O.Write.contents c.print_whole.new.out))
+          (c.as_slice.ensures.value ∙ c.in-Ok-loaded_line.ensures ∙ ap (λ rows. loaded_text (length rows) c.in-Ok.loaded.instant) c.as_slice-rows.ensures.value)
+          c.in-Err-print_whole.ensures;
+    }

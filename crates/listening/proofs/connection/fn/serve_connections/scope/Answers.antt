@@ -1,7 +1,7 @@
 use denote.Param.Send.{IsSend, IsSync, sendable}
 use Rattle.std.proofs.Common.{rules}
 use Rattle.std.proofs.Crossing.{crosses}
-use Rattle.sessions.proofs.StoreCrossing.{receipt_send, receipt_field_send, store_sync}
+use Rattle.sessions.proofs.StoreCrossing.{store_sync, receipt_send, receipt_field_send}
 use Rattle.listening.proofs.connection.fn.serve_connections.scope.Goals as goal
 
 pub spawn-requires-send-F : goal.spawn-requires-send-F
@@ -9,23 +9,11 @@ spawn-requires-send-F g c κs = λ within.
     let named : IsSend g.row.J = search (rules, c.requires) parts 8 in
     let handle : IsSync g.row.R = search (rules, c.requires) parts 8 in
     let gate : IsSync g.row.G = search (rules, c.requires) parts 8 in
-    search (store_sync, sendable, crosses) depth 60 fits 20000
+    search (store_sync, receipt_send, receipt_field_send, sendable, crosses) depth 60 fits 20000
 
-pub spawn-requires-send-T : goal.spawn-requires-send-T
-spawn-requires-send-T g c κs = λ within.
-    let named : IsSend g.row.J = search (rules, c.requires) parts 8 in
-    let handle : IsSync g.row.R = search (rules, c.requires) parts 8 in
-    search (receipt_send, receipt_field_send, sendable, crosses) depth 60 fits 20000
-
-pub spawn-requires-in-loop-turn-send-F : goal.spawn-requires-in-loop-turn-send-F
-spawn-requires-in-loop-turn-send-F g c κs = λ within.
+pub spawn-served-requires-send-F : goal.spawn-served-requires-send-F
+spawn-served-requires-send-F g c κs = λ within.
     let named : IsSend g.row.J = search (rules, c.requires) parts 8 in
     let handle : IsSync g.row.R = search (rules, c.requires) parts 8 in
     let gate : IsSync g.row.G = search (rules, c.requires) parts 8 in
-    search (store_sync, sendable, crosses) depth 60 fits 20000
-
-pub spawn-requires-in-loop-turn-send-T : goal.spawn-requires-in-loop-turn-send-T
-spawn-requires-in-loop-turn-send-T g c κs = λ within.
-    let named : IsSend g.row.J = search (rules, c.requires) parts 8 in
-    let handle : IsSync g.row.R = search (rules, c.requires) parts 8 in
-    search (receipt_send, receipt_field_send, sendable, crosses) depth 60 fits 20000
+    search (store_sync, receipt_send, receipt_field_send, sendable, crosses) depth 60 fits 20000

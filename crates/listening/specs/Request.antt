@@ -1,0 +1,16 @@
+-- Texts that begin as a request of HTTP does.
+use Rattle.std.specs.Prelude.{ℕ, List, Bool, ◌==◌, ◌||◌, codes}
+use Rattle.std.specs.List.{starts_with}
+
+-- the bytes begin with a word
+abbrev pub begins : List ℕ → List ℕ → Bool
+begins bytes word = starts_with (λ x y. x == y) bytes word
+
+-- a method and a blank; where the method is the first word of a statement too, the `/` of a path as well
+abbrev pub is_request : List ℕ → Bool
+is_request bytes =
+    begins bytes (codes "GET ") || begins bytes (codes "HEAD ")
+    || begins bytes (codes "POST ") || begins bytes (codes "PUT ")
+    || begins bytes (codes "OPTIONS ") || begins bytes (codes "CONNECT ")
+    || begins bytes (codes "TRACE ") || begins bytes (codes "PATCH ")
+    || begins bytes (codes "DELETE /")
