@@ -1,6 +1,7 @@
 /* Loaded before the C library under a program: refuses one request for memory, the one whose number, from 1, is in
-   REFUSE, and one thread, the one whose number, from 1, is in REFUSE_THREAD. Writes to the file named in TOLD how many
-   requests for memory there were. */
+   REFUSE, with LATER also all that come after it, and one thread, the one whose number, from 1, is in REFUSE_THREAD.
+   Writes to the file named in TOLD how many requests for memory there were. Threads may ask side by side: each request
+   has a number of its own. */
 #define _GNU_SOURCE
 #include <dlfcn.h>
 #include <errno.h>
@@ -16,8 +17,13 @@ extern void *__libc_realloc(void *old, size_t size);
 
 static atomic_ulong requests, threads;
 static unsigned long refused, refused_thread;
+static int and_later;
 
-static int is_refused(void) { return atomic_fetch_add(&requests, 1) + 1 == refused; }
+static int is_refused(void)
+{
+    unsigned long number = atomic_fetch_add(&requests, 1) + 1;
+    return number == refused || (and_later && refused && number > refused);
+}
 
 void *malloc(size_t size) { return is_refused() ? NULL : __libc_malloc(size); }
 
@@ -41,6 +47,7 @@ __attribute__((constructor)) static void begin(void)
 {
     refused = number_in("REFUSE");
     refused_thread = number_in("REFUSE_THREAD");
+    and_later = getenv("LATER") != NULL;
     atomic_store(&requests, 0);
 }
 
