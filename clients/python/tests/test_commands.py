@@ -47,12 +47,12 @@ class Stops(unittest.TestCase):
             with self.assertRaises(OperationalError):
                 use_sessions(server.port)
 
-    def test_a_server_with_sessions_of_others_is_not_said_to_have_ended(self):
+    def test_a_server_whose_sessions_are_taken_is_not_said_to_have_ended(self):
         with Server(sessions=2) as server:
             with tsvd.Session(server.port) as session:
                 session.ask("BEGIN")
                 self.assertEqual(use_session(server.port, LONGEST), WAS_LEFT)
-                with self.assertRaisesRegex(OperationalError, "used up 0 remaining"):
+                with self.assertRaisesRegex(OperationalError, "sessions are all taken"):
                     use_sessions(server.port, 0.2)
                 self.assertEqual(session.ask("ROLLBACK"), ["rolled back"])
             self.assertEqual(server.end(LONGEST), "closed 1\n")

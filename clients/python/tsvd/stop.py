@@ -10,7 +10,7 @@ from .errors import InterfaceError, OperationalError
 from .limits import MOST_SESSIONS
 from .protocol import HOST
 
-HAS_ENDED, WAS_LEFT, IS_HELD = "has ended", "was left", "is held"
+NONE_LISTENS, WAS_LEFT, IS_HELD = "none listens", "was left", "is held"
 
 
 def use_session(port: int, wait: float) -> str:
@@ -24,20 +24,20 @@ def use_session(port: int, wait: float) -> str:
     except socket.timeout:
         return IS_HELD
     except OSError:
-        return HAS_ENDED
+        return NONE_LISTENS
 
 
 def use_sessions(port: int, wait: float = 5.0) -> int:
-    """Uses up the remaining sessions until the server has ended, and returns how many there were."""
+    """Uses up the remaining sessions, behind which the server listens no more, and returns how many there were."""
     for used in range(MOST_SESSIONS + 1):
         found = use_session(port, wait)
-        if found == HAS_ENDED:
+        if found == NONE_LISTENS:
             if used == 0:
-                raise OperationalError(f"nothing listens at port {port}")
+                raise OperationalError(f"nothing listens at port {port}: there is no server, or its sessions are all "
+                                       "taken, and it ends with them")
             return used
         if found == IS_HELD:
-            raise OperationalError(f"used up {used} remaining sessions; the server will end when the other clients "
-                                   "close theirs")
+            raise OperationalError(f"used up {used} remaining sessions; the server did not answer the next one in time")
     raise OperationalError(f"the program at port {port} is not tsvd: it takes over {MOST_SESSIONS} connections")
 
 
