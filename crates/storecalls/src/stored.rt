@@ -26,9 +26,19 @@ pub(crate) fn answer_by_store<R: Threads + Wait + Sync, W: Write>(
     has_round: bool,
 ) -> Result<(), CallFault> {
     let schema = Schema::sample(alloc)?;
-    let tables = schema.copy(alloc)?;
-    let opened = NewLog::new();
-    answer_all::<Brand, R, W>(rt, alloc, out, text, schema, &tables, opened, has_round)
+    answer_with(rt, alloc, out, text, schema, has_round)
+}
+
+/// Answers each line of a text by a new store of these tables, and closes it.
+fn answer_with<R: Threads + Wait + Sync, W: Write>(
+    rt: &R,
+    alloc: Global,
+    out: &mut W,
+    text: &[u8],
+    schema: Schema,
+    has_round: bool,
+) -> Result<(), CallFault> {
+    answer_all::<Brand, R, W>(rt, alloc, out, text, schema, NewLog::new(), has_round)
 }
 
 fn answer_all<J: StoreName, R: Threads + Wait + Sync, W: Write>(
@@ -37,16 +47,16 @@ fn answer_all<J: StoreName, R: Threads + Wait + Sync, W: Write>(
     out: &mut W,
     text: &[u8],
     schema: Schema,
-    tables: &Schema,
     opened: NewLog<SharedEntry>,
     has_round: bool,
 ) -> Result<(), CallFault>
     requires log { opened.seen.book ≡ J.book }
     requires tables { schema ≡ J.schema }
 {
+    let tables = schema.copy(alloc)?;
     let store = LockedStore::<J>::new(alloc, schema, opened)?;
     let mut calls = begin_calls(alloc, &store)?;
-    answer_lines(rt, out, text, tables, &store, &mut calls);
+    answer_lines(rt, out, text, &tables, &store, &mut calls);
     let left = if has_round {
         pack_all(rt, alloc, out, &store, &mut calls)
     } else {
