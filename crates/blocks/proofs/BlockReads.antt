@@ -1,9 +1,11 @@
 -- Blocks read back, and nothing else is read.
-use Rattle.std.proofs.Common.{◌≡◌, ℕ, ◌^◌, ◌<◌, ◌≤◌, List, [], ◌∷◌, ◌++◌, Bool, true, false, if◌then◌else◌, Option, Some, None, length, get_or, refl, sym, subst, ap, ◌∙◌, arith, append-nil, All, IfSome, IfNone, IfOk, IsSome, inl, inr}
-use Rattle.std.specs.Prelude.{nat_le}
+use Rattle.std.proofs.Common.{◌≡◌, ℕ, ◌^◌, ◌<◌, ◌≤◌, List, [], ◌∷◌, ◌++◌, Bool, true, false, if◌then◌else◌, Option, Some, None, length, get_or, refl, sym, subst, ap, ◌∙◌, arith, append-nil, All, IfOk, IsSome, inl, inr, ◌⊎◌, take}
+use Rattle.std.specs.Prelude.{nat_le, ◌==◌}
 use Rattle.std.specs.declared.result.Result.{Result}
 use Rattle.std.specs.declared.result.Result.TheVariants.{Ok, Err}
 use Rattle.std.proofs.lemmas.Bool.{and_parts, leb-true, ltb-true}
+use Rattle.std.proofs.lemmas.Bool.Decides.{nat_tests}
+use Rattle.values.specs.Event.{Event}
 use Rattle.values.proofs.RowReads.{chosen, same_taken, AreBytes}
 use Rattle.keyrange.specs.Range.{is_before_end, is_early}
 use Rattle.keyrange.specs.Rect.{Area, IsArea, is_area, is_instant_end}
@@ -16,12 +18,13 @@ use Rattle.datanode.proofs.CutLaws.{in_cut_decides}
 use Rattle.blocks.specs.Event.{event_fields, events_from}
 use Rattle.blocks.specs.Rect.{rect_field, AreShortKeys}
 use Rattle.blocks.specs.Head.{head_from}
-use Rattle.blocks.specs.Block.{HasBlock, IsHeldNode, IsBlockOf}
+use Rattle.blocks.specs.Start.{first_mark, second_mark, greatest_width, is_right, start_field}
+use Rattle.blocks.specs.Block.{HasBlock, IsHeldNode, IsBlockOf, body_field, block_of, first_block_of}
 use Rattle.blocks.specs.Gather.{IsCountedNode, NoCountedNode}
-use Rattle.blocks.specs.Law.{OneNode, OneBlock}
+use Rattle.blocks.specs.Law.{OneNode, OneBlock, BothForms, OnlyGreatest}
 use Rattle.blocks.proofs.FieldReads.{bytes_behind}
 use Rattle.blocks.proofs.EventReads.{IsWritten, events_back, events_only}
-use Rattle.blocks.proofs.HeadReads.{IsPast, head_back, head_only}
+use Rattle.blocks.proofs.HeadReads.{head_back, head_only}
 
 -- ---- each event of a block reads back: its instant is one
 
@@ -60,59 +63,103 @@ written n h b k d lt =
 -- ---- what is read of a block
 
 pub record ReadsAs (bytes : List ℕ) (n : Node) : Type 0 where
-  pub head_is : head_from bytes ≡ Some ((n.rect, length n.events), event_fields n.events)
+  pub stated : Option ℕ
+  pub right : is_right stated n.events ≡ true
+  pub head_is : head_from bytes ≡ Some ((stated, (n.rect, length n.events)), event_fields n.events)
   pub events_are : events_from (length n.events) (event_fields n.events) ≡ Some (n.events, [])
 
+events_of : (n : Node) → IsHeldNode n → HasBlock n → events_from (length n.events) (event_fields n.events) ≡ Some (n.events, [])
+events_of n h b = ap (events_from (length n.events)) (sym (append-nil (event_fields n.events))) ∙ events_back n.events [] (written n h b)
+
+-- a node's body behind whatever is stated
+body_reads : (stated : Option ℕ) (n : Node) → IsHeldNode n → HasBlock n → head_from (start_field stated ++ body_field n) ≡ Some ((stated, (n.rect, length n.events)), event_fields n.events)
+body_reads stated n h b = head_back stated n.rect (length n.events) (event_fields n.events) (record { area = h.node.area; ends = b.is_past; short = h.keys })
+
+reads_by : (bytes : List ℕ) (stated : Option ℕ) (n : Node) → IsHeldNode n → HasBlock n → is_right stated n.events ≡ true → bytes ≡ start_field stated ++ body_field n → ReadsAs bytes n
+reads_by bytes stated n h b right is = record {
+  stated = stated;
+  right = right;
+  head_is = ap head_from is ∙ body_reads stated n h b;
+  events_are = events_of n h b;
+}
+
+same_width : (width : ℕ) → (width == width) ≡ true
+same_width width = grind (arith, nat_tests)
+
 pub block_reads : (bytes : List ℕ) (n : Node) → IsBlockOf bytes n → ReadsAs bytes n
-block_reads bytes n b =
-    let past : IsPast n.rect = record { area = b.held.node.area; ends = b.has_block.is_past; short = b.held.keys } in
-    record {
-      head_is = ap head_from b.bytes_are ∙ head_back n.rect (length n.events) (event_fields n.events) past;
-      events_are = ap (events_from (length n.events)) (sym (append-nil (event_fields n.events))) ∙ events_back n.events [] (written n b.held b.has_block);
-    }
+block_reads bytes n b = elim b.bytes_are [
+  | inl is ↦ reads_by bytes (Some (greatest_width n.events)) n b.held b.has_block (same_width (greatest_width n.events)) is
+  | inr is ↦ reads_by bytes None n b.held b.has_block refl is
+]
 
 -- ---- what is read is a block, and whose
 
-module _ (bytes : List ℕ) (r : Area) (k : ℕ) (left : List ℕ) (head : head_from bytes ≡ Some ((r, k), left)) where
-  pub found_is : AreBytes bytes → (m : Node) → IsCountedNode r k left m → IsBlockOf bytes m
-  found_is h m c =
-      let p = head_only bytes r k left h head in
-      let behind = bytes_behind (k ∷ left) (k ∷ []) left refl (bytes_behind bytes (rect_field r) (k ∷ left) p.spelled h) in
+stated_greatest : (width : ℕ) (es : List Event) → is_right (Some width) es ≡ true → width ≡ greatest_width es
+stated_greatest width es e = grind (arith, nat_tests)
+
+-- a node's body behind what is right is its block of one of the forms
+block_by : (bytes : List ℕ) (stated : Option ℕ) (n : Node) → is_right stated n.events ≡ true → bytes ≡ start_field stated ++ body_field n → (bytes ≡ block_of n) ⊎ (bytes ≡ first_block_of n)
+block_by bytes None n right is = inr is
+block_by bytes (Some width) n right is = inl (is ∙ ap (λ w. start_field (Some w) ++ body_field n) (stated_greatest width n.events right))
+
+module _ (bytes : List ℕ) (stated : Option ℕ) (r : Area) (k : ℕ) (left : List ℕ) (head : head_from bytes ≡ Some ((stated, (r, k)), left)) where
+  pub found_is : AreBytes bytes → (m : Node) → IsCountedNode r k left m → is_right stated m.events ≡ true → IsBlockOf bytes m
+  found_is h m c right =
+      let p = head_only bytes (stated, (r, k)) left h head in
+      let body = bytes_behind bytes (start_field stated) (rect_field r ++ k ∷ left) p.spelled h in
+      let behind = bytes_behind (k ∷ left) (k ∷ []) left refl (bytes_behind (rect_field r ++ k ∷ left) (rect_field r) (k ∷ left) refl body) in
       let a = events_only k left m.events [] behind c.events_are in
       let all : left ≡ event_fields m.events = a.all_spelled ∙ append-nil (event_fields m.events) in
+      let is : rect_field r ++ k ∷ left ≡ body_field m =
+      ap (λ l. rect_field r ++ l) (ap (λ n. n ∷ left) (sym a.counted) ∙ ap (λ l. length m.events ∷ l) all)
+      ∙ ap (λ (s : Area). rect_field s ++ (length m.events ∷ event_fields m.events)) (sym c.rect_is) in
       record {
         held = record { node = c.is_node; keys = subst (λ (s : Area). AreShortKeys s.keys) (sym c.rect_is) p.short; events = a.all_kept };
         has_block = record { is_past = subst (λ (s : Area). IsSome s.time.to) (sym c.rect_is) p.ends; few = subst (λ n. n ≤ capacity) (sym a.counted) c.few; instants = a.all_first };
-        bytes_are =
-            p.spelled ∙ ap (λ l. rect_field r ++ l) (ap (λ n. n ∷ left) (sym a.counted) ∙ ap (λ l. length m.events ∷ l) all)
-            ∙ ap (λ (s : Area). rect_field s ++ (length m.events ∷ event_fields m.events)) (sym c.rect_is);
+        bytes_are = block_by bytes stated m right (p.spelled ∙ ap (λ l. start_field stated ++ l) is);
       }
 
-  record SameParts (n : Node) : Type 0 where
+  record SameParts (n : Node) (x : Option ℕ) : Type 0 where
+    same_stated : stated ≡ x
     same_rect : r ≡ n.rect
     same_count : k ≡ length n.events
     same_left : left ≡ event_fields n.events
 
-  same_parts : (n : Node) → ReadsAs bytes n → SameParts n
+  same_parts : (n : Node) (a : ReadsAs bytes n) → SameParts n a.stated
   same_parts n a =
-      let two = same_taken (r, k) (n.rect, length n.events) left (event_fields n.events) (sym head ∙ a.head_is) in
-      record { same_rect = ap (λ (x : Area × ℕ). x.0) two.0; same_count = ap (λ (x : Area × ℕ). x.1) two.0; same_left = two.1 }
+      let two = same_taken (stated, (r, k)) (a.stated, (n.rect, length n.events)) left (event_fields n.events) (sym head ∙ a.head_is) in
+      record {
+        same_stated = ap (λ (x : Option ℕ × (Area × ℕ)). x.0) two.0;
+        same_rect = ap (λ (x : Option ℕ × (Area × ℕ)). x.1.0) two.0;
+        same_count = ap (λ (x : Option ℕ × (Area × ℕ)). x.1.1) two.0;
+        same_left = two.1;
+      }
 
   read_same : (n : Node) → ReadsAs bytes n → events_from k left ≡ Some (n.events, [])
   read_same n a =
       let s = same_parts n a in
       ap (λ k. events_from k left) s.same_count ∙ ap (events_from (length n.events)) s.same_left ∙ a.events_are
 
-  pub of_block : (o : Option Node) → IfSome o (IsCountedNode r k left) → IfNone o (NoCountedNode r k left) → (n : Node) → IsBlockOf bytes n → o ≡ Some n
-  of_block None some none n b =
+  -- the node of the block is the one that is found
+  pub same_node : (m : Node) → IsCountedNode r k left m → (n : Node) → IsBlockOf bytes n → m ≡ n
+  same_node m c n b =
       let a = block_reads bytes n b in
       let s = same_parts n a in
-      absurd (none n.events (subst (λ j. j ≤ capacity) (sym s.same_count) b.has_block.few) (read_same n a) (subst (λ q. IsNode q n.events) (sym s.same_rect) b.held.node))
-  of_block (Some m) some none n b =
+      let events : m.events ≡ n.events = (same_taken m.events n.events [] [] (sym c.events_are ∙ read_same n a)).0 in
+      ap (λ q. record { rect = q; events = m.events }) (c.rect_is ∙ s.same_rect) ∙ ap (λ es. record { rect = n.rect; events = es }) events
+
+  -- what is stated is right of it
+  pub right_of : (n : Node) → IsBlockOf bytes n → is_right stated n.events ≡ true
+  right_of n b =
+      let a = block_reads bytes n b in
+      subst (λ x. is_right x n.events ≡ true) (sym (same_parts n a).same_stated) a.right
+
+  -- where none is found the bytes are no block
+  pub no_node : NoCountedNode r k left → (n : Node) → IsBlockOf bytes n → ⊥
+  no_node none n b =
       let a = block_reads bytes n b in
       let s = same_parts n a in
-      let events : m.events ≡ n.events = (same_taken m.events n.events [] [] (sym some.events_are ∙ read_same n a)).0 in
-      ap (λ q. Some (record { rect = q; events = m.events })) (some.rect_is ∙ s.same_rect) ∙ ap (λ es. Some (record { rect = n.rect; events = es })) events
+      none n.events (subst (λ j. j ≤ capacity) (sym s.same_count) b.has_block.few) (read_same n a) (subst (λ q. IsNode q n.events) (sym s.same_rect) b.held.node)
 
   -- a block's ranges are a rectangle's
   pub no_rect : rect_of r.keys r.time ≡ None → (n : Node) → IsBlockOf bytes n → ⊥
@@ -129,22 +176,50 @@ same_area a r is = by (is_area a.keys a.time) is
     by true is = ap (λ (o : Option Area). elim o as (λ _. Area) [ Some q ↦ q | None ↦ a ]) is
     by false is = cc
 
+pub of_area : (bytes : List ℕ) (stated : Option ℕ) (a r : Area) (k : ℕ) (left : List ℕ) → head_from bytes ≡ Some ((stated, (a, k)), left) → rect_of a.keys a.time ≡ Some r → head_from bytes ≡ Some ((stated, (r, k)), left)
+of_area bytes stated a r k left head is = head ∙ ap (λ (q : Area). Some ((stated, (q, k)), left)) (same_area a r is)
+
 pub no_head : (bytes : List ℕ) → head_from bytes ≡ None → (n : Node) → IsBlockOf bytes n → ⊥
 no_head bytes none n b = let a = block_reads bytes n b in let e = sym none ∙ a.head_is in cc
 
--- ---- one node for each block, and one block for each node
+-- ---- one node for each block, and one block of each form for each node
+
+-- of bytes that have a node's parts
+same_read : (bytes : List ℕ) (stated : Option ℕ) (m n : Node) → head_from bytes ≡ Some ((stated, (m.rect, length m.events)), event_fields m.events)
+    → events_from (length m.events) (event_fields m.events) ≡ Some (m.events, []) → (a : ReadsAs bytes n) → (stated ≡ a.stated) × (m ≡ n)
+same_read bytes stated m n head events a =
+    let two = same_taken (stated, (m.rect, length m.events)) (a.stated, (n.rect, length n.events)) (event_fields m.events) (event_fields n.events) (sym head ∙ a.head_is) in
+    let count : length m.events ≡ length n.events = ap (λ (x : Option ℕ × (Area × ℕ)). x.1.1) two.0 in
+    let same = (same_taken m.events n.events [] [] (sym events ∙ ap (λ k. events_from k (event_fields m.events)) count ∙ ap (events_from (length n.events)) two.1 ∙ a.events_are)).0 in
+    (ap (λ (x : Option ℕ × (Area × ℕ)). x.0) two.0, ap (λ (x : Option ℕ × (Area × ℕ)). record { rect = x.1.0; events = m.events }) two.0 ∙ ap (λ es. record { rect = n.rect; events = es }) same)
 
 pub one_node : OneNode
 one_node bytes m n b c =
     let a = block_reads bytes m b in
-    let d = block_reads bytes n c in
-    let two = same_taken (m.rect, length m.events) (n.rect, length n.events) (event_fields m.events) (event_fields n.events) (sym a.head_is ∙ d.head_is) in
-    let count : length m.events ≡ length n.events = ap (λ (x : Area × ℕ). x.1) two.0 in
-    let events = (same_taken m.events n.events [] [] (sym a.events_are ∙ ap (λ k. events_from k (event_fields m.events)) count ∙ ap (events_from (length n.events)) two.1 ∙ d.events_are)).0 in
-    ap (λ (x : Area × ℕ). record { rect = x.0; events = m.events }) two.0 ∙ ap (λ es. record { rect = n.rect; events = es }) events
+    (same_read bytes a.stated m n a.head_is a.events_are (block_reads bytes n c)).1
+
+marks_differ : second_mark ≡ first_mark → ⊥
+marks_differ e = let fourth : 50 ≡ 49 = ap (λ (l : List ℕ). get_or l 3 0) e in omega (arith, fourth)
 
 pub one_block : OneBlock
-one_block a b n p q = p.bytes_are ∙ sym q.bytes_are
+one_block a b n p q same = by p.bytes_are q.bytes_are
+  where
+    by : (a ≡ block_of n) ⊎ (a ≡ first_block_of n) → (b ≡ block_of n) ⊎ (b ≡ first_block_of n) → a ≡ b
+    by (inl x) (inl y) = x ∙ sym y
+    by (inr x) (inr y) = x ∙ sym y
+    by (inl x) (inr y) = absurd (marks_differ (sym (ap (take 4) x) ∙ same ∙ ap (take 4) y))
+    by (inr x) (inl y) = absurd (marks_differ (sym (ap (take 4) y) ∙ sym same ∙ ap (take 4) x))
+
+pub both_forms : BothForms
+both_forms n h b = (record { held = h; has_block = b; bytes_are = inl refl }, record { held = h; has_block = b; bytes_are = inr refl })
+
+pub only_greatest : OnlyGreatest
+only_greatest m n width h b c =
+    let bytes = start_field (Some width) ++ body_field n in
+    let a = block_reads bytes m c in
+    let both = same_read bytes (Some width) n m (body_reads (Some width) n h b) (events_of n h b) a in
+    stated_greatest width n.events
+    (subst (λ (x : Node). is_right (Some width) x.events ≡ true) (sym both.1) (subst (λ s. is_right s m.events ≡ true) (sym both.0) a.right))
 
 -- ---- of what a call returned
 pub if_ok : {T E : Type 0} (r : Result T E) (P Q S : T → Type 0) → ((x : T) → P x → Q x → S x) → IfOk r P → IfOk r Q → IfOk r S

@@ -1,10 +1,8 @@
 -- Heads read back from their bytes, and nothing else is read.
-use Rattle.std.proofs.Common.{◌≡◌, ℕ, ◌^◌, ◌<◌, ◌≤◌, List, [], ◌∷◌, ◌++◌, Bool, true, false, Option, Some, None, take, drop, refl, sym, subst, ap, ◌∙◌, arith, if◌then◌else◌, append_assoc, IsSome}
-use Rattle.std.specs.Prelude.{nat_eq, nat_le}
-use Rattle.std.specs.Cmp.Lexicographic.{pointwise}
+use Rattle.std.proofs.Common.{◌≡◌, ℕ, ◌^◌, ◌<◌, ◌≤◌, List, [], ◌∷◌, ◌++◌, true, Option, Some, None, refl, sym, subst, ap, ◌∙◌, arith, append_assoc, IsSome}
+use Rattle.std.specs.Prelude.{nat_le}
 use Rattle.std.proofs.lemmas.Bool.{and_parts}
 use Rattle.std.proofs.lemmas.Bool.Decides.{nat_tests}
-use Rattle.std.proofs.lemmas.List.{take-append-drop}
 use Rattle.values.specs.RowReading.{Parsed}
 use Rattle.values.proofs.RowReads.{same_taken, AreBytes}
 use Rattle.keyrange.specs.declared.range.KeyRange.{KeyRange}
@@ -12,36 +10,11 @@ use Rattle.keyrange.specs.declared.range.TimeRange.{TimeRange}
 use Rattle.keyrange.specs.Range.{is_before_end, is_early}
 use Rattle.keyrange.specs.Rect.{Area, IsArea, is_area}
 use Rattle.blocks.specs.Field.{taken_then, key_field, end_field, instant_field, key_from, end_from, instant_from, byte_from}
-use Rattle.blocks.specs.Rect.{mark, keys_field, time_field, rect_field, AreShortKeys, mark_from, keys_from, time_from}
+use Rattle.blocks.specs.Rect.{keys_field, time_field, rect_field, AreShortKeys, keys_from, time_from}
+use Rattle.blocks.specs.Start.{start_field, start_from}
 use Rattle.blocks.specs.Head.{body_from, head_from}
+use Rattle.blocks.proofs.StartReads.{start_back, start_only}
 use Rattle.blocks.proofs.FieldReads.{are_taken, bytes_behind, key_back, key_only, end_back, end_only, instant_back, instant_only}
-
--- ---- the mark
-
-pub mark_back : (rest : List ℕ) → mark_from (mark ++ rest) ≡ Some rest
-unfolding mark_from
-mark_back rest = refl
-
-same_number : (a b : ℕ) → nat_eq a b ≡ true → a ≡ b
-same_number a b e = grind (arith, nat_tests)
-
-same_lists : (xs ys : List ℕ) → pointwise nat_eq xs ys ≡ true → xs ≡ ys
-same_lists [] [] e = refl
-same_lists [] (y ∷ ys) e = cc
-same_lists (x ∷ xs) [] e = cc
-same_lists (x ∷ xs) (y ∷ ys) e =
-    let two = and_parts (nat_eq x y) (pointwise nat_eq xs ys) e in
-    ap (λ n. n ∷ xs) (same_number x y two.0) ∙ ap (λ l. y ∷ l) (same_lists xs ys two.1)
-
-mark_by : (bytes rest : List ℕ) (t : Bool) → pointwise nat_eq (take 4 bytes) mark ≡ t → ◌≡◌ {A = Option (List ℕ)} (if t then Some (drop 4 bytes) else None) (Some rest) → bytes ≡ mark ++ rest
-mark_by bytes rest false e is = cc
-mark_by bytes rest true e is =
-    let left : drop 4 bytes ≡ rest = cc in
-    sym (take-append-drop 4 bytes) ∙ ap (λ l. l ++ drop 4 bytes) (same_lists (take 4 bytes) mark e) ∙ ap (λ l. mark ++ l) left
-
-pub mark_only : (bytes rest : List ℕ) → mark_from bytes ≡ Some rest → bytes ≡ mark ++ rest
-unfolding mark_from
-mark_only bytes rest is = mark_by bytes rest (pointwise nat_eq (take 4 bytes) mark) refl is
 
 -- ---- keys
 
@@ -142,11 +115,14 @@ body_back r (Some end) k rest e some area short =
     ∙ ap (λ t. taken_then t (g r.keys)) (time_back r.time.from end (k ∷ rest) both.start both.stop)
     ∙ ap (λ (t : TimeRange). Some ((record { keys = r.keys; time = t }, k), rest)) (sym is)
 
-pub head_back : (r : Area) (k : ℕ) (rest : List ℕ) → IsPast r → head_from (rect_field r ++ k ∷ rest) ≡ Some ((r, k), rest)
+pub head_back : (stated : Option ℕ) (r : Area) (k : ℕ) (rest : List ℕ) → IsPast r
+    → head_from (start_field stated ++ (rect_field r ++ k ∷ rest)) ≡ Some ((stated, (r, k)), rest)
 unfolding head_from
-head_back r k rest past =
-    ap (λ (o : Option (List ℕ)). elim o as (λ _. Parsed (Area × ℕ)) [ None ↦ None | Some l ↦ body_from l ]) (mark_back ((keys_field r.keys ++ time_field r.time) ++ k ∷ rest))
-    ∙ body_back r r.time.to k rest refl past.ends past.area past.short
+head_back stated r k rest past =
+    let g : Option ℕ → (Area × ℕ) → List ℕ → Parsed (Option ℕ × (Area × ℕ)) = λ stated body events. Some ((stated, body), events) in
+    let f : Option ℕ → List ℕ → Parsed (Option ℕ × (Area × ℕ)) = λ stated rest. taken_then (body_from rest) (g stated) in
+    ap (λ t. taken_then t f) (start_back stated (rect_field r ++ k ∷ rest))
+    ∙ ap (λ t. taken_then t (g stated)) (body_back r r.time.to k rest refl past.ends past.area past.short)
 
 counted : (bytes : List ℕ) (k : ℕ) (rest : List ℕ) → byte_from bytes ≡ Some (k, rest) → bytes ≡ k ∷ rest
 counted [] k rest is = cc
@@ -178,19 +154,23 @@ body_only bytes x rest h is =
     } in
     subst (λ (y : Area × ℕ). IsBody bytes y.0 y.1 rest) parts.0 (subst (λ l. IsBody bytes r last.x l) parts.1 here)
 
-pub record IsHead (bytes : List ℕ) (r : Area) (k : ℕ) (rest : List ℕ) : Type 0 where
-  pub spelled : bytes ≡ rect_field r ++ k ∷ rest
-  pub ends : IsSome r.time.to
-  pub short : AreShortKeys r.keys
+pub record IsHead (bytes : List ℕ) (x : Option ℕ × (Area × ℕ)) (rest : List ℕ) : Type 0 where
+  pub spelled : bytes ≡ start_field x.0 ++ (rect_field x.1.0 ++ x.1.1 ∷ rest)
+  pub ends : IsSome x.1.0.time.to
+  pub short : AreShortKeys x.1.0.keys
 
-head_by : (bytes : List ℕ) (r : Area) (k : ℕ) (rest : List ℕ) (o : Option (List ℕ)) → AreBytes bytes → mark_from bytes ≡ o
-    → ◌≡◌ {A = Parsed (Area × ℕ)} (elim o [ None ↦ None | Some l ↦ body_from l ]) (Some ((r, k), rest)) → IsHead bytes r k rest
-head_by bytes r k rest None h e is = cc
-head_by bytes r k rest (Some left) h e is =
-    let spelled = mark_only bytes left e in
-    let body = body_only left (r, k) rest (bytes_behind bytes mark left spelled h) is in
-    record { spelled = spelled ∙ ap (λ l. mark ++ l) body.spelled; ends = body.ends; short = body.short }
-
-pub head_only : (bytes : List ℕ) (r : Area) (k : ℕ) (rest : List ℕ) → AreBytes bytes → head_from bytes ≡ Some ((r, k), rest) → IsHead bytes r k rest
+pub head_only : (bytes : List ℕ) (x : Option ℕ × (Area × ℕ)) (rest : List ℕ) → AreBytes bytes → head_from bytes ≡ Some (x, rest) → IsHead bytes x rest
 unfolding head_from
-head_only bytes r k rest h is = head_by bytes r k rest (mark_from bytes) h refl is
+head_only bytes x rest h is =
+    let g : Option ℕ → (Area × ℕ) → List ℕ → Parsed (Option ℕ × (Area × ℕ)) = λ stated body events. Some ((stated, body), events) in
+    let two = are_taken (start_from bytes) (λ stated rest. taken_then (body_from rest) (g stated)) x rest is in
+    let start = start_only bytes two.x two.left two.first in
+    let next = are_taken (body_from two.left) (g two.x) x rest two.second in
+    let body = body_only two.left next.x next.left (bytes_behind bytes (start_field two.x) two.left start h) next.first in
+    let parts = same_taken (two.x, next.x) x next.left rest next.second in
+    let here : IsHead bytes (two.x, next.x) next.left = record {
+      spelled = start ∙ ap (λ l. start_field two.x ++ l) body.spelled;
+      ends = body.ends;
+      short = body.short;
+    } in
+    subst (λ (y : Option ℕ × (Area × ℕ)). IsHead bytes y rest) parts.0 (subst (λ l. IsHead bytes (two.x, next.x) l) parts.1 here)

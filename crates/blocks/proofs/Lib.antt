@@ -2,6 +2,8 @@ pub mod LookupSteps
 pub mod FieldReads
 pub mod EventReads
 pub mod EventSteps
+pub mod StartReads
+pub mod StartWidths
 pub mod HeadReads
 pub mod BlockReads
 pub mod GatherSteps

@@ -72,7 +72,7 @@ past_row_back (Some row) rest s = past_values_back row rest s.stored
 -- the number of its events, and where they begin
 pub count_of_block : (bytes : List ℕ) (n : Node) → IsBlockOf bytes n → events_place bytes ≡ Some (length n.events, event_fields n.events)
 unfolding events_place
-count_of_block bytes n b = ap (λ (t : Parsed (Area × ℕ)). taken_then t (λ head events. Some (head.1, events))) (block_reads bytes n b).head_is
+count_of_block bytes n b = ap (λ (t : Parsed (Option ℕ × (Area × ℕ))). taken_then t (λ head events. Some (head.1.1, events))) (block_reads bytes n b).head_is
 
 -- ---- the last event that is wanted
 

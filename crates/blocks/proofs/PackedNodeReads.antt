@@ -4,7 +4,7 @@ use Rattle.keyrange.specs.Rect.{Area}
 use Rattle.datanode.specs.Node.{Node}
 use Rattle.blocks.specs.Block.{IsBlockOf}
 use Rattle.blocks.specs.PackedNode.{Packed, events_taken, events_at, events_of_block, packed_of, IsPacked}
-use Rattle.blocks.proofs.BlockReads.{block_reads, one_node, one_block}
+use Rattle.blocks.proofs.BlockReads.{block_reads, one_node}
 use Rattle.blocks.proofs.LookupFinds.{count_of_block}
 
 events_are : (bytes : List ℕ) (n : Node) → IsBlockOf bytes n → events_of_block bytes ≡ n.events
@@ -26,13 +26,7 @@ of_same_bytes p q a b same =
     ap (λ n. record { node = n; bytes = p.bytes }) (one_node p.bytes p.node q.node a (subst (λ l. IsBlockOf l q.node) (sym same) b))
     ∙ ap (λ l. record { node = q.node; bytes = l }) same
 
-of_same_node : (p q : Packed) → IsPacked p → IsPacked q → p.node ≡ q.node → p.bytes ≡ q.bytes
-of_same_node p q a b same = one_block p.bytes q.bytes p.node a (subst (IsBlockOf q.bytes) (sym same) b)
-
 -- what a test of the bytes tells
 module _ (p q : Packed) (a : IsPacked p) (b : IsPacked q) (test : Bool) (tells : IsTrue test ↔ (p.bytes ≡ q.bytes)) where
   pub tells_same : IsTrue test ↔ (p ≡ q)
   tells_same = (λ h. of_same_bytes p q a b (tells.0 h), λ same. tells.1 (ap (λ (x : Packed). x.bytes) same))
-
-  pub tells_node : IsTrue test ↔ (p.node ≡ q.node)
-  tells_node = (λ h. ap (λ (x : Packed). x.node) (of_same_bytes p q a b (tells.0 h)), λ same. tells.1 (of_same_node p q a b same))

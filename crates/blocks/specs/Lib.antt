@@ -1,6 +1,7 @@
 pub mod Field
 pub mod Event
 pub mod Rect
+pub mod Start
 pub mod Block
 pub mod Gather
 pub mod Head

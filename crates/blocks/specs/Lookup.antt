@@ -80,7 +80,7 @@ first_place (suc n) bytes key low high =
 
 -- the number of a block's events, and the bytes from the first on
 unfoldable pub events_place : List ℕ → Parsed ℕ
-events_place bytes = taken_then (head_from bytes) (λ head events. Some (head.1, events))
+events_place bytes = taken_then (head_from bytes) (λ head events. Some (head.1.1, events))
 
 unfoldable pub place_in : List ℕ → List ℕ → ℕ → ℕ → Parsed ℕ
 place_in bytes key low high =

@@ -1,16 +1,11 @@
 -- The rectangle of a block.
-use Rattle.std.specs.Prelude.{ℕ, ◌≤◌, List, [], ◌∷◌, ◌++◌, Option, Some, None, length, take, drop, nat_eq, IfSome, if◌then◌else◌}
-use Rattle.std.specs.Cmp.Lexicographic.{pointwise}
+use Rattle.std.specs.Prelude.{ℕ, ◌≤◌, List, [], ◌++◌, Option, Some, None, length, IfSome}
 use Rattle.values.specs.KeyEncoding.{longest_key}
 use Rattle.values.specs.RowReading.{Parsed}
 use Rattle.keyrange.specs.declared.range.KeyRange.{KeyRange}
 use Rattle.keyrange.specs.declared.range.TimeRange.{TimeRange}
 use Rattle.keyrange.specs.Rect.{Area}
 use Rattle.blocks.specs.Field.{taken_then, key_field, end_field, instant_field, key_from, end_from, instant_from}
-
--- what each block begins with: TSB1
-abbrev pub mark : List ℕ
-mark = 84 ∷ 83 ∷ 66 ∷ 49 ∷ []
 
 -- ---- what is written
 
@@ -26,7 +21,7 @@ abbrev pub time_field : TimeRange → List ℕ
 time_field time = instant_field time.from ++ time_end_field time.to
 
 abbrev pub rect_field : Area → List ℕ
-rect_field r = mark ++ (keys_field r.keys ++ time_field r.time)
+rect_field r = keys_field r.keys ++ time_field r.time
 
 -- as each range that a program holds: no key has over 1,609 bytes
 pub record AreShortKeys (keys : KeyRange) : Type 0 where
@@ -34,10 +29,6 @@ pub record AreShortKeys (keys : KeyRange) : Type 0 where
   pub upper : IfSome keys.hi (λ key. length key ≤ longest_key)
 
 -- ---- what is read
-
--- the bytes behind the mark
-unfoldable pub mark_from : List ℕ → Option (List ℕ)
-mark_from bytes = if pointwise nat_eq (take 4 bytes) mark then Some (drop 4 bytes) else None
 
 unfoldable pub keys_from : List ℕ → Parsed KeyRange
 keys_from bytes =

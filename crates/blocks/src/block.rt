@@ -1,4 +1,4 @@
-//! The block of a node, and the node of a block.
+//! The blocks of a node, and the node of a block.
 ghost use Rattle.std.specs.Prelude.{◌≡◌, ◌↔◌, ◌≤◌, ◌++◌, Some, IsTrue, IfOk, IfSome, IfNone, OnOk, All, length};
 ghost use Rattle.values.specs.Memory.{OnlyMemory};
 ghost use Rattle.datanode.specs.Node.{Node};
@@ -10,6 +10,7 @@ use crate::event::push_event;
 use crate::gather::{gather, node_in};
 use crate::head::{head_from, rect_of};
 use crate::rect::push_rect;
+use crate::start::{greatest_width, is_right, push_start};
 use bytes::Bytes;
 use datanode::{CAPACITY, DataNode};
 use keyrange::Rect;
@@ -22,7 +23,7 @@ fn are_instants(events: &[SharedEvent]) -> bool
     events.iter().all(|event| 1 <= event.event().at())
 }
 
-/// Tells whether a node has a block: it is one of history, with events within the capacity of a
+/// Tells whether a node has blocks: it is one of history, with events within the capacity of a
 /// node and none of them before instant 1.
 pub fn has_block(node: &DataNode) -> bool
     ensures { IsTrue result ↔ HasBlock node.now }
@@ -41,7 +42,7 @@ fn push_events(alloc: Global, bytes: &mut Vec<u8>, events: &[SharedEvent]) -> Me
     Ok(())
 }
 
-/// Packs a node of history: its bytes in form 1.
+/// Packs a node of history: its bytes in form 2.
 pub fn pack(alloc: Global, node: &DataNode) -> Mem<Bytes>
     requires { HasBlock node.now }
     ensures bytes { IfOk result (λ bytes. bytes ≡ block_of node.now) }
@@ -49,6 +50,7 @@ pub fn pack(alloc: Global, node: &DataNode) -> Mem<Bytes>
     ensures err { OnlyMemory result }
 {
     let mut bytes = Vec::new(alloc);
+    push_start(&mut bytes, greatest_width(node.events()))?;
     push_rect(&mut bytes, node.rect())?;
     bytes.push(node.len() as u8)?;
     push_events(alloc, &mut bytes, node.events())?;
@@ -72,8 +74,8 @@ fn counted_from(alloc: Global, rect: Rect, n: u8, bytes: &[u8]) -> Mem<Option<Da
     }
 }
 
-/// Unpacks the node that bytes are the block of; none where they are no node's. Each block is one
-/// node's alone.
+/// Unpacks the node that bytes are the block of, in form 2 or in form 1; none where they are no
+/// node's. Each block is one node's alone.
 pub fn unpack(alloc: Global, bytes: &[u8]) -> Mem<Option<DataNode>>
     ensures found { IfOk result (λ found. IfSome found (IsBlockOf bytes.now)) }
     ensures of_block { IfOk result (λ found. (n : Node) →
@@ -83,8 +85,15 @@ pub fn unpack(alloc: Global, bytes: &[u8]) -> Mem<Option<DataNode>>
     let Some((head, events)) = head_from(bytes) else {
         return Ok(None);
     };
-    let Some(rect) = rect_of(alloc, &head)? else {
+    let Some(rect) = rect_of(alloc, &head.body)? else {
         return Ok(None);
     };
-    counted_from(alloc, rect, head.count, events)
+    let Some(node) = counted_from(alloc, rect, head.body.count, events)? else {
+        return Ok(None);
+    };
+    if is_right(head.stated, node.events()) {
+        Ok(Some(node))
+    } else {
+        Ok(None)
+    }
 }

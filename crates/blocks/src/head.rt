@@ -1,21 +1,21 @@
-//! The head of a block, read in place: its mark, and behind it the body's ranges and count.
+//! The head of a block, read in place: what it states, and behind that the body's ranges and count.
 ghost use Rattle.std.specs.Prelude.{◌≡◌, ◌≤◌, length, IfOk, IfSome, option_copied};
 ghost use Rattle.values.specs.KeyEncoding.{longest_key};
 ghost use Rattle.values.specs.RowReading.{Parses};
 ghost use Rattle.keyrange.specs.Cut.{rect_of};
-ghost use Rattle.blocks.specs.Head.{body_from, head_from, area_of, head_of, IsShortHead};
-ghost use Rattle.blocks.specs.Rect.{mark_from, keys_from, time_from};
+ghost use Rattle.blocks.specs.Head.{body_from, head_from, area_of, body_of, head_of, IsShortBody};
+ghost use Rattle.blocks.specs.Rect.{keys_from, time_from};
 
 use crate::event::Parsed;
 use crate::field::{byte_from, end_from, instant_from, key_from, key_of};
-use crate::rect::MARK;
+use crate::start::start_from;
 use keyrange::{KeyRange, Rect, TimeRange};
 use std::alloc::{AllocError, Global};
 use values::KeyBytes;
 
-/// What the head of a block says. Its ranges need not be a rectangle's.
+/// What the body of a block says before its events. Its ranges need not be a rectangle's.
 #[derive(Clone, Copy)]
-pub(crate) struct Head<'a> {
+pub(crate) struct Body<'a> {
     lo: &'a [u8],
     hi: Option<&'a [u8]>,
     time: TimeRange,
@@ -23,12 +23,12 @@ pub(crate) struct Head<'a> {
     pub(crate) count: u8,
 }
 
-/// Reads the mark: the bytes behind it.
-#[tactic(auto, unfolding(crate::specs::Rect::mark_from))]
-fn mark_from(bytes: &[u8]) -> Option<&[u8]>
-    ensures { option_copied result ≡ mark_from bytes.now }
-{
-    bytes.strip_prefix(MARK)
+/// What a block says before its events.
+#[derive(Clone, Copy)]
+pub(crate) struct Head<'a> {
+    /// The number of values of the widest row; none in form 1.
+    pub(crate) stated: Option<u8>,
+    pub(crate) body: Body<'a>,
 }
 
 /// Reads a lower key, and an upper one where there is one.
@@ -55,31 +55,34 @@ fn time_from(bytes: &[u8]) -> Parsed<'_, TimeRange>
     Some((time, left))
 }
 
-/// Reads what is behind the mark: the head, and the bytes from the first event on.
+/// Reads the ranges and the count of a body, alike in both forms, and the bytes from the first
+/// event on.
 #[tactic(auto, unfolding(crate::specs::Head::body_from))]
-fn body_from(bytes: &[u8]) -> Parsed<'_, Head<'_>>
-    ensures taken { Parses head_of result (body_from bytes.now) }
-    ensures short { IfSome result (λ x. IsShortHead x.0) }
+fn body_from(bytes: &[u8]) -> Parsed<'_, Body<'_>>
+    ensures taken { Parses body_of result (body_from bytes.now) }
+    ensures short { IfSome result (λ x. IsShortBody x.0) }
 {
     let ((lo, hi), rest) = keys_from(bytes)?;
     let (time, left) = time_from(rest)?;
     let (count, events) = byte_from(left)?;
-    let head = Head {
+    let body = Body {
         lo,
         hi,
         time,
         count,
     };
-    Some((head, events))
+    Some((body, events))
 }
 
-/// Reads the head of a block, and the bytes from the first event on.
+/// Reads the head of a block of either form, and the bytes from the first event on.
 #[tactic(auto, unfolding(crate::specs::Head::head_from))]
 pub(crate) fn head_from(bytes: &[u8]) -> Parsed<'_, Head<'_>>
     ensures taken { Parses head_of result (head_from bytes.now) }
-    ensures short { IfSome result (λ x. IsShortHead x.0) }
+    ensures short { IfSome result (λ x. IsShortBody x.0.body) }
 {
-    body_from(mark_from(bytes)?)
+    let (stated, rest) = start_from(bytes)?;
+    let (body, events) = body_from(rest)?;
+    Some((Head { stated, body }, events))
 }
 
 fn end_of(alloc: Global, end: Option<&[u8]>) -> Result<Option<KeyBytes>, AllocError>
@@ -92,15 +95,15 @@ fn end_of(alloc: Global, end: Option<&[u8]>) -> Result<Option<KeyBytes>, AllocEr
     }
 }
 
-/// Makes the rectangle of a head, where its ranges are one's.
-pub(crate) fn rect_of(alloc: Global, head: &Head<'_>) -> Result<Option<Rect>, AllocError>
-    requires { IsShortHead head.now }
+/// Makes the rectangle of a body, where its ranges are one's.
+pub(crate) fn rect_of(alloc: Global, body: &Body<'_>) -> Result<Option<Rect>, AllocError>
+    requires { IsShortBody body.now }
     ensures { IfOk result (λ rect. rect
-        ≡ rect_of (area_of head.now).keys (area_of head.now).time) }
+        ≡ rect_of (area_of body.now).keys (area_of body.now).time) }
 {
     let keys = KeyRange {
-        lo: key_of(alloc, head.lo)?,
-        hi: end_of(alloc, head.hi)?,
+        lo: key_of(alloc, body.lo)?,
+        hi: end_of(alloc, body.hi)?,
     };
-    Ok(Rect::new(keys, head.time))
+    Ok(Rect::new(keys, body.time))
 }

@@ -14,6 +14,7 @@ mod lookup;
 mod packed_node;
 mod reading;
 mod rect;
+mod start;
 
 pub use block::{has_block, pack, unpack};
 pub use cache::BlockCache;

@@ -162,7 +162,7 @@ pub(crate) fn events_place(bytes: &[u8]) -> Parsed<'_, u8>
     ensures { Parses (λ n. n) result (events_place bytes.now) }
 {
     let (head, events) = head_from(bytes)?;
-    Some((head.count, events))
+    Some((head.body.count, events))
 }
 
 #[tactic(auto, unfolding(crate::specs::Lookup::place_in))]

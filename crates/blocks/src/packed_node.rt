@@ -38,7 +38,7 @@ impl Model for Block {
 }
 
 impl Block {
-    /// Packs a node that has a block.
+    /// Packs a node that has blocks, in form 2.
     pub fn pack(alloc: Global, node: &DataNode) -> Mem<Block>
         requires { HasBlock node.now }
         ensures ok { IfOk result (λ b. b
@@ -49,7 +49,7 @@ impl Block {
         block_with(node, bytes)
     }
 
-    /// Takes bytes as a block, without copying them; none where they are no node's.
+    /// Takes bytes as a block of either form, without copying them; none where they are no node's.
     pub fn from_bytes(alloc: Global, bytes: Bytes) -> Mem<Option<Block>>
         ensures bytes { IfOk result (λ found. IfSome found (λ b. b.bytes ≡ bytes)) }
         ensures block { IfOk result (λ found. IfSome found (λ b. IsBlockOf bytes b.node)) }
@@ -153,10 +153,10 @@ impl Block {
         })
     }
 
-    /// Tells whether the bytes are equal, and so the nodes.
+    /// Tells whether the bytes are equal, and so the nodes. Equal nodes may have blocks of two
+    /// forms, whose bytes differ.
     pub fn is_same(&self, other: &Block) -> bool
-        ensures same { IsTrue result ↔ (self.now ≡ other.now) }
-        ensures node { IsTrue result ↔ (self.now.node ≡ other.now.node) }
+        ensures { IsTrue result ↔ (self.now ≡ other.now) }
     {
         self.bytes.as_slice() == other.bytes.as_slice()
     }

@@ -6,9 +6,6 @@ use crate::field::{push_end, push_instant, push_key};
 use keyrange::{KeyRange, Rect, TimeRange};
 use std::alloc::AllocError;
 
-/// What each block begins with.
-pub(crate) const MARK: &[u8] = b"TSB1";
-
 fn push_keys(bytes: &mut Vec<u8>, keys: &KeyRange) -> Result<(), AllocError>
     ensures ok { OnOk result (bytes.new.items ≡ bytes.old.items ++ keys_field keys.now) }
     ensures short { OnOk result (AreShortKeys keys.now) }
@@ -27,12 +24,11 @@ fn push_time(bytes: &mut Vec<u8>, time: TimeRange) -> Result<(), AllocError>
     }
 }
 
-/// Appends the mark and the ranges of a rectangle.
+/// Appends the ranges of a rectangle.
 pub(crate) fn push_rect(bytes: &mut Vec<u8>, rect: &Rect) -> Result<(), AllocError>
     ensures ok { OnOk result (bytes.new.items ≡ bytes.old.items ++ rect_field rect.now) }
     ensures short { OnOk result (AreShortKeys rect.now.keys) }
 {
-    bytes.extend_from_slice(MARK)?;
     push_keys(bytes, rect.keys())?;
     push_time(bytes, rect.time())
 }

@@ -1,34 +1,15 @@
 //! Which bytes are blocks, and of which nodes.
 
 use crate::sample::{
-    before, carrying_block, current, event, first_block, first_node, put, put_deletion, put_row,
-    since,
+    before, blocks, carrying_block, current, event, first_block, first_node, is_block, is_block_of,
+    old_carrying_block, old_first_block, pack_of, put, put_deletion, put_row, since,
 };
-use blocks::{event_count, has_block, pack, unpack};
+use blocks::{event_count, has_block, unpack};
 use bytes::Bytes;
 use datanode::DataNode;
 use std::alloc::Global;
 use std::process::Abort;
 use values::{Chars, Event, KeyBytes, Value};
-
-/// The block of a node that has one.
-fn pack_of(rt: &impl Abort, alloc: Global, node: &DataNode) -> Bytes {
-    if !has_block(node) {
-        panic!(rt; "the node has no block");
-    }
-    pack(alloc, node).expect(rt, "there is memory")
-}
-
-/// Whether the bytes are the node's block.
-fn is_block_of(rt: &impl Abort, alloc: Global, bytes: &[u8], node: &DataNode) -> bool {
-    has_block(node) && pack_of(rt, alloc, node).as_slice() == bytes
-}
-
-/// Whether bytes are a block, and then that of the node that they are read as.
-fn is_block(rt: &impl Abort, alloc: Global, bytes: &[u8]) -> Option<bool> {
-    let node = unpack(alloc, bytes).expect(rt, "there is memory")?;
-    Some(is_block_of(rt, alloc, bytes, &node))
-}
 
 /// Whether the node whose block was worked out by hand has that block.
 fn has_first_block(rt: &impl Abort, alloc: Global) -> bool {
@@ -36,11 +17,39 @@ fn has_first_block(rt: &impl Abort, alloc: Global) -> bool {
     is_block_of(rt, alloc, first_block(), &node)
 }
 
+/// Whether the node of the first block, in form 1, is that of the first block.
+fn reads_old_first_block(rt: &impl Abort, alloc: Global) -> bool {
+    let node = unpack(alloc, old_first_block()).expect(rt, "there is memory");
+    let node = node.expect(rt, "the bytes are a block");
+    pack_of(rt, alloc, &node).as_slice() == first_block()
+}
+
 #[test]
-fn a_node_is_packed_to_its_60_bytes_and_read_back(rt: HostRuntime) {
-    assert!(rt; first_block().len() == 60);
+fn a_node_is_packed_to_its_61_bytes_and_read_back(rt: HostRuntime) {
+    assert!(rt; first_block().len() == 61 && first_block().starts_with(b"TSB2\x02"));
     assert!(rt; has_first_block(&rt, rt.alloc()));
     assert!(rt; is_block(&rt, rt.alloc(), first_block()) == Some(true));
+    assert!(rt; old_first_block().len() == 60);
+    assert!(rt; reads_old_first_block(&rt, rt.alloc()));
+}
+
+/// How many widths, stated in the place of a block's own, leave a block of a node; None where one
+/// of these is not that of the node that it is read as.
+fn count_widths(rt: &impl Abort, alloc: Global, block: &[u8]) -> Option<usize> {
+    let mut bytes = Vec::from_slice(alloc, block).expect(rt, "there is memory");
+    count_at(rt, alloc, bytes.as_mut_slice(), 4, *block.get(4)?)
+}
+
+/// All keys from 1 to 200, without an event.
+const EMPTY_BLOCK: &[u8] = &[
+    84, 83, 66, 50, 0, 0, 0, 0, 0, 0, 0, 0, 0, 0, 0, 1, 0, 0, 0, 0, 0, 0, 0, 200, 0,
+];
+
+#[test]
+fn the_width_that_a_block_states_is_the_greatest(rt: HostRuntime) {
+    for block in [first_block(), carrying_block(), EMPTY_BLOCK] {
+        assert!(rt; count_widths(&rt, rt.alloc(), block) == Some(0));
+    }
 }
 
 /// How many other values of a byte leave a block; None where one of these is not that of the node
@@ -89,13 +98,50 @@ fn a_changed_byte_leaves_no_block_or_that_of_another_node(rt: HostRuntime) {
 }
 
 #[test]
+fn a_changed_byte_of_form_1_leaves_no_block_or_that_of_another_node(rt: HostRuntime) {
+    assert!(rt; count_changed(&rt, rt.alloc(), old_first_block()) == Some(6803));
+    assert!(rt; count_changed(&rt, rt.alloc(), old_carrying_block()) == Some(13153));
+}
+
+#[test]
 fn a_block_that_is_cut_off_is_none(rt: HostRuntime) {
-    for block in [first_block(), carrying_block()] {
+    for block in blocks() {
         for length in 0..block.len() {
             let found = is_block(&rt, rt.alloc(), block.split_at(length).0);
             assert!(rt; found.is_none(), "at {length}");
         }
     }
+}
+
+/// Bytes that are a block in both forms. In form 1 they are a node of the keys up to one of 256
+/// bytes, from 1 to 200, without an event; in form 2 a node of the keys from one of one byte on,
+/// from 1 to 300, with the deletion of a key of 245 bytes at 200.
+fn block_of_either_form(rt: &impl Abort, alloc: Global, mark: &[u8]) -> Vec<u8> {
+    let front = &[
+        0, 0, 1, 1, 0, 0, 0, 0, 0, 0, 0, 0, 1, 0, 0, 0, 0, 0, 0, 1, 44, 1, 0, 245,
+    ];
+    let tail = &[0, 0, 0, 0, 0, 0, 0, 1, 0, 0, 0, 0, 0, 0, 0, 200, 0];
+    let mut bytes = with(rt, alloc, mark, front);
+    bytes
+        .extend_from_slice(many(rt, alloc, 237).as_slice())
+        .expect(rt, "there is memory");
+    bytes.extend_from_slice(tail).expect(rt, "there is memory");
+    bytes
+}
+
+/// Whether these bytes with a mark are a block, and then that of the node that they are read as;
+/// and how many events the node has.
+fn reads_in(rt: &impl Abort, alloc: Global, mark: &[u8]) -> (Option<bool>, usize) {
+    let bytes = block_of_either_form(rt, alloc, mark);
+    let block = bytes.as_slice();
+    (is_block(rt, alloc, block), event_count(block))
+}
+
+#[test]
+fn the_mark_tells_the_form(rt: HostRuntime) {
+    assert!(rt; reads_in(&rt, rt.alloc(), b"TSB1") == (Some(true), 0));
+    assert!(rt; reads_in(&rt, rt.alloc(), b"TSB2") == (Some(true), 1));
+    assert!(rt; reads_in(&rt, rt.alloc(), b"TSB3").0.is_none());
 }
 
 /// A list with bytes behind it.
@@ -113,7 +159,7 @@ fn is_block_with(rt: &impl Abort, alloc: Global, block: &[u8], more: &[u8]) -> O
 
 #[test]
 fn nothing_may_follow_a_block(rt: HostRuntime) {
-    for block in [first_block(), carrying_block()] {
+    for block in blocks() {
         for more in [&[0], block] {
             assert!(rt; is_block_with(&rt, rt.alloc(), block, more).is_none());
         }
@@ -145,8 +191,8 @@ fn is_broken(rt: &impl Abort, alloc: Global, places: (usize, usize, usize)) -> b
 #[test]
 fn events_must_be_in_order(rt: HostRuntime) {
     assert!(rt; is_block(&rt, rt.alloc(), carrying_block()) == Some(true));
-    assert!(rt; is_broken(&rt, rt.alloc(), (44, 78, 123)), "keys");
-    assert!(rt; is_broken(&rt, rt.alloc(), (78, 123, 143)), "instants");
+    assert!(rt; is_broken(&rt, rt.alloc(), (45, 79, 124)), "keys");
+    assert!(rt; is_broken(&rt, rt.alloc(), (79, 124, 144)), "instants");
 }
 
 /// A node upto 300 with a row of 100 and a deletion of 150.
@@ -179,7 +225,7 @@ fn sizes_of_carrying(rt: &impl Abort, alloc: Global) -> (usize, (usize, usize)) 
 
 #[test]
 fn a_carried_row_is_in_the_block(rt: HostRuntime) {
-    assert!(rt; sizes_of_carrying(&rt, rt.alloc()) == (1, (60, 1)));
+    assert!(rt; sizes_of_carrying(&rt, rt.alloc()) == (1, (61, 1)));
 }
 
 /// A node from 1 to 200 with so many events of one key.
@@ -263,10 +309,10 @@ fn longest(rt: &impl Abort, alloc: Global) -> DataNode {
 
 /// The bytes of a block that tell how long its first key is, where its range of keys has no end.
 fn key_length(block: &[u8]) -> Option<(u8, u8)> {
-    if block.len() < 26 {
+    if block.len() < 27 {
         return None;
     }
-    Some((block[24], block[25]))
+    Some((block[25], block[26]))
 }
 
 /// The block of the node with the longest key and the longest row.
@@ -277,7 +323,7 @@ fn longest_block(rt: &impl Abort, alloc: Global) -> Bytes {
 
 /// Whether a block is as long as that block, is read back, and begins with a key of 1,609 bytes.
 fn is_longest(rt: &impl Abort, alloc: Global, block: &[u8]) -> bool {
-    block.len() == 17693
+    block.len() == 17694
         && is_block(rt, alloc, block) == Some(true)
         && key_length(block) == Some((6, 73))
 }
@@ -290,7 +336,7 @@ fn the_longest_key_and_row_are_packed_and_read_back(rt: HostRuntime) {
 
 /// The first block with a key of so many bytes.
 fn with_key_of(rt: &impl Abort, alloc: Global, length: usize) -> Vec<u8> {
-    let (front, rest) = first_block().split_at(24);
+    let (front, rest) = first_block().split_at(25);
     let (_key, tail) = rest.split_at(11);
     let low = (length % 256) as u8;
     let mut bytes = with(rt, alloc, front, &[(length / 256 % 256) as u8, low]);

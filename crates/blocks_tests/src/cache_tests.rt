@@ -1,5 +1,6 @@
 //! What is asked of a cache, block after block.
 
+use crate::sample::in_form_1;
 use blocks::{Block, BlockCache, Blocks, InPlace};
 use bytes::Bytes;
 use keyrange::KeyRange;
@@ -11,9 +12,14 @@ use values::{Instant, KeyBytes};
 /// from `at` on.
 fn block_of(rt: &impl Abort, alloc: Global, from: u8, to: u8, at: u8) -> Block {
     let bytes = &[
-        84, 83, 66, 49, 0, 0, 0, 0, 0, 0, 0, 0, 0, 0, from, 0, 0, 0, 0, 0, 0, 0, to, 1, 0, 9, 1,
+        84, 83, 66, 50, 1, 0, 0, 0, 0, 0, 0, 0, 0, 0, 0, from, 0, 0, 0, 0, 0, 0, 0, to, 1, 0, 9, 1,
         128, 0, 0, 0, 0, 0, 0, 1, 0, 0, 0, 0, 0, 0, 0, at, 1, 1, 1, 0, 0, 0, 0, 0, 0, 0, 7,
     ];
+    block_of_bytes(rt, alloc, bytes)
+}
+
+/// The block that bytes are.
+fn block_of_bytes(rt: &impl Abort, alloc: Global, bytes: &[u8]) -> Block {
     let bytes = Bytes::copy_from_slice(alloc, bytes).expect(rt, "there is memory");
     let block = Block::from_bytes(alloc, bytes).expect(rt, "there is memory");
     block.expect(rt, "the bytes are a block")
@@ -123,4 +129,46 @@ fn a_block_gives_the_range_that_is_asked_for(rt: HostRuntime) {
     let kept = count_ranges(&rt, &mut cache, alloc);
     let in_place = count_ranges(&rt, &mut InPlace::new(alloc), alloc);
     assert!(rt; kept == 5 && in_place == 5 && cache.len() == 1);
+}
+
+/// A block of form 1: that of the block of these instants.
+fn old_block_of(rt: &impl Abort, alloc: Global, from: u8, to: u8, at: u8) -> Block {
+    let block = block_of(rt, alloc, from, to, at);
+    let bytes = in_form_1(rt, alloc, block.bytes().as_slice());
+    block_of_bytes(rt, alloc, bytes.as_slice())
+}
+
+/// The instant of the one event that is given of a block; of form 1, where the turn is odd.
+fn event_of_turn<B: Blocks>(
+    rt: &impl Abort,
+    blocks: &mut B,
+    alloc: Global,
+    turn: u8,
+) -> Option<Instant> {
+    let block = if turn % 2 == 0 {
+        block_of(rt, alloc, 1, 3, 2)
+    } else {
+        old_block_of(rt, alloc, 1, 3, 2)
+    };
+    let range = keys_from(rt, alloc, 0);
+    event_between(blocks, &block, &range, 0, u64::MAX)
+}
+
+/// How often the blocks of both forms of one node, asked for in turn, are answered by its event.
+fn count_forms<B: Blocks>(rt: &impl Abort, blocks: &mut B, alloc: Global) -> usize {
+    let mut own = 0usize;
+    for turn in 0..6u8 {
+        if event_of_turn(rt, blocks, alloc, turn) == Some(2) {
+            own = own.saturating_add(1);
+        }
+    }
+    own
+}
+
+#[test]
+fn blocks_of_both_forms_of_a_node_give_its_events(rt: HostRuntime) {
+    let alloc = rt.alloc();
+    let mut cache = BlockCache::new(alloc);
+    let own = count_forms(&rt, &mut cache, alloc);
+    assert!(rt; own == 6 && cache.len() == 1);
 }

@@ -6,6 +6,8 @@ mod bytes_tests;
 #[cfg(test)]
 mod cache_tests;
 #[cfg(test)]
+mod damage_tests;
+#[cfg(test)]
 mod packed_tests;
 #[cfg(test)]
 mod read_tests;

@@ -1,6 +1,6 @@
 //! Packed nodes, made of a node and of bytes, answer as the node does.
 
-use crate::sample::{carrying_block, first_block, first_node, key};
+use crate::sample::{blocks, carrying_block, first_block, first_node, key, old_first_block};
 use blocks::{Block, has_block};
 use bytes::Bytes;
 use datanode::DataNode;
@@ -47,6 +47,19 @@ fn a_node_is_packed_to_the_block_that_its_bytes_make(rt: HostRuntime) {
     assert!(rt; is_first(&rt, rt.alloc(), &packed_first(&rt, rt.alloc())));
 }
 
+/// Whether the first block and that of form 1 are the same, and whether they unpack to nodes of as
+/// many events.
+fn compare_forms(rt: &impl Abort, alloc: Global) -> (bool, bool) {
+    let block = block_of(rt, alloc, first_block());
+    let old = block_of(rt, alloc, old_first_block());
+    (block.is_same(&old), block.len() == old.len())
+}
+
+#[test]
+fn blocks_of_two_forms_are_not_the_same(rt: HostRuntime) {
+    assert!(rt; compare_forms(&rt, rt.alloc()) == (false, true));
+}
+
 /// Whether bytes are a block, and then one that is the same as another.
 fn is_same_block(rt: &impl Abort, alloc: Global, whole: &Block, bytes: &[u8]) -> Option<bool> {
     let block = found_block(rt, alloc, bytes)?;
@@ -74,8 +87,9 @@ fn count_prefixes(rt: &impl Abort, alloc: Global, bytes: &[u8]) -> (usize, usize
 
 #[test]
 fn of_the_prefixes_of_a_block_it_alone_is_one(rt: HostRuntime) {
-    assert!(rt; count_prefixes(&rt, rt.alloc(), first_block()) == (1, 1));
-    assert!(rt; count_prefixes(&rt, rt.alloc(), carrying_block()) == (1, 1));
+    for block in blocks() {
+        assert!(rt; count_prefixes(&rt, rt.alloc(), block) == (1, 1));
+    }
 }
 
 /// The instant of a key's first event above another, among the events of a node.
@@ -156,8 +170,9 @@ fn count_agreed(rt: &impl Abort, alloc: Global, bytes: &[u8]) -> usize {
 
 #[test]
 fn a_packed_node_answers_as_the_node_that_it_unpacks_to(rt: HostRuntime) {
-    assert!(rt; count_agreed(&rt, rt.alloc(), first_block()) == 3200);
-    assert!(rt; count_agreed(&rt, rt.alloc(), carrying_block()) == 3200);
+    for block in blocks() {
+        assert!(rt; count_agreed(&rt, rt.alloc(), block) == 3200);
+    }
 }
 
 /// A key's next change after an instant in the block with a carried event.
@@ -280,6 +295,7 @@ fn count_listed(rt: &impl Abort, alloc: Global, bytes: &[u8]) -> usize {
 
 #[test]
 fn a_packed_node_lists_what_the_node_that_it_unpacks_to_lists(rt: HostRuntime) {
-    assert!(rt; count_listed(&rt, rt.alloc(), first_block()) == 4608);
-    assert!(rt; count_listed(&rt, rt.alloc(), carrying_block()) == 4608);
+    for block in blocks() {
+        assert!(rt; count_listed(&rt, rt.alloc(), block) == 4608);
+    }
 }

@@ -1,6 +1,6 @@
 //! What is read of a block in place is what its node has.
 
-use crate::sample::{carrying_block, first_block, key};
+use crate::sample::{blocks, carrying_block, first_block, key, old_first_block};
 use blocks::{at, changed_since, unpack};
 use datanode::DataNode;
 use eventlist::event_since;
@@ -77,7 +77,7 @@ fn count_agreed(rt: &impl Abort, alloc: Global, block: &[u8]) -> usize {
 
 #[test]
 fn a_block_answers_as_its_node_does(rt: HostRuntime) {
-    for block in [first_block(), carrying_block()] {
+    for block in blocks() {
         assert!(rt; count_agreed(&rt, rt.alloc(), block) == 3200);
     }
 }
@@ -144,8 +144,13 @@ fn is_nothing_found(rt: &impl Abort, alloc: Global, bytes: &[u8]) -> bool {
 
 #[test]
 fn nothing_is_found_where_there_is_no_block(rt: HostRuntime) {
-    for length in 0..43 {
-        let bytes = first_block().split_at(length).0;
-        assert!(rt; is_nothing_found(&rt, rt.alloc(), bytes), "at {length}");
+    for (block, longest) in [(first_block(), 44), (old_first_block(), 43)] {
+        for length in 0..longest {
+            let bytes = block.split_at(length).0;
+            assert!(rt;
+                is_nothing_found(&rt, rt.alloc(), bytes),
+                "at {length} of {longest}"
+            );
+        }
     }
 }

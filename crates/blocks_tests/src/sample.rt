@@ -1,6 +1,8 @@
 //! Nodes and blocks that the tests share.
 ghost use Rattle.std.specs.Prelude.{◌≡◌, length};
 
+use blocks::{has_block, pack, unpack};
+use bytes::Bytes;
 use datanode::DataNode;
 use keyrange::{KeyRange, Rect, TimeRange};
 use std::alloc::Global;
@@ -9,6 +11,17 @@ use values::{Chars, Event, Instant, KeyBytes, Row, Value};
 
 /// All keys from 1 to 200: key 1 has the row (1, 'Ann') from 100 on.
 pub(crate) fn first_block() -> &'static [u8]
+    ensures { length result.now ≡ 61 }
+{
+    &[
+        84, 83, 66, 50, 2, 0, 0, 0, 0, 0, 0, 0, 0, 0, 0, 1, 0, 0, 0, 0, 0, 0, 0, 200, 1, 0, 9, 1,
+        128, 0, 0, 0, 0, 0, 0, 1, 0, 0, 0, 0, 0, 0, 0, 100, 1, 2, 1, 0, 0, 0, 0, 0, 0, 0, 1, 2, 0,
+        3, 65, 110, 110,
+    ]
+}
+
+/// The same in form 1.
+pub(crate) fn old_first_block() -> &'static [u8]
     ensures { length result.now ≡ 60 }
 {
     &[
@@ -21,6 +34,21 @@ pub(crate) fn first_block() -> &'static [u8]
 /// Keys 2 to 5 from 200 to 300: key 2 has a row of 100, which is carried; key 3 a row of six values
 /// of 200 and its deletion of 250; key 4 a row of 299.
 pub(crate) fn carrying_block() -> &'static [u8]
+    ensures { length result.now ≡ 175 }
+{
+    &[
+        84, 83, 66, 50, 6, 0, 9, 1, 128, 0, 0, 0, 0, 0, 0, 2, 1, 0, 9, 1, 128, 0, 0, 0, 0, 0, 0, 5,
+        0, 0, 0, 0, 0, 0, 0, 200, 0, 0, 0, 0, 0, 0, 1, 44, 4, 0, 9, 1, 128, 0, 0, 0, 0, 0, 0, 2, 0,
+        0, 0, 0, 0, 0, 0, 100, 1, 2, 1, 0, 0, 0, 0, 0, 0, 0, 2, 2, 0, 2, 195, 169, 0, 9, 1, 128, 0,
+        0, 0, 0, 0, 0, 3, 0, 0, 0, 0, 0, 0, 0, 200, 1, 6, 1, 0, 0, 0, 0, 0, 0, 0, 3, 0, 4, 3, 1,
+        255, 255, 255, 255, 255, 255, 255, 255, 2, 0, 0, 0, 9, 1, 128, 0, 0, 0, 0, 0, 0, 3, 0, 0,
+        0, 0, 0, 0, 0, 250, 0, 0, 9, 1, 128, 0, 0, 0, 0, 0, 0, 4, 0, 0, 0, 0, 0, 0, 1, 43, 1, 1, 1,
+        0, 0, 0, 0, 0, 0, 0, 4,
+    ]
+}
+
+/// The same in form 1.
+pub(crate) fn old_carrying_block() -> &'static [u8]
     ensures { length result.now ≡ 174 }
 {
     &[
@@ -32,6 +60,49 @@ pub(crate) fn carrying_block() -> &'static [u8]
         0, 0, 0, 250, 0, 0, 9, 1, 128, 0, 0, 0, 0, 0, 0, 4, 0, 0, 0, 0, 0, 0, 1, 43, 1, 1, 1, 0, 0,
         0, 0, 0, 0, 0, 4,
     ]
+}
+
+/// These blocks.
+pub(crate) fn blocks() -> [&'static [u8]; 4] {
+    [
+        first_block(),
+        old_first_block(),
+        carrying_block(),
+        old_carrying_block(),
+    ]
+}
+
+/// The bytes of a block of form 2 in form 1, which states nothing.
+pub(crate) fn in_form_1(rt: &impl Abort, alloc: Global, block: &[u8]) -> Vec<u8> {
+    let mut bytes = Vec::from_slice(alloc, b"TSB1").expect(rt, "there is memory");
+    for byte in block.iter().skip(5) {
+        bytes.push(*byte).expect(rt, "there is memory");
+    }
+    bytes
+}
+
+/// The block of a node that has one.
+pub(crate) fn pack_of(rt: &impl Abort, alloc: Global, node: &DataNode) -> Bytes {
+    if !has_block(node) {
+        panic!(rt; "the node has no block");
+    }
+    pack(alloc, node).expect(rt, "there is memory")
+}
+
+/// Whether the bytes are the node's block, of form 2 or of form 1.
+pub(crate) fn is_block_of(rt: &impl Abort, alloc: Global, bytes: &[u8], node: &DataNode) -> bool {
+    if !has_block(node) {
+        return false;
+    }
+    let packed = pack_of(rt, alloc, node);
+    let block = packed.as_slice();
+    bytes == block || bytes == in_form_1(rt, alloc, block).as_slice()
+}
+
+/// Whether bytes are a block, and then that of its form of the node that they are read as.
+pub(crate) fn is_block(rt: &impl Abort, alloc: Global, bytes: &[u8]) -> Option<bool> {
+    let node = unpack(alloc, bytes).expect(rt, "there is memory")?;
+    Some(is_block_of(rt, alloc, bytes, &node))
 }
 
 /// The key of a table's row whose key is this number.
@@ -59,6 +130,19 @@ pub(crate) fn current(rt: &impl Abort, alloc: Global) -> DataNode {
         lo: KeyBytes::least(alloc),
         hi: None,
     };
+    node_of(rt, alloc, keys)
+}
+
+/// A node of the keys from a number on and below another, from 1 on.
+pub(crate) fn node_between(rt: &impl Abort, alloc: Global, from: u8, to: u8) -> DataNode {
+    let keys = KeyRange {
+        lo: key(rt, alloc, from),
+        hi: Some(key(rt, alloc, to)),
+    };
+    node_of(rt, alloc, keys)
+}
+
+fn node_of(rt: &impl Abort, alloc: Global, keys: KeyRange) -> DataNode {
     let time = TimeRange { from: 1, to: None };
     let rect = Rect::new(keys, time).expect(rt, "there are instants");
     DataNode::new(alloc, rect).expect(rt, "there is memory")
@@ -103,7 +187,8 @@ pub(crate) fn put_deletion(
     put(rt, node, event(rt, key, at, None));
 }
 
-fn part_before(rt: &impl Abort, node: &DataNode, instant: Instant) -> DataNode {
+/// The part of a node before an instant.
+pub(crate) fn part_before(rt: &impl Abort, node: &DataNode, instant: Instant) -> DataNode {
     let halves = node.rect().cut_time(instant);
     let halves = halves.expect(rt, "there is memory");
     let (past, _now) = halves.expect(rt, "the instant is inside");

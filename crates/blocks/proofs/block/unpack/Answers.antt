@@ -1,11 +1,12 @@
-use Rattle.std.proofs.Common.{◌≡◌, Option, Some, None, IfSome, rules, ap, ◌∙◌}
+use Rattle.std.proofs.Common.{◌≡◌, Bool, true, false, Option, Some, None, IfSome, IfNone, rules, sym, ap, subst, ◌∙◌}
 use Rattle.values.proofs.RowReads.{are_bytes}
 use Rattle.datanode.specs.Node.{Node}
 use Rattle.keyrange.specs.Rect.{Area}
 use Rattle.keyrange.specs.Cut.{rect_of}
 use Rattle.blocks.specs.Head.{head_from, area_of}
-use Rattle.blocks.specs.Block.{IsBlockOf}
-use Rattle.blocks.proofs.BlockReads.{found_is, of_block, no_head, no_rect, same_area, if_ok}
+use Rattle.blocks.specs.Start.{is_right}
+use Rattle.blocks.specs.Gather.{IsCountedNode, NoCountedNode}
+use Rattle.blocks.proofs.BlockReads.{found_is, same_node, right_of, no_node, no_head, no_rect, of_area}
 use Rattle.blocks.proofs.block.unpack.Goals as goal
 
 pub returns-in_default-clause-of_block : goal.returns-in_default-clause-of_block
@@ -15,31 +16,67 @@ returns-in_default-clause-of_block c n b =
 
 pub returns-in_default-2-clause-of_block : goal.returns-in_default-2-clause-of_block
 returns-in_default-2-clause-of_block c n b =
-    let area : Area = area_of c.in-Some.head in
-    let head : head_from c.args.bytes.now ≡ Some ((area, c.in-Some.head.count), c.in-Some.events.now) = search rules in
+    let body = c.in-Some.head.body in
+    let area : Area = area_of body in
+    let head : head_from c.args.bytes.now ≡ Some ((c.in-Some.head.stated, (area, body.count)), c.in-Some.events.now) = search rules in
     let none : rect_of area.keys area.time ≡ None = search rules in
-    absurd (no_rect c.args.bytes.now area c.in-Some.head.count c.in-Some.events.now head none n b)
+    absurd (no_rect c.args.bytes.now c.in-Some.head.stated area body.count c.in-Some.events.now head none n b)
 
-pub returns-clause-found : goal.returns-clause-found
-returns-clause-found c =
-    let bytes = c.args.bytes.now in
-    let area : Area = area_of c.in-Some.head in
-    let head : head_from bytes ≡ Some ((area, c.in-Some.head.count), c.in-Some.events.now) = search rules in
-    let some : rect_of area.keys area.time ≡ Some c.in-Some-2.rect = search rules in
-    let there = head ∙ ap (λ (q : Area). Some ((q, c.in-Some.head.count), c.in-Some.events.now)) (same_area area c.in-Some-2.rect some) in
-    let is = found_is bytes c.in-Some-2.rect c.in-Some.head.count c.in-Some.events.now there (are_bytes bytes c.type_inv.bytes) in
-    if_ok c.counted_from.result _ _ (λ (o : Option Node). IfSome o (IsBlockOf bytes)) (λ o some none. each o is some) c.counted_from.ensures.some c.counted_from.ensures.none
-  where
-    each : (o : Option Node) {P Q : Node → Type 0} → ((m : Node) → P m → Q m) → IfSome o P → IfSome o Q
-    each None f p = tt
-    each (Some m) f p = f m p
+pub returns-in_default-3-clause-of_block : goal.returns-in_default-3-clause-of_block
+returns-in_default-3-clause-of_block c n b =
+    let body = c.in-Some.head.body in
+    let area : Area = area_of body in
+    let rect = c.in-Some-2.rect in
+    let left = c.in-Some.events.now in
+    let head : head_from c.args.bytes.now ≡ Some ((c.in-Some.head.stated, (area, body.count)), left) = search rules in
+    let is : rect_of area.keys area.time ≡ Some rect = search rules in
+    let none : c.in_ok-node.field-0 ≡ None = search rules in
+    let missing = subst (λ (o : Option Node). IfNone o (NoCountedNode rect body.count left)) none c.in_ok-node.ensures.none in
+    absurd (no_node c.args.bytes.now c.in-Some.head.stated rect body.count left (of_area c.args.bytes.now c.in-Some.head.stated area rect body.count left head is) missing n b)
 
-pub returns-clause-of_block : goal.returns-clause-of_block
-returns-clause-of_block c =
-    let bytes = c.args.bytes.now in
-    let area : Area = area_of c.in-Some.head in
-    let head : head_from bytes ≡ Some ((area, c.in-Some.head.count), c.in-Some.events.now) = search rules in
-    let some : rect_of area.keys area.time ≡ Some c.in-Some-2.rect = search rules in
-    let there = head ∙ ap (λ (q : Area). Some ((q, c.in-Some.head.count), c.in-Some.events.now)) (same_area area c.in-Some-2.rect some) in
-    if_ok c.counted_from.result _ _ (λ (o : Option Node). (n : Node) → IsBlockOf bytes n → o ≡ Some n)
-    (of_block bytes c.in-Some-2.rect c.in-Some.head.count c.in-Some.events.now there) c.counted_from.ensures.some c.counted_from.ensures.none
+pub returns-then-is_right-clause-found : goal.returns-then-is_right-clause-found
+returns-then-is_right-clause-found c =
+    let body = c.in-Some.head.body in
+    let area : Area = area_of body in
+    let rect = c.in-Some-2.rect in
+    let left = c.in-Some.events.now in
+    let node = c.in-Some-3.node in
+    let head : head_from c.args.bytes.now ≡ Some ((c.in-Some.head.stated, (area, body.count)), left) = search rules in
+    let is : rect_of area.keys area.time ≡ Some rect = search rules in
+    let some : c.in_ok-node.field-0 ≡ Some node = search rules in
+    let counted = subst (λ (o : Option Node). IfSome o (IsCountedNode rect body.count left)) some c.in_ok-node.ensures.some in
+    let right : is_right c.in-Some.head.stated node.events ≡ true = search rules in
+    found_is c.args.bytes.now c.in-Some.head.stated rect body.count left (of_area c.args.bytes.now c.in-Some.head.stated area rect body.count left head is)
+    (are_bytes c.args.bytes.now c.type_inv.bytes) node counted right
+
+pub returns-then-is_right-clause-of_block : goal.returns-then-is_right-clause-of_block
+returns-then-is_right-clause-of_block c n b =
+    let body = c.in-Some.head.body in
+    let area : Area = area_of body in
+    let rect = c.in-Some-2.rect in
+    let left = c.in-Some.events.now in
+    let node = c.in-Some-3.node in
+    let head : head_from c.args.bytes.now ≡ Some ((c.in-Some.head.stated, (area, body.count)), left) = search rules in
+    let is : rect_of area.keys area.time ≡ Some rect = search rules in
+    let some : c.in_ok-node.field-0 ≡ Some node = search rules in
+    let counted = subst (λ (o : Option Node). IfSome o (IsCountedNode rect body.count left)) some c.in_ok-node.ensures.some in
+    ap (λ (x : Node). Some x) (same_node c.args.bytes.now c.in-Some.head.stated rect body.count left (of_area c.args.bytes.now c.in-Some.head.stated area rect body.count left head is) node counted n b)
+
+-- what is stated is right of the node that the bytes are the block of
+pub returns-else-is_right-clause-of_block : goal.returns-else-is_right-clause-of_block
+returns-else-is_right-clause-of_block c n b =
+    let body = c.in-Some.head.body in
+    let area : Area = area_of body in
+    let rect = c.in-Some-2.rect in
+    let left = c.in-Some.events.now in
+    let node = c.in-Some-3.node in
+    let head : head_from c.args.bytes.now ≡ Some ((c.in-Some.head.stated, (area, body.count)), left) = search rules in
+    let is : rect_of area.keys area.time ≡ Some rect = search rules in
+    let some : c.in_ok-node.field-0 ≡ Some node = search rules in
+    let counted = subst (λ (o : Option Node). IfSome o (IsCountedNode rect body.count left)) some c.in_ok-node.ensures.some in
+    let wrong : is_right c.in-Some.head.stated node.events ≡ false = search rules in
+    let there = of_area c.args.bytes.now c.in-Some.head.stated area rect body.count left head is in
+    let same = same_node c.args.bytes.now c.in-Some.head.stated rect body.count left there node counted n b in
+    let right = right_of c.args.bytes.now c.in-Some.head.stated rect body.count left there n b in
+    let never : ◌≡◌ {A = Bool} true false = sym right ∙ ap (λ (x : Node). is_right c.in-Some.head.stated x.events) (sym same) ∙ wrong in
+    cc
