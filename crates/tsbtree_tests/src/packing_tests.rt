@@ -5,6 +5,7 @@ use crate::answer::{answers, answers_of};
 use crate::growth::{few_changes_split, key, one_key_split, two_parents, two_versions};
 use crate::line::{begins_with, count_packed, is_packed_line, shape_of};
 use blocks::Block;
+use bytes::Bytes;
 use datanode::DataNode;
 use keyrange::Rect;
 use std::alloc::Global;
@@ -185,6 +186,41 @@ fn a_block_is_taken_where_its_node_stands_unpacked(rt: HostRuntime) {
         let found = takes_version(&rt, rt.alloc(), value);
         assert!(rt; found == taken, "value {value}");
     }
+}
+
+/// The block of form 1 of a node, made of that of form 2: another mark, and no width behind it.
+fn old_block_of(rt: &impl Abort, alloc: Global, block: &Block) -> Block {
+    let mut bytes = Vec::from_slice(alloc, b"TSB1").expect(rt, "there is memory");
+    for byte in block.bytes().as_slice().iter().skip(5) {
+        bytes.push(*byte).expect(rt, "there is memory");
+    }
+    let bytes = Bytes::from_vec(bytes).expect(rt, "there is memory");
+    let found = Block::from_bytes(alloc, bytes).expect(rt, "there is memory");
+    found.expect(rt, "the bytes are a block")
+}
+
+/// Puts a block of form 1 into a tree, in the place of the node that it unpacks to.
+fn install_old(rt: &impl Abort, alloc: Global, tree: &mut Tree, block: &Block) -> bool {
+    let old = old_block_of(rt, alloc, block);
+    let node = old.unpack(alloc).expect(rt, "there is memory");
+    tree.install(&node, old).expect(rt, "there is memory")
+}
+
+/// Whether a tree takes the block of form 1 of its first unpacked node, how many nodes are packed
+/// then, and whether the node's row is found as before.
+fn takes_old(rt: &impl Abort, alloc: Global) -> (bool, usize, bool) {
+    let mut tree = two_versions(rt, alloc, 1);
+    let before = view_of(rt, &tree);
+    let first = before.first_unpacked(None).expect(rt, "a node of history");
+    let block = Block::pack(alloc, first).expect(rt, "there is memory");
+    let taken = install_old(rt, alloc, &mut tree, &block);
+    let alike = answers(rt, alloc, &before, 1, 150) == answers(rt, alloc, tree.current(), 1, 150);
+    (taken, count_packed(&shape_of(rt, alloc, tree)), alike)
+}
+
+#[test]
+fn a_block_of_form_1_is_taken(rt: HostRuntime) {
+    assert!(rt; takes_old(&rt, rt.alloc()) == (true, 1, true));
 }
 
 /// Whether a tree with five nodes of history answers as before, after some of them are packed.
