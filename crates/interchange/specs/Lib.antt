@@ -2,3 +2,8 @@ pub mod Field
 pub mod Load
 pub mod Version
 pub mod Report
+pub mod Place
+pub mod OpenRecord
+pub mod Insertion
+pub mod Loading
+pub mod Stream

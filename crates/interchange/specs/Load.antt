@@ -10,6 +10,7 @@ use Rattle.values.specs.declared.table.Table.{Table}
 use Rattle.values.specs.declared.refusal.Refusal.{Refusal}
 use Rattle.values.specs.declared.refusal.Refusal.TheVariants.{BadRow, Memory}
 use Rattle.values.specs.Log.{Row}
+use Rattle.values.specs.Writes.{Own, insert_into}
 use Rattle.values.specs.Names.{column_number}
 use Rattle.statement.specs.Meaning.{is_column_list, place_of, row_in}
 use Rattle.interchange.specs.Field.{field_value}
@@ -73,3 +74,17 @@ abbrev pub Loads : Table → List ℕ → Result (List Row) Refusal → Type 0
 Loads table bytes (Err Memory) = Unit {0}
 Loads table bytes result =
     (records : List Record) × AreRecordsOf bytes records × (rows_of table records ≡ result)
+
+-- ---- what an INSERT makes of them
+
+-- a transaction that has written nothing, over no rows
+abbrev pub nothing : Own
+nothing = record { rows = []; written = [] }
+
+-- rows, unless there is a reason why there are none, or why an INSERT of them over no rows is refused
+abbrev pub inserted : Table → Result (List Row) Refusal → Result (List Row) Refusal
+inserted table (Err why) = Err why
+inserted table (Ok rows) = elim (insert_into table rows nothing).0 [
+  | Err why ↦ Err why
+  | Ok count ↦ Ok rows
+]

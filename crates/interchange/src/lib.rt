@@ -2,12 +2,19 @@
 #![tactic(auto)]
 
 mod field;
+mod insertion;
+mod key_set;
 mod load;
+mod loading;
+mod open_record;
+mod place;
 mod record;
 mod report;
+mod stream;
 mod version;
 
 pub use field::whole_within;
 pub use load::load_rows;
 pub use report::{loaded_line, numbered_line, print_whole};
+pub use stream::{LoadFault, load_from};
 pub use version::{ExportFault, export};

@@ -1,9 +1,11 @@
 //! The rows of a file.
-ghost use Rattle.std.specs.Prelude.{◌≡◌, ◌≤◌, length, map, IfOk, [], unwrap_or};
+ghost use Rattle.std.specs.Prelude.{◌≡◌, ◌⊎◌, ◌≤◌, length, map, IfErr, IfOk, [], unwrap_or, false, true};
 ghost use Rattle.csv.specs.Records.{fields_of, field_at};
 ghost use Rattle.values.specs.Memory.{OnlyMemory};
 ghost use Rattle.values.specs.Tables.{widest};
+ghost use Rattle.statement.specs.Meaning.{is_column_list};
 ghost use Rattle.statement.specs.Memory.{UnlessMemory};
+ghost use Rattle.values.specs.declared.refusal.Refusal.{Refusal};
 ghost use Rattle.interchange.specs.Load.{column_list, value_in, values_from, row_of, rows_from, rows_of, Loads, vec_items};
 
 use crate::field::field_value;
@@ -34,6 +36,26 @@ fn column_list(
         columns.push(table.column(field_at(header, i)).unwrap_or(0))?;
     }
     Ok(columns)
+}
+
+/// The columns that a header names, which are a column list; `BadRow` of 0 where they are none.
+pub(crate) fn columns_of(
+    alloc: Global,
+    table: &Table,
+    header: &ByteRecord,
+) -> Mem<Vec<ColumnNumber>>
+    ensures ok { IfOk result (λ columns.
+        columns.items ≡ column_list table.now (fields_of header.now)) }
+    ensures list { IfOk result (λ columns. is_column_list columns.items ≡ true) }
+    ensures err { IfErr result (λ why. (why ≡ Refusal.Memory) ⊎ ((why ≡ Refusal.BadRow 0)
+        × (is_column_list (column_list table.now (fields_of header.now)) ≡ false))) }
+{
+    let columns = column_list(alloc, table, header)?;
+    if is_column_list(columns.as_slice()) {
+        Ok(columns)
+    } else {
+        Err(Refusal::BadRow(0))
+    }
 }
 
 /// The value that a record gives a column; NULL where the header does not name it.
@@ -73,7 +95,12 @@ fn values_of(
 }
 
 /// The row that a record writes.
-fn row_of(alloc: Global, table: &Table, columns: &[ColumnNumber], fields: &ByteRecord) -> Mem<Row>
+pub(crate) fn row_of(
+    alloc: Global,
+    table: &Table,
+    columns: &[ColumnNumber],
+    fields: &ByteRecord,
+) -> Mem<Row>
     requires some { 1 ≤ length table.now.columns }
     requires few { length table.now.columns ≤ widest }
     ensures { UnlessMemory result (row_of table.now columns.now (fields_of fields.now)) }

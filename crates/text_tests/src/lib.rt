@@ -8,6 +8,8 @@ mod first_tests;
 #[cfg(test)]
 mod line_tests;
 #[cfg(test)]
+mod load_from_tests;
+#[cfg(test)]
 mod load_tests;
 #[cfg(test)]
 mod stream_tests;

@@ -1,0 +1,32 @@
+-- Rows that one INSERT over no rows is to take, as they come.
+use Rattle.std.specs.Prelude.{◌≡◌, ◌≤◌, List, [], Some, None, length, map, All}
+use Rattle.values.specs.declared.table.Table.{Table}
+use Rattle.values.specs.declared.key.Key.{Key}
+use Rattle.values.specs.Log.{Row}
+use Rattle.values.specs.KeyEncoding.{bytes_of_key}
+use Rattle.values.specs.KeyReading.{IsKeyOf}
+use Rattle.values.specs.Writes.{key_of, duplicate_from, add_keys, most_written}
+use Rattle.interchange.specs.declared.key_set.KeySet.{KeySet}
+use Rattle.interchange.specs.declared.insertion.Insertion.{Insertion}
+
+-- the keys of rows, in their order
+abbrev pub keys_of : Table → List Row → List Key
+keys_of table rows = map (key_of table) rows
+
+-- the set has these keys of the table, by their bytes
+pub record HasKeys (table : Table) (keys : List Key) (set : KeySet) : Type 0 where
+  pub of_table : All (IsKeyOf table) (add_keys keys [])
+  pub bytes_are : set.keys.keys ≡ map bytes_of_key (add_keys keys [])
+
+-- these rows came so far, no two of them with one key; as many are kept as one INSERT may have
+pub record AreApart (table : Table) (rows : List Row) (i : Insertion) : Type 0 where
+  pub apart : duplicate_from [] [] (keys_of table rows) ≡ None
+  pub keys : HasKeys table (keys_of table rows) i.keys
+  pub kept : length (add_keys (keys_of table rows) []) ≤ most_written → i.rows.items ≡ rows
+
+-- these rows came so far: no two with one key, or the first key that an earlier row has is known
+abbrev pub HasCome : Table → List Row → Insertion → Type 0
+HasCome table rows i = elim i.repeated [
+  | None ↦ AreApart table rows i
+  | Some key ↦ duplicate_from [] [] (keys_of table rows) ≡ Some key
+]

@@ -1,0 +1,256 @@
+//! Files of CSV that are read from a stream.
+use interchange::{LoadFault, load_from, load_rows};
+use std::alloc::Global;
+use std::io;
+use std::io::{ErrorKind, Read};
+use std::process::Abort;
+use values::{Refusal, Row, Table, Value};
+
+/// A reader that gives at most so many bytes at a call, and fails at the call after so many.
+#[derive(Drop)]
+struct Pieces<'a> {
+    rest: &'a [u8],
+    most: usize,
+    calls: usize,
+}
+
+impl Read for Pieces<'_> {
+    fn read(&mut self, buf: &mut [u8]) -> io::Result<usize> {
+        if self.calls == 0 {
+            return Err(io::Error::from(ErrorKind::Other));
+        }
+        self.calls -= 1;
+        let n = self.rest.len().min(buf.len()).min(self.most);
+        let (front, rest) = self.rest.split_at(n);
+        buf.split_at_mut(n).0.copy_from_slice(front);
+        self.rest = rest;
+        Ok(n)
+    }
+}
+
+/// The rows of a file for the sample table.
+fn load(rt: &impl Abort, alloc: Global, bytes: &[u8]) -> Result<Vec<Row>, LoadFault> {
+    let table = Table::sample(alloc).expect(rt, "there is memory");
+    let mut reader = Pieces {
+        rest: bytes,
+        most: 4096,
+        calls: usize::MAX,
+    };
+    load_from(alloc, &mut reader, &table)
+}
+
+/// Appends lines with the numbers from the first up to the end as keys.
+fn add_rows<R: AllocGlobal + Abort>(rt: &R, text: &mut Vec<u8>, first: usize, end: usize) {
+    for number in first..end {
+        let line = format!(in rt.alloc(); "{number},x\n").expect(rt, "there is memory");
+        let added = text.extend_from_slice(line.as_str().as_bytes());
+        added.expect(rt, "there is memory");
+    }
+}
+
+/// Appends a line.
+fn add(rt: &impl Abort, text: &mut Vec<u8>, line: &[u8]) {
+    let added = text.extend_from_slice(line);
+    added.expect(rt, "there is memory");
+}
+
+/// A header, and rows with the keys from 1 up to the end.
+fn rows_below<R: AllocGlobal + Abort>(rt: &R, end: usize) -> Vec<u8> {
+    let mut text = b"no,name\n"
+        .to_vec(rt.alloc())
+        .expect(rt, "there is memory");
+    add_rows(rt, &mut text, 1, end);
+    text
+}
+
+fn is_bad_row(loaded: Result<Vec<Row>, LoadFault>, column: usize) -> bool {
+    match loaded {
+        Err(LoadFault::Refused(Refusal::BadRow(at))) => at == column,
+        _ => false,
+    }
+}
+
+/// Whether a load is refused for a key of this number.
+fn repeats(loaded: Result<Vec<Row>, LoadFault>, number: i64) -> bool {
+    match loaded {
+        Err(LoadFault::Refused(Refusal::DuplicateKey(key))) => match key.parts.items() {
+            [Value::Int(found)] => *found == number,
+            _ => false,
+        },
+        _ => false,
+    }
+}
+
+#[test]
+fn a_thousand_rows_are_loaded_and_one_more_is_too_many(rt: HostRuntime) {
+    let text = rows_below(&rt, 1001);
+    let rows = load(&rt, rt.alloc(), text.as_slice()).expect(&rt, "the file has rows");
+    assert_eq!(rt; rows.len(), 1000);
+    for end in [1002, 1003, 2501] {
+        let text = rows_below(&rt, end);
+        let loaded = load(&rt, rt.alloc(), text.as_slice());
+        assert!(rt;
+            matches!(loaded, Err(LoadFault::Refused(Refusal::TooManyWrites))),
+            "{end}"
+        );
+    }
+}
+
+#[test]
+fn a_key_that_repeats_comes_before_too_many_rows(rt: HostRuntime) {
+    for (first, end, number) in [(5, 6, 5), (1200, 1201, 1200), (1499, 1500, 1499)] {
+        let mut text = rows_below(&rt, 1500);
+        add_rows(&rt, &mut text, first, end);
+        add_rows(&rt, &mut text, 3, 4);
+        add_rows(&rt, &mut text, 1501, 1601);
+        let loaded = load(&rt, rt.alloc(), text.as_slice());
+        assert!(rt; repeats(loaded, number), "{number}");
+    }
+}
+
+#[test]
+fn a_record_that_is_no_row_comes_before_all_that_an_insert_refuses(rt: HostRuntime) {
+    for (first, end) in [(1501, 1502), (5, 6)] {
+        let mut text = rows_below(&rt, 1501);
+        add_rows(&rt, &mut text, first, end);
+        add_rows(&rt, &mut text, 1502, 2000);
+        add(&rt, &mut text, b"2000,\xff\nx,y\n");
+        let loaded = load(&rt, rt.alloc(), text.as_slice());
+        assert!(rt; is_bad_row(loaded, 2), "{first}");
+    }
+}
+
+/// A row whose name has so many bytes.
+fn long_name<R: AllocGlobal + Abort>(rt: &R, count: usize) -> Vec<u8> {
+    let mut text = b"no,name\n1,\""
+        .to_vec(rt.alloc())
+        .expect(rt, "there is memory");
+    for _ in 0..count {
+        add(rt, &mut text, b"x");
+    }
+    add(rt, &mut text, b"\"\n");
+    text
+}
+
+#[test]
+fn a_text_that_is_too_long_is_named_by_its_column(rt: HostRuntime) {
+    let text = long_name(&rt, 1000);
+    let rows = load(&rt, rt.alloc(), text.as_slice()).expect(&rt, "the file has a row");
+    assert_eq!(rt; rows.len(), 1);
+    for count in [1001, 3000, 70000] {
+        let text = long_name(&rt, count);
+        let loaded = load(&rt, rt.alloc(), text.as_slice());
+        assert!(rt; is_bad_row(loaded, 2), "{count}");
+    }
+}
+
+/// The number that a row of so many zeros and then these bytes has.
+fn number_after_zeros<R: AllocGlobal + Abort>(rt: &R, zeros: usize, end: &[u8]) -> Option<i64> {
+    let mut text = b"no,name\n-"
+        .to_vec(rt.alloc())
+        .expect(rt, "there is memory");
+    for _ in 0..zeros {
+        add(rt, &mut text, b"0");
+    }
+    add(rt, &mut text, end);
+    add(rt, &mut text, b",x\n");
+    let Ok(rows) = load(rt, rt.alloc(), text.as_slice()) else {
+        return None;
+    };
+    match rows.first()?.values().first()? {
+        Value::Int(number) => Some(*number),
+        _ => None,
+    }
+}
+
+#[test]
+fn leading_zeros_of_a_number_do_not_matter(rt: HostRuntime) {
+    let ends: [(&[u8], Option<i64>); 6] = [
+        (b"", Some(0)),
+        (b"7", Some(-7)),
+        (b"9223372036854775808", Some(i64::MIN)),
+        (b"9223372036854775809", None),
+        (b"100000000000000000000000000000", None),
+        (b"7x", None),
+    ];
+    for zeros in [3, 999, 1000, 1001, 5000] {
+        for (end, number) in ends {
+            assert!(rt;
+                number_after_zeros(&rt, zeros, end) == number,
+                "{zeros} {end:?}"
+            );
+        }
+    }
+}
+
+const FILES: [&[u8]; 20] = [
+    b"",
+    b"\xef\xbb\xbf",
+    b"\xef\xbb",
+    b"\xef\xbb\xbfno,name\n1,Ann\n",
+    b"\xef\xbbno\n1\n",
+    b"\xef\xbb\xbf\"no\",name\n1,Ann\n",
+    b"\r\n\n",
+    b"no",
+    b"no,name\n",
+    b"no,no\n1,1\n",
+    b"nome\n1\n",
+    b"no,name\n1\n",
+    b"no,name\n1,Ann,x\n",
+    b"no,name\n1,Ann\n\r\n2,\n",
+    b"no,name\r1,Ann\r\r2,\"a, \"\"b\"\"\"c\r",
+    b"name,no\r\n\"a\"b\"c\",1\r\n",
+    b"no,name\n1,\"a",
+    b"no,name\n1,a\"b\",",
+    b"no,name\n1,\"\"\n2,\"\"",
+    b"no,name\nx,\xff\n",
+];
+
+/// Whether a stream of a file, in such pieces, is answered as the file is.
+fn is_read_as_whole(rt: &impl Abort, alloc: Global, bytes: &[u8], most: usize) -> bool {
+    let table = Table::sample(alloc).expect(rt, "there is memory");
+    let mut reader = Pieces {
+        rest: bytes,
+        most,
+        calls: usize::MAX,
+    };
+    let whole = load_rows(alloc, bytes, &table);
+    match (load_from(alloc, &mut reader, &table), whole) {
+        (Ok(rows), Ok(all)) => {
+            rows.len() == all.len() && (0..rows.len()).all(|i| rows[i].values() == all[i].values())
+        }
+        (Err(LoadFault::Refused(refusal)), Err(why)) => refusal == why,
+        _ => false,
+    }
+}
+
+#[test]
+fn a_stream_is_answered_as_the_file_is_whole(rt: HostRuntime) {
+    for bytes in FILES {
+        for most in [1, 2, 3, 7, 4096] {
+            assert!(rt;
+                is_read_as_whole(&rt, rt.alloc(), bytes, most),
+                "{bytes:?} by {most}"
+            );
+        }
+    }
+}
+
+#[test]
+fn a_reader_that_fails_ends_a_load(rt: HostRuntime) {
+    let bytes = b"no,name\n1,Ann\n2,Bea\n";
+    let table = Table::sample(rt.alloc()).expect(&rt, "there is memory");
+    for calls in 0..10usize {
+        let mut reader = Pieces {
+            rest: bytes,
+            most: 4,
+            calls,
+        };
+        let loaded = load_from(rt.alloc(), &mut reader, &table);
+        assert_eq!(rt; loaded.is_ok(), calls == 9, "{calls}");
+        assert!(rt;
+            calls == 9 || matches!(loaded, Err(LoadFault::Read)),
+            "{calls}"
+        );
+    }
+}
