@@ -14,6 +14,7 @@ use Rattle.command_line.specs.declared.fault.Fault.{Fault}
 use Rattle.command_line.specs.declared.fault.Fault.TheVariants.{Words, SchemaSyntax, BadTable, SchemaMemory, NoExport, Load, Read, Write, Socket, NotClosed, Memory}
 use Rattle.command_line.specs.Options.{name_in}
 use Rattle.interchange.specs.Report.{loaded_text}
+use Rattle.command_line.proofs.LoadRefused.{first_refused}
 use Rattle.command_line.specs.Load.{IsNamed, FileSays, HasNoRows, IsLed, IsUnread, IsUnreported, Unloaded, steps_of}
 
 same_text : (schema : Schema) (s : SystemState) (number : ℕ) (rows : List Row) (count instant : ℕ) → count ≡ length rows → s.schema ≡ schema → instant ≡ last (log s.schema (history_of (steps_of number rows)))
@@ -70,5 +71,12 @@ no_rows_of NotClosed schema text table named unread = absurd unread
 no_rows_of Memory schema text table named unread = absurd unread
 no_rows_of Read schema text table named unread = tt
 no_rows_of (Load refusal) schema text table named (inl out) = inl out
-no_rows_of (Load refusal) schema text table named (inr (bytes, loads)) =
+no_rows_of (Load refusal) schema text table named (inr (inl (bytes, loads))) =
     inr (inr (inl (table.number, record { table = table; is_named = named; number_is = refl; bytes = bytes; loads = loads })))
+no_rows_of (Load refusal) schema text table named (inr (inr file)) =
+    inr (inr (inr record {
+      number = table.number;
+      rows = file.rows;
+      says = record { table = table; is_named = named; number_is = refl; bytes = file.bytes; loads = file.loads };
+      refused = first_refused schema table file.rows refusal named.table_is file.fit file.refused;
+    }))

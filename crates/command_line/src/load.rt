@@ -16,7 +16,7 @@ ghost use Rattle.command_line.specs.Load.{IsLed, IsNamed, FileSays, HasNoRows, I
 
 use crate::fault::{Fault, load_fault};
 use crate::output::print;
-use interchange::{load_rows, loaded_line};
+use interchange::{LoadFault, load_from, loaded_line};
 use interleaving::System;
 use listening::TableRows;
 use scripts::lead;
@@ -57,13 +57,6 @@ fn table_named<'a>(schema: &'a Schema, name: &str) -> Option<&'a Table>
     }
 }
 
-/// Returns the bytes of a file.
-fn bytes_of<R: AllocGlobal + Files>(rt: &R, file: &str) -> io::Result<Vec<u8>> {
-    let mut bytes = Vec::new(rt.alloc());
-    File::open(rt, file)?.read_to_end(&mut bytes)?;
-    Ok(bytes)
-}
-
 fn file_fault(error: &io::Error) -> Fault
     ensures { (table : Table) → IsUnread result table }
 {
@@ -73,15 +66,16 @@ fn file_fault(error: &io::Error) -> Fault
     }
 }
 
-/// Reads the rows of a table from a file's bytes.
-fn rows_in(alloc: Global, table: &Table, bytes: &[u8]) -> Result<Vec<Row>, Fault>
+/// Reads the rows of a table from a file that is open.
+fn rows_in<F: Read>(alloc: Global, table: &Table, file: &mut F) -> Result<Vec<Row>, Fault>
     requires good { IsTable table.now.number table.now }
-    ensures ok { IfOk result (λ rows. Loads table.now bytes.now (Ok rows.items)) }
+    ensures ok { IfOk result (λ rows. (bytes : List ℕ) × Loads table.now bytes (Ok rows.items)) }
     ensures err { IfErr result (λ fault. IsUnread fault table.now) }
 {
-    match load_rows(alloc, bytes, table) {
+    match load_from(alloc, file, table) {
         Ok(rows) => Ok(rows),
-        Err(refusal) => Err(Fault::Load(refusal)),
+        Err(LoadFault::Read) => Err(Fault::Read),
+        Err(LoadFault::Refused(refusal)) => Err(Fault::Load(refusal)),
     }
 }
 
@@ -91,8 +85,8 @@ fn table_rows<R: AllocGlobal + Files>(rt: &R, table: &Table, file: &str) -> Resu
     ensures ok { IfOk result (λ rows. (bytes : List ℕ) × Loads table.now bytes (Ok rows.items)) }
     ensures err { IfErr result (λ fault. IsUnread fault table.now) }
 {
-    match bytes_of(rt, file) {
-        Ok(bytes) => rows_in(rt.alloc(), table, bytes.as_slice()),
+    match File::open(rt, file) {
+        Ok(mut opened) => rows_in(rt.alloc(), table, &mut opened),
         Err(error) => Err(file_fault(&error)),
     }
 }
