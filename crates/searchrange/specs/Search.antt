@@ -6,7 +6,7 @@ use Rattle.values.specs.declared.table.Table.{Table}
 use Rattle.values.specs.declared.query.Keys.{Keys}
 use Rattle.values.specs.Event.{Event}
 use Rattle.values.specs.Log.{Row}
-use Rattle.values.specs.Tables.{IsTable}
+use Rattle.values.specs.Tables.{IsTable, full_row}
 use Rattle.values.specs.Versions.{matches}
 use Rattle.values.specs.KeyReading.{IsKeyWith, key_from}
 use Rattle.keyrange.specs.declared.range.KeyRange.{KeyRange}
@@ -54,11 +54,12 @@ is_taken table keys bytes = elim (key_from table bytes) [
   | Some key ↦ matches table keys key
 ]
 
--- an event's row, where the condition takes its key
+-- an event's row, as wide as the table, where the condition takes its key
 abbrev pub row_taken : Table → Keys → Event → Option Row
-row_taken table keys e = if is_taken table keys e.key then e.row else None
+row_taken table keys e =
+    if is_taken table keys e.key then option_map (full_row table) e.row else None
 
--- and the key before it
+-- and the key, with the row as it is stored
 abbrev pub entry_taken : Table → Keys → Event → Option (Key × Row)
 entry_taken table keys e = elim (key_from table e.key) [
   | None ↦ None

@@ -1,6 +1,6 @@
 //! What a search condition takes of a table: a range of keys, and those of them that meet it.
 ghost use Rattle.std.specs.Prelude.{◌≡◌, IfOk, IfSome};
-ghost use Rattle.values.specs.Tables.{IsTable};
+ghost use Rattle.values.specs.Tables.{IsTable, full_row};
 ghost use Rattle.values.specs.KeyEncoding.{IsShortKey};
 ghost use Rattle.values.specs.Memory.{OnlyMemory};
 ghost use Rattle.searchrange.specs.SearchRange.{search_range, range_of_table, Covers, IsWithin};
@@ -114,7 +114,7 @@ impl<'a> Search<'a> {
     }
 
     /// Returns the row of an event whose key is of the table and in the range, where the condition
-    /// takes the key.
+    /// takes the key. A row that was stored before columns were added has NULL in them.
     pub fn row_in(&self, alloc: Global, event: &Event) -> Mem<Option<Row>>
         ensures ok { IfOk result (λ row. IsInSearch self.now.table self.now.range event.now.key
             → row ≡ row_taken self.now.table self.now.keys event.now) }
@@ -126,10 +126,18 @@ impl<'a> Search<'a> {
         if !self.takes(alloc, event.key())? {
             return Ok(None);
         }
-        Ok(Some(read_stored(row)?))
+        Ok(Some(self.full_row(row)?))
     }
 
-    /// Reads an event like [`Search::row_in`], and returns the key with the row.
+    /// Copies a stored row, as wide as the table.
+    fn full_row(&self, row: &Row) -> Mem<Row>
+        ensures ok { IfOk result (λ r. r ≡ full_row self.now.table row.now) }
+        ensures err { OnlyMemory result }
+    {
+        row.copy()?.widen(self.table.columns.items().len())
+    }
+
+    /// Reads an event like [`Search::row_in`], and returns the key with the row as it is stored.
     pub fn entry_in(&self, alloc: Global, event: &Event) -> Mem<Option<(Key, Row)>>
         ensures ok { IfOk result (λ entry. IsInSearch self.now.table self.now.range event.now.key
             → entry ≡ entry_taken self.now.table self.now.keys event.now) }
@@ -140,16 +148,8 @@ impl<'a> Search<'a> {
             return Ok(None);
         };
         match self.key_in(alloc, event.key())? {
-            Some(key) => Ok(Some((key, read_stored(row)?))),
+            Some(key) => Ok(Some((key, row.copy()?))),
             None => Ok(None),
         }
     }
-}
-
-/// The row that a stored one is read as, by queries and by writes.
-fn read_stored(row: &Row) -> Mem<Row>
-    ensures ok { IfOk result (λ r. r ≡ row.now) }
-    ensures err { OnlyMemory result }
-{
-    row.copy()
 }

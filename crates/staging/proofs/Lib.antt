@@ -10,4 +10,5 @@ pub mod NetEvents
 pub mod StagedPutBack
 pub mod StagedSeen
 pub mod StagedTaken
+pub mod StagedWide
 pub mod UpdateStored

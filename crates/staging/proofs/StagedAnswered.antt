@@ -20,7 +20,7 @@ use Rattle.values.specs.declared.refusal.Refusal.{Refusal}
 use Rattle.values.specs.declared.refusal.Refusal.TheVariants.{NoTable, DuplicateKey}
 use Rattle.values.specs.Order.{key_cmp, is_key}
 use Rattle.values.specs.Log.{State, Net, Row, Changes, row_at, set_row, apply_net, rows_after}
-use Rattle.values.specs.Tables.{Schema, IsTable}
+use Rattle.values.specs.Tables.{Schema, IsTable, full_row}
 use Rattle.values.specs.Fit.{rows_fault, row_fault, key_fault, comparisons_fault, sets_fault, first_of}
 use Rattle.values.specs.Faults.{no_fault}
 use Rattle.values.specs.Writes.{Own, Written, write_keys, key_of, insert_into, update_in, delete_from, insert_rows, duplicate, duplicate_from, update_rows, delete_rows, matching_keys, set_all}
@@ -34,10 +34,11 @@ use Rattle.values.proofs.KeyLengths.{fitting_keys_are_short, first_none}
 use Rattle.values.proofs.RowKeys.{fitting_key, keys_are_short}
 use Rattle.tsbtree.specs.View.{events, TreeState}
 use Rattle.staging.specs.Own.{Reads, rows_seen, own}
-use Rattle.staging.specs.Staged.{put_all, put_answer, insertions, updates, deletions, sees, first_seen, rows_in}
+use Rattle.staging.specs.Staged.{put_all, put_answer, insertions, updates, deletions, full_rows, sees, first_seen, rows_in}
 use Rattle.searchrange.specs.Search.{entry_taken}
-use Rattle.staging.proofs.StagedEntries.{sorted_from, sorted_apply, apply-updates, apply-deletions}
+use Rattle.staging.proofs.StagedEntries.{sorted_from, sorted_apply, changed_to, apply-updates, apply-deletions}
 use Rattle.staging.proofs.ViewBridge.{are_seen, keyed_changes, sorted_base, sees_is, key_in}
+use Rattle.staging.proofs.StagedWide.{updates_wide}
 use Rattle.staging.proofs.StagedCalls.{put_is, put_keys, all_entry, all_chosen}
 
 -- ---- the keys of rows that fit
@@ -174,27 +175,30 @@ rows_short found p w f h =
 
 -- ---- UPDATE and DELETE
 
-update_keys : (sets : List Set) (es : State) → keys_of (updates sets es) ≡ map (λ e. e.0) es
-update_keys sets [] = refl
-update_keys sets (e ∷ es) = ap (λ l. e.0 ∷ l) (update_keys sets es)
-
 delete_keys : (es : State) → keys_of (deletions es) ≡ map (λ e. e.0) es
 delete_keys [] = refl
 delete_keys (e ∷ es) = ap (λ l. e.0 ∷ l) (delete_keys es)
 
 pub update_done : (table : Table) (keys : Keys) (sets : List Set) (m : Changes) (w new : Net) (r : Result ℕ Refusal) (cs : Net) (found : State)
-    → found ≡ filter (λ e. matches table keys e.0) (rows_seen m w) → cs ≡ updates sets found → T (is_sorted key_cmp w) → r ≡ put_answer cs w → OnOk r (new ≡ put_all cs w) → OnErr r (new ≡ w)
+    → found ≡ filter (λ e. matches table keys e.0) (rows_seen m w) → cs ≡ updates sets (full_rows table found) → T (is_sorted key_cmp w) → r ≡ put_answer cs w → OnOk r (new ≡ put_all cs w) → OnErr r (new ≡ w)
     → ◌≡◌ {A = Written} (r, own m new) (update_in table keys sets (own m w))
 update_done table keys sets m w new r cs found found_is is sorted answer ok err =
     put_is m cs w new r sorted answer ok err
-    ∙ ap (λ cs. write_keys (keys_of cs) (length cs) (apply_net (rows_seen m w) cs) (own m w)) (is ∙ ap (updates sets) found_is)
-    ∙ (λ i. write_keys (update_keys sets kept i) (count i) (apply-updates (matches table keys) sets (rows_seen m w) (sorted_apply w (rows_after [] m) (sorted_base m)) i) (own m w))
+    ∙ ap (λ cs. write_keys (keys_of cs) (length cs) (apply_net (rows_seen m w) cs) (own m w)) (is ∙ ap (λ m. updates sets (full_rows table m)) found_is ∙ updates_wide table sets kept)
+    ∙ (λ i. write_keys (changed_keys kept i) (count i) (apply-updates (matches table keys) set_wide (rows_seen m w) (sorted_apply w (rows_after [] m) (sorted_base m)) i) (own m w))
   where
+    set_wide : Row → Row
+    set_wide row = set_all sets (full_row table row)
+
     kept : State
     kept = filter (λ e. matches table keys e.0) (rows_seen m w)
 
-    count : length (updates sets kept) ≡ length (matching_keys table keys (rows_seen m w))
-    count = length-map kept (λ e. (e.0, Some (set_all sets e.1))) ∙ sym (length-map kept (λ e. e.0))
+    changed_keys : (m : State) → keys_of (changed_to set_wide m) ≡ map (λ e. e.0) m
+    changed_keys [] = refl
+    changed_keys (e ∷ m) = ap (λ l. e.0 ∷ l) (changed_keys m)
+
+    count : length (changed_to set_wide kept) ≡ length (matching_keys table keys (rows_seen m w))
+    count = length-map kept (λ e. (e.0, Some (set_wide e.1))) ∙ sym (length-map kept (λ e. e.0))
 
 pub delete_done : (table : Table) (keys : Keys) (m : Changes) (w new : Net) (r : Result ℕ Refusal) (cs : Net) (found : State)
     → found ≡ filter (λ e. matches table keys e.0) (rows_seen m w) → cs ≡ deletions found → T (is_sorted key_cmp w) → r ≡ put_answer cs w → OnOk r (new ≡ put_all cs w) → OnErr r (new ≡ w)

@@ -11,15 +11,14 @@ use Rattle.std.specs.FinMap.{is_sorted}
 use Rattle.std.specs.FinMap.Entries.{below_all, is_sorted-where_key}
 use Rattle.std.specs.List.Sorted.{IsStrictlySortedBy}
 use Rattle.values.specs.declared.key.Key.{Key}
-use Rattle.values.specs.declared.query.Set.{Set}
 use Rattle.values.specs.Order.{key_cmp, is_key}
 use Rattle.values.specs.Log.{State, Net, Row, row_at, set_row, apply_net}
-use Rattle.values.specs.Writes.{set_all, add_keys}
+use Rattle.values.specs.Writes.{add_keys}
 use Rattle.values.proofs.OrderTotal.{key_cmp_total, key_cmp-IsAntisymmetric, both, first, second}
 use Rattle.values.proofs.LogMaps.{same_map, sorted_insert, lookup-insert_entry}
 use Rattle.values.proofs.OrderSorted.{is_less, is_equal, sorted_from as sorted_by_key}
 use Rattle.values.proofs.LogStates.{row_at-set_row, sorted_set_row}
-use Rattle.staging.specs.Staged.{put_all, updates, deletions}
+use Rattle.staging.specs.Staged.{put_all, deletions}
 
 pub same_key : (q k : Key) → is_key q k ≡ true → q ≡ k
 same_key q k e = key_cmp-IsAntisymmetric q k (is_equal (key_cmp q k) e)
@@ -120,11 +119,15 @@ keys_put_all (c ∷ cs) w = keys_put_all cs _ ∙ ap (add_keys (keys_of cs)) (ke
 
 -- ---- what an UPDATE and a DELETE put
 
-pub apply-updates : (p : Key → Bool) (sets : List Set) (m : State) → T (is_sorted key_cmp m) → apply_net m (updates sets (filter (λ e. p e.0) m)) ≡ map (λ e. if p e.0 then (e.0, set_all sets e.1) else e) m
-apply-updates p sets m h =
-    same_map key_cmp_total key_cmp-IsAntisymmetric (apply_net m (updates sets kept)) (map (λ e. if p e.0 then (e.0, set_all sets e.1) else e) m) (sorted_apply (updates sets kept) m h) (sorted_changed m h)
-    (λ q. row_at-apply (updates sets kept) m q h (sorted_map (λ row. Some (set_all sets row)) kept sorted_kept)
-    ∙ ap (λ o. upon o (row_at m q)) (lookup-map (λ row. Some (set_all sets row)) q kept ∙ ap (option_map (λ row. Some (set_all sets row))) (lookup-filter p q m))
+-- rows of keys, changed alike
+abbrev pub changed_to : (Row → Row) → State → Net
+changed_to f m = map (λ e. (e.0, Some (f e.1))) m
+
+pub apply-updates : (p : Key → Bool) (f : Row → Row) (m : State) → T (is_sorted key_cmp m) → apply_net m (changed_to f (filter (λ e. p e.0) m)) ≡ map (λ e. if p e.0 then (e.0, f e.1) else e) m
+apply-updates p f m h =
+    same_map key_cmp_total key_cmp-IsAntisymmetric (apply_net m (changed_to f kept)) (map (λ e. if p e.0 then (e.0, f e.1) else e) m) (sorted_apply (changed_to f kept) m h) (sorted_changed m h)
+    (λ q. row_at-apply (changed_to f kept) m q h (sorted_map (λ row. Some (f row)) kept sorted_kept)
+    ∙ ap (λ o. upon o (row_at m q)) (lookup-map (λ row. Some (f row)) q kept ∙ ap (option_map (λ row. Some (f row))) (lookup-filter p q m))
     ∙ by q (p q) (row_at m q) ∙ sym (changed_at q m))
   where
     kept : State
@@ -134,40 +137,40 @@ apply-updates p sets m h =
     sorted_kept = is_sorted-where_key key_cmp p m h
 
     changed : (b : Bool) → Key × Row → Key × Row
-    changed b e = if b then (e.0, set_all sets e.1) else e
+    changed b e = if b then (e.0, f e.1) else e
 
-    same : (b : Bool) (e : Key × Row) → (if b then (e.0, set_all sets e.1) else e).0 ≡ e.0
+    same : (b : Bool) (e : Key × Row) → (if b then (e.0, f e.1) else e).0 ≡ e.0
     same true e = refl
     same false e = refl
 
-    sorted_changed : (es : State) → T (is_sorted key_cmp es) → T (is_sorted key_cmp (map (λ e. if p e.0 then (e.0, set_all sets e.1) else e) es))
+    sorted_changed : (es : State) → T (is_sorted key_cmp es) → T (is_sorted key_cmp (map (λ e. if p e.0 then (e.0, f e.1) else e) es))
     sorted_changed [] h = tt
     sorted_changed (e ∷ es) h =
-        both _ _ (subst (λ k. T (below_all key_cmp k (map (λ e. if p e.0 then (e.0, set_all sets e.1) else e) es))) (sym (same (p e.0) e)) (below es (first _ _ h))) (sorted_changed es (second _ _ h))
+        both _ _ (subst (λ k. T (below_all key_cmp k (map (λ e. if p e.0 then (e.0, f e.1) else e) es))) (sym (same (p e.0) e)) (below es (first _ _ h))) (sorted_changed es (second _ _ h))
       where
-        below : (ds : State) → T (below_all key_cmp e.0 ds) → T (below_all key_cmp e.0 (map (λ e. if p e.0 then (e.0, set_all sets e.1) else e) ds))
+        below : (ds : State) → T (below_all key_cmp e.0 ds) → T (below_all key_cmp e.0 (map (λ e. if p e.0 then (e.0, f e.1) else e) ds))
         below [] h = tt
         below (d ∷ ds) h = both _ _ (subst (λ k. T (is_lt (key_cmp e.0 k))) (sym (same (p d.0) d)) (first _ _ h)) (below ds (second _ _ h))
 
-    by : (q : Key) (b : Bool) (o : Option Row) → upon (option_map (λ row. Some (set_all sets row)) (cond b o None)) o ≡ option_map (λ row. cond b (set_all sets row) row) o
+    by : (q : Key) (b : Bool) (o : Option Row) → upon (option_map (λ row. Some (f row)) (cond b o None)) o ≡ option_map (λ row. cond b (f row) row) o
     by q true None = refl
     by q true (Some row) = refl
     by q false None = refl
     by q false (Some row) = refl
 
-    changed_at : (q : Key) (es : State) → row_at (map (λ e. if p e.0 then (e.0, set_all sets e.1) else e) es) q ≡ option_map (λ row. cond (p q) (set_all sets row) row) (row_at es q)
+    changed_at : (q : Key) (es : State) → row_at (map (λ e. if p e.0 then (e.0, f e.1) else e) es) q ≡ option_map (λ row. cond (p q) (f row) row) (row_at es q)
     changed_at q [] = refl
     changed_at q (e ∷ es) =
-        one (p e.0) ∙ ap (cond (is_key q e.0) (Some (cond (p e.0) (set_all sets e.1) e.1))) (changed_at q es) ∙ at (is_key q e.0) refl
+        one (p e.0) ∙ ap (cond (is_key q e.0) (Some (cond (p e.0) (f e.1) e.1))) (changed_at q es) ∙ at (is_key q e.0) refl
       where
-        one : (b : Bool) → row_at ((if b then (e.0, set_all sets e.1) else e) ∷ map (λ e. if p e.0 then (e.0, set_all sets e.1) else e) es) q
-            ≡ cond (is_key q e.0) (Some (cond b (set_all sets e.1) e.1)) (row_at (map (λ e. if p e.0 then (e.0, set_all sets e.1) else e) es) q)
+        one : (b : Bool) → row_at ((if b then (e.0, f e.1) else e) ∷ map (λ e. if p e.0 then (e.0, f e.1) else e) es) q
+            ≡ cond (is_key q e.0) (Some (cond b (f e.1) e.1)) (row_at (map (λ e. if p e.0 then (e.0, f e.1) else e) es) q)
         one true = refl
         one false = refl
 
-        at : (b : Bool) → is_key q e.0 ≡ b → cond b (Some (cond (p e.0) (set_all sets e.1) e.1)) (option_map (λ row. cond (p q) (set_all sets row) row) (row_at es q))
-            ≡ option_map (λ row. cond (p q) (set_all sets row) row) (cond b (Some e.1) (row_at es q))
-        at true is = ap (λ k. Some (cond (p k) (set_all sets e.1) e.1)) (sym (same_key q e.0 is))
+        at : (b : Bool) → is_key q e.0 ≡ b → cond b (Some (cond (p e.0) (f e.1) e.1)) (option_map (λ row. cond (p q) (f row) row) (row_at es q))
+            ≡ option_map (λ row. cond (p q) (f row) row) (cond b (Some e.1) (row_at es q))
+        at true is = ap (λ k. Some (cond (p k) (f e.1) e.1)) (sym (same_key q e.0 is))
         at false is = refl
 
 pub apply-deletions : (p : Key → Bool) (m : State) → T (is_sorted key_cmp m) → apply_net m (deletions (filter (λ e. p e.0) m)) ≡ filter (λ e. not (p e.0)) m

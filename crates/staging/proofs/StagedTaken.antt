@@ -16,7 +16,7 @@ use Rattle.keyrange.specs.declared.range.KeyRange.{KeyRange}
 use Rattle.searchrange.specs.Search.{IsInSearch, entry_taken}
 use Rattle.tsbtree.specs.View.{TreeState}
 use Rattle.staging.specs.Own.{WhenRead, rows_seen}
-use Rattle.staging.specs.Staged.{AreInSearch}
+use Rattle.staging.specs.Staged.{AreInSearch, full_rows}
 use Rattle.staging.proofs.StagedCalls.{all_entry}
 
 joined : (found : State) (o : Option (Key × Row)) (es : List (Key × Row)) → insert_all (insert_all found (cons_option o [])) es ≡ insert_all found (cons_option o es)
@@ -43,6 +43,12 @@ pub found_by : (view : TreeState) (w : Net) (found : State) (t table : Table) (k
     → WhenRead t view w (λ schema m. found ≡ filter (λ e. matches t k e.0) (rows_seen m w)) → WhenRead table view w (λ schema m. found ≡ filter (λ e. matches table keys e.0) (rows_seen m w))
 found_by view w found t table k keys same alike h =
     subst (λ (p : Table × Keys). WhenRead p.0 view w (λ schema m. found ≡ filter (λ e. matches p.0 p.1 e.0) (rows_seen m w))) (λ i. (same i, alike i)) h
+
+-- and of rows that are as wide as the table
+pub wide_by : (view : TreeState) (w : Net) (found : State) (t table : Table) (k keys : Keys) → t ≡ table → k ≡ keys
+    → WhenRead t view w (λ schema m. found ≡ full_rows t (filter (λ e. matches t k e.0) (rows_seen m w))) → WhenRead table view w (λ schema m. found ≡ full_rows table (filter (λ e. matches table keys e.0) (rows_seen m w)))
+wide_by view w found t table k keys same alike h =
+    subst (λ (p : Table × Keys). WhenRead p.0 view w (λ schema m. found ≡ full_rows p.0 (filter (λ e. matches p.0 p.1 e.0) (rows_seen m w)))) (λ i. (same i, alike i)) h
 
 -- a short key is put among others
 pub put_short : (found : State) (o : Option (Key × Row)) → All (λ e. IsShortKey e.0) found → IfSome o (λ e. IsShortKey e.0) → All (λ e. IsShortKey e.0) (insert_all found (cons_option o []))

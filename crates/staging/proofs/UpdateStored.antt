@@ -1,6 +1,8 @@
 -- A row whose columns are set to values that can be stored can be stored.
-use Rattle.std.proofs.Common.{◌≡◌, ℕ, ◌-◌, ◌≤◌, Bool, true, false, List, [], ◌∷◌, ◌++◌, Option, Some, None, length, refl, ap, sym, subst, ◌∙◌, All, slice_set, if◌then◌else◌, ◌==◌, zero, suc}
-use Rattle.std.specs.List.{list_any, AllByRecursion}
+use Rattle.std.proofs.Common.{◌≡◌, ℕ, ◌-◌, ◌≤◌, Bool, true, false, List, [], ◌∷◌, ◌++◌, Option, Some, None, length, refl, ap, sym, subst, ◌∙◌, All, slice_set, if◌then◌else◌, ◌==◌, zero, suc, arith}
+use Rattle.std.specs.List.{list_any, slice_get, AllByRecursion}
+use Rattle.std.proofs.lemmas.Option.{slice_get_within}
+use Rattle.std.proofs.lemmas.Bool.Decides.{nat_tests}
 use Rattle.std.proofs.lemmas.List.Elements.{All-from_recursion, recursion_from_All}
 use Rattle.values.specs.declared.value.Value.{Value}
 use Rattle.values.specs.declared.table.Column.{Column}
@@ -11,6 +13,7 @@ use Rattle.values.specs.Tables.{column_at, is_key_column}
 use Rattle.values.specs.Fit.{fits_value, set_fault, sets_fault}
 use Rattle.values.specs.Writes.{set_all}
 use Rattle.values.specs.RowEncoding.{IsStored, IsStoredRow}
+use Rattle.staging.specs.Staged.{SetsOneOf}
 use Rattle.values.proofs.RowFits.{value_stored}
 
 set_stored : (row : Row) (i : ℕ) (v : Value) → IsStored v → AllByRecursion IsStored row → AllByRecursion IsStored (slice_set row i v)
@@ -76,3 +79,41 @@ fitting_stored table earlier (s ∷ sets) e = by (set_fault table earlier s) ref
 
 pub sets_stored : (table : Table) (sets : List Set) → sets_fault table [] sets ≡ None → All (λ s. IsStored s.value) sets
 sets_stored table sets e = All-from_recursion (λ s. IsStored s.value) sets (fitting_stored table [] sets e)
+
+-- ---- a set that fits is of one of the table's columns
+
+one_within : (table : Table) (earlier : List Set) (s : Set) → set_fault table earlier s ≡ None → SetsOneOf (length table.columns) s
+one_within table earlier s e = by (s.column == 0) refl e
+  where
+    rest : Option Column → Option ℕ
+    rest o = elim o [
+      | None ↦ Some 0
+      | Some column ↦
+          if list_any (λ e. e.column == s.column) earlier then Some 0
+          else if is_key_column table s.column then Some s.column
+          else if fits_value false column s.value then None
+          else Some s.column
+    ]
+
+    found : (o : Option Column) → slice_get table.columns (s.column - 1) ≡ o → (s.column == 0) ≡ false → rest o ≡ None → SetsOneOf (length table.columns) s
+    found None at some e = cc
+    found (Some c) at some e =
+        let inside = slice_get_within table.columns (s.column - 1) c at in
+        let from : 1 ≤ s.column = grind (arith, nat_tests) in
+        record { from_1 = from; within = omega (arith, inside, from) }
+
+    by : (b : Bool) → (s.column == 0) ≡ b → rest (if b then None else slice_get table.columns (s.column - 1)) ≡ None → SetsOneOf (length table.columns) s
+    by true at e = cc
+    by false at e = found (slice_get table.columns (s.column - 1)) refl at e
+
+fitting_within : (table : Table) (earlier sets : List Set) → sets_fault table earlier sets ≡ None → AllByRecursion (SetsOneOf (length table.columns)) sets
+fitting_within table earlier [] e = tt
+fitting_within table earlier (s ∷ sets) e = by (set_fault table earlier s) refl e (fitting_within table (earlier ++ s ∷ []) sets)
+  where
+    by : (o : Option ℕ) → set_fault table earlier s ≡ o → ◌≡◌ {A = Option ℕ} (elim o [ Some n ↦ Some n | None ↦ sets_fault table (earlier ++ s ∷ []) sets ]) None
+        → (sets_fault table (earlier ++ s ∷ []) sets ≡ None → AllByRecursion (SetsOneOf (length table.columns)) sets) → AllByRecursion (SetsOneOf (length table.columns)) (s ∷ sets)
+    by (Some n) at e rest = cc
+    by None at e rest = (one_within table earlier s at, rest e)
+
+pub sets_within : (table : Table) (sets : List Set) → sets_fault table [] sets ≡ None → All (SetsOneOf (length table.columns)) sets
+sets_within table sets e = All-from_recursion (SetsOneOf (length table.columns)) sets (fitting_within table [] sets e)

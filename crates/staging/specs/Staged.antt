@@ -1,5 +1,5 @@
 -- What a transaction's calls make of its own writes and of the events of its view.
-use Rattle.std.specs.Prelude.{ℕ, List, [], ◌∷◌, ◌++◌, ◌||◌, Bool, Option, Some, None, Result, Ok, Err, nat_lt, if◌then◌else◌, length, map, filter, is_some, All}
+use Rattle.std.specs.Prelude.{ℕ, ◌≤◌, List, [], ◌∷◌, ◌++◌, ◌||◌, Bool, Option, Some, None, Result, Ok, Err, nat_lt, if◌then◌else◌, length, map, filter, is_some, All}
 use Rattle.std.specs.List.{list_any, filter_map}
 use Rattle.std.specs.BTreeMap.{insert_entry, is_at}
 use Rattle.std.specs.Map.{lookup, set_value, remove_entry}
@@ -12,6 +12,7 @@ use Rattle.values.specs.declared.refusal.Refusal.{Refusal}
 use Rattle.values.specs.declared.refusal.Refusal.TheVariants.{TooManyWrites}
 use Rattle.values.specs.Order.{key_cmp, is_key}
 use Rattle.values.specs.Log.{State, Net, Row, apply_net}
+use Rattle.values.specs.Tables.{full_row}
 use Rattle.values.specs.Versions.{matches}
 use Rattle.values.specs.Writes.{most_written, set_all, insert_all}
 use Rattle.values.specs.KeyEncoding.{bytes_of_key}
@@ -39,6 +40,15 @@ abbrev pub put_answer : Net → Net → Result ℕ Refusal
 put_answer changes w =
     if nat_lt most_written (length (put_all changes w)) then Err TooManyWrites
     else Ok (length changes)
+
+-- rows with a value for each column of their table
+abbrev pub full_rows : Table → State → State
+full_rows table m = map (λ e. (e.0, full_row table e.1)) m
+
+-- the entry sets one of so many values
+pub record SetsOneOf (width : ℕ) (s : Set) : Type 0 where
+  pub from_1 : 1 ≤ s.column
+  pub within : s.column ≤ width
 
 abbrev pub insertions : List Key → List Row → Net
 insertions (k ∷ ks) (row ∷ rows) = (k, Some row) ∷ insertions ks rows

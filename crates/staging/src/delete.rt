@@ -23,21 +23,18 @@ impl Staged {
         ensures refused { OnErr result (self.new ≡ self.old) }
     {
         let search = Search::new(self.alloc, keys)?;
-        let found = self.rows(view, &search)?;
-        let changes = deletions(self.alloc, &found)?;
+        let found = self.rows_found(view, &search)?;
+        let changes = deletions(self.alloc, found)?;
         self.put(changes)
     }
 }
 
-fn deletions(
-    alloc: Global,
-    rows: &BTreeMap<Key, Row>,
-) -> Result<Vec<(Key, Option<Row>)>, AllocError>
-    ensures { IfOk result (λ v. v.items ≡ deletions rows.now.entries) }
+fn deletions(alloc: Global, rows: BTreeMap<Key, Row>) -> Result<Vec<(Key, Option<Row>)>, AllocError>
+    ensures { IfOk result (λ v. v.items ≡ deletions rows.entries) }
 {
     let mut changes = Vec::new(alloc);
     for (key, _row) in rows {
-        changes.push((key.clone()?, None))?;
+        changes.push((key, None))?;
     }
     Ok(changes)
 }

@@ -3,10 +3,11 @@ ghost use Rattle.std.specs.Prelude.{◌≡◌, ◌≢◌, ◌<◌, ◌≤◌, �
 ghost use Rattle.std.specs.BTreeMap.{IsOrdered, insert_entry};
 ghost use Rattle.std.specs.Map.{keys_of};
 ghost use Rattle.std.specs.List.{cons_option, filter_map, list_any};
+ghost use Rattle.std.specs.Option.{option_map};
 ghost use Rattle.std.specs.List.Sorted.{IsStrictlySortedBy};
 ghost use Rattle.values.specs.Log.{Changes, row_at, set_row, apply_net};
 ghost use Rattle.values.specs.Order.{key_cmp, is_key};
-ghost use Rattle.values.specs.Tables.{Schema, IsTable};
+ghost use Rattle.values.specs.Tables.{Schema, IsTable, full_row, widened, widest};
 ghost use Rattle.values.specs.Memory.{OnlyMemory};
 ghost use Rattle.values.specs.Versions.{matches};
 ghost use Rattle.values.specs.Writes.{most_written, insert_all};
@@ -17,7 +18,7 @@ ghost use Rattle.tsbtree.specs.View.{events};
 ghost use Rattle.searchrange.specs.Search.{entry_taken};
 ghost use Rattle.staging.specs.View.{Holds};
 ghost use Rattle.staging.specs.Own.{WhenRead, rows_seen, net_over};
-ghost use Rattle.staging.specs.Staged.{put_all, put_back_one, put_back, put_answer, row_in, sees, first_seen, net_in, AreInSearch};
+ghost use Rattle.staging.specs.Staged.{put_all, put_back_one, put_back, put_answer, row_in, sees, first_seen, net_in, full_rows, AreInSearch};
 
 use crate::bound::{is_past, least_key};
 use crate::net::Net;
@@ -62,8 +63,22 @@ impl Staged {
         })
     }
 
-    /// Returns, by key, the rows that the transaction sees and that a search takes.
-    pub fn rows(&self, view: &View, search: &Search<'_>) -> Mem<BTreeMap<Key, Row>>
+    /// Returns, by key, the rows that the transaction sees and that a search takes, each as wide as
+    /// its table: a row that was stored before columns were added has NULL in them.
+    pub fn rows(&self, view: &View, search: &Search<'_>) -> Mem<Vec<(Key, Row)>>
+        ensures ok { IfOk result (λ rows. WhenRead search.now.table view.now self.now (λ schema m.
+            rows.items ≡ full_rows search.now.table
+            (filter (λ e. matches search.now.table search.now.keys e.0) (rows_seen m self.now)))) }
+        ensures short { IfOk result (λ rows. All (λ e. IsShortKey e.0) rows.items) }
+        ensures err { OnlyMemory result }
+    {
+        let found = self.rows_found(view, search)?;
+        Ok(full_rows(self.alloc, search.table(), found)?)
+    }
+
+    /// Returns, by key, the rows that the transaction sees and that a search takes, as they are
+    /// stored.
+    pub(crate) fn rows_found(&self, view: &View, search: &Search<'_>) -> Mem<BTreeMap<Key, Row>>
         ensures ok { IfOk result (λ found. WhenRead search.now.table view.now self.now (λ schema m.
             found.entries
             ≡ filter (λ e. matches search.now.table search.now.keys e.0) (rows_seen m self.now))) }
@@ -83,17 +98,18 @@ impl Staged {
     }
 
     /// Returns the row that the transaction sees at a key of the table, which fits it: what the
-    /// transaction wrote, or else what the view has.
+    /// transaction wrote, or else what the view has. It is as wide as the table.
     pub fn get(&self, view: &View, table: &Table, key: &Key) -> Mem<Option<Row>>
         requires table { IsTable table.now.number table.now }
         requires own { key.now.table ≡ table.now.number }
         requires fits { key_fault table.now key.now.parts ≡ None }
         ensures ok { IfOk result (λ row. WhenRead table.now view.now self.now (λ schema m.
-            row ≡ row_at (rows_seen m self.now) key.now)) }
+            row ≡ option_map (full_row table.now) (row_at (rows_seen m self.now) key.now))) }
         ensures err { OnlyMemory result }
     {
         read_values(key.parts.items());
-        Ok(self.row_found(view, view.last(), key)?)
+        let found = self.row_found(view, view.last(), key)?;
+        Ok(widen(table.columns.items().len(), found)?)
     }
 
     /// Returns what the transaction changes: what each key that it wrote has in the end, without
@@ -185,6 +201,32 @@ impl Staged {
             return Err(refusal);
         }
         Ok(count)
+    }
+}
+
+/// Makes rows as wide as their table.
+fn full_rows(alloc: Global, table: &Table, found: BTreeMap<Key, Row>) -> Mem<Vec<(Key, Row)>>
+    requires { length table.now.columns ≤ widest }
+    ensures ok { IfOk result (λ rows. rows.items ≡ full_rows table.now found.entries) }
+    ensures err { OnlyMemory result }
+{
+    let width = table.columns.items().len();
+    let mut rows = Vec::new(alloc);
+    for (key, row) in found {
+        rows.push((key, row.widen(width)?))?;
+    }
+    Ok(rows)
+}
+
+/// Widens a row, where there is one.
+fn widen(width: usize, row: Option<Row>) -> Mem<Option<Row>>
+    requires { width ≤ widest }
+    ensures ok { IfOk result (λ r. r ≡ option_map (widened width) row) }
+    ensures err { OnlyMemory result }
+{
+    match row {
+        Some(row) => Ok(Some(row.widen(width)?)),
+        None => Ok(None),
     }
 }
 

@@ -1,21 +1,24 @@
 //! UPDATE.
-ghost use Rattle.std.specs.Prelude.{◌≡◌, [], All, IfOk, None, OnErr};
+ghost use Rattle.std.specs.Prelude.{◌≡◌, ◌≤◌, [], All, IfOk, None, OnErr, length};
+ghost use Rattle.values.specs.Memory.{OnlyMemory};
+ghost use Rattle.values.specs.Tables.{widest};
 ghost use Rattle.values.specs.RowEncoding.{IsStored};
 ghost use Rattle.values.specs.Fit.{sets_fault};
 ghost use Rattle.values.specs.Writes.{set_all, update_in};
 ghost use Rattle.values.specs.Events.{AreKeysIn};
 ghost use Rattle.staging.specs.Own.{WhenRead, IsAnswered, own};
-ghost use Rattle.staging.specs.Staged.{updates};
+ghost use Rattle.staging.specs.Staged.{updates, full_rows, SetsOneOf};
 
 use crate::staged::Staged;
 use searchrange::Search;
 use std::alloc::{AllocError, Global};
 use std::collections::BTreeMap;
 use tsbtree::View;
-use values::{FittingKeys, Key, Refusal, Row, Set};
+use values::{FittingKeys, Key, Mem, Refusal, Row, Set, Table};
 
 impl Staged {
-    /// Sets columns of the rows that keys take. The new values fit the table.
+    /// Sets columns of the rows that keys take. The new values fit the table. A row that was stored
+    /// before columns were added gets NULL in them first.
     pub(crate) fn update(
         &mut self,
         view: &View,
@@ -30,40 +33,45 @@ impl Staged {
             AreKeysIn schema self.new) }
         ensures refused { OnErr result (self.new ≡ self.old) }
     {
+        let table = keys.table;
         let search = Search::new(self.alloc, keys)?;
-        let found = self.rows(view, &search)?;
-        let changes = updates(self.alloc, sets, &found)?;
+        let found = self.rows_found(view, &search)?;
+        let changes = updates(self.alloc, table, sets, found)?;
         self.put(changes)
     }
 }
 
-/// Makes new rows for keys, with some columns set.
+/// Makes new rows for keys: each as wide as the table, with some columns set.
 fn updates(
     alloc: Global,
+    table: &Table,
     sets: &[Set],
-    rows: &BTreeMap<Key, Row>,
-) -> Result<Vec<(Key, Option<Row>)>, AllocError>
-    requires { All (λ s. IsStored s.value) sets.now }
-    ensures { IfOk result (λ v. v.items ≡ updates sets.now rows.now.entries) }
+    rows: BTreeMap<Key, Row>,
+) -> Mem<Vec<(Key, Option<Row>)>>
+    requires few { length table.now.columns ≤ widest }
+    requires fit { sets_fault table.now [] sets.now ≡ None }
+    ensures ok { IfOk result (λ v.
+        v.items ≡ updates sets.now (full_rows table.now rows.entries)) }
+    ensures err { OnlyMemory result }
 {
+    let width = table.columns.items().len();
     let mut changes = Vec::new(alloc);
     for (key, row) in rows {
-        changes.push((key.clone()?, Some(set_all(alloc, sets, row)?)))?;
+        let row = row.widen(width)?;
+        changes.push((key, Some(set_all(sets, row)?)))?;
     }
     Ok(changes)
 }
 
-/// Makes a row with new values, set in turn.
-fn set_all(alloc: Global, sets: &[Set], row: &Row) -> Result<Row, AllocError>
-    requires { All (λ s. IsStored s.value) sets.now }
-    ensures { IfOk result (λ r. r ≡ set_all sets.now row.now) }
+/// Sets columns of a row, which has them, to new values in turn.
+fn set_all(sets: &[Set], row: Row) -> Result<Row, AllocError>
+    requires stored { All (λ s. IsStored s.value) sets.now }
+    requires within { All (SetsOneOf (length row)) sets.now }
+    ensures { IfOk result (λ r. r ≡ set_all sets.now row) }
 {
-    let mut values = row.values().to_vec(alloc)?;
+    let mut values = row.into_values();
     for set in sets {
-        let place = set.column.saturating_sub(1);
-        if place < values.len() {
-            values[place] = set.value.clone()?;
-        }
+        values[set.column - 1] = set.value.clone()?;
     }
     match Row::new(values) {
         Some(row) => Ok(row),

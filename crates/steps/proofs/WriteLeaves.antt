@@ -11,7 +11,7 @@ use Rattle.values.specs.Tables.{Schema, table_at}
 use Rattle.values.specs.Log.{State, Row}
 use Rattle.values.specs.Writes.{Own, Written, most_written, write_keys, insert_into, update_in, delete_from, key_of, duplicate, insert_rows, update_rows, delete_rows, matching_keys, add_keys}
 use Rattle.steps.specs.declared.step.Step.{Step}
-use Rattle.steps.specs.declared.step.Step.TheVariants.{Begin, Insert, Update, Delete, Select, Commit, Rollback, SplitKey, SplitTime, Migrate}
+use Rattle.steps.specs.declared.step.Step.TheVariants.{Begin, Insert, Update, Delete, Select, Commit, Rollback, AddColumn, SplitKey, SplitTime, Migrate}
 use Rattle.steps.specs.Write.{write}
 use Rattle.steps.specs.Reply.{is_memory}
 
@@ -59,6 +59,7 @@ write_is schema (Begin i) o = record { leaves = λ e. refl; answered = refl }
 write_is schema (Select i form keys) o = record { leaves = λ e. refl; answered = refl }
 write_is schema (Commit i reading) o = record { leaves = λ e. refl; answered = refl }
 write_is schema (Rollback i) o = record { leaves = λ e. refl; answered = refl }
+write_is schema (AddColumn i number name of) o = record { leaves = λ e. refl; answered = refl }
 write_is schema (SplitKey key) o = record { leaves = λ e. refl; answered = refl }
 write_is schema (SplitTime key instant) o = record { leaves = λ e. refl; answered = refl }
 write_is schema Migrate o = record { leaves = λ e. refl; answered = refl }

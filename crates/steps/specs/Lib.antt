@@ -1,3 +1,4 @@
+pub mod Idle
 pub mod Listing
 pub mod Misfit
 pub mod Reply

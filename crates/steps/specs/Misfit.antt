@@ -1,16 +1,16 @@
 -- Why a step does not fit the schema.
-use Rattle.std.specs.Prelude.{ℕ, List, [], Option, Some, None, if◌then◌else◌, nat_lt}
+use Rattle.std.specs.Prelude.{ℕ, Option, Some, None, if◌then◌else◌, nat_lt}
 use Rattle.std.specs.Option.{option_map}
 use Rattle.values.specs.declared.refusal.Refusal.{Refusal}
 use Rattle.values.specs.declared.refusal.Refusal.TheVariants.{NoTable, BadRow, NoSession}
 use Rattle.values.specs.declared.table.Table.{Table}
 use Rattle.values.specs.declared.key.Key.{Key}
 use Rattle.values.specs.declared.query.Keys.{Keys}
-use Rattle.values.specs.declared.query.Set.{Set}
 use Rattle.values.specs.Tables.{Schema, table_at}
+use Rattle.values.specs.Columns.{addition_fault}
 use Rattle.values.specs.Fit.{rows_fault, key_fault, comparisons_fault, update_fault}
 use Rattle.steps.specs.declared.step.Step.{Step}
-use Rattle.steps.specs.declared.step.Step.TheVariants.{Begin, Insert, Update, Delete, Select, Commit, Rollback, SplitKey, SplitTime, Migrate}
+use Rattle.steps.specs.declared.step.Step.TheVariants.{Begin, Insert, Update, Delete, Select, Commit, Rollback, AddColumn, SplitKey, SplitTime, Migrate}
 
 -- sessions are numbered from 0 to this
 abbrev pub max_session : ℕ
@@ -47,6 +47,8 @@ misfit schema (Delete i keys) = misfit_of schema i keys.table (keys_fault keys)
 misfit schema (Select i form keys) = misfit_of schema i keys.table (keys_fault keys)
 misfit schema (Commit i reading) = no_session i
 misfit schema (Rollback i) = no_session i
+misfit schema (AddColumn i number name of) =
+    misfit_of schema i number (λ table. addition_fault name of table)
 misfit schema (SplitKey key) = key_misfit schema key
 misfit schema (SplitTime key instant) = key_misfit schema key
 misfit schema Migrate = None

@@ -5,9 +5,10 @@ use Rattle.values.specs.declared.refusal.Refusal.TheVariants.{Memory}
 use Rattle.values.specs.Tables.{Schema}
 use Rattle.values.specs.Writes.{Own}
 use Rattle.steps.specs.declared.step.Step.{Step}
-use Rattle.steps.specs.declared.step.Step.TheVariants.{Begin, Insert, Update, Delete, Select, Commit, Rollback, SplitKey, SplitTime, Migrate}
+use Rattle.steps.specs.declared.step.Step.TheVariants.{Begin, Insert, Update, Delete, Select, Commit, Rollback, AddColumn, SplitKey, SplitTime, Migrate}
 use Rattle.steps.specs.declared.step.Reply.{Reply}
 use Rattle.steps.specs.declared.step.Reply.TheVariants.{Inserted, Updated, Deleted, Committed, Done, Refused}
+use Rattle.steps.specs.Idle.{is_idle}
 use Rattle.steps.specs.Misfit.{misfit}
 use Rattle.steps.specs.Write.{write}
 
@@ -45,7 +46,7 @@ is_out_of_memory (Refused refusal) = is_memory refusal
 is_out_of_memory _ = false
 
 -- of a step that fits, by which sessions have a transaction open: BEGIN with one open, a write or
--- COMMIT with none, and ROLLBACK
+-- COMMIT with none, ROLLBACK, and ALTER where any session has one open
 abbrev pub takes_no_memory_by : (ℕ → Bool) → Step → Bool
 takes_no_memory_by has_open (Begin i) = has_open i
 takes_no_memory_by has_open (Insert i number rows) = not (has_open i)
@@ -54,6 +55,7 @@ takes_no_memory_by has_open (Delete i keys) = not (has_open i)
 takes_no_memory_by has_open (Select i form keys) = false
 takes_no_memory_by has_open (Commit i reading) = not (has_open i)
 takes_no_memory_by has_open (Rollback i) = true
+takes_no_memory_by has_open (AddColumn i number name of) = not (is_idle has_open)
 takes_no_memory_by has_open (SplitKey key) = false
 takes_no_memory_by has_open (SplitTime key instant) = false
 takes_no_memory_by has_open Migrate = false

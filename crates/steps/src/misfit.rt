@@ -1,13 +1,14 @@
 //! Why a step does not fit a schema: a statement is looked at here once.
 ghost use Rattle.std.specs.Prelude.{◌≡◌, ◌≢◌, ℕ, Option, IfOk, IfErr, IfSome, None, Some};
 ghost use Rattle.values.specs.declared.table.Table.{Table};
+ghost use Rattle.values.specs.Columns.{addition_fault};
 ghost use Rattle.values.specs.Tables.{table_at, IsTable};
 ghost use Rattle.values.specs.Write.{table_of};
 ghost use Rattle.steps.specs.Misfit.{misfit, misfit_of, key_misfit, no_session, keys_fault};
 ghost use Rattle.steps.specs.Write.{step_of};
 
 use crate::step::{MAX_SESSION, Step};
-use values::{FittingKeys, FittingWrite, Key, Keys, Refusal, Schema, Table, Write};
+use values::{ColumnType, FittingKeys, FittingWrite, Key, Keys, Refusal, Schema, Table, Write};
 
 impl Step {
     /// Returns why a step does not fit the schema: its session's number, then its table, then the
@@ -28,6 +29,9 @@ impl Step {
             }
             Step::Delete(session, keys) => write_misfit(schema, *session, Write::Delete(keys)),
             Step::Select(session, _, keys) => keys_misfit(schema, *session, keys),
+            Step::AddColumn(session, table, name, of) => {
+                column_misfit(schema, *session, *table, name.text().as_bytes(), *of)
+            }
             Step::SplitKey(key) => key_misfit(schema, key),
             Step::SplitTime(key, _) => key_misfit(schema, key),
             Step::Migrate => None,
@@ -93,6 +97,24 @@ pub fn key_misfit(schema: &Schema, key: &Key) -> Option<Refusal>
 {
     match session_table(schema, 0, key.table) {
         Ok(table) => table.check_key(key.parts.items()).err(),
+        Err(refusal) => Some(refusal),
+    }
+}
+
+/// Returns why a table that a session names cannot get a column: the session, the table, the
+/// column.
+fn column_misfit(
+    schema: &Schema,
+    session: u8,
+    table: u8,
+    name: &[u8],
+    of: ColumnType,
+) -> Option<Refusal>
+    ensures why { result ≡ misfit_of schema.now session table (λ t. addition_fault name.now of t) }
+    ensures memory { IfSome result (λ refusal. refusal ≢ Refusal.Memory) }
+{
+    match session_table(schema, session, table) {
+        Ok(table) => table.check_column(name, of).err(),
         Err(refusal) => Some(refusal),
     }
 }

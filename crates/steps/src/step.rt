@@ -3,12 +3,12 @@ ghost use Rattle.std.specs.Prelude.{◌≡◌, ℕ};
 ghost use Rattle.steps.specs.Reply.{write_count};
 ghost use Rattle.steps.specs.Write.{step_of};
 
-use values::{Form, Instant, Key, Keys, Refusal, Rows, Sets, ShownRows, Write};
+use values::{Chars, ColumnType, Form, Instant, Key, Keys, Refusal, Rows, Sets, ShownRows, Write};
 
 /// The highest session number; 0 is the service's own.
 pub const MAX_SESSION: u8 = 64;
 
-/// What a session or the service asks. The first seven name their session, a number from 0 to
+/// What a session or the service asks. The first eight name their session, a number from 0 to
 /// `MAX_SESSION`.
 #[derive(Drop)]
 pub enum Step {
@@ -21,6 +21,8 @@ pub enum Step {
     /// The commit's reading of the clock.
     Commit(u8, Instant),
     Rollback(u8),
+    /// A table, by its number from 1, and the name and type of the column that it gets.
+    AddColumn(u8, u8, Chars, ColumnType),
     SplitKey(Key),
     SplitTime(Key, Instant),
     Migrate,
@@ -46,6 +48,8 @@ pub enum Reply {
     /// The commit instant, or none where the transaction left no net change.
     Committed(Option<Instant>),
     RolledBack,
+    /// The table has one column more.
+    Altered,
     Done,
     Refused(Refusal),
 }

@@ -13,6 +13,7 @@ use Rattle.values.specs.declared.query.Form.TheVariants.{Plain, AsOf}
 use Rattle.values.specs.declared.query.Keys.{Keys}
 use Rattle.values.specs.declared.query.Shown.{Shown}
 use Rattle.values.specs.Log.{Row}
+use Rattle.values.specs.Tables.{full_row}
 use Rattle.values.specs.KeyReading.{key_from}
 use Rattle.values.specs.Versions.{selects, matches}
 use Rattle.values.specs.Events.{bytes_cmp, is_bytes, event_cmp}
@@ -32,19 +33,19 @@ never false h = refl
 
 module _ (table : Table) (form : Form) (keys : Keys) where
   by_row : (e : Event) (to : Option ℕ) (row : Option Row) → selects form e.at to ≡ false
-      → ◌≡◌ {A = Option Shown} (elim row [ None ↦ None | Some row ↦ cond (selects form e.at to && is_taken table keys e.key) (Some (record { row = row; from = e.at; to = to })) None ]) None
+      → ◌≡◌ {A = Option Shown} (elim row [ None ↦ None | Some row ↦ cond (selects form e.at to && is_taken table keys e.key) (Some (record { row = full_row table row; from = e.at; to = to })) None ]) None
   by_row e to None h = refl
-  by_row e to (Some row) h = ap (λ b. cond (b && is_taken table keys e.key) (Some (record { row = row; from = e.at; to = to })) None) h
+  by_row e to (Some row) h = ap (λ b. cond (b && is_taken table keys e.key) (Some (record { row = full_row table row; from = e.at; to = to })) None) h
 
   pub not_shown : (e : Event) (to : Option ℕ) → selects form e.at to ≡ false → shown_of table form keys e to ≡ None
   not_shown e to h = by_row e to e.row h
 
   taken_row : (e : Event) (to : Option ℕ) (row : Option Row) → is_taken table keys e.key ≡ false
-      → ◌≡◌ {A = Option Shown} (elim row [ None ↦ None | Some row ↦ cond (selects form e.at to && is_taken table keys e.key) (Some (record { row = row; from = e.at; to = to })) None ]) None
+      → ◌≡◌ {A = Option Shown} (elim row [ None ↦ None | Some row ↦ cond (selects form e.at to && is_taken table keys e.key) (Some (record { row = full_row table row; from = e.at; to = to })) None ]) None
   taken_row e to None h = refl
-  taken_row e to (Some row) h = ap (λ b. cond (selects form e.at to && b) (Some (record { row = row; from = e.at; to = to })) None) h ∙ none (selects form e.at to)
+  taken_row e to (Some row) h = ap (λ b. cond (selects form e.at to && b) (Some (record { row = full_row table row; from = e.at; to = to })) None) h ∙ none (selects form e.at to)
     where
-      none : (b : Bool) → ◌≡◌ {A = Option Shown} (cond (b && false) (Some (record { row = row; from = e.at; to = to })) None) None
+      none : (b : Bool) → ◌≡◌ {A = Option Shown} (cond (b && false) (Some (record { row = full_row table row; from = e.at; to = to })) None) None
       none true = refl
       none false = refl
 
@@ -114,10 +115,10 @@ module _ (table : Table) (last : ℕ) (keys : Keys) where
       ended h = grind (arith, nat_tests)
 
   same_row : (e : Event) (to : Option ℕ) (row : Option Row) → selects Plain e.at to ≡ selects (AsOf last) e.at to
-      → ◌≡◌ {A = Option Shown} (elim row [ None ↦ None | Some row ↦ cond (selects Plain e.at to && is_taken table keys e.key) (Some (record { row = row; from = e.at; to = to })) None ])
-      (elim row [ None ↦ None | Some row ↦ cond (selects (AsOf last) e.at to && is_taken table keys e.key) (Some (record { row = row; from = e.at; to = to })) None ])
+      → ◌≡◌ {A = Option Shown} (elim row [ None ↦ None | Some row ↦ cond (selects Plain e.at to && is_taken table keys e.key) (Some (record { row = full_row table row; from = e.at; to = to })) None ])
+      (elim row [ None ↦ None | Some row ↦ cond (selects (AsOf last) e.at to && is_taken table keys e.key) (Some (record { row = full_row table row; from = e.at; to = to })) None ])
   same_row e to None h = refl
-  same_row e to (Some row) h = ap (λ b. cond (b && is_taken table keys e.key) (Some (record { row = row; from = e.at; to = to })) None) h
+  same_row e to (Some row) h = ap (λ b. cond (b && is_taken table keys e.key) (Some (record { row = full_row table row; from = e.at; to = to })) None) h
 
   next_upto : (e : Event) (es : List Event) → AllByRecursion (λ d. d.at ≤ last) es → (end : ℕ) → next_of e es ≡ Some end → end ≤ last
   next_upto e [] h end is = cc

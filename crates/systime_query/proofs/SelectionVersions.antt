@@ -16,7 +16,7 @@ use Rattle.values.specs.declared.table.Table.{Table}
 use Rattle.values.specs.declared.query.Form.{Form}
 use Rattle.values.specs.declared.query.Keys.{Keys}
 use Rattle.values.specs.declared.query.Shown.{Shown}
-use Rattle.values.specs.Tables.{Schema, table_at}
+use Rattle.values.specs.Tables.{Schema, table_at, full_row}
 use Rattle.values.specs.Order.{key_cmp, is_key}
 use Rattle.values.specs.Log.{Changes, Row, point_cmp}
 use Rattle.values.specs.Versions.{Version, next_change, version_of, versions, selects, holds, matches, shown_version, answer}
@@ -159,13 +159,13 @@ module _ (schema : Schema) (table : Table) (form : Form) (keys : Keys) (is_table
 
   abbrev shown_by : Option Version → Option Shown
   shown_by None = None
-  shown_by (Some v) = cond (picks v) (Some (shown_version v)) None
+  shown_by (Some v) = cond (picks v) (Some (shown_version table v)) None
 
-  picked : (o : Option Version) (vs : List Version) → map shown_version (filter picks (cons_option o vs)) ≡ cons_option (shown_by o) (map shown_version (filter picks vs))
+  picked : (o : Option Version) (vs : List Version) → map (shown_version table) (filter picks (cons_option o vs)) ≡ cons_option (shown_by o) (map (shown_version table) (filter picks vs))
   picked None vs = refl
   picked (Some v) vs = by (picks v)
     where
-      by : (b : Bool) → map shown_version (cond b (v ∷ filter picks vs) (filter picks vs)) ≡ cons_option (cond b (Some (shown_version v)) None) (map shown_version (filter picks vs))
+      by : (b : Bool) → map (shown_version table) (cond b (v ∷ filter picks vs) (filter picks vs)) ≡ cons_option (cond b (Some (shown_version table v)) None) (map (shown_version table) (filter picks vs))
       by true = refl
       by false = refl
 
@@ -178,8 +178,8 @@ module _ (schema : Schema) (table : Table) (form : Form) (keys : Keys) (is_table
   shown_is : (c : Point × Option Row) (to : Option ℕ) → IsKeyIn schema c.0.key → shown_of table form keys (event_of c) to ≡ shown_by (version_by c to)
   shown_is (p, None) to h = refl
   shown_is (p, Some row) to h =
-      ap (λ b. cond (selects form p.instant to && b) (Some (record { row = row; from = p.instant; to = to })) None) (taken_is p.key h)
-      ∙ ap (λ b. cond b (Some (record { row = row; from = p.instant; to = to })) None) (swapped (selects form p.instant to) (matches table keys p.key))
+      ap (λ b. cond (selects form p.instant to && b) (Some (record { row = full_row table row; from = p.instant; to = to })) None) (taken_is p.key h)
+      ∙ ap (λ b. cond b (Some (record { row = full_row table row; from = p.instant; to = to })) None) (swapped (selects form p.instant to) (matches table keys p.key))
 
   next_is : (c : Point × Option Row) (cs : Changes) → AreChangesIn schema (c ∷ cs) → next_of (event_of c) (events_of cs) ≡ behind c.0 cs
   next_is c [] h = refl
@@ -194,7 +194,7 @@ module _ (schema : Schema) (table : Table) (form : Form) (keys : Keys) (is_table
       (ap (shown_of table form keys (event_of c)) (next_is c cs h) ∙ shown_is c (behind c.0 cs) (All-head (λ (p : Point). IsKeyIn schema p.key) c.0 (keys_of cs) h))
       ∙ ap (cons_option (shown_by (version_by c (behind c.0 cs)))) (selected_is cs (All-tail (λ (p : Point). IsKeyIn schema p.key) c.0 (keys_of cs) h) (second _ _ s))
       ∙ sym (picked (version_by c (behind c.0 cs)) (versions cs))
-      ∙ sym (ap (λ vs. map shown_version (filter picks vs)) (versions_are c cs s))
+      ∙ sym (ap (λ vs. map (shown_version table) (filter picks vs)) (versions_are c cs s))
 
 -- ---- what a view shows
 

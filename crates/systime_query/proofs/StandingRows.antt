@@ -13,7 +13,7 @@ use Rattle.values.specs.declared.query.Keys.{Keys}
 use Rattle.values.specs.declared.query.Shown.{Shown}
 use Rattle.values.specs.Law.{shown_rows}
 use Rattle.values.specs.Log.{Changes, Row}
-use Rattle.values.specs.Tables.{Schema, table_at}
+use Rattle.values.specs.Tables.{Schema, table_at, full_row}
 use Rattle.values.specs.Versions.{ends_after}
 use Rattle.values.specs.Events.{is_bytes, event_cmp}
 use Rattle.keyrange.specs.declared.range.KeyRange.{KeyRange}
@@ -76,8 +76,8 @@ module _ (table : Table) (keys : Keys) (t : ℕ) where
     where
       by : (row : Option Row) → option_map (λ (s : Shown). s.row) (elim row [
         | None ↦ None
-        | Some row ↦ cond ((nat_le e.at t && ends_after (next_of e es) t) && is_taken table keys e.key) (Some (record { row = row; from = e.at; to = next_of e es })) None
-      ]) ≡ cond (nat_le e.at t && (is_some row && ends_after (next_of e es) t)) (cond (is_taken table keys e.key) row None) None
+        | Some row ↦ cond ((nat_le e.at t && ends_after (next_of e es) t) && is_taken table keys e.key) (Some (record { row = full_row table row; from = e.at; to = next_of e es })) None
+      ]) ≡ cond (nat_le e.at t && (is_some row && ends_after (next_of e es) t)) (cond (is_taken table keys e.key) (option_map (full_row table) row) None) None
       by None = nothing (nat_le e.at t) (is_taken table keys e.key)
         where
           nothing : (a k : Bool) → ◌≡◌ {A = Option Row} None (cond (a && false) (cond k None None) None)
@@ -85,7 +85,7 @@ module _ (table : Table) (keys : Keys) (t : ℕ) where
           nothing false k = refl
       by (Some row) = some (nat_le e.at t) (ends_after (next_of e es) t) (is_taken table keys e.key)
         where
-          some : (a x k : Bool) → option_map (λ (s : Shown). s.row) (cond ((a && x) && k) (Some (record { row = row; from = e.at; to = next_of e es })) None) ≡ cond (a && (true && x)) (cond k (Some row) None) None
+          some : (a x k : Bool) → option_map (λ (s : Shown). s.row) (cond ((a && x) && k) (Some (record { row = full_row table row; from = e.at; to = next_of e es })) None) ≡ cond (a && (true && x)) (cond k (Some (full_row table row)) None) None
           some true true true = refl
           some true true false = refl
           some true false k = refl
@@ -115,7 +115,7 @@ module _ (table : Table) (keys : Keys) (t : ℕ) where
     where
       one : (b s : Bool) → p e.key ≡ b → cond (b && s) (row_taken table keys e) None ≡ cond s (row_taken table keys e) None
       one true s is = refl
-      one false true is = sym (ap (λ k. cond k e.row None) (out.0 is))
+      one false true is = sym (ap (λ k. cond k (option_map (full_row table) e.row) None) (out.0 is))
       one false false is = refl
 
 -- ---- what a view shows at an instant

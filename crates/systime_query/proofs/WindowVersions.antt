@@ -7,6 +7,7 @@ use Rattle.std.specs.List.Sorted.{IsStrictlySortedBy}
 use Rattle.std.specs.declared.cmp.Ordering.TheVariants.{Less}
 use Rattle.values.specs.Event.{Event}
 use Rattle.values.specs.declared.table.Table.{Table}
+use Rattle.values.specs.Tables.{full_row}
 use Rattle.values.specs.declared.query.Form.{Form}
 use Rattle.values.specs.declared.query.Keys.{Keys}
 use Rattle.values.specs.declared.query.Shown.{Shown}
@@ -235,10 +236,10 @@ module _ (a z : ℕ) (le : a ≤ z) where
 
         by : (row : Option Row) → c.row ≡ row → ◌≡◌ {A = Option Shown} (elim row [
           | None ↦ None
-          | Some row ↦ cond (selects form c.at (next_of c es) && is_taken table keys c.key) (Some (record { row = row; from = c.at; to = next_of c es })) None
+          | Some row ↦ cond (selects form c.at (next_of c es) && is_taken table keys c.key) (Some (record { row = full_row table row; from = c.at; to = next_of c es })) None
         ]) None
         by None is = refl
-        by (Some row) is = ap (λ b. cond (b && is_taken table keys c.key) (Some (record { row = row; from = c.at; to = next_of c es })) None) (window c.at (next_of c es) ∙ unselected (ap is_some is))
+        by (Some row) is = ap (λ b. cond (b && is_taken table keys c.key) (Some (record { row = full_row table row; from = c.at; to = next_of c es })) None) (window c.at (next_of c es) ∙ unselected (ap is_some is))
 
     pub selected_in : (es : List Event) → IsStrictlySortedBy event_cmp es → selected_by table form keys es ≡ shown_in es z table form keys (win es es)
     selected_in [] sorted = refl

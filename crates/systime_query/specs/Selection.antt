@@ -7,7 +7,7 @@ use Rattle.values.specs.declared.query.Form.{Form}
 use Rattle.values.specs.declared.query.Keys.{Keys}
 use Rattle.values.specs.declared.query.Shown.{Shown}
 use Rattle.values.specs.Log.{Changes}
-use Rattle.values.specs.Tables.{Schema, table_at}
+use Rattle.values.specs.Tables.{Schema, table_at, full_row}
 use Rattle.values.specs.Versions.{selects}
 use Rattle.tsbtree.specs.View.{TreeState}
 use Rattle.staging.specs.View.{Holds}
@@ -19,13 +19,14 @@ abbrev pub next_of : Event → List Event → Option ℕ
 next_of e [] = None
 next_of e (d ∷ ds) = if is_bytes e.key d.key then Some d.at else None
 
--- the version that an event begins, of those behind it, where the query selects it
+-- the version that an event begins, of those behind it, where the query selects it: its row is as
+-- wide as the table
 abbrev pub shown_of : Table → Form → Keys → Event → Option ℕ → Option Shown
 shown_of table form keys e to = elim e.row [
   | None ↦ None
   | Some row ↦
       if selects form e.at to && is_taken table keys e.key
-      then Some (record { row = row; from = e.at; to = to })
+      then Some (record { row = full_row table row; from = e.at; to = to })
       else None
 ]
 

@@ -8,6 +8,8 @@ use Rattle.values.specs.declared.refusal.Refusal.{Refusal}
 use Rattle.values.specs.Log.{Changes, State, Net, Row}
 use Rattle.values.specs.Versions.{answer, matches}
 use Rattle.staging.specs.Own.{WhenRead, rows_seen}
+use Rattle.staging.specs.Staged.{full_rows}
+use Rattle.staging.proofs.StagedWide.{rows_full}
 use Rattle.systime_query.specs.Selection.{WhenShown}
 use Rattle.steps.specs.declared.step.Listing.{Listing}
 use Rattle.steps.specs.declared.step.Listing.TheVariants.{Rows}
@@ -41,8 +43,8 @@ past_shown (Ok l) t u table form keys is same past h =
 
 -- what a plain query shows
 pub plain_shown : (t u : OpenTransactionState) (table : Table) (form : Form) (keys : Keys) (found : State) (rows : List Row) → t ≡ u → form ≡ Plain → rows ≡ map (λ e. e.1) found
-    → WhenRead table t.view t.writes (λ schema m. found ≡ filter (λ e. matches table keys e.0) (rows_seen m t.writes))
+    → WhenRead table t.view t.writes (λ schema m. found ≡ full_rows table (filter (λ e. matches table keys e.0) (rows_seen m t.writes)))
     → ShownIn u table form keys (Rows rows)
 plain_shown t u table form keys found rows is plain are did =
     subst (λ u. ShownIn u table form keys (Rows rows)) is
-    (λ schema m reads. ap Rows (are ∙ ap (map (λ e. e.1)) (did schema m reads)) ∙ (λ i. listing_in m t.writes table (sym plain i) keys))
+    (λ schema m reads. ap Rows (are ∙ ap (map (λ e. e.1)) (did schema m reads) ∙ rows_full table (filter (λ e. matches table keys e.0) (rows_seen m t.writes))) ∙ (λ i. listing_in m t.writes table (sym plain i) keys))

@@ -1,9 +1,10 @@
 //! An open transaction.
 ghost use Rattle.std.specs.Prelude.{◌≡◌, ◌≢◌, [], IfOk, None};
+ghost use Rattle.std.specs.Option.{option_map};
 ghost use Rattle.values.specs.Fit.{key_fault};
 ghost use Rattle.values.specs.Log.{Changes, row_at};
 ghost use Rattle.values.specs.Memory.{OnlyMemory};
-ghost use Rattle.values.specs.Tables.{IsTable, Schema};
+ghost use Rattle.values.specs.Tables.{IsTable, Schema, full_row};
 ghost use Rattle.values.specs.Events.{AreKeysIn};
 ghost use Rattle.tsbtree.specs.View.{last};
 ghost use Rattle.staging.specs.View.{Holds};
@@ -47,13 +48,15 @@ impl OpenTransaction {
         self.view.last()
     }
 
-    /// Returns the row that the transaction sees at a key of the table, which fits it.
+    /// Returns the row that the transaction sees at a key of the table, which fits it. It is as wide
+    /// as the table.
     pub fn get(&self, table: &Table, key: &Key) -> Mem<Option<Row>>
         requires table { IsTable table.now.number table.now }
         requires own { key.now.table ≡ table.now.number }
         requires fits { key_fault table.now key.now.parts ≡ None }
         ensures ok { IfOk result (λ row. WhenRead table.now self.now.view self.now.writes
-            (λ schema m. row ≡ row_at (rows_seen m self.now.writes) key.now)) }
+            (λ schema m. row
+            ≡ option_map (full_row table.now) (row_at (rows_seen m self.now.writes) key.now))) }
         ensures err { OnlyMemory result }
     {
         self.staged.get(&self.view, table, key)

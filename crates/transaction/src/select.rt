@@ -10,7 +10,6 @@ use crate::open_transaction::OpenTransaction;
 use blocks::Blocks;
 use searchrange::Search;
 use std::alloc::Global;
-use std::collections::BTreeMap;
 use steps::Listing;
 use systime_query::{answer, current_rows, rows_at};
 use tsbtree::View;
@@ -76,8 +75,8 @@ pub fn listing_of<B: Blocks>(
 }
 
 /// The rows, by their keys.
-fn rows_of(alloc: Global, found: BTreeMap<Key, Row>) -> Mem<Vec<Row>>
-    ensures ok { IfOk result (λ v. v.items ≡ map (λ e. e.1) found.entries) }
+fn rows_of(alloc: Global, found: Vec<(Key, Row)>) -> Mem<Vec<Row>>
+    ensures ok { IfOk result (λ v. v.items ≡ map (λ e. e.1) found.items) }
     ensures memory { OnlyMemory result }
 {
     let mut rows = Vec::new(alloc);

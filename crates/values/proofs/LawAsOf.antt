@@ -6,7 +6,12 @@ use Rattle.values.specs.declared.key.Key.{Key}
 use Rattle.values.specs.Order.{is_key}
 use Rattle.values.specs.Log.{Log, State, Row, Changes, add_all, changes, replay, state, upto, last_from}
 use Rattle.values.specs.Versions.{Version, next_change, version_of, versions, ends_after, selects, matches, shown_version}
-use Rattle.values.specs.Law.{Rises, rows_by, StateIsAsOf, StateIsCurrent, AsOfShowsState, AsOfStays}
+use Rattle.values.specs.Law.{Rises, rows_by, StateIsAsOf, StateIsCurrent, AsOfShowsState, AsOfStays, AsOfIsWidened}
+use Rattle.values.specs.declared.query.Keys.{Keys}
+use Rattle.values.specs.Columns.{IsWidenedTo}
+use Rattle.values.proofs.ColumnsWiden.{full_twice}
+use Rattle.values.specs.declared.table.Table.{Table}
+use Rattle.values.specs.Tables.{full_row}
 use Rattle.values.proofs.OrderTotal.{key_cmp_total, key_cmp-IsAntisymmetric}
 use Rattle.values.proofs.LogMaps.{same_map}
 use Rattle.values.proofs.LogLatest.{Upto, Upto-more}
@@ -91,25 +96,26 @@ state_is_current log t is_log =
 abbrev pairs : List Version → State
 pairs vs = map (λ v. (v.key, v.row)) vs
 
-abbrev taken : (Key → Bool) → State → List Row
-taken is m = map (λ e. e.1) (filter (λ e. is e.0) m)
+module _ (table : Table) where
+  abbrev taken : (Key → Bool) → State → List Row
+  taken is m = map (λ e. full_row table e.1) (filter (λ e. is e.0) m)
 
-abbrev rows_of : List Version → List Row
-rows_of vs = map (λ s. s.row) (map shown_version vs)
+  abbrev rows_of : List Version → List Row
+  rows_of vs = map (λ s. s.row) (map (shown_version table) vs)
 
-taken_row : (b c : Bool) (v : Version) (is : Key → Bool) (xs ys : List Version) → is v.key ≡ b → rows_of xs ≡ taken is (pairs ys)
-    → rows_of (cond (b && c) (v ∷ xs) xs) ≡ taken is (pairs (cond c (v ∷ ys) ys))
-taken_row true true v is xs ys e rest = ap (λ l. v.row ∷ l) rest ∙ sym (ap (λ b. map (λ e. e.1) (cond b ((v.key, v.row) ∷ filter (λ e. is e.0) (pairs ys)) (filter (λ e. is e.0) (pairs ys)))) e)
-taken_row true false v is xs ys e rest = rest
-taken_row false true v is xs ys e rest = rest ∙ sym (ap (λ b. map (λ e. e.1) (cond b ((v.key, v.row) ∷ filter (λ e. is e.0) (pairs ys)) (filter (λ e. is e.0) (pairs ys)))) e)
-taken_row false false v is xs ys e rest = rest
+  taken_row : (b c : Bool) (v : Version) (is : Key → Bool) (xs ys : List Version) → is v.key ≡ b → rows_of xs ≡ taken is (pairs ys)
+      → rows_of (cond (b && c) (v ∷ xs) xs) ≡ taken is (pairs (cond c (v ∷ ys) ys))
+  taken_row true true v is xs ys e rest = ap (λ l. full_row table v.row ∷ l) rest ∙ sym (ap (λ b. map (λ e. full_row table e.1) (cond b ((v.key, v.row) ∷ filter (λ e. is e.0) (pairs ys)) (filter (λ e. is e.0) (pairs ys)))) e)
+  taken_row true false v is xs ys e rest = rest
+  taken_row false true v is xs ys e rest = rest ∙ sym (ap (λ b. map (λ e. full_row table e.1) (cond b ((v.key, v.row) ∷ filter (λ e. is e.0) (pairs ys)) (filter (λ e. is e.0) (pairs ys)))) e)
+  taken_row false false v is xs ys e rest = rest
 
-taken_rows : (vs : List Version) (t : ℕ) (is : Key → Bool) → rows_of (filter (λ v. is v.key && selects (AsOf t) v.from v.to) vs) ≡ taken is (pairs (filter (λ v. selects (AsOf t) v.from v.to) vs))
-taken_rows [] t is = refl
-taken_rows (v ∷ vs) t is = taken_row (is v.key) (selects (AsOf t) v.from v.to) v is _ _ refl (taken_rows vs t is)
+  taken_rows : (vs : List Version) (t : ℕ) (is : Key → Bool) → rows_of (filter (λ v. is v.key && selects (AsOf t) v.from v.to) vs) ≡ taken is (pairs (filter (λ v. selects (AsOf t) v.from v.to) vs))
+  taken_rows [] t is = refl
+  taken_rows (v ∷ vs) t is = taken_row (is v.key) (selects (AsOf t) v.from v.to) v is _ _ refl (taken_rows vs t is)
 
 pub as_of_shows_state : AsOfShowsState
-as_of_shows_state log t table keys is_log = taken_rows (versions (changes log)) t (matches table keys) ∙ ap (λ (s : State). map (λ e. e.1) (filter (λ e. matches table keys e.0) s)) (sym (state_is_as_of log t is_log))
+as_of_shows_state log t table keys is_log = taken_rows table (versions (changes log)) t (matches table keys) ∙ ap (λ (s : State). map (λ e. full_row table e.1) (filter (λ e. matches table keys e.0) s)) (sym (state_is_as_of log t is_log))
 
 -- ---- what comes later
 
@@ -136,5 +142,22 @@ upto-append (u ∷ log) later n t h r = ap (λ (l : Log). cond (nat_le u.instant
 pub as_of_stays : AsOfStays
 as_of_stays log later t table keys is_log h =
     as_of_shows_state (log ++ later) t table keys is_log
-    ∙ ap (λ (l : Log). map (λ e. e.1) (filter (λ e. matches table keys e.0) (replay [] l))) (upto-append log later 0 t h is_log)
+    ∙ ap (λ (l : Log). map (λ e. full_row table e.1) (filter (λ e. matches table keys e.0) (replay [] l))) (upto-append log later 0 t h is_log)
     ∙ sym (as_of_shows_state log t table keys (Rises-front log later 0 is_log))
+
+-- ---- of a table that has got columns
+
+same_keys : (table wider : Table) (keys : Keys) → IsWidenedTo table wider → ◌≡◌ {A = Key → Bool} (λ key. matches wider keys key) (λ key. matches table keys key)
+same_keys table wider keys grows = ap (λ ks. λ (key : Key). matches (record table { key = ks }) keys key) grows.key_is
+
+shown_twice : (table wider : Table) (s : State) → IsWidenedTo table wider → map (λ e. full_row wider e.1) s ≡ map (full_row wider) (map (λ e. full_row table e.1) s)
+shown_twice table wider [] grows = refl
+shown_twice table wider (e ∷ s) grows = λ i. sym (full_twice table wider e.1 grows) i ∷ shown_twice table wider s grows i
+
+pub as_of_is_widened : AsOfIsWidened
+as_of_is_widened log later t table wider keys is_log h grows =
+    as_of_shows_state (log ++ later) t wider keys is_log
+    ∙ ap (λ (l : Log). map (λ e. full_row wider e.1) (filter (λ e. matches wider keys e.0) (replay [] l))) (upto-append log later 0 t h is_log)
+    ∙ ap (λ (is : Key → Bool). map (λ e. full_row wider e.1) (filter (λ e. is e.0) (state log t))) (same_keys table wider keys grows)
+    ∙ shown_twice table wider (filter (λ e. matches table keys e.0) (state log t)) grows
+    ∙ ap (map (full_row wider)) (sym (as_of_shows_state log t table keys (Rises-front log later 0 is_log)))

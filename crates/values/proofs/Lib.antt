@@ -18,3 +18,7 @@ pub mod LogStates
 pub mod RowStored
 pub mod RowReadingParsed
 pub mod LogUpto
+pub mod RowWidened
+pub mod ColumnsTables
+pub mod ColumnsKeys
+pub mod ColumnsWiden

@@ -5,6 +5,8 @@ use Rattle.values.specs.declared.query.Form.TheVariants.{Plain, AsOf}
 use Rattle.values.specs.declared.query.Keys.{Keys}
 use Rattle.values.specs.declared.table.Table.{Table}
 use Rattle.values.specs.Log.{Log, State, Changes, Row, last, upto, state, changes}
+use Rattle.values.specs.Tables.{full_row}
+use Rattle.values.specs.Columns.{IsWidenedTo}
 use Rattle.values.specs.Commits.{after}
 use Rattle.values.specs.Versions.{versions, selects, matches, answer}
 
@@ -37,7 +39,7 @@ abbrev pub AsOfShowsState : Type 0
 AsOfShowsState =
     (log : Log) (t : ℕ) (table : Table) (keys : Keys) → IsLog log
     → shown_rows (changes log) table (AsOf t) keys
-    ≡ map (λ e. e.1) (filter (λ e. matches table keys e.0) (state log t))
+    ≡ map (λ e. full_row table e.1) (filter (λ e. matches table keys e.0) (state log t))
 
 -- what comes later changes nothing of it
 abbrev pub AsOfStays : Type 0
@@ -46,6 +48,14 @@ AsOfStays =
     → IsLog (log ++ later) → t ≤ last log
     → shown_rows (changes (log ++ later)) table (AsOf t) keys
     ≡ shown_rows (changes log) table (AsOf t) keys
+
+-- nor do columns that the table gets: later it shows the same rows, with NULL in them
+abbrev pub AsOfIsWidened : Type 0
+AsOfIsWidened =
+    (log later : Log) (t : ℕ) (table wider : Table) (keys : Keys)
+    → IsLog (log ++ later) → t ≤ last log → IsWidenedTo table wider
+    → shown_rows (changes (log ++ later)) wider (AsOf t) keys
+    ≡ map (full_row wider) (shown_rows (changes log) table (AsOf t) keys)
 
 -- the changes up to an instant
 abbrev pub changes_upto : Changes → ℕ → Changes

@@ -1,3 +1,4 @@
+pub mod Columns
 pub mod Commits
 pub mod Equality
 pub mod Event

@@ -1,5 +1,5 @@
 -- Tables by their numbers, and the values of their columns by theirs: both are numbered from 1.
-use Rattle.std.specs.Prelude.{◌≡◌, ℕ, ◌+◌, ◌-◌, ◌≤◌, ◌==◌, List, [], ◌∷◌, Bool, Option, Some, None, if◌then◌else◌, length, All}
+use Rattle.std.specs.Prelude.{◌≡◌, ℕ, ◌+◌, ◌-◌, ◌≤◌, ◌==◌, List, [], ◌∷◌, ◌++◌, replicate, Bool, Option, Some, None, if◌then◌else◌, length, All}
 use Rattle.std.specs.List.{slice_get, list_any}
 use Rattle.std.specs.Option.{unwrap_or}
 use Rattle.values.specs.declared.value.Value.{Value}
@@ -40,6 +40,14 @@ is_key_column table number = list_any (λ k. k == number) table.key
 -- a row's value of a column, NULL past its end
 abbrev pub value_at : List Value → ℕ → Value
 value_at row number = unwrap_or (slice_get row (number - 1)) Null
+
+-- a row of so many values: NULL stands for each that it lacks
+abbrev pub widened : ℕ → List Value → List Value
+widened width row = row ++ replicate (width - length row) Null
+
+-- a row with a value for each column of the table
+abbrev pub full_row : Table → List Value → List Value
+full_row table row = widened (length table.columns) row
 
 -- the column is one of the table's
 pub record IsColumnOf (table : Table) (number : ℕ) : Type 0 where

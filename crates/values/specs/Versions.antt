@@ -15,6 +15,7 @@ use Rattle.values.specs.declared.query.Shown.{Shown}
 use Rattle.values.specs.declared.value.Value.{Value}
 use Rattle.values.specs.declared.table.Table.{Table}
 use Rattle.values.specs.Order.{value_cmp, is_key}
+use Rattle.values.specs.Tables.{full_row}
 use Rattle.values.specs.Log.{Changes, Row}
 
 -- a row of a key, from its start until its end, which is none where it has not come
@@ -75,8 +76,9 @@ holds table key c = elim (part_of table key c.column) [
 abbrev pub matches : Table → Keys → Key → Bool
 matches table keys key = (key.table == keys.table) && list_all (holds table key) keys.comparisons
 
-abbrev pub shown_version : Version → Shown
-shown_version v = record { row = v.row; from = v.from; to = v.to }
+-- a row that was stored before columns were added is shown with NULL in them
+abbrev pub shown_version : Table → Version → Shown
+shown_version table v = record { row = full_row table v.row; from = v.from; to = v.to }
 
 abbrev pub selected_versions : Changes → Table → Form → Keys → List Version
 selected_versions m table form keys =
@@ -84,4 +86,4 @@ selected_versions m table form keys =
 
 -- what a query shows of what was committed
 abbrev pub answer : Changes → Table → Form → Keys → List Shown
-answer m table form keys = map shown_version (selected_versions m table form keys)
+answer m table form keys = map (shown_version table) (selected_versions m table form keys)

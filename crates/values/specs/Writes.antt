@@ -11,7 +11,7 @@ use Rattle.values.specs.declared.refusal.Refusal.{Refusal}
 use Rattle.values.specs.declared.refusal.Refusal.TheVariants.{DuplicateKey, TooManyWrites}
 use Rattle.values.specs.Order.{key_cmp, is_key}
 use Rattle.values.specs.Log.{State, Net, Row, row_at}
-use Rattle.values.specs.Tables.{value_at}
+use Rattle.values.specs.Tables.{value_at, full_row}
 use Rattle.values.specs.Versions.{matches}
 
 -- the keys that a transaction may write
@@ -43,7 +43,7 @@ set_all (s ∷ sets) row = set_all sets (slice_set row (s.column - 1) s.value)
 
 abbrev pub update_rows : Table → Keys → List Set → State → State
 update_rows table keys sets m =
-    map (λ e. if matches table keys e.0 then (e.0, set_all sets e.1) else e) m
+    map (λ e. if matches table keys e.0 then (e.0, set_all sets (full_row table e.1)) else e) m
 
 abbrev pub delete_rows : Table → Keys → State → State
 delete_rows table keys m = filter (λ e. not (matches table keys e.0)) m

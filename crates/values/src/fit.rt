@@ -1,14 +1,16 @@
 //! Whether rows, keys, comparisons and new values fit a table.
-ghost use Rattle.std.specs.Prelude.{◌≡◌, ◌==◌, length, [], option_copied};
+ghost use Rattle.std.specs.Prelude.{◌≡◌, ◌==◌, ◌||◌, length, [], option_copied};
 ghost use Rattle.std.specs.List.{list_any};
+ghost use Rattle.values.specs.Columns.{is_name_of, is_good_type, addition_fault};
 ghost use Rattle.values.specs.Tables.{column_at, is_key_column};
 ghost use Rattle.values.specs.Fit.{is_line_break, continues, character_count, text_limit, fits_text, fits_type, fits_value, row_fault, first_fault, rows_fault, key_fault, part_fault, parts_fault, can_compare, comparison_fault, comparisons_fault, set_fault, sets_fault};
 ghost use Rattle.values.specs.Faults.{no_fault};
+ghost use Rattle.values.specs.Names.{same_name};
 
 use crate::query::{ColumnNumber, Comparison, Set};
 use crate::refusal::Refusal;
-use crate::row::{LONGEST_TEXT, Row};
-use crate::table::{Column, ColumnType, Table};
+use crate::row::{LONGEST_TEXT, Row, WIDEST};
+use crate::table::{Column, ColumnType, Table, same_name};
 use crate::value::Value;
 
 /// The bytes that a text of a key may have.
@@ -91,6 +93,16 @@ fn no_fault(fault: Option<usize>) -> Result<(), Refusal>
     }
 }
 
+/// Tells whether a column may have a type: VARCHAR is of 1 to 1,000 characters.
+pub fn is_good_type(of: ColumnType) -> bool
+    ensures { result ≡ is_good_type of }
+{
+    match of {
+        ColumnType::Varchar(characters) => 1 <= characters && characters as usize <= LONGEST_TEXT,
+        ColumnType::Int | ColumnType::Text | ColumnType::Boolean => true,
+    }
+}
+
 impl Table {
     /// Returns a user column.
     pub fn column_at(&self, number: ColumnNumber) -> Option<&Column>
@@ -163,6 +175,32 @@ impl Table {
             }
         }
         Ok(())
+    }
+
+    /// Refuses a column that the table cannot get, by 0: its name is one of the table's columns,
+    /// those of its period included, in any case; the table has 16 user columns; or a VARCHAR is
+    /// not of 1 to 1,000 characters.
+    pub fn check_column(&self, name: &[u8], of: ColumnType) -> Result<(), Refusal>
+        ensures { result ≡ no_fault (addition_fault name.now of self.now) }
+    {
+        if self.is_name_of(name) || self.columns.items().len() >= WIDEST || !is_good_type(of) {
+            return Err(Refusal::BadRow(0));
+        }
+        Ok(())
+    }
+
+    /// Whether a name is one of the table's columns, those of its period included.
+    fn is_name_of(&self, name: &[u8]) -> bool
+        ensures { result ≡ is_name_of self.now name.now }
+    {
+        self.column(name).is_some() || self.is_period_column(name)
+    }
+
+    fn is_period_column(&self, name: &[u8]) -> bool
+        ensures { result ≡ (same_name self.now.row_start name.now || same_name self.now.row_end name.now) }
+    {
+        same_name(self.row_start.text().as_bytes(), name)
+            || same_name(self.row_end.text().as_bytes(), name)
     }
 
     fn row_fault(&self, values: &[Value]) -> Option<usize>

@@ -1,5 +1,5 @@
 //! Laws of log, state, versions and AS OF.
-ghost use Rattle.values.specs.Law.{StateIsAsOf, StateIsCurrent, AsOfShowsState, AsOfStays, ChangesUpto, EmptyNetStays};
+ghost use Rattle.values.specs.Law.{StateIsAsOf, StateIsCurrent, AsOfShowsState, AsOfStays, AsOfIsWidened, ChangesUpto, EmptyNetStays};
 
 /// States that what the tables hold at an instant can be read off the versions.
 pub fn states_are_versions()
@@ -12,6 +12,7 @@ pub fn states_are_versions()
 pub fn as_of_shows_the_state()
     ensures state { AsOfShowsState }
     ensures stays { AsOfStays }
+    ensures widened { AsOfIsWidened }
 {}
 
 /// States that a transaction whose net change is empty leaves no trace.

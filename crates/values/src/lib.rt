@@ -26,6 +26,7 @@ mod write;
 
 pub use chars::Chars;
 pub use event::{Event, SharedEvent};
+pub use fit::is_good_type;
 pub use fitting::{FittingKeys, FittingWrite};
 pub use key::{Instant, Key, MAX_INSTANT, Net, Point, Transaction};
 pub use key_encoding::{

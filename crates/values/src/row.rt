@@ -1,9 +1,10 @@
 //! Rows that can be stored.
-ghost use Rattle.std.specs.Prelude.{◌≡◌, IfOk, IfSome, IsSome};
+ghost use Rattle.std.specs.Prelude.{◌≡◌, ◌≤◌, length, IfOk, IfSome, IsOk, IsSome};
 ghost use Rattle.std.specs.List.{list_any, list_all};
 ghost use Rattle.values.specs.Fit.{is_line_break, longest_text, fits_text};
 ghost use Rattle.values.specs.Memory.{OnlyMemory};
 ghost use Rattle.values.specs.RowEncoding.{IsStoredRow, is_stored, is_stored_row, is_width};
+ghost use Rattle.values.specs.Tables.{widest, widened};
 
 use crate::refusal::Mem;
 use crate::value::Value;
@@ -57,6 +58,29 @@ impl Row {
         ensures stored { IsStoredRow result.now }
     {
         self.values.as_slice()
+    }
+
+    /// Returns the values, in order, without copying them.
+    pub fn into_values(self) -> Vec<Value>
+        ensures are { result.items ≡ self }
+        ensures stored { IsStoredRow result.items }
+    {
+        self.values
+    }
+
+    /// Widens the row to so many values, at most 16: NULL stands for each that it lacks. A row that
+    /// is as wide or wider stays as it is, and takes no memory.
+    pub fn widen(self, width: usize) -> Mem<Row>
+        requires { width ≤ widest }
+        ensures ok { IfOk result (λ r. r ≡ widened width self) }
+        ensures err { OnlyMemory result }
+        ensures kept { width ≤ length self → IsOk result }
+    {
+        let mut values = self.values;
+        for _ in values.len()..width {
+            values.push(Value::Null)?;
+        }
+        Ok(Row { values })
     }
 
     /// Copies the row.

@@ -1,12 +1,13 @@
 //! Tables in order, numbered from 1.
-ghost use Rattle.std.specs.Prelude.{◌≡◌, IfOk, IfSome, option_copied};
+ghost use Rattle.std.specs.Prelude.{◌≡◌, ◌<◌, length, IfErr, IfOk, IfSome, OnErr, OnOk, option_copied};
+ghost use Rattle.values.specs.Columns.{add_column};
 ghost use Rattle.values.specs.Memory.{OnlyMemory};
 ghost use Rattle.values.specs.Names.{table_number};
 ghost use Rattle.values.specs.Sample.{sample};
-ghost use Rattle.values.specs.Tables.{table_at, IsTable, IsNumberIn, AreTables};
+ghost use Rattle.values.specs.Tables.{table_at, widest, IsTable, IsNumberIn, AreTables};
 
 use crate::refusal::Mem;
-use crate::table::{Table, same_name};
+use crate::table::{Column, Table, same_name};
 use std::alloc::Global;
 use std::marker::Model;
 
@@ -75,6 +76,24 @@ impl Schema {
             return None;
         }
         self.tables.get(number as usize - 1)
+    }
+
+    /// Adds a column to the table with a number, from 1, as its last; a schema without that table
+    /// stays as it is. The table has fewer than 16 columns. Where memory runs out the schema stays
+    /// as it was.
+    pub fn add_column(&mut self, number: u8, column: Column) -> Mem<()>
+        requires { IfSome (table_at self.old number) (λ table. length table.columns < widest) }
+        ensures ok { OnOk result (self.new ≡ add_column number column self.old) }
+        ensures err { OnErr result (self.new ≡ self.old) }
+        ensures memory { OnlyMemory result }
+    {
+        if number == 0 {
+            return Ok(());
+        }
+        if let Some(table) = self.tables.get_mut(number as usize - 1) {
+            table.columns.push(column)?;
+        }
+        Ok(())
     }
 
     /// Copies the schema. The only refusal is that memory ran out.

@@ -1,4 +1,4 @@
-use Rattle.std.proofs.Common.{rules, ◌≡◌, ◌<◌, ◌∙◌, length}
+use Rattle.std.proofs.Common.{rules, ◌<◌, ◌∙◌, length}
 use Rattle.searchrange.proofs.NarrowingSteps.{ends_here, ends_later}
 use Rattle.searchrange.proofs.narrowing.narrowing_end.Goals as goal
 

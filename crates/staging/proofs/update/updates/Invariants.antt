@@ -1,6 +1,6 @@
-use Rattle.std.proofs.Common.{◌≡◌, ◌++◌}
-use Rattle.staging.specs.Staged.{updates}
+use Rattle.std.proofs.Common.{◌≡◌}
+use Rattle.staging.specs.Staged.{updates, full_rows}
 use Rattle.staging.proofs.update.updates.Given as goal
 
 abbrev pub invariant-loop-key : goal.invariant-loop-key
-invariant-loop-key l = l.changes.items ++ updates l.sets l.key-iterator ≡ updates l.sets l.rows.entries
+invariant-loop-key l = l.changes.items ≡ updates l.sets (full_rows l.table l.yielded)

@@ -1,0 +1,38 @@
+use Rattle.std.proofs.Common.{◌≡◌, [], All, ap, filter, filter_map, subst, sym, ◌∙◌}
+use Rattle.values.specs.Event.{Event}
+use Rattle.values.specs.KeyEncoding.{IsShortKey}
+use Rattle.std.specs.List.Sorted.{IsStrictlySortedBy}
+use Rattle.std.specs.Map.{keys_of}
+use Rattle.values.specs.Log.{Net, apply_net}
+use Rattle.values.specs.Order.{key_cmp}
+use Rattle.values.specs.Versions.{matches}
+use Rattle.values.specs.Writes.{insert_all}
+use Rattle.keyrange.specs.Range.{is_key_in}
+use Rattle.eventlist.specs.Listing.{standing}
+use Rattle.searchrange.specs.SearchRange.{range_of_table, Covers, IsWithin}
+use Rattle.searchrange.specs.Search.{entry_taken}
+use Rattle.tsbtree.specs.View.{events}
+use Rattle.staging.specs.Staged.{AreInSearch}
+use Rattle.staging.proofs.StagedAnswered.{rows_short}
+use Rattle.staging.proofs.StagedCalls.{rows_of_view, stand_in_search}
+use Rattle.staging.proofs.staged.Staged.rows_found.Goals as goal
+
+pub returns-clause-ok : goal.returns-clause-ok
+returns-clause-ok c = λ schema m reads.
+    let s = c.args.search.now in
+    let stand : c.deref.result.now ≡ standing (events c.args.view.now) (is_key_in s.range) c.last.result =
+    c.deref.ensures.value ∙ c.in_ok-standing.ensures.ok ∙ ap (λ r. standing (events c.args.view.now) (is_key_in r) c.last.result) c.range.ensures.range in
+    let within : IsWithin s.range (range_of_table s.table.number) = subst (λ r. IsWithin r (range_of_table s.table.number)) c.range.ensures.range c.range.ensures.within in
+    let covers : Covers s.table s.keys s.range = subst (Covers s.table s.keys) c.range.ensures.range c.range.ensures.covers in
+    let inside : AreInSearch s.table s.range c.deref.result.now = subst (AreInSearch s.table s.range) (sym stand) (stand_in_search schema s.table s.range c.args.view.now c.last.result m within reads.is_table reads.held) in
+    c.in_ok-put_taken.ensures.put
+    ∙ (λ i. apply_net
+    ((c.in_ok-found.ensures.ok inside ∙ ap (λ es. insert_all [] (filter_map (entry_taken s.table s.keys) es)) stand) i)
+    (filter (λ w. matches (c.table.ensures.table i) (c.keys.ensures i) w.0) (c.self.view_is i)))
+    ∙ rows_of_view schema s.table s.keys s.range c.args.view.now c.last.result m c.args.self.now reads c.range.ensures.own covers c.last.ensures.ordered c.last.ensures.upto
+    (subst (λ (w : Net). IsStrictlySortedBy key_cmp (keys_of w)) c.self.view_is c.in_ok-put_taken.ensures.ordered)
+
+pub returns-clause-short : goal.returns-clause-short
+returns-clause-short c =
+    subst (All (λ e. IsShortKey e.0)) (sym c.in_ok-put_taken.ensures.put)
+    (rows_short c.in_ok-found.found.entries (λ w. matches c.table.result.now c.keys.result.now w.0) c.self.inside.writes.entries c.in_ok-found.ensures.short c.self.invariant)

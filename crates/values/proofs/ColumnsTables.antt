@@ -1,0 +1,70 @@
+-- A table that gets a column stays a good one, at the place of its number.
+use Rattle.std.proofs.Common.{◌≡◌, ℕ, ◌+◌, ◌-◌, ◌<◌, List, [], ◌∷◌, ◌++◌, ◌==◌, Bool, true, false, Option, Some, None, IfSome, length, All, refl, sym, subst, ap, ◌∙◌, arith, zero, suc, length-append, if◌then◌else◌, get_or}
+use Rattle.std.specs.Prelude.{slice_set}
+use Rattle.std.specs.List.{slice_get}
+use Rattle.std.proofs.lemmas.Option.{slice_get_read, slice_get_past}
+use Rattle.std.proofs.lemmas.Bool.Decides.{nat_tests}
+use Rattle.std.proofs.lemmas.List.Elements.{All-head, All-tail, All-cons, All-nil}
+use Rattle.values.specs.declared.table.Column.{Column}
+use Rattle.values.specs.declared.table.Table.{Table}
+use Rattle.values.specs.Tables.{Schema, table_at, widest, IsColumnOf, IsTable, AreTables}
+use Rattle.values.specs.Columns.{with_column, table_with, add_column}
+
+longer : (c : Column) (t : Table) → length (with_column c t).columns ≡ length t.columns + 1
+longer c t = length-append t.columns (c ∷ [])
+
+columns_stay : (c : Column) (t : Table) (ns : List ℕ) → All (IsColumnOf t) ns → All (IsColumnOf (with_column c t)) ns
+columns_stay c t [] h = All-nil (IsColumnOf (with_column c t))
+columns_stay c t (n ∷ ns) h =
+    let was = All-head (IsColumnOf t) n ns h in
+    let now : IsColumnOf (with_column c t) n = record { from_1 = was.from_1; within = omega (arith, was.within, longer c t) } in
+    All-cons (IsColumnOf (with_column c t)) n ns now (columns_stay c t ns (All-tail (IsColumnOf t) n ns h))
+
+table_stays : (number : ℕ) (c : Column) (t : Table) → length t.columns < widest → IsTable number t → IsTable number (with_column c t)
+table_stays number c t room h = record {
+  numbered = h.numbered;
+  some_columns = omega (arith, longer c t);
+  few_columns = omega (arith, longer c t, room);
+  few_key_columns = h.few_key_columns;
+  own_key_columns = columns_stay c t t.key h.own_key_columns;
+}
+
+tables_stay : (n i : ℕ) (ts : List Table) (c : Column) (t : Table) → slice_get ts i ≡ Some t → length t.columns < widest → AreTables n ts → AreTables n (slice_set ts i (with_column c t))
+tables_stay n i [] c t at room h = h
+tables_stay n zero (x ∷ ts) c t at room h = let is : x ≡ t = cc in (table_stays n c t room (subst (IsTable n) is h.0), h.1)
+tables_stay n (suc i) (x ∷ ts) c t at room h = (h.0, tables_stay (n + 1) i ts c t at room h.1)
+
+found : (schema : Schema) (number : ℕ) (t : Table) → table_at schema number ≡ Some t → slice_get schema.tables (number - 1) ≡ Some t
+found schema number t at = by (number == 0) at
+  where
+    by : (b : Bool) → ◌≡◌ {A = Option Table} (if b then None else slice_get schema.tables (number - 1)) (Some t) → slice_get schema.tables (number - 1) ≡ Some t
+    by true is = cc
+    by false is = is
+
+-- the tables of a schema that gets a column are tables of one
+pub added_are_tables : (schema : Schema) (number : ℕ) (c : Column) → IfSome (table_at schema number) (λ t. length t.columns < widest) → AreTables 1 schema.tables → AreTables 1 (add_column number c schema).tables
+added_are_tables schema number c room h = by (table_at schema number) refl room
+  where
+    by : (o : Option Table) → table_at schema number ≡ o → IfSome o (λ t. length t.columns < widest) → AreTables 1 (table_with schema number (elim o [ None ↦ None | Some t ↦ Some (with_column c t) ])).tables
+    by None at room = h
+    by (Some t) at room = tables_stay 1 (number - 1) schema.tables c t (found schema number t at) room h
+
+-- a push to the table at the place makes of the tables what the definition says
+pub added_in_place : (ts : List Table) (number : ℕ) (c : Column) (t : Table) (after : List Column) → ¬ (number ≡ 0) → number - 1 < length ts → t ≡ get_or ts (number - 1) t → after ≡ t.columns ++ c ∷ []
+    → slice_set ts (number - 1) (record t { columns = after }) ≡ (add_column number c (record { tables = ts })).tables
+added_in_place ts number c t after some lt is after_is = by (number == 0) refl (slice_get_read ts (length ts) (number - 1) t refl lt is)
+  where
+    by : (b : Bool) → (number == 0) ≡ b → slice_get ts (number - 1) ≡ Some t
+        → slice_set ts (number - 1) (record t { columns = after }) ≡ (table_with (record { tables = ts }) number (elim (if b then None else slice_get ts (number - 1)) [ None ↦ None | Some t ↦ Some (with_column c t) ])).tables
+    by true e at = let never : ⊥ = some (grind (arith, nat_tests)) in absurd never
+    by false e at =
+        ap (λ columns. slice_set ts (number - 1) (record t { columns = columns })) after_is
+        ∙ sym (ap (λ (o : Option Table). (table_with (record { tables = ts }) number (elim o [ None ↦ None | Some t ↦ Some (with_column c t) ])).tables) at)
+
+-- a schema without a table of the number stays
+pub added_nowhere : (ts : List Table) (number : ℕ) (c : Column) → ¬ (number - 1 < length ts) → ts ≡ (add_column number c (record { tables = ts })).tables
+added_nowhere ts number c past = by (number == 0) (slice_get_past ts (number - 1) (omega (arith, past)))
+  where
+    by : (b : Bool) → slice_get ts (number - 1) ≡ None → ts ≡ (table_with (record { tables = ts }) number (elim (if b then None else slice_get ts (number - 1)) [ None ↦ None | Some t ↦ Some (with_column c t) ])).tables
+    by true at = refl
+    by false at = sym (ap (λ (o : Option Table). (table_with (record { tables = ts }) number (elim o [ None ↦ None | Some t ↦ Some (with_column c t) ])).tables) at)
