@@ -17,45 +17,44 @@ use Rattle.interchange.specs.Report.{loaded_text}
 use Rattle.command_line.proofs.LoadRefused.{first_refused}
 use Rattle.command_line.specs.Load.{IsNamed, FileSays, HasNoRows, IsLed, IsUnread, IsUnreported, Unloaded, steps_of}
 
-same_text : (schema : Schema) (s : SystemState) (number : ℕ) (rows : List Row) (count instant : ℕ) → count ≡ length rows → s.schema ≡ schema → instant ≡ last (log s.schema (history_of (steps_of number rows)))
+same_text : (schema : Schema) (number : ℕ) (rows : List Row) (count instant : ℕ) → count ≡ length rows → instant ≡ last (log schema (history_of (steps_of number rows)))
     → loaded_text count instant ≡ loaded_text (length rows) (last (log schema (history_of (steps_of number rows))))
-same_text schema s number rows count instant count_is is instant_is =
-    ap (λ n. loaded_text n instant) count_is ∙ ap (loaded_text (length rows)) (instant_is ∙ ap (λ x. last (log x (history_of (steps_of number rows)))) is)
+same_text schema number rows count instant count_is instant_is =
+    ap (λ n. loaded_text n instant) count_is ∙ ap (loaded_text (length rows)) instant_is
 
 -- rows were taken, and reported
 pub led_with : (schema : Schema) (text : Text) (number : ℕ) (rows : List Row) (s : SystemState) (old new : Option (List ℕ)) (count instant : ℕ) → count ≡ length rows → FileSays schema text number (Ok rows)
-    → Stands s (history_of (steps_of number rows)) → s.schema ≡ schema → first_refusal schema [] (steps_of number rows) ≡ None
-    → ((h : History) → Stands s h → instant ≡ last (log s.schema h)) → Appends old new (loaded_text count instant)
+    → Stands schema s (history_of (steps_of number rows)) → first_refusal schema [] (steps_of number rows) ≡ None
+    → ((first : Schema) (h : History) → Stands first s h → instant ≡ last (log first h)) → Appends old new (loaded_text count instant)
     → IsLed schema (Some text) s old new
-led_with schema text number rows s old new count instant count_is says at is taken instant_is wrote = record {
+led_with schema text number rows s old new count instant count_is says at taken instant_is wrote = record {
   first = history_of (steps_of number rows);
   loaded = record {
     load = record { number = number; rows = rows; says = says; taken = taken; leaves = refl };
-    wrote = subst (Appends old new) (same_text schema s number rows count instant count_is is (instant_is _ at)) wrote;
+    wrote = subst (Appends old new) (same_text schema number rows count instant count_is (instant_is schema _ at)) wrote;
   };
   stands = at;
-  schema_is = is;
 }
 
 -- rows were taken, and not reported
 pub unloaded_late : (fault : Fault) (schema : Schema) (text : Text) (number : ℕ) (rows : List Row) (s : SystemState) (old new : Option (List ℕ)) (count instant : ℕ) → count ≡ length rows → FileSays schema text number (Ok rows)
-    → Stands s (history_of (steps_of number rows)) → s.schema ≡ schema → first_refusal schema [] (steps_of number rows) ≡ None
-    → ((h : History) → Stands s h → instant ≡ last (log s.schema h)) → IsUnreported fault (loaded_text count instant) old new
+    → Stands schema s (history_of (steps_of number rows)) → first_refusal schema [] (steps_of number rows) ≡ None
+    → ((first : Schema) (h : History) → Stands first s h → instant ≡ last (log first h)) → IsUnreported fault (loaded_text count instant) old new
     → Unloaded fault schema (Some text) old new
-unloaded_late (Words f) schema text number rows s old new count instant count_is says at is taken instant_is untold = absurd untold
-unloaded_late (SchemaSyntax n) schema text number rows s old new count instant count_is says at is taken instant_is untold = absurd untold
-unloaded_late (BadTable n) schema text number rows s old new count instant count_is says at is taken instant_is untold = absurd untold
-unloaded_late SchemaMemory schema text number rows s old new count instant count_is says at is taken instant_is untold = absurd untold
-unloaded_late NoExport schema text number rows s old new count instant count_is says at is taken instant_is untold = absurd untold
-unloaded_late (Load refusal) schema text number rows s old new count instant count_is says at is taken instant_is untold = absurd untold
-unloaded_late Read schema text number rows s old new count instant count_is says at is taken instant_is untold = absurd untold
-unloaded_late Socket schema text number rows s old new count instant count_is says at is taken instant_is untold = absurd untold
-unloaded_late NotClosed schema text number rows s old new count instant count_is says at is taken instant_is untold = absurd untold
-unloaded_late Memory schema text number rows s old new count instant count_is says at is taken instant_is untold = untold
-unloaded_late Write schema text number rows s old new count instant count_is says at is taken instant_is untold = record {
+unloaded_late (Words f) schema text number rows s old new count instant count_is says at taken instant_is untold = absurd untold
+unloaded_late (SchemaSyntax n) schema text number rows s old new count instant count_is says at taken instant_is untold = absurd untold
+unloaded_late (BadTable n) schema text number rows s old new count instant count_is says at taken instant_is untold = absurd untold
+unloaded_late SchemaMemory schema text number rows s old new count instant count_is says at taken instant_is untold = absurd untold
+unloaded_late NoExport schema text number rows s old new count instant count_is says at taken instant_is untold = absurd untold
+unloaded_late (Load refusal) schema text number rows s old new count instant count_is says at taken instant_is untold = absurd untold
+unloaded_late Read schema text number rows s old new count instant count_is says at taken instant_is untold = absurd untold
+unloaded_late Socket schema text number rows s old new count instant count_is says at taken instant_is untold = absurd untold
+unloaded_late NotClosed schema text number rows s old new count instant count_is says at taken instant_is untold = absurd untold
+unloaded_late Memory schema text number rows s old new count instant count_is says at taken instant_is untold = untold
+unloaded_late Write schema text number rows s old new count instant count_is says at taken instant_is untold = record {
   first = history_of (steps_of number rows);
   load = record { number = number; rows = rows; says = says; taken = taken; leaves = refl };
-  wrote = subst (AppendsPrefix old new) (same_text schema s number rows count instant count_is is (instant_is _ at)) untold;
+  wrote = subst (AppendsPrefix old new) (same_text schema number rows count instant count_is (instant_is schema _ at)) untold;
 }
 
 -- a table's file has no rows

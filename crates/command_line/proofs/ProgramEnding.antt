@@ -3,6 +3,7 @@ use Rattle.std.proofs.Common.{◌≡◌, ℕ, List, Option, true, false, sym, su
 use Rattle.std.specs.Prelude.{Result, Ok, Err, IfErr, OnOk}
 use Rattle.std.proofs.KnownBytes.{Keeps-refl}
 use Rattle.clap.specs.Words.{Text}
+use Rattle.values.specs.Tables.{Schema}
 use Rattle.histories.specs.History.{History}
 use Rattle.interleaving.specs.SystemState.{SystemState, Stands}
 use Rattle.command_line.specs.declared.options.Options.{Options}
@@ -20,31 +21,31 @@ use Rattle.command_line.proofs.FaultKinds.{of_words}
 -- ---- the script, then the export
 
 pub ran_on : (r : Result (Unit {0}) Fault) (script : Option Text) (number : Option ℕ) (system s : SystemState) (unread left old mid new : Option (List ℕ))
-    → ((h : History) → Stands system h → HasRun script system.schema h s unread left old mid) → ((h : History) → Stands system h → s.schema ≡ system.schema)
-    → OnOk r ((h : History) → Stands s h → HasExported s.schema number h mid new)
-    → OnOk r ((h : History) → Stands system h → HasRunOn script number system.schema h unread left old new)
-ran_on (Err e) script number system s unread left old mid new ran same exported = tt
-ran_on (Ok u) script number system s unread left old mid new ran same exported = λ h at.
-    let x = ran h at in
+    → ((first : Schema) (h : History) → Stands first system h → HasRun script first h s unread left old mid)
+    → OnOk r ((first : Schema) (h : History) → Stands first s h → HasExported first number h mid new)
+    → OnOk r ((first : Schema) (h : History) → Stands first system h → HasRunOn script number first h unread left old new)
+ran_on (Err e) script number system s unread left old mid new ran exported = tt
+ran_on (Ok u) script number system s unread left old mid new ran exported = λ first h at.
+    let x = ran first h at in
     record {
       s = s;
       between = mid;
       ran = x;
-      exported = subst (λ c. HasExported c number x.end mid new) (same h at) (exported x.end (subst (Stands s) (sym x.end_is) x.run.stands));
+      exported = exported first x.end (subst (Stands first s) (sym x.end_is) x.run.stands);
     }
 
 pub halts_late : (r : Result (Unit {0}) Fault) (script : Option Text) (number : Option ℕ) (system s : SystemState) (unread left old mid new : Option (List ℕ))
-    → ((h : History) → Stands system h → HasRun script system.schema h s unread left old mid) → ((h : History) → Stands system h → s.schema ≡ system.schema)
-    → IfErr r (λ fault. (h : History) → Stands s h → Unexported fault s.schema number h mid new)
-    → IfErr r (λ fault. (h : History) → Stands system h → HaltsOn fault script number system.schema h unread left old new)
-halts_late (Ok u) script number system s unread left old mid new ran same unexported = tt
-halts_late (Err fault) script number system s unread left old mid new ran same unexported = λ h at.
-    let x = ran h at in
+    → ((first : Schema) (h : History) → Stands first system h → HasRun script first h s unread left old mid)
+    → IfErr r (λ fault. (first : Schema) (h : History) → Stands first s h → Unexported fault first number h mid new)
+    → IfErr r (λ fault. (first : Schema) (h : History) → Stands first system h → HaltsOn fault script number first h unread left old new)
+halts_late (Ok u) script number system s unread left old mid new ran unexported = tt
+halts_late (Err fault) script number system s unread left old mid new ran unexported = λ first h at.
+    let x = ran first h at in
     inr (record {
       s = s;
       between = mid;
       ran = x;
-      unexported = subst (λ c. Unexported fault c number x.end mid new) (same h at) (unexported x.end (subst (Stands s) (sym x.end_is) x.run.stands));
+      unexported = unexported first x.end (subst (Stands first s) (sym x.end_is) x.run.stands);
     })
 
 -- ---- the words, where they are taken

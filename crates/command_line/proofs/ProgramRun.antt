@@ -3,6 +3,7 @@ use Rattle.std.proofs.Common.{◌≡◌, ℕ, List, Option, Some, None, refl, sy
 use Rattle.std.specs.Prelude.{Result, Ok, Err, IfOk}
 use Rattle.std.specs.Io.KnownBytes.{Keeps}
 use Rattle.clap.specs.Words.{Text}
+use Rattle.values.specs.Tables.{Schema}
 use Rattle.histories.specs.History.{History}
 use Rattle.interleaving.specs.SystemState.{SystemState, Stands}
 use Rattle.statement.specs.Line.{line_says}
@@ -18,24 +19,24 @@ at_end (Ok s) r P is f = subst (λ r. IfOk r P) (sym is) f
 at_end (Err e) r P is f = subst (λ r. IfOk r P) (sym is) tt
 
 has_run : (ran : Result SystemState RunFault) (r : Result SystemState Fault) (file : Option Text) (system : SystemState) (from to unread left old new : Option (List ℕ)) → ComesFrom file unread left from to → r ≡ outcome_of ran
-    → IfOk ran (λ s. (h : History) → Stands system h → IsRunAfter system.schema (line_says system.schema) h s from to old new)
-    → IfOk r (λ s. (h : History) → Stands system h → HasRun file system.schema h s unread left old new)
-has_run ran r file system from to unread left old new comes is f = at_end ran r (λ s. (h : History) → Stands system h → HasRun file system.schema h s unread left old new) is (by ran f)
+    → IfOk ran (λ s. (first : Schema) (h : History) → Stands first system h → IsRunAfter first line_says h s from to old new)
+    → IfOk r (λ s. (first : Schema) (h : History) → Stands first system h → HasRun file first h s unread left old new)
+has_run ran r file system from to unread left old new comes is f = at_end ran r (λ s. (first : Schema) (h : History) → Stands first system h → HasRun file first h s unread left old new) is (by ran f)
   where
-    by : (x : Result SystemState RunFault) → IfOk x (λ s. (h : History) → Stands system h → IsRunAfter system.schema (line_says system.schema) h s from to old new)
-        → IfOk x (λ s. (h : History) → Stands system h → HasRun file system.schema h s unread left old new)
-    by (Ok s) g = λ h at. record { from = from; to = to; source = comes; run = g h at; end = _; end_is = refl }
+    by : (x : Result SystemState RunFault) → IfOk x (λ s. (first : Schema) (h : History) → Stands first system h → IsRunAfter first line_says h s from to old new)
+        → IfOk x (λ s. (first : Schema) (h : History) → Stands first system h → HasRun file first h s unread left old new)
+    by (Ok s) g = λ first h at. record { from = from; to = to; source = comes; run = g first h at; end = _; end_is = refl }
     by (Err e) g = tt
 
 -- a file is read, and standard input is not
 pub has_run_file : (ran : Result SystemState RunFault) (r : Result SystemState Fault) (file : Option Text) (path : Text) (system : SystemState) (from to unread left old new : Option (List ℕ)) → file ≡ Some path → Keeps unread left → r ≡ outcome_of ran
-    → IfOk ran (λ s. (h : History) → Stands system h → IsRunAfter system.schema (line_says system.schema) h s from to old new)
-    → IfOk r (λ s. (h : History) → Stands system h → HasRun file system.schema h s unread left old new)
+    → IfOk ran (λ s. (first : Schema) (h : History) → Stands first system h → IsRunAfter first line_says h s from to old new)
+    → IfOk r (λ s. (first : Schema) (h : History) → Stands first system h → HasRun file first h s unread left old new)
 has_run_file ran r file path system from to unread left old new some kept is f =
     has_run ran r file system from to unread left old new (subst (λ x. ComesFrom x unread left from to) (sym some) kept) is f
 
 pub has_run_input : (ran : Result SystemState RunFault) (r : Result SystemState Fault) (file : Option Text) (system : SystemState) (unread left old new : Option (List ℕ)) → file ≡ None → r ≡ outcome_of ran
-    → IfOk ran (λ s. (h : History) → Stands system h → IsRunAfter system.schema (line_says system.schema) h s unread left old new)
-    → IfOk r (λ s. (h : History) → Stands system h → HasRun file system.schema h s unread left old new)
+    → IfOk ran (λ s. (first : Schema) (h : History) → Stands first system h → IsRunAfter first line_says h s unread left old new)
+    → IfOk r (λ s. (first : Schema) (h : History) → Stands first system h → HasRun file first h s unread left old new)
 has_run_input ran r file system unread left old new none is f =
     has_run ran r file system unread left unread left old new (subst (λ x. ComesFrom x unread left unread left) (sym none) (refl, refl)) is f

@@ -12,7 +12,7 @@ use Rattle.steps.specs.declared.step.Step.{Step}
 use Rattle.steps.specs.declared.step.Step.TheVariants.{Select}
 use Rattle.steps.specs.declared.step.Listing.TheVariants.{Periods}
 use Rattle.steps.specs.declared.step.Reply.TheVariants.{Shown as Shows}
-use Rattle.histories.specs.History.{History, reply}
+use Rattle.histories.specs.History.{History, schema_after, reply}
 use Rattle.statement.specs.Writer.{AppendsPrefix}
 use Rattle.interchange.specs.Version.{export_text}
 use Rattle.command_line.specs.declared.fault.Fault.{Fault}
@@ -34,10 +34,10 @@ abbrev pub all_versions : ℕ → Step
 all_versions number =
     Select 0 (Between 0 max_instant) (record { table = number; comparisons = [] })
 
--- what a table shows after a history
+-- what a table shows after a history, with the columns that it has then
 pub record HasVersions (schema : Schema) (number : ℕ) (h : History) (table : Table)
     (shown : List Shown) : Type 0 where
-  pub table_is : table_at schema number ≡ Some table
+  pub table_is : table_at (schema_after schema h) number ≡ Some table
   pub shown_are : reply schema h (all_versions number) ≡ Shows (Periods shown)
 
 -- the header and all versions were written
@@ -65,7 +65,8 @@ abbrev pub Unexported : Fault → Schema → Option ℕ → History → (old new
 Unexported Write schema (Some number) h old new = IsHalfWritten schema number h old new
 Unexported Memory schema (Some number) h old new =
     Keeps old new ⊎ IsHalfWritten schema number h old new
-Unexported NoExport schema (Some number) h old new = table_at schema number ≡ None
+Unexported NoExport schema (Some number) h old new =
+    table_at (schema_after schema h) number ≡ None
 Unexported fault schema number h old new = ⊥
 
 -- why an export stops in its text

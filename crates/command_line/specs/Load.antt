@@ -97,8 +97,7 @@ pub record IsLed (schema : Schema) (text : Option Text) (s : SystemState)
     (old new : Option (List ℕ)) : Type 0 where
   pub first : History
   pub loaded : HasLoaded schema text first old new
-  pub stands : Stands s first
-  pub schema_is : s.schema ≡ schema
+  pub stands : Stands schema s first
 
 -- ---- what the parts of a load leave
 

@@ -49,9 +49,9 @@ pub record HasRun (script : Option Text) (schema : Schema) (h : History) (s : Sy
   pub from : Option (List ℕ)
   pub to : Option (List ℕ)
   pub source : ComesFrom script unread left from to
-  pub run : IsRunAfter schema (line_says schema) h s from to old new
+  pub run : IsRunAfter schema line_says h s from to old new
   pub end : History
-  pub end_is : end ≡ (leaves_after schema (line_says schema) h run.ran.marks run.ran.text).history
+  pub end_is : end ≡ (leaves_after schema line_says h run.ran.marks run.ran.text).history
 
 -- a script was run up to a fault of its reader
 pub record HasReadFault (script : Option Text) (schema : Schema) (h : History)
@@ -59,7 +59,7 @@ pub record HasReadFault (script : Option Text) (schema : Schema) (h : History)
   pub from : Option (List ℕ)
   pub to : Option (List ℕ)
   pub source : ComesFrom script unread left from to
-  pub cut : IsCutAfter schema (line_says schema) h from to old new
+  pub cut : IsCutAfter schema line_says h from to old new
 
 -- a script was run up to a fault of the writer
 pub record HasWriteFault (script : Option Text) (schema : Schema) (h : History)
@@ -67,7 +67,7 @@ pub record HasWriteFault (script : Option Text) (schema : Schema) (h : History)
   pub from : Option (List ℕ)
   pub to : Option (List ℕ)
   pub source : ComesFrom script unread left from to
-  pub stopped : IsStoppedAfter schema (line_says schema) h from to old new
+  pub stopped : IsStoppedAfter schema line_says h from to old new
 
 -- what a fault of a script leaves: it may have been read up to a read fault or a write fault, and
 -- nothing was read or written where memory ran out

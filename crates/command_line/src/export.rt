@@ -1,6 +1,7 @@
 //! A table with all its versions, after the script.
 ghost use Rattle.std.specs.Prelude.{◌≡◌, IfOk, IfErr, OnOk, option_map};
 ghost use Rattle.std.specs.Io.KnownBytes.{Appends};
+ghost use Rattle.values.specs.Tables.{Schema};
 ghost use Rattle.histories.specs.History.{History, reply};
 ghost use Rattle.steps.specs.declared.step.Listing.TheVariants.{Periods};
 ghost use Rattle.steps.specs.declared.step.Reply.TheVariants.{Shown as Shows};
@@ -39,10 +40,10 @@ pub fn export_number(schema: &Schema, name: Option<&str>) -> Result<Option<u8>, 
 
 /// Returns all versions of a table with their periods, as the service's session sees them.
 fn versions_of(alloc: Global, system: &mut System, number: u8) -> Result<ShownRows, Fault>
-    ensures ok { IfOk result (λ shown. (h : History) → Stands system.old h
-        → reply system.old.schema h (all_versions number) ≡ Shows (Periods shown)) }
+    ensures ok { IfOk result (λ shown. (first : Schema) (h : History) → Stands first system.old h
+        → reply first h (all_versions number) ≡ Shows (Periods shown)) }
     ensures err { IfErr result (λ fault. fault ≡ Fault.Memory) }
-    ensures schema { system.new.schema ≡ system.old.schema }
+    ensures schema { OnOk result (system.new.schema ≡ system.old.schema) }
 {
     let keys = Keys::all(alloc, number);
     match system.step(Step::Select(0, Form::Between(0, MAX_INSTANT), keys)) {
@@ -77,10 +78,10 @@ fn export_versions<O: Write>(
     number: u8,
     mut system: System,
 ) -> Result<(), Fault>
-    ensures ok { OnOk result ((h : History) → Stands system h
-        → HasExported system.schema (Some number) h (O.contents out.old) (O.contents out.new)) }
-    ensures err { IfErr result (λ fault. (h : History) → Stands system h
-        → Unexported fault system.schema (Some number) h
+    ensures ok { OnOk result ((first : Schema) (h : History) → Stands first system h
+        → HasExported first (Some number) h (O.contents out.old) (O.contents out.new)) }
+    ensures err { IfErr result (λ fault. (first : Schema) (h : History) → Stands first system h
+        → Unexported fault first (Some number) h
         (O.contents out.old) (O.contents out.new)) }
 {
     let shown = match versions_of(alloc, &mut system, number) {
@@ -101,10 +102,10 @@ pub fn export_table<O: Write>(
     number: Option<u8>,
     system: System,
 ) -> Result<(), Fault>
-    ensures ok { OnOk result ((h : History) → Stands system h
-        → HasExported system.schema number h (O.contents out.old) (O.contents out.new)) }
-    ensures err { IfErr result (λ fault. (h : History) → Stands system h
-        → Unexported fault system.schema number h (O.contents out.old) (O.contents out.new)) }
+    ensures ok { OnOk result ((first : Schema) (h : History) → Stands first system h
+        → HasExported first number h (O.contents out.old) (O.contents out.new)) }
+    ensures err { IfErr result (λ fault. (first : Schema) (h : History) → Stands first system h
+        → Unexported fault first number h (O.contents out.old) (O.contents out.new)) }
 {
     match number {
         Some(number) => export_versions(alloc, out, number, system),

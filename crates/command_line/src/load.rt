@@ -3,7 +3,7 @@ ghost use Rattle.std.specs.Prelude.{◌≡◌, IfOk, IfErr, IfSome, None, Some, 
 ghost use Rattle.std.specs.Io.KnownBytes.{Appends};
 ghost use Rattle.clap.specs.Words.{Text};
 ghost use Rattle.values.specs.Names.{table_number};
-ghost use Rattle.values.specs.Tables.{IsTable};
+ghost use Rattle.values.specs.Tables.{IsTable, Schema};
 ghost use Rattle.values.specs.Log.{last};
 ghost use Rattle.values.specs.declared.refusal.Refusal.{Refusal as Why};
 ghost use Rattle.histories.specs.History.{History, log};
@@ -127,8 +127,7 @@ fn steps_of(alloc: Global, loaded: TableRows) -> Mem<Vec<Step>>
 /// Makes a store with these rows.
 fn store_of(alloc: Global, schema: Schema, loaded: TableRows) -> Result<System, Fault>
     ensures stands { IfOk result (λ s.
-        Stands s (history_of (steps_of loaded.number loaded.rows.items))) }
-    ensures schema { IfOk result (λ s. s.schema ≡ schema) }
+        Stands schema s (history_of (steps_of loaded.number loaded.rows.items))) }
     ensures taken { OnOk result (
         first_refusal schema [] (steps_of loaded.number loaded.rows.items) ≡ None) }
     ensures err { IfErr result (λ fault. IsUntaken fault schema loaded.number loaded.rows.items) }
@@ -144,7 +143,8 @@ fn store_of(alloc: Global, schema: Schema, loaded: TableRows) -> Result<System, 
 
 /// Returns the last commit instant, 0 if there is none.
 fn last_instant(system: &System) -> Instant
-    ensures { (h : History) → Stands system.now h → result ≡ last (log system.now.schema h) }
+    ensures { (first : Schema) (h : History) → Stands first system.now h
+        → result ≡ last (log first h) }
 {
     system.tree().current().last()
 }

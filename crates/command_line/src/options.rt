@@ -38,7 +38,8 @@ BEGIN, START TRANSACTION, COMMIT, ROLLBACK\n  \
 INSERT INTO table [(column, ..)] VALUES (value, ..), ..\n  \
 UPDATE table SET column = value, .. [WHERE comparisons]\n  \
 DELETE FROM table [WHERE comparisons]\n  \
-SELECT * FROM table [FOR SYSTEM_TIME form] [WHERE comparisons]\n\
+SELECT * FROM table [FOR SYSTEM_TIME form] [WHERE comparisons]\n  \
+ALTER TABLE table ADD COLUMN column type, in a script\n\
 A form is AS OF instant, FROM instant TO instant or BETWEEN instant AND instant.\n\
 Comparisons are a column, one of = < <= > >= and a value, joined by AND.\n\
 A value is a number, a 'text', TRUE, FALSE or NULL.\n\

@@ -2,6 +2,7 @@
 ghost use Rattle.std.specs.Prelude.{◌≡◌, ◌≤◌, ℕ, List, IfOk, IfErr, OnOk, length, map, option_map, true, false};
 ghost use Rattle.std.specs.Io.KnownBytes.{Appends};
 ghost use Rattle.clap.specs.Words.{IsAmong, Text, kind_of};
+ghost use Rattle.values.specs.Tables.{Schema};
 ghost use Rattle.histories.specs.History.{History};
 ghost use Rattle.interleaving.specs.SystemState.{Stands};
 ghost use Rattle.listening.specs.Server.{IsExportOf};
@@ -294,12 +295,12 @@ fn run_on<R: AllocGlobal + Files, I: Read, O: Write>(
     out: &mut O,
     system: System,
 ) -> Result<(), Fault>
-    ensures done { OnOk result ((h : History) → Stands system h
-        → HasRunOn (option_map (λ text. text.now) file.entry) number system.schema h
+    ensures done { OnOk result ((first : Schema) (h : History) → Stands first system h
+        → HasRunOn (option_map (λ text. text.now) file.entry) number first h
         (I.remaining reader.old) (I.remaining reader.new)
         (O.contents out.old) (O.contents out.new)) }
-    ensures halts { IfErr result (λ fault. (h : History) → Stands system h
-        → HaltsOn fault (option_map (λ text. text.now) file.entry) number system.schema h
+    ensures halts { IfErr result (λ fault. (first : Schema) (h : History) → Stands first system h
+        → HaltsOn fault (option_map (λ text. text.now) file.entry) number first h
         (I.remaining reader.old) (I.remaining reader.new)
         (O.contents out.old) (O.contents out.new)) }
 {
@@ -317,14 +318,12 @@ fn run_script_of<R: AllocGlobal + Files, I: Read, O: Write>(
     out: &mut O,
     system: System,
 ) -> Result<System, Fault>
-    ensures done { IfOk result (λ s. (h : History) → Stands system h
-        → HasRun (option_map (λ text. text.now) file.entry) system.schema h s
+    ensures done { IfOk result (λ s. (first : Schema) (h : History) → Stands first system h
+        → HasRun (option_map (λ text. text.now) file.entry) first h s
         (I.remaining reader.old) (I.remaining reader.new)
         (O.contents out.old) (O.contents out.new)) }
-    ensures schema { IfOk result (λ s. (h : History) → Stands system h
-        → s.schema ≡ system.schema) }
-    ensures fault { IfErr result (λ fault. (h : History) → Stands system h
-        → Leaves fault (option_map (λ text. text.now) file.entry) system.schema h
+    ensures fault { IfErr result (λ fault. (first : Schema) (h : History) → Stands first system h
+        → Leaves fault (option_map (λ text. text.now) file.entry) first h
         (I.remaining reader.old) (I.remaining reader.new)
         (O.contents out.old) (O.contents out.new)) }
 {

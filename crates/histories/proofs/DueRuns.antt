@@ -7,7 +7,7 @@ use Rattle.values.specs.declared.refusal.Refusal.{Refusal}
 use Rattle.values.specs.declared.refusal.Refusal.TheVariants.{Memory, Syntax, NoTable, BadRow, NoTransaction, InTransaction, DuplicateKey, Conflict, ClockEnd, TooManyWrites, NoSession, LineTooLong, JournalFull, Overlap, BadPeriod, TransactionsOpen}
 use Rattle.steps.specs.declared.step.Step.{Step}
 use Rattle.steps.specs.declared.step.Reply.{Reply}
-use Rattle.steps.specs.declared.step.Reply.TheVariants.{Begun, Inserted, Updated, Deleted, Shown, Committed, RolledBack, Done, Refused}
+use Rattle.steps.specs.declared.step.Reply.TheVariants.{Begun, Inserted, Updated, Deleted, Shown, Committed, RolledBack, Altered, Done, Refused}
 use Rattle.histories.specs.History.{History, reply, replies}
 use Rattle.histories.specs.World.{World}
 use Rattle.histories.specs.Stands.{Stands}
@@ -18,15 +18,14 @@ use Rattle.histories.proofs.Memory.{memory_is_taken_alike}
 
 -- a run so far: what the system stands for, what is due of the rest, and that memory ran out where it was taken
 pub record Ran (schema : Schema) (steps : List Step) (w : World) (done : List Reply) (rest : List Step) : Type 0 where
-  pub same_schema : w.schema ≡ schema
   pub history : History
-  pub stands : Stands w history
+  pub stands : Stands schema w history
   pub to_come : (given : List Reply) → due schema [] steps (done ++ given) ≡ done ++ due schema history rest given
   pub taken : (given : List Reply) → is_out_where_taken schema [] steps (done ++ given) ≡ is_out_where_taken schema history rest given
 
-pub ran_none : (schema : Schema) (steps rest : List Step) (w : World) (done : List Reply) → w.schema ≡ schema → Stands w [] → done ≡ [] → rest ≡ steps → Ran schema steps w done rest
-ran_none schema steps rest w done same stands none all =
-    subst (λ d. Ran schema steps w d rest) (sym none) (subst (λ r. Ran schema steps w [] r) (sym all) (record { same_schema = same; history = []; stands = stands; to_come = λ given. refl; taken = λ given. refl }))
+pub ran_none : (schema : Schema) (steps rest : List Step) (w : World) (done : List Reply) → Stands schema w [] → done ≡ [] → rest ≡ steps → Ran schema steps w done rest
+ran_none schema steps rest w done stands none all =
+    subst (λ d. Ran schema steps w d rest) (sym none) (subst (λ r. Ran schema steps w [] r) (sym all) (record { history = []; stands = stands; to_come = λ given. refl; taken = λ given. refl }))
 
 pub is_memory_so : (refusal : Refusal) → is_memory refusal ≡ true → refusal ≡ Memory
 is_memory_so Memory e = refl
@@ -55,17 +54,18 @@ is_out_so (Deleted n) e = cc
 is_out_so (Shown l) e = cc
 is_out_so (Committed i) e = cc
 is_out_so RolledBack e = cc
+is_out_so Altered e = cc
 is_out_so Done e = cc
 
 other : (r : Reply) → is_out_of_memory r ≡ false → r ≢ Refused Memory
 other r e is = cc (sym e ∙ ap is_out_of_memory is)
 
-takes_some : (w : World) (schema : Schema) (h : History) (step : Step) (r : Reply) → w.schema ≡ schema → Stands w h → (takes_no_memory w step ≡ true → is_out_of_memory r ≡ false) → is_out_of_memory r ≡ true
+takes_some : (w : World) (schema : Schema) (h : History) (step : Step) (r : Reply) → Stands schema w h → (takes_no_memory w step ≡ true → is_out_of_memory r ≡ false) → is_out_of_memory r ≡ true
     → not (takes_no_memory_after schema h step) ≡ true
-takes_some w schema h step r same stands answers out = by (takes_no_memory w step) refl
+takes_some w schema h step r stands answers out = by (takes_no_memory w step) refl
   where
     alike : takes_no_memory w step ≡ takes_no_memory_after schema h step
-    alike = memory_is_taken_alike w h step stands ∙ ap (λ s. takes_no_memory_after s h step) same
+    alike = memory_is_taken_alike schema w h step stands
 
     by : (b : Bool) → takes_no_memory w step ≡ b → not (takes_no_memory_after schema h step) ≡ true
     by true takes = cc (sym (answers takes) ∙ out)
@@ -73,9 +73,8 @@ takes_some w schema h step r same stands answers out = by (takes_no_memory w ste
 
 -- what a step promised: an answer and what it left, nothing where memory ran out, and no such answer where it takes none
 pub record Promised (w now : World) (step : Step) (r : Reply) : Type 0 where
-  pub answers : (h : History) → Stands w h → r ≢ Refused Memory → (r ≡ reply w.schema h step) × Stands now (step ∷ h)
-  pub out : (h : History) → Stands w h → r ≡ Refused Memory → Stands now h
-  pub same_schema : now.schema ≡ w.schema
+  pub answers : (first : Schema) (h : History) → Stands first w h → r ≢ Refused Memory → (r ≡ reply first h step) × Stands first now (step ∷ h)
+  pub out : (first : Schema) (h : History) → Stands first w h → r ≡ Refused Memory → Stands first now h
   pub taken : takes_no_memory w step ≡ true → is_out_of_memory r ≡ false
 
 abbrev due_by : Schema → History → Step → List Step → Reply → List Reply → List Reply → Bool → List Reply
@@ -96,21 +95,19 @@ ran_step schema steps w now done step rest r ran promised = by (is_out_of_memory
 
     by : (b : Bool) → is_out_of_memory r ≡ b → Ran schema steps now (done ++ r ∷ []) rest
     by true e = record {
-      same_schema = promised.same_schema ∙ ran.same_schema;
       history = ran.history;
-      stands = promised.out ran.history ran.stands (is_out_so r e);
+      stands = promised.out schema ran.history ran.stands (is_out_so r e);
       to_come = λ given. moved given ∙ ap (due_by schema ran.history step rest r done given) e ∙ sym (append_assoc done (r ∷ []) (due schema ran.history rest given));
-      taken = λ given. taken_so given ∙ ap (taken_by schema ran.history step rest given) e ∙ ap (λ b. b && is_out_where_taken schema ran.history rest given) (takes_some w schema ran.history step r ran.same_schema ran.stands promised.taken e);
+      taken = λ given. taken_so given ∙ ap (taken_by schema ran.history step rest given) e ∙ ap (λ b. b && is_out_where_taken schema ran.history rest given) (takes_some w schema ran.history step r ran.stands promised.taken e);
     }
     by false e =
-        let did = promised.answers ran.history ran.stands (other r e) in
+        let did = promised.answers schema ran.history ran.stands (other r e) in
         record {
-          same_schema = promised.same_schema ∙ ran.same_schema;
           history = step ∷ ran.history;
           stands = did.1;
           to_come = λ given. moved given
               ∙ ap (due_by schema ran.history step rest r done given) e
-              ∙ ap (λ x. done ++ x ∷ due schema (step ∷ ran.history) rest given) (sym (did.0 ∙ ap (λ s. reply s ran.history step) ran.same_schema))
+              ∙ ap (λ x. done ++ x ∷ due schema (step ∷ ran.history) rest given) (sym did.0)
               ∙ sym (append_assoc done (r ∷ []) (due schema (step ∷ ran.history) rest given));
           taken = λ given. taken_so given ∙ ap (taken_by schema ran.history step rest given) e;
         }

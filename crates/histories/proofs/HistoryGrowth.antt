@@ -12,8 +12,8 @@ use Rattle.values.specs.Commits.{conflicts, outcome, log_after, after, max_insta
 use Rattle.values.proofs.LawAsOf.{as_of_stays}
 use Rattle.values.proofs.LogPush.{Rises-push}
 use Rattle.steps.specs.declared.step.Step.{Step}
-use Rattle.steps.specs.declared.step.Step.TheVariants.{Begin, Insert, Update, Delete, Select, Commit, Rollback, SplitKey, SplitTime, Migrate}
-use Rattle.histories.specs.History.{History, log, log_at_begin, own, net_change_of}
+use Rattle.steps.specs.declared.step.Step.TheVariants.{Begin, Insert, Update, Delete, Select, Commit, Rollback, AddColumn, SplitKey, SplitTime, Migrate}
+use Rattle.histories.specs.History.{History, schema_after, log, log_at_begin, own, net_change_of}
 use Rattle.histories.specs.Law.{LogsRise, LaterStepsAdd, PastStays}
 
 late : (b : Bool) (n i : ℕ) (e : Refusal) → ◌≡◌ {A = Result (Option ℕ) Refusal} (if b then Err e else Ok (Some n)) (Ok (Some i)) → i ≡ n
@@ -47,7 +47,7 @@ adds_ended log net (Err e) = ([], sym (append-nil log))
 pub log_rises : (schema : Schema) → LogsRise schema
 log_rises schema [] = tt
 log_rises schema (Commit i reading ∷ h) =
-    elim (log_at_begin schema h i) as (λ o. IsLog (elim o [ None ↦ log schema h | Some before ↦ after (log schema h) (last before) (net_change_of schema (log schema h) (log_at_begin schema h i) (own schema h i)) reading ])) [
+    elim (log_at_begin schema h i) as (λ o. IsLog (elim o [ None ↦ log schema h | Some before ↦ after (log schema h) (last before) (net_change_of (schema_after schema h) (log schema h) (log_at_begin schema h i) (own schema h i)) reading ])) [
       | None ↦ log_rises schema h
       | Some before ↦ rises_ended (log schema h) _ _ (λ i e. outcome_above (changes (log schema h)) (last (log schema h)) _ _ reading i e) (log_rises schema h)
     ]
@@ -57,6 +57,7 @@ log_rises schema (Update i keys sets ∷ h) = log_rises schema h
 log_rises schema (Delete i keys ∷ h) = log_rises schema h
 log_rises schema (Select i form keys ∷ h) = log_rises schema h
 log_rises schema (Rollback i ∷ h) = log_rises schema h
+log_rises schema (AddColumn i number name of ∷ h) = log_rises schema h
 log_rises schema (SplitKey key ∷ h) = log_rises schema h
 log_rises schema (SplitTime key instant ∷ h) = log_rises schema h
 log_rises schema (Migrate ∷ h) = log_rises schema h
@@ -64,7 +65,7 @@ log_rises schema (Migrate ∷ h) = log_rises schema h
 -- one step adds at most one transaction
 pub step_adds : (schema : Schema) (h : History) (step : Step) → (added : Log) × (log schema (step ∷ h) ≡ log schema h ++ added)
 step_adds schema h (Commit i reading) =
-    elim (log_at_begin schema h i) as (λ o. (added : Log) × (elim o [ None ↦ log schema h | Some before ↦ after (log schema h) (last before) (net_change_of schema (log schema h) (log_at_begin schema h i) (own schema h i)) reading ] ≡ log schema h ++ added)) [
+    elim (log_at_begin schema h i) as (λ o. (added : Log) × (elim o [ None ↦ log schema h | Some before ↦ after (log schema h) (last before) (net_change_of (schema_after schema h) (log schema h) (log_at_begin schema h i) (own schema h i)) reading ] ≡ log schema h ++ added)) [
       | None ↦ ([], sym (append-nil (log schema h)))
       | Some before ↦ adds_ended (log schema h) _ _
     ]
@@ -74,6 +75,7 @@ step_adds schema h (Update i keys sets) = ([], sym (append-nil (log schema h)))
 step_adds schema h (Delete i keys) = ([], sym (append-nil (log schema h)))
 step_adds schema h (Select i form keys) = ([], sym (append-nil (log schema h)))
 step_adds schema h (Rollback i) = ([], sym (append-nil (log schema h)))
+step_adds schema h (AddColumn i number name of) = ([], sym (append-nil (log schema h)))
 step_adds schema h (SplitKey key) = ([], sym (append-nil (log schema h)))
 step_adds schema h (SplitTime key instant) = ([], sym (append-nil (log schema h)))
 step_adds schema h Migrate = ([], sym (append-nil (log schema h)))

@@ -11,18 +11,21 @@ use Rattle.values.specs.Tables.{table_at}
 use Rattle.values.specs.Writes.{Own}
 use Rattle.values.specs.Commits.{after}
 use Rattle.steps.specs.declared.step.Step.{Step}
-use Rattle.steps.specs.declared.step.Step.TheVariants.{Begin, Insert, Update, Delete, Select, Commit, Rollback, SplitKey, SplitTime, Migrate}
+use Rattle.steps.specs.declared.step.Step.TheVariants.{Begin, Insert, Update, Delete, Select, Commit, Rollback, AddColumn, SplitKey, SplitTime, Migrate}
 use Rattle.steps.specs.declared.step.Reply.TheVariants.{Refused}
 use Rattle.steps.specs.Misfit.{max_session, misfit, misfit_of, bad_row, no_session}
-use Rattle.histories.specs.History.{History, log, log_at_begin, own, own_of, ends, begins, net_change_of}
+use Rattle.histories.specs.History.{History, schema_after, schema_by, has_open, log, log_at_begin, own, own_of, ends, begins, net_change_of}
+use Rattle.steps.specs.Idle.{is_idle}
 use Rattle.steps.specs.Write.{write, is_write_of}
 use Rattle.steps.specs.Reply.{written_reply, write_reply, is_refused}
+use Rattle.values.specs.Columns.{new_column, add_column}
 use Rattle.histories.specs.World.{World}
 use Rattle.histories.specs.Stands.{Stands, open_in, open_from}
 
 -- the system stands for the history with the step, where log and sessions stay
-pub idle_stands : (w : World) (h : History) (step : Step) → Stands w h → log w.schema (step ∷ h) ≡ log w.schema h → ((j : ℕ) → j ≤ max_session → open_in w.schema (step ∷ h) j ≡ open_in w.schema h j) → Stands w (step ∷ h)
-idle_stands w h step stands is_log same = record {
+pub idle_stands : (first : Schema) (w : World) (h : History) (step : Step) → Stands first w h → schema_after first (step ∷ h) ≡ schema_after first h → log first (step ∷ h) ≡ log first h → ((j : ℕ) → j ≤ max_session → open_in first (step ∷ h) j ≡ open_in first h j) → Stands first w (step ∷ h)
+idle_stands first w h step stands is_schema is_log same = record {
+  schema_is = stands.schema_is ∙ sym is_schema;
   wide = stands.wide;
   changes_are = stands.changes_are ∙ sym (ap changes is_log);
   latest_is = stands.latest_is ∙ sym (ap last is_log);
@@ -46,6 +49,7 @@ begins_none i (Delete j keys) h = refl
 begins_none i (Select j form keys) h = refl
 begins_none i (Commit j reading) h = refl
 begins_none i (Rollback j) h = refl
+begins_none i (AddColumn j number name of) h = refl
 begins_none i (SplitKey key) h = refl
 begins_none i (SplitTime key instant) h = refl
 begins_none i Migrate h = refl
@@ -71,12 +75,26 @@ dropped true false xs ys = refl
 dropped false true xs ys = refl
 dropped false false xs ys = refl
 
-kept_session : (schema : Schema) (h : History) (step : Step) (j : ℕ) (refusal : Refusal) → misfit schema step ≡ Some refusal → ends j step ≡ false → begins j step ≡ false → log schema (step ∷ h) ≡ log schema h
-    → open_in schema (step ∷ h) j ≡ open_in schema h j
-kept_session schema h step j refusal is no_end no_begin same_log =
-    (λ k. open_from schema (same_log k) (if no_end k then None else if no_begin k && is_none (log_at_begin schema h j) then Some (log schema h) else log_at_begin schema h j)
-    (if no_end k then [] else if is_write_of j step && is_some (log_at_begin schema h j) && not (refused_write schema step refusal (own_of schema (log schema h) (log_at_begin schema h j) (own schema h j)) is k) then own schema h j ++ step ∷ [] else own schema h j))
-    ∙ ap (open_from schema (log schema h) (log_at_begin schema h j)) (dropped (is_write_of j step) (is_some (log_at_begin schema h j)) (own schema h j ++ step ∷ []) (own schema h j))
+-- a step that does not fit leaves the tables
+pub refused_schema : (now : Schema) (idle : Bool) (step : Step) (refusal : Refusal) → misfit now step ≡ Some refusal → schema_by now idle step ≡ now
+refused_schema now idle (AddColumn i number name of) refusal is = λ k. if is_none (is k) && idle then add_column number (new_column name of) now else now
+refused_schema now idle (Begin i) refusal is = refl
+refused_schema now idle (Insert i number rows) refusal is = refl
+refused_schema now idle (Update i keys sets) refusal is = refl
+refused_schema now idle (Delete i keys) refusal is = refl
+refused_schema now idle (Select i form keys) refusal is = refl
+refused_schema now idle (Commit i reading) refusal is = refl
+refused_schema now idle (Rollback i) refusal is = refl
+refused_schema now idle (SplitKey key) refusal is = refl
+refused_schema now idle (SplitTime key instant) refusal is = refl
+refused_schema now idle Migrate refusal is = refl
+
+kept_session : (first : Schema) (h : History) (step : Step) (j : ℕ) (refusal : Refusal) → misfit (schema_after first h) step ≡ Some refusal → ends j step ≡ false → begins j step ≡ false → log first (step ∷ h) ≡ log first h
+    → open_in first (step ∷ h) j ≡ open_in first h j
+kept_session first h step j refusal is no_end no_begin same_log =
+    (λ k. open_from (refused_schema (schema_after first h) (is_idle (has_open h)) step refusal is k) (same_log k) (if no_end k then None else if no_begin k && is_none (log_at_begin first h j) then Some (log first h) else log_at_begin first h j)
+    (if no_end k then [] else if is_write_of j step && is_some (log_at_begin first h j) && not (refused_write (schema_after first h) step refusal (own_of (schema_after first h) (log first h) (log_at_begin first h j) (own first h j)) is k) then own first h j ++ step ∷ [] else own first h j))
+    ∙ ap (open_from (schema_after first h) (log first h) (log_at_begin first h j)) (dropped (is_write_of j step) (is_some (log_at_begin first h j)) (own first h j ++ step ∷ []) (own first h j))
 
 large : (b : Bool) (refusal : Refusal) (i : ℕ) → nat_lt max_session i ≡ b → ◌≡◌ {A = Option Refusal} (if b then Some NoSession else None) (Some refusal) → max_session < i
 large true refusal i at is = grind (arith, nat_tests)
@@ -85,23 +103,24 @@ large false refusal i at is = cc
 other : (i j : ℕ) → max_session < i → j ≤ max_session → (j == i) ≡ false
 other i j large small = grind (arith, nat_tests)
 
-pub misfit_stands : (w : World) (h : History) (step : Step) (refusal : Refusal) → misfit w.schema step ≡ Some refusal → Stands w h → Stands w (step ∷ h)
-misfit_stands w h (Begin i) refusal is stands = idle_stands w h (Begin i) stands refl (λ j small. kept_session w.schema h (Begin i) j refusal is refl (begun j (other i j (large (nat_lt max_session i) refusal i refl is) small)) refl)
+pub misfit_stands : (first : Schema) (w : World) (h : History) (step : Step) (refusal : Refusal) → misfit (schema_after first h) step ≡ Some refusal → Stands first w h → Stands first w (step ∷ h)
+misfit_stands first w h (Begin i) refusal is stands = idle_stands first w h (Begin i) stands refl refl (λ j small. kept_session first h (Begin i) j refusal is refl (begun j (other i j (large (nat_lt max_session i) refusal i refl is) small)) refl)
   where
     begun : (j : ℕ) → (j == i) ≡ false → ((j == i) && nat_le j max_session) ≡ false
     begun j e = ap (λ b. b && nat_le j max_session) e
-misfit_stands w h (Insert i number rows) refusal is stands = idle_stands w h (Insert i number rows) stands refl (λ j small. kept_session w.schema h (Insert i number rows) j refusal is refl refl refl)
-misfit_stands w h (Update i keys sets) refusal is stands = idle_stands w h (Update i keys sets) stands refl (λ j small. kept_session w.schema h (Update i keys sets) j refusal is refl refl refl)
-misfit_stands w h (Delete i keys) refusal is stands = idle_stands w h (Delete i keys) stands refl (λ j small. kept_session w.schema h (Delete i keys) j refusal is refl refl refl)
-misfit_stands w h (Select i form keys) refusal is stands = idle_stands w h (Select i form keys) stands refl (λ j small. kept_session w.schema h (Select i form keys) j refusal is refl refl refl)
-misfit_stands w h (Commit i reading) refusal is stands = idle_stands w h (Commit i reading) stands same_log (λ j small. kept_session w.schema h (Commit i reading) j refusal is (other i j (large (nat_lt max_session i) refusal i refl is) small) refl same_log)
+misfit_stands first w h (Insert i number rows) refusal is stands = idle_stands first w h (Insert i number rows) stands refl refl (λ j small. kept_session first h (Insert i number rows) j refusal is refl refl refl)
+misfit_stands first w h (Update i keys sets) refusal is stands = idle_stands first w h (Update i keys sets) stands refl refl (λ j small. kept_session first h (Update i keys sets) j refusal is refl refl refl)
+misfit_stands first w h (Delete i keys) refusal is stands = idle_stands first w h (Delete i keys) stands refl refl (λ j small. kept_session first h (Delete i keys) j refusal is refl refl refl)
+misfit_stands first w h (Select i form keys) refusal is stands = idle_stands first w h (Select i form keys) stands refl refl (λ j small. kept_session first h (Select i form keys) j refusal is refl refl refl)
+misfit_stands first w h (Commit i reading) refusal is stands = idle_stands first w h (Commit i reading) stands refl same_log (λ j small. kept_session first h (Commit i reading) j refusal is (other i j (large (nat_lt max_session i) refusal i refl is) small) refl same_log)
   where
-    same_log : log w.schema (Commit i reading ∷ h) ≡ log w.schema h
-    same_log = ap (λ (o : Option Log). let l : Log = elim o [ None ↦ log w.schema h | Some before ↦ after (log w.schema h) (last before) (net_change_of w.schema (log w.schema h) (log_at_begin w.schema h i) (own w.schema h i)) reading ] in l) (none_open w.schema h i (large (nat_lt max_session i) refusal i refl is))
-misfit_stands w h (Rollback i) refusal is stands = idle_stands w h (Rollback i) stands refl (λ j small. kept_session w.schema h (Rollback i) j refusal is (other i j (large (nat_lt max_session i) refusal i refl is) small) refl refl)
-misfit_stands w h (SplitKey key) refusal is stands = idle_stands w h (SplitKey key) stands refl (λ j small. refl)
-misfit_stands w h (SplitTime key instant) refusal is stands = idle_stands w h (SplitTime key instant) stands refl (λ j small. refl)
-misfit_stands w h Migrate refusal is stands = idle_stands w h Migrate stands refl (λ j small. refl)
+    same_log : log first (Commit i reading ∷ h) ≡ log first h
+    same_log = ap (λ (o : Option Log). let l : Log = elim o [ None ↦ log first h | Some before ↦ after (log first h) (last before) (net_change_of (schema_after first h) (log first h) (log_at_begin first h i) (own first h i)) reading ] in l) (none_open first h i (large (nat_lt max_session i) refusal i refl is))
+misfit_stands first w h (Rollback i) refusal is stands = idle_stands first w h (Rollback i) stands refl refl (λ j small. kept_session first h (Rollback i) j refusal is (other i j (large (nat_lt max_session i) refusal i refl is) small) refl refl)
+misfit_stands first w h (AddColumn i number name of) refusal is stands = idle_stands first w h (AddColumn i number name of) stands (refused_schema (schema_after first h) (is_idle (has_open h)) (AddColumn i number name of) refusal is) refl (λ j small. kept_session first h (AddColumn i number name of) j refusal is refl refl refl)
+misfit_stands first w h (SplitKey key) refusal is stands = idle_stands first w h (SplitKey key) stands refl refl (λ j small. refl)
+misfit_stands first w h (SplitTime key instant) refusal is stands = idle_stands first w h (SplitTime key instant) stands refl refl (λ j small. refl)
+misfit_stands first w h Migrate refusal is stands = idle_stands first w h Migrate stands refl refl (λ j small. refl)
 
 -- ---- what a step that fits has
 

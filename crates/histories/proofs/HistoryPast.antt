@@ -21,7 +21,7 @@ use Rattle.histories.proofs.HistorySnapshots.{select_by}
 
 -- ---- a snapshot is at or before the last instant
 
-snap_below : (schema : Schema) (h : History) (i : ℕ) → snap schema h i ≤ last (log schema h)
+pub snap_below : (schema : Schema) (h : History) (i : ℕ) → snap schema h i ≤ last (log schema h)
 snap_below schema h i = by (log_at_begin schema h i) (opened_below schema h i)
   where
     by : (o : Option Log) → ((before : Log) → o ≡ Some before → last before ≤ last (log schema h)) → snap_of (log schema h) o ≤ last (log schema h)
@@ -41,7 +41,7 @@ nested (u ∷ log) s t below = by (nat_le u.instant s) refl (nested log s t belo
     by true e rest = ap (λ (l : Log). if nat_le u.instant t then u ∷ l else l) rest
     by false e rest = rest ∙ sym (ap (λ b. if b then u ∷ upto log t else upto log t) (later_than u.instant s t below e))
 
-shown_at : (log : Log) (s t : ℕ) (table : Table) (keys : Keys) → IsLog log → t ≤ s → shown_rows (changes (upto log s)) table (AsOf t) keys ≡ rows_taken table keys (replay [] (upto log t))
+pub shown_at : (log : Log) (s t : ℕ) (table : Table) (keys : Keys) → IsLog log → t ≤ s → shown_rows (changes (upto log s)) table (AsOf t) keys ≡ rows_taken table keys (replay [] (upto log t))
 shown_at log s t table keys rises below =
     as_of_shows_state (upto log s) t table keys (Rises-upto log 0 s rises) ∙ ap (λ (l : Log). rows_taken table keys (replay [] l)) (nested log s t below)
 
@@ -57,9 +57,9 @@ read_alike schema h later i j t table keys at_first later_on =
     ∙ ap (λ (l : Log). rows_taken table keys (replay [] l)) (upto_stays schema h later t (omega (arith, at_first, snap_below schema h i)))
     ∙ sym (shown_at (log schema h) (snap schema h i) t table keys (log_rises schema h) at_first))
 
-within : (i : ℕ) → i ≤ max_session → nat_lt max_session i ≡ false
+pub within : (i : ℕ) → i ≤ max_session → nat_lt max_session i ≡ false
 within i small = grind (arith, nat_tests)
 
 pub told_alike : (schema : Schema) → PastIsAnsweredAlike schema
-told_alike schema h later i j t keys i_small j_small at_first later_on =
-    λ k. select_by schema keys ((within j j_small ∙ sym (within i i_small)) k) (λ table. read_alike schema h later i j t table keys at_first later_on k)
+told_alike schema h later i j t keys i_small j_small at_first later_on same_tables =
+    λ k. select_by schema (same_tables k) keys ((within j j_small ∙ sym (within i i_small)) k) (λ table. read_alike schema h later i j t table keys at_first later_on k)

@@ -16,13 +16,13 @@ use Rattle.values.specs.Law.{IsLog}
 use Rattle.values.proofs.LawAsOf.{Rises-front, upto-append}
 use Rattle.values.proofs.LogPush.{upto_all}
 use Rattle.steps.specs.declared.step.Step.{Step}
-use Rattle.steps.specs.declared.step.Step.TheVariants.{Begin, Insert, Update, Delete, Select, Commit, Rollback, SplitKey, SplitTime, Migrate}
+use Rattle.steps.specs.declared.step.Step.TheVariants.{Begin, Insert, Update, Delete, Select, Commit, Rollback, AddColumn, SplitKey, SplitTime, Migrate}
 use Rattle.steps.specs.declared.step.Listing.{Listing}
 use Rattle.steps.specs.declared.step.Listing.TheVariants.{Rows, Periods}
 use Rattle.steps.specs.declared.step.Reply.{Reply}
 use Rattle.steps.specs.declared.step.Reply.TheVariants.{Refused, Shown as Shows}
 use Rattle.steps.specs.Misfit.{max_session, bad_row}
-use Rattle.histories.specs.History.{History, ends, begins, log, log_at_begin, own, snap_of, rewrite_all, listing}
+use Rattle.histories.specs.History.{History, schema_after, ends, begins, log, log_at_begin, own, snap_of, rewrite_all, listing}
 use Rattle.steps.specs.Listing.{rows_taken, rows_of}
 use Rattle.histories.specs.Law.{ReadsBySnapshot, SelectsBySnapshot}
 use Rattle.histories.proofs.HistoryGrowth.{log_rises}
@@ -42,23 +42,23 @@ upto_snapshot schema h i before is =
 -- ---- what it reads, by what was committed at its BEGIN and its own writes
 
 module _ (schema : Schema) where
-  abbrev listing_at : Log → List Step → Form → Table → Keys → Listing
-  listing_at before writes Plain table keys = Rows (rows_taken table keys (rewrite_all schema writes (record { rows = replay [] before; written = [] })).rows)
-  listing_at before writes (AsOf t) table keys = Rows (rows_of (answer (changes before) table (AsOf t) keys))
-  listing_at before writes (FromTo a b) table keys = Periods (answer (changes before) table (FromTo a b) keys)
-  listing_at before writes (Between a b) table keys = Periods (answer (changes before) table (Between a b) keys)
+  abbrev listing_at : Schema → Log → List Step → Form → Table → Keys → Listing
+  listing_at now before writes Plain table keys = Rows (rows_taken table keys (rewrite_all now writes (record { rows = replay [] before; written = [] })).rows)
+  listing_at now before writes (AsOf t) table keys = Rows (rows_of (answer (changes before) table (AsOf t) keys))
+  listing_at now before writes (FromTo a b) table keys = Periods (answer (changes before) table (FromTo a b) keys)
+  listing_at now before writes (Between a b) table keys = Periods (answer (changes before) table (Between a b) keys)
 
-  abbrev plain_by : Log → Option Log → List Step → Table → Keys → Listing
-  plain_by seen o writes table keys = elim o [
-    | Some before ↦ Rows (rows_taken table keys (rewrite_all schema writes (record { rows = replay [] seen; written = [] })).rows)
+  abbrev plain_by : Schema → Log → Option Log → List Step → Table → Keys → Listing
+  plain_by now seen o writes table keys = elim o [
+    | Some before ↦ Rows (rows_taken table keys (rewrite_all now writes (record { rows = replay [] seen; written = [] })).rows)
     | None ↦ Rows (rows_of (answer (changes seen) table Plain keys))
   ]
 
   seen_at : (h : History) (i : ℕ) (before : Log) → log_at_begin schema h i ≡ Some before → upto (log schema h) (snap_of (log schema h) (log_at_begin schema h i)) ≡ before
   seen_at h i before is = ap (λ o. upto (log schema h) (snap_of (log schema h) o)) is ∙ upto_snapshot schema h i before is
 
-  reads : (h : History) (i : ℕ) (before : Log) (form : Form) (table : Table) (keys : Keys) → log_at_begin schema h i ≡ Some before → listing schema h i form table keys ≡ listing_at before (own schema h i) form table keys
-  reads h i before Plain table keys is = λ k. plain_by (seen_at h i before is k) (is k) (own schema h i) table keys
+  reads : (h : History) (i : ℕ) (before : Log) (form : Form) (table : Table) (keys : Keys) → log_at_begin schema h i ≡ Some before → listing schema h i form table keys ≡ listing_at (schema_after schema h) before (own schema h i) form table keys
+  reads h i before Plain table keys is = λ k. plain_by (schema_after schema h) (seen_at h i before is k) (is k) (own schema h i) table keys
   reads h i before (AsOf t) table keys is = ap (λ l. Rows (rows_of (answer (changes l) table (AsOf t) keys))) (seen_at h i before is)
   reads h i before (FromTo a b) table keys is = ap (λ l. Periods (answer (changes l) table (FromTo a b) keys)) (seen_at h i before is)
   reads h i before (Between a b) table keys is = ap (λ l. Periods (answer (changes l) table (Between a b) keys)) (seen_at h i before is)
@@ -66,7 +66,7 @@ module _ (schema : Schema) where
   pub reads_by_snapshot : ReadsBySnapshot schema
   reads_by_snapshot h g i j form table keys same =
       reads h i same.snapshot form table keys same.first_opened
-      ∙ ap (λ writes. listing_at same.snapshot writes form table keys) same.own_same
+      ∙ (λ k. listing_at (same.same_tables k) same.snapshot (same.own_same k) form table keys)
       ∙ sym (reads g j same.snapshot form table keys same.second_opened)
 
 -- ---- the replies
@@ -82,6 +82,7 @@ begun_small i (Delete j keys) is = cc
 begun_small i (Select j form keys) is = cc
 begun_small i (Commit j reading) is = cc
 begun_small i (Rollback j) is = cc
+begun_small i (AddColumn j number name of) is = cc
 begun_small i (SplitKey key) is = cc
 begun_small i (SplitTime key instant) is = cc
 begun_small i Migrate is = cc
@@ -99,14 +100,14 @@ opened_small schema (step ∷ h) i before is =
     small_step (ends i step) (begins i step) (log_at_begin schema h i) (log schema h) before is (begun_small i step) (λ x was. opened_small schema h i x was)
 
 module _ (schema : Schema) where
-  abbrev pub select_by : Keys → Bool → (Table → Listing) → Reply
-  select_by keys beyond shown = elim (if beyond then Some NoSession else elim (table_at schema keys.table) [ None ↦ Some NoTable | Some table ↦ bad_row (comparisons_fault table keys.comparisons) ]) [
+  abbrev pub select_by : Schema → Keys → Bool → (Table → Listing) → Reply
+  select_by now keys beyond shown = elim (if beyond then Some NoSession else elim (table_at now keys.table) [ None ↦ Some NoTable | Some table ↦ bad_row (comparisons_fault table keys.comparisons) ]) [
     | Some refusal ↦ Refused refusal
-    | None ↦ elim (table_at schema keys.table) [ None ↦ Refused NoTable | Some table ↦ Shows (shown table) ]
+    | None ↦ elim (table_at now keys.table) [ None ↦ Refused NoTable | Some table ↦ Shows (shown table) ]
   ]
 
   pub selects_by_snapshot : SelectsBySnapshot schema
   selects_by_snapshot h g i j form keys same =
-      λ k. select_by keys
+      λ k. select_by (same.same_tables k) keys
       ((opened_small schema h i same.snapshot same.first_opened ∙ sym (opened_small schema g j same.snapshot same.second_opened)) k)
       (λ table. reads_by_snapshot schema h g i j form table keys same k)

@@ -16,3 +16,6 @@ pub mod Winners
 pub mod WorldGrowth
 pub mod TurnWrites
 pub mod TurnWritten
+mod StandsAltered
+pub mod HistoryTables
+mod HistoryWidened

@@ -1,13 +1,14 @@
 -- Which steps take no memory is one thing by the system and by the history.
-use Rattle.std.proofs.Common.{◌≡◌, ℕ, ◌≤◌, List, Option, Some, None, refl, ap, ◌∙◌}
-use Rattle.std.specs.Prelude.{◌||◌, is_some, not}
+use Rattle.std.proofs.Common.{◌≡◌, ℕ, zero, suc, ◌≤◌, Bool, List, Option, Some, None, refl, ap, ◌∙◌, arith}
+use Rattle.std.specs.Prelude.{◌||◌, ◌&&◌, is_some, not}
 use Rattle.values.specs.declared.refusal.Refusal.{Refusal}
 use Rattle.values.specs.Tables.{Schema}
 use Rattle.values.specs.Log.{Log}
 use Rattle.steps.specs.declared.step.Step.{Step}
-use Rattle.steps.specs.declared.step.Step.TheVariants.{Begin, Insert, Update, Delete, Select, Commit, Rollback, SplitKey, SplitTime, Migrate}
+use Rattle.steps.specs.declared.step.Step.TheVariants.{Begin, Insert, Update, Delete, Select, Commit, Rollback, AddColumn, SplitKey, SplitTime, Migrate}
 use Rattle.steps.specs.Misfit.{max_session, misfit}
-use Rattle.histories.specs.History.{History, log, log_at_begin, own}
+use Rattle.histories.specs.History.{History, schema_after, log, log_at_begin, own}
+use Rattle.steps.specs.Idle.{is_idle_to}
 use Rattle.steps.specs.Reply.{takes_no_memory_by}
 use Rattle.histories.specs.TurnLaw.{MemoryIsTakenAlike}
 use Rattle.histories.specs.World.{World}
@@ -18,26 +19,33 @@ open_alike : (schema : Schema) (now : Log) (o : Option Log) (writes : List Step)
 open_alike schema now None writes = refl
 open_alike schema now (Some before) writes = refl
 
-is_open : (w : World) (h : History) (i : ℕ) → i ≤ max_session → Stands w h → is_some (open_at w i) ≡ is_some (log_at_begin w.schema h i)
-is_open w h i small stands = ap is_some (stands.sessions_are i small) ∙ open_alike w.schema (log w.schema h) (log_at_begin w.schema h i) (own w.schema h i)
+pub is_open : (first : Schema) (w : World) (h : History) (i : ℕ) → i ≤ max_session → Stands first w h → is_some (open_at w i) ≡ is_some (log_at_begin first h i)
+is_open first w h i small stands = ap is_some (stands.sessions_are i small) ∙ open_alike (schema_after first h) (log first h) (log_at_begin first h i) (own first h i)
 
-fitting_alike : (w : World) (h : History) (step : Step) → misfit w.schema step ≡ None → Stands w h
-    → takes_no_memory_by (λ i. is_some (open_at w i)) step ≡ takes_no_memory_by (λ i. is_some (log_at_begin w.schema h i)) step
-fitting_alike w h (Begin i) fits stands = is_open w h i (fits_session i fits) stands
-fitting_alike w h (Insert i number rows) fits stands = ap not (is_open w h i (fits_table w.schema i number _ fits).0 stands)
-fitting_alike w h (Update i keys sets) fits stands = ap not (is_open w h i (fits_table w.schema i keys.table _ fits).0 stands)
-fitting_alike w h (Delete i keys) fits stands = ap not (is_open w h i (fits_table w.schema i keys.table _ fits).0 stands)
-fitting_alike w h (Select i form keys) fits stands = refl
-fitting_alike w h (Commit i reading) fits stands = ap not (is_open w h i (fits_session i fits) stands)
-fitting_alike w h (Rollback i) fits stands = refl
-fitting_alike w h (SplitKey key) fits stands = refl
-fitting_alike w h (SplitTime key instant) fits stands = refl
-fitting_alike w h Migrate fits stands = refl
+-- what holds of each session up to one
+pub idle_alike : (n : ℕ) (f g : ℕ → Bool) → ((j : ℕ) → j ≤ n → f j ≡ g j) → is_idle_to n f ≡ is_idle_to n g
+idle_alike zero f g same = ap not (same 0 (omega arith))
+idle_alike (suc n) f g same = λ k. not (same (suc n) (omega arith) k) && idle_alike n f g (λ j small. same j (omega arith)) k
+
+fitting_alike : (first : Schema) (w : World) (h : History) (step : Step) → misfit (schema_after first h) step ≡ None → Stands first w h
+    → takes_no_memory_by (λ i. is_some (open_at w i)) step ≡ takes_no_memory_by (λ i. is_some (log_at_begin first h i)) step
+fitting_alike first w h (Begin i) fits stands = is_open first w h i (fits_session i fits) stands
+fitting_alike first w h (Insert i number rows) fits stands = ap not (is_open first w h i (fits_table (schema_after first h) i number _ fits).0 stands)
+fitting_alike first w h (Update i keys sets) fits stands = ap not (is_open first w h i (fits_table (schema_after first h) i keys.table _ fits).0 stands)
+fitting_alike first w h (Delete i keys) fits stands = ap not (is_open first w h i (fits_table (schema_after first h) i keys.table _ fits).0 stands)
+fitting_alike first w h (Select i form keys) fits stands = refl
+fitting_alike first w h (Commit i reading) fits stands = ap not (is_open first w h i (fits_session i fits) stands)
+fitting_alike first w h (Rollback i) fits stands = refl
+fitting_alike first w h (AddColumn i number name of) fits stands = ap not (idle_alike max_session (λ j. is_some (open_at w j)) (λ j. is_some (log_at_begin first h j)) (λ j small. is_open first w h j small stands))
+fitting_alike first w h (SplitKey key) fits stands = refl
+fitting_alike first w h (SplitTime key instant) fits stands = refl
+fitting_alike first w h Migrate fits stands = refl
 
 pub memory_is_taken_alike : MemoryIsTakenAlike
-memory_is_taken_alike w h step stands = by (misfit w.schema step) refl
+memory_is_taken_alike first w h step stands =
+    (λ k. is_some (misfit (stands.schema_is k) step) || takes_no_memory_by (λ i. is_some (open_at w i)) step) ∙ by (misfit (schema_after first h) step) refl
   where
-    by : (m : Option Refusal) → misfit w.schema step ≡ m
-        → (is_some m || takes_no_memory_by (λ i. is_some (open_at w i)) step) ≡ (is_some m || takes_no_memory_by (λ i. is_some (log_at_begin w.schema h i)) step)
-    by None fits = fitting_alike w h step fits stands
+    by : (m : Option Refusal) → misfit (schema_after first h) step ≡ m
+        → (is_some m || takes_no_memory_by (λ i. is_some (open_at w i)) step) ≡ (is_some m || takes_no_memory_by (λ i. is_some (log_at_begin first h i)) step)
+    by None fits = fitting_alike first w h step fits stands
     by (Some refusal) fits = refl

@@ -14,7 +14,7 @@ use Rattle.steps.specs.declared.step.Step.TheVariants.{Begin}
 use Rattle.steps.specs.declared.step.Reply.{Reply}
 use Rattle.steps.specs.declared.step.Reply.TheVariants.{Begun, Refused}
 use Rattle.values.specs.declared.refusal.Refusal.TheVariants.{InTransaction}
-use Rattle.histories.specs.History.{History, log, log_at_begin, own, reply_in, ends, begins}
+use Rattle.histories.specs.History.{History, schema_after, log, log_at_begin, own, reply_in, ends, begins}
 use Rattle.steps.specs.Write.{is_write_of}
 use Rattle.histories.specs.World.{OpenTransaction, World}
 use Rattle.histories.specs.Stands.{Stands, open_in, open_from, open_at}
@@ -51,10 +51,10 @@ begins_itself i small = grind (arith, nat_tests)
 pub session_begun : (schema : Schema) (h : History) (i : ℕ) → i ≤ max_session → open_in schema h i ≡ None
     → open_in schema (Begin i ∷ h) i ≡ Some (record { start = last (log schema h); rows = state (log schema h) (last (log schema h)); written = [] })
 session_begun schema h i small none =
-    let is_closed = closed schema (log schema h) (log_at_begin schema h i) (own schema h i) none in
+    let is_closed = closed (schema_after schema h) (log schema h) (log_at_begin schema h i) (own schema h i) none in
     let is_open = opens (begins i (Begin i)) (log_at_begin schema h i) (log schema h) (begins_itself i small) is_closed in
     let is_empty = no_writes schema h i is_closed in
-    λ k. open_from schema (log schema h) (is_open k) (is_empty k)
+    λ k. open_from (schema_after schema h) (log schema h) (is_open k) (is_empty k)
 
 begins_other : (i j : ℕ) → j ≢ i → begins j (Begin i) ≡ false
 begins_other i j other = grind (arith, nat_tests)
@@ -62,29 +62,30 @@ begins_other i j other = grind (arith, nat_tests)
 -- and changes nothing of another session
 pub session_other : (schema : Schema) (h : History) (i j : ℕ) → j ≢ i → open_in schema (Begin i ∷ h) j ≡ open_in schema h j
 session_other schema h i j other =
-    ap (λ b. open_from schema (log schema h) (if b && is_none (log_at_begin schema h j) then Some (log schema h) else log_at_begin schema h j) (own schema h j)) (begins_other i j other)
+    ap (λ b. open_from (schema_after schema h) (log schema h) (if b && is_none (log_at_begin schema h j) then Some (log schema h) else log_at_begin schema h j) (own schema h j)) (begins_other i j other)
 
 pub decided : {P : Type 0} (j i : ℕ) (b : Bool) → (j == i) ≡ b → (j ≡ i → P) → (j ≢ i → P) → P
 decided j i true e same other = same (grind (arith, nat_tests))
 decided j i false e same other = other (grind (arith, nat_tests))
 
 -- what a transaction sees that begins now
-now_is : (w : World) (h : History) → Stands w h → ◌≡◌ {A = Option OpenTransaction} (Some (opened_now w)) (Some (record { start = last (log w.schema h); rows = state (log w.schema h) (last (log w.schema h)); written = [] }))
-now_is w h stands =
+now_is : (first : Schema) (w : World) (h : History) → Stands first w h → ◌≡◌ {A = Option OpenTransaction} (Some (opened_now w)) (Some (record { start = last (log first h); rows = state (log first h) (last (log first h)); written = [] }))
+now_is first w h stands =
     (λ k. Some (record { start = stands.latest_is k; rows = rows_after [] (stands.changes_are k); written = [] }))
-    ∙ ap (λ m. Some (record { start = last (log w.schema h); rows = m; written = [] })) (rows_now (log w.schema h) (log_rises w.schema h))
+    ∙ ap (λ m. Some (record { start = last (log first h); rows = m; written = [] })) (rows_now (log first h) (log_rises first h))
 
 -- the system with the transaction opened stands for the history with the BEGIN
-pub begin_stands : (w : World) (h : History) (i : ℕ) → i ≤ max_session → open_at w i ≡ None → Stands w h
-    → Stands (put w i (Some (opened_now w))) (Begin i ∷ h)
-begin_stands w h i small none stands = record {
+pub begin_stands : (first : Schema) (w : World) (h : History) (i : ℕ) → i ≤ max_session → open_at w i ≡ None → Stands first w h
+    → Stands first (put w i (Some (opened_now w))) (Begin i ∷ h)
+begin_stands first w h i small none stands = record {
+  schema_is = stands.schema_is;
   wide = length-set w.sessions i now ∙ stands.wide;
   changes_are = stands.changes_are;
   latest_is = stands.latest_is;
   sessions_are = λ j in_range. decided j i (j == i) refl
-      (λ same. subst (λ k. get_or (set w.sessions i now) k None ≡ open_in w.schema (Begin i ∷ h) k) (sym same)
-      (get_or-set_same w.sessions i now None (omega (arith, stands.wide)) ∙ now_is w h stands ∙ sym (session_begun w.schema h i small (sym (stands.sessions_are i small) ∙ none))))
-      (λ other. get_or-set_other w.sessions i j now None other ∙ stands.sessions_are j in_range ∙ sym (session_other w.schema h i j other));
+      (λ same. subst (λ k. get_or (set w.sessions i now) k None ≡ open_in first (Begin i ∷ h) k) (sym same)
+      (get_or-set_same w.sessions i now None (omega (arith, stands.wide)) ∙ now_is first w h stands ∙ sym (session_begun first h i small (sym (stands.sessions_are i small) ∙ none))))
+      (λ other. get_or-set_other w.sessions i j now None other ∙ stands.sessions_are j in_range ∙ sym (session_other first h i j other));
 }
   where
     now : Option OpenTransaction
@@ -97,15 +98,16 @@ stays schema now None own s b e = cc
 stays schema now (Some before) own s true e = refl
 stays schema now (Some before) own s false e = refl
 
-refused_stands : (w : World) (h : History) (i : ℕ) (s : OpenTransaction) → i ≤ max_session → open_at w i ≡ Some s → Stands w h → Stands w (Begin i ∷ h)
-refused_stands w h i s small is_open stands = record {
+refused_stands : (first : Schema) (w : World) (h : History) (i : ℕ) (s : OpenTransaction) → i ≤ max_session → open_at w i ≡ Some s → Stands first w h → Stands first w (Begin i ∷ h)
+refused_stands first w h i s small is_open stands = record {
+  schema_is = stands.schema_is;
   wide = stands.wide;
   changes_are = stands.changes_are;
   latest_is = stands.latest_is;
   sessions_are = λ j in_range. decided j i (j == i) refl
-      (λ same. subst (λ k. open_at w k ≡ open_in w.schema (Begin i ∷ h) k) (sym same)
-      (stands.sessions_are i small ∙ sym (stays w.schema _ (log_at_begin w.schema h i) (own w.schema h i) s (begins i (Begin i)) (sym (stands.sessions_are i small) ∙ is_open))))
-      (λ other. stands.sessions_are j in_range ∙ sym (session_other w.schema h i j other));
+      (λ same. subst (λ k. open_at w k ≡ open_in first (Begin i ∷ h) k) (sym same)
+      (stands.sessions_are i small ∙ sym (stays (schema_after first h) _ (log_at_begin first h i) (own first h i) s (begins i (Begin i)) (sym (stands.sessions_are i small) ∙ is_open))))
+      (λ other. stands.sessions_are j in_range ∙ sym (session_other first h i j other));
 }
 
 open_reply : (schema : Schema) (now : Log) (o : Option Log) (own : List Step) (s : OpenTransaction) → open_from schema now o own ≡ Some s
@@ -117,14 +119,14 @@ turn_of : World → ℕ → Option OpenTransaction → Turn
 turn_of w i (Some s) = (Refused InTransaction, w)
 turn_of w i None = (Begun w.latest, put w i (Some (opened_now w)))
 
-answers_at : (w : World) (h : History) (i : ℕ) (o : Option OpenTransaction) → i ≤ max_session → Stands w h → open_at w i ≡ o
-    → ((turn_of w i o).0 ≡ reply_in w.schema h (Begin i)) × Stands (turn_of w i o).1 (Begin i ∷ h)
+answers_at : (first : Schema) (w : World) (h : History) (i : ℕ) (o : Option OpenTransaction) → i ≤ max_session → Stands first w h → open_at w i ≡ o
+    → ((turn_of w i o).0 ≡ reply_in first h (Begin i)) × Stands first (turn_of w i o).1 (Begin i ∷ h)
 unfolding turn_of
-answers_at w h i (Some s) small stands e =
-    (open_reply w.schema (log w.schema h) (log_at_begin w.schema h i) (own w.schema h i) s (sym (stands.sessions_are i small) ∙ e), refused_stands w h i s small e stands)
-answers_at w h i None small stands e =
-    let is_closed = closed w.schema (log w.schema h) (log_at_begin w.schema h i) (own w.schema h i) (sym (stands.sessions_are i small) ∙ e) in
-    (ap Begun stands.latest_is ∙ sym (ap (λ o. elim o [ Some before ↦ Refused InTransaction | None ↦ Begun (last (log w.schema h)) ]) is_closed), begin_stands w h i small e stands)
+answers_at first w h i (Some s) small stands e =
+    (open_reply (schema_after first h) (log first h) (log_at_begin first h i) (own first h i) s (sym (stands.sessions_are i small) ∙ e), refused_stands first w h i s small e stands)
+answers_at first w h i None small stands e =
+    let is_closed = closed (schema_after first h) (log first h) (log_at_begin first h i) (own first h i) (sym (stands.sessions_are i small) ∙ e) in
+    (ap Begun stands.latest_is ∙ sym (ap (λ o. elim o [ Some before ↦ Refused InTransaction | None ↦ Begun (last (log first h)) ]) is_closed), begin_stands first w h i small e stands)
 
 same_turn : (w : World) (i : ℕ) (o : Option OpenTransaction) → turn_of w i o ≡ elim o [
   | Some s ↦ (Refused InTransaction, w)
@@ -135,6 +137,6 @@ same_turn w i (Some s) = refl
 same_turn w i None = refl
 
 -- the turn is the reply, and leaves a system that stands for the history with the BEGIN
-pub begin_answers : (w : World) (h : History) (i : ℕ) → i ≤ max_session → Stands w h → ((begin_turn w i).0 ≡ reply_in w.schema h (Begin i)) × Stands (begin_turn w i).1 (Begin i ∷ h)
-begin_answers w h i small stands =
-    subst (λ (t : Turn). (t.0 ≡ reply_in w.schema h (Begin i)) × Stands t.1 (Begin i ∷ h)) (same_turn w i (open_at w i)) (answers_at w h i (open_at w i) small stands refl)
+pub begin_answers : (first : Schema) (w : World) (h : History) (i : ℕ) → i ≤ max_session → Stands first w h → ((begin_turn w i).0 ≡ reply_in first h (Begin i)) × Stands first (begin_turn w i).1 (Begin i ∷ h)
+begin_answers first w h i small stands =
+    subst (λ (t : Turn). (t.0 ≡ reply_in first h (Begin i)) × Stands first t.1 (Begin i ∷ h)) (same_turn w i (open_at w i)) (answers_at first w h i (open_at w i) small stands refl)

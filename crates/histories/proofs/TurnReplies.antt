@@ -5,22 +5,25 @@ use Rattle.values.specs.declared.key.Key.{Key}
 use Rattle.values.specs.declared.table.Table.{Table}
 use Rattle.values.specs.Tables.{Schema}
 use Rattle.values.specs.declared.refusal.Refusal.{Refusal}
-use Rattle.values.specs.declared.refusal.Refusal.TheVariants.{NoSession, NoTable, NoTransaction, InTransaction, Conflict, ClockEnd, Memory}
+use Rattle.values.specs.declared.refusal.Refusal.TheVariants.{NoSession, NoTable, NoTransaction, InTransaction, TransactionsOpen, Conflict, ClockEnd, Memory}
 use Rattle.values.specs.Log.{Net, Changes}
 use Rattle.values.specs.Tables.{table_at}
 use Rattle.values.specs.Commits.{conflicts, outcome, max_instant}
 use Rattle.steps.specs.declared.step.Step.{Step}
-use Rattle.steps.specs.declared.step.Step.TheVariants.{Begin, Insert, Update, Delete, Select, Commit, Rollback, SplitKey, SplitTime, Migrate}
+use Rattle.steps.specs.declared.step.Step.TheVariants.{Begin, Insert, Update, Delete, Select, Commit, Rollback, AddColumn, SplitKey, SplitTime, Migrate}
 use Rattle.steps.specs.declared.step.Reply.{Reply}
-use Rattle.steps.specs.declared.step.Reply.TheVariants.{Begun, RolledBack, Refused}
+use Rattle.steps.specs.declared.step.Reply.TheVariants.{Begun, RolledBack, Altered, Refused}
 use Rattle.steps.specs.Misfit.{max_session, misfit, bad_row}
-use Rattle.histories.specs.History.{History, reply, reply_in}
+use Rattle.histories.specs.History.{History, schema_after, reply, reply_in}
+use Rattle.steps.specs.Idle.{is_idle}
 use Rattle.steps.specs.Write.{write}
-use Rattle.steps.specs.Reply.{written_reply}
+use Rattle.steps.specs.Reply.{written_reply, is_memory, is_out_of_memory}
+use Rattle.values.specs.declared.table.ColumnType.{ColumnType}
+use Rattle.values.specs.Columns.{new_column, add_column}
+use Rattle.histories.proofs.StandsAltered.{alter_answers}
 use Rattle.histories.specs.World.{OpenTransaction, World}
-use Rattle.histories.specs.Stands.{Stands, open_at}
-use Rattle.histories.specs.Turn.{put, Turn, turn, turn_in, end_turn, net_in, opened_now, own_in, with_own}
-use Rattle.steps.specs.Reply.{is_memory, is_out_of_memory}
+use Rattle.histories.specs.Stands.{Stands, open_at, is_open_at}
+use Rattle.histories.specs.Turn.{put, Turn, turn, turn_in, end_turn, net_in, opened_now, own_in, with_own, with_schema}
 use Rattle.steps.proofs.WriteLeaves.{names_memory, write_is}
 use Rattle.histories.proofs.StandsOpen.{begin_answers}
 use Rattle.histories.proofs.StandsEnds.{rollback_answers, commit_answers}
@@ -28,17 +31,18 @@ use Rattle.histories.proofs.TurnWrites.{insert_answers, update_answers, delete_a
 use Rattle.histories.proofs.StandsShown.{select_is}
 use Rattle.histories.proofs.HistoryIdle.{idle_stands, misfit_stands, fits_session, fits_table}
 
-answers_in : (w : World) (h : History) (step : Step) → misfit w.schema step ≡ None → Stands w h → ((turn_in w step).0 ≡ reply_in w.schema h step) × Stands (turn_in w step).1 (step ∷ h)
-answers_in w h (Begin i) fits stands = begin_answers w h i (fits_session i fits) stands
-answers_in w h (Insert i number rows) fits stands = insert_answers w h i number rows fits (fits_table w.schema i number _ fits).0 stands
-answers_in w h (Update i keys sets) fits stands = update_answers w h i keys sets fits (fits_table w.schema i keys.table _ fits).0 stands
-answers_in w h (Delete i keys) fits stands = delete_answers w h i keys fits (fits_table w.schema i keys.table _ fits).0 stands
-answers_in w h (Select i form keys) fits stands = let fit = fits_table w.schema i keys.table _ fits in (select_is w h i form keys fit.0 stands, idle_stands w h (Select i form keys) stands refl (λ j small. refl))
-answers_in w h (Commit i reading) fits stands = commit_answers w h i reading (fits_session i fits) stands
-answers_in w h (Rollback i) fits stands = rollback_answers w h i (fits_session i fits) stands
-answers_in w h (SplitKey key) fits stands = (refl, idle_stands w h (SplitKey key) stands refl (λ j small. refl))
-answers_in w h (SplitTime key instant) fits stands = (refl, idle_stands w h (SplitTime key instant) stands refl (λ j small. refl))
-answers_in w h Migrate fits stands = (refl, idle_stands w h Migrate stands refl (λ j small. refl))
+answers_in : (first : Schema) (w : World) (h : History) (step : Step) → misfit (schema_after first h) step ≡ None → Stands first w h → ((turn_in w step).0 ≡ reply_in first h step) × Stands first (turn_in w step).1 (step ∷ h)
+answers_in first w h (Begin i) fits stands = begin_answers first w h i (fits_session i fits) stands
+answers_in first w h (Insert i number rows) fits stands = insert_answers first w h i number rows fits (fits_table (schema_after first h) i number _ fits).0 stands
+answers_in first w h (Update i keys sets) fits stands = update_answers first w h i keys sets fits (fits_table (schema_after first h) i keys.table _ fits).0 stands
+answers_in first w h (Delete i keys) fits stands = delete_answers first w h i keys fits (fits_table (schema_after first h) i keys.table _ fits).0 stands
+answers_in first w h (Select i form keys) fits stands = let fit = fits_table (schema_after first h) i keys.table _ fits in (select_is first w h i form keys fit.0 stands, idle_stands first w h (Select i form keys) stands refl refl (λ j small. refl))
+answers_in first w h (Commit i reading) fits stands = commit_answers first w h i reading (fits_session i fits) stands
+answers_in first w h (Rollback i) fits stands = rollback_answers first w h i (fits_session i fits) stands
+answers_in first w h (AddColumn i number name of) fits stands = alter_answers first w h i number name of stands fits
+answers_in first w h (SplitKey key) fits stands = (refl, idle_stands first w h (SplitKey key) stands refl refl (λ j small. refl))
+answers_in first w h (SplitTime key instant) fits stands = (refl, idle_stands first w h (SplitTime key instant) stands refl refl (λ j small. refl))
+answers_in first w h Migrate fits stands = (refl, idle_stands first w h Migrate stands refl refl (λ j small. refl))
 
 -- ---- a turn is never that memory ran out
 
@@ -67,22 +71,23 @@ misfit_is_other schema (Delete i keys) = table_is_other (nat_lt max_session i) (
 misfit_is_other schema (Select i form keys) = table_is_other (nat_lt max_session i) (table_at schema keys.table) _
 misfit_is_other schema (Commit i reading) = session_is_other (nat_lt max_session i)
 misfit_is_other schema (Rollback i) = session_is_other (nat_lt max_session i)
+misfit_is_other schema (AddColumn i number name of) = table_is_other (nat_lt max_session i) (table_at schema number) _
 misfit_is_other schema (SplitKey key) = table_is_other (nat_lt max_session 0) (table_at schema key.table) _
 misfit_is_other schema (SplitTime key instant) = table_is_other (nat_lt max_session 0) (table_at schema key.table) _
 misfit_is_other schema Migrate = refl
 
--- the turn leaves the schema, and its reply is not that memory ran out
+-- the reply is not that memory ran out, and the tables change only where it is that one was altered
 record IsPlain (w : World) (t : Turn) : Type 0 where
   answered : is_out_of_memory t.0 ≡ false
-  same_schema : t.1.schema ≡ w.schema
+  same_schema : t.0 ≢ Altered → t.1.schema ≡ w.schema
 
 begin_plain : (w : World) (i : ℕ) (o : Option OpenTransaction) → let t : Turn = elim o [ Some s ↦ (Refused InTransaction, w) | None ↦ (Begun w.latest, put w i (Some (opened_now w))) ] in IsPlain w t
-begin_plain w i None = record { answered = refl; same_schema = refl }
-begin_plain w i (Some s) = record { answered = refl; same_schema = refl }
+begin_plain w i None = record { answered = refl; same_schema = λ other. refl }
+begin_plain w i (Some s) = record { answered = refl; same_schema = λ other. refl }
 
 rollback_plain : (w : World) (i : ℕ) (o : Option OpenTransaction) → let t : Turn = elim o [ None ↦ (Refused NoTransaction, w) | Some s ↦ (RolledBack, put w i None) ] in IsPlain w t
-rollback_plain w i None = record { answered = refl; same_schema = refl }
-rollback_plain w i (Some s) = record { answered = refl; same_schema = refl }
+rollback_plain w i None = record { answered = refl; same_schema = λ other. refl }
+rollback_plain w i (Some s) = record { answered = refl; same_schema = λ other. refl }
 
 written_is_other : (step : Step) (r : Result ℕ Refusal) → names_memory r ≡ false → is_out_of_memory (written_reply step r) ≡ false
 written_is_other (Insert i number rows) (Ok count) h = refl
@@ -92,6 +97,7 @@ written_is_other (Begin i) (Ok count) h = refl
 written_is_other (Select i form keys) (Ok count) h = refl
 written_is_other (Commit i reading) (Ok count) h = refl
 written_is_other (Rollback i) (Ok count) h = refl
+written_is_other (AddColumn i number name of) (Ok count) h = refl
 written_is_other (SplitKey key) (Ok count) h = refl
 written_is_other (SplitTime key instant) (Ok count) h = refl
 written_is_other Migrate (Ok count) h = refl
@@ -99,17 +105,17 @@ written_is_other step (Err refusal) h = h
 
 write_plain : (w : World) (i : ℕ) (step : Step) (o : Option OpenTransaction)
     → let turn : Turn = elim o [ None ↦ (Refused NoTransaction, w) | Some s ↦ (written_reply step (write w.schema step (own_in s)).0, put w i (Some (with_own s (write w.schema step (own_in s)).1))) ] in IsPlain w turn
-write_plain w i step None = record { answered = refl; same_schema = refl }
-write_plain w i step (Some s) = record { answered = written_is_other step (write w.schema step (own_in s)).0 (write_is w.schema step (own_in s)).answered; same_schema = refl }
+write_plain w i step None = record { answered = refl; same_schema = λ other. refl }
+write_plain w i step (Some s) = record { answered = written_is_other step (write w.schema step (own_in s)).0 (write_is w.schema step (own_in s)).answered; same_schema = λ other. refl }
 
 select_plain : (w : World) (o : Option Table) (f : Table → Reply) → ((t : Table) → is_out_of_memory (f t) ≡ false) → is_out_of_memory (elim o [ None ↦ Refused NoTable | Some table ↦ f table ]) ≡ false
 select_plain w None f h = refl
 select_plain w (Some t) f h = h t
 
 end_plain : (w : World) (i : ℕ) (net : Net) (end : Result (Option ℕ) Refusal) → names_memory end ≡ false → IsPlain w (end_turn w i net end)
-end_plain w i net (Ok (Some instant)) h = record { answered = refl; same_schema = refl }
-end_plain w i net (Ok None) h = record { answered = refl; same_schema = refl }
-end_plain w i net (Err refusal) h = record { answered = h; same_schema = refl }
+end_plain w i net (Ok (Some instant)) h = record { answered = refl; same_schema = λ other. refl }
+end_plain w i net (Ok None) h = record { answered = refl; same_schema = λ other. refl }
+end_plain w i net (Err refusal) h = record { answered = h; same_schema = λ other. refl }
 
 outcome_is_other : (m : Changes) (latest start : ℕ) (net : Net) (reading : ℕ) → names_memory (outcome m latest start net reading) ≡ false
 outcome_is_other m latest start [] reading = refl
@@ -121,45 +127,56 @@ outcome_is_other m latest start (change ∷ net) reading = by (conflicts m start
     by (first ∷ others) late = refl
 
 commit_plain : (w : World) (i reading : ℕ) (o : Option OpenTransaction) → let t : Turn = elim o [ None ↦ (Refused NoTransaction, w) | Some s ↦ end_turn w i (net_in w.changes s) (outcome w.changes w.latest s.start (net_in w.changes s) reading) ] in IsPlain w t
-commit_plain w i reading None = record { answered = refl; same_schema = refl }
+commit_plain w i reading None = record { answered = refl; same_schema = λ other. refl }
 commit_plain w i reading (Some s) = end_plain w i (net_in w.changes s) (outcome w.changes w.latest s.start (net_in w.changes s) reading) (outcome_is_other w.changes w.latest s.start (net_in w.changes s) reading)
+
+alter_plain : (w : World) (number : ℕ) (name : List ℕ) (of : ColumnType) (idle : Bool)
+    → let t : Turn = if idle then (Altered, with_schema (add_column number (new_column name of) w.schema) w) else (Refused TransactionsOpen, w) in IsPlain w t
+alter_plain w number name of true = record { answered = refl; same_schema = λ other. absurd (other refl) }
+alter_plain w number name of false = record { answered = refl; same_schema = λ other. refl }
 
 plain_in : (w : World) (step : Step) → IsPlain w (turn_in w step)
 plain_in w (Begin i) = begin_plain w i (open_at w i)
 plain_in w (Insert i number rows) = write_plain w i (Insert i number rows) (open_at w i)
 plain_in w (Update i keys sets) = write_plain w i (Update i keys sets) (open_at w i)
 plain_in w (Delete i keys) = write_plain w i (Delete i keys) (open_at w i)
-plain_in w (Select i form keys) = record { answered = select_plain w (table_at w.schema keys.table) _ (λ t. refl); same_schema = refl }
+plain_in w (Select i form keys) = record { answered = select_plain w (table_at w.schema keys.table) _ (λ t. refl); same_schema = λ other. refl }
 plain_in w (Commit i reading) = commit_plain w i reading (open_at w i)
 plain_in w (Rollback i) = rollback_plain w i (open_at w i)
-plain_in w (SplitKey key) = record { answered = refl; same_schema = refl }
-plain_in w (SplitTime key instant) = record { answered = refl; same_schema = refl }
-plain_in w Migrate = record { answered = refl; same_schema = refl }
+plain_in w (AddColumn i number name of) = alter_plain w number name of (is_idle (is_open_at w))
+plain_in w (SplitKey key) = record { answered = refl; same_schema = λ other. refl }
+plain_in w (SplitTime key instant) = record { answered = refl; same_schema = λ other. refl }
+plain_in w Migrate = record { answered = refl; same_schema = λ other. refl }
 
 plain_by : (w : World) (step : Step) (m : Option Refusal) → names_memory_in m ≡ false → let t : Turn = elim m [ Some refusal ↦ (Refused refusal, w) | None ↦ turn_in w step ] in IsPlain w t
 plain_by w step None h = plain_in w step
-plain_by w step (Some refusal) h = record { answered = h; same_schema = refl }
+plain_by w step (Some refusal) h = record { answered = h; same_schema = λ other. refl }
 
 is_plain : (w : World) (step : Step) → IsPlain w (turn w step)
 is_plain w step = plain_by w step (misfit w.schema step) (misfit_is_other w.schema step)
 
 -- ---- every step
 
-answers_by : (w : World) (h : History) (step : Step) (m : Option Refusal) → misfit w.schema step ≡ m → Stands w h
-    → let t : Turn = elim m [ Some refusal ↦ (Refused refusal, w) | None ↦ turn_in w step ] in (t.0 ≡ elim m [ Some refusal ↦ Refused refusal | None ↦ reply_in w.schema h step ]) × Stands t.1 (step ∷ h)
-answers_by w h step None is stands = answers_in w h step is stands
-answers_by w h step (Some refusal) is stands = (refl, misfit_stands w h step refusal is stands)
+answers_by : (first : Schema) (w : World) (h : History) (step : Step) (m : Option Refusal) → misfit (schema_after first h) step ≡ m → Stands first w h
+    → let t : Turn = elim m [ Some refusal ↦ (Refused refusal, w) | None ↦ turn_in w step ] in (t.0 ≡ elim m [ Some refusal ↦ Refused refusal | None ↦ reply_in first h step ]) × Stands first t.1 (step ∷ h)
+answers_by first w h step None is stands = answers_in first w h step is stands
+answers_by first w h step (Some refusal) is stands = (refl, misfit_stands first w h step refusal is stands)
+
+pub answers_all : (first : Schema) (w : World) (h : History) (step : Step) → Stands first w h → ((turn w step).0 ≡ reply first h step) × Stands first (turn w step).1 (step ∷ h)
+answers_all first w h step stands =
+    subst (λ (m : Option Refusal). let t : Turn = elim m [ Some refusal ↦ (Refused refusal, w) | None ↦ turn_in w step ] in (t.0 ≡ reply first h step) × Stands first t.1 (step ∷ h))
+    (ap (λ now. misfit now step) (sym stands.schema_is)) (answers_by first w h step (misfit (schema_after first h) step) refl stands)
 
 -- what a step answered and left, where that is its turn
 pub record Stepped (w now : World) (step : Step) (answer : Reply) : Type 0 where
-  pub answers : (h : History) → Stands w h → (answer ≡ reply w.schema h step) × Stands now (step ∷ h)
+  pub answers : (first : Schema) (h : History) → Stands first w h → (answer ≡ reply first h step) × Stands first now (step ∷ h)
   pub answered : is_out_of_memory answer ≡ false
-  pub same_schema : now.schema ≡ w.schema
+  pub same_schema : answer ≢ Altered → now.schema ≡ w.schema
 
 pub stepped : (w now : World) (step : Step) (answer : Reply) → ◌≡◌ {A = Turn} (answer, now) (turn w step) → Stepped w now step answer
 stepped w now step answer is =
     subst (λ (t : Turn). Stepped w t.1 step t.0) (sym is) (record {
-      answers = λ h stands. answers_by w h step (misfit w.schema step) refl stands;
+      answers = λ first h stands. answers_all first w h step stands;
       answered = (is_plain w step).answered;
       same_schema = (is_plain w step).same_schema;
     })

@@ -13,7 +13,7 @@ use Rattle.steps.specs.declared.step.Step.TheVariants.{Insert, Update, Delete}
 use Rattle.steps.specs.declared.step.Reply.{Reply}
 use Rattle.steps.specs.declared.step.Reply.TheVariants.{Refused}
 use Rattle.steps.specs.Misfit.{max_session, misfit}
-use Rattle.histories.specs.History.{History, log, log_at_begin, own, own_of, reply_in, seen_of, rewrite_all, ends, begins}
+use Rattle.histories.specs.History.{History, schema_after, log, log_at_begin, own, own_of, reply_in, seen_of, rewrite_all, ends, begins}
 use Rattle.steps.specs.Write.{write, is_write_of}
 use Rattle.steps.specs.Reply.{written_reply, write_reply, is_refused}
 use Rattle.histories.specs.World.{OpenTransaction, World}
@@ -32,13 +32,14 @@ record IsWrite (schema : Schema) (h : History) (step : Step) (i : ℕ) : Type 0 
   no_end : (j : ℕ) → ends j step ≡ false
   no_begin : (j : ℕ) → begins j step ≡ false
   its_own : (j : ℕ) → is_write_of j step ≡ (j == i)
+  same_tables : schema_after schema (step ∷ h) ≡ schema_after schema h
   same_log : log schema (step ∷ h) ≡ log schema h
-  fits : misfit schema step ≡ None
+  fits : misfit (schema_after schema h) step ≡ None
   counts : (count : ℕ) → is_refused (written_reply step (Ok count)) ≡ false
-  replied : reply_in schema h step ≡ elim (log_at_begin schema h i) [ None ↦ Refused NoTransaction | Some before ↦ write_reply schema step (own_of schema (log schema h) (log_at_begin schema h i) (own schema h i)) ]
+  replied : reply_in schema h step ≡ elim (log_at_begin schema h i) [ None ↦ Refused NoTransaction | Some before ↦ write_reply (schema_after schema h) step (own_of (schema_after schema h) (log schema h) (log_at_begin schema h i) (own schema h i)) ]
 
-reply_is : (schema : Schema) (h : History) (step : Step) (i : ℕ) (o : Own) → IsWrite schema h step i → write_reply schema step o ≡ written_reply step (write schema step o).0
-reply_is schema h step i o is = λ k. elim (is.fits k) [ Some refusal ↦ Refused refusal | None ↦ written_reply step (write schema step o).0 ]
+reply_is : (schema : Schema) (h : History) (step : Step) (i : ℕ) (o : Own) → IsWrite schema h step i → write_reply (schema_after schema h) step o ≡ written_reply step (write (schema_after schema h) step o).0
+reply_is schema h step i o is = λ k. elim (is.fits k) [ Some refusal ↦ Refused refusal | None ↦ written_reply step (write (schema_after schema h) step o).0 ]
 
 refused_is : (step : Step) (r : Result ℕ Refusal) → ((count : ℕ) → is_refused (written_reply step (Ok count)) ≡ false) → is_refused (written_reply step r) ≡ is_err r
 refused_is step (Ok count) counts = counts count
@@ -54,14 +55,14 @@ abbrev refused_in : Schema → Step → Log → Option Log → List Step → Boo
 refused_in schema step now o own = is_refused (write_reply schema step (own_of schema now o own))
 
 session_of : (schema : Schema) (h : History) (step : Step) (i j : ℕ) → IsWrite schema h step i
-    → open_in schema (step ∷ h) j ≡ after_write schema (log schema h) (log_at_begin schema h j) (own schema h j) step (j == i) (refused_in schema step (log schema h) (log_at_begin schema h j) (own schema h j))
+    → open_in schema (step ∷ h) j ≡ after_write (schema_after schema h) (log schema h) (log_at_begin schema h j) (own schema h j) step (j == i) (refused_in (schema_after schema h) step (log schema h) (log_at_begin schema h j) (own schema h j))
 session_of schema h step i j is =
-    λ k. open_from schema (is.same_log k) (if is.no_end j k then None else if is.no_begin j k && is_none (log_at_begin schema h j) then Some (log schema h) else log_at_begin schema h j)
-    (if is.no_end j k then [] else if is.its_own j k && is_some (log_at_begin schema h j) && not (refused_in schema step (log schema h) (log_at_begin schema h j) (own schema h j)) then own schema h j ++ step ∷ [] else own schema h j)
+    λ k. open_from (is.same_tables k) (is.same_log k) (if is.no_end j k then None else if is.no_begin j k && is_none (log_at_begin schema h j) then Some (log schema h) else log_at_begin schema h j)
+    (if is.no_end j k then [] else if is.its_own j k && is_some (log_at_begin schema h j) && not (refused_in (schema_after schema h) step (log schema h) (log_at_begin schema h j) (own schema h j)) then own schema h j ++ step ∷ [] else own schema h j)
 
 write_other : (schema : Schema) (h : History) (step : Step) (i j : ℕ) → IsWrite schema h step i → j ≢ i → open_in schema (step ∷ h) j ≡ open_in schema h j
 write_other schema h step i j is other =
-    session_of schema h step i j is ∙ ap (λ b. after_write schema (log schema h) (log_at_begin schema h j) (own schema h j) step b (refused_in schema step (log schema h) (log_at_begin schema h j) (own schema h j))) (not_other i j other)
+    session_of schema h step i j is ∙ ap (λ b. after_write (schema_after schema h) (log schema h) (log_at_begin schema h j) (own schema h j) step b (refused_in (schema_after schema h) step (log schema h) (log_at_begin schema h j) (own schema h j))) (not_other i j other)
 
 -- the transaction once it wrote
 abbrev next : Schema → Step → OpenTransaction → OpenTransaction
@@ -78,9 +79,9 @@ next_is true false schema now before own step e leaves =
     ap (λ o. Some (with_own (open_now schema now before own) o)) (sym (rewrite_more schema own step (record { rows = seen_of now (Some before); written = [] })))
 next_is false refused schema now before own step e leaves = cc
 
-abbrev turn_of : World → ℕ → Step → Option OpenTransaction → Turn
-turn_of w i step None = (Refused NoTransaction, w)
-turn_of w i step (Some s) = (written_reply step (write w.schema step (own_in s)).0, put w i (Some (next w.schema step s)))
+abbrev turn_of : Schema → World → ℕ → Step → Option OpenTransaction → Turn
+turn_of now w i step None = (Refused NoTransaction, w)
+turn_of now w i step (Some s) = (written_reply step (write now step (own_in s)).0, put w i (Some (next now step s)))
 
 abbrev reply_when : Option Log → Reply → Reply
 reply_when None reply = Refused NoTransaction
@@ -93,60 +94,60 @@ same_reply : (o : Option Log) (r : Reply) → reply_when o r ≡ elim o [ None �
 same_reply None r = refl
 same_reply (Some before) r = refl
 
-reply_of : (schema : Schema) (h : History) (step : Step) (i : ℕ) (o : Option Log) → log_at_begin schema h i ≡ o → IsWrite schema h step i → own_reply schema step (log schema h) (own schema h i) o ≡ reply_in schema h step
+reply_of : (schema : Schema) (h : History) (step : Step) (i : ℕ) (o : Option Log) → log_at_begin schema h i ≡ o → IsWrite schema h step i → own_reply (schema_after schema h) step (log schema h) (own schema h i) o ≡ reply_in schema h step
 reply_of schema h step i o at is =
-    ap (own_reply schema step (log schema h) (own schema h i)) (sym at)
-    ∙ same_reply (log_at_begin schema h i) (write_reply schema step (own_of schema (log schema h) (log_at_begin schema h i) (own schema h i)))
+    ap (own_reply (schema_after schema h) step (log schema h) (own schema h i)) (sym at)
+    ∙ same_reply (log_at_begin schema h i) (write_reply (schema_after schema h) step (own_of (schema_after schema h) (log schema h) (log_at_begin schema h i) (own schema h i)))
     ∙ sym is.replied
 
-write_for : (w : World) (h : History) (step : Step) (i : ℕ) (o : Option Log) → IsWrite w.schema h step i → log_at_begin w.schema h i ≡ o → i ≤ max_session → Stands w h
-    → ((turn_of w i step (open_from w.schema (log w.schema h) o (own w.schema h i))).0 ≡ reply_in w.schema h step) × Stands (turn_of w i step (open_from w.schema (log w.schema h) o (own w.schema h i))).1 (step ∷ h)
-write_for w h step i None is at small stands = (
-  reply_of w.schema h step i None at is,
-  stands_still w h step i small stands is.same_log
-      (session_of w.schema h step i i is ∙ (λ k. after_write w.schema (log w.schema h) (at k) (own w.schema h i) step (i == i) (refused_in w.schema step (log w.schema h) (at k) (own w.schema h i))) ∙ closed (i == i) (refused_in w.schema step (log w.schema h) None (own w.schema h i)) ∙ sym (ap (λ o. open_from w.schema (log w.schema h) o (own w.schema h i)) at))
-      (λ j other. write_other w.schema h step i j is other),
+write_for : (first : Schema) (w : World) (h : History) (step : Step) (i : ℕ) (o : Option Log) → IsWrite first h step i → log_at_begin first h i ≡ o → i ≤ max_session → Stands first w h
+    → ((turn_of (schema_after first h) w i step (open_from (schema_after first h) (log first h) o (own first h i))).0 ≡ reply_in first h step) × Stands first (turn_of (schema_after first h) w i step (open_from (schema_after first h) (log first h) o (own first h i))).1 (step ∷ h)
+write_for first w h step i None is at small stands = (
+  reply_of first h step i None at is,
+  stands_still first w h step i small stands is.same_tables is.same_log
+      (session_of first h step i i is ∙ (λ k. after_write (schema_after first h) (log first h) (at k) (own first h i) step (i == i) (refused_in (schema_after first h) step (log first h) (at k) (own first h i))) ∙ closed (i == i) (refused_in (schema_after first h) step (log first h) None (own first h i)) ∙ sym (ap (λ o. open_from (schema_after first h) (log first h) o (own first h i)) at))
+      (λ j other. write_other first h step i j is other),
 )
   where
-    closed : (b c : Bool) → after_write w.schema (log w.schema h) None (own w.schema h i) step b c ≡ None
+    closed : (b c : Bool) → after_write (schema_after first h) (log first h) None (own first h i) step b c ≡ None
     closed b c = refl
-write_for w h step i (Some before) is at small stands = (
-  sym (reply_is w.schema h step i o is) ∙ reply_of w.schema h step i (Some before) at is,
-  stands_put w h step i _ w.changes w.latest small stands (stands.changes_are ∙ sym (ap changes is.same_log)) (stands.latest_is ∙ sym (ap last is.same_log))
-      (next_is (i == i) (refused_in w.schema step (log w.schema h) (Some before) (own w.schema h i)) w.schema (log w.schema h) before (own w.schema h i) step (itself i)
-      (λ refused. (write_is w.schema step o).leaves (sym (ap is_refused (reply_is w.schema h step i o is) ∙ refused_is step (write w.schema step o).0 is.counts) ∙ refused))
-      ∙ sym (session_of w.schema h step i i is ∙ (λ k. after_write w.schema (log w.schema h) (at k) (own w.schema h i) step (i == i) (refused_in w.schema step (log w.schema h) (at k) (own w.schema h i)))))
-      (λ j other. write_other w.schema h step i j is other),
+write_for first w h step i (Some before) is at small stands = (
+  sym (reply_is first h step i o is) ∙ reply_of first h step i (Some before) at is,
+  stands_put first w h step i _ w.changes w.latest small stands is.same_tables (stands.changes_are ∙ sym (ap changes is.same_log)) (stands.latest_is ∙ sym (ap last is.same_log))
+      (next_is (i == i) (refused_in (schema_after first h) step (log first h) (Some before) (own first h i)) (schema_after first h) (log first h) before (own first h i) step (itself i)
+      (λ refused. (write_is (schema_after first h) step o).leaves (sym (ap is_refused (reply_is first h step i o is) ∙ refused_is step (write (schema_after first h) step o).0 is.counts) ∙ refused))
+      ∙ sym (session_of first h step i i is ∙ (λ k. after_write (schema_after first h) (log first h) (at k) (own first h i) step (i == i) (refused_in (schema_after first h) step (log first h) (at k) (own first h i)))))
+      (λ j other. write_other first h step i j is other),
 )
   where
     o : Own
-    o = own_of w.schema (log w.schema h) (Some before) (own w.schema h i)
+    o = own_of (schema_after first h) (log first h) (Some before) (own first h i)
 
 -- ---- the turn of a write
 
-same_turn : (w : World) (i : ℕ) (step : Step) (o : Option OpenTransaction)
-    → turn_of w i step o ≡ elim o [ None ↦ (Refused NoTransaction, w) | Some s ↦ (written_reply step (write w.schema step (own_in s)).0, put w i (Some (next w.schema step s))) ]
-same_turn w i step None = refl
-same_turn w i step (Some s) = refl
+same_turn : (now : Schema) (w : World) (i : ℕ) (step : Step) (o : Option OpenTransaction) → now ≡ w.schema
+    → turn_of now w i step o ≡ elim o [ None ↦ (Refused NoTransaction, w) | Some s ↦ (written_reply step (write w.schema step (own_in s)).0, put w i (Some (next w.schema step s))) ]
+same_turn now w i step None is = refl
+same_turn now w i step (Some s) is = λ k. (written_reply step (write (is k) step (own_in s)).0, put w i (Some (next (is k) step s)))
 
-write_answers : (w : World) (h : History) (step : Step) (i : ℕ) → IsWrite w.schema h step i → i ≤ max_session → Stands w h
-    → ((write_turn w i step).0 ≡ reply_in w.schema h step) × Stands (write_turn w i step).1 (step ∷ h)
-write_answers w h step i is small stands =
-    subst (λ (t : Turn). (t.0 ≡ reply_in w.schema h step) × Stands t.1 (step ∷ h))
-    (ap (turn_of w i step) (sym (stands.sessions_are i small)) ∙ same_turn w i step (open_at w i))
-    (write_for w h step i (log_at_begin w.schema h i) is refl small stands)
+write_answers : (first : Schema) (w : World) (h : History) (step : Step) (i : ℕ) → IsWrite first h step i → i ≤ max_session → Stands first w h
+    → ((write_turn w i step).0 ≡ reply_in first h step) × Stands first (write_turn w i step).1 (step ∷ h)
+write_answers first w h step i is small stands =
+    subst (λ (t : Turn). (t.0 ≡ reply_in first h step) × Stands first t.1 (step ∷ h))
+    (ap (turn_of (schema_after first h) w i step) (sym (stands.sessions_are i small)) ∙ same_turn (schema_after first h) w i step (open_at w i) (sym stands.schema_is))
+    (write_for first w h step i (log_at_begin first h i) is refl small stands)
 
-pub insert_answers : (w : World) (h : History) (i number : ℕ) (rows : List Row) → misfit w.schema (Insert i number rows) ≡ None → i ≤ max_session → Stands w h
-    → ((write_turn w i (Insert i number rows)).0 ≡ reply_in w.schema h (Insert i number rows)) × Stands (write_turn w i (Insert i number rows)).1 (Insert i number rows ∷ h)
-insert_answers w h i number rows fits small stands =
-    write_answers w h (Insert i number rows) i (record { no_end = λ j. refl; no_begin = λ j. refl; its_own = λ j. refl; same_log = refl; fits = fits; counts = λ count. refl; replied = refl }) small stands
+pub insert_answers : (first : Schema) (w : World) (h : History) (i number : ℕ) (rows : List Row) → misfit (schema_after first h) (Insert i number rows) ≡ None → i ≤ max_session → Stands first w h
+    → ((write_turn w i (Insert i number rows)).0 ≡ reply_in first h (Insert i number rows)) × Stands first (write_turn w i (Insert i number rows)).1 (Insert i number rows ∷ h)
+insert_answers first w h i number rows fits small stands =
+    write_answers first w h (Insert i number rows) i (record { no_end = λ j. refl; no_begin = λ j. refl; its_own = λ j. refl; same_tables = refl; same_log = refl; fits = fits; counts = λ count. refl; replied = refl }) small stands
 
-pub update_answers : (w : World) (h : History) (i : ℕ) (keys : Keys) (sets : List Set) → misfit w.schema (Update i keys sets) ≡ None → i ≤ max_session → Stands w h
-    → ((write_turn w i (Update i keys sets)).0 ≡ reply_in w.schema h (Update i keys sets)) × Stands (write_turn w i (Update i keys sets)).1 (Update i keys sets ∷ h)
-update_answers w h i keys sets fits small stands =
-    write_answers w h (Update i keys sets) i (record { no_end = λ j. refl; no_begin = λ j. refl; its_own = λ j. refl; same_log = refl; fits = fits; counts = λ count. refl; replied = refl }) small stands
+pub update_answers : (first : Schema) (w : World) (h : History) (i : ℕ) (keys : Keys) (sets : List Set) → misfit (schema_after first h) (Update i keys sets) ≡ None → i ≤ max_session → Stands first w h
+    → ((write_turn w i (Update i keys sets)).0 ≡ reply_in first h (Update i keys sets)) × Stands first (write_turn w i (Update i keys sets)).1 (Update i keys sets ∷ h)
+update_answers first w h i keys sets fits small stands =
+    write_answers first w h (Update i keys sets) i (record { no_end = λ j. refl; no_begin = λ j. refl; its_own = λ j. refl; same_tables = refl; same_log = refl; fits = fits; counts = λ count. refl; replied = refl }) small stands
 
-pub delete_answers : (w : World) (h : History) (i : ℕ) (keys : Keys) → misfit w.schema (Delete i keys) ≡ None → i ≤ max_session → Stands w h
-    → ((write_turn w i (Delete i keys)).0 ≡ reply_in w.schema h (Delete i keys)) × Stands (write_turn w i (Delete i keys)).1 (Delete i keys ∷ h)
-delete_answers w h i keys fits small stands =
-    write_answers w h (Delete i keys) i (record { no_end = λ j. refl; no_begin = λ j. refl; its_own = λ j. refl; same_log = refl; fits = fits; counts = λ count. refl; replied = refl }) small stands
+pub delete_answers : (first : Schema) (w : World) (h : History) (i : ℕ) (keys : Keys) → misfit (schema_after first h) (Delete i keys) ≡ None → i ≤ max_session → Stands first w h
+    → ((write_turn w i (Delete i keys)).0 ≡ reply_in first h (Delete i keys)) × Stands first (write_turn w i (Delete i keys)).1 (Delete i keys ∷ h)
+delete_answers first w h i keys fits small stands =
+    write_answers first w h (Delete i keys) i (record { no_end = λ j. refl; no_begin = λ j. refl; its_own = λ j. refl; same_tables = refl; same_log = refl; fits = fits; counts = λ count. refl; replied = refl }) small stands

@@ -20,7 +20,7 @@ use Rattle.values.specs.Log.{Log, Net, Row, Changes, last, changes, add_net, add
 use Rattle.values.specs.Commits.{changed_since, or_else, conflicts, outcome, log_after, after, max_instant}
 use Rattle.values.proofs.OrderTotal.{key_cmp_total, point_cmp-IsAntisymmetric}
 use Rattle.rows.proofs.SchemaPlaces.{Apart, apart_push, apart_no_two, each_to}
-use Rattle.steps.specs.declared.step.Step.TheVariants.{Begin, Insert, Update, Delete, Select, Commit, Rollback, SplitKey, SplitTime, Migrate}
+use Rattle.steps.specs.declared.step.Step.TheVariants.{Begin, Insert, Update, Delete, Select, Commit, Rollback, AddColumn, SplitKey, SplitTime, Migrate}
 use Rattle.histories.specs.History.{History, log, log_at_begin, net}
 use Rattle.histories.specs.Winners.{Winner, winners, winners_with, AreConcurrent, ShareAKey}
 use Rattle.histories.specs.Law.{FirstCommitterWins, LogIsOfWinners}
@@ -175,6 +175,7 @@ log_is_of_winners schema (Update i keys sets ∷ h) = log_is_of_winners schema h
 log_is_of_winners schema (Delete i keys ∷ h) = log_is_of_winners schema h
 log_is_of_winners schema (Select i form keys ∷ h) = log_is_of_winners schema h
 log_is_of_winners schema (Rollback i ∷ h) = log_is_of_winners schema h
+log_is_of_winners schema (AddColumn i number name of ∷ h) = log_is_of_winners schema h
 log_is_of_winners schema (SplitKey key ∷ h) = log_is_of_winners schema h
 log_is_of_winners schema (SplitTime key instant ∷ h) = log_is_of_winners schema h
 log_is_of_winners schema (Migrate ∷ h) = log_is_of_winners schema h
@@ -215,6 +216,7 @@ all_apart schema (Update i keys sets ∷ h) = all_apart schema h
 all_apart schema (Delete i keys ∷ h) = all_apart schema h
 all_apart schema (Select i form keys ∷ h) = all_apart schema h
 all_apart schema (Rollback i ∷ h) = all_apart schema h
+all_apart schema (AddColumn i number name of ∷ h) = all_apart schema h
 all_apart schema (SplitKey key ∷ h) = all_apart schema h
 all_apart schema (SplitTime key instant ∷ h) = all_apart schema h
 all_apart schema (Migrate ∷ h) = all_apart schema h

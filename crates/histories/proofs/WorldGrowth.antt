@@ -12,7 +12,7 @@ use Rattle.steps.specs.declared.step.Step.TheVariants.{Commit}
 use Rattle.histories.proofs.HistoryGrowth.{outcome_above}
 use Rattle.histories.proofs.HistoryPrefixes.{opened_below}
 use Rattle.histories.specs.Stands.{open_in, open_from}
-use Rattle.histories.specs.History.{History, log, log_at_begin, own, net_change_of, rewrite_all}
+use Rattle.histories.specs.History.{History, schema_after, log, log_at_begin, own, net_change_of, rewrite_all}
 
 later_test : (a s : ℕ) → s < a → nat_le a s ≡ false
 later_test a s h = grind (arith, nat_tests)
@@ -48,10 +48,10 @@ state_after log start net reading s below =
 -- a commit of one session changes nothing of another
 pub session_other_commit : (schema : Schema) (h : History) (i j reading : ℕ) → (j == i) ≡ false → open_in schema (Commit i reading ∷ h) j ≡ open_in schema h j
 session_other_commit schema h i j reading other =
-    ap (λ b. open_from schema (log schema (Commit i reading ∷ h)) (if b then None else log_at_begin schema h j) (if b then [] else own schema h j)) other
-    ∙ session_kept schema (log schema h) (log schema (Commit i reading ∷ h)) (log_at_begin schema h j) (own schema h j) (λ before is. by (log_at_begin schema h i) before (opened_below schema h j before is))
+    ap (λ b. open_from (schema_after schema h) (log schema (Commit i reading ∷ h)) (if b then None else log_at_begin schema h j) (if b then [] else own schema h j)) other
+    ∙ session_kept (schema_after schema h) (log schema h) (log schema (Commit i reading ∷ h)) (log_at_begin schema h j) (own schema h j) (λ before is. by (log_at_begin schema h i) before (opened_below schema h j before is))
   where
     by : (o : Option Log) (before : Log) → last before ≤ last (log schema h)
-        → state (elim o [ None ↦ log schema h | Some first ↦ after (log schema h) (last first) (net_change_of schema (log schema h) (log_at_begin schema h i) (own schema h i)) reading ]) (last before) ≡ state (log schema h) (last before)
+        → state (elim o [ None ↦ log schema h | Some first ↦ after (log schema h) (last first) (net_change_of (schema_after schema h) (log schema h) (log_at_begin schema h i) (own schema h i)) reading ]) (last before) ≡ state (log schema h) (last before)
     by None before below = refl
     by (Some first) before below = state_after (log schema h) (last first) _ reading (last before) below

@@ -14,20 +14,20 @@ AllAnswered replies = list_all (λ r. not (is_out_of_memory r)) replies ≡ true
 
 -- the replies that are due: a step that is answered out of memory is none of the history
 abbrev pub due : Schema → History → List Step → List Reply → List Reply
-due schema h [] given = []
-due schema h (step ∷ steps) [] = replies schema h (step ∷ steps)
-due schema h (step ∷ steps) (r ∷ given) =
-    if is_out_of_memory r then r ∷ due schema h steps given
-    else reply schema h step ∷ due schema (step ∷ h) steps given
+due first h [] given = []
+due first h (step ∷ steps) [] = replies first h (step ∷ steps)
+due first h (step ∷ steps) (r ∷ given) =
+    if is_out_of_memory r then r ∷ due first h steps given
+    else reply first h step ∷ due first (step ∷ h) steps given
 
 -- memory ran out only at steps that take some
 abbrev pub is_out_where_taken : Schema → History → List Step → List Reply → Bool
-is_out_where_taken schema h [] given = true
-is_out_where_taken schema h (step ∷ steps) [] = true
-is_out_where_taken schema h (step ∷ steps) (r ∷ given) =
+is_out_where_taken first h [] given = true
+is_out_where_taken first h (step ∷ steps) [] = true
+is_out_where_taken first h (step ∷ steps) (r ∷ given) =
     if is_out_of_memory r
-    then not (takes_no_memory_after schema h step) && is_out_where_taken schema h steps given
-    else is_out_where_taken schema (step ∷ h) steps given
+    then not (takes_no_memory_after first h step) && is_out_where_taken first h steps given
+    else is_out_where_taken first (step ∷ h) steps given
 
 abbrev pub OutWhereTaken : Schema → List Step → List Reply → Type 0
-OutWhereTaken schema steps given = is_out_where_taken schema [] steps given ≡ true
+OutWhereTaken first steps given = is_out_where_taken first [] steps given ≡ true

@@ -1,24 +1,25 @@
 -- What a list of steps comes to, and the reply to each.
-use Rattle.std.specs.Prelude.{ℕ, List, [], ◌∷◌, ◌++◌, ◌&&◌, Option, Some, None, Bool, true, false, is_some, is_none, if◌then◌else◌, not, nat_le, ◌==◌}
+use Rattle.std.specs.Prelude.{ℕ, List, [], ◌∷◌, ◌++◌, ◌&&◌, Option, Some, None, Bool, false, is_some, is_none, if◌then◌else◌, not, nat_le, ◌==◌}
 use Rattle.values.specs.declared.key.Key.{Key}
 use Rattle.values.specs.declared.table.Table.{Table}
 use Rattle.values.specs.declared.query.Form.{Form}
 use Rattle.values.specs.declared.query.Form.TheVariants.{Plain, AsOf, FromTo, Between}
 use Rattle.values.specs.declared.query.Keys.{Keys}
 use Rattle.values.specs.declared.query.Shown.{Shown}
-use Rattle.values.specs.declared.refusal.Refusal.{Refusal}
-use Rattle.values.specs.declared.refusal.Refusal.TheVariants.{NoTable, NoTransaction, InTransaction}
+use Rattle.values.specs.declared.refusal.Refusal.TheVariants.{NoTable, NoTransaction, InTransaction, TransactionsOpen}
 use Rattle.values.specs.Tables.{Schema, table_at}
+use Rattle.values.specs.Columns.{new_column, add_column}
 use Rattle.values.specs.Log.{Log, State, Net, last, upto, state, changes}
 use Rattle.values.specs.Versions.{answer}
 use Rattle.values.specs.Commits.{outcome, after}
 use Rattle.values.specs.Writes.{Own, net_of}
 use Rattle.steps.specs.declared.step.Step.{Step}
-use Rattle.steps.specs.declared.step.Step.TheVariants.{Begin, Select, Commit, Rollback, SplitKey, SplitTime, Migrate}
+use Rattle.steps.specs.declared.step.Step.TheVariants.{Begin, Select, Commit, Rollback, AddColumn, SplitKey, SplitTime, Migrate}
 use Rattle.steps.specs.declared.step.Listing.{Listing}
 use Rattle.steps.specs.declared.step.Listing.TheVariants.{Rows, Periods}
 use Rattle.steps.specs.declared.step.Reply.{Reply}
-use Rattle.steps.specs.declared.step.Reply.TheVariants.{Begun, Shown as Shows, RolledBack, Done, Refused}
+use Rattle.steps.specs.declared.step.Reply.TheVariants.{Begun, Shown as Shows, RolledBack, Altered, Done, Refused}
+use Rattle.steps.specs.Idle.{is_idle}
 use Rattle.steps.specs.Misfit.{max_session, misfit}
 use Rattle.steps.specs.Write.{write, writer, is_write_of}
 use Rattle.steps.specs.Reply.{commit_reply, is_refused, write_reply}
@@ -45,6 +46,23 @@ before_open i (step ∷ h) =
     if ends i step then None
     else if begins i step then elim (before_open i h) [ Some g ↦ Some g | None ↦ Some h ]
     else before_open i h
+
+-- which sessions have a transaction open
+abbrev pub has_open : History → ℕ → Bool
+has_open h i = is_some (before_open i h)
+
+-- the tables after a step, by those before it: a step that adds a column, and fits, adds it where
+-- no session has a transaction open
+abbrev pub schema_by : Schema → Bool → Step → Schema
+schema_by now idle (AddColumn i number name of) =
+    if is_none (misfit now (AddColumn i number name of)) && idle
+    then add_column number (new_column name of) now else now
+schema_by now idle step = now
+
+-- the tables after the steps, by the first ones
+abbrev pub schema_after : Schema → History → Schema
+schema_after first [] = first
+schema_after first (step ∷ h) = schema_by (schema_after first h) (is_idle (has_open h)) step
 
 -- what writes leave, one after another
 abbrev pub rewrite_all : Schema → List Step → Own → Own
@@ -83,6 +101,7 @@ module _ (schema : Schema) where
       is_write_of i step && is_some log_at_begin
       && not (is_refused (write_reply schema step (own_of now log_at_begin own)))
 
+module _ (first : Schema) where
   abbrev mutual
     -- what was committed
     pub log : History → Log
@@ -90,7 +109,8 @@ module _ (schema : Schema) where
     log (Commit i reading ∷ h) = elim (log_at_begin h i) [
       | None ↦ log h
       | Some before ↦
-          after (log h) (last before) (net_change_of (log h) (log_at_begin h i) (own h i)) reading
+          after (log h) (last before)
+          (net_change_of (schema_after first h) (log h) (log_at_begin h i) (own h i)) reading
     ]
     log (step ∷ h) = log h
 
@@ -107,20 +127,25 @@ module _ (schema : Schema) where
     own [] i = []
     own (step ∷ h) i =
         if ends i step then []
-        else if is_kept step i (log h) (log_at_begin h i) (own h i) then own h i ++ step ∷ []
+        else if is_kept (schema_after first h) step i (log h) (log_at_begin h i) (own h i)
+        then own h i ++ step ∷ []
         else own h i
+
+  -- the tables now
+  abbrev pub schema : History → Schema
+  schema h = schema_after first h
 
   abbrev pub snap : History → ℕ → ℕ
   snap h i = snap_of (log h) (log_at_begin h i)
 
   abbrev pub mine : History → ℕ → State
-  mine h i = mine_of (log h) (log_at_begin h i) (own h i)
+  mine h i = mine_of (schema h) (log h) (log_at_begin h i) (own h i)
 
   abbrev pub written_keys : History → ℕ → List Key
-  written_keys h i = written_of (log h) (log_at_begin h i) (own h i)
+  written_keys h i = written_of (schema h) (log h) (log_at_begin h i) (own h i)
 
   abbrev pub net : History → ℕ → Net
-  net h i = net_change_of (log h) (log_at_begin h i) (own h i)
+  net h i = net_change_of (schema h) (log h) (log_at_begin h i) (own h i)
 
   -- what a query of a table shows of what was committed when the session's transaction began
   abbrev pub answer_in : History → ℕ → Form → Table → Keys → List Shown
@@ -142,7 +167,7 @@ module _ (schema : Schema) where
     | Some before ↦ Refused InTransaction
     | None ↦ Begun (last (log h))
   ]
-  reply_in h (Select i form keys) = elim (table_at schema keys.table) [
+  reply_in h (Select i form keys) = elim (table_at (schema h) keys.table) [
     | None ↦ Refused NoTable
     | Some table ↦ Shows (listing h i form table keys)
   ]
@@ -155,6 +180,8 @@ module _ (schema : Schema) where
     | Some before ↦ RolledBack
     | None ↦ Refused NoTransaction
   ]
+  reply_in h (AddColumn i number name of) =
+      if is_idle (has_open h) then Altered else Refused TransactionsOpen
   reply_in h (SplitKey key) = Done
   reply_in h (SplitTime key instant) = Done
   reply_in h Migrate = Done
@@ -162,12 +189,13 @@ module _ (schema : Schema) where
     | None ↦ Done
     | Some i ↦ elim (log_at_begin h i) [
       | None ↦ Refused NoTransaction
-      | Some before ↦ write_reply schema step (own_of (log h) (log_at_begin h i) (own h i))
+      | Some before ↦
+          write_reply (schema h) step (own_of (schema h) (log h) (log_at_begin h i) (own h i))
     ]
   ]
 
   abbrev pub reply : History → Step → Reply
-  reply h step = elim (misfit schema step) [
+  reply h step = elim (misfit (schema h) step) [
     | Some refusal ↦ Refused refusal
     | None ↦ reply_in h step
   ]

@@ -4,106 +4,145 @@ use Rattle.std.specs.Option.{option_map}
 use Rattle.values.specs.declared.query.Form.{Form}
 use Rattle.values.specs.declared.query.Form.TheVariants.{AsOf}
 use Rattle.values.specs.declared.query.Keys.{Keys}
-use Rattle.values.specs.Tables.{Schema}
+use Rattle.values.specs.Tables.{Schema, table_at, full_row}
+use Rattle.values.specs.Columns.{IsWidenedTo}
 use Rattle.rows.specs.GoodTable.{NoTwo}
 use Rattle.values.specs.declared.table.Table.{Table}
 use Rattle.values.specs.Log.{Log, last, changes}
 use Rattle.values.specs.Law.{IsLog, shown_rows}
 use Rattle.steps.specs.declared.step.Step.{Step}
 use Rattle.steps.specs.declared.step.Step.TheVariants.{Select}
+use Rattle.steps.specs.declared.step.Listing.{Listing}
+use Rattle.steps.specs.declared.step.Listing.TheVariants.{Rows, Periods}
 use Rattle.steps.specs.declared.step.Reply.{Reply}
+use Rattle.steps.specs.declared.step.Reply.TheVariants.{Shown as Shows}
 use Rattle.histories.specs.Due.{AllAnswered, due}
 use Rattle.histories.specs.Maintenance.{without_maintenance, with_maintenance}
 use Rattle.steps.specs.Misfit.{max_session}
-use Rattle.histories.specs.History.{History, before_open, log, log_at_begin, own, snap, listing, reply, replies}
+use Rattle.histories.specs.History.{History, schema_after, before_open, log, log_at_begin, own, snap, listing, reply, replies}
 use Rattle.histories.specs.Winners.{winners, AreConcurrent, ShareAKey}
 
 -- a session's open transaction began at the log of the steps before its BEGIN
 abbrev pub OpensAtItsBegin : Schema → Type 0
-OpensAtItsBegin schema =
-    (h : History) (i : ℕ) → log_at_begin schema h i ≡ option_map (log schema) (before_open i h)
+OpensAtItsBegin first =
+    (h : History) (i : ℕ) → log_at_begin first h i ≡ option_map (log first) (before_open i h)
 
 -- the instants of a log strictly rise
 abbrev pub LogsRise : Schema → Type 0
-LogsRise schema = (h : History) → IsLog (log schema h)
+LogsRise first = (h : History) → IsLog (log first h)
 
 -- later steps leave what was committed, and add to it
 abbrev pub LaterStepsAdd : Schema → Type 0
-LaterStepsAdd schema =
+LaterStepsAdd first =
     (h : History) (later : List Step)
-    → (added : Log) × (log schema (later ++ h) ≡ log schema h ++ added)
+    → (added : Log) × (log first (later ++ h) ≡ log first h ++ added)
 
 -- they change nothing of what a query shows as of an instant at or before the last one
 abbrev pub PastStays : Schema → Type 0
-PastStays schema =
+PastStays first =
     (h : History) (later : List Step) (t : ℕ) (table : Table) (keys : Keys)
-    → t ≤ last (log schema h)
-    → shown_rows (changes (log schema (later ++ h))) table (AsOf t) keys
-    ≡ shown_rows (changes (log schema h)) table (AsOf t) keys
+    → t ≤ last (log first h)
+    → shown_rows (changes (log first (later ++ h))) table (AsOf t) keys
+    ≡ shown_rows (changes (log first h)) table (AsOf t) keys
 
 -- so a query as of an instant at or before both snapshots shows one thing for ever, whichever
 -- session asks it, with a transaction open or with none
 abbrev pub PastIsReadAlike : Schema → Type 0
-PastIsReadAlike schema =
+PastIsReadAlike first =
     (h : History) (later : List Step) (i j t : ℕ) (table : Table) (keys : Keys)
-    → t ≤ snap schema h i → t ≤ snap schema (later ++ h) j
-    → listing schema (later ++ h) j (AsOf t) table keys ≡ listing schema h i (AsOf t) table keys
+    → t ≤ snap first h i → t ≤ snap first (later ++ h) j
+    → listing first (later ++ h) j (AsOf t) table keys ≡ listing first h i (AsOf t) table keys
 
--- and it has one reply
+-- and it has one reply, while the tables stay
 abbrev pub PastIsAnsweredAlike : Schema → Type 0
-PastIsAnsweredAlike schema =
+PastIsAnsweredAlike first =
     (h : History) (later : List Step) (i j t : ℕ) (keys : Keys)
-    → i ≤ max_session → j ≤ max_session → t ≤ snap schema h i → t ≤ snap schema (later ++ h) j
-    → reply schema (later ++ h) (Select j (AsOf t) keys) ≡ reply schema h (Select i (AsOf t) keys)
+    → i ≤ max_session → j ≤ max_session → t ≤ snap first h i → t ≤ snap first (later ++ h) j
+    → schema_after first (later ++ h) ≡ schema_after first h
+    → reply first (later ++ h) (Select j (AsOf t) keys) ≡ reply first h (Select i (AsOf t) keys)
+
+-- a table stays at its number: later steps add columns behind its own, and change nothing else
+abbrev pub TablesOnlyGrow : Schema → Type 0
+TablesOnlyGrow first =
+    (h : History) (later : List Step) (number : ℕ) (table : Table)
+    → table_at (schema_after first h) number ≡ Some table
+    → (wider : Table)
+    × ((table_at (schema_after first (later ++ h)) number ≡ Some wider) × IsWidenedTo table wider)
+
+-- the listing with NULL in the columns that its rows lack of this table
+abbrev pub widened_listing : Table → Listing → Listing
+widened_listing wider (Rows rows) = Rows (map (full_row wider) rows)
+widened_listing wider (Periods shown) =
+    Periods (map (λ s. record { row = full_row wider s.row; from = s.from; to = s.to }) shown)
+
+-- of a table that has got columns since, a query as of an instant at or before both snapshots shows
+-- the rows that it showed, with NULL in these columns
+abbrev pub PastIsWidened : Schema → Type 0
+PastIsWidened first =
+    (h : History) (later : List Step) (i j t : ℕ) (table wider : Table) (keys : Keys)
+    → t ≤ snap first h i → t ≤ snap first (later ++ h) j → IsWidenedTo table wider
+    → listing first (later ++ h) j (AsOf t) wider keys
+    ≡ widened_listing wider (listing first h i (AsOf t) table keys)
+
+-- so what was once answered is always answered: with these rows, as wide as the table is then
+abbrev pub PastIsAnsweredWidened : Schema → Type 0
+PastIsAnsweredWidened first =
+    (h : History) (later : List Step) (i j t : ℕ) (keys : Keys) (shown : Listing)
+    → j ≤ max_session → t ≤ snap first h i → t ≤ snap first (later ++ h) j
+    → reply first h (Select i (AsOf t) keys) ≡ Shows shown
+    → (wider : Table)
+    × ((table_at (schema_after first (later ++ h)) keys.table ≡ Some wider)
+    × (reply first (later ++ h) (Select j (AsOf t) keys) ≡ Shows (widened_listing wider shown)))
 
 -- no key is in the net changes of two committed transactions of which each began before the
 -- other was committed
 abbrev pub FirstCommitterWins : Schema → Type 0
-FirstCommitterWins schema =
-    (h : History) → NoTwo (λ v w. AreConcurrent v w × ShareAKey v w) (winners schema h)
+FirstCommitterWins first =
+    (h : History) → NoTwo (λ v w. AreConcurrent v w × ShareAKey v w) (winners first h)
 
 -- the log is the committed transactions
 abbrev pub LogIsOfWinners : Schema → Type 0
-LogIsOfWinners schema =
-    (h : History) → log schema h ≡ map (λ w. w.transaction) (winners schema h)
+LogIsOfWinners first =
+    (h : History) → log first h ≡ map (λ w. w.transaction) (winners first h)
 
 -- open transactions of one snapshot and the same own writes: one session's after some steps, and
 -- one session's after others
-pub record SeeTheSame (schema : Schema) (h : History) (i : ℕ) (g : History) (j : ℕ) : Type 0 where
+pub record SeeTheSame (first : Schema) (h : History) (i : ℕ) (g : History) (j : ℕ) : Type 0 where
   pub snapshot : Log
-  pub first_opened : log_at_begin schema h i ≡ Some snapshot
-  pub second_opened : log_at_begin schema g j ≡ Some snapshot
-  pub own_same : own schema h i ≡ own schema g j
+  pub first_opened : log_at_begin first h i ≡ Some snapshot
+  pub second_opened : log_at_begin first g j ≡ Some snapshot
+  pub own_same : own first h i ≡ own first g j
+  pub same_tables : schema_after first h ≡ schema_after first g
 
 -- every query shows both the same, whatever was committed since
 abbrev pub ReadsBySnapshot : Schema → Type 0
-ReadsBySnapshot schema =
+ReadsBySnapshot first =
     (h g : History) (i j : ℕ) (form : Form) (table : Table) (keys : Keys)
-    → SeeTheSame schema h i g j
-    → listing schema h i form table keys ≡ listing schema g j form table keys
+    → SeeTheSame first h i g j
+    → listing first h i form table keys ≡ listing first g j form table keys
 
 -- and they get the same reply
 abbrev pub SelectsBySnapshot : Schema → Type 0
-SelectsBySnapshot schema =
+SelectsBySnapshot first =
     (h g : History) (i j : ℕ) (form : Form) (keys : Keys)
-    → SeeTheSame schema h i g j
-    → reply schema h (Select i form keys) ≡ reply schema g (Select j form keys)
+    → SeeTheSame first h i g j
+    → reply first h (Select i form keys) ≡ reply first g (Select j form keys)
 
 -- steps of maintenance, anywhere before or among other steps, change none of the others' replies
 abbrev pub MaintenanceChangesNoReply : Schema → Type 0
-MaintenanceChangesNoReply schema =
+MaintenanceChangesNoReply first =
     (h : History) (steps : List Step)
-    → replies schema h steps
-    ≡ with_maintenance schema steps
-    (replies schema (without_maintenance h) (without_maintenance steps))
+    → replies first h steps
+    ≡ with_maintenance first h steps
+    (replies first (without_maintenance h) (without_maintenance steps))
 
 -- nor what is committed
 abbrev pub MaintenanceCommitsNothing : Schema → Type 0
-MaintenanceCommitsNothing schema =
-    (h : History) → log schema h ≡ log schema (without_maintenance h)
+MaintenanceCommitsNothing first =
+    (h : History) → log first h ≡ log first (without_maintenance h)
 
 -- where memory runs out at no step, the replies that are due are those of the definitions
 abbrev pub AnsweredRepliesAreDue : Schema → Type 0
-AnsweredRepliesAreDue schema =
+AnsweredRepliesAreDue first =
     (h : History) (steps : List Step) (given : List Reply) → AllAnswered given
-    → due schema h steps given ≡ replies schema h steps
+    → due first h steps given ≡ replies first h steps

@@ -6,6 +6,7 @@ use Rattle.steps.specs.declared.step.Step.TheVariants.{SplitKey, SplitTime, Migr
 use Rattle.steps.specs.declared.step.Reply.{Reply}
 use Rattle.steps.specs.declared.step.Reply.TheVariants.{Done, Refused}
 use Rattle.steps.specs.Misfit.{misfit}
+use Rattle.histories.specs.History.{History, schema_after}
 
 abbrev pub is_maintenance : Step → Bool
 is_maintenance (SplitKey key) = true
@@ -25,11 +26,13 @@ maintenance_reply schema step = elim (misfit schema step) [
 ]
 
 -- the replies to the other steps in turn, with the replies to these in their places
-abbrev pub with_maintenance : Schema → List Step → List Reply → List Reply
-with_maintenance schema [] others = []
-with_maintenance schema (step ∷ steps) others =
-    if is_maintenance step then maintenance_reply schema step ∷ with_maintenance schema steps others
+abbrev pub with_maintenance : Schema → History → List Step → List Reply → List Reply
+with_maintenance first h [] others = []
+with_maintenance first h (step ∷ steps) others =
+    if is_maintenance step
+    then maintenance_reply (schema_after first h) step
+    ∷ with_maintenance first (step ∷ h) steps others
     else elim others [
       | [] ↦ []
-      | r ∷ others ↦ r ∷ with_maintenance schema steps others
+      | r ∷ others ↦ r ∷ with_maintenance first (step ∷ h) steps others
     ]

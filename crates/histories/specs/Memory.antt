@@ -4,7 +4,7 @@ use Rattle.values.specs.Tables.{Schema}
 use Rattle.steps.specs.declared.step.Step.{Step}
 use Rattle.steps.specs.Misfit.{misfit}
 use Rattle.steps.specs.Reply.{takes_no_memory_by}
-use Rattle.histories.specs.History.{History, log_at_begin}
+use Rattle.histories.specs.History.{History, schema_after, log_at_begin}
 use Rattle.histories.specs.World.{World}
 use Rattle.histories.specs.Stands.{is_open_at}
 
@@ -15,5 +15,6 @@ takes_no_memory w step =
 
 -- the same, by the history
 abbrev pub takes_no_memory_after : Schema → History → Step → Bool
-takes_no_memory_after schema h step =
-    is_some (misfit schema step) || takes_no_memory_by (λ i. is_some (log_at_begin schema h i)) step
+takes_no_memory_after first h step =
+    is_some (misfit (schema_after first h) step)
+    || takes_no_memory_by (λ i. is_some (log_at_begin first h i)) step

@@ -4,7 +4,7 @@ use Rattle.values.specs.Tables.{Schema}
 use Rattle.values.specs.Log.{Log, last, changes}
 use Rattle.steps.specs.declared.step.Step.{Step}
 use Rattle.steps.specs.Misfit.{max_session}
-use Rattle.histories.specs.History.{History, log, log_at_begin, own, mine_of, written_of}
+use Rattle.histories.specs.History.{History, schema_after, log, log_at_begin, own, mine_of, written_of}
 use Rattle.histories.specs.World.{OpenTransaction, World}
 
 -- by the log now, the log at its BEGIN, where one is open, and its writes so far
@@ -18,7 +18,8 @@ open_from schema now (Some before) own = Some (record {
 
 -- the session's open transaction, as the history has it
 abbrev pub open_in : Schema → History → ℕ → Option OpenTransaction
-open_in schema h i = open_from schema (log schema h) (log_at_begin schema h i) (own schema h i)
+open_in first h i =
+    open_from (schema_after first h) (log first h) (log_at_begin first h i) (own first h i)
 
 -- the session's open transaction, as the system has it
 abbrev pub open_at : World → ℕ → Option OpenTransaction
@@ -27,9 +28,11 @@ open_at w i = slice_index_or w.sessions i None
 abbrev pub is_open_at : World → ℕ → Bool
 is_open_at w i = is_some (open_at w i)
 
--- the system has what the history committed, and the history's open transactions
-pub record Stands (w : World) (h : History) : Type 0 where
+-- the system has the history's tables, what it committed, and its open transactions, from the first
+-- tables on
+pub record Stands (first : Schema) (w : World) (h : History) : Type 0 where
+  pub schema_is : w.schema ≡ schema_after first h
   pub wide : length w.sessions ≡ max_session + 1
-  pub changes_are : w.changes ≡ changes (log w.schema h)
-  pub latest_is : w.latest ≡ last (log w.schema h)
-  pub sessions_are : (i : ℕ) → i ≤ max_session → open_at w i ≡ open_in w.schema h i
+  pub changes_are : w.changes ≡ changes (log first h)
+  pub latest_is : w.latest ≡ last (log first h)
+  pub sessions_are : (i : ℕ) → i ≤ max_session → open_at w i ≡ open_in first h i

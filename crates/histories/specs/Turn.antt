@@ -7,27 +7,30 @@ use Rattle.values.specs.declared.query.Form.TheVariants.{Plain, AsOf, FromTo, Be
 use Rattle.values.specs.declared.query.Keys.{Keys}
 use Rattle.values.specs.declared.query.Shown.{Shown as Version}
 use Rattle.values.specs.declared.refusal.Refusal.{Refusal}
-use Rattle.values.specs.declared.refusal.Refusal.TheVariants.{NoTable, NoTransaction, InTransaction}
+use Rattle.values.specs.declared.refusal.Refusal.TheVariants.{NoTable, NoTransaction, InTransaction, TransactionsOpen}
 use Rattle.values.specs.Order.{is_key}
 use Rattle.values.specs.Log.{Changes, Net, Row, row_at, add_net, rows_after}
 use Rattle.values.specs.Law.{changes_upto}
 use Rattle.values.specs.Events.{later}
-use Rattle.values.specs.Tables.{table_at}
+use Rattle.values.specs.Tables.{Schema, table_at}
 use Rattle.values.specs.Versions.{answer}
 use Rattle.values.specs.Writes.{Own}
 use Rattle.values.specs.Commits.{outcome}
 use Rattle.steps.specs.declared.step.Step.{Step}
-use Rattle.steps.specs.declared.step.Step.TheVariants.{Begin, Insert, Update, Delete, Select, Commit, Rollback, SplitKey, SplitTime, Migrate}
+use Rattle.steps.specs.declared.step.Step.TheVariants.{Begin, Insert, Update, Delete, Select, Commit, Rollback, AddColumn, SplitKey, SplitTime, Migrate}
 use Rattle.steps.specs.declared.step.Listing.{Listing}
 use Rattle.steps.specs.declared.step.Listing.TheVariants.{Rows, Periods}
 use Rattle.steps.specs.declared.step.Reply.{Reply}
-use Rattle.steps.specs.declared.step.Reply.TheVariants.{Begun, Shown, Committed, RolledBack, Done, Refused}
+use Rattle.steps.specs.declared.step.Reply.TheVariants.{Begun, Shown, Committed, RolledBack, Altered, Done, Refused}
 use Rattle.steps.specs.Misfit.{misfit}
+use Rattle.values.specs.declared.table.ColumnType.{ColumnType}
+use Rattle.values.specs.Columns.{new_column, add_column}
+use Rattle.steps.specs.Idle.{is_idle}
 use Rattle.steps.specs.Write.{write}
 use Rattle.steps.specs.Reply.{written_reply}
 use Rattle.steps.specs.Listing.{rows_taken, rows_of}
 use Rattle.histories.specs.World.{OpenTransaction, World}
-use Rattle.histories.specs.Stands.{open_at}
+use Rattle.histories.specs.Stands.{open_at, is_open_at}
 
 -- a reply, and the system after it
 abbrev pub Turn : Type 0
@@ -141,6 +144,22 @@ commit_turn w i reading = elim (open_at w i) [
       end_turn w i net (outcome w.changes w.latest s.start net reading)
 ]
 
+-- ---- ALTER
+
+abbrev pub with_schema : Schema → World → World
+with_schema schema w = record {
+  schema = schema;
+  changes = w.changes;
+  latest = w.latest;
+  sessions = w.sessions;
+}
+
+abbrev pub alter_turn : World → ℕ → List ℕ → ColumnType → Turn
+alter_turn w number name of =
+    if is_idle (is_open_at w)
+    then (Altered, with_schema (add_column number (new_column name of) w.schema) w)
+    else (Refused TransactionsOpen, w)
+
 -- ---- every step
 
 -- a step that fits the schema
@@ -152,6 +171,7 @@ turn_in w (Delete i keys) = write_turn w i (Delete i keys)
 turn_in w (Select i form keys) = (select_reply w i form keys, w)
 turn_in w (Commit i reading) = commit_turn w i reading
 turn_in w (Rollback i) = rollback_turn w i
+turn_in w (AddColumn i number name of) = alter_turn w number name of
 turn_in w (SplitKey key) = (Done, w)
 turn_in w (SplitTime key instant) = (Done, w)
 turn_in w Migrate = (Done, w)

@@ -24,21 +24,21 @@ winners_with earlier start changed (Ok (Some instant)) =
     } ∷ []
 winners_with earlier start changed _ = earlier
 
--- how the transaction ends that a session has open
+-- how the transaction ends that a session has open, from the first tables on
 abbrev pub end_of : Schema → History → ℕ → Log → ℕ → Result (Option ℕ) Refusal
-end_of schema h i before reading =
-    outcome (changes (log schema h)) (last (log schema h)) (last before) (net schema h i) reading
+end_of first h i before reading =
+    outcome (changes (log first h)) (last (log first h)) (last before) (net first h i) reading
 
 -- the oldest first
 abbrev pub winners : Schema → History → List Winner
-winners schema [] = []
-winners schema (Commit i reading ∷ h) = elim (log_at_begin schema h i) [
-  | None ↦ winners schema h
+winners first [] = []
+winners first (Commit i reading ∷ h) = elim (log_at_begin first h i) [
+  | None ↦ winners first h
   | Some before ↦
-      winners_with (winners schema h) (last before) (net schema h i)
-      (end_of schema h i before reading)
+      winners_with (winners first h) (last before) (net first h i)
+      (end_of first h i before reading)
 ]
-winners schema (step ∷ h) = winners schema h
+winners first (step ∷ h) = winners first h
 
 -- each began before the other was committed
 abbrev pub AreConcurrent : Winner → Winner → Type 0

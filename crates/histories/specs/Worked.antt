@@ -1,21 +1,23 @@
 -- Worked examples, each a list of steps with its replies.
 use Rattle.std.specs.Prelude.{◌≡◌, ℕ, List, [], ◌∷◌, ◌++◌, Option, Some, None, codes, pos, map, reverse}
-use Rattle.values.specs.declared.value.Value.TheVariants.{Int, Text}
+use Rattle.values.specs.declared.value.Value.{Value}
+use Rattle.values.specs.declared.value.Value.TheVariants.{Int, Text, Null}
 use Rattle.values.specs.declared.query.Form.TheVariants.{Plain, AsOf, FromTo, Between}
 use Rattle.values.specs.declared.query.Operator.TheVariants.{Equal}
 use Rattle.values.specs.declared.query.Keys.{Keys}
 use Rattle.values.specs.declared.query.Set.{Set}
 use Rattle.values.specs.declared.query.Shown.{Shown}
-use Rattle.values.specs.declared.refusal.Refusal.TheVariants.{NoTable, BadRow, NoTransaction, InTransaction, DuplicateKey, Conflict, ClockEnd}
+use Rattle.values.specs.declared.refusal.Refusal.TheVariants.{NoTable, BadRow, NoSession, NoTransaction, InTransaction, DuplicateKey, Conflict, ClockEnd, TransactionsOpen}
+use Rattle.values.specs.declared.table.ColumnType.TheVariants.{Int as IsInt, Text as IsText, Varchar as IsVarchar}
 use Rattle.values.specs.Sample.{sample}
 use Rattle.values.specs.Log.{Row}
 use Rattle.values.specs.Commits.{max_instant}
 use Rattle.values.specs.declared.key.Key.{Key}
 use Rattle.steps.specs.declared.step.Step.{Step}
-use Rattle.steps.specs.declared.step.Step.TheVariants.{Begin, Insert, Update, Delete, Select, Commit, Rollback}
+use Rattle.steps.specs.declared.step.Step.TheVariants.{Begin, Insert, Update, Delete, Select, Commit, Rollback, AddColumn}
 use Rattle.steps.specs.declared.step.Listing.TheVariants.{Rows, Periods}
 use Rattle.steps.specs.declared.step.Reply.{Reply}
-use Rattle.steps.specs.declared.step.Reply.TheVariants.{Begun, Inserted, Updated, Deleted, Shown as Shows, Committed, RolledBack, Refused}
+use Rattle.steps.specs.declared.step.Reply.TheVariants.{Begun, Inserted, Updated, Deleted, Shown as Shows, Committed, RolledBack, Altered, Refused}
 use Rattle.histories.specs.History.{replies}
 use Rattle.histories.specs.Winners.{Winner, winners}
 
@@ -194,3 +196,55 @@ RefusalsInOrder =
     ∷ Begun 0 ∷ Refused InTransaction
     ∷ Refused (DuplicateKey (number_key 1))
     ∷ rows [] ∷ [])
+
+abbrev pub full : ℕ → List ℕ → Value → Row
+full n name dept = Int (pos n) ∷ Text name ∷ dept ∷ []
+
+-- a table gets a column while no session has a transaction open: rows that were stored before are
+-- read with NULL in it, at every instant
+abbrev pub added : List Step
+added =
+    first ++ Begin 1 ∷ AddColumn 2 1 (codes "dept") IsText ∷ Rollback 1
+    ∷ AddColumn 2 1 (codes "dept") IsText ∷ Select 1 (AsOf 100) all
+    ∷ Begin 1 ∷ Select 1 Plain all
+    ∷ Update 1 all (record { column = 3; value = Text (codes "x") } ∷ []) ∷ Commit 1 200
+    ∷ Select 1 (FromTo 100 300) all
+    ∷ Insert 1 1 (emp 2 (codes "Bo") ∷ []) ∷ []
+
+abbrev pub added_replies : List Reply
+added_replies =
+    first_replies ++ Begun 100 ∷ Refused TransactionsOpen ∷ RolledBack
+    ∷ Altered ∷ rows (full 1 (codes "Ann") Null ∷ [])
+    ∷ Begun 100 ∷ rows (full 1 (codes "Ann") Null ∷ [])
+    ∷ Updated 1 ∷ Committed (Some 200)
+    ∷ periods (version (full 1 (codes "Ann") Null) 100 (Some 200)
+    ∷ version (full 1 (codes "Ann") (Text (codes "x"))) 200 None ∷ [])
+    ∷ Refused (BadRow 0) ∷ []
+
+abbrev pub ColumnAdded : Type 0
+ColumnAdded = Answers added added_replies
+
+-- a row that is written with what it has is a new version, of the table's width then
+abbrev pub WrittenWide : Type 0
+WrittenWide =
+    Answers (first ++ AddColumn 1 1 (codes "dept") IsInt
+    ∷ Begin 1 ∷ Update 1 all (record { column = 3; value = Null } ∷ []) ∷ Commit 1 0
+    ∷ Select 1 (FromTo 100 300) all ∷ [])
+    (first_replies ++ Altered
+    ∷ Begun 100 ∷ Updated 1 ∷ Committed (Some 101)
+    ∷ periods (version (full 1 (codes "Ann") Null) 100 (Some 101)
+    ∷ version (full 1 (codes "Ann") Null) 101 None ∷ []) ∷ [])
+
+-- why a column cannot be added: the session, the table, the name or the type, an open transaction
+abbrev pub AdditionsRefused : Type 0
+AdditionsRefused =
+    Answers (Begin 3 ∷ AddColumn 65 2 (codes "no") IsInt ∷ AddColumn 1 2 (codes "no") IsInt
+    ∷ AddColumn 1 1 (codes "NO") IsInt ∷ AddColumn 1 1 (codes "Sys_End") IsInt
+    ∷ AddColumn 1 1 (codes "d") (IsVarchar 0) ∷ AddColumn 1 1 (codes "d") (IsVarchar 1001)
+    ∷ AddColumn 1 1 (codes "d") (IsVarchar 1) ∷ AddColumn 3 1 (codes "d") (IsVarchar 1) ∷ Rollback 3
+    ∷ AddColumn 3 1 (codes "d") (IsVarchar 1) ∷ AddColumn 3 1 (codes "D") (IsVarchar 1) ∷ [])
+    (Begun 0 ∷ Refused NoSession ∷ Refused NoTable
+    ∷ Refused (BadRow 0) ∷ Refused (BadRow 0)
+    ∷ Refused (BadRow 0) ∷ Refused (BadRow 0)
+    ∷ Refused TransactionsOpen ∷ Refused TransactionsOpen ∷ RolledBack
+    ∷ Altered ∷ Refused (BadRow 0) ∷ [])

@@ -1,18 +1,18 @@
 //! What every history of steps comes to.
 ghost use Rattle.values.specs.Tables.{Schema};
-ghost use Rattle.histories.specs.Law.{OpensAtItsBegin, LogsRise, LaterStepsAdd, PastStays, PastIsReadAlike, PastIsAnsweredAlike, FirstCommitterWins, LogIsOfWinners, ReadsBySnapshot, SelectsBySnapshot, MaintenanceChangesNoReply, MaintenanceCommitsNothing, AnsweredRepliesAreDue};
-ghost use Rattle.histories.specs.Worked.{ClosedStart, OpenEnd, DegeneratePeriods, ClockRunsBack, FirstCommitter, WriteSkew, ConcurrentWinners, NetChange, NoChangeNoConflict, OwnWrites, LargestInstant, RefusalsInOrder};
+ghost use Rattle.histories.specs.Law.{OpensAtItsBegin, LogsRise, LaterStepsAdd, PastStays, PastIsReadAlike, PastIsAnsweredAlike, TablesOnlyGrow, PastIsWidened, PastIsAnsweredWidened, FirstCommitterWins, LogIsOfWinners, ReadsBySnapshot, SelectsBySnapshot, MaintenanceChangesNoReply, MaintenanceCommitsNothing, AnsweredRepliesAreDue};
+ghost use Rattle.histories.specs.Worked.{ClosedStart, OpenEnd, DegeneratePeriods, ClockRunsBack, FirstCommitter, WriteSkew, ConcurrentWinners, NetChange, NoChangeNoConflict, OwnWrites, LargestInstant, RefusalsInOrder, ColumnAdded, WrittenWide, AdditionsRefused};
 
 /// States that a session's open transaction began at the log of the steps before its first BEGIN
 /// after its last end.
 pub fn opens_at_its_begin()
-    ensures { (schema : Schema) → OpensAtItsBegin schema }
+    ensures { (first : Schema) → OpensAtItsBegin first }
 {}
 
 /// States that what was committed stays: later steps only add transactions, at later instants.
 pub fn log_only_grows()
-    ensures rises { (schema : Schema) → LogsRise schema }
-    ensures adds { (schema : Schema) → LaterStepsAdd schema }
+    ensures rises { (first : Schema) → LogsRise first }
+    ensures adds { (first : Schema) → LaterStepsAdd first }
 {}
 
 /// States that what a query as of an instant showed it always shows, once a transaction was
@@ -20,38 +20,47 @@ pub fn log_only_grows()
 /// snapshot is of that instant or after it; with no transaction open a session's snapshot is the
 /// last instant.
 pub fn past_stays()
-    ensures stays { (schema : Schema) → PastStays schema }
-    ensures listings { (schema : Schema) → PastIsReadAlike schema }
-    ensures replies { (schema : Schema) → PastIsAnsweredAlike schema }
+    ensures stays { (first : Schema) → PastStays first }
+    ensures listings { (first : Schema) → PastIsReadAlike first }
+    ensures replies { (first : Schema) → PastIsAnsweredAlike first }
+{}
+
+/// States that columns which a table gets later change nothing else of the past: a query as of an
+/// instant shows the rows that it showed before, with NULL in the new columns, and a SELECT that
+/// was answered is answered so.
+pub fn past_is_widened()
+    ensures tables { (first : Schema) → TablesOnlyGrow first }
+    ensures listings { (first : Schema) → PastIsWidened first }
+    ensures replies { (first : Schema) → PastIsAnsweredWidened first }
 {}
 
 /// States that the first committer wins (Berenson et al. 1995, section 4.2): of two committed
 /// transactions, each begun before the other was committed, no key is in both net changes.
 pub fn concurrent_commits_share_no_key()
-    ensures apart { (schema : Schema) → FirstCommitterWins schema }
-    ensures whole { (schema : Schema) → LogIsOfWinners schema }
+    ensures apart { (first : Schema) → FirstCommitterWins first }
+    ensures whole { (first : Schema) → LogIsOfWinners first }
 {}
 
 /// States that reads are of a snapshot (Berenson et al. 1995, section 4.2): what SELECT answers
 /// inside a transaction, in each form, depends on what was committed when it began and on its own
 /// writes, and on nothing else.
 pub fn reads_depend_on_snapshot_and_own_writes()
-    ensures listings { (schema : Schema) → ReadsBySnapshot schema }
-    ensures replies { (schema : Schema) → SelectsBySnapshot schema }
+    ensures listings { (first : Schema) → ReadsBySnapshot first }
+    ensures replies { (first : Schema) → SelectsBySnapshot first }
 {}
 
 /// States that splits and migrations, anywhere before or among other steps, change no reply to
 /// another step and nothing of what is committed: the replies are those to the list without them,
 /// with `Done` or the misfit's refusal in their places.
 pub fn maintenance_changes_no_other_reply()
-    ensures replies { (schema : Schema) → MaintenanceChangesNoReply schema }
-    ensures log { (schema : Schema) → MaintenanceCommitsNothing schema }
+    ensures replies { (first : Schema) → MaintenanceChangesNoReply first }
+    ensures log { (first : Schema) → MaintenanceCommitsNothing first }
 {}
 
 /// States that where memory ran out at no step, the replies that are due are those of the
 /// definitions.
 pub fn answered_replies_are_due()
-    ensures { (schema : Schema) → AnsweredRepliesAreDue schema }
+    ensures { (first : Schema) → AnsweredRepliesAreDue first }
 {}
 
 /// Checks the worked examples, by computation.
@@ -68,4 +77,7 @@ pub fn worked_examples_hold()
     ensures own_writes { OwnWrites }
     ensures largest_instant { LargestInstant }
     ensures refusals_in_order { RefusalsInOrder }
+    ensures column_added { ColumnAdded }
+    ensures written_wide { WrittenWide }
+    ensures additions_refused { AdditionsRefused }
 {}

@@ -6,7 +6,7 @@ mod turn_law;
 
 pub use law::{
     answered_replies_are_due, concurrent_commits_share_no_key, log_only_grows,
-    maintenance_changes_no_other_reply, opens_at_its_begin, past_stays,
+    maintenance_changes_no_other_reply, opens_at_its_begin, past_is_widened, past_stays,
     reads_depend_on_snapshot_and_own_writes, worked_examples_hold,
 };
 pub use turn_law::{memory_is_taken_alike, turns_give_the_replies};

@@ -1,3 +1,5 @@
+mod AlterIdle
+mod AlterKeeps
 mod StepEnded
 pub mod SystemEnded
 pub mod SystemKeeps

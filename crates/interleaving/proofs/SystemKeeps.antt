@@ -89,9 +89,10 @@ new_system schema engine sessions is none =
       each_open = All-replicate (IsOpen schema engine) 65 None tt;
     })
 
-pub new_stands : (schema : Schema) (engine : TreeState) (sessions : List (Option OpenTransactionState)) → IsEmpty engine → sessions ≡ replicate {A = Option OpenTransactionState} 65 None → WorldStands (world_of schema engine sessions) []
+pub new_stands : (schema : Schema) (engine : TreeState) (sessions : List (Option OpenTransactionState)) → IsEmpty engine → sessions ≡ replicate {A = Option OpenTransactionState} 65 None → WorldStands schema (world_of schema engine sessions) []
 new_stands schema engine sessions is none =
-    subst (λ ss. WorldStands (world_of schema engine ss) []) (sym none) (record {
+    subst (λ ss. WorldStands schema (world_of schema engine ss) []) (sym none) (record {
+      schema_is = refl;
       wide = length-map (replicate {A = Option OpenTransactionState} 65 None) (option_map (open_of schema)) ∙ length-replicate {A = Option OpenTransactionState} 65 None;
       changes_are = ap (changes_in schema) is.no_event;
       latest_is = is.no_commit;

@@ -2,10 +2,11 @@
 use Rattle.std.proofs.Common.{◌≡◌, List, ◌≢◌, true, false, None, ◌∷◌, refl, sym, ap, subst}
 use Rattle.values.specs.declared.refusal.Refusal.{Refusal}
 use Rattle.values.specs.declared.refusal.Refusal.TheVariants.{Memory}
+use Rattle.values.specs.Tables.{Schema}
 use Rattle.steps.specs.declared.step.Step.{Step}
-use Rattle.steps.specs.declared.step.Step.TheVariants.{Begin, Insert, Update, Delete, Select, Commit, Rollback, SplitKey, SplitTime, Migrate}
+use Rattle.steps.specs.declared.step.Step.TheVariants.{Begin, Insert, Update, Delete, Select, Commit, Rollback, AddColumn, SplitKey, SplitTime, Migrate}
 use Rattle.steps.specs.declared.step.Reply.{Reply}
-use Rattle.steps.specs.declared.step.Reply.TheVariants.{Refused}
+use Rattle.steps.specs.declared.step.Reply.TheVariants.{Altered, Refused}
 use Rattle.steps.specs.Misfit.{misfit}
 use Rattle.histories.specs.History.{History, reply}
 use Rattle.histories.specs.World.{World}
@@ -31,8 +32,8 @@ out_is r h = cc
 pub out_leaves : (r : Reply) → is_out_of_memory r ≡ true → leaves_all r ≡ true
 out_leaves r h = ap leaves_all (out_is r h)
 
-pub out_stands : (w now : World) (r : Reply) → (leaves_all r ≡ true → now ≡ w) → (h : History) → Stands w h → r ≡ Refused Memory → Stands now h
-out_stands w now r same h stands is = subst (λ (w : World). Stands w h) (sym (same (ap leaves_all is))) stands
+pub out_stands : (w now : World) (r : Reply) → (leaves_all r ≡ true → now ≡ w) → (first : Schema) (h : History) → Stands first w h → r ≡ Refused Memory → Stands first now h
+out_stands w now r same first h stands is = subst (λ (w : World). Stands first w h) (sym (same (ap leaves_all is))) stands
 
 -- a tree that is the same keeps its history
 pub same_keeps : (old new : TreeState) → new ≡ old → KeepsHistory old.nodes new.nodes
@@ -50,6 +51,7 @@ same_leaves (Delete i keys) e = keeps_same e.nodes
 same_leaves (Select i form keys) e = keeps_same e.nodes
 same_leaves (Commit i reading) e = keeps_same e.nodes
 same_leaves (Rollback i) e = keeps_same e.nodes
+same_leaves (AddColumn i number name of) e = keeps_same e.nodes
 same_leaves (SplitKey key) e = keeps_same e.nodes
 same_leaves (SplitTime key instant) e = keeps_same e.nodes
 
@@ -61,8 +63,8 @@ module _ (w now : World) (step : Step) (answer : Reply) (fits : None ≡ misfit 
   by_out : {P : Type 0} → (is_out_of_memory answer ≡ true → P) → (is_out_of_memory answer ≡ false → P) → P
   by_out {P} f g = elim (is_out_of_memory answer) as (λ b. is_out_of_memory answer ≡ b → P) [ true ↦ f | false ↦ g ] refl
 
-  pub answers : (h : History) → Stands w h → answer ≢ Refused Memory → (answer ≡ reply w.schema h step) × Stands now (step ∷ h)
-  answers h stands other = by_out (λ out. absurd (other (out_is answer out))) (λ told. (turned told).answers h stands)
+  pub answers : (first : Schema) (h : History) → Stands first w h → answer ≢ Refused Memory → (answer ≡ reply first h step) × Stands first now (step ∷ h)
+  answers first h stands other = by_out (λ out. absurd (other (out_is answer out))) (λ told. (turned told).answers first h stands)
 
-  pub same_schema : now.schema ≡ w.schema
-  same_schema = by_out (λ out. ap (λ (w : World). w.schema) (undone out)) (λ told. (turned told).same_schema)
+  pub same_schema : answer ≢ Altered → now.schema ≡ w.schema
+  same_schema other = by_out (λ out. ap (λ (w : World). w.schema) (undone out)) (λ told. (turned told).same_schema other)

@@ -1,3 +1,4 @@
+pub mod AlterStep
 pub mod MigrateStep
 pub mod StepLeaves
 pub mod SystemState

@@ -61,9 +61,9 @@ world_of schema engine sessions = record {
 abbrev pub world : SystemState → World
 world s = world_of s.schema s.engine s.sessions
 
--- it has what the history committed, and the history's open transactions
-abbrev pub Stands : SystemState → History → Type 0
-Stands s h = WorldStands (world s) h
+-- from the first tables on, it has the history's tables, what it committed, and its open transactions
+abbrev pub Stands : Schema → SystemState → History → Type 0
+Stands first s h = WorldStands first (world s) h
 
 -- an open transaction sees what was committed until its start, and wrote keys of the schema
 pub record IsOpenIn (schema : Schema) (engine : TreeState) (t : OpenTransactionState) : Type 0 where

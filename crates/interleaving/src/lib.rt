@@ -1,6 +1,7 @@
 //! The store as one machine that takes steps.
 #![tactic(auto)]
 
+mod alter;
 mod begin;
 mod commit;
 mod migrate;

@@ -47,7 +47,7 @@ impl System {
     /// Makes a store in which nothing was committed: its tree is one node without events. `Memory`
     /// where it runs out.
     pub fn new(alloc: Global, schema: Schema) -> Mem<System>
-        ensures empty { IfOk result (λ s. Stands s []) }
+        ensures empty { IfOk result (λ s. Stands schema s []) }
         ensures schema { IfOk result (λ s. s.schema ≡ schema) }
         ensures memory { OnlyMemory result }
     {
@@ -87,7 +87,7 @@ impl System {
         self.engine.tree().current().shape(self.alloc)
     }
 
-    /// Returns the tables.
+    /// Returns the tables, with the columns that were added.
     pub fn schema(&self) -> &Schema
         ensures { result.now ≡ self.now.schema }
     {

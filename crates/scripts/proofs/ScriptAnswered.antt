@@ -24,7 +24,7 @@ use Rattle.statement.specs.Memory.{UnlessMemory}
 use Rattle.statement.specs.Writer.{Prints, AppendsPrefix}
 use Rattle.statement.specs.Print.{reply_text, refusal_text}
 use Rattle.lines.specs.Partial.{Partial}
-use Rattle.scripts.specs.Transcript.{Progress, read_at, answered, left_by, reading_takes, can_run_out, is_risky, line_reply, line_leaves}
+use Rattle.scripts.specs.Transcript.{Progress, read_at, said, answered, left_by, reading_takes, can_run_out, is_risky, line_reply, line_leaves}
 use Rattle.scripts.specs.declared.script.Script.{Script}
 use Rattle.scripts.specs.Script.{said_by, IsRead, IsAt, SameRun, Answered, Broken}
 
@@ -59,25 +59,25 @@ unless BadPeriod due other e = e
 unless TransactionsOpen due other e = e
 
 -- what was read at a run's place
-pub said_is : (s : Script) (schema : Schema) (p : Progress) → IsAt s schema p → said_by s ≡ read_at (line_says schema) p.reading s.line
-said_is s schema p at = λ i. read_at (line_says (at.schema_is i)) (at.reading_is i) s.line
+pub said_is : (s : Script) (schema : Schema) (p : Progress) → IsAt s schema p → said_by s ≡ said schema line_says p s.line
+said_is s schema p at = λ i. read_at line_says (at.stands.schema_is i) (at.reading_is i) s.line
 
 -- ---- a line at which memory ran out
 
-out_reply : (schema : Schema) (p : Progress) (line : Partial) → is_risky schema (line_says schema) p line ≡ true → refusal_text Memory ≡ line_reply schema (line_says schema) true p line
-out_reply schema p line risky = ap (λ b. if b then refusal_text Memory else answered schema p (read_at (line_says schema) p.reading line)) (sym risky)
+out_reply : (schema : Schema) (p : Progress) (line : Partial) → is_risky schema line_says p line ≡ true → refusal_text Memory ≡ line_reply schema line_says true p line
+out_reply schema p line risky = ap (λ b. if b then refusal_text Memory else answered schema p (said schema line_says p line)) (sym risky)
 
-out_leaves : (schema : Schema) (p : Progress) (line : Partial) → is_risky schema (line_says schema) p line ≡ true → p ≡ line_leaves schema (line_says schema) true p line
-out_leaves schema p line risky = ap (λ b. if b then p else left_by schema p (read_at (line_says schema) p.reading line)) (sym risky)
+out_leaves : (schema : Schema) (p : Progress) (line : Partial) → is_risky schema line_says p line ≡ true → p ≡ line_leaves schema line_says true p line
+out_leaves schema p line risky = ap (λ b. if b then p else left_by schema p (said schema line_says p line)) (sym risky)
 
-out_answered : (a b : Option (List ℕ)) (s' : Script) (schema : Schema) (p : Progress) (line : Partial) → is_risky schema (line_says schema) p line ≡ true → Appends a b (refusal_text Memory) → IsAt s' schema p → Answered a b s' schema p line
+out_answered : (a b : Option (List ℕ)) (s' : Script) (schema : Schema) (p : Progress) (line : Partial) → is_risky schema line_says p line ≡ true → Appends a b (refusal_text Memory) → IsAt s' schema p → Answered a b s' schema p line
 out_answered a b s' schema p line risky wrote at = record {
   mark = true;
   wrote = subst (Appends a b) (out_reply schema p line risky) wrote;
   left = subst (IsAt s' schema) (out_leaves schema p line risky) at;
 }
 
-out_broken : (a b : Option (List ℕ)) (schema : Schema) (p : Progress) (line : Partial) → is_risky schema (line_says schema) p line ≡ true → AppendsPrefix a b (refusal_text Memory) → Broken a b schema p line
+out_broken : (a b : Option (List ℕ)) (schema : Schema) (p : Progress) (line : Partial) → is_risky schema line_says p line ≡ true → AppendsPrefix a b (refusal_text Memory) → Broken a b schema p line
 out_broken a b schema p line risky wrote = record { mark = true; wrote = subst (AppendsPrefix a b) (out_reply schema p line risky) wrote }
 
 or_left : (x y : Bool) → x ≡ true → (x || y) ≡ true
@@ -89,12 +89,12 @@ or_right true y e = refl
 or_right false y e = e
 
 -- memory ran out while the line was read
-read_risky : (s : Script) (schema : Schema) (p : Progress) → IsAt s schema p → IsRead (Err Memory) s → is_risky schema (line_says schema) p s.line ≡ true
+read_risky : (s : Script) (schema : Schema) (p : Progress) → IsAt s schema p → IsRead (Err Memory) s → is_risky schema line_says p s.line ≡ true
 read_risky s schema p at is = or_left _ _ (is.memory refl)
 
 -- ---- a line that was answered
 
-pub answered_as : (a b : Option (List ℕ)) (s' : Script) (schema : Schema) (p : Progress) (line : Partial) (r : Result Line Refusal) → read_at (line_says schema) p.reading line ≡ r
+pub answered_as : (a b : Option (List ℕ)) (s' : Script) (schema : Schema) (p : Progress) (line : Partial) (r : Result Line Refusal) → said schema line_says p line ≡ r
     → Appends a b (answered schema p r) → IsAt s' schema (left_by schema p r) → Answered a b s' schema p line
 answered_as a b s' schema p line r e wrote left = record {
   mark = false;
@@ -102,26 +102,25 @@ answered_as a b s' schema p line r e wrote left = record {
   left = subst (λ x. IsAt s' schema (left_by schema p x)) (sym e) left;
 }
 
-pub broken_as : (a b : Option (List ℕ)) (schema : Schema) (p : Progress) (line : Partial) (r : Result Line Refusal) → read_at (line_says schema) p.reading line ≡ r → AppendsPrefix a b (answered schema p r) → Broken a b schema p line
+pub broken_as : (a b : Option (List ℕ)) (schema : Schema) (p : Progress) (line : Partial) (r : Result Line Refusal) → said schema line_says p line ≡ r → AppendsPrefix a b (answered schema p r) → Broken a b schema p line
 broken_as a b schema p line r e wrote = record { mark = false; wrote = subst (λ x. AppendsPrefix a b (answered schema p x)) (sym e) wrote }
 
 -- ---- a step
 
 -- what a step answered and left
 pub record Stepped (s s' : Script) (step : Step) (r : Reply) : Type 0 where
-  pub answers : (h : History) → Stands s.system h → r ≢ Refused Memory → (r ≡ reply s.system.schema h step) × Stands s'.system (step ∷ h)
+  pub answers : (schema : Schema) (h : History) → Stands schema s.system h → r ≢ Refused Memory → (r ≡ reply schema h step) × Stands schema s'.system (step ∷ h)
   pub refused : leaves_all r ≡ true → s'.system ≡ s.system
   pub no_memory : takes_no_memory (world s.system) step ≡ true → is_out_of_memory r ≡ false
-  pub schema_stays : s'.system.schema ≡ s.system.schema
   pub reading_stays : s'.reading ≡ s.reading
 
 -- the step takes memory where it ran out
-step_risky : (s s' : Script) (schema : Schema) (p : Progress) (step : Step) (r : Reply) → Stepped s s' step r → IsAt s schema p → said_by s ≡ Ok (Asks step) → is_out_of_memory r ≡ true → is_risky schema (line_says schema) p s.line ≡ true
+step_risky : (s s' : Script) (schema : Schema) (p : Progress) (step : Step) (r : Reply) → Stepped s s' step r → IsAt s schema p → said_by s ≡ Ok (Asks step) → is_out_of_memory r ≡ true → is_risky schema line_says p s.line ≡ true
 step_risky s s' schema p step r so at e out =
     ap (can_run_out schema p s.line) (sym (said_is s schema p at) ∙ e) ∙ or_right (reading_takes s.line) _ (ap not (sym alike ∙ taken (takes_no_memory (world s.system) step) refl))
   where
     alike : takes_no_memory (world s.system) step ≡ takes_no_memory_after schema p.history step
-    alike = memory_is_taken_alike (world s.system) p.history step at.stands ∙ ap (λ x. takes_no_memory_after x p.history step) at.schema_is
+    alike = memory_is_taken_alike schema (world s.system) p.history step at.stands
 
     taken : (b : Bool) → takes_no_memory (world s.system) step ≡ b → b ≡ false
     taken true is = cc (sym (so.no_memory is) ∙ out)
@@ -135,12 +134,12 @@ step_answered a b s s' schema p step r so at e wrote = by (is_out_of_memory r) r
     by true is =
         let out = is_out_so r is in
         out_answered a b s' schema p s.line (step_risky s s' schema p step r so at e is) (subst (λ r. Appends a b (reply_text r)) out wrote)
-        (record { schema_is = so.schema_stays ∙ at.schema_is; stands = subst (λ x. Stands x p.history) (sym (so.refused (ap leaves_all out))) at.stands; reading_is = so.reading_stays ∙ at.reading_is })
+        (record { stands = subst (λ x. Stands schema x p.history) (sym (so.refused (ap leaves_all out))) at.stands; reading_is = so.reading_stays ∙ at.reading_is })
     by false is =
-        let did = so.answers p.history at.stands (not_out r is) in
+        let did = so.answers schema p.history at.stands (not_out r is) in
         answered_as a b s' schema p s.line (Ok (Asks step)) (sym (said_is s schema p at) ∙ e)
-        (subst (λ r. Appends a b (reply_text r)) (did.0 ∙ ap (λ x. reply x p.history step) at.schema_is) wrote)
-        (record { schema_is = so.schema_stays ∙ at.schema_is; stands = did.1; reading_is = so.reading_stays ∙ at.reading_is })
+        (subst (λ r. Appends a b (reply_text r)) did.0 wrote)
+        (record { stands = did.1; reading_is = so.reading_stays ∙ at.reading_is })
 
 pub step_broken : (a b : Option (List ℕ)) (s s' : Script) (schema : Schema) (p : Progress) (step : Step) (r : Reply) → Stepped s s' step r → IsAt s schema p → said_by s ≡ Ok (Asks step)
     → AppendsPrefix a b (reply_text r) → Broken a b schema p s.line
@@ -150,7 +149,7 @@ step_broken a b s s' schema p step r so at e wrote = by (is_out_of_memory r) ref
     by true is = out_broken a b schema p s.line (step_risky s s' schema p step r so at e is) (subst (λ r. AppendsPrefix a b (reply_text r)) (is_out_so r is) wrote)
     by false is =
         broken_as a b schema p s.line (Ok (Asks step)) (sym (said_is s schema p at) ∙ e)
-        (subst (λ r. AppendsPrefix a b (reply_text r)) ((so.answers p.history at.stands (not_out r is)).0 ∙ ap (λ x. reply x p.history step) at.schema_is) wrote)
+        (subst (λ r. AppendsPrefix a b (reply_text r)) (so.answers schema p.history at.stands (not_out r is)).0 wrote)
 
 -- ---- a refusal
 
@@ -178,8 +177,7 @@ refused_answered a b s schema p refusal at is wrote = by (is_memory refusal) ref
 
 pub at_same : (s s' : Script) (schema : Schema) (p : Progress) → SameRun s s' → IsAt s schema p → IsAt s' schema p
 at_same s s' schema p same at = record {
-  schema_is = ap (λ w. w.schema) same.system ∙ at.schema_is;
-  stands = subst (λ w. Stands w p.history) (sym same.system) at.stands;
+  stands = subst (λ w. Stands schema w p.history) (sym same.system) at.stands;
   reading_is = same.reading ∙ at.reading_is;
 }
 
@@ -192,5 +190,5 @@ flushed_answered a b c s schema p line did kept = record { mark = did.mark; wrot
 pub flushed_broken : (a b c : Option (List ℕ)) (s : Script) (schema : Schema) (p : Progress) (line : Partial) → Answered a b s schema p line → Keeps b c → Broken a c schema p line
 flushed_broken a b c s schema p line did kept = record {
   mark = did.mark;
-  wrote = record { out = line_reply schema (line_says schema) did.mark p line; left = []; wrote = Appends-kept a b c _ did.wrote kept; front = sym (append-nil _) };
+  wrote = record { out = line_reply schema line_says did.mark p line; left = []; wrote = Appends-kept a b c _ did.wrote kept; front = sym (append-nil _) };
 }

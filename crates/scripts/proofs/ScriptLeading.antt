@@ -18,13 +18,12 @@ use Rattle.scripts.specs.declared.script.Script.{Script}
 
 -- a system after some of the steps, of which this rest is left
 pub record Leading (s s' : SystemState) (steps rest : List Step) : Type 0 where
-  pub schema_is : s'.schema ≡ s.schema
-  pub so_far : (h : History) → Stands s h
-      → (g : History) × Stands s' g × (led h steps ≡ led g rest) × (first_refusal s.schema h steps ≡ first_refusal s.schema g rest)
+  pub so_far : (schema : Schema) (h : History) → Stands schema s h
+      → (g : History) × Stands schema s' g × (led h steps ≡ led g rest) × (first_refusal schema h steps ≡ first_refusal schema g rest)
 
 -- what a step answers, where memory suffices
 abbrev pub Answers : SystemState → SystemState → Step → Reply → Type 0
-Answers s s' step r = (h : History) → Stands s h → r ≢ Refused Memory → (r ≡ reply s.schema h step) × Stands s' (step ∷ h)
+Answers s s' step r = (schema : Schema) (h : History) → Stands schema s h → r ≢ Refused Memory → (r ≡ reply schema h step) × Stands schema s' (step ∷ h)
 
 no_memory : (r : Reply) → refusal_in r ≡ None → r ≢ Refused Memory
 no_memory r none is = cc (sym none ∙ ap refusal_in is)
@@ -32,41 +31,34 @@ no_memory r none is = cc (sym none ∙ ap refusal_in is)
 passes : (schema : Schema) (g : History) (step : Step) (more : List Step) (o : Option Refusal) → refusal_in (reply schema g step) ≡ o → o ≡ None → first_refusal schema g (step ∷ more) ≡ first_refusal schema (step ∷ g) more
 passes schema g step more o is none = ap (λ r. elim r [ Some refusal ↦ Some refusal | None ↦ first_refusal schema (step ∷ g) more ]) (is ∙ none)
 
-pub leading_more : (s m s' : SystemState) (steps rest more : List Step) (step : Step) (r : Reply) → rest ≡ step ∷ more → Leading s m steps rest → Answers m s' step r → s'.schema ≡ m.schema → refusal_in r ≡ None
+pub leading_more : (s m s' : SystemState) (steps rest more : List Step) (step : Step) (r : Reply) → rest ≡ step ∷ more → Leading s m steps rest → Answers m s' step r → refusal_in r ≡ None
     → Leading s s' steps more
-leading_more s m s' steps rest more step r is so answers same none = record {
-  schema_is = same ∙ so.schema_is;
-  so_far = λ h at.
-      let (g, at_g, led_g, refusal_g) = so.so_far h at in
-      let (due, at_next) = answers g at_g (no_memory r none) in (
+leading_more s m s' steps rest more step r is so answers none = record {
+  so_far = λ schema h at.
+      let (g, at_g, led_g, refusal_g) = so.so_far schema h at in
+      let (due, at_next) = answers schema g at_g (no_memory r none) in (
         step ∷ g,
         at_next,
         led_g ∙ ap (led g) is,
-        refusal_g ∙ ap (first_refusal s.schema g) is
-            ∙ passes s.schema g step more None (ap (λ x. refusal_in (reply x g step)) (sym so.schema_is) ∙ ap refusal_in (sym due) ∙ none) refl,
+        refusal_g ∙ ap (first_refusal schema g) is
+            ∙ passes schema g step more None (ap refusal_in (sym due) ∙ none) refl,
       );
 }
 
 -- ---- before a script
 
-pub run_at : (s : Script) (system : SystemState) (h : History) → s.system ≡ system → s.reading ≡ 0 → Stands system h → IsAt s system.schema (after h)
-run_at s system h same nought at = record {
-  schema_is = ap (λ (w : SystemState). w.schema) same;
-  stands = subst (λ w. Stands w h) (sym same) at;
+pub run_at : (s : Script) (system : SystemState) (schema : Schema) (h : History) → s.system ≡ system → s.reading ≡ 0 → Stands schema system h → IsAt s schema (after h)
+run_at s system schema h same nought at = record {
+  stands = subst (λ w. Stands schema w h) (sym same) at;
   reading_is = nought;
 }
 
 -- ---- a run over the system that took them
 
-pub at_schema : {S E : Type 0} (r : Result S E) (P : Schema → History → S → Type 0) (s : SystemState) (schema : Schema) (h : History) → s.schema ≡ schema → Stands s h
-    → IfOk r (λ x. (h : History) → Stands s h → P s.schema h x) → IfOk r (λ x. P schema h x)
-at_schema (Ok x) P s schema h is at f = subst (λ y. P y h x) is (f h at)
-at_schema (Err e) P s schema h is at f = tt
-
-pub same_schema : {S E : Type 0} (r : Result S E) (of : S → Schema) (s : SystemState) (schema : Schema) (h : History) → s.schema ≡ schema → Stands s h
-    → IfOk r (λ x. (h : History) → Stands s h → of x ≡ s.schema) → IfOk r (λ x. of x ≡ schema)
-same_schema (Ok x) of s schema h is at f = f h at ∙ is
-same_schema (Err e) of s schema h is at f = tt
+pub at_first : {S E : Type 0} (r : Result S E) (P : Schema → History → S → Type 0) (s : SystemState) (schema : Schema) (h : History) → Stands schema s h
+    → IfOk r (λ x. (schema : Schema) (h : History) → Stands schema s h → P schema h x) → IfOk r (λ x. P schema h x)
+at_first (Ok x) P s schema h at f = f schema h at
+at_first (Err e) P s schema h at f = tt
 
 pub never_first : {S : Type 0} (r : Result S RunFault) (x : Refusal) → IfErr r (λ fault. is_first fault ≡ false) → r ≡ Err (First x) → ⊥
 never_first (Ok s) x i e = cc

@@ -54,8 +54,9 @@ is_first fault = false
 
 -- the steps were taken, and none was refused
 abbrev pub LeadsTo : SystemState → SystemState → List Step → Type 0
-LeadsTo s s' steps = (h : History) → Stands s h
-    → (first_refusal s.schema h steps ≡ None) × Stands s' (led h steps)
+LeadsTo s s' steps = (schema : Schema) (h : History) → Stands schema s h
+    → (first_refusal schema h steps ≡ None) × Stands schema s' (led h steps)
 
 abbrev pub RefusesFirst : SystemState → List Step → Refusal → Type 0
-RefusesFirst s steps refusal = (h : History) → Stands s h → IsRefusedAfter s.schema h steps refusal
+RefusesFirst s steps refusal =
+    (schema : Schema) (h : History) → Stands schema s h → IsRefusedAfter schema h steps refusal

@@ -16,17 +16,16 @@ use Rattle.scripts.specs.declared.script.Script.{Script}
 
 -- what the line says
 abbrev pub said_by : Script → Result Line Refusal
-said_by s = read_at (line_says s.system.schema) s.reading s.line
+said_by s = read_at line_says s.system.schema s.reading s.line
 
 -- this was read of the line: memory may have run out where reading it takes some
 pub record IsRead (r : Result Line Refusal) (s : Script) : Type 0 where
   pub unless : UnlessMemory r (said_by s)
   pub memory : r ≡ Err Memory → reading_takes s.line ≡ true
 
--- a run that has a schema's tables is as far as this
+-- a run that began with a schema's tables is as far as this
 pub record IsAt (s : Script) (schema : Schema) (p : Progress) : Type 0 where
-  pub schema_is : s.system.schema ≡ schema
-  pub stands : Stands s.system p.history
+  pub stands : Stands schema s.system p.history
   pub reading_is : s.reading ≡ p.reading
 
 -- a run that differs in its line alone
@@ -39,14 +38,14 @@ pub record Answered
     (old new : Option (List ℕ)) (s : Script) (schema : Schema) (p : Progress) (line : Partial)
     : Type 0 where
   pub mark : Bool
-  pub wrote : Appends old new (line_reply schema (line_says schema) mark p line)
-  pub left : IsAt s schema (line_leaves schema (line_says schema) mark p line)
+  pub wrote : Appends old new (line_reply schema line_says mark p line)
+  pub left : IsAt s schema (line_leaves schema line_says mark p line)
 
 -- the writer failed in the reply to a line
 pub record Broken
     (old new : Option (List ℕ)) (schema : Schema) (p : Progress) (line : Partial) : Type 0 where
   pub mark : Bool
-  pub wrote : AppendsPrefix old new (line_reply schema (line_says schema) mark p line)
+  pub wrote : AppendsPrefix old new (line_reply schema line_says mark p line)
 
 -- some bytes of the script were taken and answered
 pub record Fed
@@ -54,19 +53,19 @@ pub record Fed
     : Type 0 where
   pub later : Progress
   pub left : IsAt s' schema later
-  pub fed : Feeds schema (line_says schema) old new p s.line later s'.line bytes
+  pub fed : Feeds schema line_says old new p s.line later s'.line bytes
 
 -- what was due after the last byte was written, and the run is at the end of its script
 pub record Finished
     (old new : Option (List ℕ)) (s s' : Script) (schema : Schema) (p : Progress) : Type 0 where
   pub mark : Bool
-  pub wrote : Appends old new (last_reply schema (line_says schema) mark p s.line)
-  pub left : IsAt s' schema (last_leaves schema (line_says schema) mark p s.line)
+  pub wrote : Appends old new (last_reply schema line_says mark p s.line)
+  pub left : IsAt s' schema (last_leaves schema line_says mark p s.line)
 
 pub record Unfinished
     (old new : Option (List ℕ)) (s : Script) (schema : Schema) (p : Progress) : Type 0 where
   pub mark : Bool
-  pub wrote : AppendsPrefix old new (last_reply schema (line_says schema) mark p s.line)
+  pub wrote : AppendsPrefix old new (last_reply schema line_says mark p s.line)
 
 -- nothing was read or written
 pub record IsIdle (unread left old new : Option (List ℕ)) : Type 0 where
@@ -94,7 +93,7 @@ TakesBytes old new s s' bytes =
 abbrev pub BreaksBytes : (old new : Option (List ℕ)) → Script → List ℕ → Type 0
 BreaksBytes old new s bytes =
     (schema : Schema) (p : Progress) → IsAt s schema p
-    → Breaks schema (line_says schema) old new p s.line bytes
+    → Breaks schema line_says old new p s.line bytes
 
 -- the script ended
 abbrev pub EndsScript : (old new : Option (List ℕ)) → Script → Script → Type 0

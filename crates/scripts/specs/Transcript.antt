@@ -4,7 +4,7 @@ use Rattle.std.specs.Io.KnownBytes.{Appends, Consumes, IsAtEnd}
 use Rattle.values.specs.Tables.{Schema}
 use Rattle.values.specs.declared.refusal.Refusal.{Refusal}
 use Rattle.values.specs.declared.refusal.Refusal.TheVariants.{Memory, LineTooLong}
-use Rattle.histories.specs.History.{History, reply}
+use Rattle.histories.specs.History.{History, schema_after, reply}
 use Rattle.histories.specs.Memory.{takes_no_memory_after}
 use Rattle.interleaving.specs.SystemState.{SystemState, Stands}
 use Rattle.statement.specs.declared.line.Line.{Line}
@@ -28,14 +28,15 @@ pub record Progress : Type 0 where
 abbrev pub after : History → Progress
 after first = record { history = first; reading = 0 }
 
--- how a line is read at a reading of the clock
+-- how a line is read by some tables and at a reading of the clock
 abbrev pub Reading : Type 0
-Reading = ℕ → List ℕ → Result Line Refusal
+Reading = Schema → ℕ → List ℕ → Result Line Refusal
 
-abbrev pub read_at : Reading → ℕ → Partial → Result Line Refusal
-read_at read reading None = Err LineTooLong
-read_at read reading (Some bytes) = read reading bytes
+abbrev pub read_at : Reading → Schema → ℕ → Partial → Result Line Refusal
+read_at read schema reading None = Err LineTooLong
+read_at read schema reading (Some bytes) = read schema reading bytes
 
+-- by the first tables
 module _ (schema : Schema) where
   -- the reply to what was read: a blank line and a comment have none
   abbrev pub answered : Progress → Result Line Refusal → List ℕ
@@ -60,21 +61,25 @@ module _ (schema : Schema) where
   can_run_out p bytes said = reading_takes bytes || asks_memory p said
 
 module _ (schema : Schema) (read : Reading) where
+  -- what a line says after the steps so far: by the tables as they are then
+  abbrev pub said : Progress → Partial → Result Line Refusal
+  said p bytes = read_at read (schema_after schema p.history) p.reading bytes
+
   -- the line is one at which memory can run out
   abbrev pub is_risky : Progress → Partial → Bool
-  is_risky p bytes = can_run_out schema p bytes (read_at read p.reading bytes)
+  is_risky p bytes = can_run_out schema p bytes (said p bytes)
 
   -- the reply to a line, where its mark says whether memory ran out: no other line heeds its mark
   abbrev pub line_reply : Bool → Progress → Partial → List ℕ
   line_reply m p bytes =
       if m && is_risky p bytes then refusal_text Memory
-      else answered schema p (read_at read p.reading bytes)
+      else answered schema p (said p bytes)
 
   -- a line at which memory ran out is no step
   abbrev pub line_leaves : Bool → Progress → Partial → Progress
   line_leaves m p bytes =
       if m && is_risky p bytes then p
-      else left_by schema p (read_at read p.reading bytes)
+      else left_by schema p (said p bytes)
 
 abbrev pub mark : List Bool → Bool
 mark [] = false
@@ -147,7 +152,7 @@ module _ (schema : Schema) (read : Reading) (first : History) where
   -- the same, and a system stands for what the text leaves
   pub record IsRunAfter (s : SystemState) (unread left old new : Option (List ℕ)) : Type 0 where
     pub ran : IsTranscriptAfter unread left old new
-    pub stands : Stands s (leaves_after ran.marks ran.text).history
+    pub stands : Stands schema s (leaves_after ran.marks ran.text).history
 
   -- some bytes were read, and just the replies to their lines that ended were written
   pub record IsCutAfter (unread left old new : Option (List ℕ)) : Type 0 where

@@ -231,7 +231,6 @@ fn refusal_in(reply: Reply) -> Option<Refusal>
 fn take_all(system: &mut System, first: Vec<Step>) -> Result<(), Refusal>
     ensures all { OnOk result (LeadsTo system.old system.new first.items) }
     ensures some { IfErr result (λ refusal. RefusesFirst system.old first.items refusal) }
-    ensures schema { system.new.schema ≡ system.old.schema }
 {
     for step in first {
         let reply = system.step(step);
@@ -247,8 +246,7 @@ fn take_all(system: &mut System, first: Vec<Step>) -> Result<(), Refusal>
 ///
 /// `First` if one was refused, or memory ran out at it; otherwise `Memory`.
 pub fn lead(alloc: Global, schema: Schema, first: Vec<Step>) -> Result<System, RunFault>
-    ensures stands { IfOk result (λ s. Stands s (history_of first.items)) }
-    ensures schema { IfOk result (λ s. s.schema ≡ schema) }
+    ensures stands { IfOk result (λ s. Stands schema s (history_of first.items)) }
     ensures taken { OnOk result (first_refusal schema [] first.items ≡ None) }
     ensures err { IfErr result (λ fault. IsUnled schema first.items fault) }
 {
@@ -269,18 +267,18 @@ pub fn run_script_in<I: Read, W: Write>(
     reader: &mut I,
     writer: &mut W,
 ) -> Result<System, RunFault>
-    ensures done { IfOk result (λ s. (h : History) → Stands system h
-        → IsRunAfter system.schema (line_says system.schema) h s
+    ensures done { IfOk result (λ s. (first : Schema) (h : History) → Stands first system h
+        → IsRunAfter first line_says h s
         (I.remaining reader.old) (I.remaining reader.new)
         (W.contents writer.old) (W.contents writer.new)) }
-    ensures schema { IfOk result (λ s. (h : History) → Stands system h
-        → s.schema ≡ system.schema) }
-    ensures read { result ≡ Err RunFault.Read → (h : History) → Stands system h
-        → IsCutAfter system.schema (line_says system.schema) h
+    ensures read { result ≡ Err RunFault.Read
+        → (first : Schema) (h : History) → Stands first system h
+        → IsCutAfter first line_says h
         (I.remaining reader.old) (I.remaining reader.new)
         (W.contents writer.old) (W.contents writer.new) }
-    ensures write { result ≡ Err RunFault.Write → (h : History) → Stands system h
-        → IsStoppedAfter system.schema (line_says system.schema) h
+    ensures write { result ≡ Err RunFault.Write
+        → (first : Schema) (h : History) → Stands first system h
+        → IsStoppedAfter first line_says h
         (I.remaining reader.old) (I.remaining reader.new)
         (W.contents writer.old) (W.contents writer.new) }
     ensures memory { result ≡ Err RunFault.Memory → IsIdle
@@ -323,17 +321,16 @@ pub fn run_script_after<I: Read, W: Write>(
     schema: Schema,
 ) -> Result<System, RunFault>
     ensures done { IfOk result (λ system.
-        IsRunAfter schema (line_says schema) (history_of first.items) system
+        IsRunAfter schema line_says (history_of first.items) system
         (I.remaining reader.old) (I.remaining reader.new)
         (W.contents writer.old) (W.contents writer.new)) }
     ensures taken { OnOk result (first_refusal schema [] first.items ≡ None) }
-    ensures schema { IfOk result (λ system. system.schema ≡ schema) }
     ensures read { result ≡ Err RunFault.Read
-        → IsCutAfter schema (line_says schema) (history_of first.items)
+        → IsCutAfter schema line_says (history_of first.items)
         (I.remaining reader.old) (I.remaining reader.new)
         (W.contents writer.old) (W.contents writer.new) }
     ensures write { result ≡ Err RunFault.Write
-        → IsStoppedAfter schema (line_says schema) (history_of first.items)
+        → IsStoppedAfter schema line_says (history_of first.items)
         (I.remaining reader.old) (I.remaining reader.new)
         (W.contents writer.old) (W.contents writer.new) }
     ensures memory { result ≡ Err RunFault.Memory → IsIdle
@@ -363,14 +360,13 @@ pub fn run_script<I: Read, W: Write>(
     writer: &mut W,
     schema: Schema,
 ) -> Result<System, RunFault>
-    ensures done { IfOk result (λ system. IsRun schema (line_says schema) system
+    ensures done { IfOk result (λ system. IsRun schema line_says system
         (I.remaining reader.old) (I.remaining reader.new)
         (W.contents writer.old) (W.contents writer.new)) }
-    ensures schema { IfOk result (λ system. system.schema ≡ schema) }
-    ensures read { result ≡ Err RunFault.Read → IsCut schema (line_says schema)
+    ensures read { result ≡ Err RunFault.Read → IsCut schema line_says
         (I.remaining reader.old) (I.remaining reader.new)
         (W.contents writer.old) (W.contents writer.new) }
-    ensures write { result ≡ Err RunFault.Write → IsStopped schema (line_says schema)
+    ensures write { result ≡ Err RunFault.Write → IsStopped schema line_says
         (I.remaining reader.old) (I.remaining reader.new)
         (W.contents writer.old) (W.contents writer.new) }
     ensures memory { result ≡ Err RunFault.Memory → IsIdle

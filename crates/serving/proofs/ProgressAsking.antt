@@ -5,7 +5,7 @@ use Rattle.std.specs.Option.{is_none, is_some}
 use Rattle.values.specs.declared.refusal.Refusal.{Refusal}
 use Rattle.values.specs.Tables.{Schema}
 use Rattle.steps.specs.declared.step.Step.{Step}
-use Rattle.steps.specs.declared.step.Step.TheVariants.{Begin, Insert, Update, Delete, Select, Commit, Rollback, SplitKey, SplitTime, Migrate}
+use Rattle.steps.specs.declared.step.Step.TheVariants.{Begin, Insert, Update, Delete, Select, Commit, Rollback, AddColumn, SplitKey, SplitTime, Migrate}
 use Rattle.steps.specs.Misfit.{misfit}
 use Rattle.sessions.specs.SessionState.{SessionTransactionState, SessionState}
 use Rattle.serving.specs.declared.answer.Sent.TheVariants.{Refused as Refuses}
@@ -48,6 +48,7 @@ asks_run schema i (Delete j keys) b e = cc
 asks_run schema i (Select j form keys) b e = ap (λ x. x || is_none (misfit schema (Select i form keys))) e
 asks_run schema i (Commit j reading) b e = e
 asks_run schema i (Rollback j) b e = e
+asks_run schema i (AddColumn j number name of) b e = e
 asks_run schema i (SplitKey key) b e = e
 asks_run schema i (SplitTime key instant) b e = e
 asks_run schema i Migrate b e = e

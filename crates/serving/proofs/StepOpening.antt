@@ -1,12 +1,12 @@
 -- Steps that begin, end or read a transaction.
-use Rattle.std.proofs.Common.{◌≡◌, ◌≢◌, ◌⊎◌, ℕ, [], ◌∷◌, Bool, true, false, not, Option, Some, None, Result, Ok, Err, inl, inr, refl, sym, ap, ◌∙◌, subst}
+use Rattle.std.proofs.Common.{◌≡◌, ◌≢◌, ◌⊎◌, ℕ, List, [], ◌∷◌, Bool, true, false, not, Option, Some, None, Result, Ok, Err, inl, inr, refl, sym, ap, ◌∙◌, subst}
 use Rattle.std.specs.Prelude.{◌==◌, ◌||◌, IsOk, MatchOption}
 use Rattle.std.specs.Option.{is_none, is_some, option_map, unwrap_or}
 use Rattle.values.specs.declared.query.Form.{Form}
 use Rattle.values.specs.declared.query.Form.TheVariants.{Plain, AsOf, FromTo, Between}
 use Rattle.values.specs.declared.query.Keys.{Keys}
 use Rattle.values.specs.declared.refusal.Refusal.{Refusal}
-use Rattle.values.specs.declared.refusal.Refusal.TheVariants.{NoTransaction, NoTable, Memory}
+use Rattle.values.specs.declared.refusal.Refusal.TheVariants.{NoTransaction, NoTable, TransactionsOpen, Memory}
 use Rattle.values.specs.declared.table.Table.{Table}
 use Rattle.values.specs.Tables.{Schema, table_at}
 use Rattle.values.specs.Log.{Changes, Net, rows_after}
@@ -15,7 +15,8 @@ use Rattle.tsbtree.specs.View.{last}
 use Rattle.staging.specs.Own.{own}
 use Rattle.transaction.specs.Listing.{listing_in}
 use Rattle.steps.specs.declared.step.Listing.{Listing}
-use Rattle.steps.specs.declared.step.Step.TheVariants.{Begin, Select, Commit, Rollback}
+use Rattle.values.specs.declared.table.ColumnType.{ColumnType}
+use Rattle.steps.specs.declared.step.Step.TheVariants.{Begin, Select, Commit, Rollback, AddColumn}
 use Rattle.steps.specs.declared.step.Reply.{Reply}
 use Rattle.steps.specs.declared.step.Reply.TheVariants.{Begun, Shown, RolledBack, Refused}
 use Rattle.steps.specs.Misfit.{misfit}
@@ -166,6 +167,17 @@ rolled_ok (Some t) x r e which = refl
 pub rolled_err : (t : Option SessionTransactionState) (refusal : Refusal) (r : Result (Unit {0}) Refusal) → r ≡ Err refusal → MatchOption t (r ≡ Err NoTransaction) (λ _. IsOk r) → Refused refusal ≡ rolled t
 rolled_err None refusal r e which = cc
 rolled_err (Some t) refusal r e which = cc
+
+-- ---- a column is refused
+
+pub column_refused : (may_give : ℕ → Bool) (s : SessionState) (j number : ℕ) (name : List ℕ) (of : ColumnType)
+    → IsStepped may_give (AddColumn j number name of) s s (record { given = None; install = None; sent = Says (Refused TransactionsOpen) })
+column_refused may_give s j number name of = record {
+  schema_is = refl;
+  number_is = refl;
+  alone = λ e. refl;
+  steps = λ p at. (p, (at, record { takes = refl; reply_is = refl; left = refl }));
+}
 
 -- ---- queries
 

@@ -7,7 +7,7 @@ use Rattle.values.specs.declared.query.Form.{Form}
 use Rattle.values.specs.declared.query.Form.TheVariants.{Plain, AsOf, FromTo, Between}
 use Rattle.values.specs.declared.query.Keys.{Keys}
 use Rattle.values.specs.declared.refusal.Refusal.{Refusal}
-use Rattle.values.specs.declared.refusal.Refusal.TheVariants.{NoTable, NoTransaction, InTransaction, JournalFull, Memory}
+use Rattle.values.specs.declared.refusal.Refusal.TheVariants.{NoTable, NoTransaction, TransactionsOpen, InTransaction, JournalFull, Memory}
 use Rattle.values.specs.Tables.{Schema, table_at}
 use Rattle.values.specs.KeyEncoding.{bytes_of_key}
 use Rattle.values.specs.Log.{Changes, rows_after}
@@ -25,7 +25,7 @@ use Rattle.validation.specs.declared.cut.Cut.TheVariants.{Key as KeyCut, Time as
 use Rattle.steps.specs.declared.step.Listing.{Listing}
 use Rattle.steps.specs.declared.step.Listing.TheVariants.{Rows}
 use Rattle.steps.specs.declared.step.Step.{Step}
-use Rattle.steps.specs.declared.step.Step.TheVariants.{Begin, Insert, Update, Delete, Select, Commit, Rollback, SplitKey, SplitTime, Migrate}
+use Rattle.steps.specs.declared.step.Step.TheVariants.{Begin, Insert, Update, Delete, Select, Commit, Rollback, AddColumn, SplitKey, SplitTime, Migrate}
 use Rattle.steps.specs.declared.step.Reply.{Reply}
 use Rattle.steps.specs.declared.step.Reply.TheVariants.{Begun, Shown, RolledBack, Done, Refused}
 use Rattle.steps.specs.Misfit.{misfit, key_misfit}
@@ -278,6 +278,9 @@ module _ (may_give : ℕ → Bool) (schema : Schema) (i : ℕ) where
   Takes (Rollback j) p given reply p' = MatchOption p.transaction
       (Replies (Refused NoTransaction) p given reply p')
       (λ t. Replies RolledBack (after p.receipt None) given reply p')
+  -- no line of a session asks for it: a served store keeps its tables
+  Takes (AddColumn j number name of) p given reply p' =
+      Replies (Refused TransactionsOpen) p given reply p'
   Takes (SplitKey key) p given reply p' =
       takes_split schema i key (KeyCut (bytes_of_key key)) p given reply p'
   Takes (SplitTime key instant) p given reply p' =

@@ -18,7 +18,7 @@ use growlog::StoreName;
 use sessions::{Gate, LockedStore, Session};
 use std::alloc::Global;
 use std::sync::Wait;
-use steps::{Step, key_misfit};
+use steps::{Reply, Step, key_misfit};
 use values::{Refusal, Write};
 
 /// Takes a step. Where it asks the store, room for its receipts is made first, and where memory
@@ -61,13 +61,15 @@ fn asks_store(session: &Session, step: &Step) -> bool
         Step::Select(_, _, _) => session.start().is_none(),
         Step::Commit(_, _) => session.start().is_some(),
         Step::Rollback(_) => false,
+        Step::AddColumn(_, _, _, _) => false,
         Step::SplitKey(key) => key_misfit(session.schema(), key).is_none(),
         Step::SplitTime(key, _) => key_misfit(session.schema(), key).is_none(),
         Step::Migrate => true,
     }
 }
 
-/// Takes a step, which is the session's whatever number it has.
+/// Takes a step, which is the session's whatever number it has. A served store keeps its tables: no
+/// line of a session asks for a column, and the step is refused as other transactions may be open.
 fn take_step<J: StoreName, R: Wait, C: Readings>(
     rt: &R,
     alloc: Global,
@@ -87,6 +89,7 @@ fn take_step<J: StoreName, R: Wait, C: Readings>(
         Step::Select(_, form, keys) => take_query(rt, store, session, *form, keys),
         Step::Commit(_, _) => take_commit(rt, store, session, readings),
         Step::Rollback(_) => take_rollback(session),
+        Step::AddColumn(_, _, _, _) => { Answer::reply(Reply::Refused(Refusal::TransactionsOpen)) }
         Step::SplitKey(key) => take_key_split(rt, alloc, store, session, key),
         Step::SplitTime(key, instant) => take_time_split(rt, alloc, store, session, key, *instant),
         Step::Migrate => take_migrate(rt, alloc, store, session),

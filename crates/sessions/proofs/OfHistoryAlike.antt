@@ -8,11 +8,11 @@ use Rattle.values.specs.Tables.{Schema}
 use Rattle.values.specs.Log.{Log, upto, changes}
 use Rattle.values.specs.Writes.{Own}
 use Rattle.steps.specs.declared.step.Step.{Step}
-use Rattle.steps.specs.declared.step.Step.TheVariants.{Begin, Insert, Update, Delete, Select, Commit, Rollback, SplitKey, SplitTime, Migrate}
+use Rattle.steps.specs.declared.step.Step.TheVariants.{Begin, Insert, Update, Delete, Select, Commit, Rollback, AddColumn, SplitKey, SplitTime, Migrate}
 use Rattle.steps.specs.declared.step.Reply.{Reply}
 use Rattle.steps.specs.declared.step.Reply.TheVariants.{Refused}
 use Rattle.steps.specs.Misfit.{misfit}
-use Rattle.histories.specs.History.{History, ends, begins, log, log_at_begin, own, own_of, reply, reply_in, rewrite_all, seen_of, snap, snap_of}
+use Rattle.histories.specs.History.{History, schema_after, ends, begins, log, log_at_begin, own, own_of, reply, reply_in, rewrite_all, seen_of, snap, snap_of}
 use Rattle.steps.specs.Write.{is_write_of, write, writer}
 use Rattle.steps.specs.Reply.{is_refused, write_reply, written_reply}
 use Rattle.histories.proofs.StandsEnds.{itself}
@@ -22,14 +22,15 @@ use Rattle.sessions.specs.OfHistory.{own_at, WritesAnswerAlike, WritesLeaveAlike
 
 -- ---- a step that writes for a session
 
-record IsWriteStep (schema : Schema) (h : History) (step : Step) (i : ℕ) : Type 0 where
+record IsWriteStep (first : Schema) (h : History) (step : Step) (i : ℕ) : Type 0 where
+  same_tables : schema_after first (step ∷ h) ≡ schema_after first h
   no_end : ends i step ≡ false
   no_begin : begins i step ≡ false
   its_own : is_write_of i step ≡ true
-  same_log : log schema (step ∷ h) ≡ log schema h
+  same_log : log first (step ∷ h) ≡ log first h
   counts : (count : ℕ) → is_refused (written_reply step (Ok count)) ≡ false
   refuses : (refusal : Refusal) → written_reply step (Err refusal) ≡ Refused refusal
-  replied : reply_in schema h step ≡ elim (log_at_begin schema h i) [ None ↦ Refused NoTransaction | Some before ↦ write_reply schema step (own_of schema (log schema h) (log_at_begin schema h i) (own schema h i)) ]
+  replied : reply_in first h step ≡ elim (log_at_begin first h i) [ None ↦ Refused NoTransaction | Some before ↦ write_reply (schema_after first h) step (own_of (schema_after first h) (log first h) (log_at_begin first h i) (own first h i)) ]
 
 same_writer : (i j : ℕ) → ◌≡◌ {A = Option ℕ} (Some j) (Some i) → j ≡ i
 same_writer i j e = cc
@@ -38,43 +39,47 @@ own_write : (i j : ℕ) → j ≡ i → (i == j) ≡ true
 own_write i j e = ap (λ n. i == n) e ∙ itself i
 
 abbrev when_open : Schema → History → Step → ℕ → Reply
-when_open schema h step j = elim (log_at_begin schema h j) [ None ↦ Refused NoTransaction | Some before ↦ write_reply schema step (own_of schema (log schema h) (log_at_begin schema h j) (own schema h j)) ]
+when_open first h step j = elim (log_at_begin first h j) [ None ↦ Refused NoTransaction | Some before ↦ write_reply (schema_after first h) step (own_of (schema_after first h) (log first h) (log_at_begin first h j) (own first h j)) ]
 
-of_writer : (schema : Schema) (h : History) (step : Step) (i : ℕ) → writer step ≡ Some i → IsWriteStep schema h step i
-of_writer schema h (Insert j number rows) i e = record {
+of_writer : (first : Schema) (h : History) (step : Step) (i : ℕ) → writer step ≡ Some i → IsWriteStep first h step i
+of_writer first h (Insert j number rows) i e = record {
+  same_tables = refl;
   no_end = refl;
   no_begin = refl;
   its_own = own_write i j (same_writer i j e);
   same_log = refl;
   counts = λ count. refl;
   refuses = λ refusal. refl;
-  replied = ap (when_open schema h (Insert j number rows)) (same_writer i j e);
+  replied = ap (when_open first h (Insert j number rows)) (same_writer i j e);
 }
-of_writer schema h (Update j keys sets) i e = record {
+of_writer first h (Update j keys sets) i e = record {
+  same_tables = refl;
   no_end = refl;
   no_begin = refl;
   its_own = own_write i j (same_writer i j e);
   same_log = refl;
   counts = λ count. refl;
   refuses = λ refusal. refl;
-  replied = ap (when_open schema h (Update j keys sets)) (same_writer i j e);
+  replied = ap (when_open first h (Update j keys sets)) (same_writer i j e);
 }
-of_writer schema h (Delete j keys) i e = record {
+of_writer first h (Delete j keys) i e = record {
+  same_tables = refl;
   no_end = refl;
   no_begin = refl;
   its_own = own_write i j (same_writer i j e);
   same_log = refl;
   counts = λ count. refl;
   refuses = λ refusal. refl;
-  replied = ap (when_open schema h (Delete j keys)) (same_writer i j e);
+  replied = ap (when_open first h (Delete j keys)) (same_writer i j e);
 }
-of_writer schema h (Begin j) i e = cc
-of_writer schema h (Select j form keys) i e = cc
-of_writer schema h (Commit j reading) i e = cc
-of_writer schema h (Rollback j) i e = cc
-of_writer schema h (SplitKey key) i e = cc
-of_writer schema h (SplitTime key instant) i e = cc
-of_writer schema h Migrate i e = cc
+of_writer first h (Begin j) i e = cc
+of_writer first h (Select j form keys) i e = cc
+of_writer first h (Commit j reading) i e = cc
+of_writer first h (Rollback j) i e = cc
+of_writer first h (AddColumn j number name of) i e = cc
+of_writer first h (SplitKey key) i e = cc
+of_writer first h (SplitTime key instant) i e = cc
+of_writer first h Migrate i e = cc
 
 -- ---- its answer
 
@@ -98,9 +103,13 @@ rewrite_more : (schema : Schema) (writes : List Step) (step : Step) (o : Own) �
 rewrite_more schema [] step o = refl
 rewrite_more schema (s ∷ writes) step o = rewrite_more schema writes step (write schema s o).1
 
-module _ (schema : Schema) (h : History) (step : Step) (i : ℕ) (is : IsWriteStep schema h step i) where
+module _ (first : Schema) (h : History) (step : Step) (i : ℕ) (is : IsWriteStep first h step i) where
+  -- the tables, before the step and after it
+  abbrev schema : Schema
+  schema = schema_after first h
+
   abbrev at : Option Log → List Step → Own
-  at lab writes = own_of schema (log schema h) lab writes
+  at lab writes = own_of schema (log first h) lab writes
 
   -- its own writes, as far as one is open
   abbrev opened : Option Log → List Step → Option Own
@@ -111,12 +120,12 @@ module _ (schema : Schema) (h : History) (step : Step) (i : ℕ) (is : IsWriteSt
   answer_by None None writes = is.refuses NoTransaction
   answer_by None (Some before) writes = refl
 
-  answers : written_reply step (write_by schema step (misfit schema step) (own_at schema h i)).0 ≡ reply schema h step
+  answers : written_reply step (write_by schema step (misfit schema step) (own_at first h i)).0 ≡ reply first h step
   answers =
-      answer_by (misfit schema step) (log_at_begin schema h i) (own schema h i)
-      ∙ ap (λ r. unfit_or (misfit schema step) (reply_when (log_at_begin schema h i) r)) (unfit_is (misfit schema step) (written_reply step (write schema step (at (log_at_begin schema h i) (own schema h i))).0))
-      ∙ ap (unfit_or (misfit schema step)) (when_is (log_at_begin schema h i) (write_reply schema step (at (log_at_begin schema h i) (own schema h i))) ∙ sym is.replied)
-      ∙ unfit_is (misfit schema step) (reply_in schema h step)
+      answer_by (misfit schema step) (log_at_begin first h i) (own first h i)
+      ∙ ap (λ r. unfit_or (misfit schema step) (reply_when (log_at_begin first h i) r)) (unfit_is (misfit schema step) (written_reply step (write schema step (at (log_at_begin first h i) (own first h i))).0))
+      ∙ ap (unfit_or (misfit schema step)) (when_is (log_at_begin first h i) (write_reply schema step (at (log_at_begin first h i) (own first h i))) ∙ sym is.replied)
+      ∙ unfit_is (misfit schema step) (reply_in first h step)
 
   -- ---- what it leaves
 
@@ -129,7 +138,7 @@ module _ (schema : Schema) (h : History) (step : Step) (i : ℕ) (is : IsWriteSt
   left : (before : Log) (writes : List Step) (r : Result ℕ Refusal) → (write schema step (at (Some before) writes)).0 ≡ r
       → (write schema step (at (Some before) writes)).1 ≡ at (Some before) (more (Some before) writes (is_refused (written_reply step (write schema step (at (Some before) writes)).0)))
   left before writes (Ok count) e =
-      sym (rewrite_more schema writes step (record { rows = seen_of (log schema h) (Some before); written = [] }))
+      sym (rewrite_more schema writes step (record { rows = seen_of (log first h) (Some before); written = [] }))
       ∙ (λ k. at (Some before) (more (Some before) writes (sym (ap (λ r. is_refused (written_reply step r)) e ∙ is.counts count) k)))
   left before writes (Err refusal) e =
       (write_is schema step (at (Some before) writes)).leaves (ap is_err e)
@@ -141,32 +150,33 @@ module _ (schema : Schema) (h : History) (step : Step) (i : ℕ) (is : IsWriteSt
   leave_by None None writes = refl
   leave_by None (Some before) writes = ap (λ (o : Own). Some o) (left before writes (write schema step (at (Some before) writes)).0 refl)
 
-  same_begin : log_at_begin schema (step ∷ h) i ≡ log_at_begin schema h i
-  same_begin = λ k. if is.no_end k then None else if is.no_begin k && is_none (log_at_begin schema h i) then Some (log schema h) else log_at_begin schema h i
+  same_begin : log_at_begin first (step ∷ h) i ≡ log_at_begin first h i
+  same_begin = λ k. if is.no_end k then None else if is.no_begin k && is_none (log_at_begin first h i) then Some (log first h) else log_at_begin first h i
 
-  own_more : own schema (step ∷ h) i ≡ more (log_at_begin schema h i) (own schema h i) (refused_by (misfit schema step) (log_at_begin schema h i) (own schema h i))
+  own_more : own first (step ∷ h) i ≡ more (log_at_begin first h i) (own first h i) (refused_by (misfit schema step) (log_at_begin first h i) (own first h i))
   own_more =
-      (λ k. if is.no_end k then [] else if is.its_own k && is_some (log_at_begin schema h i) && not (is_refused (write_reply schema step (at (log_at_begin schema h i) (own schema h i)))) then own schema h i ++ step ∷ [] else own schema h i)
-      ∙ ap (λ r. more (log_at_begin schema h i) (own schema h i) (is_refused r)) (sym (unfit_is (misfit schema step) (written_reply step (write schema step (at (log_at_begin schema h i) (own schema h i))).0)))
+      (λ k. if is.no_end k then [] else if is.its_own k && is_some (log_at_begin first h i) && not (is_refused (write_reply schema step (at (log_at_begin first h i) (own first h i)))) then own first h i ++ step ∷ [] else own first h i)
+      ∙ ap (λ r. more (log_at_begin first h i) (own first h i) (is_refused r)) (sym (unfit_is (misfit schema step) (written_reply step (write schema step (at (log_at_begin first h i) (own first h i))).0)))
 
-  leaves : (write_by schema step (misfit schema step) (own_at schema h i)).1 ≡ own_at schema (step ∷ h) i
+  leaves : (write_by schema step (misfit schema step) (own_at first h i)).1 ≡ own_at first (step ∷ h) i
   leaves =
-      leave_by (misfit schema step) (log_at_begin schema h i) (own schema h i)
-      ∙ (λ k. option_map (λ before. own_of schema (sym is.same_log k) (Some before) (sym own_more k)) (sym same_begin k))
+      leave_by (misfit schema step) (log_at_begin first h i) (own first h i)
+      ∙ (λ k. option_map (λ before. own_of (sym is.same_tables k) (sym is.same_log k) (Some before) (sym own_more k)) (sym same_begin k))
 
-  same_snapshot : changes (upto (log schema h) (snap schema h i)) ≡ changes (upto (log schema (step ∷ h)) (snap schema (step ∷ h) i))
+  same_snapshot : changes (upto (log first h) (snap first h i)) ≡ changes (upto (log first (step ∷ h)) (snap first (step ∷ h) i))
   same_snapshot = λ k. changes (upto (sym is.same_log k) (snap_of (sym is.same_log k) (sym same_begin k)))
 
 pub writes_answer_alike : WritesAnswerAlike
 writes_answer_alike m s h step is its =
-    ap (λ o. written_reply step (write_by s.schema step (misfit s.schema step) o).0) is.own_is
+    (λ k. written_reply step (write_by (sym is.tables_stay k) step (misfit (sym is.tables_stay k) step) (is.own_is k)).0)
     ∙ answers s.schema h step s.number (of_writer s.schema h step s.number its)
 
 pub writes_leave_alike : WritesLeaveAlike
 writes_leave_alike m old new h step is its same_number same_schema did = record {
+  tables_stay = (λ k. schema_after (same_schema k) (step ∷ h)) ∙ w.same_tables ∙ is.tables_stay ∙ sym same_schema;
   snapshot = is.snapshot ∙ same_snapshot old.schema h step old.number w ∙ (λ k. changes (upto (log (sym same_schema k) (step ∷ h)) (snap (sym same_schema k) (step ∷ h) (sym same_number k))));
   own_is =
-      did ∙ ap (λ o. (write_by old.schema step (misfit old.schema step) o).1) is.own_is ∙ leaves old.schema h step old.number w
+      did ∙ (λ k. (write_by (sym is.tables_stay k) step (misfit (sym is.tables_stay k) step) (is.own_is k)).1) ∙ leaves old.schema h step old.number w
       ∙ (λ k. own_at (sym same_schema k) (step ∷ h) (sym same_number k));
 }
   where

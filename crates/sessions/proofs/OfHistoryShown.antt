@@ -18,7 +18,7 @@ use Rattle.steps.specs.declared.step.Step.TheVariants.{Select}
 use Rattle.steps.specs.declared.step.Reply.TheVariants.{Refused, Shown}
 use Rattle.steps.specs.Misfit.{misfit}
 use Rattle.histories.specs.History as history
-use Rattle.histories.specs.History.{History, log, log_at_begin, own, own_of, mine_of, snap}
+use Rattle.histories.specs.History.{History, schema_after, log, log_at_begin, own, own_of, mine_of, snap}
 use Rattle.steps.specs.Listing.{rows_of, rows_taken}
 use Rattle.sessions.specs.SessionState.{SessionTransactionState, SessionState}
 use Rattle.sessions.specs.OfHistory.{IsIn, shown_reply, QueriesAnswerAlike}
@@ -29,7 +29,7 @@ rows_or_none (Some o) = o.rows
 
 module _ (m : Changes) (s : SessionState) (h : History) (is : IsIn m s h) where
   abbrev at : Option Log → Own
-  at lab = own_of s.schema (log s.schema h) lab (own s.schema h s.number)
+  at lab = own_of (schema_after s.schema h) (log s.schema h) lab (own s.schema h s.number)
 
   same_own : (t : SessionTransactionState) (lab : Option Log) → s.transaction ≡ Some t → log_at_begin s.schema h s.number ≡ lab → ◌≡◌ {A = Option Own} (Some (own_over m t.writes)) (option_map (λ before. at (Some before)) lab)
   same_own t lab ran begun = (λ k. option_map (λ (t : SessionTransactionState). own_over m t.writes) (sym ran k)) ∙ is.own_is ∙ (λ k. option_map (λ before. at (Some before)) (begun k))
@@ -40,13 +40,18 @@ module _ (m : Changes) (s : SessionState) (h : History) (is : IsIn m s h) where
       let clash : ◌≡◌ {A = Option Own} (Some (own_over m t.writes)) None = same_own t None ran begun in cc
   listed t (Some before) Plain table keys ran begun =
       ap (λ o. Rows (rows_taken table keys (rows_or_none o))) (same_own t (Some before) ran begun)
-      ∙ (λ k. elim (sym begun k) [ Some before ↦ Rows (rows_taken table keys (mine_of s.schema (log s.schema h) (sym begun k) (own s.schema h s.number))) | None ↦ Rows (rows_of (answer (changes (upto (log s.schema h) (snap s.schema h s.number))) table Plain keys)) ])
+      ∙ (λ k. elim (sym begun k) [ Some before ↦ Rows (rows_taken table keys (mine_of (schema_after s.schema h) (log s.schema h) (sym begun k) (own s.schema h s.number))) | None ↦ Rows (rows_of (answer (changes (upto (log s.schema h) (snap s.schema h s.number))) table Plain keys)) ])
   listed t lab (AsOf a) table keys ran begun = ap (λ m. Rows (rows_of (answer m table (AsOf a) keys))) is.snapshot
   listed t lab (FromTo a b) table keys ran begun = ap (λ m. Periods (answer m table (FromTo a b) keys)) is.snapshot
   listed t lab (Between a b) table keys ran begun = ap (λ m. Periods (answer m table (Between a b) keys)) is.snapshot
 
 pub queries_answer_alike : QueriesAnswerAlike
-queries_answer_alike m s h form keys is ran = by (misfit s.schema (Select s.number form keys)) s.transaction refl
+queries_answer_alike m s h form keys is ran =
+    by (misfit s.schema (Select s.number form keys)) s.transaction refl
+    ∙ (λ k. elim (misfit (sym is.tables_stay k) (Select s.number form keys)) [
+      | Some refusal ↦ Refused refusal
+      | None ↦ elim (table_at (sym is.tables_stay k) keys.table) [ None ↦ Refused NoTable | Some table ↦ Shown (history.listing s.schema h s.number form table keys) ]
+    ])
   where
     by : (u : Option Refusal) (o : Option SessionTransactionState) → s.transaction ≡ o
         → shown_reply (elim u [ Some refusal ↦ Err refusal | None ↦ elim o [ None ↦ Err NoTransaction | Some t ↦ elim (table_at s.schema keys.table) [ None ↦ Err NoTable | Some table ↦ Ok (listing_in m t.writes table form keys) ] ] ])

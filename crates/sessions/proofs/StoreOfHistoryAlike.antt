@@ -16,11 +16,11 @@ use Rattle.staging.specs.View.{Holds}
 use Rattle.staging.specs.Own.{own as own_over, net_over}
 use Rattle.validation.specs.declared.cut.Cut.{Cut}
 use Rattle.steps.specs.declared.step.Step.{Step}
-use Rattle.steps.specs.declared.step.Step.TheVariants.{Begin as BeginStep, Commit as CommitStep, Insert, Update, Delete, Select, Rollback, SplitKey, SplitTime, Migrate}
+use Rattle.steps.specs.declared.step.Step.TheVariants.{Begin as BeginStep, Commit as CommitStep, Insert, Update, Delete, Select, Rollback, AddColumn, SplitKey, SplitTime, Migrate}
 use Rattle.steps.specs.declared.step.Reply.{Reply}
 use Rattle.steps.specs.declared.step.Reply.TheVariants.{Begun, Done, Refused}
 use Rattle.steps.specs.Misfit.{max_session, misfit}
-use Rattle.histories.specs.History.{History, begins, log, log_at_begin, own, own_of, net, net_change_of, reply, reply_in, rewrite_all, snap, snap_of}
+use Rattle.histories.specs.History.{History, schema_after, begins, log, log_at_begin, own, own_of, net, net_change_of, reply, reply_in, rewrite_all, snap, snap_of}
 use Rattle.steps.specs.Reply.{commit_reply, is_refused, write_reply}
 use Rattle.steps.specs.Write.{writer}
 use Rattle.histories.proofs.StandsEnds.{itself}
@@ -100,8 +100,8 @@ began_stays more j schema h step i (Some t) same seen began = (
 
 -- ---- BEGIN
 
-fit_reply : (schema : Schema) (h : History) (step : Step) (r : Reply) → misfit schema step ≡ None → r ≡ reply_in schema h step → r ≡ reply schema h step
-fit_reply schema h step r fits is = is ∙ (λ k. elim (sym fits k) [ Some refusal ↦ Refused refusal | None ↦ reply_in schema h step ])
+fit_reply : (first : Schema) (h : History) (step : Step) (r : Reply) → misfit (schema_after first h) step ≡ None → r ≡ reply_in first h step → r ≡ reply first h step
+fit_reply first h step r fits is = is ∙ (λ k. elim (sym fits k) [ Some refusal ↦ Refused refusal | None ↦ reply_in first h step ])
 
 begins_itself : (i : ℕ) → i ≤ max_session → begins i (BeginStep i) ≡ true
 begins_itself i small = grind (arith, nat_tests)
@@ -126,14 +126,14 @@ module _ (schema : Schema) (h : History) (i : ℕ) (small : i ≤ max_session) (
   sees_own =
       ap (λ rows. Some (record { rows = rows; written = [] }))
       (ap (λ t. rows_after [] (changes (upto (log schema h) t))) snapshot_is ∙ rows_at (log schema h) (last (log schema h)) (log_rises schema h))
-      ∙ sym (λ k. option_map (λ before. own_of schema (log schema h) (Some before) (unwritten k)) (opens k))
+      ∙ sym (λ k. option_map (λ before. own_of (schema_after schema h) (log schema h) (Some before) (unwritten k)) (opens k))
 
-  begun_beside : (number earlier : ℕ) (view : TreeState) (j : Entries) (receipt : ℕ) → journal_log j ≡ log schema h → Holds schema view (changes (log schema h)) → view_last view ≡ last (log schema h) → number ≡ length (Begin i earlier view ∷ j)
+  begun_beside : (number earlier : ℕ) (view : TreeState) (j : Entries) (receipt : ℕ) → schema_after schema h ≡ schema → journal_log j ≡ log schema h → Holds schema view (changes (log schema h)) → view_last view ≡ last (log schema h) → number ≡ length (Begin i earlier view ∷ j)
       → IsBeside (Begin i earlier view ∷ j) (session i schema receipt (Some (begun_with number earlier view))) now
-  begun_beside number earlier view j receipt same holds stands at = record {
+  begun_beside number earlier view j receipt stay same holds stands at = record {
     in_range = small;
     log_is = same;
-    is_in = record { snapshot = refl; own_is = sees_own };
+    is_in = record { tables_stay = stay; snapshot = refl; own_is = sees_own };
     began = (put_here (Begin i earlier view) j number at, stands ∙ sym snapshot_is, subst (Holds schema view) (sym sees_all) holds);
   }
 
@@ -142,7 +142,7 @@ begins_answer_alike old new b c h number e is none grows begun = (
   ap entry_reply begun.entry_is ∙ ap Begun ends ∙ fit_reply old.schema h (BeginStep old.number) (Begun (last (log old.schema h))) (in_range_fits old.number is.in_range) (λ k. elim (sym closed k) [ Some before ↦ Refused InTransaction | None ↦ Begun (last (log old.schema h)) ]),
   subst (λ j. IsBeside j new (BeginStep old.number ∷ h)) (sym (grows.adds.entries_are ∙ ap (λ e. e ∷ b.entries) begun.entry_is))
       (subst (λ s. IsBeside (Begin old.number begun.earlier begun.view ∷ b.entries) s (BeginStep old.number ∷ h)) (sym begun.session_is)
-      (begun_beside old.schema h old.number is.in_range closed number begun.earlier begun.view b.entries number is.log_is holds ends (grows.adds.numbered ∙ ap length grows.adds.entries_are))),
+      (begun_beside old.schema h old.number is.in_range closed number begun.earlier begun.view b.entries number is.is_in.tables_stay is.log_is holds ends (grows.adds.numbered ∙ ap length grows.adds.entries_are))),
 )
   where
     closed : log_at_begin old.schema h old.number ≡ None
@@ -165,10 +165,10 @@ module _ (schema : Schema) (h : History) (i : ℕ) where
   net_alike writes before is same =
       (λ k. net_of (rows_at (log schema h) (snap schema h i) (log_rises schema h) k) (alike k).rows (alike k).written)
     where
-      alike : own_over (seen_at schema h i) writes ≡ own_of schema (log schema h) (log_at_begin schema h i) (own schema h i)
+      alike : own_over (seen_at schema h i) writes ≡ own_of (schema_after schema h) (log schema h) (log_at_begin schema h i) (own schema h i)
       alike =
-          same_some _ _ (same ∙ (λ k. option_map (λ before. own_of schema (log schema h) (Some before) (own schema h i)) (is k)))
-          ∙ (λ k. own_of schema (log schema h) (sym is k) (own schema h i))
+          same_some _ _ (same ∙ (λ k. option_map (λ before. own_of (schema_after schema h) (log schema h) (Some before) (own schema h i)) (is k)))
+          ∙ (λ k. own_of (schema_after schema h) (log schema h) (sym is k) (own schema h i))
 
   module _ (reading : ℕ) where
     abbrev ended : History
@@ -178,10 +178,10 @@ module _ (schema : Schema) (h : History) (i : ℕ) where
     closes = (λ k. if itself i k then None else log_at_begin schema h i)
 
     has_none : ◌≡◌ {A = Option Own} None (own_at schema ended i)
-    has_none = λ k. option_map (λ before. own_of schema (log schema ended) (Some before) (own schema ended i)) (sym closes k)
+    has_none = λ k. option_map (λ before. own_of (schema_after schema h) (log schema ended) (Some before) (own schema ended i)) (sym closes k)
 
     log_then : (before : Log) → log_at_begin schema h i ≡ Some before → log schema ended ≡ after (log schema h) (last before) (net schema h i) reading
-    log_then before is = λ k. elim (is k) [ None ↦ log schema h | Some before ↦ after (log schema h) (last before) (net_change_of schema (log schema h) (log_at_begin schema h i) (own schema h i)) reading ]
+    log_then before is = λ k. elim (is k) [ None ↦ log schema h | Some before ↦ after (log schema h) (last before) (net_change_of (schema_after schema h) (log schema h) (log_at_begin schema h i) (own schema h i)) reading ]
 
     reply_then : (before : Log) → log_at_begin schema h i ≡ Some before → commit_reply (outcome (changes (log schema h)) (last (log schema h)) (snap schema h i) (net schema h i) reading) ≡ reply_in schema h (CommitStep i reading)
     reply_then before is = λ k. elim (sym is k) [ Some before ↦ commit_reply (outcome (changes (log schema h)) (last (log schema h)) (snap schema h i) (net schema h i) reading) | None ↦ Refused NoTransaction ]
@@ -194,7 +194,7 @@ commits_answer_alike old new b c h reading number e is grows did = (
       (subst (λ s. IsBeside (entry ∷ b.entries) s (CommitStep old.number reading ∷ h)) (sym did.session_is) (record {
         in_range = is.in_range;
         log_is = log_is;
-        is_in = record { snapshot = refl; own_is = has_none old.schema h old.number reading };
+        is_in = record { tables_stay = is.is_in.tables_stay; snapshot = refl; own_is = has_none old.schema h old.number reading };
         began = tt;
       })),
 )
@@ -237,13 +237,13 @@ split_beside : (s : SessionState) (j : Entries) (h : History) (step : Step) (cut
 split_beside s j h (SplitKey key) cut done is at = record {
   in_range = is.in_range;
   log_is = is.log_is;
-  is_in = record { snapshot = refl; own_is = is.is_in.own_is };
+  is_in = record { tables_stay = is.is_in.tables_stay; snapshot = refl; own_is = is.is_in.own_is };
   began = began_stays (Split cut done ∷ []) j s.schema h (SplitKey key) s.number s.transaction refl refl is.began;
 }
 split_beside s j h (SplitTime key instant) cut done is at = record {
   in_range = is.in_range;
   log_is = is.log_is;
-  is_in = record { snapshot = refl; own_is = is.is_in.own_is };
+  is_in = record { tables_stay = is.is_in.tables_stay; snapshot = refl; own_is = is.is_in.own_is };
   began = began_stays (Split cut done ∷ []) j s.schema h (SplitTime key instant) s.number s.transaction refl refl is.began;
 }
 split_beside s j h (BeginStep i) cut done is at = absurd at
@@ -253,6 +253,7 @@ split_beside s j h (Delete i keys) cut done is at = absurd at
 split_beside s j h (Select i form keys) cut done is at = absurd at
 split_beside s j h (CommitStep i reading) cut done is at = absurd at
 split_beside s j h (Rollback i) cut done is at = absurd at
+split_beside s j h (AddColumn i number name of) cut done is at = absurd at
 split_beside s j h Migrate cut done is at = absurd at
 
 split_reply : (schema : Schema) (h : History) (cut : Cut) (step : Step) → IsSplitStep cut step → Done ≡ reply_in schema h step
@@ -265,11 +266,12 @@ split_reply schema h cut (Delete i keys) at = absurd at
 split_reply schema h cut (Select i form keys) at = absurd at
 split_reply schema h cut (CommitStep i reading) at = absurd at
 split_reply schema h cut (Rollback i) at = absurd at
+split_reply schema h cut (AddColumn i number name of) at = absurd at
 split_reply schema h cut Migrate at = absurd at
 
 pub splits_answer_alike : SplitsAnswerAlike
 splits_answer_alike s j h cut step e is at fits did = (
-  ap entry_reply did.entry_is ∙ fit_reply s.schema h step Done fits (split_reply s.schema h cut step at),
+  ap entry_reply did.entry_is ∙ fit_reply s.schema h step Done (ap (λ schema. misfit schema step) is.is_in.tables_stay ∙ fits) (split_reply s.schema h cut step at),
   subst (λ e. IsBeside (e ∷ j) s (step ∷ h)) (sym did.entry_is) (split_beside s j h step cut did.done is at),
 )
 
@@ -281,7 +283,7 @@ installs_answer_alike s j h packed e at did = (
   subst (λ e. IsBeside (e ∷ j) s (Migrate ∷ h)) (sym did.entry_is) (record {
     in_range = at.in_range;
     log_is = at.log_is;
-    is_in = record { snapshot = refl; own_is = at.is_in.own_is };
+    is_in = record { tables_stay = at.is_in.tables_stay; snapshot = refl; own_is = at.is_in.own_is };
     began = began_stays (Install packed.node.rect packed.bytes did.done ∷ []) j s.schema h Migrate s.number s.transaction refl refl at.began;
   }),
 )
@@ -300,11 +302,14 @@ refused_alike s j h is = (
 -- ---- another session
 
 module _ (schema : Schema) (h : History) (step : Step) (i : ℕ) (other : IsOfAnother i step) where
+  same_tables : schema_after schema (step ∷ h) ≡ schema_after schema h
+  same_tables = other.no_column (schema_after schema h) _
+
   same_begin : log_at_begin schema (step ∷ h) i ≡ log_at_begin schema h i
   same_begin = λ k. if other.no_end k then None else if other.no_begin k && is_none (log_at_begin schema h i) then Some (log schema h) else log_at_begin schema h i
 
   same_writes : own schema (step ∷ h) i ≡ own schema h i
-  same_writes = λ k. if other.no_end k then [] else if other.no_write k && is_some (log_at_begin schema h i) && not (is_refused (write_reply schema step (own_of schema (log schema h) (log_at_begin schema h i) (own schema h i)))) then own schema h i ++ step ∷ [] else own schema h i
+  same_writes = λ k. if other.no_end k then [] else if other.no_write k && is_some (log_at_begin schema h i) && not (is_refused (write_reply (schema_after schema h) step (own_of (schema_after schema h) (log schema h) (log_at_begin schema h i) (own schema h i)))) then own schema h i ++ step ∷ [] else own schema h i
 
   -- what was committed until the snapshot stays
   upto_stays : (before : Log) → log_at_begin schema h i ≡ Some before → upto (log schema (step ∷ h)) (last before) ≡ upto (log schema h) (last before)
@@ -315,9 +320,9 @@ module _ (schema : Schema) (h : History) (step : Step) (i : ℕ) (other : IsOfAn
 
   open_stays : (before : Log) → log_at_begin schema h i ≡ Some before → own_at schema h i ≡ own_at schema (step ∷ h) i
   open_stays before is =
-      (λ k. option_map (λ before. own_of schema (log schema h) (Some before) (own schema h i)) (is k))
-      ∙ (λ k. Some (rewrite_all schema (sym same_writes k) (record { rows = replay [] (sym (upto_stays before is) k); written = [] })))
-      ∙ (λ k. option_map (λ before. own_of schema (log schema (step ∷ h)) (Some before) (own schema (step ∷ h) i)) (sym (same_begin ∙ is) k))
+      (λ k. option_map (λ before. own_of (schema_after schema h) (log schema h) (Some before) (own schema h i)) (is k))
+      ∙ (λ k. Some (rewrite_all (sym same_tables k) (sym same_writes k) (record { rows = replay [] (sym (upto_stays before is) k); written = [] })))
+      ∙ (λ k. option_map (λ before. own_of (schema_after schema (step ∷ h)) (log schema (step ∷ h)) (Some before) (own schema (step ∷ h) i)) (sym (same_begin ∙ is) k))
 
   snap_stays : (before : Log) → log_at_begin schema h i ≡ Some before → snap schema (step ∷ h) i ≡ snap schema h i
   snap_stays before is = (λ k. snap_of (log schema (step ∷ h)) ((same_begin ∙ is) k)) ∙ (λ k. snap_of (log schema h) (sym is k))
@@ -338,10 +343,11 @@ others_leave_alike s j more h step is other grows = by s.transaction refl
           in_range = is.in_range;
           log_is = grows;
           is_in = record {
+            tables_stay = same_tables s.schema h step s.number other ∙ is.is_in.tables_stay;
             snapshot = refl;
             own_is =
                 (λ k. option_map (λ t. own_over (seen_at s.schema (step ∷ h) s.number) t.writes) (none k))
-                ∙ (λ k. option_map (λ before. own_of s.schema (log s.schema (step ∷ h)) (Some before) (own s.schema (step ∷ h) s.number)) (sym (same_begin s.schema h step s.number other ∙ closed) k));
+                ∙ (λ k. option_map (λ before. own_of (schema_after s.schema (step ∷ h)) (log s.schema (step ∷ h)) (Some before) (own s.schema (step ∷ h) s.number)) (sym (same_begin s.schema h step s.number other ∙ closed) k));
           };
           began = subst (BeganIn (more ++ j) s.schema (step ∷ h) s.number) (sym none) tt;
         }
@@ -351,6 +357,7 @@ others_leave_alike s j more h step is other grows = by s.transaction refl
           in_range = is.in_range;
           log_is = grows;
           is_in = record {
+            tables_stay = same_tables s.schema h step s.number other ∙ is.is_in.tables_stay;
             snapshot = refl;
             own_is = (λ k. own_in (seen_stays s.schema h step s.number other lab.value lab.is k) s) ∙ is.is_in.own_is ∙ open_stays s.schema h step s.number other lab.value lab.is;
           };
@@ -371,6 +378,7 @@ still schema h (BeginStep j) i its = absurd (cc)
 still schema h (Select j form keys) i its = absurd (cc)
 still schema h (CommitStep j reading) i its = absurd (cc)
 still schema h (Rollback j) i its = absurd (cc)
+still schema h (AddColumn j number name of) i its = absurd (cc)
 still schema h (SplitKey key) i its = absurd (cc)
 still schema h (SplitTime key instant) i its = absurd (cc)
 still schema h Migrate i its = absurd (cc)
@@ -405,13 +413,13 @@ own_steps_stay old new j h step is = (
   (λ form keys. record {
     in_range = is.in_range;
     log_is = is.log_is;
-    is_in = record { snapshot = refl; own_is = is.is_in.own_is };
+    is_in = record { tables_stay = is.is_in.tables_stay; snapshot = refl; own_is = is.is_in.own_is };
     began = began_stays [] j old.schema h (Select old.number form keys) old.number old.transaction refl refl is.began;
   }),
   record {
     in_range = is.in_range;
     log_is = is.log_is;
-    is_in = record { snapshot = refl; own_is = ended_none old.schema h old.number };
+    is_in = record { tables_stay = is.is_in.tables_stay; snapshot = refl; own_is = ended_none old.schema h old.number };
     began = tt;
   },
 )

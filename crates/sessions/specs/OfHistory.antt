@@ -7,8 +7,8 @@ use Rattle.values.specs.declared.query.Form.{Form}
 use Rattle.values.specs.declared.query.Form.TheVariants.{Plain}
 use Rattle.values.specs.declared.query.Keys.{Keys}
 use Rattle.values.specs.declared.refusal.Refusal.{Refusal}
-use Rattle.values.specs.declared.refusal.Refusal.TheVariants.{NoTransaction}
-use Rattle.values.specs.Tables.{Schema, table_at}
+use Rattle.values.specs.declared.refusal.Refusal.TheVariants.{NoTable, NoTransaction}
+use Rattle.values.specs.Tables.{Schema, table_at, full_row}
 use Rattle.values.specs.Order.{is_key}
 use Rattle.values.specs.Versions.{matches}
 use Rattle.values.specs.Log.{Changes, Row, row_at, upto, changes}
@@ -20,20 +20,22 @@ use Rattle.steps.specs.declared.step.Reply.TheVariants.{Refused, RolledBack, Sho
 use Rattle.steps.specs.declared.step.Step.{Step}
 use Rattle.steps.specs.declared.step.Step.TheVariants.{Rollback, Select}
 use Rattle.steps.specs.Misfit.{key_misfit, max_session, misfit}
-use Rattle.histories.specs.History.{History, log, log_at_begin, mine, own, own_of, reply, snap}
+use Rattle.histories.specs.History.{History, schema_after, log, log_at_begin, mine, own, own_of, reply, snap}
 use Rattle.steps.specs.Write.{writer}
 use Rattle.steps.specs.Reply.{written_reply}
 use Rattle.sessions.specs.SessionState.{SessionState, get_in, own_in, select_in, with_transaction, write_in}
 
 -- the rows that the history's open transaction sees and the keys that it wrote
 abbrev pub own_at : Schema → History → ℕ → Option Own
-own_at schema h i =
-    option_map (λ before. own_of schema (log schema h) (Some before) (own schema h i))
-    (log_at_begin schema h i)
+own_at first h i =
+    option_map
+    (λ before. own_of (schema_after first h) (log first h) (Some before) (own first h i))
+    (log_at_begin first h i)
 
 -- the session has open what the history has: its view shows the history's snapshot, and its own
--- rows and keys are the history's
+-- rows and keys are the history's. The history begins with the session's tables, and they stay.
 pub record IsIn (m : Changes) (s : SessionState) (h : History) : Type 0 where
+  pub tables_stay : schema_after s.schema h ≡ s.schema
   pub snapshot : m ≡ changes (upto (log s.schema h) (snap s.schema h s.number))
   pub own_is : own_in m s ≡ own_at s.schema h s.number
 
@@ -65,13 +67,16 @@ WritesLeaveAlike =
     → IsIn m new (step ∷ h)
 
 -- the row that the history's open transaction has at a key, if there is one: of the rows that its
--- plain queries list
+-- plain queries list, and as wide as its table
 abbrev pub read_at : Schema → History → ℕ → Key → Result (Option Row) Refusal
-read_at schema h i key = elim (key_misfit schema key) [
+read_at first h i key = elim (key_misfit (schema_after first h) key) [
   | Some refusal ↦ Err refusal
-  | None ↦ elim (log_at_begin schema h i) [
+  | None ↦ elim (log_at_begin first h i) [
     | None ↦ Err NoTransaction
-    | Some before ↦ Ok (row_at (mine schema h i) key)
+    | Some before ↦ elim (table_at (schema_after first h) key.table) [
+      | None ↦ Err NoTable
+      | Some table ↦ Ok (option_map (full_row table) (row_at (mine first h i) key))
+    ]
   ]
 ]
 
@@ -99,7 +104,7 @@ GetsAsListed =
 
 -- what a history's open transaction sees of what was committed, or all of it with none open
 abbrev pub seen_at : Schema → History → ℕ → Changes
-seen_at schema h i = changes (upto (log schema h) (snap schema h i))
+seen_at first h i = changes (upto (log first h) (snap first h i))
 
 abbrev pub rolled_reply : {A : Type 0} → Result A Refusal → Reply
 rolled_reply (Ok done) = RolledBack

@@ -6,7 +6,7 @@ use Rattle.values.specs.declared.query.Form.{Form}
 use Rattle.values.specs.declared.query.Keys.{Keys}
 use Rattle.values.specs.declared.refusal.Refusal.{Refusal}
 use Rattle.values.specs.declared.refusal.Refusal.TheVariants.{NoTable, NoTransaction, Memory}
-use Rattle.values.specs.Tables.{Schema, table_at}
+use Rattle.values.specs.Tables.{Schema, table_at, full_row}
 use Rattle.values.specs.Log.{Changes, Net, Row, row_at}
 use Rattle.values.specs.Writes.{Own}
 use Rattle.values.specs.Events.{AreKeysIn}
@@ -119,13 +119,16 @@ abbrev pub IsSelect : SessionState → Form → Keys → Result Listing Refusal 
 IsSelect s form keys result =
     (m : Changes) → Shows s m → result ≢ Err Memory → result ≡ select_in m s form keys
 
--- what a read at a key gives, where the session's view shows these changes
+-- what a read at a key gives, where the session's view shows these changes: as wide as its table
 abbrev pub get_in : Changes → SessionState → Key → Result (Option Row) Refusal
 get_in m s key = elim (key_misfit s.schema key) [
   | Some refusal ↦ Err refusal
   | None ↦ elim s.transaction [
     | None ↦ Err NoTransaction
-    | Some t ↦ Ok (row_at (rows_seen m t.writes) key)
+    | Some t ↦ elim (table_at s.schema key.table) [
+      | None ↦ Err NoTable
+      | Some table ↦ Ok (option_map (full_row table) (row_at (rows_seen m t.writes) key))
+    ]
   ]
 ]
 

@@ -1,6 +1,6 @@
 -- A store and its sessions beside a history of steps: what the store's calls answer and leave is what
 -- the history's replies are, and the log of the history with that step.
-use Rattle.std.specs.Prelude.{◌≡◌, ◌≢◌, ◌≤◌, ℕ, ◌∷◌, ◌++◌, Option, Some, None, false}
+use Rattle.std.specs.Prelude.{◌≡◌, ◌≢◌, ◌≤◌, ℕ, ◌∷◌, ◌++◌, Option, Some, None, Bool, false}
 use Rattle.values.specs.declared.query.Form.{Form}
 use Rattle.values.specs.declared.query.Keys.{Keys}
 use Rattle.values.specs.declared.refusal.Refusal.TheVariants.{InTransaction, NoTransaction}
@@ -16,7 +16,7 @@ use Rattle.steps.specs.declared.step.Reply.TheVariants.{Begun, Done, Refused}
 use Rattle.steps.specs.declared.step.Step.{Step}
 use Rattle.steps.specs.declared.step.Step.TheVariants.{Begin as BeginStep, Commit as CommitStep, Rollback, Select, SplitKey, SplitTime, Migrate}
 use Rattle.steps.specs.Misfit.{max_session, misfit}
-use Rattle.histories.specs.History.{History, begins, ends, log, reply, snap}
+use Rattle.histories.specs.History.{History, schema_by, begins, ends, log, reply, snap}
 use Rattle.steps.specs.Reply.{commit_reply}
 use Rattle.steps.specs.Write.{is_write_of, writer}
 use Rattle.journal.specs.declared.entry.Entry.{Entry}
@@ -36,10 +36,10 @@ entry_reply (Install rect block done) = Done
 
 -- the open transaction's begin is in the journal, and saw what the history's snapshot has
 abbrev pub BeganIn : Entries → Schema → History → ℕ → Option SessionTransactionState → Type 0
-BeganIn j schema h i None = Unit {0}
-BeganIn j schema h i (Some t) =
+BeganIn j first h i None = Unit {0}
+BeganIn j first h i (Some t) =
     (entry_at j t.begun.number ≡ Some (Begin i t.begun.earlier t.view))
-    × (view_last t.view ≡ snap schema h i) × Holds schema t.view (seen_at schema h i)
+    × (view_last t.view ≡ snap first h i) × Holds first t.view (seen_at first h i)
 
 -- the journal's log is the history's, and the session has open what the history has
 pub record IsBeside (j : Entries) (s : SessionState) (h : History) : Type 0 where
@@ -101,11 +101,12 @@ RefusedAlike =
     × ((reading : ℕ) → s.transaction ≡ None
     → Refused NoTransaction ≡ reply s.schema h (CommitStep s.number reading))
 
--- the step neither begins nor ends nor writes for the session
+-- the step neither begins nor ends nor writes for the session, and adds a column to no table
 pub record IsOfAnother (i : ℕ) (step : Step) : Type 0 where
   pub no_begin : begins i step ≡ false
   pub no_end : ends i step ≡ false
   pub no_write : is_write_of i step ≡ false
+  pub no_column : (now : Schema) (idle : Bool) → schema_by now idle step ≡ now
 
 -- a step of another session changes nothing of what a session has open
 abbrev pub OthersLeaveAlike : Type 0

@@ -35,6 +35,8 @@ impl<J: StoreName> Calls<J> {
             Step::Select(i, form, keys) => self.select(rt, store, *i, *form, keys),
             Step::Commit(i, reading) => self.commit(rt, store, *i, *reading),
             Step::Rollback(i) => self.rollback(*i),
+            // A store that is shared keeps its tables.
+            Step::AddColumn(_, _, _, _) => Err(Refusal::TransactionsOpen),
             Step::SplitKey(key) => self.split(rt, store, key, None),
             Step::SplitTime(key, instant) => self.split(rt, store, key, Some(*instant)),
             Step::Migrate => self.migrate(rt, store),

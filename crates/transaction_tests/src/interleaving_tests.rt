@@ -1,14 +1,17 @@
 //! Conversations with a system: each step beside what it must answer.
 use crate::interleaving_tests::Action::{
-    Begin, Commit, Delete, DeleteBelow, Insert, InsertMany, InsertTwice, Migrate, Rename, Rollback,
-    Select, SplitKey, SplitTime,
+    AddColumn, Begin, Commit, Delete, DeleteBelow, Insert, InsertMany, InsertTwice, Migrate,
+    Rename, Rollback, Select, SplitKey, SplitTime,
 };
 use crate::sample::{by, employee, key, many, one_row, sets};
 use interleaving::System;
 use std::alloc::Global;
 use std::process::Abort;
 use steps::{Listing, Reply, Step};
-use values::{Form, Instant, Keys, Operator, Refusal, Row, Rows, Schema, Sets, Shown, Value};
+use values::{
+    Chars, ColumnType, Form, Instant, Keys, Operator, Refusal, Row, Rows, Schema, Sets, Shown,
+    Value,
+};
 
 /// A step on the table of employees: its session, and what it is about.
 #[derive(Clone, Copy)]
@@ -25,6 +28,8 @@ enum Action {
     Select(u8, Form),
     Commit(u8, Instant),
     Rollback(u8),
+    /// A column of numbers.
+    AddColumn(u8, &'static str),
     SplitKey(i64),
     SplitTime(i64, Instant),
     Migrate,
@@ -49,6 +54,11 @@ fn renaming(rt: &impl Abort, alloc: Global, session: u8, number: i64, name: &str
     Step::Update(session, keys, Sets::new(sets(rt, alloc, name)))
 }
 
+fn addition(rt: &impl Abort, alloc: Global, session: u8, name: &str) -> Step {
+    let name = Chars::copy_of(alloc, name).expect(rt, "there is memory");
+    Step::AddColumn(session, 1, name, ColumnType::Int)
+}
+
 fn step_of(rt: &impl Abort, alloc: Global, action: Action) -> Step {
     match action {
         Begin(session) => Step::Begin(session),
@@ -61,6 +71,7 @@ fn step_of(rt: &impl Abort, alloc: Global, action: Action) -> Step {
         Select(session, form) => Step::Select(session, form, Keys::all(alloc, 1)),
         Commit(session, reading) => Step::Commit(session, reading),
         Rollback(session) => Step::Rollback(session),
+        AddColumn(session, name) => addition(rt, alloc, session, name),
         SplitKey(number) => Step::SplitKey(key(rt, alloc, number)),
         SplitTime(number, instant) => Step::SplitTime(key(rt, alloc, number), instant),
         Migrate => Step::Migrate,
@@ -104,6 +115,7 @@ fn text_of(rt: &impl Abort, alloc: Global, reply: &Reply) -> String {
         Reply::Committed(None) => new_text(rt, alloc, "committed nothing"),
         Reply::Committed(Some(instant)) => numbered_word(rt, alloc, "committed", *instant),
         Reply::RolledBack => new_text(rt, alloc, "rolled back"),
+        Reply::Altered => new_text(rt, alloc, "altered"),
         Reply::Done => new_text(rt, alloc, "ok"),
         Reply::Refused(refusal) => new_text(rt, alloc, why(refusal)),
         Reply::Shown(Listing::Rows(rows)) => rows_told(rt, alloc, rows.items()),
@@ -130,6 +142,8 @@ fn why(refusal: &Refusal) -> &'static str {
         Refusal::TooManyWrites => "too many writes",
         Refusal::NoSession => "no session",
         Refusal::NoTable => "no table",
+        Refusal::BadRow(_) => "bad row",
+        Refusal::TransactionsOpen => "transactions open",
         _ => "another refusal",
     }
 }
@@ -155,10 +169,15 @@ fn push(rt: &impl Abort, text: &mut String, more: &str) {
     text.push_str(more).expect(rt, "there is memory");
 }
 
-/// The name in a row.
+/// The name in a row, and NULL in a third column.
 fn push_row(rt: &impl Abort, text: &mut String, row: &Row) {
-    if let [_, Value::Text(name)] = row.values() {
-        push(rt, text, name.text());
+    match row.values() {
+        [_, Value::Text(name)] => push(rt, text, name.text()),
+        [_, Value::Text(name), Value::Null] => {
+            push(rt, text, name.text());
+            push(rt, text, "+NULL");
+        }
+        _ => {}
     }
     push(rt, text, " ");
 }
@@ -355,6 +374,33 @@ const REFUSALS: &[Turn] = &[
 #[test]
 fn a_refused_statement_changes_nothing(rt: HostRuntime) {
     assert_replies(&rt, rt.alloc(), REFUSALS);
+}
+
+/// A column is added between two transactions.
+const COLUMN_ADDED: &[Turn] = &[
+    (Begin(1), "begun 0"),
+    (Insert(1, 1, "Ann"), "inserted 1"),
+    (AddColumn(2, "dept"), "transactions open"),
+    (AddColumn(1, "dept"), "transactions open"),
+    (AddColumn(2, "Name"), "bad row"),
+    (Commit(1, 100), "committed 100"),
+    (AddColumn(0, "dept"), "altered"),
+    (AddColumn(1, "DEPT"), "bad row"),
+    (Select(1, Form::AsOf(100)), "Ann+NULL "),
+    (Begin(1), "begun 100"),
+    (Insert(1, 2, "Bo"), "bad row"),
+    (Select(1, Form::Plain), "Ann+NULL "),
+    (Rename(1, 1, "Bea"), "updated 1"),
+    (Commit(1, 200), "committed 200"),
+    (
+        Select(1, Form::FromTo(1, 1000)),
+        "Ann+NULL 100-200 Bea+NULL 200- ",
+    ),
+];
+
+#[test]
+fn a_column_is_added_while_no_transaction_is_open(rt: HostRuntime) {
+    assert_replies(&rt, rt.alloc(), COLUMN_ADDED);
 }
 
 /// One key more than a transaction may write.

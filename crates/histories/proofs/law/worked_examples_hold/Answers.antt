@@ -36,3 +36,12 @@ returns-clause-largest_instant c = refl
 
 pub returns-clause-refusals_in_order : goal.returns-clause-refusals_in_order
 returns-clause-refusals_in_order c = refl
+
+pub returns-clause-column_added : goal.returns-clause-column_added
+returns-clause-column_added c = refl
+
+pub returns-clause-written_wide : goal.returns-clause-written_wide
+returns-clause-written_wide c = refl
+
+pub returns-clause-additions_refused : goal.returns-clause-additions_refused
+returns-clause-additions_refused c = refl

@@ -1,3 +1,4 @@
+use Rattle.values.specs.Tables.{Schema}
 use Rattle.histories.specs.History.{History}
 use Rattle.interleaving.specs.SystemState.{Stands}
 use Rattle.lines.specs.Partial.{Fits}
@@ -6,6 +7,6 @@ use Rattle.scripts.proofs.script.run_script_in.Given as goal
 
 abbrev pub invariant-loop-turn : goal.invariant-loop-turn
 invariant-loop-turn g l = record {
-  going : (h : History) → Stands l.fn.system h → Going (g.I.Read.remaining l.fn.reader) (g.I.Read.remaining l.reader) (g.W.Write.contents l.fn.writer) (g.W.Write.contents l.writer) l.script l.fn.system.schema h;
+  going : (schema : Schema) (h : History) → Stands schema l.fn.system h → Going (g.I.Read.remaining l.fn.reader) (g.I.Read.remaining l.reader) (g.W.Write.contents l.fn.writer) (g.W.Write.contents l.writer) l.script schema h;
   room : Fits l.script.line;
 }

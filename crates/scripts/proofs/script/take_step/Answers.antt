@@ -8,7 +8,6 @@ returns-clause-ok g c =
       answers = c.step-reply.ensures.answers;
       refused = c.step-reply.ensures.refused;
       no_memory = c.step-reply.ensures.no_memory;
-      schema_stays = c.step-reply.ensures.schema;
       reading_stays = refl;
     } in
     prints_ok _ _ _ _ c.print_reply.ensures (λ wrote schema p at. step_answered _ _ _ _ schema p _ _ so at c.requires wrote)
@@ -19,7 +18,6 @@ returns-clause-err g c =
       answers = c.step-reply.ensures.answers;
       refused = c.step-reply.ensures.refused;
       no_memory = c.step-reply.ensures.no_memory;
-      schema_stays = c.step-reply.ensures.schema;
       reading_stays = refl;
     } in
     prints_err _ _ _ _ c.print_reply.ensures (λ wrote schema p at. step_broken _ _ _ _ schema p _ _ so at c.requires wrote)

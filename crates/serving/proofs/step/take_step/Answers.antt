@@ -1,4 +1,5 @@
 use Rattle.std.proofs.Common.{rules}
+use Rattle.serving.proofs.StepOpening.{column_refused}
 use Rattle.serving.proofs.step.take_step.Goals as goal
 
 pub returns-in-Begin : goal.returns-in-Begin
@@ -18,6 +19,9 @@ returns-in-Select g c = let stepped = c.take_query.ensures g.C.Readings.may_give
 
 pub returns-in-Rollback : goal.returns-in-Rollback
 returns-in-Rollback g c = let stepped = c.take_rollback.ensures g.C.Readings.may_give in search rules
+
+pub returns-in-AddColumn : goal.returns-in-AddColumn
+returns-in-AddColumn g c = rw c.in-AddColumn.is (rw c.reply.ensures (column_refused g.C.Readings.may_give c.args.session.now _ _ _ _))
 
 pub returns-in-SplitKey : goal.returns-in-SplitKey
 returns-in-SplitKey g c = let stepped = c.take_key_split.ensures g.C.Readings.may_give in search rules

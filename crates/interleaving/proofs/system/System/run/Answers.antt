@@ -6,12 +6,12 @@ use Rattle.interleaving.proofs.SystemStepped.{out_stands}
 use Rattle.interleaving.proofs.system.System.run.Goals as goal
 
 pub loop-step-init : goal.loop-step-init
-loop-step-init c = ran_none c.args.schema c.args.steps.items _ (world c.in_ok-system.system) c.new-replies.result.items c.in_ok-system.ensures.schema c.in_ok-system.ensures.empty c.new-replies.ensures.items (search rules)
+loop-step-init c = ran_none c.args.schema c.args.steps.items _ (world c.in_ok-system.system) c.new-replies.result.items c.in_ok-system.ensures.empty c.new-replies.ensures.items (search rules)
 
 pub loop-step-preserved : goal.loop-step-preserved
 loop-step-preserved c =
     ran_more c.args.schema c.args.steps.items (world c.loop-step.system) (world c.step-reply.new.self) c.loop-step.replies.items c.push.new.self.items c.in-Some.step _ _ c.step-reply.result c.in-Some.ensures.steps.0 c.in_ok-push.ensures.items c.loop-step.invariant
-    (record { answers = c.step-reply.ensures.answers; out = out_stands (world c.loop-step.system) (world c.step-reply.new.self) c.step-reply.result (λ left. ap world (c.step-reply.ensures.refused left)); same_schema = c.step-reply.ensures.schema; taken = c.step-reply.ensures.no_memory })
+    (record { answers = c.step-reply.ensures.answers; out = out_stands (world c.loop-step.system) (world c.step-reply.new.self) c.step-reply.result (λ left. ap world (c.step-reply.ensures.refused left)); taken = c.step-reply.ensures.no_memory })
 
 pub returns-clause-answers : goal.returns-clause-answers
 returns-clause-answers c =

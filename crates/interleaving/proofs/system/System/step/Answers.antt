@@ -8,10 +8,10 @@ use Rattle.interleaving.proofs.SystemStepped.{answers, out_leaves, same_leaves, 
 use Rattle.interleaving.proofs.system.System.step.Goals as goal
 
 pub returns-in-Some-clause-answers : goal.returns-in-Some-clause-answers
-returns-in-Some-clause-answers c = λ h stands other.
+returns-in-Some-clause-answers c = λ first h stands other.
     let w = world c.args.self.now in
     let same = ap (λ (s : SystemState). s.schema) c.self.view_is in
-    (stepped w w c.args.step (Refused c.in-Some.refusal) (refused_turn w c.args.step c.in-Some.refusal (c.in-Some.ensures.why ∙ ap (λ (s : Schema). misfit s c.args.step) same))).answers h stands
+    (stepped w w c.args.step (Refused c.in-Some.refusal) (refused_turn w c.args.step c.in-Some.refusal (c.in-Some.ensures.why ∙ ap (λ (s : Schema). misfit s c.args.step) same))).answers first h stands
 
 pub returns-clause-answers : goal.returns-clause-answers
 returns-clause-answers c =
