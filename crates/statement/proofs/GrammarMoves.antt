@@ -7,6 +7,8 @@ use Rattle.values.specs.Commits.{max_instant}
 use Rattle.values.specs.Tables.{Schema}
 use Rattle.values.specs.declared.value.Value.{Value}
 use Rattle.values.specs.declared.value.Value.TheVariants.{Int, Text, Bool as Truth, Null}
+use Rattle.values.specs.declared.table.ColumnType.{ColumnType}
+use Rattle.values.specs.declared.table.ColumnType.TheVariants.{Int as IsInt, Text as IsText, Varchar, Boolean}
 use Rattle.values.specs.declared.query.Form.{Form}
 use Rattle.values.specs.declared.query.Form.TheVariants.{Plain, AsOf, FromTo, Between}
 use Rattle.values.specs.declared.query.Operator.{Operator}
@@ -20,7 +22,7 @@ use Rattle.statement.specs.declared.statement.Statement.TheVariants.{Begin, Inse
 use Rattle.tokens.specs.Run.{Ends, Run}
 use Rattle.tokens.specs.Word.{is_name_byte}
 use Rattle.tokens.proofs.TokenFollows.{Follows, front_follows, ends_so, Moves}
-use Rattle.statement.specs.Grammar.{Piece, ◌⋯◌, ◌∣◌, Empty, Blanks, Exactly, Symbol, Word, Name, Digits, Number, doubled, is_quote, Quoted, Literal, Listed, Enclosed, IsRow, IsOperator, IsInstant, IsForm, IsTable, IsColumn, IsSet, IsComparison, IsColumnList, IsWhere, IsStatement, IsKey}
+use Rattle.statement.specs.Grammar.{Piece, ◌⋯◌, ◌∣◌, Empty, Blanks, Exactly, Symbol, Word, Name, Digits, Number, doubled, is_quote, Quoted, Literal, Listed, Enclosed, IsRow, IsOperator, IsInstant, IsForm, IsTable, IsColumn, IsSet, IsComparison, IsColumnList, IsWhere, IsStatement, IsKey, CappedDigits, IsSize, IsType}
 
 pub both_move : {P Q : Piece} → Moves P → Moves Q → Moves (P ⋯ Q)
 both_move {P} {Q} p q bytes rest is =
@@ -127,6 +129,27 @@ operator_moves AtLeast = both_move blanks_move (text_moves (62 ∷ 61 ∷ []))
 
 pub instant_moves : (n : ℕ) → Moves (IsInstant n)
 instant_moves n = both_move blanks_move (digits_move max_instant n)
+
+pub capped_moves : (n : ℕ) → Moves (CappedDigits n)
+capped_moves n bytes rest is = record {
+  taken = is.digits;
+  place = is.run.spelled;
+  stays = λ other follows. record {
+    digits = is.digits;
+    some = is.some;
+    run = run_stays is_ascii_digit refl refl is.digits bytes rest other is.run follows;
+    value = is.value;
+  };
+}
+
+pub size_moves : (n : ℕ) → Moves (IsSize n)
+size_moves n = both_move (symbol_moves 40) (both_move (both_move blanks_move (capped_moves n)) (symbol_moves 41))
+
+pub type_moves : (of : ColumnType) → Moves (IsType of)
+type_moves IsInt = either_moves (word_moves (codes "INT")) (either_moves (word_moves (codes "INTEGER")) (word_moves (codes "BIGINT")))
+type_moves IsText = word_moves (codes "TEXT")
+type_moves Boolean = word_moves (codes "BOOLEAN")
+type_moves (Varchar n) = both_move (word_moves (codes "VARCHAR")) (size_moves n)
 
 period_moves : (first second : List ℕ) (start end : ℕ) → Moves (Word (codes "FOR") ⋯ Word (codes "SYSTEM_TIME") ⋯ Word first ⋯ IsInstant start ⋯ Word second ⋯ IsInstant end)
 period_moves first second start end =

@@ -18,6 +18,9 @@ pub mod PrintQuotes
 pub mod LineSame
 pub mod TokenSame
 pub mod GrammarSound
+pub mod AlterationGoing
+pub mod AlterationSound
+pub mod AlterationWhole
 pub mod LineSound
 pub mod ListSound
 pub mod LiteralSound

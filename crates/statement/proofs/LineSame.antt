@@ -12,18 +12,26 @@ use Rattle.values.specs.declared.query.Operator.{Operator}
 use Rattle.values.specs.declared.query.Operator.TheVariants.{Equal, Below, AtMost, Above, AtLeast}
 use Rattle.values.specs.declared.value.Value.{Value}
 use Rattle.values.specs.declared.value.Value.TheVariants.{Int, Text, Bool as Truth, Null}
-use Rattle.statement.specs.declared.line.Written.TheVariants.{Clock, SplitKey, SplitTime, Migrate, Session}
+use Rattle.statement.specs.declared.line.Written.TheVariants.{Clock, SplitKey, SplitTime, Migrate, Session, AddColumn}
 use Rattle.statement.specs.declared.statement.Statement.{Statement}
 use Rattle.statement.specs.declared.statement.Statement.TheVariants.{Begin, Commit, Rollback}
-use Rattle.tokens.specs.Token.{After, Read, ◌>>=◌}
+use Rattle.tokens.specs.Token.{After, Read, ◌>>=◌, prefix_while, skip_while}
+use Rattle.tokens.specs.Digit.{capped_from, capped_at}
+use Rattle.tokens.specs.TypeName.{size_at, varchar_at, type_at as type_after}
+use Rattle.values.specs.declared.table.ColumnType.TheVariants.{Int as IsInt, Text as IsText, Varchar, Boolean as IsBoolean}
+use Rattle.std.specs.Char.{is_ascii_digit}
+use Rattle.std.specs.List.{prefix_len}
+use Rattle.std.proofs.lemmas.List.Folds.{length-prefix_len}
+use Rattle.statement.specs.declared.line.Written.{Written}
 use Rattle.tokens.specs.Token.{symbol_at as symbol_after}
-use Rattle.statement.specs.Token.{next, symbol_at, word_at, name_at, end_at, after_optional_word}
+use Rattle.statement.specs.Token.{next, symbol_at, word_at, name_at, end_at, after_semicolon, after_optional_word}
 use Rattle.statement.specs.List.{list_at, enclosed_at}
 use Rattle.statement.specs.Literal.{digits_here, digits_at, begins_with, above_nought, below_nought, number_at, quoted_from, quoted, text_of, text_at, constant_at, begins_number, literal_at, row_at, rows_at}
 use Rattle.statement.specs.Condition.{table_of, column_of, table_name_at, column_name_at, or_equal, operator_of, operator_at, set_at, comparison_at, sets_at, comparisons_at, columns_at, keys_at}
 use Rattle.statement.specs.Statement.{instant_at, as_of_at, period_at, selection_at, system_time_at, form_at, start_at, listed_at, insert_at, update_at, delete_at, select_at, data_at, statement_at}
 use Rattle.statement.specs.Line.{begins_digit, clock_at, migrate_at, session_at, service_at, written_at}
-use Rattle.statement.specs.ServedLine.{request_at, served_at}
+use Rattle.statement.specs.Alteration.{type_at, alter_at, request_at, asked_at}
+use Rattle.statement.specs.ServedLine.{served_at}
 use Rattle.statement.specs.Split.{key_at, split_key_at, split_time_at, kind_at, split_at}
 use Rattle.statement.proofs.GrammarHolds.{Leaves}
 use Rattle.statement.proofs.GrammarSound.{symbol_sound, word_sound}
@@ -31,7 +39,7 @@ use Rattle.statement.proofs.GrammarLengths.{symbol_takes, word_takes}
 use Rattle.statement.proofs.GrammarStopping.{EndsWith, Stops, Finds}
 use Rattle.statement.proofs.LineStops as stops
 use Rattle.tokens.proofs.PlaceSame.{Texts, Near, IsPast, left_of, Within, wider, Same, elsewhere, past, Good, GoodAfter, good_here, good_ok, good_then, good_after, good_if}
-use Rattle.tokens.proofs.TokenSame.{GoodToken, good_by, good_either, good_peek, good_symbol, good_word, good_name}
+use Rattle.tokens.proofs.TokenSame.{runs, digit_is_name, GoodToken, good_by, good_either, good_peek, good_symbol, good_word, good_name}
 use Rattle.statement.proofs.TokenSame.{Tokens, texts, reach_next, inside, near_front, by_front, good_end, good_token, good_optional, found_or, digits_same, good_digits, good_list}
 
 leaves_at : {P : List ℕ → Type 0} (r : After) (rest : List ℕ) → Leaves r P → r ≡ Ok rest → P rest
@@ -43,6 +51,13 @@ symbol_less symbol bytes rest is = (symbol_takes symbol).below bytes rest (leave
 
 word_less : (word : List ℕ) → 0 < length word → (bytes rest : List ℕ) → word_at word bytes ≡ Ok rest → length rest < length bytes
 word_less word some bytes rest is = (word_takes word some).below bytes rest (leaves_at (word_at word bytes) rest (word_sound word bytes) is)
+
+-- the number that digits write at the start, if there are some
+abbrev capped_or : List ℕ → Read ℕ
+capped_or at = if prefix_len is_ascii_digit at == 0 then Err at else Ok (capped_from 0 (prefix_while is_ascii_digit at), skip_while is_ascii_digit at)
+
+same_count : (a c : List ℕ) → prefix_while is_ascii_digit a ≡ prefix_while is_ascii_digit c → (prefix_len is_ascii_digit a == 0) ≡ (prefix_len is_ascii_digit c == 0)
+same_count a c same = ap (λ (n : ℕ). n == 0) (sym (length-prefix_len is_ascii_digit a) ∙ ap length same ∙ length-prefix_len is_ascii_digit c)
 
 module _ (first : ℕ) (rest other : List ℕ) (t : Tokens first rest other) (no_minus : (first == 45) ≡ false) (no_quote : (first == 39) ≡ false) where
   abbrev w : Texts
@@ -320,6 +335,41 @@ module _ (first : ℕ) (rest other : List ℕ) (t : Tokens first rest other) (no
   unfolding form_at
   form_fine = by_word (codes "FOR") system_time_at _ system_time_fine (ok Plain)
 
+  -- sizes and types
+  capped_same : (a c : List ℕ) → Near w a c → Alike (capped_or a) (capped_or c)
+  capped_same a c near =
+      let h = runs w is_ascii_digit digit_is_name a c near in
+      by_tests h.fronts h.left (prefix_len is_ascii_digit a == 0) (prefix_len is_ascii_digit c == 0) (same_count a c h.fronts)
+    where
+      by_tests : prefix_while is_ascii_digit a ≡ prefix_while is_ascii_digit c → Near w (skip_while is_ascii_digit a) (skip_while is_ascii_digit c) ⊎ IsPast w (skip_while is_ascii_digit a) → (u v : Bool) → u ≡ v
+          → Alike (if u then Err a else Ok (capped_from 0 (prefix_while is_ascii_digit a), skip_while is_ascii_digit a)) (if v then Err c else Ok (capped_from 0 (prefix_while is_ascii_digit c), skip_while is_ascii_digit c))
+      by_tests same left true true e = record { it = tt }
+      by_tests same left true false e = cc
+      by_tests same left false true e = cc
+      by_tests same left false false e = record { it = elim left [ inl n ↦ inl (ap (capped_from 0) same, n) | inr less ↦ inr less ] }
+
+  capped_fine : Fine (capped_at next)
+  unfolding capped_at
+  capped_fine = good_here w _ (λ bytes. stays _ (stops.capped_stops bytes)) (λ a c here. capped_same (next a) (next c) here)
+
+  size_fine : Fine (size_at next)
+  unfolding size_at
+  size_fine =
+      after (symbol_at 40) _ (symbol 40)
+      (reads (capped_at next) _ capped_fine (λ n. after (symbol_at 41) (λ rest. Ok (n, rest)) (symbol 41) (ok n)))
+
+  varchar_fine : Fine (varchar_at next)
+  unfolding varchar_at
+  varchar_fine = reads (size_at next) _ size_fine (λ n. ok (Varchar n))
+
+  type_fine : Fine type_at
+  unfolding type_after
+  type_fine =
+      by_word (codes "INT") _ _ (ok IsInt)
+      (by_word (codes "INTEGER") _ _ (ok IsInt)
+      (by_word (codes "BIGINT") _ _ (ok IsInt)
+      (by_word (codes "TEXT") _ _ (ok IsText) (by_word (codes "BOOLEAN") _ _ (ok IsBoolean) (last_word (codes "VARCHAR") (varchar_at next) varchar_fine)))))
+
   module _ (schema : Schema) where
     table_fine : Fine (table_name_at schema)
     unfolding table_name_at
@@ -417,13 +467,32 @@ module _ (first : ℕ) (rest other : List ℕ) (t : Tokens first rest other) (no
         by_word (codes "BEGIN") _ _ (ok Begin)
         (by_word (codes "START") start_at _ start_fine (by_word (codes "COMMIT") _ _ (after_work Commit) (by_word (codes "ROLLBACK") _ (data_at schema) (after_work Rollback) data_fine)))
 
+    closed : (written : Written) → Fine (λ bytes. end_at (after_semicolon bytes) >>= λ rest. Ok (written, rest))
+    closed written = optional (symbol_at 59) (λ bytes. end_at bytes >>= λ rest. Ok (written, rest)) (good_symbol w 59) (after end_at (λ rest. Ok (written, rest)) end (ok _))
+
+    alter_fine : (session : ℕ) → Fine (alter_at schema session)
+    unfolding alter_at
+    alter_fine session =
+        after (word_at (codes "TABLE")) _ (word (codes "TABLE"))
+        (reads (table_name_at schema) _ table_fine (λ table.
+        after (word_at (codes "ADD")) _ (word (codes "ADD"))
+        (after (word_at (codes "COLUMN")) _ (word (codes "COLUMN"))
+        (reads name_at _ named (λ name.
+        reads type_at _ type_fine (λ of. closed (AddColumn session table name of)))))))
+
+    request_fine : (session : ℕ) → Fine (request_at schema session)
+    unfolding request_at
+    request_fine session = reads (statement_at schema) _ statement_fine (λ statement. closed (Session session statement))
+
+    asked_fine : (session : ℕ) → Fine (asked_at schema session)
+    unfolding asked_at
+    asked_fine session = by_word (codes "ALTER") (alter_at schema session) (request_at schema session) (alter_fine session) (request_fine session)
+
     session_fine : Fine (session_at schema)
     unfolding session_at
     session_fine =
         reads (digits_at (2 ^ 63 - 1)) _ (digits (2 ^ 63 - 1)) (λ session.
-        after (symbol_at 58) _ (symbol 58)
-        (reads (statement_at schema) _ statement_fine (λ statement.
-        optional (symbol_at 59) (λ bytes. end_at bytes >>= λ rest. Ok (Session session statement, rest)) (good_symbol w 59) (after end_at (λ rest. Ok (Session session statement, rest)) end (ok _)))))
+        after (symbol_at 58) (asked_at schema session) (symbol 58) (asked_fine session))
 
     clock_fine : Fine clock_at
     unfolding clock_at
@@ -469,12 +538,6 @@ module _ (first : ℕ) (rest other : List ℕ) (t : Tokens first rest other) (no
     unfolding written_at
     written_fine =
         good_if w (λ bytes. begins_digit (next bytes)) (session_at schema) (service_at schema) (record { tells = λ a c r. inl (first_same begins_digit (λ d q more. refl) (reach_next first rest other t r)) }) session_fine service_fine
-
-    request_fine : (session : ℕ) → Fine (request_at schema session)
-    unfolding request_at
-    request_fine session =
-        reads (statement_at schema) _ statement_fine (λ statement.
-        optional (symbol_at 59) (λ bytes. end_at bytes >>= λ rest. Ok (Session session statement, rest)) (good_symbol w 59) (after end_at (λ rest. Ok (Session session statement, rest)) end (ok _)))
 
     pub served_fine : (session : ℕ) → Fine (served_at schema session)
     unfolding served_at

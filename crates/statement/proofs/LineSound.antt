@@ -5,19 +5,21 @@ use Rattle.values.specs.Tables.{Schema}
 use Rattle.values.specs.declared.query.Comparison.{Comparison}
 use Rattle.values.specs.declared.query.Keys.{Keys}
 use Rattle.statement.specs.declared.line.Written.{Written}
-use Rattle.statement.specs.declared.line.Written.TheVariants.{Clock, SplitKey, SplitTime, Migrate, Session}
+use Rattle.statement.specs.declared.line.Written.TheVariants.{Clock, SplitKey, SplitTime, Migrate, Session, AddColumn}
 use Rattle.statement.specs.declared.statement.Statement.TheVariants.{Begin, Insert, Update, Delete, Select, Commit, Rollback}
 use Rattle.tokens.specs.Token.{After}
 use Rattle.statement.specs.Token.{next, symbol_at, end_at, after_semicolon}
 use Rattle.statement.specs.Token.{word_at, after_optional_word}
 use Rattle.statement.specs.Condition.{keys_at}
 use Rattle.statement.specs.Statement.{start_at, listed_at, insert_at, update_at, delete_at, select_at, data_at, statement_at}
+use Rattle.statement.specs.Alteration.{alter_at, request_at, asked_at}
 use Rattle.statement.specs.Line.{begins_digit, clock_at, migrate_at, session_at, service_at, written_at}
-use Rattle.statement.specs.ServedLine.{request_at, served_at}
+use Rattle.statement.specs.ServedLine.{served_at}
 use Rattle.statement.specs.Split.{key_at, split_key_at, split_time_at, kind_at, split_at}
-use Rattle.statement.specs.Grammar.{◌∣◌, Empty, Blanks, Symbol, Word, Listed, IsTable, IsSet, IsComparison, IsColumnList, IsWhere, IsStatement, IsKey, IsServiceLine, IsLine, IsServedLine}
+use Rattle.statement.specs.Grammar.{◌⋯◌, ◌∣◌, Empty, Blanks, Symbol, Word, Digits, Listed, IsTable, IsSet, IsComparison, IsColumnList, IsWhere, IsStatement, IsRequest, IsAlteration, IsKey, IsServiceLine, IsLine, IsServedLine}
 use Rattle.statement.proofs.TokenGaps.{blanks_before}
-use Rattle.statement.proofs.GrammarSound.{symbol_sound, word_sound}
+use Rattle.statement.proofs.GrammarSound.{symbol_sound, word_sound, name_sound}
+use Rattle.statement.proofs.AlterationSound.{type_sound}
 use Rattle.statement.proofs.LiteralSound.{digits_sound}
 use Rattle.statement.proofs.ListSound.{row_sound, rows_sound, instant_sound, form_sound, table_sound, sets_sound, comparisons_sound, columns_sound}
 use Rattle.statement.proofs.GrammarHolds.{Holds, Leaves, holds, holds_then, holds_weaker, leaves_then, leaves_either}
@@ -41,6 +43,16 @@ unfolding end_at
 end_sound bytes = ended bytes (next bytes) (blanks_before bytes)
 
 module _ (schema : Schema) where
+  -- what a session asks on a line of a script, after its number and a colon
+  abbrev IsAsked : ℕ → Written → List ℕ → Type 0
+  IsAsked session (Clock instant) bytes = ⊥
+  IsAsked session (SplitKey key) bytes = ⊥
+  IsAsked session (SplitTime key instant) bytes = ⊥
+  IsAsked session Migrate bytes = ⊥
+  IsAsked session (Session number statement) bytes = (session ≡ number) × IsRequest schema statement bytes []
+  IsAsked session (AddColumn number table name of) bytes =
+      (session ≡ number) × (IsAlteration schema table name of ⋯ (Empty ∣ Symbol 59) ⋯ Blanks) bytes []
+
   pub where_of : (table : ℕ) (cs : List Comparison) (bytes between rest : List ℕ) → Word (codes "WHERE") bytes between
       → Listed (Word (codes "AND")) (IsComparison schema table) cs between rest → IsWhere schema table cs bytes rest
   where_of table [] bytes between rest word list = absurd list
@@ -120,14 +132,47 @@ module _ (schema : Schema) where
       leaves_either _ _ _ (word_sound (codes "COMMIT") bytes) (λ rest first. holds Commit _ (rest, (first, work_sound rest))) (λ _.
       leaves_either _ _ _ (word_sound (codes "ROLLBACK") bytes) (λ rest first. holds Rollback _ (rest, (first, work_sound rest))) (λ _. data_sound bytes))))
 
+  alter_sound : (session : ℕ) (start bytes : List ℕ) → Word (codes "ALTER") start bytes
+      → Holds (alter_at schema session bytes) (λ written rest. IsAsked session written start)
+  unfolding alter_at
+  alter_sound session start bytes first =
+      leaves_then _ _ (word_sound (codes "TABLE") bytes) (λ a second.
+      holds_then _ _ (table_sound schema a) (λ table b named.
+      leaves_then _ _ (word_sound (codes "ADD") b) (λ c third.
+      leaves_then _ _ (word_sound (codes "COLUMN") c) (λ d fourth.
+      holds_then _ _ (name_sound d) (λ name e is.
+      holds_then _ _ (type_sound e) (λ of f typed.
+      leaves_then _ _ (end_sound (after_semicolon f)) (λ rest blank.
+      holds (AddColumn session table name of) rest
+      (refl, (f, ((bytes, (first, (a, (second, (b, (named, (c, (third, (d, (fourth, (e, (is, typed)))))))))))), (after_semicolon f, (semicolon_sound f, blank))))))))))))
+
+  request_holds : (session : ℕ) (bytes : List ℕ) → Holds (request_at schema session bytes) (λ written rest. IsAsked session written bytes)
+  unfolding request_at
+  request_holds session bytes =
+      holds_then _ _ (statement_sound bytes) (λ statement c is.
+      leaves_then _ _ (end_sound (after_semicolon c)) (λ rest blank.
+      holds (Session session statement) rest (refl, (c, (is, (after_semicolon c, (semicolon_sound c, blank)))))))
+
+  asked_sound : (session : ℕ) (bytes : List ℕ) → Holds (asked_at schema session bytes) (λ written rest. IsAsked session written bytes)
+  unfolding asked_at
+  asked_sound session bytes =
+      leaves_either _ _ _ (word_sound (codes "ALTER") bytes) (λ rest first. alter_sound session bytes rest first) (λ _. request_holds session bytes)
+
+  -- a session's line, by its number and what it asks
+  line_asked : (session : ℕ) (written : Written) (bytes a b : List ℕ) → (Blanks ⋯ Digits (2 ^ 63 - 1) session) bytes a → Symbol 58 a b → IsAsked session written b → IsLine schema written bytes
+  line_asked session (Clock instant) bytes a b number colon is = absurd is
+  line_asked session (SplitKey key) bytes a b number colon is = absurd is
+  line_asked session (SplitTime key instant) bytes a b number colon is = absurd is
+  line_asked session Migrate bytes a b number colon is = absurd is
+  line_asked session (Session own statement) bytes a b number colon is = subst (λ (n : ℕ). IsLine schema (Session n statement) bytes) is.0 (a, (number, (b, (colon, is.1))))
+  line_asked session (AddColumn own table name of) bytes a b number colon is = subst (λ (n : ℕ). IsLine schema (AddColumn n table name of) bytes) is.0 (a, (number, (b, (colon, is.1))))
+
   session_sound : (bytes : List ℕ) → Holds (session_at schema bytes) (λ written rest. IsLine schema written bytes)
   unfolding session_at
   session_sound bytes =
       holds_then _ _ (digits_sound (2 ^ 63 - 1) bytes) (λ session a number.
       leaves_then _ _ (symbol_sound 58 a) (λ b colon.
-      holds_then _ _ (statement_sound b) (λ statement c is.
-      leaves_then _ _ (end_sound (after_semicolon c)) (λ rest blank.
-      holds (Session session statement) rest (a, (number, (b, (colon, (c, (is, (after_semicolon c, (semicolon_sound c, blank))))))))))))
+      holds_weaker (asked_sound session b) (λ written _ is. line_asked session written bytes a b number colon is)))
 
   clock_sound : (bytes : List ℕ) → Holds (clock_at bytes) (λ written rest. IsLine schema written bytes)
   unfolding clock_at
@@ -177,6 +222,7 @@ module _ (schema : Schema) where
   line_of_service (SplitTime key instant) bytes is = is
   line_of_service Migrate bytes is = is
   line_of_service (Session session statement) bytes is = absurd is
+  line_of_service (AddColumn session table name of) bytes is = absurd is
 
   service_sound : (bytes : List ℕ) → Holds (service_at schema bytes) (λ written rest. IsLine schema written bytes)
   unfolding service_at
@@ -200,6 +246,7 @@ module _ (schema : Schema) where
   served_of_service session (SplitTime key instant) bytes is = is
   served_of_service session Migrate bytes is = is
   served_of_service session (Session number statement) bytes is = absurd is
+  served_of_service session (AddColumn number table name of) bytes is = absurd is
 
   request_sound : (session : ℕ) (bytes : List ℕ) → Holds (request_at schema session bytes) (λ written rest. IsServedLine schema session written bytes)
   unfolding request_at

@@ -19,6 +19,10 @@ use Rattle.tokens.specs.Token.{symbol_at as symbol_after}
 use Rattle.tokens.specs.Word.{is_name_byte}
 use Rattle.tokens.specs.Word.{is_word_at as is_word_after, after_word as rest_of_word, word_at as word_after}
 use Rattle.tokens.specs.Name.{is_name}
+use Rattle.tokens.specs.Digit.{capped_from, capped_at}
+use Rattle.tokens.specs.TypeName.{size_at, varchar_at, type_at as type_after}
+use Rattle.values.specs.declared.table.ColumnType.TheVariants.{Int as IsInt, Text as IsText, Varchar, Boolean as IsBoolean}
+use Rattle.std.specs.List.{prefix_len}
 use Rattle.tokens.specs.Name.{name_at as name_after}
 use Rattle.statement.specs.Token.{next, symbol_at, word_at, name_at, end_at, after_semicolon, after_optional_word}
 use Rattle.statement.specs.List.{more_at, list_at, enclosed_at}
@@ -26,7 +30,8 @@ use Rattle.statement.specs.Literal.{digit_count, digits_here, digits_at, begins_
 use Rattle.statement.specs.Condition.{table_of, column_of, table_name_at, column_name_at, or_equal, operator_of, operator_at, set_at, comparison_at, sets_at, comparisons_at, columns_at, keys_at}
 use Rattle.statement.specs.Statement.{instant_at, as_of_at, period_at, selection_at, system_time_at, form_at, start_at, listed_at, insert_at, update_at, delete_at, select_at, data_at, statement_at}
 use Rattle.statement.specs.Line.{begins_digit, clock_at, migrate_at, session_at, service_at, written_at}
-use Rattle.statement.specs.ServedLine.{request_at, served_at}
+use Rattle.statement.specs.Alteration.{type_at, alter_at, request_at, asked_at}
+use Rattle.statement.specs.ServedLine.{served_at}
 use Rattle.statement.specs.Split.{key_at, split_key_at, split_time_at, kind_at, split_at}
 use Rattle.statement.specs.declared.line.Written.TheVariants.{Migrate}
 use Rattle.statement.proofs.GrammarStopping.{EndsWith, whole, behind, through, next_left, skip_left, Refusal, Stops, Leads, Finds, reads_on, stops_next, wider, then_stops, read_stops, after_stops, either_stops, refused, optional_left, found_stops, finds_mapped}
@@ -107,6 +112,37 @@ number_found (b ∷ bs) = by_test (b == 45)
     by_test : (t : Bool) → Finds (b ∷ bs) (if t then below_nought bs else above_nought (b ∷ bs))
     by_test true = deeper b _ (finds_mapped _ (λ (n : ℕ). neg_ℤ (pos n)) (digits_found (2 ^ 63) bs))
     by_test false = finds_mapped _ pos (digits_found (2 ^ 63 - 1) (b ∷ bs))
+
+-- sizes and types
+pub capped_stops : (bytes : List ℕ) → Stops bytes (capped_at next bytes)
+unfolding capped_at
+capped_stops bytes = by_test (prefix_len is_ascii_digit (next bytes) == 0)
+  where
+    by_test : (t : Bool)
+        → Stops bytes (if t then Err (next bytes) else Ok (capped_from 0 (prefix_while is_ascii_digit (next bytes)), skip_while is_ascii_digit (next bytes)))
+    by_test true = stops_next bytes
+    by_test false = reads_on _ (through (next_left bytes) (skip_left is_ascii_digit (next bytes)))
+
+size_stops : (bytes : List ℕ) → Stops bytes (size_at next bytes)
+unfolding size_at
+size_stops bytes =
+    after_stops _ _ (symbol_stops 40 bytes) (λ a.
+    then_stops _ _ (capped_stops a) (λ n b.
+    after_stops _ _ (symbol_stops 41 b) (λ rest. reads_on n (whole rest))))
+
+varchar_stops : (bytes : List ℕ) → Stops bytes (varchar_at next bytes)
+unfolding varchar_at
+varchar_stops bytes = then_stops _ _ (size_stops bytes) (λ n rest. reads_on (Varchar n) (whole rest))
+
+pub type_stops : (bytes : List ℕ) → Stops bytes (type_at bytes)
+unfolding type_after
+type_stops bytes =
+    either_stops _ _ _ (word_stops (codes "INT") bytes) (λ rest. reads_on IsInt (whole rest)) (λ _ _.
+    either_stops _ _ _ (word_stops (codes "INTEGER") bytes) (λ rest. reads_on IsInt (whole rest)) (λ _ _.
+    either_stops _ _ _ (word_stops (codes "BIGINT") bytes) (λ rest. reads_on IsInt (whole rest)) (λ _ _.
+    either_stops _ _ _ (word_stops (codes "TEXT") bytes) (λ rest. reads_on IsText (whole rest)) (λ _ _.
+    either_stops _ _ _ (word_stops (codes "BOOLEAN") bytes) (λ rest. reads_on IsBoolean (whole rest)) (λ _ _.
+    either_stops _ _ _ (word_stops (codes "VARCHAR") bytes) varchar_stops (λ at r. refused r))))))
 
 pub number_stops : (bytes : List ℕ) → Stops bytes (number_at bytes)
 unfolding number_at
@@ -349,13 +385,32 @@ module _ (schema : Schema) where
       either_stops _ _ _ (word_stops (codes "COMMIT") bytes) (λ rest. reads_on Commit (work_left rest)) (λ _ _.
       either_stops _ _ _ (word_stops (codes "ROLLBACK") bytes) (λ rest. reads_on Rollback (work_left rest)) (λ _ _. data_stops bytes))))
 
+  alter_stops : (session : ℕ) (bytes : List ℕ) → Stops bytes (alter_at schema session bytes)
+  unfolding alter_at
+  alter_stops session bytes =
+      after_stops _ _ (word_stops (codes "TABLE") bytes) (λ a.
+      then_stops _ _ (table_stops a) (λ table b.
+      after_stops _ _ (word_stops (codes "ADD") b) (λ c.
+      after_stops _ _ (word_stops (codes "COLUMN") c) (λ d.
+      then_stops _ _ (name_stops d) (λ name e.
+      then_stops _ _ (type_stops e) (λ of f.
+      wider _ (semicolon_left f) (after_stops _ _ (end_stops (after_semicolon f)) (λ rest. reads_on _ (whole rest)))))))))
+
+  request_stops : (session : ℕ) (bytes : List ℕ) → Stops bytes (request_at schema session bytes)
+  unfolding request_at
+  request_stops session bytes =
+      then_stops _ _ (statement_stops bytes) (λ statement c.
+      wider _ (semicolon_left c) (after_stops _ _ (end_stops (after_semicolon c)) (λ rest. reads_on _ (whole rest))))
+
+  asked_stops : (session : ℕ) (bytes : List ℕ) → Stops bytes (asked_at schema session bytes)
+  unfolding asked_at
+  asked_stops session bytes = either_stops _ _ _ (word_stops (codes "ALTER") bytes) (alter_stops session) (λ _ _. request_stops session bytes)
+
   pub session_stops : (bytes : List ℕ) → Stops bytes (session_at schema bytes)
   unfolding session_at
   session_stops bytes =
       then_stops _ _ (digits_stop (2 ^ 63 - 1) bytes) (λ session a.
-      after_stops _ _ (symbol_stops 58 a) (λ b.
-      then_stops _ _ (statement_stops b) (λ statement c.
-      wider _ (semicolon_left c) (after_stops _ _ (end_stops (after_semicolon c)) (λ rest. reads_on _ (whole rest))))))
+      after_stops _ _ (symbol_stops 58 a) (λ b. asked_stops session b))
 
   pub clock_stops : (bytes : List ℕ) → Stops bytes (clock_at bytes)
   unfolding clock_at
@@ -408,12 +463,6 @@ module _ (schema : Schema) where
       by_test : (t : Bool) → Stops bytes (if t then session_at schema bytes else service_at schema bytes)
       by_test true = session_stops bytes
       by_test false = service_stops bytes
-
-  request_stops : (session : ℕ) (bytes : List ℕ) → Stops bytes (request_at schema session bytes)
-  unfolding request_at
-  request_stops session bytes =
-      then_stops _ _ (statement_stops bytes) (λ statement c.
-      wider _ (semicolon_left c) (after_stops _ _ (end_stops (after_semicolon c)) (λ rest. reads_on _ (whole rest))))
 
   pub served_stops : (session : ℕ) (bytes : List ℕ) → Stops bytes (served_at schema session bytes)
   unfolding served_at

@@ -6,23 +6,26 @@ use Rattle.values.specs.Tables.{Schema}
 use Rattle.values.specs.declared.key.Key.{Key}
 use Rattle.values.specs.Names.{same_name}
 use Rattle.statement.specs.declared.line.Written.{Written}
-use Rattle.statement.specs.declared.line.Written.TheVariants.{Clock, SplitKey, SplitTime, Migrate, Session}
+use Rattle.statement.specs.declared.line.Written.TheVariants.{Clock, SplitKey, SplitTime, Migrate, Session, AddColumn}
 use Rattle.statement.specs.declared.statement.Statement.{Statement}
 use Rattle.statement.specs.declared.statement.Statement.TheVariants.{Begin, Insert, Update, Delete, Select, Commit, Rollback}
 use Rattle.tokens.specs.Token.{After, Read}
 use Rattle.statement.specs.Token.{next, end_at, after_semicolon}
 use Rattle.statement.specs.Token.{word_at, after_optional_word}
 use Rattle.statement.specs.Statement.{start_at, insert_at, update_at, delete_at, select_at, data_at, statement_at}
+use Rattle.statement.specs.Alteration.{alter_at, request_at, asked_at}
 use Rattle.statement.specs.Line.{is_nothing, begins_digit, clock_at, migrate_at, session_at, service_at, written_at}
-use Rattle.statement.specs.ServedLine.{request_at, served_at}
+use Rattle.statement.specs.ServedLine.{served_at}
 use Rattle.statement.specs.Split.{split_key_at, split_time_at, kind_at, split_at}
-use Rattle.statement.specs.Grammar.{◌⋯◌, ◌∣◌, Empty, Blanks, Symbol, Word, Digits, IsStatement, IsRequest, IsInstant, IsKey, IsLine, IsServedLine}
+use Rattle.statement.specs.Grammar.{◌⋯◌, ◌∣◌, Empty, Blanks, Symbol, Word, Name, Digits, IsTable, IsType, IsStatement, IsRequest, IsInstant, IsKey, IsLine, IsServedLine}
 use Rattle.statement.proofs.TokenGaps.{next_is}
-use Rattle.statement.proofs.TokenWhole.{word_whole, symbol_whole, next_symbol, next_run, other_word_refused, symbol_refused, symbol_refused_at_end, word_refused, word_refused_at_end}
+use Rattle.statement.proofs.TokenWhole.{word_whole, name_whole, symbol_whole, next_symbol, next_run, other_word_refused, symbol_refused, symbol_refused_at_end, word_refused, word_refused_at_end}
 use Rattle.tokens.proofs.WordCases.{some_written}
 use Rattle.statement.proofs.LiteralWhole.{Lettered, letter_of, letter_is_no_digit, letter_is_no_minus, FirstDigit, first_digit, digits_not_blank, digit_is_no_other, digits_whole}
 use Rattle.statement.proofs.ListWhole.{ok_then}
-use Rattle.statement.proofs.StatementWhole.{Closing, instant_whole, key_whole, work_whole, insert_whole, update_whole, delete_whole, select_whole}
+use Rattle.statement.proofs.AlterationWhole.{type_whole}
+use Rattle.values.specs.declared.table.ColumnType.{ColumnType}
+use Rattle.statement.proofs.StatementWhole.{Closing, instant_whole, table_whole, key_whole, work_whole, insert_whole, update_whole, delete_whole, select_whole}
 
 -- the end of a line closes its statement
 closing_at_end : (rest : List ℕ) → next rest ≡ [] → Closing rest
@@ -168,6 +171,9 @@ module _ (schema : Schema) where
   line_begins (Session session statement) bytes is =
       let f = number_first session bytes is.0 is.1.0 in
       record { first = f.first; others = f.others; here = f.spelled; no_minus = digit_is_no_other f.first 45 (lit< tt) f.digit }
+  line_begins (AddColumn session table name of) bytes is =
+      let f = number_first session bytes is.0 is.1.0 in
+      record { first = f.first; others = f.others; here = f.spelled; no_minus = digit_is_no_other f.first 45 (lit< tt) f.digit }
 
   something : (first : ℕ) (others : List ℕ) → (first == 45) ≡ false → is_nothing (first ∷ others) ≡ false
   something first [] none = refl
@@ -176,19 +182,83 @@ module _ (schema : Schema) where
   pub line_is_something : (written : Written) (bytes : List ℕ) → IsLine schema written bytes → is_nothing (next bytes) ≡ false
   line_is_something written bytes is = let b = line_begins written bytes is in ap is_nothing b.here ∙ something b.first b.others b.no_minus
 
+  request_whole : (session : ℕ) (statement : Statement) (bytes : List ℕ) → IsRequest schema statement bytes [] → request_at schema session bytes ≡ Ok (Session session statement, [])
+  unfolding request_at
+  request_whole session statement bytes is =
+      let c = is.0 in
+      let d = is.1.1.0 in
+      let semicolon = is.1.1.1.0 in
+      let blanks = is.1.1.1.1 in
+      ok_then _ _ (statement_whole statement bytes c is.1.0 (closing c d semicolon blanks))
+      (ok_then _ _ (ap end_at (semicolon_whole c d semicolon blanks) ∙ end_whole d blanks) refl)
+
+  -- the word that a statement begins with, which is none of a line of no session, and not ALTER
+  record FirstWord (bytes : List ℕ) : Type 0 where
+    pub letter : ℕ
+    pub letters : List ℕ
+    pub rest : List ℕ
+    pub stands : Word (letter ∷ letters) bytes rest
+    pub low : 97 ≤ to_ascii_lowercase letter
+    pub no_split : same_name (codes "SPLIT") (letter ∷ letters) ≡ false
+    pub no_migrate : same_name (codes "MIGRATE") (letter ∷ letters) ≡ false
+    pub no_alter : same_name (codes "ALTER") (letter ∷ letters) ≡ false
+
+  statement_first : (statement : Statement) (bytes rest : List ℕ) → IsStatement schema statement bytes rest → FirstWord bytes
+  statement_first Begin bytes rest (inl is) = record { letter = 66; letters = codes "EGIN"; rest = rest; stands = is; low = lit≤ tt; no_split = refl; no_migrate = refl; no_alter = refl }
+  statement_first Begin bytes rest (inr is) = record { letter = 83; letters = codes "TART"; rest = is.0; stands = is.1.0; low = lit≤ tt; no_split = refl; no_migrate = refl; no_alter = refl }
+  statement_first Commit bytes rest is = record { letter = 67; letters = codes "OMMIT"; rest = is.0; stands = is.1.0; low = lit≤ tt; no_split = refl; no_migrate = refl; no_alter = refl }
+  statement_first Rollback bytes rest is = record { letter = 82; letters = codes "OLLBACK"; rest = is.0; stands = is.1.0; low = lit≤ tt; no_split = refl; no_migrate = refl; no_alter = refl }
+  statement_first (Insert table columns rows) bytes rest is = record { letter = 73; letters = codes "NSERT"; rest = is.0; stands = is.1.0; low = lit≤ tt; no_split = refl; no_migrate = refl; no_alter = refl }
+  statement_first (Update keys sets) bytes rest is = record { letter = 85; letters = codes "PDATE"; rest = is.0; stands = is.1.0; low = lit≤ tt; no_split = refl; no_migrate = refl; no_alter = refl }
+  statement_first (Delete keys) bytes rest is = record { letter = 68; letters = codes "ELETE"; rest = is.0; stands = is.1.0; low = lit≤ tt; no_split = refl; no_migrate = refl; no_alter = refl }
+  statement_first (Select form keys) bytes rest is = record { letter = 83; letters = codes "ELECT"; rest = is.0; stands = is.1.0; low = lit≤ tt; no_split = refl; no_migrate = refl; no_alter = refl }
+
+  abbrev on_alter : ℕ → List ℕ → After → Read Written
+  on_alter session bytes r = elim r [ Ok rest ↦ alter_at schema session rest | Err _ ↦ request_at schema session bytes ]
+
+  request_asked : (session : ℕ) (bytes : List ℕ) → FirstWord bytes → asked_at schema session bytes ≡ request_at schema session bytes
+  unfolding asked_at
+  request_asked session bytes f = ap (on_alter session bytes) (other_word_refused (codes "ALTER") (f.letter ∷ f.letters) f.no_alter (omega arith) bytes f.rest f.stands).is
+
   session_whole : (session : ℕ) (statement : Statement) (bytes : List ℕ) → IsLine schema (Session session statement) bytes → session_at schema bytes ≡ Ok (Session session statement, [])
   unfolding session_at
   session_whole session statement bytes is =
       let a = is.0 in
       let b = is.1.1.0 in
-      let c = is.1.1.1.1.0 in
-      let d = is.1.1.1.1.1.1.0 in
-      let semicolon = is.1.1.1.1.1.1.1.0 in
-      let blanks = is.1.1.1.1.1.1.1.1 in
       ok_then _ _ (digits_whole (2 ^ 63 - 1) session bytes a is.1.0)
       (ok_then _ _ (symbol_whole 58 refl a b is.1.1.1.0)
-      (ok_then _ _ (statement_whole statement b c is.1.1.1.1.1.0 (closing c d semicolon blanks))
-      (ok_then _ _ (ap end_at (semicolon_whole c d semicolon blanks) ∙ end_whole d blanks) refl)))
+      (request_asked session b (statement_first statement b is.1.1.1.1.0 is.1.1.1.1.1.0) ∙ request_whole session statement b is.1.1.1.1))
+
+  alter_whole : (session table : ℕ) (name : List ℕ) (of : ColumnType) (bytes c d : List ℕ)
+      → (Word (codes "TABLE") ⋯ IsTable schema table ⋯ Word (codes "ADD") ⋯ Word (codes "COLUMN") ⋯ Name name ⋯ IsType of) bytes c → (Empty ∣ Symbol 59) c d → Blanks d []
+      → alter_at schema session bytes ≡ Ok (AddColumn session table name of, [])
+  unfolding alter_at
+  alter_whole session table name of bytes c d is semicolon blanks =
+      let p = is.0 in
+      let q = is.1.1.0 in
+      let r = is.1.1.1.1.0 in
+      let s = is.1.1.1.1.1.1.0 in
+      let t = is.1.1.1.1.1.1.1.1.0 in
+      ok_then _ _ (word_whole (codes "TABLE") (lit< tt) bytes p is.1.0)
+      (ok_then _ _ (table_whole schema table p q is.1.1.1.0)
+      (ok_then _ _ (word_whole (codes "ADD") (lit< tt) q r is.1.1.1.1.1.0)
+      (ok_then _ _ (word_whole (codes "COLUMN") (lit< tt) r s is.1.1.1.1.1.1.1.0)
+      (ok_then _ _ (name_whole name s t is.1.1.1.1.1.1.1.1.1.0)
+      (ok_then _ _ (type_whole of t c is.1.1.1.1.1.1.1.1.1.1)
+      (ok_then _ _ (ap end_at (semicolon_whole c d semicolon blanks) ∙ end_whole d blanks) refl))))))
+
+  alteration_whole : (session table : ℕ) (name : List ℕ) (of : ColumnType) (bytes : List ℕ) → IsLine schema (AddColumn session table name of) bytes → session_at schema bytes ≡ Ok (AddColumn session table name of, [])
+  unfolding session_at asked_at
+  alteration_whole session table name of bytes is =
+      let a = is.0 in
+      let b = is.1.1.0 in
+      let c = is.1.1.1.1.0 in
+      let al = is.1.1.1.1.1.0 in
+      let d = is.1.1.1.1.1.1.0 in
+      ok_then _ _ (digits_whole (2 ^ 63 - 1) session bytes a is.1.0)
+      (ok_then _ _ (symbol_whole 58 refl a b is.1.1.1.0)
+      (ap (on_alter session b) (word_whole (codes "ALTER") (lit< tt) b al.0 al.1.0)
+      ∙ alter_whole session table name of al.0 c d al.1.1 is.1.1.1.1.1.1.1.0 is.1.1.1.1.1.1.1.1))
 
   clock_whole : (instant : ℕ) (bytes : List ℕ) → IsLine schema (Clock instant) bytes → clock_at bytes ≡ Ok (Clock instant, [])
   unfolding clock_at
@@ -296,28 +366,12 @@ module _ (schema : Schema) where
       let f = number_first session bytes is.0 is.1.0 in
       ap (λ t. if t then session_at schema bytes else service_at schema bytes) (ap begins_digit f.spelled ∙ f.digit)
       ∙ session_whole session statement bytes is
+  line_whole (AddColumn session table name of) bytes is =
+      let f = number_first session bytes is.0 is.1.0 in
+      ap (λ t. if t then session_at schema bytes else service_at schema bytes) (ap begins_digit f.spelled ∙ f.digit)
+      ∙ alteration_whole session table name of bytes is
 
   -- ---- lines that a session sends
-
-  -- the word that a statement begins with, which is none of a line of no session
-  record FirstWord (bytes : List ℕ) : Type 0 where
-    pub letter : ℕ
-    pub letters : List ℕ
-    pub rest : List ℕ
-    pub stands : Word (letter ∷ letters) bytes rest
-    pub low : 97 ≤ to_ascii_lowercase letter
-    pub no_split : same_name (codes "SPLIT") (letter ∷ letters) ≡ false
-    pub no_migrate : same_name (codes "MIGRATE") (letter ∷ letters) ≡ false
-
-  statement_first : (statement : Statement) (bytes rest : List ℕ) → IsStatement schema statement bytes rest → FirstWord bytes
-  statement_first Begin bytes rest (inl is) = record { letter = 66; letters = codes "EGIN"; rest = rest; stands = is; low = lit≤ tt; no_split = refl; no_migrate = refl }
-  statement_first Begin bytes rest (inr is) = record { letter = 83; letters = codes "TART"; rest = is.0; stands = is.1.0; low = lit≤ tt; no_split = refl; no_migrate = refl }
-  statement_first Commit bytes rest is = record { letter = 67; letters = codes "OMMIT"; rest = is.0; stands = is.1.0; low = lit≤ tt; no_split = refl; no_migrate = refl }
-  statement_first Rollback bytes rest is = record { letter = 82; letters = codes "OLLBACK"; rest = is.0; stands = is.1.0; low = lit≤ tt; no_split = refl; no_migrate = refl }
-  statement_first (Insert table columns rows) bytes rest is = record { letter = 73; letters = codes "NSERT"; rest = is.0; stands = is.1.0; low = lit≤ tt; no_split = refl; no_migrate = refl }
-  statement_first (Update keys sets) bytes rest is = record { letter = 85; letters = codes "PDATE"; rest = is.0; stands = is.1.0; low = lit≤ tt; no_split = refl; no_migrate = refl }
-  statement_first (Delete keys) bytes rest is = record { letter = 68; letters = codes "ELETE"; rest = is.0; stands = is.1.0; low = lit≤ tt; no_split = refl; no_migrate = refl }
-  statement_first (Select form keys) bytes rest is = record { letter = 83; letters = codes "ELECT"; rest = is.0; stands = is.1.0; low = lit≤ tt; no_split = refl; no_migrate = refl }
 
   served_begins : (session : ℕ) (written : Written) (bytes : List ℕ) → IsServedLine schema session written bytes → Begins bytes
   served_begins session (Clock instant) bytes is = absurd is
@@ -327,6 +381,7 @@ module _ (schema : Schema) where
   served_begins session (Session number statement) bytes is =
       let f = statement_first statement bytes is.1.0 is.1.1.0 in
       word_begins f.letter f.letters bytes f.rest f.low f.stands
+  served_begins session (AddColumn number table name of) bytes is = absurd is
 
   pub served_is_something : (session : ℕ) (written : Written) (bytes : List ℕ) → IsServedLine schema session written bytes → is_nothing (next bytes) ≡ false
   served_is_something session written bytes is = let b = served_begins session written bytes is in ap is_nothing b.here ∙ something b.first b.others b.no_minus
@@ -354,16 +409,6 @@ module _ (schema : Schema) where
       ap (on_served_split session bytes) (other_word_refused (codes "SPLIT") (f.letter ∷ f.letters) f.no_split (omega arith) bytes f.rest f.stands).is
       ∙ ap (on_served_migrate session bytes) (other_word_refused (codes "MIGRATE") (f.letter ∷ f.letters) f.no_migrate (omega arith) bytes f.rest f.stands).is
 
-  request_whole : (session : ℕ) (statement : Statement) (bytes : List ℕ) → IsRequest schema statement bytes [] → request_at schema session bytes ≡ Ok (Session session statement, [])
-  unfolding request_at
-  request_whole session statement bytes is =
-      let c = is.0 in
-      let d = is.1.1.0 in
-      let semicolon = is.1.1.1.0 in
-      let blanks = is.1.1.1.1 in
-      ok_then _ _ (statement_whole statement bytes c is.1.0 (closing c d semicolon blanks))
-      (ok_then _ _ (ap end_at (semicolon_whole c d semicolon blanks) ∙ end_whole d blanks) refl)
-
   pub served_whole : (session : ℕ) (written : Written) (bytes : List ℕ) → IsServedLine schema session written bytes → served_at schema session bytes ≡ Ok (written, [])
   served_whole session (Clock instant) bytes is = absurd is
   served_whole session (SplitKey key) bytes is =
@@ -386,3 +431,4 @@ module _ (schema : Schema) where
       request_reached session bytes (statement_first statement bytes is.1.0 is.1.1.0)
       ∙ request_whole session statement bytes is.1
       ∙ ap (λ (n : ℕ). Ok (Session n statement, [])) (sym is.0)
+  served_whole session (AddColumn number table name of) bytes is = absurd is

@@ -32,7 +32,7 @@ pub record FirstDigit (bytes : List ℕ) : Type 0 where
   pub spelled : bytes ≡ first ∷ others
   pub digit : is_ascii_digit first ≡ true
 
-first_of : (digits bytes rest : List ℕ) → 0 < length digits → AllBytes is_ascii_digit digits → bytes ≡ digits ++ rest → FirstDigit bytes
+pub first_of : (digits bytes rest : List ℕ) → 0 < length digits → AllBytes is_ascii_digit digits → bytes ≡ digits ++ rest → FirstDigit bytes
 first_of [] bytes rest some all is = absurd (omega arith)
 first_of (d ∷ ds) bytes rest some all is = record { first = d; others = ds ++ rest; spelled = is; digit = all.0 }
 

@@ -3,20 +3,22 @@ use Rattle.std.proofs.Common.{◌≡◌, ℕ, Bool, true, false, List, [], ◌�
 use Rattle.std.specs.Prelude.{length, Option, Result, if◌then◌else◌, ◌||◌, ◌==◌, nat_lt}
 use Rattle.values.specs.declared.table.Table.{Table}
 use Rattle.values.specs.Tables.{Schema, table_at}
+use Rattle.values.specs.declared.table.ColumnType.{ColumnType}
+use Rattle.values.specs.Columns.{addition_fault}
 use Rattle.values.specs.Fit.{row_fault}
 use Rattle.values.specs.Log.{Row}
 use Rattle.values.specs.declared.refusal.Refusal.{Refusal}
 use Rattle.values.specs.declared.refusal.Refusal.TheVariants.{Syntax, NoTable, BadRow, NoSession}
 use Rattle.steps.specs.declared.step.Step.{Step}
-use Rattle.steps.specs.declared.step.Step.TheVariants.{Begin as Begins, Insert as Inserts, Update as Updates, Delete as Deletes, Select as Selects, Commit as Commits, Rollback as RollsBack, SplitKey as SplitsKey, SplitTime as SplitsTime}
+use Rattle.steps.specs.declared.step.Step.TheVariants.{Begin as Begins, Insert as Inserts, Update as Updates, Delete as Deletes, Select as Selects, Commit as Commits, Rollback as RollsBack, SplitKey as SplitsKey, SplitTime as SplitsTime, AddColumn as AddsColumn}
 use Rattle.steps.specs.Misfit.{max_session, misfit, misfit_of, no_session, bad_row}
 use Rattle.tokens.specs.Token.{◌>>=◌}
 use Rattle.statement.specs.declared.line.Line.{Line}
 use Rattle.statement.specs.declared.line.Written.{Written}
-use Rattle.statement.specs.declared.line.Written.TheVariants.{Clock, SplitKey, SplitTime, Migrate, Session}
+use Rattle.statement.specs.declared.line.Written.TheVariants.{Clock, SplitKey, SplitTime, Migrate, Session, AddColumn}
 use Rattle.statement.specs.declared.statement.Statement.{Statement}
 use Rattle.statement.specs.declared.statement.Statement.TheVariants.{Begin, Insert, Update, Delete, Select, Commit, Rollback}
-use Rattle.statement.specs.Meaning.{is_good_list, row_values, row_in, fitting_row, fitting_rows, fitting_step, insert_step, session_step, step_of}
+use Rattle.statement.specs.Meaning.{is_good_list, row_values, row_in, fitting_row, fitting_rows, fitting_step, insert_step, session_step, step_of, column_step}
 use Rattle.statement.specs.Line.{meaning_of}
 
 -- no fault of syntax
@@ -125,6 +127,14 @@ module _ (schema : Schema) where
       by_test true = record { it = tt }
       by_test false = session_says reading session statement
 
+  column_says : (session number : ℕ) (name : List ℕ) (of : ColumnType) → Says (column_step schema session number name of)
+  unfolding column_step
+  column_says session number name of = by_test ((session == 0) || nat_lt max_session session)
+    where
+      by_test : (t : Bool) → Says {A = Step} (if t then Err NoSession else fitting_step schema (AddsColumn session number name of))
+      by_test true = record { it = tt }
+      by_test false = step_says (AddsColumn session number name of) (table_misses session number (λ table. addition_fault name of table))
+
   written_says : (reading : ℕ) (written : Written) → Says (meaning_of schema reading written)
   unfolding meaning_of
   written_says reading (Clock instant) = record { it = tt }
@@ -132,6 +142,7 @@ module _ (schema : Schema) where
   written_says reading (SplitTime key instant) = then_says _ _ (step_says (SplitsTime key instant) (table_misses 0 key.table _)) (λ step. record { it = tt })
   written_says reading Migrate = record { it = tt }
   written_says reading (Session session statement) = then_says _ _ (step_of_says reading session statement) (λ step. record { it = tt })
+  written_says reading (AddColumn session table name of) = then_says _ _ (column_says session table name of) (λ step. record { it = tt })
 
   -- a line of the grammar is never refused for its syntax
   pub never_syntax : (reading : ℕ) (written : Written) (n : ℕ) → meaning_of schema reading written ≡ Err (Syntax n) → ⊥

@@ -122,7 +122,7 @@ work_whole bytes rest (inl is) closing =
 work_whole bytes rest (inr is) closing = ap (λ (r : After). elim r as (λ _. List ℕ) [ Ok rest ↦ rest | Err at ↦ bytes ]) (word_whole (codes "WORK") (lit< tt) bytes rest is)
 
 module _ (schema : Schema) where
-  table_whole : (number : ℕ) (bytes rest : List ℕ) → IsTable schema number bytes rest → table_name_at schema bytes ≡ Ok (number, rest)
+  pub table_whole : (number : ℕ) (bytes rest : List ℕ) → IsTable schema number bytes rest → table_name_at schema bytes ≡ Ok (number, rest)
   unfolding table_name_at
   table_whole number bytes rest is = ok_then _ _ (name_whole is.0 bytes rest is.1.0) (ap (λ (n : ℕ). Ok (n, rest)) is.1.1)
 

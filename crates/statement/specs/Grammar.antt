@@ -6,6 +6,8 @@ use Rattle.std.specs.Str.Parse.{digits_value}
 use Rattle.values.specs.declared.value.Value.{Value}
 use Rattle.values.specs.declared.value.Value.TheVariants.{Int, Text, Bool as Truth, Null}
 use Rattle.values.specs.Tables.{Schema}
+use Rattle.values.specs.declared.table.ColumnType.{ColumnType}
+use Rattle.values.specs.declared.table.ColumnType.TheVariants.{Int as IsInt, Text as IsText, Varchar as IsVarchar, Boolean as IsBoolean}
 use Rattle.values.specs.declared.query.Comparison.{Comparison}
 use Rattle.values.specs.declared.query.Form.{Form}
 use Rattle.values.specs.declared.query.Form.TheVariants.{Plain, AsOf, FromTo, Between}
@@ -17,12 +19,13 @@ use Rattle.values.specs.Log.{Row}
 use Rattle.values.specs.Names.{same_name}
 use Rattle.values.specs.Commits.{max_instant}
 use Rattle.statement.specs.declared.line.Written.{Written}
-use Rattle.statement.specs.declared.line.Written.TheVariants.{Clock, SplitKey, SplitTime, Migrate, Session}
+use Rattle.statement.specs.declared.line.Written.TheVariants.{Clock, SplitKey, SplitTime, Migrate, Session, AddColumn}
 use Rattle.statement.specs.declared.statement.Statement.{Statement}
 use Rattle.statement.specs.declared.statement.Statement.TheVariants.{Begin, Insert, Update, Delete, Select, Commit, Rollback}
 use Rattle.tokens.specs.Run.{AllBytes, Ends, Run}
 use Rattle.tokens.specs.Word.{is_name_byte}
 use Rattle.tokens.specs.Name.{is_name}
+use Rattle.tokens.specs.Digit.{capped_from}
 use Rattle.statement.specs.Token.{is_blank}
 use Rattle.statement.specs.Condition.{table_of, column_of}
 
@@ -118,6 +121,23 @@ IsOperator AtLeast = Blanks ⋯ Exactly (62 ∷ 61 ∷ [])
 abbrev pub IsInstant : ℕ → Piece
 IsInstant n = Blanks ⋯ Digits max_instant n
 
+-- digits with their number, where 65,535 stands for all that are greater
+pub record CappedDigits (n : ℕ) (bytes rest : List ℕ) : Type 0 where
+  pub digits : List ℕ
+  pub some : 0 < length digits
+  pub run : Run is_ascii_digit digits bytes rest
+  pub value : capped_from 0 digits ≡ n
+
+abbrev pub IsSize : ℕ → Piece
+IsSize n = Symbol 40 ⋯ (Blanks ⋯ CappedDigits n) ⋯ Symbol 41
+
+-- the type of a column
+abbrev pub IsType : ColumnType → Piece
+IsType IsInt = Word (codes "INT") ∣ Word (codes "INTEGER") ∣ Word (codes "BIGINT")
+IsType IsText = Word (codes "TEXT")
+IsType IsBoolean = Word (codes "BOOLEAN")
+IsType (IsVarchar n) = Word (codes "VARCHAR") ⋯ IsSize n
+
 -- which versions a SELECT asks for
 abbrev pub IsForm : Form → Piece
 IsForm Plain = Empty
@@ -183,6 +203,12 @@ module _ (schema : Schema) where
   abbrev pub IsRequest : Statement → Piece
   IsRequest statement = IsStatement statement ⋯ (Empty ∣ Symbol 59) ⋯ Blanks
 
+  -- a table, and a column that it gets
+  abbrev pub IsAlteration : ℕ → List ℕ → ColumnType → Piece
+  IsAlteration table name of =
+      Word (codes "ALTER") ⋯ Word (codes "TABLE") ⋯ IsTable table ⋯ Word (codes "ADD")
+      ⋯ Word (codes "COLUMN") ⋯ Name name ⋯ IsType of
+
   -- a line of no session: a split or a migration
   abbrev pub IsServiceLine : Written → List ℕ → Type 0
   IsServiceLine (SplitKey key) bytes =
@@ -193,6 +219,7 @@ module _ (schema : Schema) where
   IsServiceLine Migrate bytes = (Word (codes "MIGRATE") ⋯ Symbol 58 ⋯ Blanks) bytes []
   IsServiceLine (Clock instant) bytes = ⊥
   IsServiceLine (Session session statement) bytes = ⊥
+  IsServiceLine (AddColumn session table name of) bytes = ⊥
 
   -- a line of a script, up to its end
   abbrev pub IsLine : Written → List ℕ → Type 0
@@ -203,6 +230,9 @@ module _ (schema : Schema) where
   IsLine Migrate bytes = IsServiceLine Migrate bytes
   IsLine (Session session statement) bytes =
       ((Blanks ⋯ Digits (2 ^ 63 - 1) session) ⋯ Symbol 58 ⋯ IsRequest statement) bytes []
+  IsLine (AddColumn session table name of) bytes =
+      ((Blanks ⋯ Digits (2 ^ 63 - 1) session) ⋯ Symbol 58 ⋯ IsAlteration table name of
+      ⋯ (Empty ∣ Symbol 59) ⋯ Blanks) bytes []
 
   -- a line that this session sends: its statement without its number, or a line of no session
   abbrev pub IsServedLine : ℕ → Written → List ℕ → Type 0
@@ -212,6 +242,7 @@ module _ (schema : Schema) where
   IsServedLine session Migrate bytes = IsServiceLine Migrate bytes
   IsServedLine session (Session number statement) bytes =
       (number ≡ session) × IsRequest statement bytes []
+  IsServedLine session (AddColumn number table name of) bytes = ⊥
 
 -- a blank line, or a comment
 abbrev pub IsNothing : List ℕ → Type 0

@@ -9,13 +9,14 @@ use Rattle.values.specs.declared.refusal.Refusal.TheVariants.{Syntax, LineTooLon
 use Rattle.statement.specs.declared.line.Line.{Line}
 use Rattle.statement.specs.declared.line.Line.TheVariants.{Nothing, Clock, Step as IsStep}
 use Rattle.statement.specs.declared.line.Written.{Written}
-use Rattle.statement.specs.declared.line.Written.TheVariants.{Clock as SetsClock, SplitKey, SplitTime, Migrate, Session}
+use Rattle.statement.specs.declared.line.Written.TheVariants.{Clock as SetsClock, SplitKey, SplitTime, Migrate, Session, AddColumn}
 use Rattle.lines.specs.Partial.{longest_line}
 use Rattle.tokens.specs.Token.{Read, ◌>>=◌}
-use Rattle.statement.specs.Token.{next, symbol_at, word_at, end_at, after_semicolon}
+use Rattle.statement.specs.Token.{next, symbol_at, word_at, end_at}
 use Rattle.statement.specs.Literal.{digits_at}
-use Rattle.statement.specs.Statement.{instant_at, statement_at}
-use Rattle.statement.specs.Meaning.{fitting_step, step_of}
+use Rattle.statement.specs.Statement.{instant_at}
+use Rattle.statement.specs.Alteration.{asked_at}
+use Rattle.statement.specs.Meaning.{fitting_step, step_of, column_step}
 use Rattle.statement.specs.Split.{split_at}
 
 -- the bytes without the last, where that is this one
@@ -66,9 +67,7 @@ module _ (schema : Schema) where
   session_at bytes = do
     session ← digits_at (2 ^ 63 - 1) bytes
     rest ← symbol_at 58 session.1
-    statement ← statement_at schema rest
-    rest ← end_at (after_semicolon statement.1)
-    Ok (Session session.0 statement.0, rest)
+    asked_at schema session.0 rest
 
   -- a line of no session, by its first word
   unfoldable pub service_at : List ℕ → Read Written
@@ -91,6 +90,8 @@ module _ (schema : Schema) where
   meaning_of reading Migrate = Ok (IsStep Migrates)
   meaning_of reading (Session session statement) =
       line_of (step_of schema reading session statement)
+  meaning_of reading (AddColumn session table name of) =
+      line_of (column_step schema session table name of)
 
   -- what the bytes of a line's tokens say
   unfoldable pub body_says : ℕ → List ℕ → Result Line Refusal

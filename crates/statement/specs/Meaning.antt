@@ -4,6 +4,7 @@ use Rattle.std.specs.List.{list_any}
 use Rattle.values.specs.declared.value.Value.{Value}
 use Rattle.values.specs.declared.value.Value.TheVariants.{Null}
 use Rattle.values.specs.declared.table.Column.{Column}
+use Rattle.values.specs.declared.table.ColumnType.{ColumnType}
 use Rattle.values.specs.declared.table.Table.{Table}
 use Rattle.values.specs.Tables.{Schema}
 use Rattle.values.specs.declared.refusal.Refusal.{Refusal}
@@ -14,7 +15,7 @@ use Rattle.values.specs.Fit.{row_fault}
 use Rattle.statement.specs.declared.statement.Statement.{Statement}
 use Rattle.statement.specs.declared.statement.Statement.TheVariants.{Begin, Insert, Update, Delete, Select, Commit, Rollback}
 use Rattle.steps.specs.declared.step.Step.{Step}
-use Rattle.steps.specs.declared.step.Step.TheVariants.{Begin as Begins, Insert as Inserts, Update as Updates, Delete as Deletes, Select as Selects, Commit as Commits, Rollback as RollsBack}
+use Rattle.steps.specs.declared.step.Step.TheVariants.{Begin as Begins, Insert as Inserts, Update as Updates, Delete as Deletes, Select as Selects, Commit as Commits, Rollback as RollsBack, AddColumn as AddsColumn}
 use Rattle.steps.specs.Misfit.{max_session, misfit}
 use Rattle.tokens.specs.Token.{◌>>=◌}
 
@@ -94,7 +95,14 @@ module _ (schema : Schema) where
   session_step reading session Rollback = fitting_step (RollsBack session)
 
   -- sessions are numbered from 1 to 64
+  abbrev pub of_session : ℕ → Result Step Refusal → Result Step Refusal
+  of_session session step =
+      if (session == 0) || nat_lt max_session session then Err NoSession else step
+
   unfoldable pub step_of : ℕ → ℕ → Statement → Result Step Refusal
-  step_of reading session statement =
-      if (session == 0) || nat_lt max_session session then Err NoSession
-      else session_step reading session statement
+  step_of reading session statement = of_session session (session_step reading session statement)
+
+  -- the step that adds a column to a table
+  unfoldable pub column_step : ℕ → ℕ → List ℕ → ColumnType → Result Step Refusal
+  column_step session number name of =
+      of_session session (fitting_step (AddsColumn session number name of))

@@ -9,7 +9,7 @@ use Rattle.tokens.specs.declared.token.Stop.TheVariants.{At, Memory as OutOfMemo
 use Rattle.statement.specs.declared.statement.Statement.{Statement}
 use Rattle.statement.specs.declared.statement.Statement.TheVariants.{Insert}
 use Rattle.statement.specs.declared.line.Written.{Written}
-use Rattle.statement.specs.declared.line.Written.TheVariants.{Clock, SplitKey, SplitTime, Migrate, Session}
+use Rattle.statement.specs.declared.line.Written.TheVariants.{Clock, SplitKey, SplitTime, Migrate, Session, AddColumn}
 use Rattle.statement.specs.Token.{symbol_at, word_at}
 use Rattle.statement.specs.Literal.{digits_at}
 use Rattle.statement.specs.Line.{body_of}
@@ -26,11 +26,15 @@ is_on_rows bytes =
     || (is_ok (word_at (codes "UPDATE") bytes)
     || (is_ok (word_at (codes "DELETE") bytes) || is_ok (word_at (codes "SELECT") bytes)))
 
--- a session's statement on rows
+-- a session's ALTER, whose name is kept, or its statement on rows
+abbrev pub asks_by_name : List ℕ → Bool
+asks_by_name bytes = is_ok (word_at (codes "ALTER") bytes) || is_on_rows bytes
+
+-- such a line of a session
 abbrev pub asks_for_rows : List ℕ → Bool
 asks_for_rows bytes = elim (digits_at (2 ^ 63 - 1) bytes) [
   | Err _ ↦ false
-  | Ok session ↦ elim (symbol_at 58 session.1) [ Err _ ↦ false | Ok rest ↦ is_on_rows rest ]
+  | Ok session ↦ elim (symbol_at 58 session.1) [ Err _ ↦ false | Ok rest ↦ asks_by_name rest ]
 ]
 
 -- a split, which names a key
@@ -38,7 +42,7 @@ abbrev pub asks_to_split : List ℕ → Bool
 asks_to_split bytes =
     elim (word_at (codes "SPLIT") bytes) [ Err _ ↦ false | Ok rest ↦ is_ok (symbol_at 58 rest) ]
 
--- what is said of rows, and of a key
+-- what is said of rows or of a column, and of a key
 abbrev pub asks_for_values : List ℕ → Bool
 asks_for_values bytes = asks_for_rows bytes || asks_to_split bytes
 
@@ -50,7 +54,7 @@ serves_values bytes = is_on_rows bytes || asks_to_split bytes
 abbrev pub serving_takes_memory : List ℕ → Bool
 serving_takes_memory line = serves_values (body_of line)
 
--- reading the line takes memory: only where values may come does it
+-- reading the line takes memory: only where values may come, or a name that is kept, does it
 abbrev pub takes_memory : List ℕ → Bool
 takes_memory line = asks_for_values (body_of line)
 
@@ -65,6 +69,7 @@ inserts (SplitKey _) = false
 inserts (SplitTime _ _) = false
 inserts Migrate = false
 inserts (Session _ statement) = is_insert statement
+inserts (AddColumn _ _ _ _) = false
 
 -- memory ran out, or can still run out over what was read
 abbrev pub can_run_out : {A : Type 0} → (A → Bool) → Result (A × Bor (List ℕ)) Stop → Bool

@@ -11,7 +11,7 @@ use Rattle.values.specs.Log.{Row}
 use Rattle.steps.specs.declared.step.Listing.{Listing}
 use Rattle.steps.specs.declared.step.Listing.TheVariants.{Rows, Periods}
 use Rattle.steps.specs.declared.step.Reply.{Reply}
-use Rattle.steps.specs.declared.step.Reply.TheVariants.{Begun, Inserted, Updated, Deleted, Shown as Shows, Committed, RolledBack, Done, Refused}
+use Rattle.steps.specs.declared.step.Reply.TheVariants.{Begun, Inserted, Updated, Deleted, Shown as Shows, Committed, RolledBack, Altered, Done, Refused}
 
 -- each line ends with a line feed
 abbrev pub line : List ℕ → List ℕ
@@ -90,5 +90,6 @@ reply_text (Shows listing) = listing_text listing
 reply_text (Committed None) = line (codes "committed nothing")
 reply_text (Committed (Some instant)) = numbered (codes "committed ") instant
 reply_text RolledBack = line (codes "rolled back")
+reply_text Altered = line (codes "altered")
 reply_text Done = line (codes "ok")
 reply_text (Refused refusal) = refusal_text refusal

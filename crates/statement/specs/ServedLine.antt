@@ -7,28 +7,20 @@ use Rattle.lines.specs.Partial.{longest_line}
 use Rattle.statement.specs.declared.line.Line.{Line}
 use Rattle.statement.specs.declared.line.Line.TheVariants.{Nothing}
 use Rattle.statement.specs.declared.line.Written.{Written}
-use Rattle.statement.specs.declared.line.Written.TheVariants.{Session}
-use Rattle.tokens.specs.Token.{Read, ◌>>=◌}
-use Rattle.statement.specs.Token.{next, word_at, end_at, after_semicolon}
-use Rattle.statement.specs.Statement.{statement_at}
+use Rattle.tokens.specs.Token.{Read}
+use Rattle.statement.specs.Token.{next, word_at}
+use Rattle.statement.specs.Alteration.{request_at}
 use Rattle.statement.specs.Split.{split_at}
 use Rattle.statement.specs.Line.{before_feed, body_of, is_nothing, meaning_of, migrate_at}
 
 module _ (schema : Schema) where
-  -- a statement of the session that a line comes from
-  unfoldable pub request_at : ℕ → List ℕ → Read Written
-  request_at session bytes = do
-    statement ← statement_at schema bytes
-    rest ← end_at (after_semicolon statement.1)
-    Ok (Session session statement.0, rest)
-
-  -- a line that a session sends, by its first word
+  -- a line that a session sends, by its first word; a statement is that session's
   unfoldable pub served_at : ℕ → List ℕ → Read Written
   served_at session bytes = elim (word_at (codes "SPLIT") bytes) [
     | Ok rest ↦ split_at schema rest
     | Err _ ↦ elim (word_at (codes "MIGRATE") bytes) [
       | Ok rest ↦ migrate_at rest
-      | Err _ ↦ request_at session bytes
+      | Err _ ↦ request_at schema session bytes
     ]
   ]
 

@@ -1,6 +1,7 @@
 //! Lines, what they say, and replies as they are printed.
 #![tactic(auto)]
 
+mod alteration;
 mod condition;
 mod grammar_law;
 mod line;

@@ -4,16 +4,17 @@ ghost use Rattle.tokens.specs.Token.{Makes, Gives};
 ghost use Rattle.statement.specs.Memory.{UnlessMemory, can_run_out, inserts, asks_for_rows, asks_to_split, asks_for_values, takes_memory};
 ghost use Rattle.statement.specs.Line.{without_last, before_feed, body_of, is_nothing, begins_digit, clock_at, migrate_at, session_at, service_at, written_at, line_of, meaning_of, body_says, line_says};
 
+use crate::alteration::asked_at;
 use crate::literal::digits_at;
-use crate::meaning::{fitting_step, step_of};
+use crate::meaning::{column_step, fitting_step, step_of};
 use crate::split::split_at;
-use crate::statement::{Statement, instant_at, statement_at};
-use crate::token::{Blanks, after_semicolon, end_at};
+use crate::statement::{Statement, instant_at};
+use crate::token::{Blanks, end_at};
 use lines::LONGEST_LINE;
 use std::alloc::Global;
 use steps::Step;
 use tokens::{Made, Read, Separators, Stop, symbol_at, word_at};
-use values::{Instant, Key, MAX_INT, Refusal, Schema};
+use values::{Chars, ColumnType, Instant, Key, MAX_INT, Refusal, Schema};
 
 /// What a line of a script says.
 #[derive(Drop)]
@@ -37,6 +38,9 @@ pub enum Written {
     /// A session's number, which is of the grammar even where there is no such session, and its
     /// statement.
     Session(u64, Statement),
+    /// A session's number, a table or 0 where there is none, and the name and type of the column
+    /// that it gets.
+    AddColumn(u64, u8, Chars, ColumnType),
 }
 
 /// The bytes without the last, where that is this one.
@@ -134,9 +138,7 @@ fn session_at<'a>(alloc: Global, schema: &Schema, bytes: &'a [u8]) -> Made<'a, W
 {
     let (session, rest) = digits_at(MAX_INT, bytes)?;
     let rest = symbol_at::<Blanks>(b':', rest)?;
-    let (statement, rest) = statement_at(alloc, schema, rest)?;
-    let rest = end_at(after_semicolon(rest))?;
-    Ok((Written::Session(session, statement), rest))
+    asked_at(alloc, schema, session, rest)
 }
 
 #[tactic(auto, unfolding(crate::specs::Line::written_at))]
@@ -181,6 +183,9 @@ pub(crate) fn meaning_of(
         Written::Migrate => Ok(Line::Step(Step::Migrate)),
         Written::Session(session, statement) => {
             line_of(step_of(alloc, schema, reading, session, statement))
+        }
+        Written::AddColumn(session, table, name, of) => {
+            line_of(column_step(schema, session, table, name, of))
         }
     }
 }

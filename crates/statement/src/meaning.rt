@@ -1,8 +1,8 @@
 //! The steps that statements ask for, or why they do not fit the schema.
-ghost use Rattle.std.specs.Prelude.{◌≡◌, ◌==◌, ◌≤◌, length, IfOk, [], Err, true};
+ghost use Rattle.std.specs.Prelude.{◌≡◌, ◌≢◌, ◌==◌, ◌≤◌, length, IfOk, [], Err, true};
 ghost use Rattle.std.specs.List.{list_any};
 ghost use Rattle.values.specs.Tables.{widest};
-ghost use Rattle.statement.specs.Meaning.{is_column_list, is_good_list, place_of, value_of, row_values, row_in, fitting_row, fitting_rows, fitting_step, insert_step, session_step, step_of};
+ghost use Rattle.statement.specs.Meaning.{is_column_list, is_good_list, place_of, value_of, row_values, row_in, fitting_row, fitting_rows, fitting_step, insert_step, session_step, step_of, column_step};
 ghost use Rattle.statement.specs.Memory.{UnlessMemory, is_insert};
 
 use crate::literal::WrittenRows;
@@ -10,8 +10,8 @@ use crate::statement::{Columns, Statement};
 use std::alloc::{AllocError, Global};
 use steps::{MAX_SESSION, Step};
 use values::{
-    ColumnNumber, Instant, Mem, Refusal, Row, Rows, Schema, Table, Value, Values,
-    fitting_rows_have_bytes,
+    Chars, ColumnNumber, ColumnType, Instant, Mem, Refusal, Row, Rows, Schema, Table, Value,
+    Values, fitting_rows_have_bytes,
 };
 
 /// Tells whether each name of a column list is a column's, and none is repeated. Columns are
@@ -155,7 +155,8 @@ fn fitting_rows(
 
 /// Returns a step, if it fits the schema.
 pub fn fitting_step(schema: &Schema, step: Step) -> Result<Step, Refusal>
-    ensures { result ≡ fitting_step schema.now step }
+    ensures is { result ≡ fitting_step schema.now step }
+    ensures memory { result ≢ Err Refusal.Memory }
 {
     match step.misfit(schema) {
         Some(refusal) => Err(refusal),
@@ -229,4 +230,23 @@ pub fn step_of(
         return Err(Refusal::NoSession);
     }
     session_step(alloc, schema, reading, session as u8, statement)
+}
+
+/// Returns the step that adds a column to a table, or why it does not fit: its session's number,
+/// then its table, then the column. It takes no memory.
+#[tactic(auto, unfolding(crate::specs::Meaning::column_step))]
+pub fn column_step(
+    schema: &Schema,
+    session: u64,
+    table: u8,
+    name: Chars,
+    of: ColumnType,
+) -> Result<Step, Refusal>
+    ensures is { result ≡ column_step schema.now session table name of }
+    ensures memory { result ≢ Err Refusal.Memory }
+{
+    if session == 0 || session > u64::from(MAX_SESSION) {
+        return Err(Refusal::NoSession);
+    }
+    fitting_step(schema, Step::AddColumn(session as u8, table, name, of))
 }

@@ -30,6 +30,7 @@ pub fn print_reply<W: Write>(writer: &mut W, reply: &Reply) -> Printed
         Reply::Committed(None) => write_all(writer, b"committed nothing\n"),
         Reply::Committed(Some(instant)) => print_numbered(writer, b"committed ", *instant),
         Reply::RolledBack => write_all(writer, b"rolled back\n"),
+        Reply::Altered => write_all(writer, b"altered\n"),
         Reply::Done => write_all(writer, b"ok\n"),
         Reply::Refused(refusal) => print_refusal(writer, refusal),
     }

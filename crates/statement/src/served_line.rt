@@ -1,30 +1,19 @@
 //! Lines that a session sends.
 ghost use Rattle.std.specs.Prelude.{◌≡◌, IsTrue, true, Err};
 ghost use Rattle.tokens.specs.Token.{Makes};
-ghost use Rattle.statement.specs.Memory.{UnlessMemory, can_run_out, inserts, is_on_rows, serves_values, serving_takes_memory};
-ghost use Rattle.statement.specs.ServedLine.{request_at, served_at, served_body_says, served_line_says};
+ghost use Rattle.statement.specs.Memory.{UnlessMemory, can_run_out, inserts, serves_values, serving_takes_memory};
+ghost use Rattle.statement.specs.ServedLine.{served_at, served_body_says, served_line_says};
 
+use crate::alteration::request_at;
 use crate::line::{Line, Written, before_feed, body_of, is_nothing, meaning_of, migrate_at};
 use crate::split::split_at;
-use crate::statement::statement_at;
-use crate::token::{Blanks, after_semicolon, end_at};
+use crate::token::Blanks;
 use lines::LONGEST_LINE;
 use std::alloc::Global;
 use tokens::{Made, Separators, Stop, word_at};
 use values::{Instant, Refusal, Schema};
 
-/// A statement of the session that a line comes from.
-#[tactic(auto, unfolding(crate::specs::ServedLine::request_at))]
-fn request_at<'a>(alloc: Global, schema: &Schema, session: u8, bytes: &'a [u8]) -> Made<'a, Written>
-    ensures makes { Makes result (request_at schema.now session bytes.now) }
-    ensures memory { IsTrue (can_run_out inserts result) → is_on_rows bytes.now ≡ true }
-{
-    let (statement, rest) = statement_at(alloc, schema, bytes)?;
-    let rest = end_at(after_semicolon(rest))?;
-    Ok((Written::Session(u64::from(session), statement), rest))
-}
-
-/// A line that a session sends, by its first word.
+/// A line that a session sends, by its first word; a statement is that session's.
 #[tactic(auto, unfolding(crate::specs::ServedLine::served_at))]
 fn served_at<'a>(alloc: Global, schema: &Schema, session: u8, bytes: &'a [u8]) -> Made<'a, Written>
     ensures makes { Makes result (served_at schema.now session bytes.now) }
@@ -36,7 +25,7 @@ fn served_at<'a>(alloc: Global, schema: &Schema, session: u8, bytes: &'a [u8]) -
     if let Ok(rest) = word_at::<Blanks>(b"MIGRATE", bytes) {
         return Ok(migrate_at(rest)?);
     }
-    request_at(alloc, schema, session, bytes)
+    request_at(alloc, schema, u64::from(session), bytes)
 }
 
 #[tactic(auto, unfolding(crate::specs::ServedLine::served_body_says))]

@@ -2,6 +2,8 @@
 #![tactic(auto)]
 
 #[cfg(test)]
+mod alter_tests;
+#[cfg(test)]
 mod export_tests;
 #[cfg(test)]
 mod first_tests;

@@ -2,12 +2,13 @@
 ghost use Rattle.std.specs.Prelude.{◌≡◌, IfOk, IsUtf8};
 ghost use Rattle.std.specs.List.{list_any};
 ghost use Rattle.values.specs.Names.{same_name};
-ghost use Rattle.tokens.specs.Token.{GivesBytes};
+ghost use Rattle.tokens.specs.Token.{GivesBytes, Makes};
 ghost use Rattle.tokens.specs.Name.{reserved_words, is_reserved, is_name, name_at};
 
-use crate::token::{Read, Separators};
+use crate::token::{Made, Read, Separators};
 use crate::word::split_word;
-use values::same_name;
+use std::alloc::{AllocError, Global};
+use values::{Chars, same_name};
 
 /// The bytes that a name may have.
 const LONGEST_NAME: usize = 64;
@@ -114,4 +115,23 @@ pub fn name_at<S: Separators>(bytes: &[u8]) -> Read<'_, &[u8]>
     } else {
         Err(at)
     }
+}
+
+/// Keeps a text.
+fn chars_of(alloc: Global, bytes: &[u8]) -> Result<Chars, AllocError>
+    requires { IsUtf8 bytes.now }
+    ensures { IfOk result (λ chars. chars ≡ bytes.now) }
+{
+    match str::from_utf8(bytes) {
+        Ok(text) => Ok(Chars::new(String::from_str(alloc, text)?)),
+        Err(_) => unreachable!(),
+    }
+}
+
+/// Reads a name that is kept.
+pub fn kept_name_at<S: Separators>(alloc: Global, bytes: &[u8]) -> Made<'_, Chars>
+    ensures { Makes result (name_at S.next bytes.now) }
+{
+    let (name, rest) = name_at::<S>(bytes)?;
+    Ok((chars_of(alloc, name)?, rest))
 }
