@@ -4,6 +4,8 @@
 #[cfg(test)]
 mod alter_tests;
 #[cfg(test)]
+mod cut;
+#[cfg(test)]
 mod export_tests;
 #[cfg(test)]
 mod first_tests;

@@ -1,37 +1,14 @@
 //! Files of CSV that are read from a stream.
+use crate::cut::Cut;
 use interchange::{LoadFault, load_from, load_rows};
 use std::alloc::Global;
-use std::io;
-use std::io::{ErrorKind, Read};
 use std::process::Abort;
 use values::{Refusal, Row, Table, Value};
-
-/// A reader that gives at most so many bytes at a call, and fails at the call after so many.
-#[derive(Drop)]
-struct Pieces<'a> {
-    rest: &'a [u8],
-    most: usize,
-    calls: usize,
-}
-
-impl Read for Pieces<'_> {
-    fn read(&mut self, buf: &mut [u8]) -> io::Result<usize> {
-        if self.calls == 0 {
-            return Err(io::Error::from(ErrorKind::Other));
-        }
-        self.calls -= 1;
-        let n = self.rest.len().min(buf.len()).min(self.most);
-        let (front, rest) = self.rest.split_at(n);
-        buf.split_at_mut(n).0.copy_from_slice(front);
-        self.rest = rest;
-        Ok(n)
-    }
-}
 
 /// The rows of a file for the sample table.
 fn load(rt: &impl Abort, alloc: Global, bytes: &[u8]) -> Result<Vec<Row>, LoadFault> {
     let table = Table::sample(alloc).expect(rt, "there is memory");
-    let mut reader = Pieces {
+    let mut reader = Cut {
         rest: bytes,
         most: 4096,
         calls: usize::MAX,
@@ -209,7 +186,7 @@ const FILES: [&[u8]; 20] = [
 /// Whether a stream of a file, in such pieces, is answered as the file is.
 fn is_read_as_whole(rt: &impl Abort, alloc: Global, bytes: &[u8], most: usize) -> bool {
     let table = Table::sample(alloc).expect(rt, "there is memory");
-    let mut reader = Pieces {
+    let mut reader = Cut {
         rest: bytes,
         most,
         calls: usize::MAX,
@@ -241,7 +218,7 @@ fn a_reader_that_fails_ends_a_load(rt: HostRuntime) {
     let bytes = b"no,name\n1,Ann\n2,Bea\n";
     let table = Table::sample(rt.alloc()).expect(&rt, "there is memory");
     for calls in 0..10usize {
-        let mut reader = Pieces {
+        let mut reader = Cut {
             rest: bytes,
             most: 4,
             calls,

@@ -1,4 +1,5 @@
 //! Scripts run over readers and writers that give and take few bytes, and that fail.
+use crate::cut::Cut;
 use scripts::{RunFault, run_script};
 use statement::print_reply;
 use std::alloc::Global;
@@ -27,28 +28,6 @@ const REPLIES: &str = "begun 0\n\
     E11 no session\n\
     rows 1\n\
     (1, 'Ann')\n";
-
-/// A reader that gives at most so many bytes at a call, and fails at the call after so many.
-#[derive(Drop)]
-struct Cut<'a> {
-    rest: &'a [u8],
-    most: usize,
-    calls: usize,
-}
-
-impl Read for Cut<'_> {
-    fn read(&mut self, buf: &mut [u8]) -> io::Result<usize> {
-        if self.calls == 0 {
-            return Err(io::Error::from(ErrorKind::Other));
-        }
-        self.calls -= 1;
-        let n = self.rest.len().min(buf.len()).min(self.most);
-        let (front, rest) = self.rest.split_at(n);
-        buf.split_at_mut(n).0.copy_from_slice(front);
-        self.rest = rest;
-        Ok(n)
-    }
-}
 
 /// A writer that takes a few bytes at a call, and fails at the call after so many.
 #[derive(Drop)]
