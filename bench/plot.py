@@ -56,7 +56,8 @@ def legend(programs):
         dashes = f' stroke-dasharray="{dashes}"' if dashes else ""
         yield f'<line x1="{x}" y1="16" x2="{x + 30}" y2="16" stroke="{colour}" stroke-width="2"{dashes}/>'
         yield text(x + 38, 20, NAMES[program], "start")
-        x += 170
+        x += 60 + 7 * len(NAMES[program])
+    yield text(WIDTH - 16, 20, "median time that one client waits", "end")
 
 
 def picture(panels, exponents):
