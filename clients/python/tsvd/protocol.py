@@ -14,6 +14,12 @@ HOST = "127.0.0.1"
 PAUSE = 0.05
 
 
+def nothing_listens(port: int) -> OperationalError:
+    """Makes the exception for a port where nothing listens."""
+    return OperationalError(f"nothing listens at port {port}: there is no server, or its sessions are all taken, "
+                            "and it ends with them")
+
+
 def open_socket(port: int, wait: float = 5.0, timeout: Optional[float] = None) -> socket.socket:
     """Connects to a port of this machine; retries for `wait` seconds while connections are refused."""
     end = time.monotonic() + wait
@@ -24,7 +30,7 @@ def open_socket(port: int, wait: float = 5.0, timeout: Optional[float] = None) -
             return connected
         except ConnectionRefusedError:
             if time.monotonic() >= end:
-                raise OperationalError(f"nothing listens at port {port}") from None
+                raise nothing_listens(port) from None
             time.sleep(PAUSE)
         except OSError as fault:
             raise OperationalError(f"port {port}: {fault}") from fault

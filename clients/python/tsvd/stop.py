@@ -8,7 +8,7 @@ from typing import Sequence
 
 from .errors import InterfaceError, OperationalError
 from .limits import MOST_SESSIONS
-from .protocol import HOST
+from .protocol import HOST, nothing_listens
 
 NONE_LISTENS, WAS_LEFT, IS_HELD = "none listens", "was left", "is held"
 
@@ -33,8 +33,7 @@ def use_sessions(port: int, wait: float = 5.0) -> int:
         found = use_session(port, wait)
         if found == NONE_LISTENS:
             if used == 0:
-                raise OperationalError(f"nothing listens at port {port}: there is no server, or its sessions are all "
-                                       "taken, and it ends with them")
+                raise nothing_listens(port)
             return used
         if found == IS_HELD:
             raise OperationalError(f"used up {used} remaining sessions; the server did not answer the next one in time")
