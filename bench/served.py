@@ -1,4 +1,4 @@
-"""Sessions at a served program and at MariaDB, with the same operations: one message each, and one client that waits."""
+"""Sessions at a served program and at MariaDB, with the same operations, each one message and its answer."""
 
 import datetime
 import random
@@ -10,6 +10,7 @@ import mariadb
 
 KEYS = 100
 ROWS = ", ".join(f"({key}, 'first')" for key in range(1, KEYS + 1))
+NUMBERS = ", ".join(str(key) for key in range(1, KEYS + 1))
 OPERATIONS = {
     "round-trip": "the round trip alone: a refused COMMIT, a ping",
     "commit": "a commit of one row of 100",
@@ -107,7 +108,8 @@ class Versioned:
         return self.change(f"INSERT INTO emp (no, name) VALUES {ROWS}")
 
     def change_all(self, name):
-        return self.change(f"UPDATE emp SET name = '{name}'")
+        """Names each key, since an UPDATE without a condition goes through all history too."""
+        return self.change(f"UPDATE emp SET name = '{name}' WHERE no IN ({NUMBERS})")
 
     def change_one(self, name, key):
         return self.change(f"UPDATE emp SET name = '{name}' WHERE no = {key}")

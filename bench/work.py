@@ -82,7 +82,8 @@ def commits(history, count, chosen):
 
 def long_transactions(history, count, _chosen):
     for number in range(count):
-        yield from history.commit(f"1: UPDATE emp SET name = 'b{number}' WHERE no = {key}" for key in range(1, KEYS + 1))
+        keys = range(1, KEYS + 1)
+        yield from history.commit(f"1: UPDATE emp SET name = 'b{number}' WHERE no = {key}" for key in keys)
 
 
 def as_of_one(history, count, chosen):

@@ -75,7 +75,8 @@ class Axes:
     def box(self, node):
         """Returns the left, upper, right and lower side of a node."""
         high = None if node.high == "-" else node.high
-        return (self.across(node.start), self.up(node.level, high), self.across(node.end), self.up(node.level, node.low))
+        left, right = self.across(node.start), self.across(node.end)
+        return left, self.up(node.level, high), right, self.up(node.level, node.low)
 
 
 def label(x, y, words, anchor="middle", more=""):
