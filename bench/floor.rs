@@ -184,11 +184,7 @@ impl<'a> Tokens<'a> {
                 .saturating_add(u128::from(byte - b'0'));
             self.at += 1;
         }
-        let ends_in_word = self
-            .line
-            .get(self.at)
-            .is_some_and(|byte| is_word_byte(*byte));
-        if self.at == start || ends_in_word || number > most {
+        if self.at == start || number > most {
             self.at = start;
             return self.unexpected();
         }
@@ -297,7 +293,6 @@ impl<'a> Tokens<'a> {
     }
 
     fn end(&mut self) -> Read<()> {
-        self.take_sign(b';');
         self.skip_blanks();
         if self.at < self.line.len() {
             return self.unexpected();
@@ -425,6 +420,7 @@ fn fit_settings(settings: Vec<(&[u8], Literal)>) -> Read<Name> {
 
 /// Ends a statement: its end is looked at first, then the session's number.
 fn ended(tokens: &mut Tokens, session: u128) -> Read<()> {
+    tokens.take_sign(b';');
     tokens.end()?;
     if session == 0 || session > MOST_SESSIONS {
         return Err(Refusal::NoSession);
@@ -851,16 +847,10 @@ fn put_refusal(refusal: Refusal, out: &mut Vec<u8>) {
 
 // Scripts and sessions.
 
-/// Reads the next line without its end into `line`; false at the end of the input.
+/// Reads the next line with its end into `line`; false at the end of the input.
 fn next_line(input: &mut impl BufRead, line: &mut Vec<u8>) -> io::Result<bool> {
     line.clear();
-    if input.read_until(b'\n', line)? == 0 {
-        return Ok(false);
-    }
-    if line.last() == Some(&b'\n') {
-        line.pop();
-    }
-    Ok(true)
+    Ok(input.read_until(b'\n', line)? > 0)
 }
 
 /// Writes the reply to a line and its line feed, nothing where it has none.
@@ -871,9 +861,13 @@ fn reply_to<'a>(
     run: impl FnOnce(Line, &mut Vec<u8>) -> Read<()> + 'a,
 ) {
     out.clear();
-    let read = match line.len() {
-        0..=LONGEST_LINE => read_line(line.strip_suffix(b"\r").unwrap_or(line), session),
-        _ => return out.extend_from_slice(b"E12 line too long\n"),
+    let text = line.strip_suffix(b"\n");
+    if text.unwrap_or(line).len() > LONGEST_LINE {
+        return out.extend_from_slice(b"E12 line too long\n");
+    }
+    let read = match text {
+        Some(text) => read_line(text.strip_suffix(b"\r").unwrap_or(text), session),
+        None => read_line(line, session),
     };
     let done = match read {
         Ok(Line::Blank) => return,
