@@ -1,7 +1,7 @@
 /* Loaded before the C library under a program: refuses one request for memory, the one whose number, from 1, is in
    REFUSE, with LATER also all that come after it, and one thread, the one whose number, from 1, is in REFUSE_THREAD.
-   Writes to the file named in TOLD how many requests for memory there were. Threads may ask side by side: each request
-   has a number of its own. */
+   Where REFUSE_SIZE is given, only requests for so many bytes count. Writes to the file named in TOLD how many requests
+   for memory there were. Threads may ask side by side: each request has a number of its own. */
 #define _GNU_SOURCE
 #include <dlfcn.h>
 #include <errno.h>
@@ -16,18 +16,20 @@ extern void *__libc_malloc(size_t size);
 extern void *__libc_realloc(void *old, size_t size);
 
 static atomic_ulong requests, threads;
-static unsigned long refused, refused_thread;
+static unsigned long refused, refused_thread, refused_size;
 static int and_later;
 
-static int is_refused(void)
+static int is_refused(size_t size)
 {
+    if (refused_size && size != refused_size)
+        return 0;
     unsigned long number = atomic_fetch_add(&requests, 1) + 1;
     return number == refused || (and_later && refused && number > refused);
 }
 
-void *malloc(size_t size) { return is_refused() ? NULL : __libc_malloc(size); }
+void *malloc(size_t size) { return is_refused(size) ? NULL : __libc_malloc(size); }
 
-void *realloc(void *old, size_t size) { return is_refused() ? NULL : __libc_realloc(old, size); }
+void *realloc(void *old, size_t size) { return is_refused(size) ? NULL : __libc_realloc(old, size); }
 
 int pthread_create(pthread_t *thread, const pthread_attr_t *attributes, void *(*start)(void *), void *argument)
 {
@@ -47,6 +49,7 @@ __attribute__((constructor)) static void begin(void)
 {
     refused = number_in("REFUSE");
     refused_thread = number_in("REFUSE_THREAD");
+    refused_size = number_in("REFUSE_SIZE");
     and_later = getenv("LATER") != NULL;
     atomic_store(&requests, 0);
 }
