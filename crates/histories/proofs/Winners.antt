@@ -15,7 +15,7 @@ use Rattle.values.specs.declared.refusal.Refusal.{Refusal}
 use Rattle.values.specs.declared.refusal.Refusal.TheVariants.{Conflict, ClockEnd}
 use Rattle.values.specs.Order.{key_cmp, is_key}
 use Rattle.values.specs.Tables.{Schema}
-use Rattle.rows.specs.GoodTable.{Each}
+use Rattle.values.specs.Each.{Each}
 use Rattle.values.specs.Log.{Log, Net, Row, Changes, last, changes, add_net, add_all, point_cmp}
 use Rattle.values.specs.Commits.{changed_since, or_else, conflicts, outcome, log_after, after, max_instant}
 use Rattle.values.proofs.OrderTotal.{key_cmp_total, point_cmp-IsAntisymmetric}

@@ -22,7 +22,8 @@ use Rattle.rows.specs.declared.declaration.Entry.TheVariants.{User, Generated, P
 use Rattle.std.specs.Cmp.Lexicographic.{bytes_decides}
 use Rattle.values.specs.Names.{same_name}
 use Rattle.rows.specs.SchemaTable.{is_not_null, is_primary_key, same_side, user_column, column_name, side_name, period_names, keys_in, is_good_type, is_good_precision, is_good_entry, are_distinct, only, number_in}
-use Rattle.rows.specs.GoodTable.{Each, IsElement, IsTheOne, NoTwo, SameName, is_user, IsGenerated, IsPeriod, GivesKeys, GivesOneKey, Declares, ShareAName, HasUserColumn, IsColumnOf, IsNumberOf, AreColumnsOf, AreNumbersOf, TypeIsGood, DigitsAreGood, EntryIsGood}
+use Rattle.values.specs.Each.{Each}
+use Rattle.rows.specs.GoodTable.{IsElement, IsTheOne, NoTwo, SameName, is_user, IsGenerated, IsPeriod, GivesKeys, GivesOneKey, Declares, ShareAName, HasUserColumn, IsColumnOf, IsNumberOf, AreColumnsOf, AreNumbersOf, TypeIsGood, DigitsAreGood, EntryIsGood}
 use Rattle.rows.proofs.SchemaPlaces.{each_placed, each_at, each_to, Apart, apart_no_two, no_two_apart, one_same, only_is, flat_of, Tells, none_given, none_stands, one_stands, one_given}
 
 -- tests

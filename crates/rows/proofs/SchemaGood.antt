@@ -5,6 +5,7 @@ use Rattle.std.specs.List.{list_any, list_all, filter_map, flat_map}
 use Rattle.std.proofs.lemmas.Bool.{and_parts, and_from}
 use Rattle.std.proofs.lemmas.Bool.Decides.{nat_tests}
 use Rattle.std.proofs.lemmas.List.{length-append, length-map, append_assoc, append-nil}
+use Rattle.values.specs.declared.period.Period.{Period}
 use Rattle.values.specs.declared.table.Table.{Table}
 use Rattle.values.specs.Tables.{Schema}
 use Rattle.rows.specs.declared.declaration.Side.TheVariants.{Start, End}
@@ -14,7 +15,8 @@ use Rattle.rows.specs.declared.schema_reading.SchemaFault.{SchemaFault}
 use Rattle.rows.specs.declared.schema_reading.SchemaFault.TheVariants.{BadTable}
 use Rattle.values.specs.Names.{same_name}
 use Rattle.rows.specs.SchemaTable.{user_column, column_name, side_name, period_names, keys_in, is_good_entry, are_distinct, only, number_in, is_good_key, is_good_period, is_good_width, are_good_entries, table_of, next_table, tables_from}
-use Rattle.rows.specs.GoodTable.{Each, SameName, TableIsGood, AreNumbersOf, IsTableOf, AreTablesOf, TablesAreGood, IsFirstBad}
+use Rattle.values.specs.Each.{Each}
+use Rattle.rows.specs.GoodTable.{SameName, TableIsGood, AreNumbersOf, IsTableOf, AreTablesOf, TablesAreGood, IsFirstBad}
 use Rattle.rows.proofs.SchemaPlaces.{each-append, each_front, each_back, apart_no_two, no_two_apart, apart_push, apart_front, apart_last}
 use Rattle.rows.proofs.SchemaEntries.{le_from, le_to, not_from, not_to, same_to, same_from, any_none, none_any, distinct_differ, differ_distinct, side_stands, side_only, period_stands, period_only, key_stands, key_only, all_known, known_all, numbers_are, numbers_same, users_differ, columns_are, columns_same, user_count, columns_differ, differ_columns, entries_good, good_entries}
 
@@ -33,7 +35,7 @@ where_so false x y e = cc
 -- the table that a declaration makes
 abbrev made : ℕ → Declaration → List ℕ → List ℕ → List (List ℕ) → Table
 made number d start end names =
-    record { number = number; name = d.name; columns = filter_map user_column d.entries; key = map (number_in (filter_map user_column d.entries)) names; row_start = start; row_end = end }
+    record { number = number; name = d.name; columns = filter_map user_column d.entries; key = map (number_in (filter_map user_column d.entries)) names; row_start = start; row_end = end; period = None }
 
 abbrev fits : Declaration → List ℕ → List ℕ → PeriodNames → List (List ℕ) → Bool
 fits d start end period names =
@@ -97,6 +99,7 @@ made_is_good number d t e =
           key_is = numbers_are columns names known;
           starts = sym first.1.0;
           ends = sym last_one.1.0;
+          no_period = refl;
         }
 
 good_fits : (d : Declaration) (g : TableIsGood d) → fits d g.start.name g.end.name g.period g.key ≡ true
@@ -137,12 +140,13 @@ table_is_made number d t is =
     let numbers : map (number_in columns) g.key ≡ t.key =
     numbers_same columns g.key t.key (users_differ d.entries g.columns_differ) (subst (λ c. AreNumbersOf c g.key t.key) (sym same) is.key_is) in
     good_is_made number d g
-    ∙ ap (λ n. Some (record { number = n; name = d.name; columns = columns; key = map (number_in columns) g.key; row_start = g.start.name; row_end = g.end.name })) (sym is.numbered)
-    ∙ ap (λ n. Some (record { number = t.number; name = n; columns = columns; key = map (number_in columns) g.key; row_start = g.start.name; row_end = g.end.name })) (sym is.named)
-    ∙ ap (λ k. Some (record { number = t.number; name = t.name; columns = columns; key = k; row_start = g.start.name; row_end = g.end.name })) numbers
-    ∙ ap (λ c. Some (record { number = t.number; name = t.name; columns = c; key = t.key; row_start = g.start.name; row_end = g.end.name })) same
-    ∙ ap (λ n. Some (record { number = t.number; name = t.name; columns = t.columns; key = t.key; row_start = n; row_end = g.end.name })) (sym is.starts)
-    ∙ ap (λ n. Some (record { number = t.number; name = t.name; columns = t.columns; key = t.key; row_start = t.row_start; row_end = n })) (sym is.ends)
+    ∙ ap (λ n. Some (record { number = n; name = d.name; columns = columns; key = map (number_in columns) g.key; row_start = g.start.name; row_end = g.end.name; period = None })) (sym is.numbered)
+    ∙ ap (λ n. Some (record { number = t.number; name = n; columns = columns; key = map (number_in columns) g.key; row_start = g.start.name; row_end = g.end.name; period = None })) (sym is.named)
+    ∙ ap (λ k. Some (record { number = t.number; name = t.name; columns = columns; key = k; row_start = g.start.name; row_end = g.end.name; period = None })) numbers
+    ∙ ap (λ c. Some (record { number = t.number; name = t.name; columns = c; key = t.key; row_start = g.start.name; row_end = g.end.name; period = None })) same
+    ∙ ap (λ n. Some (record { number = t.number; name = t.name; columns = t.columns; key = t.key; row_start = n; row_end = g.end.name; period = None })) (sym is.starts)
+    ∙ ap (λ n. Some (record { number = t.number; name = t.name; columns = t.columns; key = t.key; row_start = t.row_start; row_end = n; period = None })) (sym is.ends)
+    ∙ ap (λ (o : Option Period). Some (record { number = t.number; name = t.name; columns = t.columns; key = t.key; row_start = t.row_start; row_end = t.row_end; period = o })) (sym is.no_period)
 
 -- declarations beside one another
 abbrev Clash : Declaration → Declaration → Type 0

@@ -2,7 +2,8 @@
 use Rattle.std.proofs.Common.{◌≡◌, ◌⊎◌, inl, inr, List, [], ◌∷◌, ◌++◌, Option, Some, None, refl, sym, subst, ap, ◌∙◌}
 use Rattle.std.specs.List.{flat_map, filter_map, cons_option}
 use Rattle.rows.specs.SchemaTable.{only}
-use Rattle.rows.specs.GoodTable.{Each, IsTheOne, NoTwo}
+use Rattle.values.specs.Each.{Each}
+use Rattle.rows.specs.GoodTable.{IsTheOne, NoTwo}
 
 module _ {A : Type 0} (P : A → Type 0) where
   pub each-append : (xs ys : List A) → Each P xs → Each P ys → Each P (xs ++ ys)

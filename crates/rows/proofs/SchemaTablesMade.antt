@@ -62,7 +62,7 @@ own_columns table (name ∷ names) h =
 abbrev made : ℕ → Declaration → List ℕ → List ℕ → List (List ℕ) → Table
 made number d start end names =
     let columns = filter_map user_column d.entries in
-    record { number = number; name = d.name; columns = columns; key = map (number_in columns) names; row_start = start; row_end = end }
+    record { number = number; name = d.name; columns = columns; key = map (number_in columns) names; row_start = start; row_end = end; period = None }
 
 abbrev is_good : Declaration → List ℕ → List ℕ → PeriodNames → List (List ℕ) → Bool
 is_good d start end period names =
@@ -87,6 +87,7 @@ made_is number d start end period names h =
       few_columns = at_most (length columns) 16 (and_parts _ _ wide).1;
       few_key_columns = subst (λ n. n ≤ 4) (sym same) few;
       own_key_columns = own_columns (made number d start end names) names none;
+      own_period = λ p is. cc;
     }
 
 kept : (number : ℕ) (d : Declaration) (start end : List ℕ) (period : PeriodNames) (names : List (List ℕ)) (t : Table) (good : Bool) → is_good d start end period names ≡ good

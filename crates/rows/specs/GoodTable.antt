@@ -7,6 +7,7 @@ use Rattle.values.specs.declared.table.ColumnType.{ColumnType}
 use Rattle.values.specs.declared.table.ColumnType.TheVariants.{Varchar}
 use Rattle.values.specs.declared.table.Column.{Column}
 use Rattle.values.specs.declared.table.Table.{Table}
+use Rattle.values.specs.Each.{Each}
 use Rattle.values.specs.Fit.{longest_text}
 use Rattle.values.specs.Tables.{most_digits, most_key_columns, most_tables, widest}
 use Rattle.rows.specs.declared.declaration.Mark.TheVariants.{NotNull, PrimaryKey}
@@ -18,11 +19,6 @@ use Rattle.rows.specs.declared.declaration.PeriodNames.{PeriodNames}
 use Rattle.rows.specs.declared.declaration.Entry.{Entry}
 use Rattle.rows.specs.declared.declaration.Entry.TheVariants.{User, Generated, Period, Key}
 use Rattle.rows.specs.declared.declaration.Declaration.{Declaration}
-
--- every element is so
-abbrev pub Each : {A : Type 0} → (A → Type 0) → List A → Type 0
-Each P [] = Unit {0}
-Each P (x ∷ xs) = P x × Each P xs
 
 -- the element is somewhere in the list
 abbrev pub IsElement : {A : Type 0} → A → List A → Type 0
@@ -177,6 +173,7 @@ pub record IsTableOf (d : Declaration) (number : ℕ) (t : Table) : Type 0 where
   pub key_is : AreNumbersOf t.columns good.key t.key
   pub starts : t.row_start ≡ good.start.name
   pub ends : t.row_end ≡ good.end.name
+  pub no_period : t.period ≡ None
 
 -- the tables in order, numbered from this number on
 abbrev pub AreTablesOf : ℕ → List Declaration → List Table → Type 0

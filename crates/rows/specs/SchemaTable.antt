@@ -130,6 +130,7 @@ table_of number d = do
         key = key;
         row_start = start;
         row_end = end;
+        period = None;
       })
       else None
 

@@ -347,6 +347,7 @@ fn table_of(
         key: Sequence::new(key),
         row_start: start.clone()?,
         row_end: end.clone()?,
+        period: None,
     }))
 }
 

@@ -33,6 +33,7 @@ one_table of = record {
   key = 1 ∷ [];
   row_start = [];
   row_end = [];
+  period = None;
 }
 
 abbrev one_key : Value → Key

@@ -5,20 +5,32 @@ use Rattle.std.specs.List.{slice_get}
 use Rattle.std.proofs.lemmas.Option.{slice_get_read, slice_get_past}
 use Rattle.std.proofs.lemmas.Bool.Decides.{nat_tests}
 use Rattle.std.proofs.lemmas.List.Elements.{All-head, All-tail, All-cons, All-nil}
+use Rattle.values.specs.declared.period.Period.{Period}
 use Rattle.values.specs.declared.table.Column.{Column}
 use Rattle.values.specs.declared.table.Table.{Table}
-use Rattle.values.specs.Tables.{Schema, table_at, widest, IsColumnOf, IsTable, AreTables}
+use Rattle.values.specs.Tables.{Schema, table_at, widest, IsColumnOf, HasPeriod, IsTable, AreTables}
 use Rattle.values.specs.Columns.{with_column, table_with, add_column}
 
 longer : (c : Column) (t : Table) → length (with_column c t).columns ≡ length t.columns + 1
 longer c t = length-append t.columns (c ∷ [])
 
+column_stays : (c : Column) (t : Table) (n : ℕ) → IsColumnOf t n → IsColumnOf (with_column c t) n
+column_stays c t n was = record { from_1 = was.from_1; within = omega (arith, was.within, longer c t) }
+
 columns_stay : (c : Column) (t : Table) (ns : List ℕ) → All (IsColumnOf t) ns → All (IsColumnOf (with_column c t)) ns
 columns_stay c t [] h = All-nil (IsColumnOf (with_column c t))
 columns_stay c t (n ∷ ns) h =
-    let was = All-head (IsColumnOf t) n ns h in
-    let now : IsColumnOf (with_column c t) n = record { from_1 = was.from_1; within = omega (arith, was.within, longer c t) } in
-    All-cons (IsColumnOf (with_column c t)) n ns now (columns_stay c t ns (All-tail (IsColumnOf t) n ns h))
+    All-cons (IsColumnOf (with_column c t)) n ns (column_stays c t n (All-head (IsColumnOf t) n ns h)) (columns_stay c t ns (All-tail (IsColumnOf t) n ns h))
+
+period_stays : (c : Column) (t : Table) (p : Period) → HasPeriod t p → HasPeriod (with_column c t) p
+period_stays c t p h = record {
+  start = column_stays c t p.from h.start;
+  end = column_stays c t p.to h.end;
+  differ = h.differ;
+  entity = h.entity;
+  start_last = h.start_last;
+  distinct = h.distinct;
+}
 
 table_stays : (number : ℕ) (c : Column) (t : Table) → length t.columns < widest → IsTable number t → IsTable number (with_column c t)
 table_stays number c t room h = record {
@@ -27,6 +39,7 @@ table_stays number c t room h = record {
   few_columns = omega (arith, longer c t, room);
   few_key_columns = h.few_key_columns;
   own_key_columns = columns_stay c t t.key h.own_key_columns;
+  own_period = λ p is. period_stays c t p (h.own_period p is);
 }
 
 tables_stay : (n i : ℕ) (ts : List Table) (c : Column) (t : Table) → slice_get ts i ≡ Some t → length t.columns < widest → AreTables n ts → AreTables n (slice_set ts i (with_column c t))

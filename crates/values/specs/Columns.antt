@@ -5,14 +5,15 @@ use Rattle.values.specs.declared.table.ColumnType.TheVariants.{Varchar}
 use Rattle.values.specs.declared.table.Column.{Column}
 use Rattle.values.specs.declared.table.Table.{Table}
 use Rattle.values.specs.Fit.{longest_text}
-use Rattle.values.specs.Names.{same_name, column_number}
+use Rattle.values.specs.Names.{same_name, names_period, column_number}
 use Rattle.values.specs.Tables.{Schema, table_at, widest}
 
--- the name is one of the table's columns, those of its period too
+-- the name is one of the table's columns, those of system time too, or that of its period
 abbrev pub is_name_of : Table → List ℕ → Bool
 is_name_of table name =
     is_some (column_number table name)
-    || (same_name table.row_start name || same_name table.row_end name)
+    || (same_name table.row_start name
+    || (same_name table.row_end name || names_period table.period name))
 
 -- VARCHAR has from one character to as many as a text has bytes
 abbrev pub is_good_type : ColumnType → Bool
@@ -40,6 +41,7 @@ with_column column table = record {
   key = table.key;
   row_start = table.row_start;
   row_end = table.row_end;
+  period = table.period;
 }
 
 abbrev pub table_with : Schema → ℕ → Option Table → Schema
@@ -59,5 +61,6 @@ add_column number column schema =
 pub record IsWidenedTo (earlier later : Table) : Type 0 where
   pub number_is : later.number ≡ earlier.number
   pub key_is : later.key ≡ earlier.key
+  pub period_is : later.period ≡ earlier.period
   pub more : List Column
   pub columns_are : later.columns ≡ earlier.columns ++ more

@@ -11,7 +11,7 @@ use Rattle.values.specs.declared.key.Key.{Key}
 use Rattle.values.specs.declared.query.Comparison.{Comparison}
 use Rattle.values.specs.declared.query.Keys.{Keys}
 use Rattle.values.specs.declared.query.Set.{Set}
-use Rattle.values.specs.Tables.{Schema, table_at, column_at, is_key_column}
+use Rattle.values.specs.Tables.{Schema, table_at, column_at, is_key_column, is_fixed_column}
 use Rattle.values.specs.Log.{Row}
 
 abbrev pub is_line_break : ℕ → Bool
@@ -123,7 +123,7 @@ set_fault table earlier s = elim (column_at table s.column) [
   | None ↦ Some 0
   | Some column ↦
       if list_any (λ e. e.column == s.column) earlier then Some 0
-      else if is_key_column table s.column then Some s.column
+      else if is_fixed_column table s.column then Some s.column
       else if fits_value false column s.value then None
       else Some s.column
 ]

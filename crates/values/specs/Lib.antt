@@ -1,5 +1,7 @@
 pub mod Columns
 pub mod Commits
+pub mod Each
+pub mod Entity
 pub mod Equality
 pub mod Event
 pub mod EventOrder
@@ -16,6 +18,8 @@ pub mod Memory
 pub mod Names
 pub mod Order
 pub mod OrderLaw
+pub mod Period
+pub mod Portion
 pub mod RowEncoding
 pub mod RowLaw
 pub mod RowReading

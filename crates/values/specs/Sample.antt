@@ -1,5 +1,5 @@
 -- The table and the schema where none is declared: employees, by number.
-use Rattle.std.specs.Prelude.{[], ◌∷◌, codes, false}
+use Rattle.std.specs.Prelude.{[], ◌∷◌, None, codes, false}
 use Rattle.values.specs.declared.table.Table.{Table}
 use Rattle.values.specs.Tables.{Schema}
 use Rattle.values.specs.declared.table.ColumnType.TheVariants.{Int as IsInt, Text as IsText}
@@ -14,6 +14,7 @@ sample_table = record {
   key = 1 ∷ [];
   row_start = codes "sys_start";
   row_end = codes "sys_end";
+  period = None;
 }
 
 abbrev pub sample : Schema

@@ -1,9 +1,10 @@
 -- Tables by their numbers, and the values of their columns by theirs: both are numbered from 1.
-use Rattle.std.specs.Prelude.{◌≡◌, ℕ, ◌+◌, ◌-◌, ◌≤◌, ◌==◌, List, [], ◌∷◌, ◌++◌, replicate, Bool, Option, Some, None, if◌then◌else◌, length, All}
+use Rattle.std.specs.Prelude.{◌≡◌, ◌≢◌, ℕ, ◌+◌, ◌-◌, ◌≤◌, ◌==◌, ◌||◌, List, [], ◌∷◌, ◌++◌, replicate, Bool, false, Option, Some, None, if◌then◌else◌, length, All}
 use Rattle.std.specs.List.{slice_get, list_any}
-use Rattle.std.specs.Option.{unwrap_or}
+use Rattle.std.specs.Option.{unwrap_or, ForSome}
 use Rattle.values.specs.declared.value.Value.{Value}
 use Rattle.values.specs.declared.value.Value.TheVariants.{Null}
+use Rattle.values.specs.declared.period.Period.{Period}
 use Rattle.values.specs.declared.table.Column.{Column}
 use Rattle.values.specs.declared.table.Table.{Table}
 
@@ -37,6 +38,15 @@ column_at table number = if number == 0 then None else slice_get table.columns (
 abbrev pub is_key_column : Table → ℕ → Bool
 is_key_column table number = list_any (λ k. k == number) table.key
 
+-- the column is the end of the table's period of application time
+abbrev pub ends_period : Option Period → ℕ → Bool
+ends_period None number = false
+ends_period (Some p) number = p.to == number
+
+-- a column that no statement sets: one of the key's, or the end of the period
+abbrev pub is_fixed_column : Table → ℕ → Bool
+is_fixed_column table number = is_key_column table number || ends_period table.period number
+
 -- a row's value of a column, NULL past its end
 abbrev pub value_at : List Value → ℕ → Value
 value_at row number = unwrap_or (slice_get row (number - 1)) Null
@@ -54,13 +64,43 @@ pub record IsColumnOf (table : Table) (number : ℕ) : Type 0 where
   pub from_1 : 1 ≤ number
   pub within : number ≤ length table.columns
 
--- the table has the number, 1 to 16 columns, and at most four key columns, which are among them
+-- all but the last
+abbrev pub but_last : {A : Type 0} → List A → List A
+but_last [] = []
+but_last (x ∷ []) = []
+but_last (x ∷ y ∷ ys) = x ∷ but_last (y ∷ ys)
+
+-- no column stands twice
+abbrev pub IsDistinct : List ℕ → Type 0
+IsDistinct columns =
+    (before after : List ℕ) (n : ℕ) → columns ≡ before ++ n ∷ after
+    → list_any (λ c. c == n) before ≡ false
+
+-- the column is none of the period's
+pub record IsOutside (p : Period) (column : ℕ) : Type 0 where
+  pub from_1 : 1 ≤ column
+  pub no_start : column ≢ p.from
+  pub no_end : column ≢ p.to
+
+-- the table has the period of application time: two of its columns, of which the start is the last
+-- of the key's, and the end none of them
+pub record HasPeriod (table : Table) (p : Period) : Type 0 where
+  pub start : IsColumnOf table p.from
+  pub end : IsColumnOf table p.to
+  pub differ : p.from ≢ p.to
+  pub entity : All (IsOutside p) (but_last table.key)
+  pub start_last : table.key ≡ but_last table.key ++ p.from ∷ []
+  pub distinct : IsDistinct table.key
+
+-- the table has the number, 1 to 16 columns, and at most four key columns, which are among them; so
+-- are those of its period, if it has one
 pub record IsTable (number : ℕ) (table : Table) : Type 0 where
   pub numbered : table.number ≡ number
   pub some_columns : 1 ≤ length table.columns
   pub few_columns : length table.columns ≤ widest
   pub few_key_columns : length table.key ≤ most_key_columns
   pub own_key_columns : All (IsColumnOf table) table.key
+  pub own_period : ForSome table.period (HasPeriod table)
 
 -- such tables, with the numbers from one on
 abbrev pub AreTables : ℕ → List Table → Type 0

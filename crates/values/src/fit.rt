@@ -2,10 +2,10 @@
 ghost use Rattle.std.specs.Prelude.{◌≡◌, ◌==◌, ◌||◌, length, [], option_copied};
 ghost use Rattle.std.specs.List.{list_any};
 ghost use Rattle.values.specs.Columns.{is_name_of, is_good_type, addition_fault};
-ghost use Rattle.values.specs.Tables.{column_at, is_key_column};
+ghost use Rattle.values.specs.Tables.{column_at, is_key_column, is_fixed_column, ends_period};
 ghost use Rattle.values.specs.Fit.{is_line_break, continues, character_count, text_limit, fits_text, fits_type, fits_value, row_fault, first_fault, rows_fault, key_fault, part_fault, parts_fault, can_compare, comparison_fault, comparisons_fault, set_fault, sets_fault};
 ghost use Rattle.values.specs.Faults.{no_fault};
-ghost use Rattle.values.specs.Names.{same_name};
+ghost use Rattle.values.specs.Names.{same_name, names_period};
 
 use crate::query::{ColumnNumber, Comparison, Set};
 use crate::refusal::Refusal;
@@ -121,6 +121,23 @@ impl Table {
         self.key.items().iter().any(|column| *column == number)
     }
 
+    /// Tells whether no statement may set a column: it is one of the key's, or the end of the
+    /// table's period.
+    pub fn is_fixed_column(&self, number: ColumnNumber) -> bool
+        ensures { result ≡ is_fixed_column self.now number }
+    {
+        self.is_key_column(number) || self.ends_period(number)
+    }
+
+    fn ends_period(&self, number: ColumnNumber) -> bool
+        ensures { result ≡ ends_period self.now.period number }
+    {
+        match &self.period {
+            None => false,
+            Some(period) => period.to == number,
+        }
+    }
+
     /// Refuses the values of a row that does not fit by the number of its first column that does
     /// not, or by 0 for its width, which comes first.
     pub fn check_row(&self, values: &[Value]) -> Result<(), Refusal>
@@ -165,7 +182,7 @@ impl Table {
     }
 
     /// Refuses what an UPDATE sets by the first entry that names no column or one twice (0), a key
-    /// column, or a value that does not fit.
+    /// column, the end of the table's period, or a value that does not fit.
     pub fn check_sets(&self, sets: &[Set]) -> Result<(), Refusal>
         ensures { result ≡ no_fault (sets_fault self.now [] sets.now) }
     {
@@ -178,8 +195,8 @@ impl Table {
     }
 
     /// Refuses a column that the table cannot get, by 0: its name is one of the table's columns,
-    /// those of its period included, in any case; the table has 16 user columns; or a VARCHAR is
-    /// not of 1 to 1,000 characters.
+    /// those of system time included, or that of its period, in any case; the table has 16 user
+    /// columns; or a VARCHAR is not of 1 to 1,000 characters.
     pub fn check_column(&self, name: &[u8], of: ColumnType) -> Result<(), Refusal>
         ensures { result ≡ no_fault (addition_fault name.now of self.now) }
     {
@@ -189,18 +206,25 @@ impl Table {
         Ok(())
     }
 
-    /// Whether a name is one of the table's columns, those of its period included.
+    /// Tells whether a name is that of the table's period of application time, in any case.
+    pub fn names_period(&self, name: &[u8]) -> bool
+        ensures { result ≡ names_period self.now.period name.now }
+    {
+        match &self.period {
+            None => false,
+            Some(period) => same_name(period.name.text().as_bytes(), name),
+        }
+    }
+
+    /// Whether a name is one of the table's columns, those of system time included, or that of its
+    /// period.
     fn is_name_of(&self, name: &[u8]) -> bool
         ensures { result ≡ is_name_of self.now name.now }
     {
-        self.column(name).is_some() || self.is_period_column(name)
-    }
-
-    fn is_period_column(&self, name: &[u8]) -> bool
-        ensures { result ≡ (same_name self.now.row_start name.now || same_name self.now.row_end name.now) }
-    {
-        same_name(self.row_start.text().as_bytes(), name)
+        self.column(name).is_some()
+            || same_name(self.row_start.text().as_bytes(), name)
             || same_name(self.row_end.text().as_bytes(), name)
+            || self.names_period(name)
     }
 
     fn row_fault(&self, values: &[Value]) -> Option<usize>
@@ -276,7 +300,7 @@ impl Table {
         };
         if sets_column(earlier, number) {
             Some(0)
-        } else if self.is_key_column(number) || !fits_value(false, column, &set.value) {
+        } else if self.is_fixed_column(number) || !fits_value(false, column, &set.value) {
             Some(number)
         } else {
             None

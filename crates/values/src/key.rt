@@ -1,12 +1,14 @@
 //! Keys, points, and what was committed at an instant.
 ghost use Rattle.std.specs.Prelude.{◌≡◌, IfOk};
+ghost use Rattle.values.specs.Entity.{entity_of};
+ghost use Rattle.values.specs.Tables.{but_last};
 ghost use Rattle.values.specs.Memory.{OnlyMemory};
 
 use crate::refusal::Mem;
 use crate::row::Row;
 use crate::sequence::Sequence;
-use crate::value::Values;
-use std::alloc::AllocError;
+use crate::value::{Value, Values};
+use std::alloc::{AllocError, Global};
 
 /// A point of time: microseconds since 1970 where the clock gives it, and any whole number where a
 /// script does.
@@ -29,6 +31,28 @@ impl Key {
         ensures err { OnlyMemory result }
     {
         Ok(self.clone()?)
+    }
+
+    /// Returns the key without its last part: of a table with a period of application time the
+    /// entity that the row is of.
+    pub fn entity(&self, alloc: Global) -> Mem<Key>
+        ensures ok { IfOk result (λ k. k ≡ entity_of self.now) }
+        ensures err { OnlyMemory result }
+    {
+        let parts = Vec::from_clones(alloc, but_last(self.parts.items()))?;
+        Ok(Key {
+            table: self.table,
+            parts: Values::new(parts),
+        })
+    }
+}
+
+fn but_last(parts: &[Value]) -> &[Value]
+    ensures { result.now ≡ but_last parts.now }
+{
+    match parts.split_last() {
+        Some((_last, others)) => others,
+        None => parts,
     }
 }
 

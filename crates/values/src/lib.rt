@@ -11,6 +11,7 @@ mod key_encoding;
 mod key_law;
 mod key_reading;
 mod law;
+mod period;
 mod query;
 mod refusal;
 mod row;
@@ -35,6 +36,7 @@ pub use key_encoding::{
 pub use key_law::{bytes_stand_for_keys, fitting_keys_have_bytes, fitting_rows_have_keys};
 pub use key_reading::read_key;
 pub use law::{as_of_shows_the_state, empty_net_leaves_the_log, states_are_versions};
+pub use period::{Period, Span};
 pub use query::{
     ColumnNumber, Comparison, Form, Keys, Operator, Rows, Set, Sets, Shown, ShownRows,
 };

@@ -27,6 +27,7 @@ impl Table {
             key: Sequence::new(vec![in alloc; 1]?),
             row_start: Chars::copy_of(alloc, "sys_start")?,
             row_end: Chars::copy_of(alloc, "sys_end")?,
+            period: None,
         })
     }
 }

@@ -8,6 +8,7 @@ ghost use Rattle.values.specs.Memory.{OnlyMemory};
 
 use crate::chars::Chars;
 use crate::key::Key;
+use crate::period::Period;
 use crate::query::ColumnNumber;
 use crate::refusal::Mem;
 use crate::row::Row;
@@ -50,6 +51,9 @@ pub struct Table {
     pub row_start: Chars,
     /// The name of the ROW END column.
     pub row_end: Chars,
+    /// The period of application time, if the table has one: its start is then the last of the key
+    /// columns, and those before it are the entity's.
+    pub period: Option<Period>,
 }
 
 impl Clone for Column {
@@ -79,6 +83,7 @@ impl Clone for Table {
             key: self.key.clone()?,
             row_start: self.row_start.clone()?,
             row_end: self.row_end.clone()?,
+            period: self.period.clone()?,
         })
     }
 }

@@ -1,0 +1,9 @@
+pub mod Apart
+pub mod Columns
+pub mod EntityKeysMet
+pub mod Full
+pub mod Merge
+pub mod Pieces
+pub mod Points
+pub mod Spans
+pub mod UnitsOrder

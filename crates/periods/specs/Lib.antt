@@ -1,0 +1,4 @@
+pub mod EntityKeys
+pub mod NoOverlap
+pub mod Point
+pub mod Units
