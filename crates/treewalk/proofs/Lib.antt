@@ -11,6 +11,8 @@ pub mod GatherArea
 pub mod GatherLeaves
 pub mod GatherAlone
 pub mod ListingRead
+pub mod RangeChangeLatest
+pub mod RangeChangeShown
 pub mod LastChangeShown
 pub mod ChangeAfterShown
 pub mod ChangeAfterPlaced

@@ -82,7 +82,7 @@ fn instants(query: Query) -> (Instant, Instant)
 
 /// The rectangle of a range of keys and of the instants from one to another and with it; None where
 /// it is empty.
-fn rect_between(range: &KeyRange, from: Instant, to: Instant) -> Mem<Option<Rect>>
+pub(crate) fn rect_between(range: &KeyRange, from: Instant, to: Instant) -> Mem<Option<Rect>>
     ensures ok { IfOk result (λ r. r ≡ area_between range.now from to) }
     ensures err { OnlyMemory result }
 {

@@ -27,7 +27,7 @@ pub fn changed_since(nodes: &Nodes, key: &KeyBytes, start: Instant) -> Option<In
 }
 
 /// An instant, where it is above another.
-fn above(start: Instant, instant: Instant) -> Option<Instant>
+pub(crate) fn above(start: Instant, instant: Instant) -> Option<Instant>
     ensures { result ≡ (if nat_lt start instant then Some instant else None) }
 {
     if start < instant { Some(instant) } else { None }

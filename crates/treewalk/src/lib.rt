@@ -8,6 +8,7 @@ mod last_change;
 mod leaf;
 mod level;
 mod listing;
+mod range_change;
 mod shape;
 
 pub use change_after::next_change;
@@ -15,4 +16,5 @@ pub use last_change::changed_since;
 pub use leaf::{has_row_in, row_in};
 pub use level::leaves_in;
 pub use listing::{events, standing};
+pub use range_change::changed_in;
 pub use shape::{NodeShape, Shape, tree_shape};
