@@ -7,7 +7,8 @@ ghost use Rattle.treegrowth.specs.Commit.{IsCommit};
 ghost use Rattle.treegrowth.specs.Leaves.{halves_upto};
 ghost use Rattle.treegrowth.specs.Places.{SplitsOverfull};
 ghost use Rattle.treenodes.specs.History.{KeepsHistory, KeepsPast};
-ghost use Rattle.tsbtree.specs.View.{last, IsEmpty, IsState};
+ghost use Rattle.treewalk.specs.RangeChange.{event_since_in};
+ghost use Rattle.tsbtree.specs.View.{events, last, IsEmpty, IsState};
 ghost use Rattle.tsbtree.specs.Growth.{Adds, HoldsSame, IsSplitAt};
 ghost use Rattle.tsbtree.specs.Packing.{IsInstalled};
 
@@ -15,6 +16,7 @@ use crate::packing::number_of_node;
 use crate::view::View;
 use blocks::Block;
 use datanode::DataNode;
+use keyrange::KeyRange;
 use std::alloc::Global;
 use std::marker::Model;
 use treegrowth::{key_split, time_split, with_commit};
@@ -68,6 +70,15 @@ impl Tree {
         ensures err { OnlyMemory result }
     {
         self.view.share()
+    }
+
+    /// Returns the latest instant above `start` at which a key of the range was changed, if there
+    /// is one. `Memory` where it runs out.
+    pub fn changed_in(&self, range: &KeyRange, start: Instant) -> Mem<Option<Instant>>
+        ensures ok { IfOk result (λ i. i ≡ event_since_in (events self.now) start range.now) }
+        ensures err { OnlyMemory result }
+    {
+        self.view.changed_in(range, start)
     }
 
     /// Adds the events of a commit at an instant after all others: by key, one for each key. Only

@@ -13,6 +13,7 @@ ghost use Rattle.treenodes.specs.Backlog.{IsFirstWaiting, IsWaiting};
 ghost use Rattle.treenodes.specs.Sound.{IsSound};
 ghost use Rattle.treenodes.specs.Tree.{IsTree};
 ghost use Rattle.datanode.specs.NextChange.{event_after};
+ghost use Rattle.treewalk.specs.RangeChange.{event_since_in};
 ghost use Rattle.treewalk.specs.Shape.{IsShapeOf};
 ghost use Rattle.tsbtree.specs.View.{events, last, visits, IsState};
 ghost use Rattle.tsbtree.specs.Leaf.{IsLeafOf};
@@ -27,7 +28,7 @@ use std::alloc::Global;
 use std::marker::Model;
 use treenodes::{Child, Nodes, leaf_at};
 use treewalk::{
-    Shape, changed_since, events, has_row_in, next_change, row_in, standing, tree_shape,
+    Shape, changed_in, changed_since, events, has_row_in, next_change, row_in, standing, tree_shape,
 };
 use values::{Instant, KeyBytes, Mem, Row, SharedEvent};
 
@@ -148,6 +149,16 @@ impl View {
         ensures { result ≡ event_since (events self.now) start key.now }
     {
         changed_since(&self.nodes, key, start)
+    }
+
+    /// Returns the latest instant above `start` at which a key of the range was changed, if there
+    /// is one. The keys of a range may be changed in any order, so it is the latest of all of them.
+    /// A block that is in question is read in place. `Memory` where it runs out.
+    pub fn changed_in(&self, range: &KeyRange, start: Instant) -> Mem<Option<Instant>>
+        ensures ok { IfOk result (λ i. i ≡ event_since_in (events self.now) start range.now) }
+        ensures err { OnlyMemory result }
+    {
+        changed_in(self.alloc, &self.nodes, range, start)
     }
 
     /// Returns the instant of a key's first event above `after`, if there is one: there ends what

@@ -195,6 +195,34 @@ fn turn(at: u8) -> u8 {
     place as u8
 }
 
+/// The same, then key 30 is deleted at 161 and key 1 changed at 162. The current data node of key
+/// 30 is split at key 28, and behind the deletion.
+pub(crate) fn many_keys_deleted(rt: &impl Abort, alloc: Global) -> Tree {
+    let mut tree = many_keys(rt, alloc);
+    delete(rt, alloc, &mut tree, 161, 30);
+    put(rt, alloc, &mut tree, 162, 1, 3);
+    assert!(rt; split_before(rt, alloc, &mut tree, 28));
+    assert!(rt; split_at(rt, alloc, &mut tree, 30, 162));
+    tree
+}
+
+/// Which key is changed in it at an instant, from 1 to 162.
+pub(crate) fn changed_key(at: u8) -> u8 {
+    match at {
+        0..46 => at,
+        46..161 => turn(at),
+        161 => 30,
+        _ => 1,
+    }
+}
+
+/// One row of key 1, from the greatest instant on.
+pub(crate) fn last_row(rt: &impl Abort, alloc: Global) -> Tree {
+    let mut tree = new_tree(rt, alloc);
+    put(rt, alloc, &mut tree, MAX_INSTANT, 1, 5);
+    tree
+}
+
 /// Changes 50 keys in turn at 1,000 instants after 200.
 pub(crate) fn grow(rt: &impl Abort, alloc: Global, tree: &mut Tree) {
     for at in 201..1201u64 {

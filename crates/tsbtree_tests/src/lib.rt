@@ -13,6 +13,8 @@ mod line;
 #[cfg(test)]
 mod packing_tests;
 #[cfg(test)]
+mod range_change_tests;
+#[cfg(test)]
 mod shape_tests;
 #[cfg(test)]
 mod view_tests;

@@ -38,7 +38,7 @@ fn pack_first(rt: &impl Abort, alloc: Global, tree: &mut Tree) -> bool {
 }
 
 /// A tree after its first unpacked nodes of history are packed, so many.
-fn pack_firsts(rt: &impl Abort, alloc: Global, tree: Tree, count: usize) -> Tree {
+pub(crate) fn pack_firsts(rt: &impl Abort, alloc: Global, tree: Tree, count: usize) -> Tree {
     let mut tree = tree;
     for _ in 0..count {
         assert!(rt; pack_first(rt, alloc, &mut tree));
