@@ -6,6 +6,7 @@ use Rattle.values.specs.declared.refusal.Refusal.{Refusal}
 use Rattle.values.specs.declared.refusal.Refusal.TheVariants.{Memory}
 use Rattle.values.specs.Tables.{Schema}
 use Rattle.values.specs.Log.{Log, Net, last, last_from, changes, point_cmp}
+use Rattle.values.specs.Period.{periods_of}
 use Rattle.values.specs.Commits.{outcome, after, log_after}
 use Rattle.values.specs.Events.{AreKeysIn, IsKeyIn}
 use Rattle.values.specs.declared.key.Point.{Point}
@@ -59,7 +60,7 @@ names_is j session number = by (has_entry_of j session number) refl
         (λ i. (chosen number (h i) == 0) || has_entry_of j session (chosen number (h i))) ∙ (λ i. (number == 0) || h i) ∙ either (number == 0)
     by false h = (λ i. (chosen number (h i) == 0) || has_entry_of j session (chosen number (h i)))
 
-pub may_begin : (schema : Schema) (b : BookState) (session number : ℕ) → IsBook schema b → MayFollow b.entries (begin_entry b session number)
+pub may_begin : (schema : Schema) (b : BookState) (session number : ℕ) → IsBook schema b → MayFollow schema b.entries (begin_entry b session number)
 may_begin schema b session number is = record {
   sees = record { events_are = is.holds.events_are; last_is = is.clock };
   names = names_is b.entries session number;
@@ -116,27 +117,27 @@ fits_after schema old new l net (Err refusal) keys fits is = subst (λ e. Fits s
 
 module _ (schema : Schema) (b : BookState) (session reading : ℕ) (begun : BegunState) (net : Net) (is : IsBook schema b) (f : IsFound b.entries session begun) where
   abbrev how : Result (Option ℕ) Refusal
-  how = outcome (changes (log b.entries)) (last (log b.entries)) begun.start net reading
+  how = outcome (periods_of schema) (changes (log schema b.entries)) (last (log schema b.entries)) begun.start net reading
 
-  pub may_commit : MayFollow b.entries (commit_entry b session begun net reading)
+  pub may_commit : MayFollow schema b.entries (commit_entry schema b session begun net reading)
   may_commit = record {
     earlier = f.earlier;
     view = f.view;
     begun = f.there;
     first = f.first;
-    ends = (λ k. outcome (changes (log b.entries)) (last (log b.entries)) (sym f.start_is k) net reading);
+    ends = (λ k. outcome (periods_of schema) (changes (log schema b.entries)) (last (log schema b.entries)) (sym f.start_is k) net reading);
   }
 
-  log_is : log (commit_entry b session begun net reading ∷ b.entries) ≡ log_after (log b.entries) net how
+  log_is : log schema (commit_entry schema b session begun net reading ∷ b.entries) ≡ log_after (log schema b.entries) net how
   log_is =
-      (λ k. elim (start_of (f.there k)) [ None ↦ log b.entries | Some start ↦ after (log b.entries) start net reading ])
-      ∙ (λ k. after (log b.entries) (f.start_is k) net reading)
+      (λ k. elim (start_of (f.there k)) [ None ↦ log schema b.entries | Some start ↦ after (periods_of schema) (log schema b.entries) start net reading ])
+      ∙ (λ k. after (periods_of schema) (log schema b.entries) (f.start_is k) net reading)
 
   pub committed : (new : TreeState) → AreKeysIn schema net → IsWritten b.engine new net (instant_of how) → IsState new.nodes (view_last new) → length b.entries < most_entries
-      → IsBook schema (book new (commit_entry b session begun net reading ∷ b.entries))
+      → IsBook schema (book new (commit_entry schema b session begun net reading ∷ b.entries))
   committed new keys written sound few =
-      let fits : Fits schema new (log (commit_entry b session begun net reading ∷ b.entries)) =
-      subst (Fits schema new) (sym log_is) (fits_after schema b.engine new (log b.entries) net how keys (record { holds = is.holds; clock = is.clock }) written) in
+      let fits : Fits schema new (log schema (commit_entry schema b session begun net reading ∷ b.entries)) =
+      subst (Fits schema new) (sym log_is) (fits_after schema b.engine new (log schema b.entries) net how keys (record { holds = is.holds; clock = is.clock }) written) in
       record {
         legal = (may_commit, is.legal);
         tree = sound;
@@ -146,38 +147,38 @@ module _ (schema : Schema) (b : BookState) (session reading : ℕ) (begun : Begu
       }
 
 -- how it ends, by the validation
-pub ends_so : (schema : Schema) (b : BookState) (start : ℕ) (net : Net) (reading : ℕ) (end : Result (Option ℕ) Refusal) → IsBook schema b → AreKeysIn schema net → IsEnd b.engine start net reading end
-    → end ≡ outcome (changes (log b.entries)) (last (log b.entries)) start net reading
+pub ends_so : (schema : Schema) (b : BookState) (start : ℕ) (net : Net) (reading : ℕ) (end : Result (Option ℕ) Refusal) → IsBook schema b → AreKeysIn schema net → IsEnd schema b.engine start net reading end
+    → end ≡ outcome (periods_of schema) (changes (log schema b.entries)) (last (log schema b.entries)) start net reading
 ends_so schema b start net reading end is keys ends =
-    ends schema (changes (log b.entries)) is.holds keys ∙ (λ k. outcome (changes (log b.entries)) (is.clock k) start net reading)
+    ends (changes (log schema b.entries)) is.holds keys ∙ (λ k. outcome (periods_of schema) (changes (log schema b.entries)) (is.clock k) start net reading)
 
 pub not_memory : (r : Result (Option ℕ) Refusal) → ran_out r ≡ false → r ≢ Err Memory
 not_memory r h e = cc (sym h ∙ ap ran_out e)
 
 -- ---- as the calls tell it
 
-pub fresh_as : (j made : Entries) (e put : Entry) → IsLegal j → MayFollow j e → made ≡ j → put ≡ e → has_ended (put ∷ made) (length made + 1) ≡ false
-fresh_as j made e put legal may same is = (λ k. has_ended (is k ∷ same k) (length (same k) + 1)) ∙ fresh j e legal may
+pub fresh_as : (schema : Schema) (j made : Entries) (e put : Entry) → IsLegal schema j → MayFollow schema j e → made ≡ j → put ≡ e → has_ended (put ∷ made) (length made + 1) ≡ false
+fresh_as schema j made e put legal may same is = (λ k. has_ended (is k ∷ same k) (length (same k) + 1)) ∙ fresh schema j e legal may
 
-pub fresh_begin : (j made : Entries) (put : Entry) (session earlier : ℕ) (view : TreeState) → IsLegal j → made ≡ j → put ≡ Begin session earlier view → has_ended (put ∷ made) (length made + 1) ≡ false
-fresh_begin j made put session earlier view legal same is = (λ k. has_ended (is k ∷ same k) (length (same k) + 1)) ∙ none_ahead j (length j + 1) legal (omega arith)
+pub fresh_begin : (schema : Schema) (j made : Entries) (put : Entry) (session earlier : ℕ) (view : TreeState) → IsLegal schema j → made ≡ j → put ≡ Begin session earlier view → has_ended (put ∷ made) (length made + 1) ≡ false
+fresh_begin schema j made put session earlier view legal same is = (λ k. has_ended (is k ∷ same k) (length (same k) + 1)) ∙ none_ahead schema j (length j + 1) legal (omega arith)
 
 module _ (schema : Schema) (b : BookState) (session reading : ℕ) (begun : BegunState) (net : Net) (end : Result (Option ℕ) Refusal) (entry : Entry)
-    (is : IsBook schema b) (here : is_open b.entries session begun ≡ true) (keys : AreKeysIn schema net) (ends : IsEnd b.engine begun.start net reading end)
+    (is : IsBook schema b) (here : is_open b.entries session begun ≡ true) (keys : AreKeysIn schema net) (ends : IsEnd schema b.engine begun.start net reading end)
     (made : entry ≡ Commit session begun.number net reading end) where
-  so : end ≡ outcome (changes (log b.entries)) (last (log b.entries)) begun.start net reading
+  so : end ≡ outcome (periods_of schema) (changes (log schema b.entries)) (last (log schema b.entries)) begun.start net reading
   so = ends_so schema b begun.start net reading end is keys ends
 
-  pub commit_entry_is : entry ≡ commit_entry b session begun net reading
+  pub commit_entry_is : entry ≡ commit_entry schema b session begun net reading
   commit_entry_is = made ∙ ap (Commit session begun.number net reading) so
 
   pub commit_fresh : (j : Entries) → j ≡ b.entries → has_ended (entry ∷ j) (length j + 1) ≡ false
-  commit_fresh j same = fresh_as b.entries j (commit_entry b session begun net reading) entry is.legal (may_commit schema b session reading begun net is (found b.entries session begun here)) same commit_entry_is
+  commit_fresh j same = fresh_as schema b.entries j (commit_entry schema b session begun net reading) entry is.legal (may_commit schema b session reading begun net is (found b.entries session begun here)) same commit_entry_is
 
   pub commit_grows : (new : TreeState) (changed : Net) (instant : Option ℕ) (j grown : Entries) → changed ≡ net → instant ≡ instant_of end → IsWritten b.engine new changed instant → IsState new.nodes (view_last new) → length b.entries < most_entries
       → j ≡ b.entries → grown ≡ entry ∷ j → IsBook schema (book new grown)
   commit_grows new changed instant j grown twice at written sound few same grows =
       subst (λ j. IsBook schema (book new j)) (sym (grows ∙ (λ k. commit_entry_is k ∷ same k)))
       (committed schema b session reading begun net is (found b.entries session begun here) new keys
-      (subst (λ n. IsWritten b.engine new n (instant_of (outcome (changes (log b.entries)) (last (log b.entries)) begun.start net reading))) twice
+      (subst (λ n. IsWritten b.engine new n (instant_of (outcome (periods_of schema) (changes (log schema b.entries)) (last (log schema b.entries)) begun.start net reading))) twice
       (subst (IsWritten b.engine new changed) (at ∙ ap instant_of so) written)) sound few)

@@ -2,6 +2,7 @@
 use Rattle.std.specs.Prelude.{◌≡◌, ℕ, ◌<◌, ◌≤◌, Option, Some, None, Result, Ok, Err, Bool, true, false, length}
 use Rattle.values.specs.Tables.{Schema}
 use Rattle.values.specs.Log.{Changes, Net, add_net}
+use Rattle.values.specs.Period.{periods_of}
 use Rattle.values.specs.Commits.{outcome, max_instant}
 use Rattle.values.specs.Events.{AreKeysIn}
 use Rattle.tsbtree.specs.View.{TreeState, last}
@@ -20,10 +21,10 @@ instant_of (Ok end) = end
 instant_of (Err refusal) = None
 
 -- how a transaction of this start with these net changes ends at this reading
-abbrev pub IsEnd : TreeState → ℕ → Net → ℕ → Result (Option ℕ) Refusal → Type 0
-IsEnd engine start net reading end =
-    (schema : Schema) (m : Changes) → Holds schema engine m → AreKeysIn schema net
-    → end ≡ outcome m (last engine) start net reading
+abbrev pub IsEnd : Schema → TreeState → ℕ → Net → ℕ → Result (Option ℕ) Refusal → Type 0
+IsEnd schema engine start net reading end =
+    (m : Changes) → Holds schema engine m → AreKeysIn schema net
+    → end ≡ outcome (periods_of schema) m (last engine) start net reading
 
 -- the net changes can be put in at the instant
 pub record MayBeWritten (engine : TreeState) (net : Net) (instant : ℕ) : Type 0 where

@@ -12,25 +12,27 @@ use growlog::StoreName;
 use journal::{Begun, Entry, Receipt};
 use staging::Net;
 use validation::Engine;
-use values::{Instant, Mem, Refusal};
+use values::{Instant, Mem, Refusal, Schema};
 
 impl<J: StoreName> Book<J> {
-    /// Ends a session's transaction with its net changes, by this reading of the clock: how it ended is in the entry. The
-    /// changes are handed in twice, once to be kept in the entry and once to be put in the tree. `NoTransaction` where the
+    /// Ends a session's transaction of the store's tables with its net changes, by this reading of the clock: how it ended is
+    /// in the entry. The changes are handed in twice, once to be kept in the entry and once to be put in the tree. `NoTransaction` where the
     /// transaction is not open here, `JournalFull` where there is no room for one more entry. After a refusal nothing has
     /// changed.
     pub fn commit(
         &mut self,
+        schema: &Schema,
         session: u8,
         begun: &Begun,
         net: Net,
         changes: Net,
         reading: Instant,
     ) -> Result<Receipt<J>, Refusal>
+        requires tables { schema.now ≡ J.schema }
         requires keys { AreKeysIn J.schema net }
         requires twice { changes ≡ net }
         ensures entry { IfOk result (λ r.
-            r.entry ≡ commit_entry self.old session begun.now net reading) }
+            r.entry ≡ commit_entry J.schema self.old session begun.now net reading) }
         ensures adds { IfOk result (λ r. Adds r.entry r.number self.old self.new) }
         ensures history { KeepsHistory self.old.engine.nodes self.new.engine.nodes }
         ensures book { IsBook J.schema self.new }
@@ -47,7 +49,7 @@ impl<J: StoreName> Book<J> {
             return Err(Refusal::NoTransaction);
         }
         make_room(&mut self.journal)?;
-        let end = ending(&self.engine, begun.start(), &net, reading)?;
+        let end = ending(&self.engine, schema, begun.start(), &net, reading)?;
         let instant = instant_of(&end);
         let entry = Entry::Commit {
             session,
@@ -68,15 +70,16 @@ impl<J: StoreName> Book<J> {
 /// The validation: how a transaction would end.
 fn ending(
     engine: &Engine,
+    schema: &Schema,
     start: Instant,
     net: &Net,
     reading: Instant,
 ) -> Mem<Result<Option<Instant>, Refusal>>
-    ensures is { IfOk result (IsEnd engine.now start net.now reading) }
+    ensures is { IfOk result (IsEnd schema.now engine.now start net.now reading) }
     ensures put { IfOk result (λ end. IfSome (instant_of end) (MayBeWritten engine.now net.now)) }
     ensures memory { OnlyMemory result }
 {
-    let end = engine.validate(start, net, reading);
+    let end = engine.validate(schema, start, net, reading);
     if ran_out(&end) {
         return Err(Refusal::Memory);
     }

@@ -8,6 +8,7 @@ use Rattle.values.specs.Tables.{Schema}
 use Rattle.values.specs.Log.{Log, Net, Changes, last, changes}
 use Rattle.values.specs.Law.{IsLog, shown_rows}
 use Rattle.values.specs.declared.query.Form.TheVariants.{AsOf}
+use Rattle.values.specs.Period.{Periods, periods_of}
 use Rattle.values.specs.Commits.{conflicts, outcome, log_after, after, max_instant}
 use Rattle.values.proofs.LawAsOf.{as_of_stays}
 use Rattle.values.proofs.LogPush.{Rises-push}
@@ -30,9 +31,9 @@ settled [] latest reading i e =
 settled (x ∷ xs) latest reading i e = cc
 
 -- a commit's instant is above the last one
-pub outcome_above : (m : Changes) (latest start : ℕ) (net : Net) (reading i : ℕ) → outcome m latest start net reading ≡ Ok (Some i) → latest < i
-outcome_above m latest start [] reading i e = cc
-outcome_above m latest start (change ∷ net) reading i e = settled (conflicts m start (change ∷ net)) latest reading i e
+pub outcome_above : (periods : Periods) (m : Changes) (latest start : ℕ) (net : Net) (reading i : ℕ) → outcome periods m latest start net reading ≡ Ok (Some i) → latest < i
+outcome_above periods m latest start [] reading i e = cc
+outcome_above periods m latest start (change ∷ net) reading i e = settled (conflicts periods m start (change ∷ net)) latest reading i e
 
 rises_ended : (log : Log) (net : Net) (end : Result (Option ℕ) Refusal) → ((i : ℕ) → end ≡ Ok (Some i) → last log < i) → IsLog log → IsLog (log_after log net end)
 rises_ended log net (Ok (Some i)) above r = Rises-push log 0 (record { instant = i; net = net }) r (above i refl)
@@ -47,9 +48,9 @@ adds_ended log net (Err e) = ([], sym (append-nil log))
 pub log_rises : (schema : Schema) → LogsRise schema
 log_rises schema [] = tt
 log_rises schema (Commit i reading ∷ h) =
-    elim (log_at_begin schema h i) as (λ o. IsLog (elim o [ None ↦ log schema h | Some before ↦ after (log schema h) (last before) (net_change_of (schema_after schema h) (log schema h) (log_at_begin schema h i) (own schema h i)) reading ])) [
+    elim (log_at_begin schema h i) as (λ o. IsLog (elim o [ None ↦ log schema h | Some before ↦ after (periods_of (schema_after schema h)) (log schema h) (last before) (net_change_of (schema_after schema h) (log schema h) (log_at_begin schema h i) (own schema h i)) reading ])) [
       | None ↦ log_rises schema h
-      | Some before ↦ rises_ended (log schema h) _ _ (λ i e. outcome_above (changes (log schema h)) (last (log schema h)) _ _ reading i e) (log_rises schema h)
+      | Some before ↦ rises_ended (log schema h) _ _ (λ i e. outcome_above (periods_of (schema_after schema h)) (changes (log schema h)) (last (log schema h)) _ _ reading i e) (log_rises schema h)
     ]
 log_rises schema (Begin i ∷ h) = log_rises schema h
 log_rises schema (Insert i number rows ∷ h) = log_rises schema h
@@ -65,7 +66,7 @@ log_rises schema (Migrate ∷ h) = log_rises schema h
 -- one step adds at most one transaction
 pub step_adds : (schema : Schema) (h : History) (step : Step) → (added : Log) × (log schema (step ∷ h) ≡ log schema h ++ added)
 step_adds schema h (Commit i reading) =
-    elim (log_at_begin schema h i) as (λ o. (added : Log) × (elim o [ None ↦ log schema h | Some before ↦ after (log schema h) (last before) (net_change_of (schema_after schema h) (log schema h) (log_at_begin schema h i) (own schema h i)) reading ] ≡ log schema h ++ added)) [
+    elim (log_at_begin schema h i) as (λ o. (added : Log) × (elim o [ None ↦ log schema h | Some before ↦ after (periods_of (schema_after schema h)) (log schema h) (last before) (net_change_of (schema_after schema h) (log schema h) (log_at_begin schema h i) (own schema h i)) reading ] ≡ log schema h ++ added)) [
       | None ↦ ([], sym (append-nil (log schema h)))
       | Some before ↦ adds_ended (log schema h) _ _
     ]

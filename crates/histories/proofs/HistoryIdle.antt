@@ -9,6 +9,7 @@ use Rattle.values.specs.declared.refusal.Refusal.TheVariants.{NoSession, NoTable
 use Rattle.values.specs.Log.{Log, last, changes}
 use Rattle.values.specs.Tables.{table_at}
 use Rattle.values.specs.Writes.{Own}
+use Rattle.values.specs.Period.{periods_of}
 use Rattle.values.specs.Commits.{after}
 use Rattle.steps.specs.declared.step.Step.{Step}
 use Rattle.steps.specs.declared.step.Step.TheVariants.{Begin, Insert, Update, Delete, Select, Commit, Rollback, AddColumn, SplitKey, SplitTime, Migrate}
@@ -115,7 +116,7 @@ misfit_stands first w h (Select i form keys) refusal is stands = idle_stands fir
 misfit_stands first w h (Commit i reading) refusal is stands = idle_stands first w h (Commit i reading) stands refl same_log (λ j small. kept_session first h (Commit i reading) j refusal is (other i j (large (nat_lt max_session i) refusal i refl is) small) refl same_log)
   where
     same_log : log first (Commit i reading ∷ h) ≡ log first h
-    same_log = ap (λ (o : Option Log). let l : Log = elim o [ None ↦ log first h | Some before ↦ after (log first h) (last before) (net_change_of (schema_after first h) (log first h) (log_at_begin first h i) (own first h i)) reading ] in l) (none_open first h i (large (nat_lt max_session i) refusal i refl is))
+    same_log = ap (λ (o : Option Log). let l : Log = elim o [ None ↦ log first h | Some before ↦ after (periods_of (schema_after first h)) (log first h) (last before) (net_change_of (schema_after first h) (log first h) (log_at_begin first h i) (own first h i)) reading ] in l) (none_open first h i (large (nat_lt max_session i) refusal i refl is))
 misfit_stands first w h (Rollback i) refusal is stands = idle_stands first w h (Rollback i) stands refl refl (λ j small. kept_session first h (Rollback i) j refusal is (other i j (large (nat_lt max_session i) refusal i refl is) small) refl refl)
 misfit_stands first w h (AddColumn i number name of) refusal is stands = idle_stands first w h (AddColumn i number name of) stands (refused_schema (schema_after first h) (is_idle (has_open h)) (AddColumn i number name of) refusal is) refl (λ j small. kept_session first h (AddColumn i number name of) j refusal is refl refl refl)
 misfit_stands first w h (SplitKey key) refusal is stands = idle_stands first w h (SplitKey key) stands refl refl (λ j small. refl)

@@ -9,6 +9,7 @@ use Rattle.values.specs.declared.refusal.Refusal.TheVariants.{NoTable, NoTransac
 use Rattle.values.specs.Tables.{Schema, table_at}
 use Rattle.values.specs.Log.{last, upto, changes}
 use Rattle.values.specs.Versions.{answer}
+use Rattle.values.specs.Period.{periods_of}
 use Rattle.values.specs.Commits.{outcome, after}
 use Rattle.steps.specs.declared.step.Step.{Step}
 use Rattle.steps.specs.declared.step.Step.TheVariants.{Begin, Insert, Update, Delete, Select, Commit, Rollback, AddColumn, SplitKey, SplitTime, Migrate}
@@ -44,7 +45,7 @@ module _ (schema : Schema) where
   log_more h g (Commit i reading) alike =
       λ k. elim (alike.same_opened i k) [
         | None ↦ alike.same_log k
-        | Some before ↦ after (alike.same_log k) (last before) (net_change_of (alike.same_tables k) (alike.same_log k) (alike.same_opened i k) (alike.same_own i k)) reading
+        | Some before ↦ after (periods_of (alike.same_tables k)) (alike.same_log k) (last before) (net_change_of (alike.same_tables k) (alike.same_log k) (alike.same_opened i k) (alike.same_own i k)) reading
       ]
   log_more h g (Begin i) alike = alike.same_log
   log_more h g (Insert i number rows) alike = alike.same_log
@@ -129,7 +130,7 @@ module _ (schema : Schema) where
   in_alike h g (Select i form keys) alike = λ k. elim (table_at (alike.same_tables k) keys.table) [ None ↦ Refused NoTable | Some table ↦ Shows (listing_alike h g i form table keys alike k) ]
   in_alike h g (Commit i reading) alike =
       λ k. elim (alike.same_opened i k) [
-        | Some before ↦ commit_reply (outcome (changes (alike.same_log k)) (last (alike.same_log k)) (snap_of (alike.same_log k) (alike.same_opened i k)) (net_change_of (alike.same_tables k) (alike.same_log k) (alike.same_opened i k) (alike.same_own i k)) reading)
+        | Some before ↦ commit_reply (outcome (periods_of (alike.same_tables k)) (changes (alike.same_log k)) (last (alike.same_log k)) (snap_of (alike.same_log k) (alike.same_opened i k)) (net_change_of (alike.same_tables k) (alike.same_log k) (alike.same_opened i k) (alike.same_own i k)) reading)
         | None ↦ Refused NoTransaction
       ]
   in_alike h g (Rollback i) alike = λ k. elim (alike.same_opened i k) [ Some before ↦ RolledBack | None ↦ Refused NoTransaction ]

@@ -9,6 +9,7 @@ use Rattle.values.specs.declared.refusal.Refusal.{Refusal}
 use Rattle.values.specs.declared.refusal.Refusal.TheVariants.{NoTransaction}
 use Rattle.values.specs.declared.key.Key.{Key}
 use Rattle.values.specs.Log.{Log, Net, Changes, last, changes, add_net, state, row_at}
+use Rattle.values.specs.Period.{periods_of}
 use Rattle.values.specs.Commits.{outcome, after, log_after}
 use Rattle.values.proofs.LogPush.{add_all-push}
 use Rattle.steps.specs.Misfit.{max_session}
@@ -128,9 +129,9 @@ net_same first w h before own stands =
 
 abbrev turn_from : World → ℕ → ℕ → Option OpenTransaction → Turn
 turn_from w i reading None = (Refused NoTransaction, w)
-turn_from w i reading (Some s) = end_turn w i (net_in w.changes s) (outcome w.changes w.latest s.start (net_in w.changes s) reading)
+turn_from w i reading (Some s) = end_turn w i (net_in w.changes s) (outcome (periods_of w.schema) w.changes w.latest s.start (net_in w.changes s) reading)
 
-same_from : (w : World) (i reading : ℕ) (o : Option OpenTransaction) → turn_from w i reading o ≡ elim o [ None ↦ (Refused NoTransaction, w) | Some s ↦ end_turn w i (net_in w.changes s) (outcome w.changes w.latest s.start (net_in w.changes s) reading) ]
+same_from : (w : World) (i reading : ℕ) (o : Option OpenTransaction) → turn_from w i reading o ≡ elim o [ None ↦ (Refused NoTransaction, w) | Some s ↦ end_turn w i (net_in w.changes s) (outcome (periods_of w.schema) w.changes w.latest s.start (net_in w.changes s) reading) ]
 same_from w i reading None = refl
 same_from w i reading (Some s) = refl
 
@@ -138,23 +139,23 @@ commit_for : (first : Schema) (w : World) (h : History) (i reading : ℕ) (o : O
     → ((turn_from w i reading (open_from (schema_after first h) (log first h) o (own first h i))).0 ≡ reply_in first h (Commit i reading))
     × Stands first (turn_from w i reading (open_from (schema_after first h) (log first h) o (own first h i))).1 (Commit i reading ∷ h)
 commit_for first w h i reading None is small stands = (
-  sym (ap (λ (o : Option Log). let r : Reply = elim o [ Some before ↦ commit_reply (outcome (changes (log first h)) (last (log first h)) (snap first h i) (net first h i) reading) | None ↦ Refused NoTransaction ] in r) is),
+  sym (ap (λ (o : Option Log). let r : Reply = elim o [ Some before ↦ commit_reply (outcome (periods_of (schema_after first h)) (changes (log first h)) (last (log first h)) (snap first h i) (net first h i) reading) | None ↦ Refused NoTransaction ] in r) is),
   stands_still first w h (Commit i reading) i small stands refl
-      (ap (λ (o : Option Log). let l : Log = elim o [ None ↦ log first h | Some before ↦ after (log first h) (last before) (net first h i) reading ] in l) is)
+      (ap (λ (o : Option Log). let l : Log = elim o [ None ↦ log first h | Some before ↦ after (periods_of (schema_after first h)) (log first h) (last before) (net first h i) reading ] in l) is)
       (ended_itself first h i reading ∙ sym (ap (λ o. open_from (schema_after first h) (log first h) o (own first h i)) is))
       (λ j other. commit_other first h i j reading other),
 )
 commit_for first w h i reading (Some before) is small stands =
     let now : Log = log first h in
     let changed : Net = net_change_of (schema_after first h) now (Some before) (own first h i) in
-    let end : Result (Option ℕ) Refusal = outcome (changes now) (last now) (last before) changed reading in
+    let end : Result (Option ℕ) Refusal = outcome (periods_of (schema_after first h)) (changes now) (last now) (last before) changed reading in
     let same = net_same first w h before (own first h i) stands in
     let by_end = commit_by_end first w h i reading changed end small stands
-    (λ k. elim (is k) [ None ↦ log first h | Some before ↦ after (log first h) (last before) (net_change_of (schema_after first h) (log first h) (is k) (own first h i)) reading ]) in
+    (λ k. elim (is k) [ None ↦ log first h | Some before ↦ after (periods_of (schema_after first h)) (log first h) (last before) (net_change_of (schema_after first h) (log first h) (is k) (own first h i)) reading ]) in
     let turns : end_turn w i changed end ≡ turn_from w i reading (open_from (schema_after first h) now (Some before) (own first h i)) =
-    λ k. end_turn w i (sym same k) (outcome (sym stands.changes_are k) (sym stands.latest_is k) (last before) (sym same k) reading) in
+    λ k. end_turn w i (sym same k) (outcome (periods_of (sym stands.schema_is k)) (sym stands.changes_are k) (sym stands.latest_is k) (last before) (sym same k) reading) in
     let replies : reply_in first h (Commit i reading) ≡ commit_reply end =
-    λ k. elim (is k) [ Some before ↦ commit_reply (outcome (changes (log first h)) (last (log first h)) (snap_of (log first h) (is k)) (net_change_of (schema_after first h) (log first h) (is k) (own first h i)) reading) | None ↦ Refused NoTransaction ] in
+    λ k. elim (is k) [ Some before ↦ commit_reply (outcome (periods_of (schema_after first h)) (changes (log first h)) (last (log first h)) (snap_of (log first h) (is k)) (net_change_of (schema_after first h) (log first h) (is k) (own first h i)) reading) | None ↦ Refused NoTransaction ] in
     subst (λ (t : Turn). (t.0 ≡ reply_in first h (Commit i reading)) × Stands first t.1 (Commit i reading ∷ h)) turns (by_end.0 ∙ sym replies, by_end.1)
 
 pub commit_answers : (first : Schema) (w : World) (h : History) (i reading : ℕ) → i ≤ max_session → Stands first w h → ((commit_turn w i reading).0 ≡ reply_in first h (Commit i reading)) × Stands first (commit_turn w i reading).1 (Commit i reading ∷ h)

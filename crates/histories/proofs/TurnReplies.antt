@@ -8,6 +8,7 @@ use Rattle.values.specs.declared.refusal.Refusal.{Refusal}
 use Rattle.values.specs.declared.refusal.Refusal.TheVariants.{NoSession, NoTable, NoTransaction, InTransaction, TransactionsOpen, Conflict, ClockEnd, Memory}
 use Rattle.values.specs.Log.{Net, Changes}
 use Rattle.values.specs.Tables.{table_at}
+use Rattle.values.specs.Period.{Periods, periods_of}
 use Rattle.values.specs.Commits.{conflicts, outcome, max_instant}
 use Rattle.steps.specs.declared.step.Step.{Step}
 use Rattle.steps.specs.declared.step.Step.TheVariants.{Begin, Insert, Update, Delete, Select, Commit, Rollback, AddColumn, SplitKey, SplitTime, Migrate}
@@ -117,18 +118,18 @@ end_plain w i net (Ok (Some instant)) h = record { answered = refl; same_schema 
 end_plain w i net (Ok None) h = record { answered = refl; same_schema = λ other. refl }
 end_plain w i net (Err refusal) h = record { answered = h; same_schema = λ other. refl }
 
-outcome_is_other : (m : Changes) (latest start : ℕ) (net : Net) (reading : ℕ) → names_memory (outcome m latest start net reading) ≡ false
-outcome_is_other m latest start [] reading = refl
-outcome_is_other m latest start (change ∷ net) reading = by (conflicts m start (change ∷ net)) (nat_lt max_instant (max reading (latest + 1)))
+outcome_is_other : (periods : Periods) (m : Changes) (latest start : ℕ) (net : Net) (reading : ℕ) → names_memory (outcome periods m latest start net reading) ≡ false
+outcome_is_other periods m latest start [] reading = refl
+outcome_is_other periods m latest start (change ∷ net) reading = by (conflicts periods m start (change ∷ net)) (nat_lt max_instant (max reading (latest + 1)))
   where
     by : (found : List (Key × ℕ)) (late : Bool) → names_memory (elim found [ first ∷ others ↦ Err (Conflict first.0 first.1) | [] ↦ if late then Err ClockEnd else Ok (Some (max reading (latest + 1))) ]) ≡ false
     by [] true = refl
     by [] false = refl
     by (first ∷ others) late = refl
 
-commit_plain : (w : World) (i reading : ℕ) (o : Option OpenTransaction) → let t : Turn = elim o [ None ↦ (Refused NoTransaction, w) | Some s ↦ end_turn w i (net_in w.changes s) (outcome w.changes w.latest s.start (net_in w.changes s) reading) ] in IsPlain w t
+commit_plain : (w : World) (i reading : ℕ) (o : Option OpenTransaction) → let t : Turn = elim o [ None ↦ (Refused NoTransaction, w) | Some s ↦ end_turn w i (net_in w.changes s) (outcome (periods_of w.schema) w.changes w.latest s.start (net_in w.changes s) reading) ] in IsPlain w t
 commit_plain w i reading None = record { answered = refl; same_schema = λ other. refl }
-commit_plain w i reading (Some s) = end_plain w i (net_in w.changes s) (outcome w.changes w.latest s.start (net_in w.changes s) reading) (outcome_is_other w.changes w.latest s.start (net_in w.changes s) reading)
+commit_plain w i reading (Some s) = end_plain w i (net_in w.changes s) (outcome (periods_of w.schema) w.changes w.latest s.start (net_in w.changes s) reading) (outcome_is_other (periods_of w.schema) w.changes w.latest s.start (net_in w.changes s) reading)
 
 alter_plain : (w : World) (number : ℕ) (name : List ℕ) (of : ColumnType) (idle : Bool)
     → let t : Turn = if idle then (Altered, with_schema (add_column number (new_column name of) w.schema) w) else (Refused TransactionsOpen, w) in IsPlain w t

@@ -6,6 +6,7 @@ use Rattle.values.specs.declared.key.Transaction.{Transaction}
 use Rattle.values.specs.declared.refusal.Refusal.{Refusal}
 use Rattle.values.specs.Tables.{Schema}
 use Rattle.values.specs.Log.{Log, Net, replay, last, last_from, upto, state, changes}
+use Rattle.values.specs.Period.{Periods, periods_of}
 use Rattle.values.specs.Commits.{outcome, log_after, after}
 use Rattle.steps.specs.declared.step.Step.{Step}
 use Rattle.steps.specs.declared.step.Step.TheVariants.{Commit}
@@ -41,9 +42,9 @@ session_kept schema log now None own same = refl
 session_kept schema log now (Some before) own same =
     ap (λ m. Some (let o = rewrite_all schema own (record { rows = m; written = [] }) in record { start = last before; rows = o.rows; written = o.written })) (same before refl)
 
-pub state_after : (log : Log) (start : ℕ) (net : Net) (reading s : ℕ) → s ≤ last log → state (after log start net reading) s ≡ state log s
-state_after log start net reading s below =
-    ap (replay []) (upto_ended log net (outcome (changes log) (last log) start net reading) s below (λ i e. outcome_above (changes log) (last log) start net reading i e))
+pub state_after : (periods : Periods) (log : Log) (start : ℕ) (net : Net) (reading s : ℕ) → s ≤ last log → state (after periods log start net reading) s ≡ state log s
+state_after periods log start net reading s below =
+    ap (replay []) (upto_ended log net (outcome periods (changes log) (last log) start net reading) s below (λ i e. outcome_above periods (changes log) (last log) start net reading i e))
 
 -- a commit of one session changes nothing of another
 pub session_other_commit : (schema : Schema) (h : History) (i j reading : ℕ) → (j == i) ≡ false → open_in schema (Commit i reading ∷ h) j ≡ open_in schema h j
@@ -52,6 +53,6 @@ session_other_commit schema h i j reading other =
     ∙ session_kept (schema_after schema h) (log schema h) (log schema (Commit i reading ∷ h)) (log_at_begin schema h j) (own schema h j) (λ before is. by (log_at_begin schema h i) before (opened_below schema h j before is))
   where
     by : (o : Option Log) (before : Log) → last before ≤ last (log schema h)
-        → state (elim o [ None ↦ log schema h | Some first ↦ after (log schema h) (last first) (net_change_of (schema_after schema h) (log schema h) (log_at_begin schema h i) (own schema h i)) reading ]) (last before) ≡ state (log schema h) (last before)
+        → state (elim o [ None ↦ log schema h | Some first ↦ after (periods_of (schema_after schema h)) (log schema h) (last first) (net_change_of (schema_after schema h) (log schema h) (log_at_begin schema h i) (own schema h i)) reading ]) (last before) ≡ state (log schema h) (last before)
     by None before below = refl
-    by (Some first) before below = state_after (log schema h) (last first) _ reading (last before) below
+    by (Some first) before below = state_after (periods_of (schema_after schema h)) (log schema h) (last first) _ reading (last before) below

@@ -11,6 +11,7 @@ use Rattle.values.specs.Tables.{Schema, table_at}
 use Rattle.values.specs.Columns.{new_column, add_column}
 use Rattle.values.specs.Log.{Log, State, Net, last, upto, state, changes}
 use Rattle.values.specs.Versions.{answer}
+use Rattle.values.specs.Period.{periods_of}
 use Rattle.values.specs.Commits.{outcome, after}
 use Rattle.values.specs.Writes.{Own, net_of}
 use Rattle.steps.specs.declared.step.Step.{Step}
@@ -109,7 +110,7 @@ module _ (first : Schema) where
     log (Commit i reading ∷ h) = elim (log_at_begin h i) [
       | None ↦ log h
       | Some before ↦
-          after (log h) (last before)
+          after (periods_of (schema_after first h)) (log h) (last before)
           (net_change_of (schema_after first h) (log h) (log_at_begin h i) (own h i)) reading
     ]
     log (step ∷ h) = log h
@@ -173,7 +174,7 @@ module _ (first : Schema) where
   ]
   reply_in h (Commit i reading) = elim (log_at_begin h i) [
     | Some before ↦
-        commit_reply (outcome (changes (log h)) (last (log h)) (snap h i) (net h i) reading)
+        commit_reply (outcome (periods_of (schema h)) (changes (log h)) (last (log h)) (snap h i) (net h i) reading)
     | None ↦ Refused NoTransaction
   ]
   reply_in h (Rollback i) = elim (log_at_begin h i) [

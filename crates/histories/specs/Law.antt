@@ -6,6 +6,7 @@ use Rattle.values.specs.declared.query.Form.TheVariants.{AsOf}
 use Rattle.values.specs.declared.query.Keys.{Keys}
 use Rattle.values.specs.Tables.{Schema, table_at, full_row}
 use Rattle.values.specs.Columns.{IsWidenedTo}
+use Rattle.values.specs.Period.{periods_of}
 use Rattle.rows.specs.GoodTable.{NoTwo}
 use Rattle.values.specs.declared.table.Table.{Table}
 use Rattle.values.specs.Log.{Log, last, changes}
@@ -20,7 +21,7 @@ use Rattle.histories.specs.Due.{AllAnswered, due}
 use Rattle.histories.specs.Maintenance.{without_maintenance, with_maintenance}
 use Rattle.steps.specs.Misfit.{max_session}
 use Rattle.histories.specs.History.{History, schema_after, before_open, log, log_at_begin, own, snap, listing, reply, replies}
-use Rattle.histories.specs.Winners.{winners, AreConcurrent, ShareAKey}
+use Rattle.histories.specs.Winners.{winners, AreConcurrent, ShareAUnit}
 
 -- a session's open transaction began at the log of the steps before its BEGIN
 abbrev pub OpensAtItsBegin : Schema → Type 0
@@ -95,10 +96,11 @@ PastIsAnsweredWidened first =
     × (reply first (later ++ h) (Select j (AsOf t) keys) ≡ Shows (widened_listing wider shown)))
 
 -- no key is in the net changes of two committed transactions of which each began before the
--- other was committed
+-- other was committed, nor, where its table has a period, any of its entity
 abbrev pub FirstCommitterWins : Schema → Type 0
 FirstCommitterWins first =
-    (h : History) → NoTwo (λ v w. AreConcurrent v w × ShareAKey v w) (winners first h)
+    (h : History)
+    → NoTwo (λ v w. AreConcurrent v w × ShareAUnit (periods_of first) v w) (winners first h)
 
 -- the log is the committed transactions
 abbrev pub LogIsOfWinners : Schema → Type 0

@@ -15,6 +15,7 @@ use Rattle.values.specs.Events.{later}
 use Rattle.values.specs.Tables.{Schema, table_at}
 use Rattle.values.specs.Versions.{answer}
 use Rattle.values.specs.Writes.{Own}
+use Rattle.values.specs.Period.{periods_of}
 use Rattle.values.specs.Commits.{outcome}
 use Rattle.steps.specs.declared.step.Step.{Step}
 use Rattle.steps.specs.declared.step.Step.TheVariants.{Begin, Insert, Update, Delete, Select, Commit, Rollback, AddColumn, SplitKey, SplitTime, Migrate}
@@ -141,7 +142,7 @@ commit_turn w i reading = elim (open_at w i) [
   | None ↦ (Refused NoTransaction, w)
   | Some s ↦
       let net = net_in w.changes s in
-      end_turn w i net (outcome w.changes w.latest s.start net reading)
+      end_turn w i net (outcome (periods_of w.schema) w.changes w.latest s.start net reading)
 ]
 
 -- ---- ALTER

@@ -1,14 +1,16 @@
 -- The transactions that were committed, with the instants at which they began.
-use Rattle.std.specs.Prelude.{ℕ, ◌<◌, List, [], ◌∷◌, ◌++◌, Option, Some, None, Result, Ok, Contains}
+use Rattle.std.specs.Prelude.{◌≡◌, ℕ, ◌<◌, List, [], ◌∷◌, ◌++◌, Option, Some, None, Result, Ok, Contains}
 use Rattle.std.specs.Map.{keys_of}
 use Rattle.values.specs.declared.key.Key.{Key}
 use Rattle.values.specs.declared.key.Transaction.{Transaction}
 use Rattle.values.specs.declared.refusal.Refusal.{Refusal}
 use Rattle.values.specs.Tables.{Schema}
 use Rattle.values.specs.Log.{Log, Net, last, changes}
+use Rattle.values.specs.Period.{Periods, periods_of}
+use Rattle.values.specs.Entity.{unit_of}
 use Rattle.values.specs.Commits.{outcome}
 use Rattle.steps.specs.declared.step.Step.TheVariants.{Commit}
-use Rattle.histories.specs.History.{History, log, log_at_begin, net}
+use Rattle.histories.specs.History.{History, schema_after, log, log_at_begin, net}
 
 -- a committed transaction, and the instant of its snapshot
 pub record Winner : Type 0 where
@@ -27,7 +29,8 @@ winners_with earlier start changed _ = earlier
 -- how the transaction ends that a session has open, from the first tables on
 abbrev pub end_of : Schema → History → ℕ → Log → ℕ → Result (Option ℕ) Refusal
 end_of first h i before reading =
-    outcome (changes (log first h)) (last (log first h)) (last before) (net first h i) reading
+    outcome (periods_of (schema_after first h)) (changes (log first h)) (last (log first h))
+    (last before) (net first h i) reading
 
 -- the oldest first
 abbrev pub winners : Schema → History → List Winner
@@ -44,7 +47,11 @@ winners first (step ∷ h) = winners first h
 abbrev pub AreConcurrent : Winner → Winner → Type 0
 AreConcurrent v w = (v.start < w.transaction.instant) × (w.start < v.transaction.instant)
 
--- a key is in both net changes
-abbrev pub ShareAKey : Winner → Winner → Type 0
-ShareAKey v w =
-    (k : Key) × (Contains (keys_of v.transaction.net) k × Contains (keys_of w.transaction.net) k)
+-- a key of each is of one unit: of one entity, where their table has a period of application time,
+-- and else the same key
+pub record ShareAUnit (periods : Periods) (v w : Winner) : Type 0 where
+  pub key : Key
+  pub other : Key
+  pub in_first : Contains (keys_of v.transaction.net) key
+  pub in_second : Contains (keys_of w.transaction.net) other
+  pub one_unit : unit_of periods key ≡ unit_of periods other

@@ -35,7 +35,8 @@ pub fn past_is_widened()
 {}
 
 /// States that the first committer wins (Berenson et al. 1995, section 4.2): of two committed
-/// transactions, each begun before the other was committed, no key is in both net changes.
+/// transactions, each begun before the other was committed, no key is in both net changes, nor,
+/// where its table has a period of application time, any of its entity.
 pub fn concurrent_commits_share_no_key()
     ensures apart { (first : Schema) → FirstCommitterWins first }
     ensures whole { (first : Schema) → LogIsOfWinners first }

@@ -16,6 +16,7 @@ use Rattle.values.specs.Order.{is_key}
 use Rattle.values.specs.Tables.{Schema}
 use Rattle.values.specs.Log.{Changes, Net, Row, point_cmp, row_at, add_net, rows_after}
 use Rattle.values.specs.Law.{changes_upto}
+use Rattle.values.specs.Period.{periods_of}
 use Rattle.values.specs.Commits.{outcome}
 use Rattle.values.specs.Events.{later, AreKeysIn, put_net}
 use Rattle.values.proofs.OrderTotal.{point_cmp_total}
@@ -177,19 +178,19 @@ module _ (schema : Schema) (engine new : TreeState) (sessions : List (Option Ope
   ended_turn (Err refusal) e = λ j. (Refused refusal, left_none e.refused j)
 
 abbrev by_commit : World → ℕ → ℕ → Option OpenTransaction → Turn
-by_commit w i reading o = elim o [ None ↦ (Refused NoTransaction, w) | Some s ↦ end_turn w i (net_in w.changes s) (outcome w.changes w.latest s.start (net_in w.changes s) reading) ]
+by_commit w i reading o = elim o [ None ↦ (Refused NoTransaction, w) | Some s ↦ end_turn w i (net_in w.changes s) (outcome (periods_of w.schema) w.changes w.latest s.start (net_in w.changes s) reading) ]
 
 pub committed : (schema : Schema) (engine new : TreeState) (sessions : List (Option OpenTransactionState)) (w : World) (i start reading : ℕ) (b : OpenTransactionState) (net : Net) (r : Result (Option ℕ) Refusal)
     → world_of schema engine sessions ≡ w → IsSystem schema engine sessions → IsFound schema engine sessions i b → start ≡ (last b.view)
     → ((schema : Schema) (m : Changes) → Holds schema b.view m → AreKeysIn schema b.writes → net ≡ net_over m b.writes) → AreKeysIn schema net
-    → ((schema : Schema) (m : Changes) → Holds schema engine m → AreKeysIn schema net → r ≢ Err Memory → r ≡ outcome m (last engine) start net reading)
+    → ((m : Changes) → Holds schema engine m → AreKeysIn schema net → r ≢ Err Memory → r ≡ outcome (periods_of schema) m (last engine) start net reading)
     → IsEnded engine new net r → r ≢ Err Memory
     → ◌≡◌ {A = Turn} (end_reply r, world_of schema new (set sessions i None)) (commit_turn w i reading)
 committed schema engine new sessions w i start reading b net r is s f begins nets keys ends e told =
     let m : Changes = changes_in schema (events engine) in
     ended_turn schema engine new sessions net keys s.held i r e
-    ∙ (λ j. end_turn (world_of schema engine sessions) i net ((ends schema (changes_in schema (events engine)) s.held keys told ∙ (λ k. outcome (changes_in schema (events engine)) (last engine) (begins k) net reading)) j))
-    ∙ (λ j. end_turn (world_of schema engine sessions) i (same j) (outcome (changes_in schema (events engine)) (last engine) (last b.view) (same j) reading))
+    ∙ (λ j. end_turn (world_of schema engine sessions) i net ((ends (changes_in schema (events engine)) s.held keys told ∙ (λ k. outcome (periods_of schema) (changes_in schema (events engine)) (last engine) (begins k) net reading)) j))
+    ∙ (λ j. end_turn (world_of schema engine sessions) i (same j) (outcome (periods_of schema) (changes_in schema (events engine)) (last engine) (last b.view) (same j) reading))
     ∙ (λ j. by_commit (world_of schema engine sessions) i reading (option_map (open_of schema) (f.at j)))
     ∙ (λ j. by_commit (world_of schema engine sessions) i reading (sym (session_is schema engine sessions i) j))
     ∙ ap (λ w. commit_turn w i reading) is

@@ -2,6 +2,8 @@
 use Rattle.std.specs.Prelude.{ℕ, List, [], ◌∷◌, Option, Some, None, Bool, false, ◌==◌, ◌&&◌, not, if◌then◌else◌, length, zero, suc, ◌++◌}
 use Rattle.std.specs.List.{list_any}
 use Rattle.values.specs.Log.{Log}
+use Rattle.values.specs.Tables.{Schema}
+use Rattle.values.specs.Period.{periods_of}
 use Rattle.values.specs.Commits.{after}
 use Rattle.tsbtree.specs.View.{last}
 use Rattle.journal.specs.BegunState.{BegunState}
@@ -23,13 +25,13 @@ start_of (Some (Begin session earlier view)) = Some (last view)
 start_of _ = None
 
 -- what was committed: a commit adds its net changes, by its begin's snapshot and its reading, as any transaction does
-abbrev pub log : Entries → Log
-log [] = []
-log (Commit session begin net reading end ∷ j) = elim (start_of (entry_at j begin)) [
-  | None ↦ log j
-  | Some start ↦ after (log j) start net reading
+abbrev pub log : Schema → Entries → Log
+log schema [] = []
+log schema (Commit session begin net reading end ∷ j) = elim (start_of (entry_at j begin)) [
+  | None ↦ log schema j
+  | Some start ↦ after (periods_of schema) (log schema j) start net reading
 ]
-log (e ∷ j) = log j
+log schema (e ∷ j) = log schema j
 
 -- a begin or a commit of the session
 abbrev pub is_entry_of : ℕ → Entry → Bool

@@ -53,16 +53,16 @@ abbrev pub HasClosed : BookState → (old new : Option (List ℕ)) → Type 0
 HasClosed b old new = Appends old new (numbered (codes "closed ") (length b.entries))
 
 -- a table with all versions that the journal's log gives
-abbrev pub versions_text : BookState → Table → List ℕ
-versions_text b table = export_text table
-    (answer (changes (log b.entries)) table (Between 0 max_instant)
+abbrev pub versions_text : Schema → BookState → Table → List ℕ
+versions_text schema b table = export_text table
+    (answer (changes (log schema b.entries)) table (Between 0 max_instant)
     (record { table = table.number; comparisons = [] }))
 
 pub record HasWritten (schema : Schema) (number : ℕ) (b : BookState) (old new : Option (List ℕ))
     : Type 0 where
   pub table : Table
   pub table_is : table_at schema number ≡ Some table
-  pub wrote : Appends old new (versions_text b table)
+  pub wrote : Appends old new (versions_text schema b table)
 
 -- the table that is exported, where one is
 abbrev pub HasExported : Schema → Option ℕ → BookState → (old new : Option (List ℕ)) → Type 0
@@ -122,7 +122,7 @@ pub record StopsInExport (schema : Schema) (number : Option ℕ) (b : BookState)
   pub number_is : number ≡ Some n
   pub table : Table
   pub table_is : table_at schema n ≡ Some table
-  pub wrote : AppendsPrefix ended new (versions_text b table)
+  pub wrote : AppendsPrefix ended new (versions_text schema b table)
 
 -- a prefix of the line that tells how many entries there are, or of the table
 abbrev pub StopsLate : Schema → Option ℕ → BookState → (old new : Option (List ℕ)) → Type 0

@@ -303,11 +303,11 @@ fn export_closed<O: Write>(
     ensures ok { OnOk result ((schema : Schema) → IsBook schema closed.now
         → table_at schema table.now.number ≡ Some table.now
         → Appends (O.contents out.old) (O.contents out.new)
-        (versions_text closed.now table.now)) }
+        (versions_text schema closed.now table.now)) }
     ensures err { IfErr result (λ fault. (schema : Schema) → IsBook schema closed.now
         → table_at schema table.now.number ≡ Some table.now
         → IsOther fault × AppendsPrefix (O.contents out.old) (O.contents out.new)
-        (versions_text closed.now table.now)) }
+        (versions_text schema closed.now table.now)) }
 {
     let Ok(shown) = versions_of(alloc, closed, table) else {
         return Err(OUT_OF_MEMORY);
@@ -327,7 +327,7 @@ fn versions_of(alloc: Global, closed: &Closed, table: &Table) -> Mem<Vec<Shown>>
     requires { IsTable table.now.number table.now }
     ensures ok { IfOk result (λ shown. (schema : Schema) → IsBook schema closed.now
         → table_at schema table.now.number ≡ Some table.now
-        → shown.items ≡ answer (changes (log closed.now.entries)) table.now
+        → shown.items ≡ answer (changes (log schema closed.now.entries)) table.now
         (Between 0 max_instant) (record { table = table.now.number; comparisons = [] })) }
     ensures err { OnlyMemory result }
 {

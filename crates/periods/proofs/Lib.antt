@@ -1,9 +1,9 @@
-pub mod Apart
-pub mod Columns
 pub mod EntityKeysMet
-pub mod Full
-pub mod Merge
-pub mod Pieces
-pub mod Points
-pub mod Spans
+pub mod NoOverlapApart
+pub mod NoOverlapColumns
+pub mod NoOverlapFull
+pub mod NoOverlapMerge
+pub mod NoOverlapPieces
+pub mod NoOverlapSpans
+pub mod PointChanged
 pub mod UnitsOrder

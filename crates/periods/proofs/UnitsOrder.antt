@@ -12,13 +12,13 @@ use Rattle.values.specs.declared.value.Value.{Value}
 use Rattle.values.specs.declared.key.Key.{Key}
 use Rattle.values.specs.Order.{value_cmp, key_cmp, is_key}
 use Rattle.values.specs.Log.{Changes, point_cmp}
-use Rattle.values.specs.Commits.{changed_since, or_else}
+use Rattle.values.specs.Commits.{changed_since, or_else, latest_of, unit_changed_since}
 use Rattle.values.proofs.OrderTotal.{first, second, below}
 use Rattle.values.specs.Period.{Periods}
-use Rattle.values.specs.Entity.{entity_of, unit_by, unit_of, latest_of, unit_changed_since}
+use Rattle.values.specs.Entity.{entity_of, unit_by, unit_of}
 use Rattle.values.specs.Tables.{but_last}
 use Rattle.periods.specs.Units.{UnitsAreInOrder, OtherTablesStay}
-use Rattle.periods.proofs.Apart.{one_key}
+use Rattle.periods.proofs.NoOverlapApart.{one_key}
 
 -- ---- the order of units
 

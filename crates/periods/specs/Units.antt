@@ -5,9 +5,9 @@ use Rattle.std.specs.declared.cmp.Ordering.TheVariants.{Less, Greater}
 use Rattle.values.specs.declared.key.Key.{Key}
 use Rattle.values.specs.Order.{key_cmp}
 use Rattle.values.specs.Log.{Changes, point_cmp}
-use Rattle.values.specs.Commits.{changed_since}
+use Rattle.values.specs.Commits.{changed_since, unit_changed_since}
 use Rattle.values.specs.Period.{Periods}
-use Rattle.values.specs.Entity.{unit_of, unit_changed_since}
+use Rattle.values.specs.Entity.{unit_of}
 
 -- the order of units is that of keys: so of net changes, which are by key, the first conflict is that of the least unit
 abbrev pub UnitsAreInOrder : Type 0

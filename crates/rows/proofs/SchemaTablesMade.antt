@@ -8,6 +8,7 @@ use Rattle.std.proofs.lemmas.List.{length-map}
 use Rattle.std.proofs.lemmas.List.Elements.{All-cons, All-nil}
 use Rattle.std.proofs.lemmas.Bool.Decides.{nat_tests}
 use Rattle.values.specs.declared.table.Column.{Column}
+use Rattle.values.specs.declared.period.Period.{Period}
 use Rattle.values.specs.declared.table.Table.{Table}
 use Rattle.rows.specs.declared.declaration.Side.TheVariants.{Start, End}
 use Rattle.rows.specs.declared.declaration.PeriodNames.{PeriodNames}
@@ -69,9 +70,9 @@ is_good d start end period names =
     let columns = filter_map user_column d.entries in
     is_good_period start end period && is_good_key names (map (number_in columns) names) && is_good_width columns && are_good_entries d.entries
 
-made_is : (number : ℕ) (d : Declaration) (start end : List ℕ) (period : PeriodNames) (names : List (List ℕ)) → is_good d start end period names ≡ true
+made_is : (number : ℕ) (d : Declaration) (start end : List ℕ) (period : PeriodNames) (names : List (List ℕ)) → is_good d start end period names ≡ true → number ≤ 16
     → IsTable number (made number d start end names)
-made_is number d start end period names h =
+made_is number d start end period names h small =
     let columns = filter_map user_column d.entries in
     let key = map (number_in columns) names in
     let three : (is_good_period start end period && is_good_key names key && is_good_width columns) ≡ true = (and_parts _ _ h).0 in
@@ -83,40 +84,44 @@ made_is number d start end period names h =
     let none : not (list_any (λ n. n == 0) key) ≡ true = (and_parts _ _ keyed).1 in
     record {
       numbered = refl;
+      small = small;
       some_columns = at_most 1 (length columns) (and_parts _ _ wide).0;
       few_columns = at_most (length columns) 16 (and_parts _ _ wide).1;
       few_key_columns = subst (λ n. n ≤ 4) (sym same) few;
       own_key_columns = own_columns (made number d start end names) names none;
-      own_period = λ p is. cc;
+      own_period = λ p is. let never : ◌≡◌ {A = Option Period} None (Some p) = is in absurd (cc);
     }
 
 kept : (number : ℕ) (d : Declaration) (start end : List ℕ) (period : PeriodNames) (names : List (List ℕ)) (t : Table) (good : Bool) → is_good d start end period names ≡ good
-    → (if good then Some (made number d start end names) else None) ≡ Some t → IsTable number t
-kept number d start end period names t true h e =
-    let is : made number d start end names ≡ t = cc in subst (IsTable number) is (made_is number d start end period names h)
-kept number d start end period names t false h e = cc
+    → (if good then Some (made number d start end names) else None) ≡ Some t → number ≤ 16 → IsTable number t
+kept number d start end period names t true h e small =
+    let is : made number d start end names ≡ t = cc in subst (IsTable number) is (made_is number d start end period names h small)
+kept number d start end period names t false h e small = cc
 
 of_parts : (number : ℕ) (d : Declaration) (t : Table) (start end : Option (List ℕ)) (period : Option PeriodNames) (names : Option (List (List ℕ)))
     → option_and_then (λ s. option_and_then (λ e. option_and_then (λ p. option_and_then (λ ns. if is_good d s e p ns then Some (made number d s e ns) else None) names) period) end) start ≡ Some t
-    → IsTable number t
-of_parts number d t (Some s) (Some e) (Some p) (Some ns) is = kept number d s e p ns t (is_good d s e p ns) refl is
-of_parts number d t None e p ns is = cc
-of_parts number d t (Some s) None p ns is = cc
-of_parts number d t (Some s) (Some e) None ns is = cc
-of_parts number d t (Some s) (Some e) (Some p) None is = cc
+    → number ≤ 16 → IsTable number t
+of_parts number d t (Some s) (Some e) (Some p) (Some ns) is small = kept number d s e p ns t (is_good d s e p ns) refl is small
+of_parts number d t None e p ns is small = cc
+of_parts number d t (Some s) None p ns is small = cc
+of_parts number d t (Some s) (Some e) None ns is small = cc
+of_parts number d t (Some s) (Some e) (Some p) None is small = cc
 
-table_of_is : (number : ℕ) (d : Declaration) (t : Table) → table_of number d ≡ Some t → IsTable number t
+table_of_is : (number : ℕ) (d : Declaration) (t : Table) → table_of number d ≡ Some t → number ≤ 16 → IsTable number t
 unfolding table_of
-table_of_is number d t is =
-    of_parts number d t (only (filter_map (side_name Start) d.entries)) (only (filter_map (side_name End) d.entries)) (only (filter_map period_names d.entries)) (only (flat_map keys_in d.entries)) is
+table_of_is number d t is small =
+    of_parts number d t (only (filter_map (side_name Start) d.entries)) (only (filter_map (side_name End) d.entries)) (only (filter_map period_names d.entries)) (only (flat_map keys_in d.entries)) is small
 
 next_is : (ts : List Table) (d : Declaration) (t : Table) → next_table ts d ≡ Some t → IsTable (1 + length ts) t
 unfolding next_table
-next_is ts d t is = allowed (nat_lt (length ts) 16 && not (list_any (λ t. same_name t.name d.name) ts)) is
+next_is ts d t is = allowed (nat_lt (length ts) 16 && not (list_any (λ t. same_name t.name d.name) ts)) refl is
   where
-    allowed : (b : Bool) → (if b then table_of (length ts + 1) d else None) ≡ Some t → IsTable (1 + length ts) t
-    allowed true is = let e : length ts + 1 ≡ 1 + length ts = omega arith in subst (λ n. IsTable n t) e (table_of_is (length ts + 1) d t is)
-    allowed false is = cc
+    few : (nat_lt (length ts) 16 && not (list_any (λ t. same_name t.name d.name) ts)) ≡ true → length ts + 1 ≤ 16
+    few both = let lt : nat_lt (length ts) 16 ≡ true = (and_parts (nat_lt (length ts) 16) _ both).0 in grind (arith, nat_tests)
+
+    allowed : (b : Bool) → (nat_lt (length ts) 16 && not (list_any (λ t. same_name t.name d.name) ts)) ≡ b → (if b then table_of (length ts + 1) d else None) ≡ Some t → IsTable (1 + length ts) t
+    allowed true both is = let e : length ts + 1 ≡ 1 + length ts = omega arith in subst (λ n. IsTable n t) e (table_of_is (length ts + 1) d t is (few both))
+    allowed false both is = cc
 
 -- the tables with the next one
 pub with_next : (ts : List Table) (d : Declaration) (t : Table) → AreTables 1 ts → Some t ≡ next_table ts d → AreTables 1 (ts ++ t ∷ [])

@@ -1,3 +1,5 @@
+pub mod EntityEqualities
+pub mod EntityRanges
 mod NarrowingCovers
 mod NarrowingExact
 mod NarrowingInRange

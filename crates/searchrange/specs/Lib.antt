@@ -1,2 +1,3 @@
+pub mod Entity
 pub mod Search
 pub mod SearchRange

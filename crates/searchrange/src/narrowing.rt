@@ -53,7 +53,8 @@ fn read_value(value: &Value)
     }
 }
 
-fn range_of_keys(alloc: Global, table: &Table, keys: &Keys) -> Mem<KeyRange>
+/// Narrows the range of the table's keys by whatever comparisons.
+pub(crate) fn range_of_keys(alloc: Global, table: &Table, keys: &Keys) -> Mem<KeyRange>
     ensures ok { IfOk result (λ range. range ≡ search_range table.now keys.now) }
     ensures err { OnlyMemory result }
 {

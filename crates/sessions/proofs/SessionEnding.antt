@@ -2,6 +2,7 @@
 use Rattle.std.proofs.Common.{◌≡◌, ℕ, Option, Some, None, sym, ap, ◌∙◌, subst}
 use Rattle.values.specs.Tables.{Schema}
 use Rattle.values.specs.Log.{Changes, Net, last, changes}
+use Rattle.values.specs.Period.{periods_of}
 use Rattle.values.specs.Commits.{outcome}
 use Rattle.values.specs.Events.{AreKeysIn}
 use Rattle.staging.specs.View.{Holds}
@@ -33,8 +34,8 @@ module _ (schema : Schema) (o : Option SessionTransactionState) (t : SessionTran
         ran = t;
         was_open = is;
         net = net;
-        end = outcome (changes (log book.entries)) (last (log book.entries)) t.begun.start net reading;
-        entry_is = made.entry_is ∙ ap (λ (r : SessionTransactionState). commit_entry book number r.begun net reading) same;
+        end = outcome (periods_of schema) (changes (log schema book.entries)) (last (log schema book.entries)) t.begun.start net reading;
+        entry_is = made.entry_is ∙ ap (λ (r : SessionTransactionState). commit_entry schema book number r.begun net reading) same;
         net_is = λ m held. net_is schema m held ran.1.keys;
         session_is = made.session_is;
       })

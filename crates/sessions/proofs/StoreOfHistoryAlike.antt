@@ -6,6 +6,7 @@ use Rattle.std.proofs.lemmas.Bool.Decides.{nat_tests}
 use Rattle.values.specs.declared.refusal.Refusal.TheVariants.{InTransaction, NoTransaction}
 use Rattle.values.specs.Tables.{Schema}
 use Rattle.values.specs.Log.{Log, Net, replay, rows_after, last, state, upto, changes}
+use Rattle.values.specs.Period.{periods_of}
 use Rattle.values.specs.Commits.{outcome, after}
 use Rattle.values.specs.Law.{IsLog}
 use Rattle.values.specs.Writes.{Own, net_of}
@@ -86,8 +87,8 @@ all_stay (e ∷ more) j n x at = stays e (more ++ j) n x (all_stay more j n x at
 put_here : (e : Entry) (j : Entries) (n : ℕ) → n ≡ length (e ∷ j) → entry_at (e ∷ j) n ≡ Some e
 put_here e j n at = ap (λ b. if b then Some e else entry_at j n) (ap (λ m. n == m) (sym at) ∙ itself n)
 
-may_follow : (s : SessionState) (e : Entry) (n : ℕ) (b c : BookState) → Grows s e n b c → MayFollow b.entries e
-may_follow s e n b c grows = let legal : IsLegal (e ∷ b.entries) = subst IsLegal grows.adds.entries_are grows.is.legal in legal.0
+may_follow : (s : SessionState) (e : Entry) (n : ℕ) (b c : BookState) → Grows s e n b c → MayFollow s.schema b.entries e
+may_follow s e n b c grows = let legal : IsLegal s.schema (e ∷ b.entries) = subst (IsLegal s.schema) grows.adds.entries_are grows.is.legal in legal.0
 
 began_stays : (more j : Entries) (schema : Schema) (h : History) (step : Step) (i : ℕ) (o : Option SessionTransactionState) → snap schema (step ∷ h) i ≡ snap schema h i → seen_at schema (step ∷ h) i ≡ seen_at schema h i
     → BeganIn j schema h i o → BeganIn (more ++ j) schema (step ∷ h) i o
@@ -128,7 +129,7 @@ module _ (schema : Schema) (h : History) (i : ℕ) (small : i ≤ max_session) (
       (ap (λ t. rows_after [] (changes (upto (log schema h) t))) snapshot_is ∙ rows_at (log schema h) (last (log schema h)) (log_rises schema h))
       ∙ sym (λ k. option_map (λ before. own_of (schema_after schema h) (log schema h) (Some before) (unwritten k)) (opens k))
 
-  begun_beside : (number earlier : ℕ) (view : TreeState) (j : Entries) (receipt : ℕ) → schema_after schema h ≡ schema → journal_log j ≡ log schema h → Holds schema view (changes (log schema h)) → view_last view ≡ last (log schema h) → number ≡ length (Begin i earlier view ∷ j)
+  begun_beside : (number earlier : ℕ) (view : TreeState) (j : Entries) (receipt : ℕ) → schema_after schema h ≡ schema → journal_log schema j ≡ log schema h → Holds schema view (changes (log schema h)) → view_last view ≡ last (log schema h) → number ≡ length (Begin i earlier view ∷ j)
       → IsBeside (Begin i earlier view ∷ j) (session i schema receipt (Some (begun_with number earlier view))) now
   begun_beside number earlier view j receipt stay same holds stands at = record {
     in_range = small;
@@ -148,8 +149,8 @@ begins_answer_alike old new b c h number e is none grows begun = (
     closed : log_at_begin old.schema h old.number ≡ None
     closed = none_open _ _ old.transaction (log_at_begin old.schema h old.number) is.is_in.own_is none
 
-    may : MayBegin b.entries old.number begun.earlier begun.view
-    may = subst (MayFollow b.entries) begun.entry_is (may_follow old e number b c grows)
+    may : MayBegin old.schema b.entries old.number begun.earlier begun.view
+    may = subst (MayFollow old.schema b.entries) begun.entry_is (may_follow old e number b c grows)
 
     ends : view_last begun.view ≡ last (log old.schema h)
     ends = may.sees.last_is ∙ ap last is.log_is
@@ -180,11 +181,11 @@ module _ (schema : Schema) (h : History) (i : ℕ) where
     has_none : ◌≡◌ {A = Option Own} None (own_at schema ended i)
     has_none = λ k. option_map (λ before. own_of (schema_after schema h) (log schema ended) (Some before) (own schema ended i)) (sym closes k)
 
-    log_then : (before : Log) → log_at_begin schema h i ≡ Some before → log schema ended ≡ after (log schema h) (last before) (net schema h i) reading
-    log_then before is = λ k. elim (is k) [ None ↦ log schema h | Some before ↦ after (log schema h) (last before) (net_change_of (schema_after schema h) (log schema h) (log_at_begin schema h i) (own schema h i)) reading ]
+    log_then : (before : Log) → log_at_begin schema h i ≡ Some before → log schema ended ≡ after (periods_of (schema_after schema h)) (log schema h) (last before) (net schema h i) reading
+    log_then before is = λ k. elim (is k) [ None ↦ log schema h | Some before ↦ after (periods_of (schema_after schema h)) (log schema h) (last before) (net_change_of (schema_after schema h) (log schema h) (log_at_begin schema h i) (own schema h i)) reading ]
 
-    reply_then : (before : Log) → log_at_begin schema h i ≡ Some before → commit_reply (outcome (changes (log schema h)) (last (log schema h)) (snap schema h i) (net schema h i) reading) ≡ reply_in schema h (CommitStep i reading)
-    reply_then before is = λ k. elim (sym is k) [ Some before ↦ commit_reply (outcome (changes (log schema h)) (last (log schema h)) (snap schema h i) (net schema h i) reading) | None ↦ Refused NoTransaction ]
+    reply_then : (before : Log) → log_at_begin schema h i ≡ Some before → commit_reply (outcome (periods_of (schema_after schema h)) (changes (log schema h)) (last (log schema h)) (snap schema h i) (net schema h i) reading) ≡ reply_in schema h (CommitStep i reading)
+    reply_then before is = λ k. elim (sym is k) [ Some before ↦ commit_reply (outcome (periods_of (schema_after schema h)) (changes (log schema h)) (last (log schema h)) (snap schema h i) (net schema h i) reading) | None ↦ Refused NoTransaction ]
 
 pub commits_answer_alike : CommitsAnswerAlike
 commits_answer_alike old new b c h reading number e is grows did = (
@@ -208,8 +209,8 @@ commits_answer_alike old new b c h reading number e is grows did = (
     began : BeganIn b.entries old.schema h old.number (Some did.ran)
     began = subst (BeganIn b.entries old.schema h old.number) did.was_open is.began
 
-    may : MayCommit b.entries old.number did.ran.begun.number did.net reading did.end
-    may = subst (MayFollow b.entries) did.entry_is (may_follow old e number b c grows)
+    may : MayCommit old.schema b.entries old.number did.ran.begun.number did.net reading did.end
+    may = subst (MayFollow old.schema b.entries) did.entry_is (may_follow old e number b c grows)
 
     start_is : view_last may.view ≡ snap old.schema h old.number
     start_is = same_some _ _ (ap start_of (sym may.begun ∙ began.0)) ∙ began.1
@@ -222,13 +223,13 @@ commits_answer_alike old new b c h reading number e is grows did = (
         did.net_is (seen_at old.schema h old.number) began.2
         ∙ net_alike old.schema h old.number did.ran.writes lab.value lab.is ((λ k. option_map (λ t. own_over (seen_at old.schema h old.number) t.writes) (sym did.was_open k)) ∙ is.is_in.own_is)
 
-    end_is : did.end ≡ outcome (changes (log old.schema h)) (last (log old.schema h)) (snap old.schema h old.number) (net old.schema h old.number) reading
-    end_is = may.ends ∙ (λ k. outcome (changes (is.log_is k)) (last (is.log_is k)) (start_is k) (net_is k) reading)
+    end_is : did.end ≡ outcome (periods_of (schema_after old.schema h)) (changes (log old.schema h)) (last (log old.schema h)) (snap old.schema h old.number) (net old.schema h old.number) reading
+    end_is = may.ends ∙ (λ k. outcome (periods_of (sym is.is_in.tables_stay k)) (changes (is.log_is k)) (last (is.log_is k)) (start_is k) (net_is k) reading)
 
-    log_is : journal_log (entry ∷ b.entries) ≡ log old.schema (CommitStep old.number reading ∷ h)
+    log_is : journal_log old.schema (entry ∷ b.entries) ≡ log old.schema (CommitStep old.number reading ∷ h)
     log_is =
-        (λ k. elim (start_of (began.0 k)) [ None ↦ journal_log b.entries | Some start ↦ after (journal_log b.entries) start did.net reading ])
-        ∙ (λ k. after (is.log_is k) ((began.1 ∙ snap_is) k) (net_is k) reading)
+        (λ k. elim (start_of (began.0 k)) [ None ↦ journal_log old.schema b.entries | Some start ↦ after (periods_of old.schema) (journal_log old.schema b.entries) start did.net reading ])
+        ∙ (λ k. after (periods_of (sym is.is_in.tables_stay k)) (is.log_is k) ((began.1 ∙ snap_is) k) (net_is k) reading)
         ∙ sym (log_then old.schema h old.number reading lab.value lab.is)
 
 -- ---- a split
@@ -296,7 +297,7 @@ refused_alike s j h is = (
       fit_reply s.schema h (BeginStep s.number) (Refused InTransaction) (in_range_fits s.number is.in_range) (λ k. elim (sym lab.is k) [ Some before ↦ Refused InTransaction | None ↦ Begun (last (log s.schema h)) ])),
   λ reading none. let closed : log_at_begin s.schema h s.number ≡ None = none_open _ _ s.transaction (log_at_begin s.schema h s.number) is.is_in.own_is none in
       fit_reply s.schema h (CommitStep s.number reading) (Refused NoTransaction) (in_range_fits s.number is.in_range)
-      (λ k. elim (sym closed k) [ Some before ↦ commit_reply (outcome (changes (log s.schema h)) (last (log s.schema h)) (snap s.schema h s.number) (net s.schema h s.number) reading) | None ↦ Refused NoTransaction ]),
+      (λ k. elim (sym closed k) [ Some before ↦ commit_reply (outcome (periods_of (schema_after s.schema h)) (changes (log s.schema h)) (last (log s.schema h)) (snap s.schema h s.number) (net s.schema h s.number) reading) | None ↦ Refused NoTransaction ]),
 )
 
 -- ---- another session

@@ -45,7 +45,7 @@ pub record IsCommitAt (book : BookState) (old new : SessionState) (net : Net) (r
     (e : Entry) : Type 0 where
   pub ran : SessionTransactionState
   pub was_open : old.transaction ≡ Some ran
-  pub entry_is : e ≡ commit_entry book old.number ran.begun net reading
+  pub entry_is : e ≡ commit_entry old.schema book old.number ran.begun net reading
   pub session_is : new ≡ record {
     number = old.number;
     schema = old.schema;

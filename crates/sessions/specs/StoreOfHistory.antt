@@ -44,7 +44,7 @@ BeganIn j first h i (Some t) =
 -- the journal's log is the history's, and the session has open what the history has
 pub record IsBeside (j : Entries) (s : SessionState) (h : History) : Type 0 where
   pub in_range : s.number ≤ max_session
-  pub log_is : journal_log j ≡ log s.schema h
+  pub log_is : journal_log s.schema j ≡ log s.schema h
   pub is_in : IsIn (seen_at s.schema h s.number) s h
   pub began : BeganIn j s.schema h s.number s.transaction
 
@@ -113,7 +113,7 @@ abbrev pub OthersLeaveAlike : Type 0
 OthersLeaveAlike =
     (s : SessionState) (j more : Entries) (h : History) (step : Step)
     → IsBeside j s h → IsOfAnother s.number step
-    → journal_log (more ++ j) ≡ log s.schema (step ∷ h)
+    → journal_log s.schema (more ++ j) ≡ log s.schema (step ∷ h)
     → IsBeside (more ++ j) s (step ∷ h)
 
 -- what a session does without the store keeps it beside the history: a write that leaves what the

@@ -18,8 +18,8 @@ use transaction::OpenTransaction;
 use values::{Instant, Mem, Refusal};
 
 impl Session {
-    /// Ends the open transaction at a book, by this reading of the clock: the step of
-    /// `LockedStore::commit` that runs under the lock. Its net changes are handed in twice.
+    /// Ends the open transaction at a book of the same tables, by this reading of the clock: the
+    /// step of `LockedStore::commit` that runs under the lock. Its net changes are handed in twice.
     /// `NoTransaction` where none is open, or none at this book, `JournalFull` where there is no
     /// room for one more entry. After a refusal neither the book nor the session has changed.
     pub fn commit_at<J: StoreName>(
@@ -29,6 +29,7 @@ impl Session {
         changes: Net,
         reading: Instant,
     ) -> Result<Receipt<J>, Refusal>
+        requires tables { self.old.schema ≡ J.schema }
         requires keys { AreKeysIn J.schema net }
         requires twice { changes ≡ net }
         ensures committed { IfOk result (λ r.
@@ -43,7 +44,7 @@ impl Session {
         let Some(own) = &self.transaction else {
             return Err(Refusal::NoTransaction);
         };
-        let receipt = book.commit(self.number, &own.begun, net, changes, reading)?;
+        let receipt = book.commit(&self.schema, self.number, &own.begun, net, changes, reading)?;
         self.transaction = None;
         self.receipt = receipt.number;
         Ok(receipt)

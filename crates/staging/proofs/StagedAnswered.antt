@@ -1,41 +1,34 @@
 -- What INSERT, UPDATE and DELETE answer and leave.
-use Rattle.std.proofs.Common.{◌≡◌, ℕ, ◌<◌, ◌≤◌, Bool, true, false, cond, ◌&&◌, ◌||◌, T, List, [], ◌∷◌, ◌++◌, Option, Some, None, Result, Ok, Err, OnOk, OnErr, refl, sym, ap, subst, ◌∙◌, arith, map, filter, filter_map, length, is_some, if◌then◌else◌, ◌==◌, All, get_or, zero, suc}
-use Rattle.std.specs.Prelude.{is_none}
-use Rattle.std.proofs.lemmas.Bool.Decides.{nat_tests}
+use Rattle.std.proofs.Common.{◌≡◌, ℕ, ◌<◌, ◌≤◌, Bool, true, false, cond, ◌||◌, T, List, [], ◌∷◌, ◌++◌, Option, Some, None, Result, Ok, Err, OnOk, OnErr, refl, sym, ap, subst, ◌∙◌, arith, map, filter, length, is_some, All, get_or, zero, suc}
 use Rattle.std.proofs.lemmas.List.{length-map}
 use Rattle.std.proofs.lemmas.List.Elements.{All-from_recursion, recursion_from_All, All-weaker}
-use Rattle.std.specs.Option.{option_map}
 use Rattle.std.specs.BTreeMap.{is_at}
 use Rattle.std.specs.Map.{keys_of, remove_entry}
 use Rattle.std.specs.FinMap.{is_sorted}
-use Rattle.std.specs.List.{AllByRecursion, list_any, cons_option}
+use Rattle.std.specs.List.{AllByRecursion, list_any}
 use Rattle.std.specs.List.Sorted.{IsStrictlySortedBy}
 use Rattle.values.specs.declared.key.Key.{Key}
 use Rattle.values.specs.Event.{Event}
-use Rattle.values.specs.declared.value.Value.{Value}
 use Rattle.values.specs.declared.table.Table.{Table}
 use Rattle.values.specs.declared.query.Keys.{Keys}
 use Rattle.values.specs.declared.query.Set.{Set}
 use Rattle.values.specs.declared.refusal.Refusal.{Refusal}
-use Rattle.values.specs.declared.refusal.Refusal.TheVariants.{NoTable, DuplicateKey}
+use Rattle.values.specs.declared.refusal.Refusal.TheVariants.{DuplicateKey}
 use Rattle.values.specs.Order.{key_cmp, is_key}
 use Rattle.values.specs.Log.{State, Net, Row, Changes, row_at, set_row, apply_net, rows_after}
 use Rattle.values.specs.Tables.{Schema, IsTable, full_row}
-use Rattle.values.specs.Fit.{rows_fault, row_fault, key_fault, comparisons_fault, sets_fault, first_of}
-use Rattle.values.specs.Faults.{no_fault}
-use Rattle.values.specs.Writes.{Own, Written, write_keys, key_of, insert_into, update_in, delete_from, insert_rows, duplicate, duplicate_from, update_rows, delete_rows, matching_keys, set_all}
+use Rattle.values.specs.Fit.{rows_fault, row_fault, key_fault}
+use Rattle.values.specs.Writes.{Own, Written, write_keys, key_of, insert_into, update_in, delete_from, insert_rows, duplicate, duplicate_from, matching_keys, set_all}
 use Rattle.values.specs.Versions.{matches}
 use Rattle.values.specs.KeyEncoding.{IsShortKey}
 use Rattle.values.specs.RowEncoding.{IsHeld}
-use Rattle.values.specs.RowReading.{Parsed}
-use Rattle.values.specs.KeyReading.{IsKeyOf, key_from, whole_key, parts_from, is_empty}
+use Rattle.values.specs.KeyReading.{IsKeyOf}
 use Rattle.values.specs.Events.{event_cmp, events_of, IsKeyIn, AreKeysIn}
-use Rattle.values.proofs.KeyLengths.{fitting_keys_are_short, first_none}
+use Rattle.values.proofs.KeyLengths.{first_none}
 use Rattle.values.proofs.RowKeys.{fitting_key, keys_are_short}
 use Rattle.tsbtree.specs.View.{events, TreeState}
 use Rattle.staging.specs.Own.{Reads, rows_seen, own}
-use Rattle.staging.specs.Staged.{put_all, put_answer, insertions, updates, deletions, full_rows, sees, first_seen, rows_in}
-use Rattle.searchrange.specs.Search.{entry_taken}
+use Rattle.staging.specs.Staged.{put_all, put_answer, insertions, updates, deletions, full_rows, sees, first_seen}
 use Rattle.staging.proofs.StagedEntries.{sorted_from, sorted_apply, changed_to, apply-updates, apply-deletions}
 use Rattle.staging.proofs.ViewBridge.{are_seen, keyed_changes, sorted_base, sees_is, key_in}
 use Rattle.staging.proofs.StagedWide.{updates_wide}

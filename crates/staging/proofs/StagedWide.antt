@@ -1,5 +1,5 @@
 -- Rows as wide as their table, by key.
-use Rattle.std.proofs.Common.{◌≡◌, ℕ, ◌+◌, ◌-◌, ◌≤◌, List, [], ◌∷◌, ◌++◌, Option, Some, None, length, replicate, map, refl, sym, ap, subst, ◌∙◌, All, arith, length-append}
+use Rattle.std.proofs.Common.{◌≡◌, ℕ, ◌-◌, ◌≤◌, List, [], ◌∷◌, Some, length, replicate, map, refl, ap, All, arith, length-append}
 use Rattle.std.specs.List.{AllByRecursion}
 use Rattle.std.proofs.lemmas.List.{length-replicate}
 use Rattle.std.proofs.lemmas.List.Elements.{All-from_recursion, recursion_from_All, All-weaker}
@@ -7,10 +7,10 @@ use Rattle.values.specs.declared.value.Value.TheVariants.{Null}
 use Rattle.values.specs.declared.key.Key.{Key}
 use Rattle.values.specs.declared.table.Table.{Table}
 use Rattle.values.specs.declared.query.Set.{Set}
-use Rattle.values.specs.Log.{Net, Row, State}
+use Rattle.values.specs.Log.{Row, State}
 use Rattle.values.specs.Tables.{widened, full_row}
 use Rattle.values.specs.Writes.{set_all}
-use Rattle.staging.specs.Staged.{full_rows, updates, deletions, SetsOneOf}
+use Rattle.staging.specs.Staged.{full_rows, updates, SetsOneOf}
 
 -- a row is at least as wide as it was asked to be
 pub as_wide : (width : ℕ) (row : Row) → width ≤ length (widened width row)

@@ -9,7 +9,7 @@ use Rattle.values.specs.declared.table.Column.{Column}
 use Rattle.values.specs.declared.table.Table.{Table}
 use Rattle.values.specs.declared.query.Set.{Set}
 use Rattle.values.specs.Log.{Row}
-use Rattle.values.specs.Tables.{column_at, is_key_column}
+use Rattle.values.specs.Tables.{column_at, is_fixed_column}
 use Rattle.values.specs.Fit.{fits_value, set_fault, sets_fault}
 use Rattle.values.specs.Writes.{set_all}
 use Rattle.values.specs.RowEncoding.{IsStored, IsStoredRow}
@@ -53,15 +53,15 @@ one_stored table earlier s e = by_column (column_at table s.column) e
     by_key c true e = cc
     by_key c false e = by_value c (fits_value false c s.value) refl e
 
-    by_earlier : (c : Column) (b : Bool) → ◌≡◌ {A = Option ℕ} (if b then Some 0 else if is_key_column table s.column then Some s.column else if fits_value false c s.value then None else Some s.column) None → IsStored s.value
+    by_earlier : (c : Column) (b : Bool) → ◌≡◌ {A = Option ℕ} (if b then Some 0 else if is_fixed_column table s.column then Some s.column else if fits_value false c s.value then None else Some s.column) None → IsStored s.value
     by_earlier c true e = cc
-    by_earlier c false e = by_key c (is_key_column table s.column) e
+    by_earlier c false e = by_key c (is_fixed_column table s.column) e
 
     by_column : (o : Option Column) → ◌≡◌ {A = Option ℕ} (elim o [
       | None ↦ Some 0
       | Some column ↦
           if list_any (λ e. e.column == s.column) earlier then Some 0
-          else if is_key_column table s.column then Some s.column
+          else if is_fixed_column table s.column then Some s.column
           else if fits_value false column s.value then None
           else Some s.column
     ]) None → IsStored s.value
@@ -90,7 +90,7 @@ one_within table earlier s e = by (s.column == 0) refl e
       | None ↦ Some 0
       | Some column ↦
           if list_any (λ e. e.column == s.column) earlier then Some 0
-          else if is_key_column table s.column then Some s.column
+          else if is_fixed_column table s.column then Some s.column
           else if fits_value false column s.value then None
           else Some s.column
     ]

@@ -11,6 +11,8 @@ mod open_transaction_tests;
 #[cfg(test)]
 mod packed_tests;
 #[cfg(test)]
+mod period_tests;
+#[cfg(test)]
 mod sample;
 #[cfg(test)]
 mod staging_tests;

@@ -1,6 +1,6 @@
 //! Transactions that overlap.
 
-use crate::sample::{insertion, key, nothing_staged};
+use crate::sample::{insertion, key, nothing_staged, schema};
 use std::alloc::Global;
 use std::process::Abort;
 use tsbtree::View;
@@ -25,7 +25,7 @@ fn hire(
     reading: Instant,
 ) -> Mem<Option<Instant>> {
     let net = insertion(rt, alloc, view, number, "Ann");
-    engine.commit(view.last(), net, reading)
+    engine.commit(&schema(rt, alloc), view.last(), net, reading)
 }
 
 /// When the insertion of an employee is committed.
@@ -76,7 +76,8 @@ fn other_keys_both_commit(rt: HostRuntime) {
 fn instant_of_nothing(rt: &impl Abort, alloc: Global, engine: &mut Engine) -> Option<Instant> {
     let nothing = nothing_staged(rt, alloc).net(&begin(rt, engine));
     let nothing = nothing.expect(rt, "there is memory");
-    engine.commit(0, nothing, 100).expect(rt, "it is committed")
+    let schema = schema(rt, alloc);
+    engine.commit(&schema, 0, nothing, 100).expect(rt, "it is committed")
 }
 
 #[test]

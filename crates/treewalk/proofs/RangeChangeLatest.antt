@@ -6,7 +6,8 @@ use Rattle.std.proofs.lemmas.Grind.{flat_map-append}
 use Rattle.std.proofs.lemmas.List.{append-nil, take_more}
 use Rattle.values.specs.Event.{Event}
 use Rattle.datanode.proofs.CutMembers.{In}
-use Rattle.treewalk.specs.RangeChange.{latest_of, latest_among}
+use Rattle.values.specs.Commits.{latest_of}
+use Rattle.treewalk.specs.RangeChange.{latest_among}
 
 -- ---- lists one behind the other
 

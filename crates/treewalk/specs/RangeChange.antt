@@ -1,14 +1,9 @@
 -- When a key of a range was last changed.
-use Rattle.std.specs.Prelude.{ℕ, List, [], ◌∷◌, Bool, ◌&&◌, nat_lt, max, Option, Some, None, if◌then◌else◌}
+use Rattle.std.specs.Prelude.{ℕ, List, [], ◌∷◌, Bool, ◌&&◌, nat_lt, Option, Some, None, if◌then◌else◌}
+use Rattle.values.specs.Commits.{latest_of}
 use Rattle.values.specs.Event.{Event}
 use Rattle.keyrange.specs.declared.range.KeyRange.{KeyRange}
 use Rattle.keyrange.specs.Range.{is_key_in}
-
--- the later of two instants; of one alone, that one
-abbrev pub latest_of : Option ℕ → Option ℕ → Option ℕ
-latest_of None b = b
-latest_of (Some a) None = Some a
-latest_of (Some a) (Some b) = Some (max a b)
 
 -- the latest instant of the events that pass a test
 abbrev pub latest_among : (Event → Bool) → List Event → Option ℕ

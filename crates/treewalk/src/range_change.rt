@@ -1,7 +1,7 @@
 //! When a key of a range was last changed.
 ghost use Rattle.std.specs.Prelude.{◌≡◌, ◌<◌, List, IfOk, nat_lt};
 ghost use Rattle.std.specs.List.{flat_map};
-ghost use Rattle.values.specs.Commits.{max_instant};
+ghost use Rattle.values.specs.Commits.{max_instant, latest_of};
 ghost use Rattle.values.specs.Event.{Event as Change};
 ghost use Rattle.values.specs.Memory.{OnlyMemory};
 ghost use Rattle.treenodes.specs.Tree.{IsTree};
@@ -9,7 +9,7 @@ ghost use Rattle.treenodes.specs.Map.{HoldsMap};
 ghost use Rattle.treewalk.specs.Gather.{events_at};
 ghost use Rattle.treewalk.specs.Leaf.{node_in};
 ghost use Rattle.treewalk.specs.Level.{AreLeaves};
-ghost use Rattle.treewalk.specs.RangeChange.{latest_of, latest_among, event_since_in};
+ghost use Rattle.treewalk.specs.RangeChange.{latest_among, event_since_in};
 
 use crate::gather::rect_between;
 use crate::last_change::above;

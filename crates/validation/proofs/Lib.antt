@@ -1,2 +1,2 @@
 pub mod EngineAdding
-pub mod EngineConflicts
+pub mod ConflictUnits

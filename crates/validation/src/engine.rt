@@ -1,9 +1,9 @@
 //! The committed transactions and the clock.
 ghost use Rattle.std.specs.Prelude.{◌≡◌, ◌≢◌, ◌≤◌, ◌<◌, Result, Err, IfOk, IfSome, IfNone, OnOk, OnErr, length};
-ghost use Rattle.std.specs.List.{slice_get};
 ghost use Rattle.values.specs.Log.{Changes, Net, add_net};
+ghost use Rattle.values.specs.Period.{periods_of};
 ghost use Rattle.values.specs.Tables.{Schema};
-ghost use Rattle.values.specs.Commits.{outcome, outcome_by, conflicts_by, max_instant};
+ghost use Rattle.values.specs.Commits.{outcome, max_instant};
 ghost use Rattle.values.specs.Events.{AreKeysIn};
 ghost use Rattle.values.specs.Memory.{OnlyMemory};
 ghost use Rattle.treenodes.specs.History.{KeepsHistory, KeepsPast};
@@ -11,9 +11,10 @@ ghost use Rattle.tsbtree.specs.View.{events, last, IsEmpty, IsState};
 ghost use Rattle.staging.specs.View.{Holds, Adds};
 ghost use Rattle.tsbtree.specs.Growth.{HoldsSame};
 ghost use Rattle.tsbtree.specs.Packing.{IsInstalled};
-ghost use Rattle.validation.specs.Outcome.{changed_in};
+ghost use Rattle.validation.specs.Conflict.{end_by};
 ghost use Rattle.validation.specs.Split.{IsSplit, SplitsByNeed};
 
+use crate::conflict::first_conflict;
 use crate::cut::Cut;
 use crate::packed_node::PackedNode;
 use commitclock::Clock;
@@ -21,7 +22,7 @@ use staging::Net;
 use std::alloc::Global;
 use std::marker::Model;
 use tsbtree::{Tree, View};
-use values::{Instant, Key, Mem, Refusal, key_bytes};
+use values::{Instant, Key, Mem, Refusal, Schema};
 
 /// The tree of what was committed, and the clock that gives commits their instants.
 #[derive(Drop)]
@@ -87,20 +88,23 @@ impl Engine {
         self.tree.view()
     }
 
-    /// Ends a transaction of this start with these net changes, by this reading of the clock, and
-    /// answers its instant, none where it changed nothing. `Conflict` with the least of its keys
-    /// that was changed after its start, and the latest instant that changed it; `ClockEnd` where
-    /// no instant is left. After a refusal nothing has changed.
+    /// Ends a transaction of these tables and this start with these net changes, by this reading of
+    /// the clock, and answers its instant, none where it changed nothing. `Conflict` with the least
+    /// of its keys that was changed after its start, and the latest instant that changed it: of a
+    /// table with a period of application time, with the least of its entities, and the latest
+    /// instant that changed any key of that entity. `ClockEnd` where no instant is left. After a
+    /// refusal nothing has changed.
     pub fn commit(
         &mut self,
+        schema: &Schema,
         start: Instant,
         net: Net,
         reading: Instant,
     ) -> Result<Option<Instant>, Refusal>
-        ensures outcome { (schema : Schema) (m : Changes)
-            → Holds schema self.old m → AreKeysIn schema net
+        ensures outcome { (m : Changes)
+            → Holds schema.now self.old m → AreKeysIn schema.now net
             → result ≢ Err Refusal.Memory
-            → result ≡ outcome m (last self.old) start net reading }
+            → result ≡ outcome (periods_of schema.now) m (last self.old) start net reading }
         ensures committed { IfOk result (λ end. IfSome end (λ instant.
             Adds instant net self.old self.new)) }
         ensures holds { IfOk result (λ end. IfSome end (λ instant. (schema : Schema) (m : Changes)
@@ -113,7 +117,7 @@ impl Engine {
         ensures nothing { IfOk result (λ end. IfNone end (self.new ≡ self.old)) }
         ensures refused { OnErr result (self.new ≡ self.old) }
     {
-        match self.outcome(start, &net, reading) {
+        match self.outcome(schema, start, &net, reading) {
             Ok(Some(instant)) => match self.add(instant, net) {
                 Ok(()) => Ok(Some(instant)),
                 Err(refusal) => Err(refusal),
@@ -123,23 +127,24 @@ impl Engine {
         }
     }
 
-    /// Tells how a transaction of this start with these net changes would end now, by this reading
-    /// of the clock: what `commit` answers. Nothing has changed.
+    /// Tells how a transaction of these tables and this start with these net changes would end now,
+    /// by this reading of the clock: what `commit` answers. Nothing has changed.
     pub fn validate(
         &self,
+        schema: &Schema,
         start: Instant,
         net: &Net,
         reading: Instant,
     ) -> Result<Option<Instant>, Refusal>
-        ensures outcome { (schema : Schema) (m : Changes)
-            → Holds schema self.now m → AreKeysIn schema net.now
+        ensures outcome { (m : Changes)
+            → Holds schema.now self.now m → AreKeysIn schema.now net.now
             → result ≢ Err Refusal.Memory
-            → result ≡ outcome m (last self.now) start net.now reading }
+            → result ≡ outcome (periods_of schema.now) m (last self.now) start net.now reading }
         ensures later { IfOk result (λ end. IfSome end (λ instant. last self.now < instant)) }
         ensures in_range { IfOk result (λ end. IfSome end (λ instant. instant ≤ max_instant)) }
         ensures some { IfOk result (λ end. IfSome end (λ _. 0 < length net.now)) }
     {
-        self.outcome(start, net, reading)
+        self.outcome(schema, start, net, reading)
     }
 
     /// Splits the current data node of a key, where its cut lies inside the node and is no instant
@@ -195,13 +200,15 @@ impl Engine {
     /// Tells how a transaction ends.
     fn outcome(
         &self,
+        schema: &Schema,
         start: Instant,
         net: &Net,
         reading: Instant,
     ) -> Result<Option<Instant>, Refusal>
-        ensures outcome { result ≢ Err Refusal.Memory
-            → result
-            ≡ outcome_by (changed_in (events self.now) start) (last self.now) net.now reading }
+        ensures outcome { (m : Changes)
+            → Holds schema.now self.now m → AreKeysIn schema.now net.now
+            → result ≢ Err Refusal.Memory
+            → result ≡ outcome (periods_of schema.now) m (last self.now) start net.now reading }
         ensures later { IfOk result (λ end. IfSome end (λ instant. last self.now < instant)) }
         ensures in_range { IfOk result (λ end. IfSome end (λ instant. instant ≤ max_instant)) }
         ensures some { IfOk result (λ end. IfSome end (λ _. 0 < length net.now)) }
@@ -209,33 +216,26 @@ impl Engine {
         if net.changes().is_empty() {
             return Ok(None);
         }
-        match first_conflict(self.alloc, self.tree.current(), start, net) {
-            Ok(Some((key, instant))) => Err(Refusal::Conflict(key, instant)),
-            Ok(None) => match self.clock.next(reading) {
+        let conflict = first_conflict(self.alloc, schema, self.tree.current(), start, net)?;
+        self.end(conflict, reading)
+    }
+
+    /// Tells how a transaction with net changes ends, by its first conflict.
+    fn end(
+        &self,
+        conflict: Option<(Key, Instant)>,
+        reading: Instant,
+    ) -> Result<Option<Instant>, Refusal>
+        ensures is { result ≡ end_by (last self.now) reading conflict }
+        ensures later { IfOk result (λ end. IfSome end (λ instant. last self.now < instant)) }
+        ensures in_range { IfOk result (λ end. IfSome end (λ instant. instant ≤ max_instant)) }
+    {
+        match conflict {
+            Some((unit, instant)) => Err(Refusal::Conflict(unit, instant)),
+            None => match self.clock.next(reading) {
                 Ok(instant) => Ok(Some(instant)),
                 Err(refusal) => Err(refusal),
             },
-            Err(refusal) => Err(refusal),
         }
     }
-}
-
-/// Finds the first of the keys that was changed since, with the latest instant.
-fn first_conflict(
-    alloc: Global,
-    view: &View,
-    start: Instant,
-    net: &Net,
-) -> Mem<Option<(Key, Instant)>>
-    ensures ok { IfOk result (λ found.
-        found ≡ slice_get (conflicts_by (changed_in (events view.now) start) net.now) 0) }
-    ensures err { OnlyMemory result }
-{
-    for (key, _row) in net.changes() {
-        let bytes = key_bytes(alloc, key)?;
-        if let Some(instant) = view.changed_since(&bytes, start) {
-            return Ok(Some((key.copy()?, instant)));
-        }
-    }
-    Ok(None)
 }

@@ -1,6 +1,7 @@
 //! What was committed, and how a transaction ends: the first committer wins.
 #![tactic(auto)]
 
+mod conflict;
 mod cut;
 mod engine;
 mod job;

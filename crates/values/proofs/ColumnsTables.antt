@@ -35,6 +35,7 @@ period_stays c t p h = record {
 table_stays : (number : ℕ) (c : Column) (t : Table) → length t.columns < widest → IsTable number t → IsTable number (with_column c t)
 table_stays number c t room h = record {
   numbered = h.numbered;
+  small = h.small;
   some_columns = omega (arith, longer c t);
   few_columns = omega (arith, longer c t, room);
   few_key_columns = h.few_key_columns;

@@ -20,6 +20,6 @@ pub mod RowReadingParsed
 pub mod LogUpto
 pub mod RowWidened
 pub mod ColumnsTables
-pub mod ButLast
+pub mod TablesButLast
 pub mod ColumnsKeys
 pub mod ColumnsWiden

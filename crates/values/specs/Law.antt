@@ -7,6 +7,7 @@ use Rattle.values.specs.declared.table.Table.{Table}
 use Rattle.values.specs.Log.{Log, State, Changes, Row, last, upto, state, changes}
 use Rattle.values.specs.Tables.{full_row}
 use Rattle.values.specs.Columns.{IsWidenedTo}
+use Rattle.values.specs.Period.{Periods}
 use Rattle.values.specs.Commits.{after}
 use Rattle.values.specs.Versions.{versions, selects, matches, answer}
 
@@ -67,4 +68,6 @@ ChangesUpto = (log : Log) (t : ℕ) → changes (upto log t) ≡ changes_upto (c
 
 -- a transaction whose net change is empty leaves the log as it was, whatever the clock reads
 abbrev pub EmptyNetStays : Type 0
-EmptyNetStays = (log : Log) (start reading : ℕ) → after log start [] reading ≡ log
+EmptyNetStays =
+    (periods : Periods) (log : Log) (start reading : ℕ)
+    → after periods log start [] reading ≡ log

@@ -92,10 +92,11 @@ pub record HasPeriod (table : Table) (p : Period) : Type 0 where
   pub start_last : table.key ≡ but_last table.key ++ p.from ∷ []
   pub distinct : IsDistinct table.key
 
--- the table has the number, 1 to 16 columns, and at most four key columns, which are among them; so
--- are those of its period, if it has one
+-- the table has the number, at most 16, 1 to 16 columns, and at most four key columns, which are among
+-- them; so are those of its period, if it has one
 pub record IsTable (number : ℕ) (table : Table) : Type 0 where
   pub numbered : table.number ≡ number
+  pub small : number ≤ most_tables
   pub some_columns : 1 ≤ length table.columns
   pub few_columns : length table.columns ≤ widest
   pub few_key_columns : length table.key ≤ most_key_columns

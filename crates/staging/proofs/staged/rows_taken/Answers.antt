@@ -1,4 +1,4 @@
-use Rattle.std.proofs.Common.{rules, ◌≡◌, ◌<◌, ◌∙◌, All, ap, get_or, length, subst, sym}
+use Rattle.std.proofs.Common.{rules, ◌≡◌, ◌<◌, ◌∙◌, All, get_or, length, subst, sym}
 use Rattle.values.specs.Event.{Event}
 use Rattle.values.specs.KeyEncoding.{IsShortKey}
 use Rattle.searchrange.specs.Search.{IsInSearch, entry_taken}

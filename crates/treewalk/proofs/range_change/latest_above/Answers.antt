@@ -1,6 +1,6 @@
 use Rattle.std.proofs.Common.{rules, ◌≡◌, ◌<◌, ◌∙◌, ap, length, get_or, nat_lt, Some, None, if◌then◌else◌}
+use Rattle.values.specs.Commits.{latest_of}
 use Rattle.values.specs.Event.{Event}
-use Rattle.treewalk.specs.RangeChange.{latest_of}
 use Rattle.treewalk.proofs.RangeChangeLatest.{latest_more}
 use Rattle.treewalk.proofs.range_change.latest_above.Goals as goal
 

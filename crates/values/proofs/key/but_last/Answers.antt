@@ -1,6 +1,6 @@
 use Rattle.std.proofs.Common.{◌≡◌, ◌∷◌, ◌++◌, [], ap, sym, ◌∙◌, rules}
 use Rattle.values.specs.Tables.{but_last}
-use Rattle.values.proofs.ButLast.{but_last-push}
+use Rattle.values.proofs.TablesButLast.{but_last-push}
 use Rattle.values.proofs.key.but_last.Goals as goal
 
 pub returns-in-Some : goal.returns-in-Some

@@ -6,7 +6,7 @@ use Rattle.book.proofs.book.Book.install.Goals as goal
 pub note-requires-clause-fresh : goal.note-requires-clause-fresh
 note-requires-clause-fresh g c = λ κs h done.
     let outcomes = c.in_ok-outcomes.outcomes in
-    fresh_as c.self.inside.journal.entries c.make_room.new.journal.entries (Install c.args.packed.node.rect c.args.packed.bytes done) (entry_of outcomes done) c.self.invariant.legal tt c.make_room.ensures.same (c.in_ok-outcomes.ensures.are done)
+    fresh_as g.J.StoreName.schema c.self.inside.journal.entries c.make_room.new.journal.entries (Install c.args.packed.node.rect c.args.packed.bytes done) (entry_of outcomes done) c.self.invariant.legal tt c.make_room.ensures.same (c.in_ok-outcomes.ensures.are done)
 
 pub returns-clause-book : goal.returns-clause-book
 returns-clause-book g c =

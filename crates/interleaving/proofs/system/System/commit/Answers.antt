@@ -2,7 +2,8 @@ use Rattle.std.proofs.Common.{◌≡◌, subst, sym, ap, ◌∙◌, None, set}
 use Rattle.steps.specs.declared.step.Reply.{Reply}
 use Rattle.steps.specs.Reply.{is_out_of_memory}
 use Rattle.steps.specs.declared.step.Step.TheVariants.{Commit}
-use Rattle.values.specs.Commits.{changed_since}
+use Rattle.values.specs.Period.{periods_of}
+use Rattle.values.specs.Commits.{unit_changed_since, by_unit}
 use Rattle.tsbtree.specs.View.{events, last}
 use Rattle.interleaving.specs.StepLeaves.{SplitsAsReplied, leaves_all, may_change_tree}
 use Rattle.interleaving.proofs.StepEnded.{by_need, not_ended, same_tree}
@@ -49,7 +50,7 @@ returns-clause-refused c = λ h.
     let says = elim c.match-commit.branch as (λ b. c.match-commit.reply ≡ end_reply c.commit.result) [ in-Ok-commit w ↦ w.reply-is ∙ sym (ap end_reply w.in-Ok-commit.is) | in-Err-commit w ↦ w.reply-is ∙ sym (ap end_reply w.in-Err-commit.is) ] in
     let opened = found c.self.inside.schema c.self.inside.engine c.self.inside.sessions.items c.args.session c.index.result.now c.in-Some.transaction c.self.invariant c.requires c.index.ensures c.in-Some.is in
     let keys = c.in-Ok.ensures.keys c.self.inside.schema opened.begun.keys in
-    absurd (not_ended (changed_since (changes_in c.self.inside.schema (events c.self.inside.engine)) c.start.result) (last c.self.inside.engine) c.in-Ok.net c.args.reading c.commit.result
-    (c.commit.ensures.outcome c.self.inside.schema (changes_in c.self.inside.schema (events c.self.inside.engine)) c.self.invariant.held keys
+    absurd (not_ended (unit_changed_since (periods_of c.self.inside.schema) (changes_in c.self.inside.schema (events c.self.inside.engine)) c.start.result) (last c.self.inside.engine) (by_unit (periods_of c.self.inside.schema) c.in-Ok.net) c.args.reading c.commit.result
+    (c.commit.ensures.outcome (changes_in c.self.inside.schema (events c.self.inside.engine)) c.self.invariant.held keys
     (not_want c.commit.result (ap is_out_of_memory (sym says) ∙ sym c.ran_out.ensures ∙ c.if-ran_out.false)))
     (ap leaves_all (sym says) ∙ h))

@@ -1,4 +1,4 @@
-use Rattle.std.proofs.Common.{◌≡◌, ◌∙◌, ap, sym, subst, All}
+use Rattle.std.proofs.Common.{◌∙◌, ap, sym, subst, All}
 use Rattle.values.specs.KeyEncoding.{IsShortKey}
 use Rattle.staging.specs.Staged.{full_rows}
 use Rattle.staging.proofs.StagedWide.{full_keys}

@@ -1,5 +1,4 @@
 use Rattle.std.proofs.Common.{◌≡◌, [], All, ap, filter, filter_map, subst, sym, ◌∙◌}
-use Rattle.values.specs.Event.{Event}
 use Rattle.values.specs.KeyEncoding.{IsShortKey}
 use Rattle.std.specs.List.Sorted.{IsStrictlySortedBy}
 use Rattle.std.specs.Map.{keys_of}

@@ -24,10 +24,10 @@ use Rattle.values.specs.Portion.{keyed, piece, changed, piece_of, pieces, is_tak
 use Rattle.values.specs.Tables.{HasPeriod}
 use Rattle.values.specs.Each.{Each}
 use Rattle.periods.specs.NoOverlap.{NoOverlap, Tables, IsSettable, IsKeyed, IsKeyedIn, AreKeyed}
-use Rattle.periods.proofs.Spans.{part_apart, before_in, behind_in, common_in, before_common, common_behind, before_behind}
-use Rattle.periods.proofs.Apart.{clash_turned, or_first, or_second, or_none, none_inserted, apart_inserted, apart_kept, none_kept, any_alike}
-use Rattle.periods.proofs.Full.{full, full_alike, full_apart, full_keyed_in, span_full}
-use Rattle.periods.proofs.Columns.{span_with_span, entity_with_span, width_with_span, width_set_all, key_set_all}
+use Rattle.periods.proofs.NoOverlapSpans.{part_apart, before_in, behind_in, common_in, before_common, common_behind, before_behind}
+use Rattle.periods.proofs.NoOverlapApart.{clash_turned, or_first, or_second, or_none, none_inserted, apart_inserted, apart_kept, none_kept, any_alike}
+use Rattle.periods.proofs.NoOverlapFull.{full, full_alike, full_apart, full_keyed_in, span_full}
+use Rattle.periods.proofs.NoOverlapColumns.{span_with_span, entity_with_span, width_with_span, width_set_all, key_set_all}
 
 pub and_first : (a b : Bool) → (a && b) ≡ true → a ≡ true
 and_first true b e = refl

@@ -14,15 +14,15 @@ use Rattle.values.specs.declared.key.Key.{Key}
 use Rattle.values.specs.Order.{key_cmp, is_key}
 use Rattle.values.specs.Log.{State, Row, Net, Log, Changes, row_at, set_row, apply_net, state, last, changes}
 use Rattle.values.specs.Law.{IsLog}
-use Rattle.values.specs.Commits.{LookUp, conflicts_by}
+use Rattle.values.specs.Commits.{LookUp, conflicts_by, by_unit, latest_of, changed_among, unit_changed_since}
 use Rattle.values.specs.Writes.{net_of}
 use Rattle.values.proofs.OrderTotal.{key_cmp_total, first, second}
 use Rattle.values.proofs.LogStates.{row_at-set_row, sorted_set_row, state_matches}
 use Rattle.values.proofs.LogLatest.{latest, later}
 use Rattle.values.specs.Period.{Periods, span_of, overlap}
-use Rattle.values.specs.Entity.{entity_of, unit_of, unit_by, by_unit, clash, clash_by, latest_of, changed_among, unit_changed_since}
+use Rattle.values.specs.Entity.{entity_of, unit_of, unit_by, clash, clash_by}
 use Rattle.periods.specs.NoOverlap.{NoOverlap}
-use Rattle.periods.proofs.Apart.{one_key, is_key_turned, clash_turned, or_first, or_second, or_none}
+use Rattle.periods.proofs.NoOverlapApart.{one_key, is_key_turned, clash_turned, or_first, or_second, or_none}
 
 -- ---- rows that do not clash, by what their keys have
 

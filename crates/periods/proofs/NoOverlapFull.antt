@@ -1,14 +1,13 @@
 -- Rows that were stored before columns were added, with NULL in them: nothing else is new of them.
-use Rattle.std.proofs.Common.{◌≡◌, ℕ, ◌-◌, ◌≤◌, zero, suc, Bool, true, false, cond, List, [], ◌∷◌, ◌++◌, Option, Some, None, refl, sym, ap, subst, ◌∙◌, arith, map, not, length, replicate, length-append, append-nil, ◌&&◌}
+use Rattle.std.proofs.Common.{◌≡◌, ℕ, ◌-◌, ◌≤◌, zero, suc, Bool, true, false, cond, [], ◌∷◌, ◌++◌, Some, refl, sym, ap, ◌∙◌, arith, map, not, length, replicate, length-append, append-nil, ◌&&◌}
 use Rattle.std.proofs.lemmas.List.{length-replicate}
-use Rattle.std.specs.Prelude.{filter, find, if◌then◌else◌}
+use Rattle.std.specs.Prelude.{filter, find}
 use Rattle.std.specs.List.{slice_get}
 use Rattle.std.specs.Option.{unwrap_or, option_map}
 use Rattle.std.specs.Ordering.{match_ordering}
 use Rattle.std.specs.declared.cmp.Ordering.{Ordering}
 use Rattle.std.specs.declared.cmp.Ordering.TheVariants.{Less, Equal, Greater}
 use Rattle.std.specs.BTreeMap.{insert_entry}
-use Rattle.values.specs.declared.value.Value.{Value}
 use Rattle.values.specs.declared.value.Value.TheVariants.{Null}
 use Rattle.values.specs.declared.period.Period.{Period}
 use Rattle.values.specs.declared.period.Span.{Span}
@@ -17,14 +16,13 @@ use Rattle.values.specs.declared.table.Table.{Table}
 use Rattle.values.specs.declared.query.Keys.{Keys}
 use Rattle.values.specs.Order.{key_cmp}
 use Rattle.values.specs.Log.{State, Row}
-use Rattle.values.specs.Each.{Each}
 use Rattle.values.specs.Tables.{value_at, full_row}
 use Rattle.values.specs.Versions.{matches}
 use Rattle.values.specs.Writes.{key_of, insert_all}
 use Rattle.values.specs.Period.{Periods, int_of, span_of, is_span, overlap}
 use Rattle.values.specs.Portion.{full_rows, is_taken, taken, not_taken}
-use Rattle.periods.specs.NoOverlap.{NoOverlap, Tables, IsKeyed, IsKeyedIn, AreKeyed}
-use Rattle.periods.proofs.Apart.{IsAlike, apart_changed}
+use Rattle.periods.specs.NoOverlap.{NoOverlap, Tables, IsKeyed, AreKeyed}
+use Rattle.periods.proofs.NoOverlapApart.{IsAlike, apart_changed}
 
 nulls : (k i : ℕ) → unwrap_or (slice_get (replicate k Null) i) Null ≡ Null
 nulls zero i = refl

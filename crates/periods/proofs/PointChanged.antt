@@ -29,12 +29,12 @@ use Rattle.values.specs.Entity.{entity_of, clash}
 use Rattle.values.specs.Portion.{keyed, piece, piece_of, pieces, changed, is_taken, taken, not_taken, all_pieces, full_rows, all_left, change_portion}
 use Rattle.periods.specs.NoOverlap.{NoOverlap, Tables, SetsKeep, IsKeyed, IsKeyedIn, AreKeyed}
 use Rattle.periods.specs.Point.{outside, is_row_then, row_then, point, point_after, PortionChangesPoints}
-use Rattle.periods.proofs.Apart.{one_key, clash_turned, or_first, or_second, or_none, none_inserted, apart_kept, none_kept}
-use Rattle.periods.proofs.Full.{full, full_is, full_wide, full_apart, full_keyed, span_full, taken_full, all_taken_full, all_kept_full, all_inserted_full, found_full}
-use Rattle.periods.proofs.Columns.{span_with_span, entity_with_span, width_with_span, width_set_all}
-use Rattle.periods.proofs.Pieces as pieces
-use Rattle.periods.proofs.Pieces.{and_first, and_second, clash_is, IsPart, each_kept, each_inserted}
-use Rattle.periods.proofs.Merge.{itself}
+use Rattle.periods.proofs.NoOverlapApart.{one_key, clash_turned, or_first, or_second, or_none, none_inserted, apart_kept, none_kept}
+use Rattle.periods.proofs.NoOverlapFull.{full, full_is, full_wide, full_apart, full_keyed, span_full, taken_full, all_taken_full, all_kept_full, all_inserted_full, found_full}
+use Rattle.periods.proofs.NoOverlapColumns.{span_with_span, entity_with_span, width_with_span, width_set_all}
+use Rattle.periods.proofs.NoOverlapPieces as pieces
+use Rattle.periods.proofs.NoOverlapPieces.{and_first, and_second, clash_is, IsPart, each_kept, each_inserted}
+use Rattle.periods.proofs.NoOverlapMerge.{itself}
 
 -- ---- points of rows that are as wide as their table
 

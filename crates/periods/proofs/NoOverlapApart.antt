@@ -14,7 +14,7 @@ use Rattle.values.proofs.OrderTotal.{key_cmp_total, key_cmp-IsAntisymmetric}
 use Rattle.values.specs.Period.{Periods, span_of, overlap}
 use Rattle.values.specs.Entity.{entity_of, clash, clash_by}
 use Rattle.periods.specs.NoOverlap.{NoOverlap}
-use Rattle.periods.proofs.Spans.{overlap_turned}
+use Rattle.periods.proofs.NoOverlapSpans.{overlap_turned}
 
 tie : (o : Ordering) → is_eq o ≡ true → o ≡ Equal
 tie Less e = cc

@@ -1,0 +1,217 @@
+//! Transactions of a table with a period of application time: conflicts are by entity.
+ghost use Rattle.std.specs.Prelude.{IfOk};
+ghost use Rattle.values.specs.Tables.{IsTable};
+
+use crate::sample::nothing_staged;
+use crate::validation_tests::{begin, empty_engine};
+use staging::Net;
+use std::alloc::Global;
+use std::process::Abort;
+use steps::fit_write;
+use tsbtree::View;
+use validation::{Cut, Engine};
+use values::{
+    Chars, Column, ColumnType, Comparison, Instant, Key, Keys, Mem, Operator, Period, Refusal, Row,
+    Schema, Sequence, Span, Table, Value, Values, Write, key_bytes,
+};
+
+fn number_column(alloc: Global, name: &str) -> Mem<Column> {
+    Ok(Column {
+        name: Chars::copy_of(alloc, name)?,
+        of: ColumnType::Int,
+        not_null: true,
+    })
+}
+
+/// Tariffs by the time for which they are valid: `tariff (id, a, b, rate)`, whose key is the `id`
+/// and the period from `a` to `b`.
+fn tariffs(alloc: Global) -> Mem<Table>
+    ensures { IfOk result (IsTable 1) }
+{
+    let mut columns = Vec::new(alloc);
+    columns.push(number_column(alloc, "id")?)?;
+    columns.push(number_column(alloc, "a")?)?;
+    columns.push(number_column(alloc, "b")?)?;
+    columns.push(number_column(alloc, "rate")?)?;
+    let period = Period {
+        name: Chars::copy_of(alloc, "valid")?,
+        from: 2,
+        to: 3,
+    };
+    Ok(Table {
+        number: 1,
+        name: Chars::copy_of(alloc, "tariff")?,
+        columns: Sequence::new(columns),
+        key: Sequence::new(vec![in alloc; 1, 2]?),
+        row_start: Chars::copy_of(alloc, "s")?,
+        row_end: Chars::copy_of(alloc, "e")?,
+        period: Some(period),
+    })
+}
+
+fn schema(rt: &impl Abort, alloc: Global) -> Schema {
+    let table = tariffs(alloc).expect(rt, "there is memory");
+    Schema::new(vec![in alloc; table].expect(rt, "there is memory"))
+}
+
+fn numbers(rt: &impl Abort, alloc: Global, numbers: &[i64]) -> Vec<Value> {
+    let mut values = Vec::new(alloc);
+    for number in numbers {
+        values.push(Value::Int(*number)).expect(rt, "there is memory");
+    }
+    values
+}
+
+fn tariff(rt: &impl Abort, alloc: Global, id: i64, from: i64, to: i64) -> Vec<Row> {
+    let row = Row::new(numbers(rt, alloc, &[id, from, to, 5])).expect(rt, "four values are few");
+    vec![in alloc; row].expect(rt, "there is memory")
+}
+
+fn key(rt: &impl Abort, alloc: Global, parts: &[i64]) -> Key {
+    Key {
+        table: 1,
+        parts: Values::new(numbers(rt, alloc, parts)),
+    }
+}
+
+/// The net change of a transaction with one write.
+fn net(rt: &impl Abort, alloc: Global, view: &View, write: Write<'_>) -> Net {
+    let schema = schema(rt, alloc);
+    let write = fit_write(&schema, 1, write).expect(rt, "it fits");
+    let mut staged = nothing_staged(rt, alloc);
+    let written = staged.write(view, write).expect(rt, "it is written");
+    assert!(rt; written == 1);
+    staged.net(view).expect(rt, "there is memory")
+}
+
+/// Ends a transaction that inserts a tariff for the ten units of time from an instant on.
+fn insert(
+    rt: &impl Abort,
+    alloc: Global,
+    engine: &mut Engine,
+    view: &View,
+    id: i64,
+    from: i64,
+    reading: Instant,
+) -> Mem<Option<Instant>> {
+    let rows = tariff(rt, alloc, id, from, from.saturating_add(10));
+    let net = net(rt, alloc, view, Write::Insert(1, &rows));
+    engine.commit(&schema(rt, alloc), view.last(), net, reading)
+}
+
+/// Whether a transaction that inserts a tariff is refused, since its entity was changed at an
+/// instant.
+fn conflicts(
+    rt: &impl Abort,
+    alloc: Global,
+    engine: &mut Engine,
+    view: &View,
+    id: i64,
+    from: i64,
+    instant: Instant,
+) -> bool {
+    let conflict = Refusal::Conflict(key(rt, alloc, &[id]), instant);
+    insert(rt, alloc, engine, view, id, from, 900) == Err(conflict)
+}
+
+/// An engine with a tariff of the entity 7 from 100 on.
+fn with_one(rt: &impl Abort, alloc: Global) -> Engine {
+    let mut engine = empty_engine(rt, alloc);
+    let view = begin(rt, &engine);
+    let done = insert(rt, alloc, &mut engine, &view, 7, 0, 100);
+    assert!(rt; done == Ok(Some(100)));
+    engine
+}
+
+#[test]
+fn two_transactions_of_one_entity_conflict(rt: HostRuntime) {
+    let mut engine = with_one(&rt, rt.alloc());
+    let view = begin(&rt, &engine);
+    let done = insert(&rt, rt.alloc(), &mut engine, &view, 7, 100, 200);
+    assert!(rt; done == Ok(Some(200)));
+    assert!(rt; conflicts(&rt, rt.alloc(), &mut engine, &view, 7, 200, 200));
+    assert!(rt; engine.last() == 200);
+}
+
+#[test]
+fn transactions_of_other_entities_both_commit(rt: HostRuntime) {
+    let mut engine = with_one(&rt, rt.alloc());
+    let view = begin(&rt, &engine);
+    let done = insert(&rt, rt.alloc(), &mut engine, &view, 7, 100, 200);
+    assert!(rt; done == Ok(Some(200)));
+    let done = insert(&rt, rt.alloc(), &mut engine, &view, 8, 100, 150);
+    assert!(rt; done == Ok(Some(201)));
+}
+
+#[test]
+fn a_conflict_has_the_latest_instant_of_its_entity(rt: HostRuntime) {
+    let mut engine = with_one(&rt, rt.alloc());
+    let view = begin(&rt, &engine);
+    let later = insert(&rt, rt.alloc(), &mut engine, &view, 7, 300, 200);
+    assert!(rt; later == Ok(Some(200)));
+    let now = begin(&rt, &engine);
+    let earlier = insert(&rt, rt.alloc(), &mut engine, &now, 7, 50, 300);
+    assert!(rt; earlier == Ok(Some(300)));
+    assert!(rt; conflicts(&rt, rt.alloc(), &mut engine, &view, 7, 500, 300));
+}
+
+/// Commits a deletion of the tariff of the entity 7 from an instant on.
+fn delete(rt: &impl Abort, alloc: Global, engine: &mut Engine, from: i64, reading: Instant) {
+    let comparison = Comparison {
+        column: 2,
+        operator: Operator::Equal,
+        value: Value::Int(from),
+    };
+    let keys = Keys::of_comparison(alloc, 1, comparison).expect(rt, "there is memory");
+    let view = begin(rt, engine);
+    let net = net(rt, alloc, &view, Write::Delete(&keys));
+    let done = engine.commit(&schema(rt, alloc), view.last(), net, reading);
+    assert!(rt; done == Ok(Some(reading)));
+}
+
+/// Whether the node of the tariff of the entity 7 from an instant on is split at its key.
+fn is_split_at_key(rt: &impl Abort, alloc: Global, engine: &mut Engine, from: i64) -> bool {
+    let key = key(rt, alloc, &[7, from]);
+    let bytes = key_bytes(alloc, &key).expect(rt, "there is memory");
+    engine.split(&Cut::Key(bytes)).expect(rt, "there is memory")
+}
+
+fn is_split_at_time(rt: &impl Abort, alloc: Global, engine: &mut Engine, at: Instant) -> bool {
+    let key = key(rt, alloc, &[7, 0]);
+    let bytes = key_bytes(alloc, &key).expect(rt, "there is memory");
+    engine
+        .split(&Cut::Time(bytes, at))
+        .expect(rt, "there is memory")
+}
+
+/// An engine with tariffs of the entity 7 from 0 and from 100 on, of 100 and 200.
+fn with_two(rt: &impl Abort, alloc: Global) -> Engine {
+    let mut engine = with_one(rt, alloc);
+    let view = begin(rt, &engine);
+    let done = insert(rt, alloc, &mut engine, &view, 7, 100, 200);
+    assert!(rt; done == Ok(Some(200)));
+    engine
+}
+
+#[test]
+fn a_conflict_is_found_in_an_entity_that_was_split(rt: HostRuntime) {
+    let mut engine = with_two(&rt, rt.alloc());
+    let view = begin(&rt, &engine);
+    assert!(rt; is_split_at_key(&rt, rt.alloc(), &mut engine, 100));
+    delete(&rt, rt.alloc(), &mut engine, 0, 300);
+    assert!(rt; is_split_at_time(&rt, rt.alloc(), &mut engine, 300));
+    assert!(rt; conflicts(&rt, rt.alloc(), &mut engine, &view, 7, 500, 300));
+}
+
+fn span(from: i64, to: i64) -> Span {
+    Span { from, to }
+}
+
+#[test]
+fn spans_overlap_where_each_starts_before_the_other_ends(rt: HostRuntime) {
+    assert!(rt; span(0, 10).overlaps(span(9, 20)) && span(9, 20).overlaps(span(0, 10)));
+    assert!(rt; span(0, 10).overlaps(span(3, 4)) && span(3, 4).overlaps(span(0, 10)));
+    assert!(rt; !span(0, 10).overlaps(span(10, 20)) && !span(10, 20).overlaps(span(0, 10)));
+    assert!(rt; span(i64::MIN, i64::MAX).overlaps(span(i64::MIN, i64::MAX)));
+    assert!(rt; span(0, 1).is_proper() && !span(0, 0).is_proper() && !span(1, 0).is_proper());
+}

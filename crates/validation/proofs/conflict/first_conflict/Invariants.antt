@@ -1,0 +1,14 @@
+use Rattle.std.proofs.Common.{◌≡◌, drop}
+use Rattle.std.specs.List.{slice_get}
+use Rattle.values.specs.Commits.{conflicts}
+use Rattle.values.specs.Events.{AreKeysIn}
+use Rattle.values.specs.Log.{Changes}
+use Rattle.values.specs.Period.{periods_of}
+use Rattle.staging.specs.View.{Holds}
+use Rattle.validation.proofs.conflict.first_conflict.Given as goal
+
+abbrev pub invariant-loop-key : goal.invariant-loop-key
+invariant-loop-key l =
+    (m : Changes) → Holds l.schema l.view m → AreKeysIn l.schema l.net
+    → slice_get (conflicts (periods_of l.schema) m l.start (drop l.key-index l.net)) 0
+    ≡ slice_get (conflicts (periods_of l.schema) m l.start l.net) 0

@@ -1,0 +1,100 @@
+//! The first conflict of a transaction: by entity, of a table with a period of application time,
+//! and else by key.
+ghost use Rattle.std.specs.Prelude.{◌≡◌, IfOk};
+ghost use Rattle.std.specs.List.{slice_get};
+ghost use Rattle.std.specs.Option.{option_map};
+ghost use Rattle.values.specs.Commits.{conflicts};
+ghost use Rattle.values.specs.Events.{AreKeysIn, IsKeyIn, event_since};
+ghost use Rattle.values.specs.KeyEncoding.{IsShortKey, bytes_of_key};
+ghost use Rattle.values.specs.Log.{Changes};
+ghost use Rattle.values.specs.Memory.{OnlyMemory};
+ghost use Rattle.values.specs.Period.{periods_of};
+ghost use Rattle.tsbtree.specs.View.{events};
+ghost use Rattle.staging.specs.View.{Holds};
+ghost use Rattle.validation.specs.Conflict.{IsOfEntity, conflict_of};
+
+use searchrange::entity_range;
+use staging::Net;
+use std::alloc::Global;
+use tsbtree::View;
+use values::{Instant, Key, Mem, Schema, Table, key_bytes};
+
+/// Finds the first unit of the net changes that was changed since, with the latest instant: the
+/// entity of a key whose table has a period, and of another table the key.
+pub(crate) fn first_conflict(
+    alloc: Global,
+    schema: &Schema,
+    view: &View,
+    start: Instant,
+    net: &Net,
+) -> Mem<Option<(Key, Instant)>>
+    ensures ok { IfOk result (λ found. (m : Changes)
+        → Holds schema.now view.now m → AreKeysIn schema.now net.now
+        → found ≡ slice_get (conflicts (periods_of schema.now) m start net.now) 0) }
+    ensures err { OnlyMemory result }
+{
+    for (key, _row) in net.changes() {
+        if let Some(conflict) = conflict_of(alloc, schema, view, start, key)? {
+            return Ok(Some(conflict));
+        }
+    }
+    Ok(None)
+}
+
+/// The unit of a key, where it was changed since, with the latest instant.
+fn conflict_of(
+    alloc: Global,
+    schema: &Schema,
+    view: &View,
+    start: Instant,
+    key: &Key,
+) -> Mem<Option<(Key, Instant)>>
+    requires short { IsShortKey key.now }
+    ensures ok { IfOk result (λ found. (m : Changes)
+        → Holds schema.now view.now m → IsKeyIn schema.now key.now
+        → found ≡ conflict_of (periods_of schema.now) m start key.now) }
+    ensures err { OnlyMemory result }
+{
+    let Some(table) = schema.table_at(key.table) else {
+        return conflict_of_key(alloc, view, start, key);
+    };
+    match &table.period {
+        Some(_) => conflict_of_entity(alloc, table, view, start, key),
+        None => conflict_of_key(alloc, view, start, key),
+    }
+}
+
+fn conflict_of_key(
+    alloc: Global,
+    view: &View,
+    start: Instant,
+    key: &Key,
+) -> Mem<Option<(Key, Instant)>>
+    requires short { IsShortKey key.now }
+    ensures ok { IfOk result (λ found. found
+        ≡ option_map (λ i. (key.now, i)) (event_since (events view.now) start (bytes_of_key key.now))) }
+    ensures err { OnlyMemory result }
+{
+    let bytes = key_bytes(alloc, key)?;
+    match view.changed_since(&bytes, start) {
+        Some(instant) => Ok(Some((key.copy()?, instant))),
+        None => Ok(None),
+    }
+}
+
+fn conflict_of_entity(
+    alloc: Global,
+    table: &Table,
+    view: &View,
+    start: Instant,
+    key: &Key,
+) -> Mem<Option<(Key, Instant)>>
+    ensures ok { IfOk result (IsOfEntity table.now (events view.now) start key.now) }
+    ensures err { OnlyMemory result }
+{
+    let range = entity_range(alloc, table, key)?;
+    match view.changed_in(&range, start)? {
+        Some(instant) => Ok(Some((key.entity(alloc)?, instant))),
+        None => Ok(None),
+    }
+}
