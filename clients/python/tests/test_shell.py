@@ -24,6 +24,8 @@ class Terminal:
     def __init__(self, history, *words):
         self.process, self.ours = pty.fork()
         if self.process == 0:
+            # who runs tests in the background may have Ctrl-C ignored, and a child begins with that
+            signal.signal(signal.SIGINT, signal.default_int_handler)
             os.environ.update(TERM="dumb", TSVD_HISTORY=history, PYTHONDONTWRITEBYTECODE="1", TZ="UTC")
             os.execv(sys.executable, [sys.executable, "-m", "tsvd", "shell", *words])
         self.seen = ""
@@ -54,7 +56,9 @@ class Terminal:
 
     def interrupt(self):
         """Types Ctrl-C until it is seen: Python may be between two looks at its signals."""
-        while "^C" not in self.seen:
+        for _ in range(int(LONGEST)):
+            if "^C" in self.seen:
+                break
             self.type("\x03")
             if select.select([self.ours], [], [], 1)[0]:
                 self.seen += CONTROL.sub("", os.read(self.ours, 65536).decode("utf-8"))
