@@ -36,7 +36,10 @@ impl System {
             Ok(net) => net,
             Err(refusal) => return Reply::Refused(refusal),
         };
-        let reply = match self.engine.commit(&self.schema, transaction.start(), net, reading) {
+        let reply = match self
+            .engine
+            .commit(&self.schema, transaction.start(), net, reading)
+        {
             Ok(instant) => Reply::Committed(instant),
             Err(refusal) => Reply::Refused(refusal),
         };

@@ -357,9 +357,12 @@ module _ (tables : Tables) (periods : Periods) (table : Table) (p : Period) (is_
       }
 
       by : (b : Bool) → is_span s ≡ b → Each (IsKeyedIn tables periods) (if b then keyed table (with_span p s row) ∷ [] else [])
-      by true proper = (λ t q found_t found_q.
-          subst (λ q. IsKeyed t q (keyed table (with_span p s row))) (the_period p q (sym at ∙ found_q))
-          (subst (λ t. IsKeyed t p (keyed table (with_span p s row))) (the_table table t (sym is_table ∙ found_t)) (here proper)), tt)
+      by true proper = (
+        λ t q found_t found_q.
+            subst (λ q. IsKeyed t q (keyed table (with_span p s row))) (the_period p q (sym at ∙ found_q))
+            (subst (λ t. IsKeyed t p (keyed table (with_span p s row))) (the_table table t (sym is_table ∙ found_t)) (here proper)),
+        tt,
+      )
       by false proper = tt
 
   keyed_piece_of : (e : Key × Row) (row : Option Row) (s : Span) → IsHit e → IsNewOf e row → Each (IsKeyedIn tables periods) (piece_of table p row s)

@@ -11,8 +11,8 @@ use steps::fit_write;
 use tsbtree::View;
 use validation::{Cut, Engine};
 use values::{
-    Chars, Column, ColumnType, Comparison, Instant, Key, Keys, Mem, Operator, Period, Refusal, Row,
-    Schema, Sequence, Span, Table, Value, Values, Write, key_bytes,
+    Chars, Column, ColumnType, Comparison, Instant, Key, KeyBytes, Keys, Mem, Operator, Period,
+    Refusal, Row, Schema, Sequence, Span, Table, Value, Values, Write,
 };
 
 fn number_column(alloc: Global, name: &str) -> Mem<Column> {
@@ -57,7 +57,9 @@ fn schema(rt: &impl Abort, alloc: Global) -> Schema {
 fn numbers(rt: &impl Abort, alloc: Global, numbers: &[i64]) -> Vec<Value> {
     let mut values = Vec::new(alloc);
     for number in numbers {
-        values.push(Value::Int(*number)).expect(rt, "there is memory");
+        values
+            .push(Value::Int(*number))
+            .expect(rt, "there is memory");
     }
     values
 }
@@ -169,19 +171,24 @@ fn delete(rt: &impl Abort, alloc: Global, engine: &mut Engine, from: i64, readin
     assert!(rt; done == Ok(Some(reading)));
 }
 
-/// Whether the node of the tariff of the entity 7 from an instant on is split at its key.
-fn is_split_at_key(rt: &impl Abort, alloc: Global, engine: &mut Engine, from: i64) -> bool {
-    let key = key(rt, alloc, &[7, from]);
-    let bytes = key_bytes(alloc, &key).expect(rt, "there is memory");
-    engine.split(&Cut::Key(bytes)).expect(rt, "there is memory")
+/// The bytes of the keys of the entity 7 whose periods start at 0 and at 100.
+const KEY_AT_0: &[u8] = b"\x01\x80\x00\x00\x00\x00\x00\x00\x07\x80\x00\x00\x00\x00\x00\x00\x00";
+
+const KEY_AT_100: &[u8] = b"\x01\x80\x00\x00\x00\x00\x00\x00\x07\x80\x00\x00\x00\x00\x00\x00\x64";
+
+fn bytes(rt: &impl Abort, alloc: Global, key: &[u8]) -> KeyBytes {
+    let bytes = Vec::from_clones(alloc, key).expect(rt, "there is memory");
+    KeyBytes::new(bytes).expect(rt, "the key is short enough")
+}
+
+fn is_split_at_key(rt: &impl Abort, alloc: Global, engine: &mut Engine) -> bool {
+    let cut = Cut::Key(bytes(rt, alloc, KEY_AT_100));
+    engine.split(&cut).expect(rt, "there is memory")
 }
 
 fn is_split_at_time(rt: &impl Abort, alloc: Global, engine: &mut Engine, at: Instant) -> bool {
-    let key = key(rt, alloc, &[7, 0]);
-    let bytes = key_bytes(alloc, &key).expect(rt, "there is memory");
-    engine
-        .split(&Cut::Time(bytes, at))
-        .expect(rt, "there is memory")
+    let cut = Cut::Time(bytes(rt, alloc, KEY_AT_0), at);
+    engine.split(&cut).expect(rt, "there is memory")
 }
 
 /// An engine with tariffs of the entity 7 from 0 and from 100 on, of 100 and 200.
@@ -197,7 +204,7 @@ fn with_two(rt: &impl Abort, alloc: Global) -> Engine {
 fn a_conflict_is_found_in_an_entity_that_was_split(rt: HostRuntime) {
     let mut engine = with_two(&rt, rt.alloc());
     let view = begin(&rt, &engine);
-    assert!(rt; is_split_at_key(&rt, rt.alloc(), &mut engine, 100));
+    assert!(rt; is_split_at_key(&rt, rt.alloc(), &mut engine));
     delete(&rt, rt.alloc(), &mut engine, 0, 300);
     assert!(rt; is_split_at_time(&rt, rt.alloc(), &mut engine, 300));
     assert!(rt; conflicts(&rt, rt.alloc(), &mut engine, &view, 7, 500, 300));

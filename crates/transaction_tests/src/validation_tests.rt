@@ -77,7 +77,9 @@ fn instant_of_nothing(rt: &impl Abort, alloc: Global, engine: &mut Engine) -> Op
     let nothing = nothing_staged(rt, alloc).net(&begin(rt, engine));
     let nothing = nothing.expect(rt, "there is memory");
     let schema = schema(rt, alloc);
-    engine.commit(&schema, 0, nothing, 100).expect(rt, "it is committed")
+    engine
+        .commit(&schema, 0, nothing, 100)
+        .expect(rt, "it is committed")
 }
 
 #[test]
