@@ -14,9 +14,11 @@ use Rattle.values.specs.declared.table.Table.{Table}
 use Rattle.values.specs.declared.query.Operator.TheVariants.{Equal as Equals}
 use Rattle.values.specs.Order.{value_cmp}
 use Rattle.values.specs.OrderLaw.{value_cmp_total}
-use Rattle.values.specs.Versions.{holds, compares}
+use Rattle.values.specs.Order.{is_key}
+use Rattle.values.specs.Entity.{entity_of}
+use Rattle.values.specs.Versions.{holds, compares, matches}
 use Rattle.values.specs.Tables.{but_last, IsDistinct}
-use Rattle.periods.specs.EntityKeys.{equalities, EntityKeysAreItsKeys}
+use Rattle.periods.specs.EntityKeys.{equalities, entity_keys, EntityKeysAreItsKeys}
 
 -- ---- the place of a column
 
@@ -112,3 +114,14 @@ pub entity_keys_are_its_keys : EntityKeysAreItsKeys
 entity_keys_are_its_keys table entity key distinct few wide =
     (λ i. one_table entity.table key.table i && all_hold table key distinct table.key entity.parts key.parts [] [] refl refl refl few wide i)
     ∙ sym (and_eq (nat_cmp entity.table key.table) (slice_cmp value_cmp entity.parts (but_last key.parts)))
+
+-- a key of another table is not the entity's, and does not meet its search condition
+pub met_where_own : (table : Table) (entity key : Key) → (key.table ≡ entity.table → matches table (entity_keys table entity) key ≡ is_key entity (entity_of key)) → matches table (entity_keys table entity) key ≡ is_key entity (entity_of key)
+met_where_own table entity key own = by (key.table == entity.table) refl
+  where
+    by : (b : Bool) → (key.table == entity.table) ≡ b → matches table (entity_keys table entity) key ≡ is_key entity (entity_of key)
+    by true is = own (grind (arith, nat_tests))
+    by false is =
+        ap (λ b. b && list_all (holds table key) (equalities table.key entity.parts)) is
+        ∙ sym (and_eq (nat_cmp entity.table key.table) (slice_cmp value_cmp entity.parts (but_last key.parts))
+        ∙ ap (λ b. b && is_eq (slice_cmp value_cmp entity.parts (but_last key.parts))) (sym (one_table entity.table key.table) ∙ is))

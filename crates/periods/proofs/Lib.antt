@@ -2,8 +2,13 @@ pub mod EntityKeysMet
 pub mod NoOverlapApart
 pub mod NoOverlapColumns
 pub mod NoOverlapFull
+pub mod NoOverlapKeyed
 pub mod NoOverlapMerge
+pub mod NoOverlapNets
 pub mod NoOverlapPieces
+pub mod NoOverlapPortion
 pub mod NoOverlapSpans
+pub mod NoOverlapStatements
+pub mod NoOverlapWritten
 pub mod PointChanged
 pub mod UnitsOrder

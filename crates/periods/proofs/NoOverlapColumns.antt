@@ -40,6 +40,11 @@ value_with_span p s row column a b out =
     value_set_other (slice_set row (p.from - 1) (Int s.from)) p.to column (Int s.to) b out.from_1 out.no_end
     ∙ value_set_other row p.from column (Int s.from) a out.from_1 out.no_start
 
+pub start_with_span : (table : Table) (p : Period) (s : Span) (row : Row) → HasPeriod table p → p.from ≤ length row → value_at (with_span p s row) p.from ≡ Int s.from
+start_with_span table p s row has start_in =
+    value_set_other (slice_set row (p.from - 1) (Int s.from)) p.to p.from (Int s.to) has.end.from_1 has.start.from_1 has.differ
+    ∙ value_set_same row p.from (Int s.from) has.start.from_1 start_in
+
 pub span_with_span : (table : Table) (p : Period) (s : Span) (row : Row) → HasPeriod table p → p.from ≤ length row → p.to ≤ length row → span_of p (with_span p s row) ≡ s
 span_with_span table p s row has start_in end_in = λ i. record { from = start i; to = end i }
   where
@@ -47,15 +52,14 @@ span_with_span table p s row has start_in end_in = λ i. record { from = start i
     wide = length-set row (p.from - 1) (Int s.from)
 
     start : int_of (value_at (with_span p s row) p.from) ≡ s.from
-    start = ap int_of (value_set_other (slice_set row (p.from - 1) (Int s.from)) p.to p.from (Int s.to) has.end.from_1 has.start.from_1 has.differ
-        ∙ value_set_same row p.from (Int s.from) has.start.from_1 start_in)
+    start = ap int_of (start_with_span table p s row has start_in)
 
     end : int_of (value_at (with_span p s row) p.to) ≡ s.to
     end = ap int_of (value_set_same (slice_set row (p.from - 1) (Int s.from)) p.to (Int s.to) has.end.from_1 (subst (λ n. p.to ≤ n) (sym wide) end_in))
 
 -- ---- the entity
 
-but_last_map : {A B : Type 0} (f : A → B) (xs : List A) → but_last (map f xs) ≡ map f (but_last xs)
+pub but_last_map : {A B : Type 0} (f : A → B) (xs : List A) → but_last (map f xs) ≡ map f (but_last xs)
 but_last_map f [] = refl
 but_last_map f (x ∷ []) = refl
 but_last_map f (x ∷ y ∷ ys) = ap (λ l. f x ∷ l) (but_last_map f (y ∷ ys))

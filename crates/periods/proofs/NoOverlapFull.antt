@@ -18,9 +18,9 @@ use Rattle.values.specs.Order.{key_cmp}
 use Rattle.values.specs.Log.{State, Row}
 use Rattle.values.specs.Tables.{value_at, full_row}
 use Rattle.values.specs.Versions.{matches}
-use Rattle.values.specs.Writes.{key_of, insert_all}
+use Rattle.values.specs.Writes.{key_of, insert_all, full_rows}
 use Rattle.values.specs.Period.{Periods, int_of, span_of, is_span, overlap}
-use Rattle.values.specs.Portion.{full_rows, is_taken, taken, not_taken}
+use Rattle.values.specs.Portion.{is_taken, taken, not_taken}
 use Rattle.periods.specs.NoOverlap.{NoOverlap, Tables, IsKeyed, AreKeyed}
 use Rattle.periods.proofs.NoOverlapApart.{IsAlike, apart_changed}
 

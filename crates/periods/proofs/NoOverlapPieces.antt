@@ -16,14 +16,15 @@ use Rattle.values.specs.declared.query.Set.{Set}
 use Rattle.values.specs.Order.{key_cmp, is_key}
 use Rattle.values.specs.Log.{State, Row}
 use Rattle.values.specs.Versions.{matches}
-use Rattle.values.specs.Writes.{key_of, insert_all}
+use Rattle.values.specs.Writes.{key_of, insert_all, full_rows, keyed}
 use Rattle.values.proofs.OrderTotal.{key_cmp-IsAntisymmetric}
 use Rattle.values.specs.Period.{Periods, span_of, is_span, overlap, lies_in, common, before, behind, with_span}
 use Rattle.values.specs.Entity.{entity_of, clash, clash_by}
-use Rattle.values.specs.Portion.{keyed, piece, changed, piece_of, pieces, is_taken, taken, not_taken, all_pieces, full_rows, all_left, change_portion}
+use Rattle.values.specs.Portion.{changed, is_taken, taken, not_taken}
 use Rattle.values.specs.Tables.{HasPeriod}
 use Rattle.values.specs.Each.{Each}
 use Rattle.periods.specs.NoOverlap.{NoOverlap, Tables, IsSettable, IsKeyed, IsKeyedIn, AreKeyed}
+use Rattle.periods.proofs.NoOverlapKeyed.{piece, piece_of, pieces, all_pieces, all_left, change_portion}
 use Rattle.periods.proofs.NoOverlapSpans.{part_apart, before_in, behind_in, common_in, before_common, common_behind, before_behind}
 use Rattle.periods.proofs.NoOverlapApart.{clash_turned, or_first, or_second, or_none, none_inserted, apart_inserted, apart_kept, none_kept, any_alike}
 use Rattle.periods.proofs.NoOverlapFull.{full, full_alike, full_apart, full_keyed_in, span_full}

@@ -23,16 +23,18 @@ use Rattle.values.specs.Order.{key_cmp, is_key}
 use Rattle.values.specs.Log.{State, Row}
 use Rattle.values.specs.Tables.{value_at, full_row, but_last, HasPeriod}
 use Rattle.values.specs.Each.{Each}
-use Rattle.values.specs.Writes.{key_of, set_all, insert_all}
+use Rattle.values.specs.Writes.{key_of, set_all, insert_all, full_rows, keyed}
 use Rattle.values.specs.Period.{Periods, int_of, span_of, is_span, is_time_of, common, before, behind, with_span}
 use Rattle.values.specs.Entity.{entity_of, clash}
-use Rattle.values.specs.Portion.{keyed, piece, piece_of, pieces, changed, is_taken, taken, not_taken, all_pieces, full_rows, all_left, change_portion}
+use Rattle.values.specs.Portion.{changed, is_taken, taken, not_taken}
 use Rattle.periods.specs.NoOverlap.{NoOverlap, Tables, SetsKeep, IsKeyed, IsKeyedIn, AreKeyed}
 use Rattle.periods.specs.Point.{outside, is_row_then, row_then, point, point_after, PortionChangesPoints}
+use Rattle.periods.proofs.NoOverlapKeyed.{piece, piece_of, pieces, all_pieces, all_left, change_portion}
 use Rattle.periods.proofs.NoOverlapApart.{one_key, clash_turned, or_first, or_second, or_none, none_inserted, apart_kept, none_kept}
 use Rattle.periods.proofs.NoOverlapFull.{full, full_is, full_wide, full_apart, full_keyed, span_full, taken_full, all_taken_full, all_kept_full, all_inserted_full, found_full}
 use Rattle.periods.proofs.NoOverlapColumns.{span_with_span, entity_with_span, width_with_span, width_set_all}
 use Rattle.periods.proofs.NoOverlapPieces as pieces
+use Rattle.periods.proofs.NoOverlapPortion.{same_portion}
 use Rattle.periods.proofs.NoOverlapPieces.{and_first, and_second, clash_is, IsPart, each_kept, each_inserted}
 use Rattle.periods.proofs.NoOverlapMerge.{itself}
 
@@ -527,8 +529,13 @@ after_full table p keys cut sets time (Some e) =
 
 pub portion_changes_points : PortionChangesPoints
 portion_changes_points tables periods table p is_table at has keys cut sets m same good keep keyed_m apart entity time own =
-    sym (point_full table p (change_portion table p keys cut sets m) entity time)
+    ap (λ m. point table p m entity time) (same_portion tables periods table p is_table at has cut good sets (kept_by sets keep) keys m same keyed_m)
+    ∙ sym (point_full table p (change_portion table p keys cut sets m) entity time)
     ∙ ap (λ l. plain_point p l entity time) (change_full table p keys cut sets m)
     ∙ plain_points tables periods table p is_table at has keys cut sets (full_rows table m) same good keep (full_keyed table tables periods m keyed_m) (full_apart table periods m apart) entity time own
     ∙ ap (plain_after table p keys cut sets time) (then_full table p m entity time)
     ∙ after_full table p keys cut sets time (row_then p entity time m)
+  where
+    kept_by : (sets : Option (List Set)) → SetsKeep table p sets → pieces.Keeps table p sets
+    kept_by None k = k
+    kept_by (Some sets) k = k

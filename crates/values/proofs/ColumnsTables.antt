@@ -2,13 +2,14 @@
 use Rattle.std.proofs.Common.{◌≡◌, ℕ, ◌+◌, ◌-◌, ◌<◌, List, [], ◌∷◌, ◌++◌, ◌==◌, Bool, true, false, Option, Some, None, IfSome, length, All, refl, sym, subst, ap, ◌∙◌, arith, zero, suc, length-append, if◌then◌else◌, get_or}
 use Rattle.std.specs.Prelude.{slice_set}
 use Rattle.std.specs.List.{slice_get}
+use Rattle.std.specs.Option.{ForSome}
 use Rattle.std.proofs.lemmas.Option.{slice_get_read, slice_get_past}
 use Rattle.std.proofs.lemmas.Bool.Decides.{nat_tests}
 use Rattle.std.proofs.lemmas.List.Elements.{All-head, All-tail, All-cons, All-nil}
 use Rattle.values.specs.declared.period.Period.{Period}
 use Rattle.values.specs.declared.table.Column.{Column}
 use Rattle.values.specs.declared.table.Table.{Table}
-use Rattle.values.specs.Tables.{Schema, table_at, widest, IsColumnOf, HasPeriod, IsTable, AreTables}
+use Rattle.values.specs.Tables.{Schema, table_at, widest, column_at, IsColumnOf, HasInstants, HasPeriod, IsTable, AreTables}
 use Rattle.values.specs.Columns.{with_column, table_with, add_column}
 
 longer : (c : Column) (t : Table) → length (with_column c t).columns ≡ length t.columns + 1
@@ -22,10 +23,26 @@ columns_stay c t [] h = All-nil (IsColumnOf (with_column c t))
 columns_stay c t (n ∷ ns) h =
     All-cons (IsColumnOf (with_column c t)) n ns (column_stays c t n (All-head (IsColumnOf t) n ns h)) (columns_stay c t ns (All-tail (IsColumnOf t) n ns h))
 
+-- a column within the table is the same in one with a column more
+get_stays : (cs : List Column) (c d : Column) (i : ℕ) → i < length cs → slice_get (cs ++ c ∷ []) i ≡ Some d → slice_get cs i ≡ Some d
+get_stays [] c d i lt at = absurd (omega arith)
+get_stays (x ∷ cs) c d zero lt at = at
+get_stays (x ∷ cs) c d (suc i) lt at = get_stays cs c d i (omega arith) at
+
+instants_stay : (c : Column) (t : Table) (n : ℕ) → IsColumnOf t n → ForSome (column_at t n) HasInstants → ForSome (column_at (with_column c t) n) HasInstants
+instants_stay c t n own was d at = was d (by (n == 0) at)
+  where
+    by : (b : Bool) → ◌≡◌ {A = Option Column} (if b then None else slice_get (t.columns ++ c ∷ []) (n - 1)) (Some d)
+        → ◌≡◌ {A = Option Column} (if b then None else slice_get t.columns (n - 1)) (Some d)
+    by true at = cc
+    by false at = get_stays t.columns c d (n - 1) (omega (arith, own.from_1, own.within)) at
+
 period_stays : (c : Column) (t : Table) (p : Period) → HasPeriod t p → HasPeriod (with_column c t) p
 period_stays c t p h = record {
   start = column_stays c t p.from h.start;
   end = column_stays c t p.to h.end;
+  start_instants = instants_stay c t p.from h.start h.start_instants;
+  end_instants = instants_stay c t p.to h.end h.end_instants;
   differ = h.differ;
   entity = h.entity;
   start_last = h.start_last;

@@ -136,8 +136,8 @@ sets_fault table earlier (s ∷ sets) = elim (set_fault table earlier s) [
   | None ↦ sets_fault table (earlier ++ s ∷ []) sets
 ]
 
--- one fault, or where there is none the next
-abbrev pub first_of : Option ℕ → Option ℕ → Option ℕ
+-- one fault or refusal, or where there is none the next
+abbrev pub first_of : {A : Type 0} → Option A → Option A → Option A
 first_of (Some n) other = Some n
 first_of None other = other
 

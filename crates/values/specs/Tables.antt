@@ -1,10 +1,11 @@
 -- Tables by their numbers, and the values of their columns by theirs: both are numbered from 1.
-use Rattle.std.specs.Prelude.{◌≡◌, ◌≢◌, ℕ, ◌+◌, ◌-◌, ◌≤◌, ◌==◌, ◌||◌, List, [], ◌∷◌, ◌++◌, replicate, Bool, false, Option, Some, None, if◌then◌else◌, length, All}
+use Rattle.std.specs.Prelude.{◌≡◌, ◌≢◌, ℕ, ◌+◌, ◌-◌, ◌≤◌, ◌==◌, ◌||◌, List, [], ◌∷◌, ◌++◌, replicate, Bool, true, false, Option, Some, None, if◌then◌else◌, length, All}
 use Rattle.std.specs.List.{slice_get, list_any}
 use Rattle.std.specs.Option.{unwrap_or, ForSome}
 use Rattle.values.specs.declared.value.Value.{Value}
 use Rattle.values.specs.declared.value.Value.TheVariants.{Null}
 use Rattle.values.specs.declared.period.Period.{Period}
+use Rattle.values.specs.declared.table.ColumnType.TheVariants.{Int as IsInt}
 use Rattle.values.specs.declared.table.Column.{Column}
 use Rattle.values.specs.declared.table.Table.{Table}
 
@@ -82,18 +83,25 @@ pub record IsOutside (p : Period) (column : ℕ) : Type 0 where
   pub no_start : column ≢ p.from
   pub no_end : column ≢ p.to
 
+-- a column of whole numbers, which are never NULL
+pub record HasInstants (column : Column) : Type 0 where
+  pub whole : column.of ≡ IsInt
+  pub never_null : column.not_null ≡ true
+
 -- the table has the period of application time: two of its columns, of which the start is the last
 -- of the key's, and the end none of them
 pub record HasPeriod (table : Table) (p : Period) : Type 0 where
   pub start : IsColumnOf table p.from
   pub end : IsColumnOf table p.to
+  pub start_instants : ForSome (column_at table p.from) HasInstants
+  pub end_instants : ForSome (column_at table p.to) HasInstants
   pub differ : p.from ≢ p.to
   pub entity : All (IsOutside p) (but_last table.key)
   pub start_last : table.key ≡ but_last table.key ++ p.from ∷ []
   pub distinct : IsDistinct table.key
 
--- the table has the number, at most 16, 1 to 16 columns, and at most four key columns, which are among
--- them; so are those of its period, if it has one
+-- the table has the number, at most 16, 1 to 16 columns, and at most four key columns, which are
+-- among them; so are those of its period, if it has one
 pub record IsTable (number : ℕ) (table : Table) : Type 0 where
   pub numbered : table.number ≡ number
   pub small : number ≤ most_tables

@@ -3,16 +3,20 @@ use Rattle.std.specs.Prelude.{ℕ, List, [], ◌∷◌, ◌++◌, ◌||◌, Opti
 use Rattle.std.specs.BTreeMap.{insert_entry}
 use Rattle.std.specs.BTreeSet.{insert_key}
 use Rattle.std.specs.List.{list_any}
+use Rattle.std.specs.Option.{option_map}
 use Rattle.values.specs.declared.key.Key.{Key}
+use Rattle.values.specs.declared.period.Period.{Period}
 use Rattle.values.specs.declared.table.Table.{Table}
 use Rattle.values.specs.declared.query.Keys.{Keys}
 use Rattle.values.specs.declared.query.Set.{Set}
 use Rattle.values.specs.declared.refusal.Refusal.{Refusal}
-use Rattle.values.specs.declared.refusal.Refusal.TheVariants.{DuplicateKey, TooManyWrites}
+use Rattle.values.specs.declared.refusal.Refusal.TheVariants.{DuplicateKey, Overlap, TooManyWrites}
 use Rattle.values.specs.Order.{key_cmp, is_key}
 use Rattle.values.specs.Log.{State, Net, Row, row_at}
 use Rattle.values.specs.Tables.{value_at, full_row}
+use Rattle.values.specs.Fit.{first_of}
 use Rattle.values.specs.Versions.{matches}
+use Rattle.values.specs.Entity.{clash_by}
 
 -- the keys that a transaction may write
 abbrev pub most_written : ℕ
@@ -20,6 +24,14 @@ most_written = 1000
 
 abbrev pub key_of : Table → Row → Key
 key_of table row = record { table = table.number; parts = map (value_at row) table.key }
+
+-- rows with a value for each column of their table
+abbrev pub full_rows : Table → State → State
+full_rows table m = map (λ e. (e.0, full_row table e.1)) m
+
+-- a row with its key, in its table
+abbrev pub keyed : Table → Row → Key × Row
+keyed table row = (key_of table row, row)
 
 abbrev pub insert_rows : Table → List Row → State → State
 insert_rows table [] m = m
@@ -36,6 +48,16 @@ duplicate_from m earlier (k ∷ ks) =
 -- the key of the first row whose key m has, or an earlier row has
 abbrev pub duplicate : Table → List Row → State → Option Key
 duplicate table rows m = duplicate_from m [] (map (key_of table) rows)
+
+-- the key of the first of the rows that overlaps one that is there, or an earlier one
+abbrev pub overlap_from : Option Period → State → State → Option Key
+overlap_from p m [] = None
+overlap_from p m (e ∷ es) =
+    if list_any (clash_by p e) m then Some e.0 else overlap_from p (m ++ e ∷ []) es
+
+-- in a table without a period none does
+abbrev pub overlapping : Table → List Row → State → Option Key
+overlapping table rows m = overlap_from table.period m (map (keyed table) rows)
 
 abbrev pub set_all : List Set → Row → Row
 set_all [] row = row
@@ -85,9 +107,15 @@ write_keys keys count rows o =
     if nat_lt most_written (length written) then (Err TooManyWrites, o)
     else (Ok count, record { rows = rows; written = written })
 
+-- why an INSERT is refused: a duplicate of any row comes before an overlap of any
+abbrev pub insert_refusal : Table → List Row → State → Option Refusal
+insert_refusal table rows m =
+    first_of (option_map DuplicateKey (duplicate table rows m))
+    (option_map Overlap (overlapping table rows m))
+
 abbrev pub insert_into : Table → List Row → Own → Written
-insert_into table rows o = elim (duplicate table rows o.rows) [
-  | Some key ↦ (Err (DuplicateKey key), o)
+insert_into table rows o = elim (insert_refusal table rows o.rows) [
+  | Some refusal ↦ (Err refusal, o)
   | None ↦ write_keys (map (key_of table) rows) (length rows) (insert_rows table rows o.rows) o
 ]
 

@@ -1,6 +1,8 @@
 //! Keys, points, and what was committed at an instant.
 ghost use Rattle.std.specs.Prelude.{◌≡◌, IfOk};
 ghost use Rattle.values.specs.Entity.{entity_of};
+ghost use Rattle.values.specs.Order.{is_key};
+ghost use Rattle.values.specs.Portion.{with_start};
 ghost use Rattle.values.specs.Tables.{but_last};
 ghost use Rattle.values.specs.Memory.{OnlyMemory};
 
@@ -44,6 +46,27 @@ impl Key {
             table: self.table,
             parts: Values::new(parts),
         })
+    }
+
+    /// Returns the key of the same entity whose period starts then: its last part is the start.
+    pub fn with_start(&self, alloc: Global, start: i64) -> Mem<Key>
+        ensures ok { IfOk result (λ k. k ≡ with_start self.now start) }
+        ensures err { OnlyMemory result }
+    {
+        let mut parts = Vec::from_clones(alloc, but_last(self.parts.items()))?;
+        parts.push(Value::Int(start))?;
+        Ok(Key {
+            table: self.table,
+            parts: Values::new(parts),
+        })
+    }
+
+    /// Tells whether two keys are of one entity: they are the same but for their last parts.
+    pub fn is_of_entity(&self, other: &Key) -> bool
+        ensures { result ≡ is_key (entity_of self.now) (entity_of other.now) }
+    {
+        let parts = but_last(self.parts.items()).cmp(but_last(other.parts.items()));
+        self.table.cmp(&other.table).then(parts).is_eq()
     }
 }
 

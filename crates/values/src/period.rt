@@ -1,7 +1,8 @@
 //! Periods of application time, and the spans of time that rows have by them.
 ghost use Rattle.std.specs.Prelude.{◌≡◌};
+ghost use Rattle.std.specs.List.{list_any};
 ghost use Rattle.values.specs.Tables.{value_at};
-ghost use Rattle.values.specs.Period.{int_of, span_of, is_span, overlap};
+ghost use Rattle.values.specs.Period.{int_of, span_of, is_span, overlap, before, common, behind};
 
 use crate::chars::Chars;
 use crate::query::ColumnNumber;
@@ -75,5 +76,47 @@ impl Span {
         ensures { result ≡ overlap self other }
     {
         self.from < other.to && other.from < self.to
+    }
+
+    /// Tells whether one of some spans overlaps this one.
+    pub fn overlaps_any(self, others: &[Span]) -> bool
+        ensures { result ≡ list_any (overlap self) others.now }
+    {
+        for other in others {
+            if self.overlaps(*other) {
+                return true;
+            }
+        }
+        false
+    }
+
+    /// Returns what lies before another span, which has its start in this one.
+    pub fn before(self, other: Span) -> Span
+        ensures { result ≡ before self other }
+    {
+        Span {
+            from: self.from,
+            to: other.from,
+        }
+    }
+
+    /// Returns what both spans have.
+    pub fn common(self, other: Span) -> Span
+        ensures { result ≡ common self other }
+    {
+        Span {
+            from: self.from.max(other.from),
+            to: self.to.min(other.to),
+        }
+    }
+
+    /// Returns what lies behind another span, which has its end in this one.
+    pub fn behind(self, other: Span) -> Span
+        ensures { result ≡ behind self other }
+    {
+        Span {
+            from: other.to,
+            to: self.to,
+        }
     }
 }

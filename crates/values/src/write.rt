@@ -2,6 +2,7 @@
 ghost use Rattle.std.specs.Prelude.{◌≡◌};
 ghost use Rattle.values.specs.Write.{table_of};
 
+use crate::period::Span;
 use crate::query::{Keys, Set};
 use crate::row::Row;
 
@@ -14,6 +15,12 @@ pub enum Write<'a> {
     Update(&'a Keys, &'a [Set]),
     /// Deletes the rows whose keys meet all comparisons.
     Delete(&'a Keys),
+    /// Sets columns, for a span of time, of the rows whose keys meet all comparisons and whose
+    /// periods overlap it; before and behind the span they stay as they are.
+    UpdatePortion(&'a Keys, Span, &'a [Set]),
+    /// Deletes, for a span of time, the rows whose keys meet all comparisons and whose periods
+    /// overlap it.
+    DeletePortion(&'a Keys, Span),
 }
 
 impl Write<'_> {
@@ -25,6 +32,8 @@ impl Write<'_> {
             Write::Insert(table, _) => *table,
             Write::Update(keys, _) => keys.table,
             Write::Delete(keys) => keys.table,
+            Write::UpdatePortion(keys, _, _) => keys.table,
+            Write::DeletePortion(keys, _) => keys.table,
         }
     }
 }
