@@ -2,11 +2,7 @@
 use Rattle.std.proofs.Common.{◌≡◌, ℕ, ◌<◌, ◌≤◌, zero, suc, List, [], ◌∷◌, ◌++◌, refl, ap, ◌∙◌, arith, length, take, get_or}
 use Rattle.values.specs.declared.value.Value.{Value}
 use Rattle.values.specs.declared.query.Operator.TheVariants.{Equal as Equals}
-use Rattle.values.specs.declared.query.Comparison.{Comparison}
 use Rattle.periods.specs.EntityKeys.{equalities}
-
-equal_to : ℕ → Value → Comparison
-equal_to n v = record { column = n; operator = Equals; value = v }
 
 -- with one column more, that has a value
 pub one_more : (ns : List ℕ) (vs : List Value) (i n : ℕ) (v : Value) → i < length ns → i < length vs → n ≡ get_or ns i n → v ≡ get_or vs i v

@@ -265,36 +265,41 @@ values_stored (n ∷ ns) [] all = All-nil (λ (c : Comparison). IsStorable c.val
 values_stored (n ∷ ns) (v ∷ vs) all =
     All-cons (λ (c : Comparison). IsStorable c.value) (record { column = n; operator = Equals; value = v }) (equalities ns vs) (All-head IsStorable v vs all) (values_stored ns vs (All-tail IsStorable v vs all))
 
+-- the search condition of an entity fits its table
+pub condition_fits : (table : Table) (key : Key) → IsKeyOf table key → comparisons_fault table (equalities table.key (but_last key.parts)) ≡ None
+condition_fits table key own = all_good table table.key key.parts (fit table key.parts own.fits) (own_columns table table.key [] refl)
+
+some_parts : (table : Table) (p : Period) (key : Key) → HasPeriod table p → IsKeyOf table key → 1 ≤ length key.parts
+some_parts table p key has own = subst (λ n. 1 ≤ n) (sym (wide table key.parts own.fits)) keyed
+  where
+    one_at_least : (a : ℕ) → 1 ≤ a + 1
+    one_at_least a = omega arith
+
+    keyed : 1 ≤ length table.key
+    keyed = subst (λ n. 1 ≤ n) (sym (ap length has.start_last ∙ length-append (but_last table.key) (p.from ∷ []))) (one_at_least (length (but_last table.key)))
+
+-- an entity has one part fewer than its table's key has columns
+pub entity_width : (table : Table) (p : Period) (key : Key) → HasPeriod table p → IsKeyOf table key → length (but_last key.parts) + 1 ≡ length table.key
+entity_width table p key has own = but_last_length key.parts (some_parts table p key has own) ∙ wide table key.parts own.fits
+
 pub is_range_of : (table : Table) (p : Period) (key : Key) → table.number < 256 → IsTable table.number table → HasPeriod table p → IsKeyOf table key → IsRangeOf table (entity_of key) (search_range table (entity_keys table (entity_of key)))
 is_range_of table p key small is_table has own other other_own =
     alike (is_key_in (search_range table keys) (bytes_of_key other)) (matches table keys other)
     (is_exact table keys small is_table own.own good stored narrowing other other_own)
     (covers table keys small good stored other other_own)
-    ∙ entity_keys_are_its_keys table (entity_of key) other has.distinct (but_last_length key.parts some ∙ width) (wide table other.parts other_own.fits)
+    ∙ entity_keys_are_its_keys table (entity_of key) other has.distinct (entity_width table p key has own) (wide table other.parts other_own.fits)
   where
     keys : Keys
     keys = entity_keys table (entity_of key)
 
-    width : length key.parts ≡ length table.key
-    width = wide table key.parts own.fits
-
-    keyed : 1 ≤ length table.key
-    keyed = subst (λ n. 1 ≤ n) (sym (ap length has.start_last ∙ length-append (but_last table.key) (p.from ∷ []))) (one_at_least (length (but_last table.key)))
-      where
-        one_at_least : (a : ℕ) → 1 ≤ a + 1
-        one_at_least a = omega arith
-
-    some : 1 ≤ length key.parts
-    some = subst (λ n. 1 ≤ n) (sym width) keyed
-
     short : length (but_last key.parts) ≤ length table.key
-    short = by (length (but_last key.parts)) (length key.parts) (length table.key) (but_last_length key.parts some) width
+    short = by (length (but_last key.parts)) (length table.key) (entity_width table p key has own)
       where
-        by : (a b c : ℕ) → a + 1 ≡ b → b ≡ c → a ≤ c
-        by a b c e f = omega arith
+        by : (a b : ℕ) → a + 1 ≡ b → a ≤ b
+        by a b e = omega arith
 
     good : comparisons_fault table (equalities table.key (but_last key.parts)) ≡ None
-    good = all_good table table.key key.parts (fit table key.parts own.fits) (own_columns table table.key [] refl)
+    good = condition_fits table key own
 
     stored : All (λ (c : Comparison). IsStorable c.value) (equalities table.key (but_last key.parts))
     stored = values_stored table.key (but_last key.parts) (all_but_last key.parts (all_storable key.parts own.held))

@@ -1,6 +1,8 @@
 //! The keys of an entity.
-ghost use Rattle.std.specs.Prelude.{◌≡◌, IfOk};
+ghost use Rattle.std.specs.Prelude.{◌≡◌, IfOk, None};
 ghost use Rattle.values.specs.Entity.{entity_of};
+ghost use Rattle.values.specs.Fit.{comparisons_fault};
+ghost use Rattle.values.specs.KeyReading.{IsKeyOf};
 ghost use Rattle.values.specs.Memory.{OnlyMemory};
 ghost use Rattle.periods.specs.EntityKeys.{entity_keys, equalities};
 ghost use Rattle.searchrange.specs.Entity.{IsEntityRange};
@@ -23,9 +25,13 @@ pub fn entity_range(alloc: Global, table: &Table, key: &Key) -> Mem<KeyRange>
     range_of_keys(alloc, table, &keys)
 }
 
-/// The search condition that the keys of a key's entity meet.
-fn entity_keys(alloc: Global, table: &Table, key: &Key) -> Mem<Keys>
+/// Returns the search condition that the keys of a key's entity meet, and no others of its table:
+/// each column of the entity is equal to its value. The condition of a key that fits the table fits
+/// it too.
+pub fn entity_keys(alloc: Global, table: &Table, key: &Key) -> Mem<Keys>
     ensures ok { IfOk result (λ keys. keys ≡ entity_keys table.now (entity_of key.now)) }
+    ensures fits { IfOk result (λ keys. IsKeyOf table.now key.now
+        → comparisons_fault table.now keys.comparisons ≡ None) }
     ensures err { OnlyMemory result }
 {
     let entity = key.entity(alloc)?;

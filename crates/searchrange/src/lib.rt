@@ -7,6 +7,6 @@ mod prefix;
 mod search;
 mod table_range;
 
-pub use entity::entity_range;
+pub use entity::{entity_keys, entity_range};
 pub use search::Search;
 pub use table_range::range_of_table;
