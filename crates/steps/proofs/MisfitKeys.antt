@@ -7,7 +7,8 @@ use Rattle.values.specs.declared.refusal.Refusal.{Refusal}
 use Rattle.values.specs.declared.refusal.Refusal.TheVariants.{NoTable}
 use Rattle.values.specs.Tables.{Schema, table_at}
 use Rattle.values.specs.Fit.{key_fault, IsKeyIn}
-use Rattle.steps.specs.Misfit.{bad_row, key_misfit}
+use Rattle.values.specs.Faults.{bad_row}
+use Rattle.steps.specs.Misfit.{key_misfit}
 
 -- a row that is not refused has no column at fault
 pub no_fault : (fault : Option ℕ) → bad_row fault ≡ None → fault ≡ None

@@ -5,7 +5,7 @@ use Rattle.values.specs.declared.refusal.Refusal.TheVariants.{Memory}
 use Rattle.values.specs.Tables.{Schema}
 use Rattle.values.specs.Writes.{Own}
 use Rattle.steps.specs.declared.step.Step.{Step}
-use Rattle.steps.specs.declared.step.Step.TheVariants.{Begin, Insert, Update, Delete, Select, Commit, Rollback, AddColumn, SplitKey, SplitTime, Migrate}
+use Rattle.steps.specs.declared.step.Step.TheVariants.{Begin, Insert, Update, Delete, UpdatePortion, DeletePortion, Select, Commit, Rollback, AddColumn, SplitKey, SplitTime, Migrate}
 use Rattle.steps.specs.declared.step.Reply.{Reply}
 use Rattle.steps.specs.declared.step.Reply.TheVariants.{Inserted, Updated, Deleted, Committed, Done, Refused}
 use Rattle.steps.specs.Idle.{is_idle}
@@ -16,6 +16,8 @@ abbrev pub write_count : Step → ℕ → Reply
 write_count (Insert i number rows) count = Inserted count
 write_count (Update i keys sets) count = Updated count
 write_count (Delete i keys) count = Deleted count
+write_count (UpdatePortion i keys cut sets) count = Updated count
+write_count (DeletePortion i keys cut) count = Deleted count
 write_count step count = Done
 
 abbrev pub written_reply : Step → Result ℕ Refusal → Reply
@@ -52,6 +54,8 @@ takes_no_memory_by has_open (Begin i) = has_open i
 takes_no_memory_by has_open (Insert i number rows) = not (has_open i)
 takes_no_memory_by has_open (Update i keys sets) = not (has_open i)
 takes_no_memory_by has_open (Delete i keys) = not (has_open i)
+takes_no_memory_by has_open (UpdatePortion i keys cut sets) = not (has_open i)
+takes_no_memory_by has_open (DeletePortion i keys cut) = not (has_open i)
 takes_no_memory_by has_open (Select i form keys) = false
 takes_no_memory_by has_open (Commit i reading) = not (has_open i)
 takes_no_memory_by has_open (Rollback i) = true

@@ -3,22 +3,27 @@ use Rattle.std.specs.Prelude.{ℕ, Option, Some, None, Bool, false, Ok, Err, ◌
 use Rattle.values.specs.declared.table.Table.{Table}
 use Rattle.values.specs.declared.refusal.Refusal.TheVariants.{NoTable}
 use Rattle.values.specs.declared.write.Write.{Write}
-use Rattle.values.specs.declared.write.Write.TheVariants.{Insert as Inserts, Update as Updates, Delete as Deletes}
+use Rattle.values.specs.declared.write.Write.TheVariants.{Insert as Inserts, Update as Updates, Delete as Deletes, UpdatePortion as UpdatesPortion, DeletePortion as DeletesPortion}
 use Rattle.values.specs.Tables.{Schema, table_at}
 use Rattle.values.specs.Writes.{Own, Written, insert_into, update_in, delete_from}
+use Rattle.values.specs.Portion.{portion_in}
 use Rattle.steps.specs.declared.step.Step.{Step}
-use Rattle.steps.specs.declared.step.Step.TheVariants.{Insert, Update, Delete}
+use Rattle.steps.specs.declared.step.Step.TheVariants.{Insert, Update, Delete, UpdatePortion, DeletePortion}
 
 abbrev pub step_of : ℕ → Write → Step
 step_of i (Inserts table rows) = Insert i table rows.now
 step_of i (Updates keys sets) = Update i keys.now sets.now
 step_of i (Deletes keys) = Delete i keys.now
+step_of i (UpdatesPortion keys cut sets) = UpdatePortion i keys.now cut sets.now
+step_of i (DeletesPortion keys cut) = DeletePortion i keys.now cut
 
 -- the session that writes
 abbrev pub writer : Step → Option ℕ
 writer (Insert i number rows) = Some i
 writer (Update i keys sets) = Some i
 writer (Delete i keys) = Some i
+writer (UpdatePortion i keys cut sets) = Some i
+writer (DeletePortion i keys cut) = Some i
 writer step = None
 
 abbrev pub is_write_of : ℕ → Step → Bool
@@ -39,4 +44,8 @@ write schema (Update i keys sets) o =
     write_table schema keys.table (λ table. update_in table keys sets) o
 write schema (Delete i keys) o =
     write_table schema keys.table (λ table. delete_from table keys) o
+write schema (UpdatePortion i keys cut sets) o =
+    write_table schema keys.table (λ table. portion_in table keys cut (Some sets)) o
+write schema (DeletePortion i keys cut) o =
+    write_table schema keys.table (λ table. portion_in table keys cut None) o
 write schema step o = (Ok 0, o)

@@ -2,9 +2,10 @@
 ghost use Rattle.std.specs.Prelude.{◌≡◌, ◌≢◌, ℕ, Option, IfOk, IfErr, IfSome, None, Some};
 ghost use Rattle.values.specs.declared.table.Table.{Table};
 ghost use Rattle.values.specs.Columns.{addition_fault};
+ghost use Rattle.values.specs.Faults.{bad_row};
 ghost use Rattle.values.specs.Tables.{table_at, IsTable};
 ghost use Rattle.values.specs.Write.{table_of};
-ghost use Rattle.steps.specs.Misfit.{misfit, misfit_of, key_misfit, no_session, keys_fault};
+ghost use Rattle.steps.specs.Misfit.{misfit, misfit_of, key_misfit, no_session, keys_refusal};
 ghost use Rattle.steps.specs.Write.{step_of};
 
 use crate::step::{MAX_SESSION, Step};
@@ -12,7 +13,8 @@ use values::{ColumnType, FittingKeys, FittingWrite, Key, Keys, Refusal, Schema, 
 
 impl Step {
     /// Returns why a step does not fit the schema: its session's number, then its table, then the
-    /// first column at fault. It is never that memory ran out.
+    /// first column at fault, then a period or a portion that has no start below its end. It is never
+    /// that memory ran out.
     pub fn misfit(&self, schema: &Schema) -> Option<Refusal>
         ensures why { result ≡ misfit schema.now self.now }
         ensures memory { IfSome result (λ refusal. refusal ≢ Refusal.Memory) }
@@ -28,6 +30,16 @@ impl Step {
                 write_misfit(schema, *session, Write::Update(keys, sets.items()))
             }
             Step::Delete(session, keys) => write_misfit(schema, *session, Write::Delete(keys)),
+            Step::UpdatePortion(session, keys, span, sets) => {
+                write_misfit(
+                    schema,
+                    *session,
+                    Write::UpdatePortion(keys, *span, sets.items()),
+                )
+            }
+            Step::DeletePortion(session, keys, span) => {
+                write_misfit(schema, *session, Write::DeletePortion(keys, *span))
+            }
             Step::Select(session, _, keys) => keys_misfit(schema, *session, keys),
             Step::AddColumn(session, table, name, of) => {
                 column_misfit(schema, *session, *table, name.text().as_bytes(), *of)
@@ -51,7 +63,7 @@ pub fn no_session(session: u8) -> Option<Refusal>
 }
 
 /// Checks what a session writes: its number, then the table, then the first column at fault, rows
-/// in their order and new values before comparisons.
+/// in their order and new values before comparisons, then its spans of application time.
 pub fn fit_write<'a>(
     schema: &'a Schema,
     session: u8,
@@ -80,9 +92,9 @@ pub fn fit_keys<'a>(
     ensures table { IfOk result (λ f. table_at schema.now keys.now.table ≡ Some f.table.now) }
     ensures keys { IfOk result (λ f. f.keys.now ≡ keys.now) }
     ensures fits { IfOk result (λ _.
-        misfit_of schema.now session keys.now.table (keys_fault keys.now) ≡ None) }
+        misfit_of schema.now session keys.now.table (keys_refusal keys.now) ≡ None) }
     ensures refused { IfErr result (λ e.
-        misfit_of schema.now session keys.now.table (keys_fault keys.now) ≡ Some e) }
+        misfit_of schema.now session keys.now.table (keys_refusal keys.now) ≡ Some e) }
     ensures memory { IfErr result (λ e. e ≢ Refusal.Memory) }
 {
     match session_table(schema, session, keys.table) {
@@ -110,7 +122,7 @@ fn column_misfit(
     name: &[u8],
     of: ColumnType,
 ) -> Option<Refusal>
-    ensures why { result ≡ misfit_of schema.now session table (λ t. addition_fault name.now of t) }
+    ensures why { result ≡ misfit_of schema.now session table (λ t. bad_row (addition_fault name.now of t)) }
     ensures memory { IfSome result (λ refusal. refusal ≢ Refusal.Memory) }
 {
     match session_table(schema, session, table) {
@@ -130,7 +142,7 @@ fn write_misfit(schema: &Schema, session: u8, write: Write<'_>) -> Option<Refusa
 }
 
 fn keys_misfit(schema: &Schema, session: u8, keys: &Keys) -> Option<Refusal>
-    ensures why { result ≡ misfit_of schema.now session keys.now.table (keys_fault keys.now) }
+    ensures why { result ≡ misfit_of schema.now session keys.now.table (keys_refusal keys.now) }
     ensures memory { IfSome result (λ refusal. refusal ≢ Refusal.Memory) }
 {
     match fit_keys(schema, session, keys) {
@@ -144,8 +156,8 @@ fn session_table(schema: &Schema, session: u8, number: u8) -> Result<&Table, Ref
     ensures session { IfOk result (λ t. no_session session ≡ None) }
     ensures found { IfOk result (λ t. table_at schema.now number ≡ Some t.now) }
     ensures good { IfOk result (λ t. IsTable number t.now) }
-    ensures refused { IfErr result (λ e. (fault : Table → Option ℕ) →
-        misfit_of schema.now session number fault ≡ Some e) }
+    ensures refused { IfErr result (λ e. (refusal : Table → Option Refusal) →
+        misfit_of schema.now session number refusal ≡ Some e) }
     ensures memory { IfErr result (λ e. e ≢ Refusal.Memory) }
 {
     if let Some(refusal) = no_session(session) {

@@ -3,12 +3,14 @@ ghost use Rattle.std.specs.Prelude.{◌≡◌, ℕ};
 ghost use Rattle.steps.specs.Reply.{write_count};
 ghost use Rattle.steps.specs.Write.{step_of};
 
-use values::{Chars, ColumnType, Form, Instant, Key, Keys, Refusal, Rows, Sets, ShownRows, Write};
+use values::{
+    Chars, ColumnType, Form, Instant, Key, Keys, Refusal, Rows, Sets, ShownRows, Span, Write,
+};
 
 /// The highest session number; 0 is the service's own.
 pub const MAX_SESSION: u8 = 64;
 
-/// What a session or the service asks. The first eight name their session, a number from 0 to
+/// What a session or the service asks. The first ten name their session, a number from 0 to
 /// `MAX_SESSION`.
 #[derive(Drop)]
 pub enum Step {
@@ -17,6 +19,10 @@ pub enum Step {
     Insert(u8, u8, Rows),
     Update(u8, Keys, Sets),
     Delete(u8, Keys),
+    /// Sets columns for a span of application time.
+    UpdatePortion(u8, Keys, Span, Sets),
+    /// Deletes for a span of application time.
+    DeletePortion(u8, Keys, Span),
     Select(u8, Form, Keys),
     /// The commit's reading of the clock.
     Commit(u8, Instant),
@@ -63,6 +69,8 @@ impl Reply {
             Write::Insert(_, _) => Reply::Inserted(count),
             Write::Update(_, _) => Reply::Updated(count),
             Write::Delete(_) => Reply::Deleted(count),
+            Write::UpdatePortion(_, _, _) => Reply::Updated(count),
+            Write::DeletePortion(_, _) => Reply::Deleted(count),
         }
     }
 }
