@@ -59,6 +59,10 @@ pub period_no_name : (name bytes after : List ℕ) → Name name bytes after →
 unfolding reserved_words
 period_no_name = word_no_name (take 30 reserved_words) (drop 31 reserved_words) (codes "PERIOD") refl
 
+pub system_time_no_name : (name bytes after : List ℕ) → Name name bytes after → is_word_at (codes "SYSTEM_TIME") bytes ≡ false
+unfolding reserved_words
+system_time_no_name = word_no_name (take 40 reserved_words) (drop 41 reserved_words) (codes "SYSTEM_TIME") refl
+
 pub primary_no_name : (name bytes after : List ℕ) → Name name bytes after → is_word_at (codes "PRIMARY") bytes ≡ false
 unfolding reserved_words
 primary_no_name = word_no_name (take 32 reserved_words) (drop 33 reserved_words) (codes "PRIMARY") refl

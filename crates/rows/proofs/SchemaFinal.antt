@@ -1,6 +1,6 @@
 -- With the token at a fault of syntax no bytes make a schema: the readers of two schemas that are the same up to a token and in it.
 use Rattle.std.proofs.Common.{◌≡◌, ◌≤◌, ◌<◌, ◌-◌, ℕ, suc, zero, Bool, true, false, List, [], ◌∷◌, ◌++◌, ◌⊎◌, inl, inr, Some, None, Ok, Err, length, refl, ap, sym, ◌∙◌, subst, arith, if◌then◌else◌}
-use Rattle.std.specs.Prelude.{Result, codes, not}
+use Rattle.std.specs.Prelude.{Result, codes, not, nat_le}
 use Rattle.std.proofs.lemmas.List.{length-append}
 use Rattle.values.specs.Tables.{Schema}
 use Rattle.values.specs.declared.table.ColumnType.TheVariants.{Int, Text, Varchar, Boolean}
@@ -11,12 +11,11 @@ use Rattle.tokens.proofs.TokenSame.{token_agrees, good_by, same_by, good_peek, g
 use Rattle.rows.specs.declared.declaration.Mark.{Mark}
 use Rattle.rows.specs.declared.declaration.Mark.TheVariants.{NotNull, PrimaryKey}
 use Rattle.rows.specs.declared.declaration.Side.TheVariants.{Start, End}
-use Rattle.rows.specs.declared.declaration.Entry.TheVariants.{Key}
 use Rattle.rows.specs.declared.declaration.Declaration.{Declaration}
 use Rattle.rows.specs.declared.schema_reading.SchemaFault.{SchemaFault}
 use Rattle.rows.specs.declared.schema_reading.SchemaFault.TheVariants.{Syntax}
 use Rattle.rows.specs.SchemaToken.{symbol_at, is_word_at, after_word, word_at, name_at}
-use Rattle.rows.specs.Declaration.{prepend, list_at, names_at, size_at, is_whole_number_at, varchar_at, type_at, not_null_at, primary_key_at, mark_at, is_mark_at, marks_upto, marks_at, user_at, precision_at, maybe_not_null_at, side_at, row_side_at, generated_at, two_names_at, period_at, key_at, column_at, entry_at, entries_at, body_at, versioning_at, create_at, is_end_at, more_at, creates_upto, creates_at}
+use Rattle.rows.specs.Declaration.{prepend, list_at, names_at, size_at, is_whole_number_at, varchar_at, type_at, not_null_at, primary_key_at, mark_at, is_mark_at, marks_upto, marks_at, user_at, precision_at, maybe_not_null_at, side_at, row_side_at, generated_at, two_names_at, system_period_at, application_period_at, period_at, without_overlaps_at, overlaps_at, key_at, column_at, entry_at, entries_at, body_at, versioning_at, create_at, is_end_at, more_at, creates_upto, creates_at}
 use Rattle.rows.specs.SchemaTable.{read_schema}
 use Rattle.rows.specs.SchemaGrammarLaw.{FaultsAreFinal}
 use Rattle.rows.proofs.SchemaSpelled.{symbol_says}
@@ -197,9 +196,28 @@ module _ (first : ℕ) (rest other : List ℕ) (t : Tokens first rest other) whe
       after (symbol_at 44) _ (symbol 44)
       (reads name_at _ named (λ end. closed _))))
 
+  system_period : Fine system_period_at
+  unfolding system_period_at
+  system_period = after (word_at (codes "SYSTEM_TIME")) _ (word (codes "SYSTEM_TIME")) (reads two_names_at _ two_names (λ columns. ok _))
+
+  application_period : Fine application_period_at
+  unfolding application_period_at
+  application_period = reads name_at _ named (λ name. reads two_names_at _ two_names (λ columns. ok _))
+
   period : Fine period_at
   unfolding period_at
-  period = after (word_at (codes "PERIOD")) _ (word (codes "PERIOD")) (after (word_at (codes "FOR")) _ (word (codes "FOR")) (after (word_at (codes "SYSTEM_TIME")) two_names_at (word (codes "SYSTEM_TIME")) two_names))
+  period =
+      after (word_at (codes "PERIOD")) _ (word (codes "PERIOD"))
+      (after (word_at (codes "FOR")) _ (word (codes "FOR")) (by_word (codes "SYSTEM_TIME") system_period_at application_period_at system_period application_period))
+
+  without_overlaps : FineAfter without_overlaps_at
+  unfolding without_overlaps_at
+  without_overlaps = words (codes "WITHOUT") (word_at (codes "OVERLAPS")) (word (codes "OVERLAPS"))
+
+  overlaps : (several : Bool) → Fine (overlaps_at several)
+  unfolding overlaps_at
+  overlaps true = by_word (codes "WITHOUT") _ _ (after without_overlaps_at (λ rest. Ok (true, rest)) without_overlaps (ok true)) (ok false)
+  overlaps false = ok false
 
   module _ {A : Type 0} (item : List ℕ → Read A) (good : Fine item) where
     abbrev on_comma : A → ℕ → List ℕ → After → Read (List A)
@@ -252,7 +270,9 @@ module _ (first : ℕ) (rest other : List ℕ) (t : Tokens first rest other) whe
   unfolding key_at
   key =
       after primary_key_at _ primary_key
-      (after (symbol_at 40) _ (symbol 40) (reads names_at _ names (λ names. closed (Key names))))
+      (after (symbol_at 40) _ (symbol 40)
+      (reads names_at _ names (λ names.
+      reads _ _ (overlaps (nat_le 2 (length names))) (λ overlaps. closed _))))
 
   -- ---- entries and statements
 

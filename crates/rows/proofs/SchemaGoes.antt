@@ -1,6 +1,6 @@
 -- The bytes before a fault of syntax can go on to a schema.
 use Rattle.std.proofs.Common.{◌≡◌, ◌⊎◌, ℕ, Bool, true, false, List, [], ◌∷◌, ◌++◌, ◌||◌, Option, Some, None, Ok, Err, inl, inr, length, refl, ap, sym, ◌∙◌, subst, if◌then◌else◌, suc, zero}
-use Rattle.std.specs.Prelude.{Result, codes, not}
+use Rattle.std.specs.Prelude.{Result, codes, not, nat_le}
 use Rattle.std.proofs.lemmas.List.{append_assoc}
 use Rattle.values.specs.Names.{same_name}
 use Rattle.values.specs.declared.table.ColumnType.{ColumnType}
@@ -9,21 +9,22 @@ use Rattle.rows.specs.declared.declaration.Mark.{Mark}
 use Rattle.rows.specs.declared.declaration.Mark.TheVariants.{NotNull, PrimaryKey}
 use Rattle.rows.specs.declared.declaration.Side.{Side}
 use Rattle.rows.specs.declared.declaration.Side.TheVariants.{Start, End}
+use Rattle.rows.specs.declared.declaration.PeriodNames.{PeriodNames}
 use Rattle.rows.specs.declared.declaration.Entry.{Entry}
-use Rattle.rows.specs.declared.declaration.Entry.TheVariants.{User, Generated, Period, Key}
+use Rattle.rows.specs.declared.declaration.Entry.TheVariants.{User, Generated, Period, Application, Key}
 use Rattle.rows.specs.declared.declaration.Declaration.{Declaration}
 use Rattle.tokens.specs.Token as tokens
 use Rattle.tokens.specs.Token.{After, Read}
 use Rattle.tokens.proofs.TokenFollows.{Spelling, Follows, front_follows, Moves, is_plain_word, same_front}
 use Rattle.tokens.proofs.TokenGoing.{Usual, Reads, ReadsAfter, Then, Next, By, Last, usual_then, usual_next, usual_weaker, usual_by, usual_last, reads_then, reads_weaker, reads_whether, reads_past, after_then, reads_by, reads_last, nothing}
 use Rattle.rows.specs.SchemaToken.{symbol_at, is_word_at, after_word, word_at, name_at, digits_at}
-use Rattle.rows.specs.Declaration.{prepend, list_at, names_at, size_at, is_whole_number_at, varchar_at, type_at, not_null_at, primary_key_at, mark_at, is_mark_at, marks_upto, marks_at, user_at, precision_at, maybe_not_null_at, side_at, row_side_at, generated_at, two_names_at, period_at, key_at, column_at, entry_at, entries_at, body_at, versioning_at, create_at, is_end_at, more_at, creates_upto, creates_at}
+use Rattle.rows.specs.Declaration.{prepend, list_at, names_at, size_at, is_whole_number_at, varchar_at, type_at, not_null_at, primary_key_at, mark_at, is_mark_at, marks_upto, marks_at, user_at, precision_at, maybe_not_null_at, side_at, row_side_at, generated_at, two_names_at, system_period_at, application_period_at, period_at, without_overlaps_at, overlaps_at, key_at, column_at, entry_at, entries_at, body_at, versioning_at, create_at, is_end_at, more_at, creates_upto, creates_at}
 use Rattle.values.specs.Tables.{Schema}
 use Rattle.rows.specs.declared.schema_reading.SchemaFault.{SchemaFault}
 use Rattle.rows.specs.declared.schema_reading.SchemaFault.TheVariants.{Syntax}
 use Rattle.rows.specs.SchemaTable.{read_schema}
 use Rattle.rows.specs.SchemaGrammarLaw.{PrefixesGoOn}
-use Rattle.rows.specs.SchemaGrammar.{Says, ◌>>=◌, just, ◌or◌, Symbol, Word, Name, Digits, Listed, Many, Size, TypeName, NotNullWords, PrimaryKeyWords, MarkWords, UserEntry, Precision, MaybeNotNull, RowSide, GeneratedAsRow, GeneratedEntry, TwoNames, PeriodEntry, KeyEntry, ColumnEntry, EntryText, Body, Versioning, CreateText, IsEnd, SchemaText}
+use Rattle.rows.specs.SchemaGrammar.{Says, ◌>>=◌, just, ◌or◌, Symbol, Word, Name, Digits, Listed, Many, Size, TypeName, NotNullWords, PrimaryKeyWords, MarkWords, UserEntry, Precision, MaybeNotNull, RowSide, GeneratedAsRow, GeneratedEntry, TwoNames, SystemPeriodText, ApplicationPeriodText, PeriodEntry, WithoutOverlapsWords, MaybeOverlaps, KeyEntry, ColumnEntry, EntryText, Body, Versioning, CreateText, IsEnd, SchemaText}
 use Rattle.rows.proofs.SchemaSpelled.{word_next}
 use Rattle.rows.proofs.SchemaSays.{end_says}
 use Rattle.rows.proofs.SchemaReads.{short, no_syntax, read_as}
@@ -416,12 +417,12 @@ module _ (name : List ℕ) where
 name_is_usual : Usual Name
 name_is_usual = usual_of name_usual
 
-TwoEnd : List ℕ → Says Entry
-TwoEnd start = Name >>= (λ end. Symbol 41 >>= (λ closed. just (Period (record { start = start; end = end }))))
+TwoEnd : List ℕ → Says PeriodNames
+TwoEnd start = Name >>= (λ end. Symbol 41 >>= (λ closed. just (record { start = start; end = end })))
 
 two_end_usual : (start : List ℕ) → Usual (TwoEnd start)
 unfolding TwoEnd
-two_end_usual start = bind_usual Name _ name_is_usual (λ end. closed_usual (Period (record { start = start; end = end })))
+two_end_usual start = bind_usual Name _ name_is_usual (λ end. closed_usual (record { start = start; end = end }))
 
 two_comma_usual : (start : List ℕ) → Usual (Symbol 44 >>= (λ comma. TwoEnd start))
 two_comma_usual start = next_usual (Symbol 44) (TwoEnd start) comma_usual (two_end_usual start)
@@ -433,9 +434,9 @@ two_names_usual : Usual TwoNames
 unfolding TwoEnd
 two_names_usual = next_usual (Symbol 40) _ open_usual two_start_usual
 
-two_names_moves : (x : Entry) → Moves (TwoNames x)
+two_names_moves : (x : PeriodNames) → Moves (TwoNames x)
 two_names_moves =
-    bind_moves _ _ open_moves (λ _. bind_moves _ _ name_moves (λ start. bind_moves _ _ comma_moves (λ _. bind_moves _ _ name_moves (λ end. bind_moves _ _ close_moves (λ _. just_moves (Period (record { start = start; end = end })))))))
+    bind_moves _ _ open_moves (λ _. bind_moves _ _ name_moves (λ start. bind_moves _ _ comma_moves (λ _. bind_moves _ _ name_moves (λ end. bind_moves _ _ close_moves (λ _. just_moves (record { start = start; end = end }))))))
 
 two_names_reads : (bytes : List ℕ) → Reads TwoNames bytes (two_names_at bytes)
 unfolding two_names_at TwoEnd
@@ -443,24 +444,85 @@ two_names_reads bytes =
     next_reads (Symbol 40) _ (symbol_at 40 bytes) _ (open_moves tt) two_start_usual (open_reads bytes) (λ a.
     bind_reads Name _ (name_at a) _ name_moves two_comma_usual (name_reads a) (λ start b.
     next_reads (Symbol 44) _ (symbol_at 44 b) _ (comma_moves tt) (two_end_usual start) (comma_reads b) (λ c.
-    bind_reads Name _ (name_at c) _ name_moves (λ end. closed_usual (Period (record { start = start; end = end }))) (name_reads c) (λ end d.
-    closed_reads (Period (record { start = start; end = end })) d))))
+    bind_reads Name _ (name_at c) _ name_moves (λ end. closed_usual (record { start = start; end = end })) (name_reads c) (λ end d.
+    closed_reads (record { start = start; end = end }) d))))
+
+-- a period of application time, by its name and its columns
+abbrev named_period : List ℕ → PeriodNames → Entry
+named_period name columns = Application (record { name = name; columns = columns })
+
+system_period_moves : (x : Entry) → Moves (SystemPeriodText x)
+system_period_moves = bind_moves _ _ (word_moves (codes "SYSTEM_TIME") refl) (λ _. bind_moves _ _ two_names_moves (λ columns. just_moves (Period columns)))
+
+system_columns_usual : Usual (TwoNames >>= (λ columns. just (Period columns)))
+system_columns_usual = by_usual TwoNames Period two_names_usual
+
+system_period_reads : (bytes : List ℕ) → Reads SystemPeriodText bytes (system_period_at bytes)
+unfolding system_period_at
+system_period_reads bytes =
+    next_reads (Word (codes "SYSTEM_TIME")) _ (word_at (codes "SYSTEM_TIME") bytes) _ (word_moves (codes "SYSTEM_TIME") refl tt) system_columns_usual (word_reads 83 _ refl bytes) (λ a.
+    by_reads TwoNames Period (two_names_at a) (two_names_reads a))
+
+application_period_moves : (x : Entry) → Moves (ApplicationPeriodText x)
+application_period_moves = bind_moves _ _ name_moves (λ name. bind_moves _ _ two_names_moves (λ columns. just_moves (named_period name columns)))
+
+application_columns_usual : (name : List ℕ) → Usual (TwoNames >>= (λ columns. just (named_period name columns)))
+application_columns_usual name = by_usual TwoNames (named_period name) two_names_usual
+
+application_period_usual : Usual ApplicationPeriodText
+application_period_usual = bind_usual Name _ name_is_usual application_columns_usual
+
+application_period_reads : (bytes : List ℕ) → Reads ApplicationPeriodText bytes (application_period_at bytes)
+unfolding application_period_at
+application_period_reads bytes =
+    bind_reads Name _ (name_at bytes) _ name_moves application_columns_usual (name_reads bytes) (λ name a.
+    by_reads TwoNames (named_period name) (two_names_at a) (two_names_reads a))
+
+which_moves : (x : Entry) → Moves (◌or◌ SystemPeriodText ApplicationPeriodText x)
+which_moves = or_moves _ _ system_period_moves application_period_moves
+
+which_usual : Usual (SystemPeriodText or ApplicationPeriodText)
+which_usual = usual_weaker (λ y. y) application_period_usual (λ y b rest is. inr is)
 
 period_moves : (x : Entry) → Moves (PeriodEntry x)
-period_moves = bind_moves _ _ (word_moves (codes "PERIOD") refl) (λ _. bind_moves _ _ (word_moves (codes "FOR") refl) (λ _. bind_moves _ _ (word_moves (codes "SYSTEM_TIME") refl) (λ _. two_names_moves)))
+period_moves = bind_moves _ _ (word_moves (codes "PERIOD") refl) (λ _. bind_moves _ _ (word_moves (codes "FOR") refl) (λ _. which_moves))
 
-time_usual : Usual (Word (codes "SYSTEM_TIME") >>= (λ system_time. TwoNames))
-time_usual = next_usual (Word (codes "SYSTEM_TIME")) TwoNames (word_is_usual 83 _ refl) two_names_usual
-
-for_usual : Usual (Word (codes "FOR") >>= (λ for. Word (codes "SYSTEM_TIME") >>= (λ system_time. TwoNames)))
-for_usual = next_usual (Word (codes "FOR")) _ (word_is_usual 70 _ refl) time_usual
+for_usual : Usual (Word (codes "FOR") >>= (λ for. SystemPeriodText or ApplicationPeriodText))
+for_usual = next_usual (Word (codes "FOR")) _ (word_is_usual 70 _ refl) which_usual
 
 period_reads : (bytes : List ℕ) → Reads PeriodEntry bytes (period_at bytes)
 unfolding period_at
 period_reads bytes =
     next_reads (Word (codes "PERIOD")) _ (word_at (codes "PERIOD") bytes) _ (word_moves (codes "PERIOD") refl tt) for_usual (word_reads 80 _ refl bytes) (λ a.
-    next_reads (Word (codes "FOR")) _ (word_at (codes "FOR") a) _ (word_moves (codes "FOR") refl tt) time_usual (word_reads 70 _ refl a) (λ b.
-    next_reads (Word (codes "SYSTEM_TIME")) _ (word_at (codes "SYSTEM_TIME") b) _ (word_moves (codes "SYSTEM_TIME") refl tt) two_names_usual (word_reads 83 _ refl b) two_names_reads))
+    next_reads (Word (codes "FOR")) _ (word_at (codes "FOR") a) _ (word_moves (codes "FOR") refl tt) which_usual (word_reads 70 _ refl a) (λ b.
+    reads_if (is_word_at (codes "SYSTEM_TIME") b) _ _ (reads_weaker _ (system_period_reads b) (λ y c rest is. inl is)) (reads_weaker _ (application_period_reads b) (λ y c rest is. inr is))))
+
+-- ---- WITHOUT OVERLAPS
+
+without_overlaps_moves : (x : Unit {0}) → Moves (WithoutOverlapsWords x)
+without_overlaps_moves = bind_moves _ _ (word_moves (codes "WITHOUT") refl) (λ _. word_moves (codes "OVERLAPS") refl)
+
+overlaps_word_usual : Usual (Word (codes "OVERLAPS"))
+overlaps_word_usual = word_is_usual 79 _ refl
+
+without_overlaps_reads : (bytes : List ℕ) → ReadsAfter (WithoutOverlapsWords tt) bytes (without_overlaps_at bytes)
+unfolding without_overlaps_at
+without_overlaps_reads bytes = tokens_read (Word (codes "WITHOUT")) (Word (codes "OVERLAPS")) (word_at (codes "WITHOUT") bytes) _ (word_moves (codes "WITHOUT") refl tt) overlaps_word_usual (word_reads 87 _ refl bytes) (λ m. word_reads 79 _ refl m)
+
+overlaps_move : (several x : Bool) → Moves (MaybeOverlaps several x)
+overlaps_move true = or_moves _ _ (bind_moves _ _ without_overlaps_moves (λ _. just_moves true)) (just_moves false)
+overlaps_move false = just_moves false
+
+overlaps_usual : (several : Bool) → Usual (MaybeOverlaps several)
+overlaps_usual true = nothing false (λ tail. inr (refl, refl))
+overlaps_usual false = nothing false (λ tail. (refl, refl))
+
+overlaps_reads : (several : Bool) (bytes : List ℕ) → Reads (MaybeOverlaps several) bytes (overlaps_at several bytes)
+unfolding overlaps_at
+overlaps_reads false bytes = record { it = (refl, refl) }
+overlaps_reads true bytes =
+    reads_if (is_word_at (codes "WITHOUT") bytes) _ _
+    (reads_weaker _ (last_reads WithoutOverlapsWords true (without_overlaps_at bytes) (without_overlaps_reads bytes)) (λ y b rest is. inl is)) (record { it = inr (refl, refl) })
 
 -- ---- lists
 
@@ -504,22 +566,40 @@ names_reads : (bytes : List ℕ) → Reads (Listed Name) bytes (names_at bytes)
 unfolding names_at
 names_reads bytes = listed_reads Name name_at name_moves name_is_usual name_reads (length bytes) bytes
 
-key_entry_moves : (x : Entry) → Moves (KeyEntry x)
-key_entry_moves = bind_moves _ _ primary_key_moves (λ _. bind_moves _ _ open_moves (λ _. bind_moves _ _ (listed_moves Name name_moves) (λ names. bind_moves _ _ close_moves (λ _. just_moves (Key names)))))
+-- a key by its names, after them, and after its parenthesis
+KeyEnd : List (List ℕ) → Bool → Says Entry
+KeyEnd names overlaps = Symbol 41 >>= (λ closed. just (Key (record { names = names; without_overlaps = overlaps })))
 
-key_names_usual : Usual (Listed Name >>= (λ names. Symbol 41 >>= (λ closed. just (Key names))))
-key_names_usual = bind_usual (Listed Name) _ (listed_usual Name name_is_usual) (λ names. closed_usual (Key names))
+KeyOverlaps : List (List ℕ) → Says Entry
+KeyOverlaps names = MaybeOverlaps (nat_le 2 (length names)) >>= (λ overlaps. KeyEnd names overlaps)
 
-key_open_usual : Usual (Symbol 40 >>= (λ opened. Listed Name >>= (λ names. Symbol 41 >>= (λ closed. just (Key names)))))
+key_end_usual : (names : List (List ℕ)) (overlaps : Bool) → Usual (KeyEnd names overlaps)
+unfolding KeyEnd
+key_end_usual names overlaps = closed_usual (Key (record { names = names; without_overlaps = overlaps }))
+
+key_overlaps_usual : (names : List (List ℕ)) → Usual (KeyOverlaps names)
+unfolding KeyOverlaps
+key_overlaps_usual names = bind_usual (MaybeOverlaps (nat_le 2 (length names))) _ (overlaps_usual (nat_le 2 (length names))) (key_end_usual names)
+
+key_names_usual : Usual (Listed Name >>= KeyOverlaps)
+key_names_usual = bind_usual (Listed Name) KeyOverlaps (listed_usual Name name_is_usual) key_overlaps_usual
+
+key_open_usual : Usual (Symbol 40 >>= (λ opened. Listed Name >>= KeyOverlaps))
 key_open_usual = next_usual (Symbol 40) _ open_usual key_names_usual
 
+key_entry_moves : (x : Entry) → Moves (KeyEntry x)
+key_entry_moves =
+    bind_moves _ _ primary_key_moves (λ _. bind_moves _ _ open_moves (λ _. bind_moves _ _ (listed_moves Name name_moves) (λ names. bind_moves _ _ (overlaps_move (nat_le 2 (length names))) (λ overlaps. bind_moves _ _ close_moves (λ _.
+    just_moves (Key (record { names = names; without_overlaps = overlaps })))))))
+
 key_reads : (bytes : List ℕ) → Reads KeyEntry bytes (key_at bytes)
-unfolding key_at
+unfolding key_at KeyEnd KeyOverlaps
 key_reads bytes =
     next_reads PrimaryKeyWords _ (primary_key_at bytes) _ (primary_key_moves tt) key_open_usual (primary_key_reads bytes) (λ a.
     next_reads (Symbol 40) _ (symbol_at 40 a) _ (open_moves tt) key_names_usual (open_reads a) (λ b.
-    bind_reads (Listed Name) _ (names_at b) _ (listed_moves Name name_moves) (λ names. closed_usual (Key names)) (names_reads b) (λ names c.
-    closed_reads (Key names) c)))
+    bind_reads (Listed Name) _ (names_at b) _ (listed_moves Name name_moves) key_overlaps_usual (names_reads b) (λ names c.
+    bind_reads (MaybeOverlaps (nat_le 2 (length names))) _ (overlaps_at (nat_le 2 (length names)) c) _ (overlaps_move (nat_le 2 (length names))) (key_end_usual names) (overlaps_reads (nat_le 2 (length names)) c) (λ overlaps d.
+    closed_reads (Key (record { names = names; without_overlaps = overlaps })) d))))
 
 -- ---- entries and statements
 

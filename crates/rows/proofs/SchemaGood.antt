@@ -6,19 +6,24 @@ use Rattle.std.proofs.lemmas.Bool.{and_parts, and_from}
 use Rattle.std.proofs.lemmas.Bool.Decides.{nat_tests}
 use Rattle.std.proofs.lemmas.List.{length-append, length-map, append_assoc, append-nil}
 use Rattle.values.specs.declared.period.Period.{Period}
+use Rattle.values.specs.declared.table.Column.{Column}
 use Rattle.values.specs.declared.table.Table.{Table}
 use Rattle.values.specs.Tables.{Schema}
 use Rattle.rows.specs.declared.declaration.Side.TheVariants.{Start, End}
 use Rattle.rows.specs.declared.declaration.PeriodNames.{PeriodNames}
+use Rattle.rows.specs.declared.declaration.ApplicationPeriod.{ApplicationPeriod}
+use Rattle.rows.specs.declared.declaration.KeyClause.{KeyClause}
 use Rattle.rows.specs.declared.declaration.Declaration.{Declaration}
 use Rattle.rows.specs.declared.schema_reading.SchemaFault.{SchemaFault}
 use Rattle.rows.specs.declared.schema_reading.SchemaFault.TheVariants.{BadTable}
 use Rattle.values.specs.Names.{same_name}
-use Rattle.rows.specs.SchemaTable.{user_column, column_name, side_name, period_names, keys_in, is_good_entry, are_distinct, only, number_in, is_good_key, is_good_period, is_good_width, are_good_entries, table_of, next_table, tables_from}
+use Rattle.rows.specs.SchemaTable.{user_column, declared_name, side_name, period_names, application_period, keys_in, is_good_entry, are_distinct, only, key_names, number_in, is_good_application, period_in, is_good_key, is_good_period, is_good_width, are_good_entries, keyed_table, table_of, next_table, tables_from}
 use Rattle.values.specs.Each.{Each}
-use Rattle.rows.specs.GoodTable.{SameName, TableIsGood, AreNumbersOf, IsTableOf, AreTablesOf, TablesAreGood, IsFirstBad}
+use Rattle.rows.specs.GoodTable.{SameName, TableIsGood, AreNumbersOf, HasPeriodOf, IsTableOf, AreTablesOf, TablesAreGood, IsFirstBad}
 use Rattle.rows.proofs.SchemaPlaces.{each-append, each_front, each_back, apart_no_two, no_two_apart, apart_push, apart_front, apart_last}
-use Rattle.rows.proofs.SchemaEntries.{le_from, le_to, not_from, not_to, same_to, same_from, any_none, none_any, distinct_differ, differ_distinct, side_stands, side_only, period_stands, period_only, key_stands, key_only, all_known, known_all, numbers_are, numbers_same, users_differ, columns_are, columns_same, user_count, columns_differ, differ_columns, entries_good, good_entries}
+use Rattle.rows.proofs.SchemaEntries.{le_from, le_to, not_from, not_to, same_to, same_from, any_none, none_any, distinct_differ, differ_distinct, side_stands, side_only, period_stands, period_only, key_stands, key_only, all_known, known_all, numbers_are, numbers_same, users_differ, columns_are, columns_same, user_count, columns_differ, differ_columns, entries_good, good_entries, application_only}
+use Rattle.rows.proofs.SchemaKeys.{key_is, is_key}
+use Rattle.rows.proofs.SchemaPeriods.{application_good, good_application, period_is, period_same}
 
 -- a step that gives something
 then_some : {A B : Type 0} (o : Option A) (k : A → Option B) (y : B) → option_and_then k o ≡ Some y → (x : A) × ((o ≡ Some x) × (k x ≡ Some y))
@@ -32,62 +37,78 @@ where_so : {A : Type 0} (t : Bool) (x y : A) → (if t then Some x else None) �
 where_so true x y e = (refl, ap (λ o. elim o [ Some z ↦ z | None ↦ x ]) e)
 where_so false x y e = cc
 
--- the table that a declaration makes
-abbrev made : ℕ → Declaration → List ℕ → List ℕ → List (List ℕ) → Table
-made number d start end names =
-    record { number = number; name = d.name; columns = filter_map user_column d.entries; key = map (number_in (filter_map user_column d.entries)) names; row_start = start; row_end = end; period = None }
+where_some : {A : Type 0} (t : Bool) (o : Option A) (y : A) → (if t then o else None) ≡ Some y → (t ≡ true) × (o ≡ Some y)
+where_some true o y e = (refl, e)
+where_some false o y e = cc
 
-abbrev fits : Declaration → List ℕ → List ℕ → PeriodNames → List (List ℕ) → Bool
-fits d start end period names =
-    is_good_period start end period && is_good_key names (map (number_in (filter_map user_column d.entries)) names) && is_good_width (filter_map user_column d.entries)
-    && are_good_entries d.entries
+-- the table that a declaration makes
+abbrev columns_of : Declaration → Option ApplicationPeriod → List Column
+columns_of d o = filter_map (user_column o) d.entries
+
+abbrev made : ℕ → Declaration → List ℕ → List ℕ → Option ApplicationPeriod → List (List ℕ) → Table
+made number d start end o names =
+    record { number = number; name = d.name; columns = columns_of d o; key = map (number_in (columns_of d o)) names; row_start = start; row_end = end; period = period_in (columns_of d o) o }
+
+abbrev fits : Declaration → Option ApplicationPeriod → List (List ℕ) → Bool
+fits d o names =
+    is_good_key names (map (number_in (columns_of d o)) names) && is_good_width (columns_of d o) && is_good_application d.entries (columns_of d o) names o && are_good_entries d.entries
 
 pub made_is_good : (number : ℕ) (d : Declaration) (t : Table) → table_of number d ≡ Some t → IsTableOf d number t
-unfolding table_of
+unfolding table_of keyed_table
 made_is_good number d t e =
     let a = then_some (only (filter_map (side_name Start) d.entries)) _ t e in
     let b = then_some (only (filter_map (side_name End) d.entries)) _ t a.1.1 in
     let c = then_some (only (filter_map period_names d.entries)) _ t b.1.1 in
     let k = then_some (only (flat_map keys_in d.entries)) _ t c.1.1 in
-    let f = where_so (fits d a.0 b.0 c.0 k.0) (made number d a.0 b.0 k.0) t k.1.1 in
-    subst (IsTableOf d number) f.1 (good a.0 b.0 c.0 k.0 a.1.0 b.1.0 c.1.0 k.1.0 f.0)
+    let o = only (filter_map application_period d.entries) in
+    let n = then_some (key_names o k.0) _ t k.1.1 in
+    let g = where_some (is_good_period a.0 b.0 c.0) (keyed_table number d a.0 b.0 o n.0) t n.1.1 in
+    let f = where_so (fits d o n.0) (made number d a.0 b.0 o n.0) t g.1 in
+    subst (IsTableOf d number) f.1 (good a.0 b.0 c.0 k.0 o n.0 a.1.0 b.1.0 c.1.0 k.1.0 refl n.1.0 g.0 f.0)
   where
-    good : (start end : List ℕ) (period : PeriodNames) (names : List (List ℕ)) → only (filter_map (side_name Start) d.entries) ≡ Some start → only (filter_map (side_name End) d.entries) ≡ Some end
-        → only (filter_map period_names d.entries) ≡ Some period → only (flat_map keys_in d.entries) ≡ Some names → fits d start end period names ≡ true
-        → IsTableOf d number (made number d start end names)
-    good start end period names is_start is_end is_period is_key f =
-        let columns = filter_map user_column d.entries in
+    good : (start end : List ℕ) (period : PeriodNames) (clause : KeyClause) (o : Option ApplicationPeriod) (names : List (List ℕ)) → only (filter_map (side_name Start) d.entries) ≡ Some start
+        → only (filter_map (side_name End) d.entries) ≡ Some end → only (filter_map period_names d.entries) ≡ Some period → only (flat_map keys_in d.entries) ≡ Some clause
+        → only (filter_map application_period d.entries) ≡ o → key_names o clause ≡ Some names → is_good_period start end period ≡ true → fits d o names ≡ true
+        → IsTableOf d number (made number d start end o names)
+    good start end period clause o names is_start is_end is_period is_clause is_application are_names is_between f =
+        let columns = columns_of d o in
         let numbers = map (number_in columns) names in
-        let p = and_parts (is_good_period start end period && is_good_key names numbers && is_good_width columns) (are_good_entries d.entries) f in
-        let q = and_parts (is_good_period start end period && is_good_key names numbers) (is_good_width columns) p.0 in
-        let r = and_parts (is_good_period start end period) (is_good_key names numbers) q.0 in
-        let ends = and_parts (same_name start period.start) (same_name end period.end) r.0 in
-        let key = and_parts (nat_le (length names) 4 && are_distinct names) (not (list_any (λ n. n == 0) numbers)) r.1 in
+        let p = and_parts (is_good_key names numbers && is_good_width columns && is_good_application d.entries columns names o) (are_good_entries d.entries) f in
+        let q = and_parts (is_good_key names numbers && is_good_width columns) (is_good_application d.entries columns names o) p.0 in
+        let r = and_parts (is_good_key names numbers) (is_good_width columns) q.0 in
+        let ends = and_parts (same_name start period.start) (same_name end period.end) is_between in
+        let key = and_parts (nat_le (length names) 4 && are_distinct names) (not (list_any (λ n. n == 0) numbers)) r.0 in
         let parts = and_parts (nat_le (length names) 4) (are_distinct names) key.0 in
-        let width = and_parts (nat_le 1 (length columns)) (nat_le (length columns) 16) q.1 in
-        let entries = and_parts (list_all is_good_entry d.entries) (are_distinct (filter_map column_name d.entries)) p.1 in
+        let width = and_parts (nat_le 1 (length columns)) (nat_le (length columns) 16) r.1 in
+        let entries = and_parts (list_all is_good_entry d.entries) (are_distinct (filter_map declared_name d.entries)) p.1 in
         let first = side_stands Start d.entries start is_start in
         let last_one = side_stands End d.entries end is_end in
-        let giver = key_stands d.entries names is_key in
+        let giver = key_stands d.entries clause is_clause in
+        let application = application_good d.entries names o o is_application q.1 in
         let known = not_from (list_any (λ n. n == 0) numbers) key.1 in
         let is_good : TableIsGood d = record {
           start = first.0;
           end = last_one.0;
           period = period;
+          application = o;
           giver = giver.0;
+          clause = clause;
           key = names;
           one_start = first.1.1;
           one_end = last_one.1.1;
           one_period = period_stands d.entries period is_period;
           period_from_start = subst (λ n. SameName n period.start) (sym first.1.0) (same_to start period.start ends.0);
           period_to_end = subst (λ n. SameName n period.end) (sym last_one.1.0) (same_to end period.end ends.1);
+          few_applications = application.0;
+          application_is_good = application.1;
           one_giver = giver.1.1;
           one_key = giver.1.0;
+          key_is = key_is o clause names are_names;
           few_in_key = le_from (length names) 4 parts.0;
           key_differs = distinct_differ names parts.1;
-          key_of_columns = all_known d.entries names known;
-          some_columns = subst (λ n. 1 ≤ n) (user_count d.entries) (le_from 1 (length columns) width.0);
-          few_columns = subst (λ n. n ≤ 16) (user_count d.entries) (le_from (length columns) 16 width.1);
+          key_of_columns = all_known o d.entries names known;
+          some_columns = subst (λ n. 1 ≤ n) (user_count o d.entries) (le_from 1 (length columns) width.0);
+          few_columns = subst (λ n. n ≤ 16) (user_count o d.entries) (le_from (length columns) 16 width.1);
           columns_differ = columns_differ d.entries entries.1;
           entries_are_good = entries_good d.entries entries.0;
         } in
@@ -95,58 +116,70 @@ made_is_good number d t e =
           good = is_good;
           numbered = refl;
           named = refl;
-          columns_are = columns_are d.entries;
+          columns_are = columns_are o d.entries;
           key_is = numbers_are columns names known;
           starts = sym first.1.0;
           ends = sym last_one.1.0;
-          no_period = refl;
+          period_is = period_is d.entries names o o application.1;
         }
 
-good_fits : (d : Declaration) (g : TableIsGood d) → fits d g.start.name g.end.name g.period g.key ≡ true
+good_fits : (d : Declaration) (g : TableIsGood d) → fits d g.application g.key ≡ true
 good_fits d g =
-    let columns = filter_map user_column d.entries in
+    let o = g.application in
+    let columns = columns_of d o in
     let numbers = map (number_in columns) g.key in
-    let ends : is_good_period g.start.name g.end.name g.period ≡ true =
-    and_from (same_name g.start.name g.period.start) (same_name g.end.name g.period.end) (same_from g.start.name g.period.start g.period_from_start) (same_from g.end.name g.period.end g.period_to_end) in
     let parts : (nat_le (length g.key) 4 && are_distinct g.key) ≡ true = and_from (nat_le (length g.key) 4) (are_distinct g.key) (le_to (length g.key) 4 g.few_in_key) (differ_distinct g.key g.key_differs) in
     let key : is_good_key g.key numbers ≡ true =
-    and_from (nat_le (length g.key) 4 && are_distinct g.key) (not (list_any (λ n. n == 0) numbers)) parts (not_to (list_any (λ n. n == 0) numbers) (known_all d.entries g.key g.key_of_columns)) in
+    and_from (nat_le (length g.key) 4 && are_distinct g.key) (not (list_any (λ n. n == 0) numbers)) parts (not_to (list_any (λ n. n == 0) numbers) (known_all o d.entries g.key g.key_of_columns)) in
     let width : is_good_width columns ≡ true =
     and_from (nat_le 1 (length columns)) (nat_le (length columns) 16)
-    (le_to 1 (length columns) (subst (λ n. 1 ≤ n) (sym (user_count d.entries)) g.some_columns))
-    (le_to (length columns) 16 (subst (λ n. n ≤ 16) (sym (user_count d.entries)) g.few_columns)) in
+    (le_to 1 (length columns) (subst (λ n. 1 ≤ n) (sym (user_count o d.entries)) g.some_columns))
+    (le_to (length columns) 16 (subst (λ n. n ≤ 16) (sym (user_count o d.entries)) g.few_columns)) in
+    let application : is_good_application d.entries columns g.key o ≡ true = good_application d.entries g.key o o g.few_applications g.application_is_good in
     let entries : are_good_entries d.entries ≡ true =
-    and_from (list_all is_good_entry d.entries) (are_distinct (filter_map column_name d.entries)) (good_entries d.entries g.entries_are_good) (differ_columns d.entries g.columns_differ) in
-    and_from (is_good_period g.start.name g.end.name g.period && is_good_key g.key numbers && is_good_width columns) (are_good_entries d.entries)
-    (and_from (is_good_period g.start.name g.end.name g.period && is_good_key g.key numbers) (is_good_width columns) (and_from (is_good_period g.start.name g.end.name g.period) (is_good_key g.key numbers) ends key) width)
+    and_from (list_all is_good_entry d.entries) (are_distinct (filter_map declared_name d.entries)) (good_entries d.entries g.entries_are_good) (differ_columns d.entries g.columns_differ) in
+    and_from (is_good_key g.key numbers && is_good_width columns && is_good_application d.entries columns g.key o) (are_good_entries d.entries)
+    (and_from (is_good_key g.key numbers && is_good_width columns) (is_good_application d.entries columns g.key o) (and_from (is_good_key g.key numbers) (is_good_width columns) key width) application)
     entries
 
-good_is_made : (number : ℕ) (d : Declaration) (g : TableIsGood d) → table_of number d ≡ Some (made number d g.start.name g.end.name g.key)
+good_period : (d : Declaration) (g : TableIsGood d) → is_good_period g.start.name g.end.name g.period ≡ true
+good_period d g =
+    and_from (same_name g.start.name g.period.start) (same_name g.end.name g.period.end) (same_from g.start.name g.period.start g.period_from_start) (same_from g.end.name g.period.end g.period_to_end)
+
+keyed_is_made : (number : ℕ) (d : Declaration) (g : TableIsGood d) → keyed_table number d g.start.name g.end.name g.application g.key ≡ Some (made number d g.start.name g.end.name g.application g.key)
+unfolding keyed_table
+keyed_is_made number d g = ap (λ f. if f then Some (made number d g.start.name g.end.name g.application g.key) else None) (good_fits d g)
+
+good_is_made : (number : ℕ) (d : Declaration) (g : TableIsGood d) → table_of number d ≡ Some (made number d g.start.name g.end.name g.application g.key)
 unfolding table_of
 good_is_made number d g =
-    let t = made number d g.start.name g.end.name g.key in
+    let t = made number d g.start.name g.end.name g.application g.key in
     some_then (only (filter_map (side_name Start) d.entries)) _ g.start.name (Some t) (side_only Start d.entries g.start g.one_start)
     (some_then (only (filter_map (side_name End) d.entries)) _ g.end.name (Some t) (side_only End d.entries g.end g.one_end)
     (some_then (only (filter_map period_names d.entries)) _ g.period (Some t) (period_only d.entries g.period g.one_period)
-    (some_then (only (flat_map keys_in d.entries)) _ g.key (Some t) (key_only d.entries g.giver g.key g.one_key g.one_giver)
-    (ap (λ f. if f then Some t else None) (good_fits d g)))))
+    (some_then (only (flat_map keys_in d.entries)) _ g.clause (Some t) (key_only d.entries g.giver g.clause g.one_key g.one_giver)
+    (ap (λ o. option_and_then (λ names. if is_good_period g.start.name g.end.name g.period then keyed_table number d g.start.name g.end.name o names else None) (key_names o g.clause)) (application_only d.entries g.application g.few_applications)
+    ∙ some_then (key_names g.application g.clause) _ g.key (Some t) (is_key g.application g.clause g.key g.key_is)
+    (ap (λ f. if f then keyed_table number d g.start.name g.end.name g.application g.key else None) (good_period d g) ∙ keyed_is_made number d g)))))
 
 -- a table that is the declaration's is the one that is made
 table_is_made : (number : ℕ) (d : Declaration) (t : Table) → IsTableOf d number t → table_of number d ≡ Some t
 table_is_made number d t is =
     let g = is.good in
-    let columns = filter_map user_column d.entries in
-    let same : columns ≡ t.columns = columns_same d.entries t.columns is.columns_are in
-    let numbers : map (number_in columns) g.key ≡ t.key =
-    numbers_same columns g.key t.key (users_differ d.entries g.columns_differ) (subst (λ c. AreNumbersOf c g.key t.key) (sym same) is.key_is) in
+    let o = g.application in
+    let columns = columns_of d o in
+    let same : columns ≡ t.columns = columns_same o d.entries t.columns is.columns_are in
+    let apart = users_differ o d.entries g.columns_differ in
+    let numbers : map (number_in columns) g.key ≡ t.key = numbers_same columns g.key t.key apart (subst (λ c. AreNumbersOf c g.key t.key) (sym same) is.key_is) in
+    let period : period_in columns o ≡ t.period = period_same columns o t.period apart (subst (λ c. HasPeriodOf c o t.period) (sym same) is.period_is) in
     good_is_made number d g
-    ∙ ap (λ n. Some (record { number = n; name = d.name; columns = columns; key = map (number_in columns) g.key; row_start = g.start.name; row_end = g.end.name; period = None })) (sym is.numbered)
-    ∙ ap (λ n. Some (record { number = t.number; name = n; columns = columns; key = map (number_in columns) g.key; row_start = g.start.name; row_end = g.end.name; period = None })) (sym is.named)
-    ∙ ap (λ k. Some (record { number = t.number; name = t.name; columns = columns; key = k; row_start = g.start.name; row_end = g.end.name; period = None })) numbers
-    ∙ ap (λ c. Some (record { number = t.number; name = t.name; columns = c; key = t.key; row_start = g.start.name; row_end = g.end.name; period = None })) same
-    ∙ ap (λ n. Some (record { number = t.number; name = t.name; columns = t.columns; key = t.key; row_start = n; row_end = g.end.name; period = None })) (sym is.starts)
-    ∙ ap (λ n. Some (record { number = t.number; name = t.name; columns = t.columns; key = t.key; row_start = t.row_start; row_end = n; period = None })) (sym is.ends)
-    ∙ ap (λ (o : Option Period). Some (record { number = t.number; name = t.name; columns = t.columns; key = t.key; row_start = t.row_start; row_end = t.row_end; period = o })) (sym is.no_period)
+    ∙ ap (λ n. Some (record { number = n; name = d.name; columns = columns; key = map (number_in columns) g.key; row_start = g.start.name; row_end = g.end.name; period = period_in columns o })) (sym is.numbered)
+    ∙ ap (λ n. Some (record { number = t.number; name = n; columns = columns; key = map (number_in columns) g.key; row_start = g.start.name; row_end = g.end.name; period = period_in columns o })) (sym is.named)
+    ∙ ap (λ k. Some (record { number = t.number; name = t.name; columns = columns; key = k; row_start = g.start.name; row_end = g.end.name; period = period_in columns o })) numbers
+    ∙ ap (λ (q : Option Period). Some (record { number = t.number; name = t.name; columns = columns; key = t.key; row_start = g.start.name; row_end = g.end.name; period = q })) period
+    ∙ ap (λ c. Some (record { number = t.number; name = t.name; columns = c; key = t.key; row_start = g.start.name; row_end = g.end.name; period = t.period })) same
+    ∙ ap (λ n. Some (record { number = t.number; name = t.name; columns = t.columns; key = t.key; row_start = n; row_end = g.end.name; period = t.period })) (sym is.starts)
+    ∙ ap (λ n. Some (record { number = t.number; name = t.name; columns = t.columns; key = t.key; row_start = t.row_start; row_end = n; period = t.period })) (sym is.ends)
 
 -- declarations beside one another
 abbrev Clash : Declaration → Declaration → Type 0
@@ -237,7 +270,7 @@ module _ (tables : List Table) (before : List Declaration) (m : Made tables befo
   good_table : TablesAreGood (before ++ d ∷ []) → (t : Table) × ((next_table tables d ≡ Some t) × (t.name ≡ d.name))
   good_table h =
       let good = (each_back TableIsGood before (d ∷ []) h.tables_are_good).0 in
-      (made (length tables + 1) d good.start.name good.end.name good.key, (good_next h ∙ good_is_made (length tables + 1) d good, refl))
+      (made (length tables + 1) d good.start.name good.end.name good.application good.key, (good_next h ∙ good_is_made (length tables + 1) d good, refl))
 
 -- all of them
 abbrev turned : List Table → List Declaration → Option Table → Result Schema SchemaFault

@@ -1,19 +1,20 @@
 -- What is read is of the grammar: statements.
 use Rattle.std.proofs.Common.{◌≡◌, ℕ, List, [], ◌∷◌, ◌||◌, ◌⊎◌, inl, inr, Bool, true, false, Option, Some, None, Ok, Err, length, refl, sym, subst, ap, ◌∙◌, if◌then◌else◌, suc, zero, nat_lt, ◌-◌}
-use Rattle.std.specs.Prelude.{Result, not, codes}
+use Rattle.std.specs.Prelude.{Result, not, nat_le, codes}
 use Rattle.values.specs.declared.table.ColumnType.{ColumnType}
 use Rattle.values.specs.declared.table.ColumnType.TheVariants.{Int, Text, Varchar, Boolean}
 use Rattle.rows.specs.declared.declaration.Mark.{Mark}
 use Rattle.rows.specs.declared.declaration.Mark.TheVariants.{NotNull, PrimaryKey}
 use Rattle.rows.specs.declared.declaration.Side.{Side}
 use Rattle.rows.specs.declared.declaration.Side.TheVariants.{Start, End}
+use Rattle.rows.specs.declared.declaration.PeriodNames.{PeriodNames}
 use Rattle.rows.specs.declared.declaration.Entry.{Entry}
 use Rattle.rows.specs.declared.declaration.Declaration.{Declaration}
 use Rattle.tokens.specs.Token as tokens
 use Rattle.tokens.specs.Token.{After, Read}
 use Rattle.rows.specs.SchemaToken.{next, symbol_at, is_word_at, after_word, word_at, name_at, digits_at}
-use Rattle.rows.specs.Declaration.{prepend, list_at, names_at, size_at, is_whole_number_at, varchar_at, type_at, not_null_at, primary_key_at, mark_at, is_mark_at, marks_upto, marks_at, user_at, precision_at, maybe_not_null_at, side_at, row_side_at, generated_at, two_names_at, period_at, key_at, column_at, entry_at, entries_at, body_at, versioning_at, create_at, is_nothing, is_end_at, more_at, creates_upto, creates_at}
-use Rattle.rows.specs.SchemaGrammar.{Says, Symbol, Word, Name, Listed, Many, Size, TypeName, NotNullWords, PrimaryKeyWords, MarkWords, UserEntry, Precision, MaybeNotNull, RowSide, GeneratedAsRow, GeneratedEntry, TwoNames, PeriodEntry, KeyEntry, ColumnEntry, EntryText, Body, Versioning, CreateText, IsEnd, SchemaText}
+use Rattle.rows.specs.Declaration.{prepend, list_at, names_at, size_at, is_whole_number_at, varchar_at, type_at, not_null_at, primary_key_at, mark_at, is_mark_at, marks_upto, marks_at, user_at, precision_at, maybe_not_null_at, side_at, row_side_at, generated_at, two_names_at, system_period_at, application_period_at, period_at, without_overlaps_at, overlaps_at, key_at, column_at, entry_at, entries_at, body_at, versioning_at, create_at, is_nothing, is_end_at, more_at, creates_upto, creates_at}
+use Rattle.rows.specs.SchemaGrammar.{Says, Symbol, Word, Name, Listed, Many, Size, TypeName, NotNullWords, PrimaryKeyWords, MarkWords, UserEntry, Precision, MaybeNotNull, RowSide, GeneratedAsRow, GeneratedEntry, TwoNames, SystemPeriodText, ApplicationPeriodText, PeriodEntry, WithoutOverlapsWords, MaybeOverlaps, KeyEntry, ColumnEntry, EntryText, Body, Versioning, CreateText, IsEnd, SchemaText}
 use Rattle.rows.specs.declared.schema_reading.SchemaFault.TheVariants.{Syntax}
 use Rattle.rows.specs.SchemaTable.{tables_from, read_schema}
 use Rattle.rows.specs.SchemaGrammarLaw.{HasSyntaxFault, OfTheGrammar}
@@ -249,7 +250,7 @@ generated_says name x bytes rest e =
       ),
     )
 
-two_names_say : (x : Entry) (bytes rest : List ℕ) → two_names_at bytes ≡ Ok (x, rest) → TwoNames x bytes rest
+two_names_say : (x : PeriodNames) (bytes rest : List ℕ) → two_names_at bytes ≡ Ok (x, rest) → TwoNames x bytes rest
 unfolding two_names_at
 two_names_say x bytes rest e =
     let a = over (symbol_at 40 bytes) _ x rest e in
@@ -294,12 +295,41 @@ two_names_say x bytes rest e =
       ),
     )
 
+system_period_says : (x : Entry) (bytes rest : List ℕ) → system_period_at bytes ≡ Ok (x, rest) → SystemPeriodText x bytes rest
+unfolding system_period_at
+system_period_says x bytes rest e =
+    let a = over (word_at (codes "SYSTEM_TIME") bytes) _ x rest e in
+    let b = step (two_names_at a.after) _ x rest a.second in (
+      a.value,
+      (
+        a.after,
+        (
+          word_says (codes "SYSTEM_TIME") a.value bytes a.after a.first,
+          (b.value, (b.after, (two_names_say b.value a.after b.after b.first, same_read _ x b.after rest b.second))),
+        ),
+      ),
+    )
+
+application_period_says : (x : Entry) (bytes rest : List ℕ) → application_period_at bytes ≡ Ok (x, rest) → ApplicationPeriodText x bytes rest
+unfolding application_period_at
+application_period_says x bytes rest e =
+    let a = step (name_at bytes) _ x rest e in
+    let b = step (two_names_at a.after) _ x rest a.second in (
+      a.value,
+      (
+        a.after,
+        (
+          name_says a.value bytes a.after a.first,
+          (b.value, (b.after, (two_names_say b.value a.after b.after b.first, same_read _ x b.after rest b.second))),
+        ),
+      ),
+    )
+
 period_says : (x : Entry) (bytes rest : List ℕ) → period_at bytes ≡ Ok (x, rest) → PeriodEntry x bytes rest
 unfolding period_at
 period_says x bytes rest e =
     let a = over (word_at (codes "PERIOD") bytes) _ x rest e in
-    let b = over (word_at (codes "FOR") a.after) _ x rest a.second in
-    let c = over (word_at (codes "SYSTEM_TIME") b.after) _ x rest b.second in (
+    let b = over (word_at (codes "FOR") a.after) _ x rest a.second in (
       a.value,
       (
         a.after,
@@ -311,13 +341,32 @@ period_says x bytes rest e =
               b.after,
               (
                 word_says (codes "FOR") b.value a.after b.after b.first,
-                (c.value, (c.after, (word_says (codes "SYSTEM_TIME") c.value b.after c.after c.first, two_names_say x c.after rest c.second))),
+                elim (either (is_word_at (codes "SYSTEM_TIME") b.after) _ _ _ b.second) [
+                  | inl w ↦ inl (system_period_says x b.after rest w.1)
+                  | inr w ↦ inr (application_period_says x b.after rest w.1)
+                ],
               ),
             ),
           ),
         ),
       ),
     )
+
+without_overlaps_says : (x : Unit {0}) (bytes rest : List ℕ) → without_overlaps_at bytes ≡ Ok rest → WithoutOverlapsWords x bytes rest
+unfolding without_overlaps_at
+without_overlaps_says x bytes rest e =
+    let a = over_to (word_at (codes "WITHOUT") bytes) _ rest e in
+    (a.value, (a.after, (word_says (codes "WITHOUT") a.value bytes a.after a.first, word_says (codes "OVERLAPS") x a.after rest a.second)))
+
+overlaps_say : (several x : Bool) (bytes rest : List ℕ) → overlaps_at several bytes ≡ Ok (x, rest) → MaybeOverlaps several x bytes rest
+unfolding overlaps_at
+overlaps_say false x bytes rest e = same_read false x bytes rest e
+overlaps_say true x bytes rest e = elim (either (is_word_at (codes "WITHOUT") bytes) _ _ _ e) [
+  | inl w ↦
+      let a = over (without_overlaps_at bytes) _ x rest w.1 in
+      inl (a.value, (a.after, (without_overlaps_says a.value bytes a.after a.first, same_read true x a.after rest a.second)))
+  | inr w ↦ inr (same_read false x bytes rest w.1)
+]
 
 listed_says : {A : Type 0} (item : List ℕ → Read A) (R : Says A) → ((x : A) (bytes rest : List ℕ) → item bytes ≡ Ok (x, rest) → R x bytes rest)
     → (n : ℕ) (xs : List A) (bytes rest : List ℕ) → list_at item n bytes ≡ Ok (xs, rest) → Listed R xs bytes rest
@@ -350,7 +399,8 @@ key_says x bytes rest e =
     let a = over (primary_key_at bytes) _ x rest e in
     let b = over (symbol_at 40 a.after) _ x rest a.second in
     let c = step (names_at b.after) _ x rest b.second in
-    let d = over (symbol_at 41 c.after) _ x rest c.second in (
+    let o = step (overlaps_at (nat_le 2 (length c.value)) c.after) _ x rest c.second in
+    let d = over (symbol_at 41 o.after) _ x rest o.second in (
       a.value,
       (
         a.after,
@@ -368,7 +418,16 @@ key_says x bytes rest e =
                     c.after,
                     (
                       names_say c.value b.after c.after c.first,
-                      (d.value, (d.after, (symbol_says 41 d.value c.after d.after d.first, same_read _ x d.after rest d.second))),
+                      (
+                        o.value,
+                        (
+                          o.after,
+                          (
+                            overlaps_say (nat_le 2 (length c.value)) o.value c.after o.after o.first,
+                            (d.value, (d.after, (symbol_says 41 d.value o.after d.after d.first, same_read _ x d.after rest d.second))),
+                          ),
+                        ),
+                      ),
                     ),
                   ),
                 ),

@@ -1,6 +1,6 @@
 -- No piece of a schema leaves more of the text than it found, and most leave less.
 use Rattle.std.proofs.Common.{◌≡◌, ℕ, ◌+◌, ◌≤◌, ◌<◌, true, List, [], ◌∷◌, ◌++◌, Some, None, inl, inr, length, ap, arith, lit<}
-use Rattle.std.specs.Prelude.{codes}
+use Rattle.std.specs.Prelude.{Bool, false, nat_le, codes}
 use Rattle.std.proofs.lemmas.List.{length-append}
 use Rattle.values.specs.declared.table.ColumnType.TheVariants.{Int, Text, Varchar, Boolean}
 use Rattle.rows.specs.declared.declaration.Mark.{Mark}
@@ -10,7 +10,7 @@ use Rattle.rows.specs.declared.declaration.Entry.{Entry}
 use Rattle.rows.specs.declared.declaration.Declaration.{Declaration}
 use Rattle.tokens.specs.Name.{is_name}
 use Rattle.tokens.proofs.WordCases.{some_written}
-use Rattle.rows.specs.SchemaGrammar.{Says, Piece, blank, comment, last_comment, Gap, IsNext, Symbol, Letters, Word, Name, Digits, ◌>>=◌, just, ◌or◌, Listed, Many, Size, TypeName, NotNullWords, PrimaryKeyWords, MarkWords, UserEntry, Precision, MaybeNotNull, RowSide, GeneratedAsRow, GeneratedEntry, TwoNames, PeriodEntry, KeyEntry, ColumnEntry, EntryText, Body, Versioning, CreateText, SchemaText}
+use Rattle.rows.specs.SchemaGrammar.{Says, Piece, blank, comment, last_comment, Gap, IsNext, Symbol, Letters, Word, Name, Digits, ◌>>=◌, just, ◌or◌, Listed, Many, Size, TypeName, NotNullWords, PrimaryKeyWords, MarkWords, UserEntry, Precision, MaybeNotNull, RowSide, GeneratedAsRow, GeneratedEntry, TwoNames, SystemPeriodText, ApplicationPeriodText, PeriodEntry, WithoutOverlapsWords, MaybeOverlaps, KeyEntry, ColumnEntry, EntryText, Body, Versioning, CreateText, SchemaText}
 
 pub record Keeps {A : Type 0} (R : Says A) : Type 0 where
   pub within : (x : A) (bytes rest : List ℕ) → R x bytes rest → length rest ≤ length bytes
@@ -147,15 +147,28 @@ two_names_keep =
     then_keep _ _ (symbol_keeps 40)
     (λ a. then_keep _ _ (takes_keep _ name_takes) (λ b. then_keep _ _ (symbol_keeps 44) (λ c. then_keep _ _ (takes_keep _ name_takes) (λ d. then_keep _ _ (symbol_keeps 41) (λ e. just_keeps _)))))
 
+system_period_keeps : Keeps SystemPeriodText
+system_period_keeps = then_keep _ _ (word_keeps (codes "SYSTEM_TIME") (lit< tt)) (λ a. then_keep _ _ two_names_keep (λ columns. just_keeps _))
+
+application_period_keeps : Keeps ApplicationPeriodText
+application_period_keeps = then_keep _ _ (takes_keep _ name_takes) (λ name. then_keep _ _ two_names_keep (λ columns. just_keeps _))
+
 period_takes : Advances PeriodEntry
 period_takes =
-    then_take _ _ (word_takes (codes "PERIOD") (lit< tt))
-    (λ a. then_keep _ _ (word_keeps (codes "FOR") (lit< tt)) (λ b. then_keep _ _ (word_keeps (codes "SYSTEM_TIME") (lit< tt)) (λ c. two_names_keep)))
+    then_take _ _ (word_takes (codes "PERIOD") (lit< tt)) (λ a. then_keep _ _ (word_keeps (codes "FOR") (lit< tt)) (λ b. or_keep _ _ system_period_keeps application_period_keeps))
+
+without_overlaps_keep : Keeps WithoutOverlapsWords
+without_overlaps_keep = then_keep _ _ (word_keeps (codes "WITHOUT") (lit< tt)) (λ a. word_keeps (codes "OVERLAPS") (lit< tt))
+
+overlaps_keep : (several : Bool) → Keeps (MaybeOverlaps several)
+overlaps_keep true = or_keep _ _ (then_keep _ _ without_overlaps_keep (λ x. just_keeps true)) (just_keeps false)
+overlaps_keep false = just_keeps false
 
 key_takes : Advances KeyEntry
 key_takes =
     then_take _ _ primary_key_takes
-    (λ a. then_keep _ _ (symbol_keeps 40) (λ b. then_keep _ _ (listed_keep Name name_takes) (λ names. then_keep _ _ (symbol_keeps 41) (λ d. just_keeps _))))
+    (λ a. then_keep _ _ (symbol_keeps 40)
+    (λ b. then_keep _ _ (listed_keep Name name_takes) (λ names. then_keep _ _ (overlaps_keep (nat_le 2 (length names))) (λ overlaps. then_keep _ _ (symbol_keeps 41) (λ d. just_keeps _)))))
 
 column_takes : Advances ColumnEntry
 column_takes = then_take _ _ name_takes (λ name. or_keep _ _ (generated_keeps name) (user_keeps name))

@@ -1,6 +1,6 @@
 -- Where reading stops, a token begins or the text ends.
 use Rattle.std.proofs.Common.{◌≡◌, ℕ, ◌≤◌, ◌<◌, Bool, true, false, List, [], ◌∷◌, ◌++◌, Option, Some, None, Ok, Err, length, refl, sym, subst, ap, ◌∙◌, arith, if◌then◌else◌, suc, zero}
-use Rattle.std.specs.Prelude.{codes, not, ◌==◌}
+use Rattle.std.specs.Prelude.{codes, not, nat_le, ◌==◌}
 use Rattle.std.proofs.lemmas.List.{length-append, append_assoc, append-nil}
 use Rattle.values.specs.declared.table.ColumnType.TheVariants.{Varchar}
 use Rattle.std.specs.List.{prefix_len}
@@ -13,7 +13,7 @@ use Rattle.tokens.specs.Name.{is_name}
 use Rattle.tokens.specs.Name.{name_at as name_after}
 use Rattle.rows.specs.SchemaToken.{next, symbol_at, is_word_at, after_word, word_at, name_at, number_from, digits_at}
 use Rattle.std.specs.Char.{is_ascii_digit}
-use Rattle.rows.specs.Declaration.{prepend, list_at, names_at, size_at, is_whole_number_at, varchar_at, type_at, not_null_at, primary_key_at, mark_at, is_mark_at, marks_upto, marks_at, user_at, precision_at, maybe_not_null_at, side_at, row_side_at, generated_at, two_names_at, period_at, key_at, column_at, entry_at, entries_at, body_at, versioning_at, create_at, is_end_at, more_at, creates_upto, creates_at}
+use Rattle.rows.specs.Declaration.{prepend, list_at, names_at, size_at, is_whole_number_at, varchar_at, type_at, not_null_at, primary_key_at, mark_at, is_mark_at, marks_upto, marks_at, user_at, precision_at, maybe_not_null_at, side_at, row_side_at, generated_at, two_names_at, system_period_at, application_period_at, period_at, without_overlaps_at, overlaps_at, key_at, column_at, entry_at, entries_at, body_at, versioning_at, create_at, is_end_at, more_at, creates_upto, creates_at}
 use Rattle.rows.specs.SchemaGrammar.{Says, Piece, blank, comment, last_comment, Gap, BeginsToken, Name, EntryText}
 use Rattle.rows.proofs.SchemaSpelled.{front-skip, next_is, symbol_says, name_says}
 use Rattle.rows.proofs.SchemaSays.{entry_says, create_says}
@@ -272,12 +272,32 @@ two_names_stop bytes =
     (λ o a e. then_stops a (name_at a) _ (name_stops a)
     (λ x b f. then_after b (symbol_at 44 b) _ (symbol_stops 44 b) (λ y c g. then_stops c (name_at c) _ (name_stops c) (λ z d h. then_after d (symbol_at 41 d) _ (symbol_stops 41 d) (λ u k i. stays k _)))))
 
+system_period_stops : (bytes : List ℕ) → Stops bytes (system_period_at bytes)
+unfolding system_period_at
+system_period_stops bytes =
+    then_after bytes (word_at (codes "SYSTEM_TIME") bytes) _ (word_stops (codes "SYSTEM_TIME") bytes) (λ w a e. then_stops a (two_names_at a) _ (two_names_stop a) (λ x b f. stays b _))
+
+application_period_stops : (bytes : List ℕ) → Stops bytes (application_period_at bytes)
+unfolding application_period_at
+application_period_stops bytes =
+    then_stops bytes (name_at bytes) _ (name_stops bytes) (λ name a e. then_stops a (two_names_at a) _ (two_names_stop a) (λ x b f. stays b _))
+
 period_stops : (bytes : List ℕ) → Stops bytes (period_at bytes)
 unfolding period_at
 period_stops bytes =
     then_after bytes (word_at (codes "PERIOD") bytes) _ (word_stops (codes "PERIOD") bytes)
     (λ w a e. then_after a (word_at (codes "FOR") a) _ (word_stops (codes "FOR") a)
-    (λ x b f. then_after b (word_at (codes "SYSTEM_TIME") b) _ (word_stops (codes "SYSTEM_TIME") b) (λ y c g. two_names_stop c)))
+    (λ x b f. if_stops b (is_word_at (codes "SYSTEM_TIME") b) _ _ (system_period_stops b) (application_period_stops b)))
+
+without_overlaps_stops : (bytes : List ℕ) → Leads bytes (without_overlaps_at bytes)
+unfolding without_overlaps_at
+without_overlaps_stops bytes = two_words (codes "WITHOUT") (codes "OVERLAPS") bytes
+
+overlaps_stop : (several : Bool) (bytes : List ℕ) → Stops bytes (overlaps_at several bytes)
+unfolding overlaps_at
+overlaps_stop false bytes = stays bytes false
+overlaps_stop true bytes =
+    if_stops bytes (is_word_at (codes "WITHOUT") bytes) _ _ (then_after bytes (without_overlaps_at bytes) _ (without_overlaps_stops bytes) (λ x more e. stays more true)) (stays bytes false)
 
 -- lists: the turns are enough, since each item takes a byte or more
 module _ {A : Type 0} (item : List ℕ → Read A) (R : Says A) (says : (x : A) (bytes rest : List ℕ) → item bytes ≡ Ok (x, rest) → R x bytes rest) (matches : Advances R)
@@ -303,7 +323,9 @@ key_stops : (bytes : List ℕ) → Stops bytes (key_at bytes)
 unfolding key_at
 key_stops bytes =
     then_after bytes (primary_key_at bytes) _ (primary_key_stops bytes)
-    (λ w a e. then_after a (symbol_at 40 a) _ (symbol_stops 40 a) (λ x b f. then_stops b (names_at b) _ (names_stop b) (λ y c g. then_after c (symbol_at 41 c) _ (symbol_stops 41 c) (λ z d h. stays d _))))
+    (λ w a e. then_after a (symbol_at 40 a) _ (symbol_stops 40 a)
+    (λ x b f. then_stops b (names_at b) _ (names_stop b)
+    (λ y c g. then_stops c (overlaps_at (nat_le 2 (length y)) c) _ (overlaps_stop (nat_le 2 (length y)) c) (λ o d h. then_after d (symbol_at 41 d) _ (symbol_stops 41 d) (λ z k i. stays k _)))))
 
 column_stops : (bytes : List ℕ) → Stops bytes (column_at bytes)
 unfolding column_at

@@ -1,10 +1,11 @@
 -- What is of the grammar is read: statements.
 use Rattle.std.proofs.Common.{◌≡◌, ℕ, ◌≤◌, ◌<◌, List, [], ◌∷◌, ◌||◌, inl, inr, Bool, true, false, Option, Some, None, Ok, length, refl, ap, ◌∙◌, arith, lit<, if◌then◌else◌, suc, zero}
-use Rattle.std.specs.Prelude.{Result, Err, not, codes}
+use Rattle.std.specs.Prelude.{Result, Err, not, nat_le, codes}
 use Rattle.values.specs.declared.table.ColumnType.{ColumnType}
 use Rattle.values.specs.declared.table.ColumnType.TheVariants.{Int}
 use Rattle.rows.specs.declared.declaration.Mark.{Mark}
 use Rattle.rows.specs.declared.declaration.Side.{Side}
+use Rattle.rows.specs.declared.declaration.PeriodNames.{PeriodNames}
 use Rattle.rows.specs.declared.declaration.Entry.{Entry}
 use Rattle.rows.specs.declared.declaration.Declaration.{Declaration}
 use Rattle.values.specs.Names.{same_name}
@@ -14,10 +15,10 @@ use Rattle.tokens.specs.Word.{is_name_byte}
 use Rattle.tokens.specs.Word.{is_word_at as is_word_after}
 use Rattle.tokens.proofs.WordCases.{Refused, none_same}
 use Rattle.rows.specs.SchemaToken.{next, symbol_at, is_word_at, after_word, name_at}
-use Rattle.rows.specs.Declaration.{prepend, list_at, names_at, size_at, is_whole_number_at, varchar_at, type_at, not_null_at, primary_key_at, mark_at, is_mark_at, marks_upto, marks_at, user_at, precision_at, maybe_not_null_at, side_at, row_side_at, generated_at, two_names_at, period_at, key_at, column_at, entry_at, entries_at, body_at, versioning_at, create_at, is_nothing, is_end_at, more_at, creates_upto, creates_at}
-use Rattle.rows.specs.SchemaGrammar.{Says, Symbol, Word, Name, Listed, Many, Size, TypeName, NotNullWords, PrimaryKeyWords, MarkWords, UserEntry, Precision, MaybeNotNull, RowSide, GeneratedAsRow, GeneratedEntry, TwoNames, PeriodEntry, KeyEntry, ColumnEntry, EntryText, Body, Versioning, CreateText, IsEnd, SchemaText}
+use Rattle.rows.specs.Declaration.{prepend, list_at, names_at, size_at, is_whole_number_at, varchar_at, type_at, not_null_at, primary_key_at, mark_at, is_mark_at, marks_upto, marks_at, user_at, precision_at, maybe_not_null_at, side_at, row_side_at, generated_at, two_names_at, system_period_at, application_period_at, period_at, without_overlaps_at, overlaps_at, key_at, column_at, entry_at, entries_at, body_at, versioning_at, create_at, is_nothing, is_end_at, more_at, creates_upto, creates_at}
+use Rattle.rows.specs.SchemaGrammar.{Says, Symbol, Word, Name, Listed, Many, Size, TypeName, NotNullWords, PrimaryKeyWords, MarkWords, UserEntry, Precision, MaybeNotNull, RowSide, GeneratedAsRow, GeneratedEntry, TwoNames, SystemPeriodText, ApplicationPeriodText, PeriodEntry, WithoutOverlapsWords, MaybeOverlaps, KeyEntry, ColumnEntry, EntryText, Body, Versioning, CreateText, IsEnd, SchemaText}
 use Rattle.rows.proofs.SchemaRead.{next_reads, symbol_read, word_is_at, word_left, word_read, name_read, digits_read}
-use Rattle.rows.proofs.SchemaApart.{other_word, period_no_name, primary_no_name, no_word_at_symbol, no_symbol_at_symbol, no_symbol_at_word}
+use Rattle.rows.proofs.SchemaApart.{other_word, system_time_no_name, period_no_name, primary_no_name, no_word_at_symbol, no_symbol_at_symbol, no_symbol_at_word}
 use Rattle.rows.proofs.SchemaShrinks.{names_long, entries_long, marks_long, schema_long}
 
 -- one step of a reading, and its end
@@ -217,17 +218,50 @@ generated_read name x bytes rest done (t, (a, (timestamp, (p, (b, (precision, (y
     (ok_then _ (row_side_read s c d row) (ok_then _ (maybe_read z d f (ap (is_word_at (codes "NOT")) at ∙ done) after) (said same at)))))
 
 -- clauses
-two_names_read : (x : Entry) (bytes rest : List ℕ) → TwoNames x bytes rest → two_names_at bytes ≡ Ok (x, rest)
+two_names_read : (x : PeriodNames) (bytes rest : List ℕ) → TwoNames x bytes rest → two_names_at bytes ≡ Ok (x, rest)
 unfolding two_names_at
 two_names_read x bytes rest (o, (a, (opened, (start, (b, (first, (u, (c, (comma, (end, (d, (second, (v, (f, (closed, (same, at)))))))))))))))) =
     after_then _ (symbol_read 40 o bytes a opened)
     (ok_then _ (name_read start a b first) (after_then _ (symbol_read 44 u b c comma) (ok_then _ (name_read end c d second) (after_then _ (symbol_read 41 v d f closed) (said same at)))))
 
+system_period_read : (x : Entry) (bytes rest : List ℕ) → SystemPeriodText x bytes rest → system_period_at bytes ≡ Ok (x, rest)
+unfolding system_period_at
+system_period_read x bytes rest (r, (a, (system_time, (columns, (b, (names, (same, at))))))) =
+    after_then _ (word_read (codes "SYSTEM_TIME") r bytes a system_time) (ok_then _ (two_names_read columns a b names) (said same at))
+
+application_period_read : (x : Entry) (bytes rest : List ℕ) → ApplicationPeriodText x bytes rest → application_period_at bytes ≡ Ok (x, rest)
+unfolding application_period_at
+application_period_read x bytes rest (name, (a, (is, (columns, (b, (names, (same, at))))))) =
+    ok_then _ (name_read name bytes a is) (ok_then _ (two_names_read columns a b names) (said same at))
+
 period_read : (x : Entry) (bytes rest : List ℕ) → PeriodEntry x bytes rest → period_at bytes ≡ Ok (x, rest)
 unfolding period_at
-period_read x bytes rest (p, (a, (period, (q, (b, (for, (r, (c, (system_time, names))))))))) =
+period_read x bytes rest (p, (a, (period, (q, (b, (for, inl system)))))) =
     after_then _ (word_read (codes "PERIOD") p bytes a period)
-    (after_then _ (word_read (codes "FOR") q a b for) (after_then _ (word_read (codes "SYSTEM_TIME") r b c system_time) (two_names_read x c rest names)))
+    (after_then _ (word_read (codes "FOR") q a b for)
+    (when (is_word_at (codes "SYSTEM_TIME") b) _ _ _ (word_is_at (codes "SYSTEM_TIME") system.0 b system.1.0 system.1.1.0) (system_period_read x b rest system)))
+period_read x bytes rest (p, (a, (period, (q, (b, (for, inr named)))))) =
+    after_then _ (word_read (codes "PERIOD") p bytes a period)
+    (after_then _ (word_read (codes "FOR") q a b for)
+    (unless (is_word_at (codes "SYSTEM_TIME") b) _ _ _ (system_time_no_name named.0 b named.1.0 named.1.1.0) (application_period_read x b rest named)))
+
+without_overlaps_read : (x : Unit {0}) (bytes rest : List ℕ) → WithoutOverlapsWords x bytes rest → without_overlaps_at bytes ≡ Ok rest
+unfolding without_overlaps_at
+without_overlaps_read x bytes rest (y, (more, (without, overlaps))) = after_then _ (word_read (codes "WITHOUT") y bytes more without) (word_read (codes "OVERLAPS") x more rest overlaps)
+
+overlaps_read : (several x : Bool) (bytes rest : List ℕ) → is_word_at (codes "WITHOUT") rest ≡ false → MaybeOverlaps several x bytes rest → overlaps_at several bytes ≡ Ok (x, rest)
+unfolding overlaps_at
+overlaps_read false x bytes rest none (same, at) = said same at
+overlaps_read true x bytes rest none (inl (y, (more, (words, (same, at))))) =
+    when (is_word_at (codes "WITHOUT") bytes) _ _ _ (word_is_at (codes "WITHOUT") words.0 bytes words.1.0 words.1.1.0) (after_then _ (without_overlaps_read y bytes more words) (said same at))
+overlaps_read true x bytes rest none (inr (same, at)) =
+    unless (is_word_at (codes "WITHOUT") bytes) _ _ _ (ap (is_word_at (codes "WITHOUT")) at ∙ none) (said same at)
+
+-- no comma comes before WITHOUT OVERLAPS, nor where the list is closed
+no_comma_at_overlaps : (several x : Bool) (bytes rest : List ℕ) → Refused (symbol_at 44 rest) → MaybeOverlaps several x bytes rest → Refused (symbol_at 44 bytes)
+no_comma_at_overlaps false x bytes rest none (same, at) = record { at = none.at; is = ap (symbol_at 44) at ∙ none.is }
+no_comma_at_overlaps true x bytes rest none (inl (y, (more, (words, e)))) = no_symbol_at_word 44 refl (codes "WITHOUT") (lit< tt) words.0 bytes words.1.0 words.1.1.0
+no_comma_at_overlaps true x bytes rest none (inr (same, at)) = record { at = none.at; is = ap (symbol_at 44) at ∙ none.is }
 
 -- lists
 abbrev ended : {A : Type 0} → (List ℕ → Read A) → ℕ → A → List ℕ → After → Read (List A)
@@ -251,9 +285,12 @@ names_read xs bytes rest none e =
 
 key_read : (x : Entry) (bytes rest : List ℕ) → KeyEntry x bytes rest → key_at bytes ≡ Ok (x, rest)
 unfolding key_at
-key_read x bytes rest (p, (a, (primary_key, (o, (b, (opened, (names, (c, (list_at, (v, (d, (closed, (same, at))))))))))))) =
+key_read x bytes rest (p, (a, (primary_key, (o, (b, (opened, (names, (c, (list_at, (w, (d, (overlaps, (v, (f, (closed, (same, at)))))))))))))))) =
+    let several = nat_le 2 (length names) in
     after_then _ (primary_key_read p bytes a primary_key)
-    (after_then _ (symbol_read 40 o a b opened) (ok_then _ (names_read names b c (no_symbol_at_symbol 44 41 refl v c d closed) list_at) (after_then _ (symbol_read 41 v c d closed) (said same at))))
+    (after_then _ (symbol_read 40 o a b opened)
+    (ok_then _ (names_read names b c (no_comma_at_overlaps several w c d (no_symbol_at_symbol 44 41 refl v d f closed) overlaps) list_at)
+    (ok_then _ (overlaps_read several w c d (no_word_at_symbol 87 (73 ∷ 84 ∷ 72 ∷ 79 ∷ 85 ∷ 84 ∷ []) 41 refl v d f closed) overlaps) (after_then _ (symbol_read 41 v d f closed) (said same at)))))
 
 -- entries
 column_read : (x : Entry) (bytes rest : List ℕ) → is_mark_at rest ≡ false → ColumnEntry x bytes rest → column_at bytes ≡ Ok (x, rest)

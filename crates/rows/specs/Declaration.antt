@@ -1,13 +1,14 @@
 -- Reading the statements of a schema from the left.
-use Rattle.std.specs.Prelude.{ℕ, List, [], ◌∷◌, ◌++◌, ◌||◌, Bool, true, false, Ok, Err, Option, Some, None, not, if◌then◌else◌, length, codes, zero, suc}
+use Rattle.std.specs.Prelude.{ℕ, List, [], ◌∷◌, ◌++◌, ◌||◌, Bool, true, false, Ok, Err, Option, Some, None, not, nat_le, if◌then◌else◌, length, codes, zero, suc}
 use Rattle.values.specs.declared.table.ColumnType.{ColumnType}
 use Rattle.values.specs.declared.table.ColumnType.TheVariants.{Int, Text, Varchar, Boolean}
 use Rattle.rows.specs.declared.declaration.Mark.{Mark}
 use Rattle.rows.specs.declared.declaration.Mark.TheVariants.{NotNull, PrimaryKey}
 use Rattle.rows.specs.declared.declaration.Side.{Side}
 use Rattle.rows.specs.declared.declaration.Side.TheVariants.{Start, End}
+use Rattle.rows.specs.declared.declaration.PeriodNames.{PeriodNames}
 use Rattle.rows.specs.declared.declaration.Entry.{Entry}
-use Rattle.rows.specs.declared.declaration.Entry.TheVariants.{User, Generated, Period, Key}
+use Rattle.rows.specs.declared.declaration.Entry.TheVariants.{User, Generated, Period, Application, Key}
 use Rattle.rows.specs.declared.declaration.Declaration.{Declaration}
 use Rattle.tokens.specs.Token.{After, Read, ◌>>=◌}
 use Rattle.rows.specs.SchemaToken.{next, symbol_at, is_word_at, after_word, word_at, name_at, digits_at}
@@ -147,31 +148,62 @@ generated_at name bytes = do
   )
 
 -- "(" name "," name ")"
-unfoldable pub two_names_at : List ℕ → Read Entry
+unfoldable pub two_names_at : List ℕ → Read PeriodNames
 two_names_at bytes = do
   opened ← symbol_at 40 bytes
   start ← name_at opened
   comma ← symbol_at 44 start.1
   end ← name_at comma
   closed ← symbol_at 41 end.1
-  Ok (Period (record { start = start.0; end = end.0 }), closed)
+  Ok (record { start = start.0; end = end.0 }, closed)
 
--- PERIOD FOR SYSTEM_TIME "(" name "," name ")"
+-- SYSTEM_TIME "(" name "," name ")"
+unfoldable pub system_period_at : List ℕ → Read Entry
+system_period_at bytes = do
+  system_time ← word_at (codes "SYSTEM_TIME") bytes
+  columns ← two_names_at system_time
+  Ok (Period columns.0, columns.1)
+
+-- name "(" name "," name ")"
+unfoldable pub application_period_at : List ℕ → Read Entry
+application_period_at bytes = do
+  name ← name_at bytes
+  columns ← two_names_at name.1
+  Ok (Application (record { name = name.0; columns = columns.0 }), columns.1)
+
+-- PERIOD FOR (SYSTEM_TIME | name) "(" name "," name ")"
 unfoldable pub period_at : List ℕ → Read Entry
 period_at bytes = do
   period ← word_at (codes "PERIOD") bytes
   for ← word_at (codes "FOR") period
-  system_time ← word_at (codes "SYSTEM_TIME") for
-  two_names_at system_time
+  if is_word_at (codes "SYSTEM_TIME") for then system_period_at for else application_period_at for
 
--- PRIMARY KEY "(" name {"," name} ")"
+-- WITHOUT OVERLAPS
+unfoldable pub without_overlaps_at : List ℕ → After
+without_overlaps_at bytes = do
+  without ← word_at (codes "WITHOUT") bytes
+  word_at (codes "OVERLAPS") without
+
+-- [WITHOUT OVERLAPS] after several names, and nothing after one
+unfoldable pub overlaps_at : Bool → List ℕ → Read Bool
+overlaps_at several bytes =
+    if several
+    then (
+    if is_word_at (codes "WITHOUT") bytes
+    then (without_overlaps_at bytes >>= (λ rest. Ok (true, rest)))
+    else Ok (false, bytes)
+    )
+    else Ok (false, bytes)
+
+-- PRIMARY KEY "(" name {"," name} ["," name WITHOUT OVERLAPS] ")"
 unfoldable pub key_at : List ℕ → Read Entry
 key_at bytes = do
   primary_key ← primary_key_at bytes
   opened ← symbol_at 40 primary_key
   names ← names_at opened
-  closed ← symbol_at 41 names.1
-  Ok (Key names.0, closed)
+  overlaps ← overlaps_at (nat_le 2 (length names.0)) names.1
+  closed ← symbol_at 41 overlaps.1
+  Ok (Key (record { names = names.0; without_overlaps = overlaps.0 }), closed)
 
 -- an entry that begins with a column's name
 unfoldable pub column_at : List ℕ → Read Entry

@@ -1,6 +1,6 @@
 -- The grammar of schemas: relations between what a text says, the text, and what comes after it.
 -- They know nothing of reading.
-use Rattle.std.specs.Prelude.{◌≡◌, ℕ, ◌≤◌, List, [], ◌∷◌, ◌++◌, ◌==◌, ◌⊎◌, Bool, true, false, Option, Some, None, length, not, codes}
+use Rattle.std.specs.Prelude.{◌≡◌, ℕ, ◌≤◌, List, [], ◌∷◌, ◌++◌, ◌==◌, ◌⊎◌, Bool, true, false, Option, Some, None, nat_le, length, not, codes}
 use Rattle.std.specs.Char.{is_ascii_digit}
 use Rattle.values.specs.declared.table.ColumnType.{ColumnType}
 use Rattle.values.specs.declared.table.ColumnType.TheVariants.{Int, Text, Varchar, Boolean}
@@ -8,8 +8,9 @@ use Rattle.rows.specs.declared.declaration.Mark.{Mark}
 use Rattle.rows.specs.declared.declaration.Mark.TheVariants.{NotNull, PrimaryKey}
 use Rattle.rows.specs.declared.declaration.Side.{Side}
 use Rattle.rows.specs.declared.declaration.Side.TheVariants.{Start, End}
+use Rattle.rows.specs.declared.declaration.PeriodNames.{PeriodNames}
 use Rattle.rows.specs.declared.declaration.Entry.{Entry}
-use Rattle.rows.specs.declared.declaration.Entry.TheVariants.{User, Generated, Period, Key}
+use Rattle.rows.specs.declared.declaration.Entry.TheVariants.{User, Generated, Period, Application, Key}
 use Rattle.rows.specs.declared.declaration.Declaration.{Declaration}
 use Rattle.values.specs.Names.{same_name}
 use Rattle.tokens.specs.Run.{AllBytes, Ends}
@@ -183,30 +184,55 @@ GeneratedEntry name = do
   }))
 
 -- "(" name "," name ")"
-abbrev pub TwoNames : Says Entry
+abbrev pub TwoNames : Says PeriodNames
 TwoNames = do
   opened ← Symbol 40
   start ← Name
   comma ← Symbol 44
   end ← Name
   closed ← Symbol 41
-  just (Period (record { start = start; end = end }))
+  just (record { start = start; end = end })
 
+-- SYSTEM_TIME "(" name "," name ")"
+abbrev pub SystemPeriodText : Says Entry
+SystemPeriodText = do
+  system_time ← Word (codes "SYSTEM_TIME")
+  columns ← TwoNames
+  just (Period columns)
+
+-- name "(" name "," name ")"
+abbrev pub ApplicationPeriodText : Says Entry
+ApplicationPeriodText = do
+  name ← Name
+  columns ← TwoNames
+  just (Application (record { name = name; columns = columns }))
+
+-- PERIOD FOR (SYSTEM_TIME | name) "(" name "," name ")"
 abbrev pub PeriodEntry : Says Entry
 PeriodEntry = do
   period ← Word (codes "PERIOD")
   for ← Word (codes "FOR")
-  system_time ← Word (codes "SYSTEM_TIME")
-  TwoNames
+  SystemPeriodText or ApplicationPeriodText
 
--- PRIMARY KEY "(" name {"," name} ")"
+abbrev pub WithoutOverlapsWords : Says (Unit {0})
+WithoutOverlapsWords = do
+  without ← Word (codes "WITHOUT")
+  Word (codes "OVERLAPS")
+
+-- [WITHOUT OVERLAPS] after several names, and nothing after one
+abbrev pub MaybeOverlaps : Bool → Says Bool
+MaybeOverlaps true = (WithoutOverlapsWords >>= (λ x. just true)) or just false
+MaybeOverlaps false = just false
+
+-- PRIMARY KEY "(" name {"," name} ["," name WITHOUT OVERLAPS] ")"
 abbrev pub KeyEntry : Says Entry
 KeyEntry = do
   primary_key ← PrimaryKeyWords
   opened ← Symbol 40
   names ← Listed Name
+  overlaps ← MaybeOverlaps (nat_le 2 (length names))
   closed ← Symbol 41
-  just (Key names)
+  just (Key (record { names = names; without_overlaps = overlaps }))
 
 abbrev pub ColumnEntry : Says Entry
 ColumnEntry = Name >>= (λ name. GeneratedEntry name or UserEntry name)

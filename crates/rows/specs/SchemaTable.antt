@@ -1,20 +1,23 @@
 -- The tables that declarations make, and which declarations make none.
-use Rattle.std.specs.Prelude.{◌≡◌, ℕ, ◌+◌, ◌-◌, List, [], ◌∷◌, ◌++◌, ◌==◌, ◌&&◌, Bool, true, false, not, nat_le, nat_lt, Option, Some, None, Result, Ok, Err, if◌then◌else◌, length, map, filter, count_by, option_and_then}
+use Rattle.std.specs.Prelude.{◌≡◌, ℕ, ◌+◌, ◌-◌, List, [], ◌∷◌, ◌++◌, ◌==◌, ◌&&◌, ◌||◌, Bool, true, false, not, nat_le, nat_lt, Option, Some, None, Result, Ok, Err, if◌then◌else◌, length, map, filter, count_by, option_and_then}
 use Rattle.std.specs.List.{list_any, list_all, filter_map, flat_map, position_from}
 use Rattle.std.specs.Option.{unwrap_or}
 use Rattle.values.specs.declared.table.ColumnType.{ColumnType}
-use Rattle.values.specs.declared.table.ColumnType.TheVariants.{Varchar}
+use Rattle.values.specs.declared.table.ColumnType.TheVariants.{Int, Varchar}
+use Rattle.values.specs.declared.period.Period.{Period as TablePeriod}
 use Rattle.values.specs.declared.table.Column.{Column}
 use Rattle.values.specs.declared.table.Table.{Table}
 use Rattle.values.specs.Fit.{longest_text}
-use Rattle.values.specs.Tables.{Schema, most_digits, most_key_columns, most_tables, widest}
+use Rattle.values.specs.Tables.{Schema, but_last, most_digits, most_key_columns, most_tables, widest}
 use Rattle.rows.specs.declared.declaration.Mark.{Mark}
 use Rattle.rows.specs.declared.declaration.Mark.TheVariants.{NotNull, PrimaryKey}
 use Rattle.rows.specs.declared.declaration.Side.{Side}
 use Rattle.rows.specs.declared.declaration.Side.TheVariants.{Start, End}
 use Rattle.rows.specs.declared.declaration.PeriodNames.{PeriodNames}
+use Rattle.rows.specs.declared.declaration.ApplicationPeriod.{ApplicationPeriod}
+use Rattle.rows.specs.declared.declaration.KeyClause.{KeyClause}
 use Rattle.rows.specs.declared.declaration.Entry.{Entry}
-use Rattle.rows.specs.declared.declaration.Entry.TheVariants.{User, Generated, Period, Key}
+use Rattle.rows.specs.declared.declaration.Entry.TheVariants.{User, Generated, Period, Application, Key}
 use Rattle.rows.specs.declared.declaration.Declaration.{Declaration}
 use Rattle.rows.specs.declared.schema_reading.SchemaFault.{SchemaFault}
 use Rattle.rows.specs.declared.schema_reading.SchemaFault.TheVariants.{Syntax, BadTable, Memory}
@@ -34,16 +37,27 @@ same_side Start Start = true
 same_side End End = true
 same_side _ _ = false
 
-abbrev pub user_column : Entry → Option Column
-user_column (User c) =
-    Some (record { name = c.name; of = c.of; not_null = list_any is_not_null c.marks })
-user_column _ = None
+-- the period of application time has the column
+abbrev pub is_of_period : Option ApplicationPeriod → List ℕ → Bool
+is_of_period None name = false
+is_of_period (Some p) name = same_name p.columns.start name || same_name p.columns.end name
 
--- the name of a user or generated column
-abbrev pub column_name : Entry → Option (List ℕ)
-column_name (User c) = Some c.name
-column_name (Generated g) = Some g.name
-column_name _ = None
+-- no column of a period of application time takes NULL
+abbrev pub user_column : Option ApplicationPeriod → Entry → Option Column
+user_column period (User c) =
+    Some (record {
+      name = c.name;
+      of = c.of;
+      not_null = list_any is_not_null c.marks || is_of_period period c.name;
+    })
+user_column period _ = None
+
+-- the name of a user or generated column, or of a period of application time
+abbrev pub declared_name : Entry → Option (List ℕ)
+declared_name (User c) = Some c.name
+declared_name (Generated g) = Some g.name
+declared_name (Application p) = Some p.name
+declared_name _ = None
 
 -- the name of the ROW START or the ROW END column
 abbrev pub side_name : Side → Entry → Option (List ℕ)
@@ -54,10 +68,22 @@ abbrev pub period_names : Entry → Option PeriodNames
 period_names (Period p) = Some p
 period_names _ = None
 
+abbrev pub application_period : Entry → Option ApplicationPeriod
+application_period (Application p) = Some p
+application_period _ = None
+
+abbrev pub is_application : Entry → Bool
+is_application (Application p) = true
+is_application _ = false
+
+-- the key of a column that a mark gives
+abbrev pub marked_key : List ℕ → KeyClause
+marked_key name = record { names = name ∷ []; without_overlaps = false }
+
 -- the keys that an entry gives: a clause gives one, and so does each mark of a column
-abbrev pub keys_in : Entry → List (List (List ℕ))
-keys_in (Key names) = names ∷ []
-keys_in (User c) = map (λ mark. c.name ∷ []) (filter is_primary_key c.marks)
+abbrev pub keys_in : Entry → List KeyClause
+keys_in (Key clause) = clause ∷ []
+keys_in (User c) = map (λ mark. marked_key c.name) (filter is_primary_key c.marks)
 keys_in _ = []
 
 -- VARCHAR has from one character to as many as a text has bytes
@@ -86,9 +112,55 @@ abbrev pub only : {A : Type 0} → List A → Option A
 only (x ∷ []) = Some x
 only _ = None
 
+-- the last of the names is the name
+abbrev pub ends_with_name : List ℕ → List (List ℕ) → Bool
+ends_with_name name [] = false
+ends_with_name name (last ∷ []) = same_name name last
+ends_with_name name (x ∷ y ∷ names) = ends_with_name name (y ∷ names)
+
+-- the names of the key's columns where there is a period of application time: the entity's, and in
+-- place of the period's name its start
+abbrev pub period_key_names : ApplicationPeriod → KeyClause → Option (List (List ℕ))
+period_key_names p clause =
+    if clause.without_overlaps && ends_with_name p.name clause.names
+    then Some (but_last clause.names ++ p.columns.start ∷ [])
+    else None
+
+-- the names of the key's columns: WITHOUT OVERLAPS is given where there is a period, and nowhere else
+abbrev pub key_names : Option ApplicationPeriod → KeyClause → Option (List (List ℕ))
+key_names None clause = if clause.without_overlaps then None else Some clause.names
+key_names (Some p) clause = period_key_names p clause
+
 -- a user column's number, from 1, or 0 where none has the name
 abbrev pub number_in : List Column → List ℕ → ℕ
 number_in columns name = unwrap_or (position_from (λ c. same_name c.name name) 1 columns) 0
+
+abbrev pub is_int : ColumnType → Bool
+is_int Int = true
+is_int _ = false
+
+-- a column of whole numbers has the name
+abbrev pub has_int_column : List Column → List ℕ → Bool
+has_int_column columns name = list_any (λ c. same_name c.name name && is_int c.of) columns
+
+-- the one period of application time is between two columns of whole numbers, of which the end is
+-- none of the key's: so it is not the start, which is one; where no period is the only one, there is
+-- none
+abbrev pub is_good_application : List Entry → List Column → List (List ℕ) → Option ApplicationPeriod → Bool
+is_good_application entries columns key None = not (list_any is_application entries)
+is_good_application entries columns key (Some p) =
+    has_int_column columns p.columns.start && has_int_column columns p.columns.end
+    && not (list_any (same_name p.columns.end) key)
+
+-- the table's period of application time, by the numbers of its columns
+abbrev pub period_in : List Column → Option ApplicationPeriod → Option TablePeriod
+period_in columns None = None
+period_in columns (Some p) =
+    Some (record {
+      name = p.name;
+      from = number_in columns p.columns.start;
+      to = number_in columns p.columns.end;
+    })
 
 -- one to four different user columns
 abbrev pub is_good_key : List (List ℕ) → List ℕ → Bool
@@ -106,11 +178,29 @@ is_good_width columns = nat_le 1 (length columns) && nat_le (length columns) wid
 
 abbrev pub are_good_entries : List Entry → Bool
 are_good_entries entries =
-    list_all is_good_entry entries && are_distinct (filter_map column_name entries)
+    list_all is_good_entry entries && are_distinct (filter_map declared_name entries)
 
 infixl 10 ◌>>=◌
 abbrev ◌>>=◌ : {A B : Type 0} → Option A → (A → Option B) → Option B
 o >>= f = option_and_then f o
+
+-- the table with a number and these names, where the entries make one
+unfoldable pub keyed_table : ℕ → Declaration → List ℕ → List ℕ → Option ApplicationPeriod → List (List ℕ) → Option Table
+keyed_table number d start end period names =
+    let columns = filter_map (user_column period) d.entries in
+    let key = map (number_in columns) names in
+    if is_good_key names key && is_good_width columns && is_good_application d.entries columns names period
+    && are_good_entries d.entries
+    then Some (record {
+      number = number;
+      name = d.name;
+      columns = columns;
+      key = key;
+      row_start = start;
+      row_end = end;
+      period = period_in columns period;
+    })
+    else None
 
 -- the table with a number, where the declaration makes one
 unfoldable pub table_of : ℕ → Declaration → Option Table
@@ -118,21 +208,10 @@ table_of number d = do
   start ← only (filter_map (side_name Start) d.entries)
   end ← only (filter_map (side_name End) d.entries)
   period ← only (filter_map period_names d.entries)
-  names ← only (flat_map keys_in d.entries)
-  let columns = filter_map user_column d.entries
-  let key = map (number_in columns) names
-  if is_good_period start end period && is_good_key names key
-      && is_good_width columns && are_good_entries d.entries
-      then Some (record {
-        number = number;
-        name = d.name;
-        columns = columns;
-        key = key;
-        row_start = start;
-        row_end = end;
-        period = None;
-      })
-      else None
+  clause ← only (flat_map keys_in d.entries)
+  let application = only (filter_map application_period d.entries)
+  names ← key_names application clause
+  if is_good_period start end period then keyed_table number d start end application names else None
 
 -- the table after these, where a schema may have one more: no two have one name
 unfoldable pub next_table : List Table → Declaration → Option Table

@@ -2,7 +2,7 @@
 
 ghost use Rattle.std.specs.Prelude.{◌≡◌};
 ghost use Rattle.tokens.specs.Token.{Leaves, Gives, Makes};
-ghost use Rattle.rows.specs.Declaration.{names_at, size_at, is_whole_number_at, varchar_at, type_at, not_null_at, primary_key_at, mark_at, is_mark_at, marks_at, user_at, precision_at, maybe_not_null_at, side_at, row_side_at, generated_at, two_names_at, period_at, key_at, column_at, entry_at, entries_at, body_at, versioning_at, create_at, is_end_at, more_at, creates_at};
+ghost use Rattle.rows.specs.Declaration.{names_at, size_at, is_whole_number_at, varchar_at, type_at, not_null_at, primary_key_at, mark_at, is_mark_at, marks_at, user_at, precision_at, maybe_not_null_at, side_at, row_side_at, generated_at, two_names_at, system_period_at, application_period_at, period_at, without_overlaps_at, overlaps_at, key_at, column_at, entry_at, entries_at, body_at, versioning_at, create_at, is_end_at, more_at, creates_at};
 
 use crate::schema_token::{Gaps, chars_at, digits_at};
 use std::alloc::Global;
@@ -41,11 +41,26 @@ pub struct GeneratedColumn {
     pub not_null_after: bool,
 }
 
-/// The names in a PERIOD clause.
+/// The names of the two columns of a period.
 #[derive(Drop)]
 pub struct PeriodNames {
     pub start: Chars,
     pub end: Chars,
+}
+
+/// A period of application time as it is declared (ISO/IEC 9075-2:2011, 4.14.1).
+#[derive(Drop)]
+pub struct ApplicationPeriod {
+    pub name: Chars,
+    pub columns: PeriodNames,
+}
+
+/// The names of a PRIMARY KEY clause, one or more. Where it is WITHOUT OVERLAPS, they are two or
+/// more, and the last is that of a period (ISO/IEC 9075-2:2011, 11.7).
+#[derive(Drop)]
+pub struct KeyClause {
+    pub names: Sequence<Chars>,
+    pub without_overlaps: bool,
 }
 
 /// An entry of a CREATE TABLE statement.
@@ -53,8 +68,10 @@ pub struct PeriodNames {
 pub enum Entry {
     User(UserColumn),
     Generated(GeneratedColumn),
+    /// The period of system time, by the names of its columns.
     Period(PeriodNames),
-    Key(Sequence<Chars>),
+    Application(ApplicationPeriod),
+    Key(KeyClause),
 }
 
 /// A CREATE TABLE statement.
@@ -268,7 +285,7 @@ fn generated_at(name: Chars, bytes: &[u8]) -> Read<'_, Entry>
 
 /// `"(" name "," name ")"`
 #[tactic(auto, unfolding(crate::specs::Declaration::two_names_at))]
-fn two_names_at(alloc: Global, bytes: &[u8]) -> Made<'_, Entry>
+fn two_names_at(alloc: Global, bytes: &[u8]) -> Made<'_, PeriodNames>
     ensures { Makes result (two_names_at bytes.now) }
 {
     let rest = symbol_at::<Gaps>(b'(', bytes)?;
@@ -276,23 +293,68 @@ fn two_names_at(alloc: Global, bytes: &[u8]) -> Made<'_, Entry>
     let rest = symbol_at::<Gaps>(b',', rest)?;
     let (end, rest) = chars_at(alloc, rest)?;
     let rest = symbol_at::<Gaps>(b')', rest)?;
-    Ok((Entry::Period(PeriodNames { start, end }), rest))
+    Ok((PeriodNames { start, end }, rest))
 }
 
-/// `PERIOD FOR SYSTEM_TIME "(" name "," name ")"`
+/// `SYSTEM_TIME "(" name "," name ")"`
+#[tactic(auto, unfolding(crate::specs::Declaration::system_period_at))]
+fn system_period_at(alloc: Global, bytes: &[u8]) -> Made<'_, Entry>
+    ensures { Makes result (system_period_at bytes.now) }
+{
+    let rest = word_at::<Gaps>(b"SYSTEM_TIME", bytes)?;
+    let (columns, rest) = two_names_at(alloc, rest)?;
+    Ok((Entry::Period(columns), rest))
+}
+
+/// `name "(" name "," name ")"`
+#[tactic(auto, unfolding(crate::specs::Declaration::application_period_at))]
+fn application_period_at(alloc: Global, bytes: &[u8]) -> Made<'_, Entry>
+    ensures { Makes result (application_period_at bytes.now) }
+{
+    let (name, rest) = chars_at(alloc, bytes)?;
+    let (columns, rest) = two_names_at(alloc, rest)?;
+    Ok((
+        Entry::Application(ApplicationPeriod { name, columns }),
+        rest,
+    ))
+}
+
+/// `PERIOD FOR (SYSTEM_TIME | name) "(" name "," name ")"`
 #[tactic(auto, unfolding(crate::specs::Declaration::period_at))]
 fn period_at(alloc: Global, bytes: &[u8]) -> Made<'_, Entry>
     ensures { Makes result (period_at bytes.now) }
 {
     let rest = word_at::<Gaps>(b"PERIOD", bytes)?;
     let rest = word_at::<Gaps>(b"FOR", rest)?;
-    match word_at::<Gaps>(b"SYSTEM_TIME", rest) {
-        Ok(rest) => two_names_at(alloc, rest),
-        Err(at) => Err(Stop::At(at)),
+    if is_word_at::<Gaps>(b"SYSTEM_TIME", rest) {
+        system_period_at(alloc, rest)
+    } else {
+        application_period_at(alloc, rest)
     }
 }
 
-/// `PRIMARY KEY "(" name {"," name} ")"`
+/// `WITHOUT OVERLAPS`
+#[tactic(auto, unfolding(crate::specs::Declaration::without_overlaps_at))]
+fn without_overlaps_at(bytes: &[u8]) -> After<'_>
+    ensures { Leaves result (without_overlaps_at bytes.now) }
+{
+    let rest = word_at::<Gaps>(b"WITHOUT", bytes)?;
+    word_at::<Gaps>(b"OVERLAPS", rest)
+}
+
+/// `[WITHOUT OVERLAPS]` after several names, and nothing after one.
+#[tactic(auto, unfolding(crate::specs::Declaration::overlaps_at))]
+fn overlaps_at(several: bool, bytes: &[u8]) -> Read<'_, bool>
+    ensures { Gives result (overlaps_at several bytes.now) }
+{
+    if !several || !is_word_at::<Gaps>(b"WITHOUT", bytes) {
+        return Ok((false, bytes));
+    }
+    let rest = without_overlaps_at(bytes)?;
+    Ok((true, rest))
+}
+
+/// `PRIMARY KEY "(" name {"," name} ["," name WITHOUT OVERLAPS] ")"`
 #[tactic(auto, unfolding(crate::specs::Declaration::key_at))]
 fn key_at(alloc: Global, bytes: &[u8]) -> Made<'_, Entry>
     ensures { Makes result (key_at bytes.now) }
@@ -300,8 +362,13 @@ fn key_at(alloc: Global, bytes: &[u8]) -> Made<'_, Entry>
     let rest = primary_key_at(bytes)?;
     let rest = symbol_at::<Gaps>(b'(', rest)?;
     let (names, rest) = names_at(alloc, rest)?;
+    let (without_overlaps, rest) = overlaps_at(names.items().len() >= 2, rest)?;
     let rest = symbol_at::<Gaps>(b')', rest)?;
-    Ok((Entry::Key(names), rest))
+    let clause = KeyClause {
+        names,
+        without_overlaps,
+    };
+    Ok((Entry::Key(clause), rest))
 }
 
 /// An entry that begins with a column's name.

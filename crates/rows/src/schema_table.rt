@@ -1,14 +1,18 @@
 //! Makes tables of declarations.
 
-ghost use Rattle.std.specs.Prelude.{◌≡◌, ◌++◌, ◌∷◌, [], IfOk, OnOk, option_copied, map, filter, count_by, ◌==◌};
+ghost use Rattle.std.specs.Prelude.{◌≡◌, ◌++◌, ◌∷◌, [], ◌&&◌, ◌==◌, IfOk, OnOk, option_copied, map, filter, count_by};
 ghost use Rattle.std.specs.List.{list_any, list_all, filter_map, flat_map, position_from};
 ghost use Rattle.values.specs.Names.{same_name};
-ghost use Rattle.rows.specs.SchemaTable.{is_not_null, is_primary_key, same_side, user_column, column_name, side_name, period_names, keys_in, is_good_type, is_good_precision, is_good_entry, are_distinct, only, number_in, is_good_key, is_good_period, is_good_width, are_good_entries, table_of, next_table};
+ghost use Rattle.values.specs.Tables.{but_last};
+ghost use Rattle.rows.specs.SchemaTable.{is_not_null, is_primary_key, same_side, is_of_period, user_column, declared_name, side_name, period_names, application_period, is_application, marked_key, keys_in, is_good_type, is_good_precision, is_good_entry, are_distinct, only, ends_with_name, period_key_names, key_names, number_in, is_int, has_int_column, is_good_application, period_in, is_good_key, is_good_period, is_good_width, are_good_entries, keyed_table, table_of, next_table};
 
-use crate::declaration::{Declaration, Entry, Mark, PeriodNames, Side};
+use crate::declaration::{
+    ApplicationPeriod, Declaration, Entry, KeyClause, Mark, PeriodNames, Side,
+};
 use std::alloc::{AllocError, Global};
 use values::{
-    Chars, Column, ColumnNumber, ColumnType, LONGEST_TEXT, Sequence, Table, WIDEST, same_name,
+    Chars, Column, ColumnNumber, ColumnType, LONGEST_TEXT, Period, Sequence, Table, WIDEST,
+    same_name,
 };
 
 /// The columns that a key may have.
@@ -41,9 +45,26 @@ fn has_not_null(marks: &[Mark]) -> bool
     marks.iter().any(is_not_null)
 }
 
+/// Whether the period of application time has a column of the name.
+fn is_of_period(application: Option<&ApplicationPeriod>, name: &Chars) -> bool
+    ensures { result ≡ is_of_period (option_copied application.entry) name.now }
+{
+    match application {
+        Some(period) => {
+            is_same(&period.columns.start, name) || is_same(&period.columns.end, name)
+        }
+        None => false,
+    }
+}
+
 /// The user columns.
-fn columns_of(alloc: Global, entries: &[Entry]) -> Result<Vec<Column>, AllocError>
-    ensures { IfOk result (λ columns. columns.items ≡ filter_map user_column entries.now) }
+fn columns_of(
+    alloc: Global,
+    application: Option<&ApplicationPeriod>,
+    entries: &[Entry],
+) -> Result<Vec<Column>, AllocError>
+    ensures { IfOk result (λ columns.
+        columns.items ≡ filter_map (user_column (option_copied application.entry)) entries.now) }
 {
     let mut columns = Vec::new(alloc);
     for entry in entries {
@@ -51,22 +72,24 @@ fn columns_of(alloc: Global, entries: &[Entry]) -> Result<Vec<Column>, AllocErro
             columns.push(Column {
                 name: column.name.clone()?,
                 of: column.of,
-                not_null: has_not_null(column.marks.items()),
+                not_null: has_not_null(column.marks.items())
+                    || is_of_period(application, &column.name),
             })?;
         }
     }
     Ok(columns)
 }
 
-/// The names of the user and generated columns.
+/// The names of the user and generated columns, and of the periods of application time.
 fn names_of(alloc: Global, entries: &[Entry]) -> Result<Vec<Chars>, AllocError>
-    ensures { IfOk result (λ names. names.items ≡ filter_map column_name entries.now) }
+    ensures { IfOk result (λ names. names.items ≡ filter_map declared_name entries.now) }
 {
     let mut names = Vec::new(alloc);
     for entry in entries {
         match entry {
             Entry::User(column) => names.push(column.name.clone()?)?,
             Entry::Generated(column) => names.push(column.name.clone()?)?,
+            Entry::Application(period) => names.push(period.name.clone()?)?,
             _ => {}
         }
     }
@@ -98,7 +121,7 @@ fn side_name(side: Side, entry: &Entry) -> Option<&Chars>
     }
 }
 
-/// The names of the one PERIOD clause.
+/// The columns of the one period of system time.
 fn only_period(entries: &[Entry]) -> Option<&PeriodNames>
     ensures { option_copied result ≡ only (filter_map period_names entries.now) }
 {
@@ -123,29 +146,70 @@ fn period_names(entry: &Entry) -> Option<&PeriodNames>
     }
 }
 
-fn copy_of(alloc: Global, names: &[Chars]) -> Result<Sequence<Chars>, AllocError>
-    ensures { IfOk result (λ copy. copy ≡ names.now) }
+/// The one period of application time.
+fn only_application(entries: &[Entry]) -> Option<&ApplicationPeriod>
+    ensures { option_copied result ≡ only (filter_map application_period entries.now) }
 {
-    let mut copy = Vec::new(alloc);
-    for name in names {
-        copy.push(name.clone()?)?;
+    let mut found = None;
+    for entry in entries {
+        if let Some(period) = application_period(entry) {
+            if found.is_some() {
+                return None;
+            }
+            found = Some(period);
+        }
     }
-    Ok(Sequence::new(copy))
+    found
+}
+
+fn application_period(entry: &Entry) -> Option<&ApplicationPeriod>
+    ensures { option_copied result ≡ application_period entry.now }
+{
+    match entry {
+        Entry::Application(period) => Some(period),
+        _ => None,
+    }
+}
+
+fn is_application(entry: &Entry) -> bool
+    ensures { result ≡ is_application entry.now }
+{
+    matches!(entry, Entry::Application(_))
+}
+
+fn has_application(entries: &[Entry]) -> bool
+    ensures { result ≡ list_any is_application entries.now }
+{
+    entries.iter().any(is_application)
+}
+
+fn copies_of(alloc: Global, names: &[Chars]) -> Result<Vec<Chars>, AllocError>
+    ensures { IfOk result (λ copies. copies.items ≡ names.now) }
+{
+    let mut copies = Vec::new(alloc);
+    for name in names {
+        copies.push(name.clone()?)?;
+    }
+    Ok(copies)
 }
 
 /// A key of the one name for each PRIMARY KEY that marks its column.
 fn push_marked(
     alloc: Global,
-    keys: &mut Vec<Sequence<Chars>>,
+    keys: &mut Vec<KeyClause>,
     name: &Chars,
     marks: &[Mark],
 ) -> Result<(), AllocError>
     ensures { OnOk result (keys.new.items
-        ≡ keys.old.items ++ map (λ mark. name.now ∷ []) (filter is_primary_key marks.now)) }
+        ≡ keys.old.items
+        ++ map (λ mark. marked_key name.now) (filter is_primary_key marks.now)) }
 {
     for mark in marks {
         if is_primary_key(mark) {
-            keys.push(Sequence::new(vec![in alloc; name.clone()?]?))?;
+            keys.push(KeyClause {
+                names: Sequence::new(vec![in alloc; name.clone()?]?),
+                without_overlaps: false,
+            })?;
         }
     }
     Ok(())
@@ -157,15 +221,14 @@ fn is_primary_key(mark: &Mark) -> bool
     matches!(mark, Mark::PrimaryKey)
 }
 
-fn push_keys(
-    alloc: Global,
-    keys: &mut Vec<Sequence<Chars>>,
-    entry: &Entry,
-) -> Result<(), AllocError>
+fn push_keys(alloc: Global, keys: &mut Vec<KeyClause>, entry: &Entry) -> Result<(), AllocError>
     ensures { OnOk result (keys.new.items ≡ keys.old.items ++ keys_in entry.now) }
 {
     match entry {
-        Entry::Key(names) => keys.push(copy_of(alloc, names.items())?)?,
+        Entry::Key(clause) => keys.push(KeyClause {
+            names: Sequence::new(copies_of(alloc, clause.names.items())?),
+            without_overlaps: clause.without_overlaps,
+        })?,
         Entry::User(column) => push_marked(alloc, keys, &column.name, column.marks.items())?,
         _ => {}
     }
@@ -173,7 +236,7 @@ fn push_keys(
 }
 
 /// The keys that the entries give.
-fn keys_of(alloc: Global, entries: &[Entry]) -> Result<Vec<Sequence<Chars>>, AllocError>
+fn keys_of(alloc: Global, entries: &[Entry]) -> Result<Vec<KeyClause>, AllocError>
     ensures { IfOk result (λ keys. keys.items ≡ flat_map keys_in entries.now) }
 {
     let mut keys = Vec::new(alloc);
@@ -181,6 +244,63 @@ fn keys_of(alloc: Global, entries: &[Entry]) -> Result<Vec<Sequence<Chars>>, All
         push_keys(alloc, &mut keys, entry)?;
     }
     Ok(keys)
+}
+
+fn is_same(name: &Chars, other: &Chars) -> bool
+    ensures { result ≡ same_name name.now other.now }
+{
+    same_name(name.text().as_bytes(), other.text().as_bytes())
+}
+
+fn ends_with_name(name: &Chars, names: &[Chars]) -> bool
+    ensures { result ≡ ends_with_name name.now names.now }
+{
+    match names.split_last() {
+        Some((last, _entity)) => is_same(name, last),
+        None => false,
+    }
+}
+
+fn but_last(names: &[Chars]) -> &[Chars]
+    ensures { result.now ≡ but_last names.now }
+{
+    match names.split_last() {
+        Some((_last, entity)) => entity,
+        None => names,
+    }
+}
+
+/// The names of the key's columns where there is a period of application time: after those of the
+/// entity its start (ISO/IEC 9075-2:2011, 11.7).
+fn period_key_names(
+    alloc: Global,
+    period: &ApplicationPeriod,
+    clause: &KeyClause,
+) -> Result<Option<Sequence<Chars>>, AllocError>
+    ensures { IfOk result (λ names. names ≡ period_key_names period.now clause.now) }
+{
+    let given = clause.names.items();
+    if !clause.without_overlaps || !ends_with_name(&period.name, given) {
+        return Ok(None);
+    }
+    let mut names = copies_of(alloc, but_last(given))?;
+    names.push(period.columns.start.clone()?)?;
+    Ok(Some(Sequence::new(names)))
+}
+
+/// The names of the key's columns, where the clause and the period of application time agree.
+fn key_names(
+    alloc: Global,
+    application: Option<&ApplicationPeriod>,
+    clause: &KeyClause,
+) -> Result<Option<Sequence<Chars>>, AllocError>
+    ensures { IfOk result (λ names. names ≡ key_names (option_copied application.entry) clause.now) }
+{
+    match application {
+        Some(period) => period_key_names(alloc, period, clause),
+        None if clause.without_overlaps => Ok(None),
+        None => Ok(Some(Sequence::new(copies_of(alloc, clause.names.items())?))),
+    }
 }
 
 fn is_good_type(of: ColumnType) -> bool
@@ -219,7 +339,7 @@ fn is_good_entry(entry: &Entry) -> bool
 fn contains_name(names: &[Chars], name: &Chars) -> bool
     ensures { result ≡ list_any (same_name name.now) names.now }
 {
-    names.iter().any(|other| same_name(name.text().as_bytes(), other.text().as_bytes()))
+    names.iter().any(|other| is_same(name, other))
 }
 
 fn are_distinct(names: &[Chars]) -> bool
@@ -298,14 +418,101 @@ fn is_good_key(names: &[Chars], numbers: &[ColumnNumber]) -> bool
 fn is_good_period(start: &Chars, end: &Chars, period: &PeriodNames) -> bool
     ensures { result ≡ is_good_period start.now end.now period.now }
 {
-    same_name(start.text().as_bytes(), period.start.text().as_bytes())
-        && same_name(end.text().as_bytes(), period.end.text().as_bytes())
+    is_same(start, &period.start) && is_same(end, &period.end)
 }
 
 fn is_good_width(columns: &[Column]) -> bool
     ensures { result ≡ is_good_width columns.now }
 {
     1 <= columns.len() && columns.len() <= WIDEST
+}
+
+fn is_int(of: ColumnType) -> bool
+    ensures { result ≡ is_int of }
+{
+    matches!(of, ColumnType::Int)
+}
+
+fn has_int_column(columns: &[Column], name: &Chars) -> bool
+    ensures { result ≡ has_int_column columns.now name.now }
+{
+    columns
+        .iter()
+        .any(|column| is_same(&column.name, name) && is_int(column.of))
+}
+
+/// Whether the period of application time is between two columns of whole numbers, of which the end
+/// is none of the key's, or there is no period.
+fn is_good_application(
+    entries: &[Entry],
+    columns: &[Column],
+    key: &[Chars],
+    application: Option<&ApplicationPeriod>,
+) -> bool
+    ensures { result ≡ is_good_application entries.now columns.now key.now
+        (option_copied application.entry) }
+{
+    match application {
+        Some(period) => {
+            has_int_column(columns, &period.columns.start)
+                && has_int_column(columns, &period.columns.end)
+                && !contains_name(key, &period.columns.end)
+        }
+        None => !has_application(entries),
+    }
+}
+
+/// The period of application time, by the numbers of its columns.
+fn period_in(
+    columns: &[Column],
+    application: Option<&ApplicationPeriod>,
+) -> Result<Option<Period>, AllocError>
+    ensures { IfOk result (λ period. period ≡ period_in columns.now (option_copied application.entry)) }
+{
+    match application {
+        Some(period) => Ok(Some(Period {
+            name: period.name.clone()?,
+            from: number_in(columns, &period.columns.start),
+            to: number_in(columns, &period.columns.end),
+        })),
+        None => Ok(None),
+    }
+}
+
+/// The table with a number, where the entries make one with these names.
+#[tactic(auto, unfolding(crate::specs::SchemaTable::keyed_table))]
+fn keyed_table(
+    alloc: Global,
+    number: u8,
+    declaration: &Declaration,
+    start: &Chars,
+    end: &Chars,
+    application: Option<&ApplicationPeriod>,
+    names: &[Chars],
+) -> Result<Option<Table>, AllocError>
+    ensures { IfOk result (λ table. table
+        ≡ keyed_table number declaration.now start.now end.now (option_copied application.entry) names.now) }
+{
+    let entries = declaration.entries.items();
+    let columns = columns_of(alloc, application, entries)?;
+    let key = numbers_in(alloc, &columns, names)?;
+    let is_good = is_good_key(names, &key)
+        && is_good_width(&columns)
+        && is_good_application(entries, &columns, names, application)
+        && are_good_entries(alloc, entries)?;
+    if !is_good {
+        return Ok(None);
+    }
+    let period = period_in(&columns, application)?;
+    Ok(Some(Table {
+        number,
+        name: declaration.name.clone()?,
+        columns: Sequence::new(columns),
+        key: Sequence::new(key),
+        row_start: start.clone()?,
+        row_end: end.clone()?,
+        period,
+    }))
 }
 
 /// The table with a number, where the declaration makes one.
@@ -328,33 +535,31 @@ fn table_of(
         return Ok(None);
     };
     let keys = keys_of(alloc, entries)?;
-    let [names] = keys.as_slice() else {
+    let [clause] = keys.as_slice() else {
         return Ok(None);
     };
-    let columns = columns_of(alloc, entries)?;
-    let key = numbers_in(alloc, &columns, names.items())?;
-    let is_good = is_good_period(start, end, period)
-        && is_good_key(names.items(), &key)
-        && is_good_width(&columns)
-        && are_good_entries(alloc, entries)?;
-    if !is_good {
+    let application = only_application(entries);
+    let Some(names) = key_names(alloc, application, clause)? else {
+        return Ok(None);
+    };
+    if !is_good_period(start, end, period) {
         return Ok(None);
     }
-    Ok(Some(Table {
+    keyed_table(
+        alloc,
         number,
-        name: declaration.name.clone()?,
-        columns: Sequence::new(columns),
-        key: Sequence::new(key),
-        row_start: start.clone()?,
-        row_end: end.clone()?,
-        period: None,
-    }))
+        declaration,
+        start,
+        end,
+        application,
+        names.items(),
+    )
 }
 
 fn has_table(tables: &[Table], name: &Chars) -> bool
     ensures { result ≡ list_any (λ table. same_name table.name name.now) tables.now }
 {
-    tables.iter().any(|table| same_name(table.name.text().as_bytes(), name.text().as_bytes()))
+    tables.iter().any(|table| is_same(&table.name, name))
 }
 
 /// Makes the table after these, where the declaration makes a good one.

@@ -7,6 +7,8 @@ mod event_tests;
 #[cfg(test)]
 mod key_tests;
 #[cfg(test)]
+mod period_schema_tests;
+#[cfg(test)]
 mod row_tests;
 #[cfg(test)]
 mod sample;

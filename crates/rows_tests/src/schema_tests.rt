@@ -62,7 +62,7 @@ const FAULTS: &[(&str, usize)] = &[
     ("CREATE TABLE t (a VARCHAR(-5))", 26),
     ("CREATE TABLE t (a INT -- ) WITH\n!", 32),
     ("CREATE TABLE t (PRIMARY KEY (a b))", 31),
-    ("CREATE TABLE t (PERIOD FOR valid (a, b))", 27),
+    ("CREATE TABLE t (PERIOD FOR valid (a, b))", 40),
 ];
 
 #[test]
