@@ -11,7 +11,7 @@ use Rattle.tokens.specs.Token.{prefix_while, skip_while}
 use Rattle.tokens.specs.Digit.{capped_from, capped_at}
 use Rattle.tokens.specs.TypeName.{size_at, varchar_at, type_at as type_after}
 use Rattle.tokens.proofs.RunRead.{run_of}
-use Rattle.statement.specs.Token.{next, symbol_at, word_at}
+use Rattle.statement.specs.Token.{next}
 use Rattle.statement.specs.Alteration.{type_at}
 use Rattle.statement.specs.Grammar.{◌⋯◌, Blanks, Word, CappedDigits, IsSize, IsType}
 use Rattle.statement.proofs.TokenGaps.{blanks_before}

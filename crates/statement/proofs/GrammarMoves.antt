@@ -16,13 +16,15 @@ use Rattle.values.specs.declared.query.Operator.TheVariants.{Equal, Below, AtMos
 use Rattle.values.specs.declared.query.Comparison.{Comparison}
 use Rattle.values.specs.declared.query.Set.{Set}
 use Rattle.values.specs.declared.key.Key.{Key}
+use Rattle.values.specs.declared.period.Span.{Span}
 use Rattle.values.specs.Log.{Row}
 use Rattle.statement.specs.declared.statement.Statement.{Statement}
 use Rattle.statement.specs.declared.statement.Statement.TheVariants.{Begin, Insert, Update, Delete, Select, Commit, Rollback}
+use Rattle.statement.specs.declared.portion.Portion.{Portion}
 use Rattle.tokens.specs.Run.{Ends, Run}
 use Rattle.tokens.specs.Word.{is_name_byte}
 use Rattle.tokens.proofs.TokenFollows.{Follows, front_follows, ends_so, Moves}
-use Rattle.statement.specs.Grammar.{Piece, ◌⋯◌, ◌∣◌, Empty, Blanks, Exactly, Symbol, Word, Name, Digits, Number, doubled, is_quote, Quoted, Literal, Listed, Enclosed, IsRow, IsOperator, IsInstant, IsForm, IsTable, IsColumn, IsSet, IsComparison, IsColumnList, IsWhere, IsStatement, IsKey, CappedDigits, IsSize, IsType}
+use Rattle.statement.specs.Grammar.{Piece, ◌⋯◌, ◌∣◌, Empty, Blanks, Exactly, Symbol, Word, Name, Digits, Number, doubled, is_quote, Quoted, Literal, Listed, Enclosed, IsRow, IsOperator, IsInstant, IsForm, IsTable, IsColumn, IsSet, IsComparison, IsColumnList, IsWhere, IsPeriod, IsPortion, IsStatement, IsKey, CappedDigits, IsSize, IsType, IsNumber, Bounds}
 
 pub both_move : {P Q : Piece} → Moves P → Moves Q → Moves (P ⋯ Q)
 both_move {P} {Q} p q bytes rest is =
@@ -130,6 +132,12 @@ operator_moves AtLeast = both_move blanks_move (text_moves (62 ∷ 61 ∷ []))
 pub instant_moves : (n : ℕ) → Moves (IsInstant n)
 instant_moves n = both_move blanks_move (digits_move max_instant n)
 
+pub whole_number_moves : (z : _) → Moves (IsNumber z)
+whole_number_moves z = both_move blanks_move (number_moves z)
+
+pub bounds_move : (span : Span) → Moves (Bounds span)
+bounds_move span = both_move (word_moves (codes "FROM")) (both_move (whole_number_moves span.from) (both_move (word_moves (codes "TO")) (whole_number_moves span.to)))
+
 pub capped_moves : (n : ℕ) → Moves (CappedDigits n)
 capped_moves n bytes rest is = record {
   taken = is.digits;
@@ -189,6 +197,15 @@ module _ (schema : Schema) where
     where_moves [] = empty_moves
     where_moves (c ∷ cs) = both_move (word_moves (codes "WHERE")) (list_moves (word_moves (codes "AND")) comparison_moves (c ∷ cs))
 
+    pub period_name_moves : (of_period : Bool) → Moves (IsPeriod schema table of_period)
+    period_name_moves of_period bytes rest is =
+        let a = name_moves is.0 bytes rest is.1.0 in record { taken = a.taken; place = a.place; stays = λ other follows. (is.0, (a.stays other follows, is.1.1)) }
+
+    pub portion_moves : (portion : Option Portion) → Moves (IsPortion schema table portion)
+    portion_moves None = empty_moves
+    portion_moves (Some p) =
+        both_move (word_moves (codes "FOR")) (both_move (word_moves (codes "PORTION")) (both_move (word_moves (codes "OF")) (both_move (period_name_moves p.of_period) (bounds_move p.span))))
+
   work_moves : Moves (Empty ∣ Word (codes "WORK"))
   work_moves = either_moves empty_moves (word_moves (codes "WORK"))
 
@@ -198,9 +215,9 @@ module _ (schema : Schema) where
   statement_moves Rollback = both_move (word_moves (codes "ROLLBACK")) work_moves
   statement_moves (Insert table columns rows) =
       both_move (word_moves (codes "INSERT")) (both_move (word_moves (codes "INTO")) (both_move (table_moves table) (both_move (column_list_moves table columns) (both_move (word_moves (codes "VALUES")) (list_moves (symbol_moves 44) row_moves rows)))))
-  statement_moves (Update keys sets) =
-      both_move (word_moves (codes "UPDATE")) (both_move (table_moves keys.table) (both_move (word_moves (codes "SET")) (both_move (list_moves (symbol_moves 44) (set_moves keys.table) sets) (where_moves keys.table keys.comparisons))))
-  statement_moves (Delete keys) =
-      both_move (word_moves (codes "DELETE")) (both_move (word_moves (codes "FROM")) (both_move (table_moves keys.table) (where_moves keys.table keys.comparisons)))
+  statement_moves (Update keys portion sets) =
+      both_move (word_moves (codes "UPDATE")) (both_move (table_moves keys.table) (both_move (portion_moves keys.table portion) (both_move (word_moves (codes "SET")) (both_move (list_moves (symbol_moves 44) (set_moves keys.table) sets) (where_moves keys.table keys.comparisons)))))
+  statement_moves (Delete keys portion) =
+      both_move (word_moves (codes "DELETE")) (both_move (word_moves (codes "FROM")) (both_move (table_moves keys.table) (both_move (portion_moves keys.table portion) (where_moves keys.table keys.comparisons))))
   statement_moves (Select form keys) =
       both_move (word_moves (codes "SELECT")) (both_move (symbol_moves 42) (both_move (word_moves (codes "FROM")) (both_move (table_moves keys.table) (both_move (form_moves form) (where_moves keys.table keys.comparisons)))))

@@ -22,6 +22,9 @@ pub mod AlterationGoing
 pub mod AlterationSound
 pub mod AlterationWhole
 pub mod LineSound
+pub mod PortionGoing
+pub mod PortionSound
+pub mod PortionWhole
 pub mod ListSound
 pub mod LiteralSound
 pub mod GrammarStopping

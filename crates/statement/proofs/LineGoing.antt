@@ -10,7 +10,6 @@ use Rattle.statement.specs.declared.line.Line.{Line}
 use Rattle.statement.specs.declared.line.Line.TheVariants.{Nothing}
 use Rattle.statement.specs.declared.line.Written.{Written}
 use Rattle.statement.specs.declared.line.Written.TheVariants.{Clock, SplitKey, SplitTime, Migrate, Session, AddColumn}
-use Rattle.values.specs.declared.table.ColumnType.{ColumnType}
 use Rattle.statement.specs.Token.{next, symbol_at, word_at, name_at, end_at, after_semicolon}
 use Rattle.statement.specs.Condition.{table_name_at}
 use Rattle.statement.specs.Alteration.{type_at, alter_at, request_at, asked_at}

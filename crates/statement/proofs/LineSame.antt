@@ -28,6 +28,7 @@ use Rattle.statement.specs.Token.{next, symbol_at, word_at, name_at, end_at, aft
 use Rattle.statement.specs.List.{list_at, enclosed_at}
 use Rattle.statement.specs.Literal.{digits_here, digits_at, begins_with, above_nought, below_nought, number_at, quoted_from, quoted, text_of, text_at, constant_at, begins_number, literal_at, row_at, rows_at}
 use Rattle.statement.specs.Condition.{table_of, column_of, table_name_at, column_name_at, or_equal, operator_of, operator_at, set_at, comparison_at, sets_at, comparisons_at, columns_at, keys_at}
+use Rattle.statement.specs.Portion.{bounds_at, is_period, period_name_at, named_portion_at, portion_at}
 use Rattle.statement.specs.Statement.{instant_at, as_of_at, period_at, selection_at, system_time_at, form_at, start_at, listed_at, insert_at, update_at, delete_at, select_at, data_at, statement_at}
 use Rattle.statement.specs.Line.{begins_digit, clock_at, migrate_at, session_at, service_at, written_at}
 use Rattle.statement.specs.Alteration.{type_at, alter_at, request_at, asked_at}
@@ -335,6 +336,14 @@ module _ (first : ℕ) (rest other : List ℕ) (t : Tokens first rest other) (no
   unfolding form_at
   form_fine = by_word (codes "FOR") system_time_at _ system_time_fine (ok Plain)
 
+  bounds_fine : Fine bounds_at
+  unfolding bounds_at
+  bounds_fine =
+      after (word_at (codes "FROM")) _ (word (codes "FROM"))
+      (reads number_at _ number_fine (λ from.
+      after (word_at (codes "TO")) _ (word (codes "TO"))
+      (reads number_at _ number_fine (λ to. ok _))))
+
   -- sizes and types
   capped_same : (a c : List ℕ) → Near w a c → Alike (capped_or a) (capped_or c)
   capped_same a c near =
@@ -408,6 +417,22 @@ module _ (first : ℕ) (rest other : List ℕ) (t : Tokens first rest other) (no
       unfolding keys_at
       keys_fine = by_word (codes "WHERE") _ _ (reads (comparisons_at schema table) _ comparisons_fine (λ cs. ok _)) (ok _)
 
+      period_name_fine : Fine (period_name_at schema table)
+      unfolding period_name_at
+      period_name_fine = reads name_at _ named (λ name. ok (is_period schema table name))
+
+      named_portion_fine : Fine (named_portion_at schema table)
+      unfolding named_portion_at
+      named_portion_fine =
+          after (word_at (codes "PORTION")) _ (word (codes "PORTION"))
+          (after (word_at (codes "OF")) _ (word (codes "OF"))
+          (reads (period_name_at schema table) _ period_name_fine (λ of_period.
+          reads bounds_at _ bounds_fine (λ span. ok _))))
+
+      portion_fine : Fine (portion_at schema table)
+      unfolding portion_at
+      portion_fine = by_word (codes "FOR") _ _ (reads (named_portion_at schema table) _ named_portion_fine (λ portion. ok (Some portion))) (ok None)
+
       listed_fine : Fine (listed_at schema table)
       unfolding listed_at
       listed_fine =
@@ -428,16 +453,18 @@ module _ (first : ℕ) (rest other : List ℕ) (t : Tokens first rest other) (no
     unfolding update_at
     update_fine =
         reads (table_name_at schema) _ table_fine (λ table.
+        reads (portion_at schema table) _ (portion_fine table) (λ portion.
         after (word_at (codes "SET")) _ (word (codes "SET"))
         (reads (sets_at schema table) _ (sets_fine table) (λ sets.
-        reads (keys_at schema table) _ (keys_fine table) (λ keys. ok _))))
+        reads (keys_at schema table) _ (keys_fine table) (λ keys. ok _)))))
 
     delete_fine : Fine (delete_at schema)
     unfolding delete_at
     delete_fine =
         after (word_at (codes "FROM")) _ (word (codes "FROM"))
         (reads (table_name_at schema) _ table_fine (λ table.
-        reads (keys_at schema table) _ (keys_fine table) (λ keys. ok _)))
+        reads (portion_at schema table) _ (portion_fine table) (λ portion.
+        reads (keys_at schema table) _ (keys_fine table) (λ keys. ok _))))
 
     select_fine : Fine (select_at schema)
     unfolding select_at

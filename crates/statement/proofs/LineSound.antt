@@ -1,11 +1,12 @@
 -- What is read as a statement or as a line is one.
 use Rattle.std.proofs.Common.{◌≡◌, ◌⊎◌, ℕ, Bool, true, false, List, [], ◌∷◌, Ok, Err, Some, None, inl, inr, refl, subst}
-use Rattle.std.specs.Prelude.{◌-◌, ◌^◌, if◌then◌else◌, codes}
+use Rattle.std.specs.Prelude.{◌-◌, ◌^◌, Option, if◌then◌else◌, codes}
 use Rattle.values.specs.Tables.{Schema}
 use Rattle.values.specs.declared.query.Comparison.{Comparison}
 use Rattle.values.specs.declared.query.Keys.{Keys}
 use Rattle.statement.specs.declared.line.Written.{Written}
 use Rattle.statement.specs.declared.line.Written.TheVariants.{Clock, SplitKey, SplitTime, Migrate, Session, AddColumn}
+use Rattle.statement.specs.declared.portion.Portion.{Portion}
 use Rattle.statement.specs.declared.statement.Statement.TheVariants.{Begin, Insert, Update, Delete, Select, Commit, Rollback}
 use Rattle.tokens.specs.Token.{After}
 use Rattle.statement.specs.Token.{next, symbol_at, end_at, after_semicolon}
@@ -16,12 +17,13 @@ use Rattle.statement.specs.Alteration.{alter_at, request_at, asked_at}
 use Rattle.statement.specs.Line.{begins_digit, clock_at, migrate_at, session_at, service_at, written_at}
 use Rattle.statement.specs.ServedLine.{served_at}
 use Rattle.statement.specs.Split.{key_at, split_key_at, split_time_at, kind_at, split_at}
-use Rattle.statement.specs.Grammar.{◌⋯◌, ◌∣◌, Empty, Blanks, Symbol, Word, Digits, Listed, IsTable, IsSet, IsComparison, IsColumnList, IsWhere, IsStatement, IsRequest, IsAlteration, IsKey, IsServiceLine, IsLine, IsServedLine}
+use Rattle.statement.specs.Grammar.{◌⋯◌, ◌∣◌, Empty, Blanks, Symbol, Word, Digits, Listed, IsTable, IsSet, IsComparison, IsColumnList, IsWhere, IsPortion, IsStatement, IsRequest, IsAlteration, IsKey, IsServiceLine, IsLine, IsServedLine}
 use Rattle.statement.proofs.TokenGaps.{blanks_before}
 use Rattle.statement.proofs.GrammarSound.{symbol_sound, word_sound, name_sound}
 use Rattle.statement.proofs.AlterationSound.{type_sound}
 use Rattle.statement.proofs.LiteralSound.{digits_sound}
 use Rattle.statement.proofs.ListSound.{row_sound, rows_sound, instant_sound, form_sound, table_sound, sets_sound, comparisons_sound, columns_sound}
+use Rattle.statement.proofs.PortionSound.{portion_sound}
 use Rattle.statement.proofs.GrammarHolds.{Holds, Leaves, holds, holds_then, holds_weaker, leaves_then, leaves_either}
 
 optional_sound : {P : List ℕ → Type 0} (bytes : List ℕ) (r : After) → Leaves r P → (bytes ≡ elim r [ Ok rest ↦ rest | Err at ↦ bytes ]) ⊎ P (elim r [ Ok rest ↦ rest | Err at ↦ bytes ])
@@ -84,23 +86,28 @@ module _ (schema : Schema) where
   pub table_at_keys : (table : ℕ) (keys : Keys) (bytes rest : List ℕ) → table ≡ keys.table → IsTable schema table bytes rest → IsTable schema keys.table bytes rest
   table_at_keys table keys bytes rest same is = subst (λ (t : ℕ). IsTable schema t bytes rest) same is
 
+  pub portion_at_keys : (table : ℕ) (keys : Keys) (portion : Option Portion) (bytes rest : List ℕ) → table ≡ keys.table → IsPortion schema table portion bytes rest → IsPortion schema keys.table portion bytes rest
+  portion_at_keys table keys portion bytes rest same is = subst (λ (t : ℕ). IsPortion schema t portion bytes rest) same is
+
   update_sound : (start bytes : List ℕ) → Word (codes "UPDATE") start bytes → Holds (update_at schema bytes) (λ statement rest. IsStatement schema statement start rest)
   unfolding update_at
   update_sound start bytes first =
       holds_then _ _ (table_sound schema bytes) (λ table a named.
-      leaves_then _ _ (word_sound (codes "SET") a) (λ b set.
+      holds_then _ _ (portion_sound schema table a) (λ portion m part.
+      leaves_then _ _ (word_sound (codes "SET") m) (λ b set.
       holds_then _ _ (sets_sound schema table b) (λ sets c are.
       holds_then _ _ (keys_sound table c) (λ keys rest k.
-      holds (Update keys sets) rest
-      (bytes, (first, (a, (table_at_keys table keys bytes a k.0 named, (b, (set, (c, (subst (λ (t : ℕ). Listed (Symbol 44) (IsSet schema t) sets b c) k.0 are, k.1))))))))))))
+      holds (Update keys portion sets) rest
+      (bytes, (first, (a, (table_at_keys table keys bytes a k.0 named, (m, (portion_at_keys table keys portion a m k.0 part, (b, (set, (c, (subst (λ (t : ℕ). Listed (Symbol 44) (IsSet schema t) sets b c) k.0 are, k.1)))))))))))))))
 
   delete_sound : (start bytes : List ℕ) → Word (codes "DELETE") start bytes → Holds (delete_at schema bytes) (λ statement rest. IsStatement schema statement start rest)
   unfolding delete_at
   delete_sound start bytes first =
       leaves_then _ _ (word_sound (codes "FROM") bytes) (λ a from.
       holds_then _ _ (table_sound schema a) (λ table b named.
-      holds_then _ _ (keys_sound table b) (λ keys rest k.
-      holds (Delete keys) rest (bytes, (first, (a, (from, (b, (table_at_keys table keys a b k.0 named, k.1)))))))))
+      holds_then _ _ (portion_sound schema table b) (λ portion c part.
+      holds_then _ _ (keys_sound table c) (λ keys rest k.
+      holds (Delete keys portion) rest (bytes, (first, (a, (from, (b, (table_at_keys table keys a b k.0 named, (c, (portion_at_keys table keys portion b c k.0 part, k.1))))))))))))
 
   select_sound : (start bytes : List ℕ) → Word (codes "SELECT") start bytes → Holds (select_at schema bytes) (λ statement rest. IsStatement schema statement start rest)
   unfolding select_at

@@ -28,6 +28,7 @@ use Rattle.statement.specs.Token.{next, symbol_at, word_at, name_at, end_at, aft
 use Rattle.statement.specs.List.{more_at, list_at, enclosed_at}
 use Rattle.statement.specs.Literal.{digit_count, digits_here, digits_at, begins_with, above_nought, below_nought, number_at, quoted_from, quoted, text_of, text_at, constant_at, begins_number, literal_at, row_at, rows_at}
 use Rattle.statement.specs.Condition.{table_of, column_of, table_name_at, column_name_at, or_equal, operator_of, operator_at, set_at, comparison_at, sets_at, comparisons_at, columns_at, keys_at}
+use Rattle.statement.specs.Portion.{bounds_at, is_period, period_name_at, named_portion_at, portion_at}
 use Rattle.statement.specs.Statement.{instant_at, as_of_at, period_at, selection_at, system_time_at, form_at, start_at, listed_at, insert_at, update_at, delete_at, select_at, data_at, statement_at}
 use Rattle.statement.specs.Line.{begins_digit, clock_at, migrate_at, session_at, service_at, written_at}
 use Rattle.statement.specs.Alteration.{type_at, alter_at, request_at, asked_at}
@@ -283,6 +284,14 @@ pub form_stops : (bytes : List ℕ) → Stops bytes (form_at bytes)
 unfolding form_at
 form_stops bytes = either_stops _ _ _ (word_stops (codes "FOR") bytes) system_time_stops (λ _ _. reads_on Plain (whole bytes))
 
+bounds_stop : (bytes : List ℕ) → Stops bytes (bounds_at bytes)
+unfolding bounds_at
+bounds_stop bytes =
+    after_stops _ _ (word_stops (codes "FROM") bytes) (λ a.
+    then_stops _ _ (number_stops a) (λ from b.
+    after_stops _ _ (word_stops (codes "TO") b) (λ c.
+    then_stops _ _ (number_stops c) (λ to rest. reads_on _ (whole rest)))))
+
 module _ (schema : Schema) where
   pub table_stops : (bytes : List ℕ) → Stops bytes (table_name_at schema bytes)
   unfolding table_name_at
@@ -323,6 +332,24 @@ module _ (schema : Schema) where
         (λ rest. then_stops _ _ (comparisons_stop rest) (λ cs after. reads_on _ (whole after)))
         (λ _ _. reads_on _ (whole bytes))
 
+    period_name_stops : (bytes : List ℕ) → Stops bytes (period_name_at schema table bytes)
+    unfolding period_name_at
+    period_name_stops bytes = then_stops _ _ (name_stops bytes) (λ name rest. reads_on (is_period schema table name) (whole rest))
+
+    named_portion_stops : (bytes : List ℕ) → Stops bytes (named_portion_at schema table bytes)
+    unfolding named_portion_at
+    named_portion_stops bytes =
+        after_stops _ _ (word_stops (codes "PORTION") bytes) (λ a.
+        after_stops _ _ (word_stops (codes "OF") a) (λ b.
+        then_stops _ _ (period_name_stops b) (λ of_period c.
+        then_stops _ _ (bounds_stop c) (λ span rest. reads_on _ (whole rest)))))
+
+    portion_stops : (bytes : List ℕ) → Stops bytes (portion_at schema table bytes)
+    unfolding portion_at
+    portion_stops bytes = either_stops _ _ _ (word_stops (codes "FOR") bytes)
+        (λ rest. then_stops _ _ (named_portion_stops rest) (λ portion after. reads_on (Some portion) (whole after)))
+        (λ _ _. reads_on None (whole bytes))
+
     pub listed_stops : (bytes : List ℕ) → Stops bytes (listed_at schema table bytes)
     unfolding listed_at
     listed_stops bytes = by_symbol (symbol_at 40 bytes)
@@ -345,16 +372,18 @@ module _ (schema : Schema) where
   unfolding update_at
   update_stops bytes =
       then_stops _ _ (table_stops bytes) (λ table a.
-      after_stops _ _ (word_stops (codes "SET") a) (λ b.
+      then_stops _ _ (portion_stops table a) (λ portion m.
+      after_stops _ _ (word_stops (codes "SET") m) (λ b.
       then_stops _ _ (sets_stop table b) (λ sets c.
-      then_stops _ _ (keys_stop table c) (λ keys rest. reads_on _ (whole rest)))))
+      then_stops _ _ (keys_stop table c) (λ keys rest. reads_on _ (whole rest))))))
 
   pub delete_stops : (bytes : List ℕ) → Stops bytes (delete_at schema bytes)
   unfolding delete_at
   delete_stops bytes =
       after_stops _ _ (word_stops (codes "FROM") bytes) (λ a.
       then_stops _ _ (table_stops a) (λ table b.
-      then_stops _ _ (keys_stop table b) (λ keys rest. reads_on _ (whole rest))))
+      then_stops _ _ (portion_stops table b) (λ portion c.
+      then_stops _ _ (keys_stop table c) (λ keys rest. reads_on _ (whole rest)))))
 
   pub select_stops : (bytes : List ℕ) → Stops bytes (select_at schema bytes)
   unfolding select_at

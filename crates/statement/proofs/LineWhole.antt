@@ -130,10 +130,10 @@ module _ (schema : Schema) where
       ∙ ap (λ (l : List ℕ). Ok (Rollback, l)) (work_whole is.0 rest is.1.1 closed)
   statement_whole (Insert table columns rows) bytes rest is closed =
       data_reached (codes "INSERT") (lit< tt) refl refl refl refl bytes is.0 is.1.0 ∙ insert_reached bytes is.0 is.1.0 ∙ insert_whole schema table columns rows is.0 rest is.1.1 closed
-  statement_whole (Update keys sets) bytes rest is closed =
-      data_reached (codes "UPDATE") (lit< tt) refl refl refl refl bytes is.0 is.1.0 ∙ update_reached bytes is.0 is.1.0 ∙ update_whole schema keys sets is.0 rest is.1.1 closed
-  statement_whole (Delete keys) bytes rest is closed =
-      data_reached (codes "DELETE") (lit< tt) refl refl refl refl bytes is.0 is.1.0 ∙ delete_reached bytes is.0 is.1.0 ∙ delete_whole schema keys is.0 rest is.1.1 closed
+  statement_whole (Update keys portion sets) bytes rest is closed =
+      data_reached (codes "UPDATE") (lit< tt) refl refl refl refl bytes is.0 is.1.0 ∙ update_reached bytes is.0 is.1.0 ∙ update_whole schema keys portion sets is.0 rest is.1.1 closed
+  statement_whole (Delete keys portion) bytes rest is closed =
+      data_reached (codes "DELETE") (lit< tt) refl refl refl refl bytes is.0 is.1.0 ∙ delete_reached bytes is.0 is.1.0 ∙ delete_whole schema keys portion is.0 rest is.1.1 closed
   statement_whole (Select form keys) bytes rest is closed =
       data_reached (codes "SELECT") (lit< tt) refl refl refl refl bytes is.0 is.1.0 ∙ select_reached bytes is.0 is.1.0 ∙ select_whole schema form keys is.0 rest is.1.1 closed
 
@@ -209,8 +209,8 @@ module _ (schema : Schema) where
   statement_first Commit bytes rest is = record { letter = 67; letters = codes "OMMIT"; rest = is.0; stands = is.1.0; low = lit≤ tt; no_split = refl; no_migrate = refl; no_alter = refl }
   statement_first Rollback bytes rest is = record { letter = 82; letters = codes "OLLBACK"; rest = is.0; stands = is.1.0; low = lit≤ tt; no_split = refl; no_migrate = refl; no_alter = refl }
   statement_first (Insert table columns rows) bytes rest is = record { letter = 73; letters = codes "NSERT"; rest = is.0; stands = is.1.0; low = lit≤ tt; no_split = refl; no_migrate = refl; no_alter = refl }
-  statement_first (Update keys sets) bytes rest is = record { letter = 85; letters = codes "PDATE"; rest = is.0; stands = is.1.0; low = lit≤ tt; no_split = refl; no_migrate = refl; no_alter = refl }
-  statement_first (Delete keys) bytes rest is = record { letter = 68; letters = codes "ELETE"; rest = is.0; stands = is.1.0; low = lit≤ tt; no_split = refl; no_migrate = refl; no_alter = refl }
+  statement_first (Update keys portion sets) bytes rest is = record { letter = 85; letters = codes "PDATE"; rest = is.0; stands = is.1.0; low = lit≤ tt; no_split = refl; no_migrate = refl; no_alter = refl }
+  statement_first (Delete keys portion) bytes rest is = record { letter = 68; letters = codes "ELETE"; rest = is.0; stands = is.1.0; low = lit≤ tt; no_split = refl; no_migrate = refl; no_alter = refl }
   statement_first (Select form keys) bytes rest is = record { letter = 83; letters = codes "ELECT"; rest = is.0; stands = is.1.0; low = lit≤ tt; no_split = refl; no_migrate = refl; no_alter = refl }
 
   abbrev on_alter : ℕ → List ℕ → After → Read Written

@@ -101,7 +101,7 @@ number_begins z at rest (inl is) =
     )
 number_begins z at rest (inr is) = (ap (begins_with 39) is.1.1.1.0, ap begins_number is.1.1.1.0)
 
-number_whole : (z : ℤ) (bytes rest : List ℕ) → (Blanks ⋯ Number z) bytes rest → number_at bytes ≡ Ok (z, rest)
+pub number_whole : (z : ℤ) (bytes rest : List ℕ) → (Blanks ⋯ Number z) bytes rest → number_at bytes ≡ Ok (z, rest)
 unfolding number_at number_of
 number_whole z bytes rest is =
     let here : next bytes ≡ is.0 = next_is is.1.0 (number_not_blank z is.0 rest is.1.1) in

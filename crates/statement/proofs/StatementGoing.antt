@@ -11,20 +11,23 @@ use Rattle.values.specs.declared.query.Set.{Set}
 use Rattle.values.specs.declared.value.Value.{Value}
 use Rattle.values.specs.declared.key.Key.{Key}
 use Rattle.values.specs.Log.{Row}
+use Rattle.statement.specs.declared.portion.Portion.{Portion}
 use Rattle.statement.specs.declared.statement.Statement.{Statement}
 use Rattle.statement.specs.declared.statement.Statement.TheVariants.{Begin, Insert, Update, Delete, Select, Commit, Rollback}
 use Rattle.statement.specs.Token.{symbol_at, word_at}
 use Rattle.statement.specs.Literal.{literal_at, row_at, rows_at}
 use Rattle.statement.specs.Condition.{table_name_at, column_name_at, operator_at, set_at, comparison_at, sets_at, comparisons_at, columns_at, keys_at}
+use Rattle.statement.specs.Portion.{portion_at}
 use Rattle.statement.specs.Statement.{instant_at, as_of_at, period_at, between_at, selection_at, system_time_at, form_at, start_at, listed_at, insert_at, update_at, delete_at, select_at, data_at, statement_at}
-use Rattle.statement.specs.Grammar.{Piece, ◌⋯◌, ◌∣◌, Empty, Symbol, Word, Literal, Listed, IsRow, IsOperator, IsInstant, IsForm, IsTable, IsColumn, IsSet, IsComparison, IsColumnList, IsWhere, IsStatement, IsKey}
+use Rattle.statement.specs.Grammar.{Piece, ◌⋯◌, ◌∣◌, Empty, Symbol, Word, Literal, Listed, IsRow, IsOperator, IsInstant, IsForm, IsTable, IsColumn, IsSet, IsComparison, IsColumnList, IsWhere, IsPortion, IsStatement, IsKey}
 use Rattle.statement.specs.Split.{key_at}
-use Rattle.statement.proofs.LineSound.{work_sound, where_of, table_at_keys}
-use Rattle.statement.proofs.GrammarMoves.{word_moves, symbol_moves, operator_moves, instant_moves, list_moves, form_moves, table_moves, column_moves, set_moves, comparison_moves, column_list_moves}
+use Rattle.statement.proofs.LineSound.{work_sound, where_of, table_at_keys, portion_at_keys}
+use Rattle.statement.proofs.GrammarMoves.{word_moves, symbol_moves, operator_moves, instant_moves, list_moves, form_moves, table_moves, column_moves, set_moves, comparison_moves, column_list_moves, portion_moves}
 use Rattle.tokens.proofs.TokenGoing.{Usual, Reads, Then, Next, By, Last, usual_then, usual_next, usual_weaker, usual_by, reads_then, reads_weaker, reads_either, reads_whether, after_then, after_read, reads_by, reads_last, nothing}
 use Rattle.statement.proofs.GoingOnMissing.{usual_of}
 use Rattle.statement.proofs.TokenGoing.{symbol_usual, symbol_reads, word_usual, word_reads, table_usual, table_reads, column_usual, column_reads, instant_usual, instant_reads, literal_usual, literal_reads, operator_usual, operator_reads}
 use Rattle.statement.proofs.ListGoing.{list_reads, list_usual, enclosed_reads, row_reads, row_usual, rows_reads, rows_usual}
+use Rattle.statement.proofs.PortionGoing.{portion_reads, portion_usual}
 use Rattle.tokens.proofs.TokenFollows.{is_plain_word}
 
 -- ---- FOR SYSTEM_TIME
@@ -294,65 +297,128 @@ module _ (schema : Schema) where
 
   -- ---- UPDATE
 
-  update_of_sets : List Set → Keys → Statement
-  update_of_sets sets keys = Update keys sets
+  update_of_sets : Option Portion → List Set → Keys → Statement
+  update_of_sets portion sets keys = Update keys portion sets
 
-  UpdateSets : ℕ → Statement → Piece
-  UpdateSets table = Next (Word (codes "SET")) (Then (Listed (Symbol 44) (IsSet schema table)) (λ sets. By (update_of_sets sets) (IsKeys table)))
+  UpdateKeys : ℕ → Option Portion → List Set → Statement → Piece
+  UpdateKeys table portion sets = By (update_of_sets portion sets) (IsKeys table)
 
-  update_keys_usual : (table : ℕ) (sets : List Set) → Usual (By (update_of_sets sets) (IsKeys table))
-  update_keys_usual table sets = usual_by (update_of_sets sets) (keys_usual table)
+  update_keys_usual : (table : ℕ) (portion : Option Portion) (sets : List Set) → Usual (UpdateKeys table portion sets)
+  unfolding UpdateKeys
+  update_keys_usual table portion sets = usual_by (update_of_sets portion sets) (keys_usual table)
 
-  update_sets_usual : (table : ℕ) → Usual (UpdateSets table)
+  UpdateSets : ℕ → Option Portion → Statement → Piece
+  UpdateSets table portion = Next (Word (codes "SET")) (Then (Listed (Symbol 44) (IsSet schema table)) (UpdateKeys table portion))
+
+  update_sets_usual : (table : ℕ) (portion : Option Portion) → Usual (UpdateSets table portion)
   unfolding UpdateSets
-  update_sets_usual table = usual_next (usual_of (word_usual (codes "SET") refl)) (usual_then (list_usual (set_usual table)) (update_keys_usual table))
+  update_sets_usual table portion = usual_next (usual_of (word_usual (codes "SET") refl)) (usual_then (list_usual (set_usual table)) (update_keys_usual table portion))
+
+  UpdatePart : ℕ → Statement → Piece
+  UpdatePart table = Then (IsPortion schema table) (UpdateSets table)
+
+  update_part_usual : (table : ℕ) → Usual (UpdatePart table)
+  unfolding UpdatePart
+  update_part_usual table = usual_then (portion_usual schema table) (update_sets_usual table)
 
   UpdateRest : Statement → Piece
-  UpdateRest = Then (IsTable schema) UpdateSets
+  UpdateRest = Then (IsTable schema) UpdatePart
 
   update_of : (s : Statement) (bytes rest : List ℕ) → Next (Word (codes "UPDATE")) UpdateRest s bytes rest → IsStatement schema s bytes rest
-  unfolding UpdateSets UpdateRest IsKeys update_of_sets
+  unfolding UpdateKeys UpdateSets UpdatePart UpdateRest IsKeys update_of_sets
   update_of s bytes rest n =
       let t = n.second in
-      let w = t.second in
+      let p = t.second in
+      let w = p.second in
       let l = w.second in
       let k = l.second in
       let is = k.1.1 in
-      subst (λ (s : Statement). IsStatement schema s bytes rest) (sym k.1.0)
-      (n.between, (n.first, (t.between, (table_at_keys schema t.value k.0 n.between t.between is.0 t.first, (w.between, (w.first, (l.between, (subst (λ (u : ℕ). Listed (Symbol 44) (IsSet schema u) l.value w.between l.between) is.0 l.first, is.1))))))))
+      subst (λ (s : Statement). IsStatement schema s bytes rest) (sym k.1.0) (
+        n.between,
+        (
+          n.first,
+          (
+            t.between,
+            (
+              table_at_keys schema t.value k.0 n.between t.between is.0 t.first,
+              (
+                p.between,
+                (
+                  portion_at_keys schema t.value k.0 p.value t.between p.between is.0 p.first,
+                  (w.between, (w.first, (l.between, (subst (λ (u : ℕ). Listed (Symbol 44) (IsSet schema u) l.value w.between l.between) is.0 l.first, is.1)))),
+                ),
+              ),
+            ),
+          ),
+        ),
+      )
 
   update_reads : (bytes : List ℕ) → Reads UpdateRest bytes (update_at schema bytes)
-  unfolding update_at UpdateSets UpdateRest update_of_sets
+  unfolding update_at UpdateKeys UpdateSets UpdatePart UpdateRest update_of_sets
   update_reads bytes =
-      reads_then (table_name_at schema bytes) _ (table_moves schema) update_sets_usual (table_reads schema bytes) (λ table a.
-      after_then (word_at (codes "SET") a) _ (word_moves (codes "SET")) (usual_then (list_usual (set_usual table)) (update_keys_usual table)) (word_reads (codes "SET") refl a) (λ b.
-      reads_then (sets_at schema table b) _ (list_moves (symbol_moves 44) (set_moves schema table)) (update_keys_usual table) (sets_reads table b) (λ sets c.
-      reads_by (update_of_sets sets) (keys_at schema table c) (keys_reads table c))))
+      reads_then (table_name_at schema bytes) _ (table_moves schema) update_part_usual (table_reads schema bytes) (λ table a.
+      reads_then (portion_at schema table a) _ (portion_moves schema table) (update_sets_usual table) (portion_reads schema table a) (λ portion m.
+      after_then (word_at (codes "SET") m) _ (word_moves (codes "SET")) (usual_then (list_usual (set_usual table)) (update_keys_usual table portion)) (word_reads (codes "SET") refl m) (λ b.
+      reads_then (sets_at schema table b) _ (list_moves (symbol_moves 44) (set_moves schema table)) (update_keys_usual table portion) (sets_reads table b) (λ sets c.
+      reads_by (update_of_sets portion sets) (keys_at schema table c) (keys_reads table c)))))
 
   -- ---- DELETE
 
-  DeleteRest : Statement → Piece
-  DeleteRest = Next (Word (codes "FROM")) (Then (IsTable schema) (λ table. By Delete (IsKeys table)))
+  delete_of_portion : Option Portion → Keys → Statement
+  delete_of_portion portion keys = Delete keys portion
 
-  delete_keys_usual : (table : ℕ) → Usual (By Delete (IsKeys table))
-  delete_keys_usual table = usual_by Delete (keys_usual table)
+  DeleteKeys : ℕ → Option Portion → Statement → Piece
+  DeleteKeys table portion = By (delete_of_portion portion) (IsKeys table)
+
+  delete_keys_usual : (table : ℕ) (portion : Option Portion) → Usual (DeleteKeys table portion)
+  unfolding DeleteKeys
+  delete_keys_usual table portion = usual_by (delete_of_portion portion) (keys_usual table)
+
+  DeletePart : ℕ → Statement → Piece
+  DeletePart table = Then (IsPortion schema table) (DeleteKeys table)
+
+  delete_part_usual : (table : ℕ) → Usual (DeletePart table)
+  unfolding DeletePart
+  delete_part_usual table = usual_then (portion_usual schema table) (delete_keys_usual table)
+
+  DeleteRest : Statement → Piece
+  DeleteRest = Next (Word (codes "FROM")) (Then (IsTable schema) DeletePart)
 
   delete_of : (s : Statement) (bytes rest : List ℕ) → Next (Word (codes "DELETE")) DeleteRest s bytes rest → IsStatement schema s bytes rest
-  unfolding DeleteRest IsKeys
+  unfolding DeleteKeys DeletePart DeleteRest IsKeys delete_of_portion
   delete_of s bytes rest n =
       let a = n.second in
       let t = a.second in
-      let k = t.second in
+      let p = t.second in
+      let k = p.second in
       let is = k.1.1 in
-      subst (λ (s : Statement). IsStatement schema s bytes rest) (sym k.1.0)
-      (n.between, (n.first, (a.between, (a.first, (t.between, (table_at_keys schema t.value k.0 a.between t.between is.0 t.first, is.1))))))
+      subst (λ (s : Statement). IsStatement schema s bytes rest) (sym k.1.0) (
+        n.between,
+        (
+          n.first,
+          (
+            a.between,
+            (
+              a.first,
+              (
+                t.between,
+                (
+                  table_at_keys schema t.value k.0 a.between t.between is.0 t.first,
+                  (p.between, (portion_at_keys schema t.value k.0 p.value t.between p.between is.0 p.first, is.1)),
+                ),
+              ),
+            ),
+          ),
+        ),
+      )
 
   delete_reads : (bytes : List ℕ) → Reads DeleteRest bytes (delete_at schema bytes)
-  unfolding delete_at DeleteRest
+  unfolding delete_at DeleteKeys DeletePart DeleteRest delete_of_portion
   delete_reads bytes =
-      after_then (word_at (codes "FROM") bytes) _ (word_moves (codes "FROM")) (usual_then (usual_of (table_usual schema)) delete_keys_usual) (word_reads (codes "FROM") refl bytes) (λ a.
-      reads_then (table_name_at schema a) _ (table_moves schema) delete_keys_usual (table_reads schema a) (λ table b.
-      reads_by Delete (keys_at schema table b) (keys_reads table b)))
+      after_then (word_at (codes "FROM") bytes) _ (word_moves (codes "FROM")) (usual_then (usual_of (table_usual schema)) delete_part_usual) (word_reads (codes "FROM") refl bytes) (λ a.
+      reads_then (table_name_at schema a) _ (table_moves schema) delete_part_usual (table_reads schema a) (λ table b.
+      reads_then (portion_at schema table b) _ (portion_moves schema table) (delete_keys_usual table) (portion_reads schema table b) (λ portion c.
+      reads_by (delete_of_portion portion) (keys_at schema table c) (keys_reads table c))))
 
   -- ---- SELECT
 

@@ -12,6 +12,7 @@ use Rattle.values.specs.declared.query.Operator.TheVariants.{Equal, Below, AtMos
 use Rattle.values.specs.declared.query.Set.{Set}
 use Rattle.values.specs.declared.key.Key.{Key}
 use Rattle.values.specs.Log.{Row}
+use Rattle.statement.specs.declared.portion.Portion.{Portion}
 use Rattle.statement.specs.declared.statement.Statement.TheVariants.{Insert, Update, Delete, Select}
 use Rattle.tokens.specs.Token.{After, Read, ◌>>=◌}
 use Rattle.statement.specs.Token.{symbol_at}
@@ -19,7 +20,7 @@ use Rattle.statement.specs.Token.{word_at, after_optional_word}
 use Rattle.statement.specs.Literal.{literal_at, row_at, rows_at}
 use Rattle.statement.specs.Condition.{table_name_at, column_name_at, or_equal, operator_of, operator_at, set_at, comparison_at, sets_at, comparisons_at, columns_at, keys_at}
 use Rattle.statement.specs.Statement.{instant_at, as_of_at, period_at, from_to_at, between_at, selection_at, system_time_at, form_at, listed_at, insert_at, update_at, delete_at, select_at}
-use Rattle.statement.specs.Grammar.{◌⋯◌, ◌∣◌, Empty, Symbol, Word, Literal, Listed, Enclosed, IsRow, IsOperator, IsInstant, IsForm, IsTable, IsColumn, IsSet, IsComparison, IsColumnList, IsWhere, IsKey}
+use Rattle.statement.specs.Grammar.{◌⋯◌, ◌∣◌, Empty, Symbol, Word, Literal, Listed, Enclosed, IsRow, IsOperator, IsInstant, IsForm, IsTable, IsColumn, IsSet, IsComparison, IsColumnList, IsWhere, IsPortion, IsKey}
 use Rattle.statement.specs.Split.{key_at}
 use Rattle.tokens.specs.Run.{Ends}
 use Rattle.tokens.proofs.WordCases.{Refused}
@@ -27,6 +28,7 @@ use Rattle.statement.proofs.TokenWhole.{word_whole, name_whole, symbol_whole, ne
 use Rattle.statement.proofs.LiteralWhole.{digits_whole, literal_whole}
 use Rattle.statement.proofs.GrammarLengths.{literal_within, row_within, column_within, set_within, comparison_within, symbol_takes, word_takes}
 use Rattle.statement.proofs.ListWhole.{ok_then, list_whole, enclosed_whole}
+use Rattle.statement.proofs.PortionWhole.{portion_whole}
 
 -- nothing follows that a statement could go on with
 pub record Closing (rest : List ℕ) : Type 0 where
@@ -213,28 +215,33 @@ module _ (schema : Schema) where
       (ok_then _ _ (word_whole (codes "VALUES") (lit< tt) c d is.1.1.1.1.1.1.1.0)
       (ok_then _ _ (rows_whole rows d rest is.1.1.1.1.1.1.1.1 closing) refl))))
 
-  pub update_whole : (keys : Keys) (sets : List Set) (bytes rest : List ℕ)
-      → (IsTable schema keys.table ⋯ Word (codes "SET") ⋯ Listed (Symbol 44) (IsSet schema keys.table) sets ⋯ IsWhere schema keys.table keys.comparisons) bytes rest
-      → Closing rest → update_at schema bytes ≡ Ok (Update keys sets, rest)
+  pub update_whole : (keys : Keys) (portion : Option Portion) (sets : List Set) (bytes rest : List ℕ)
+      → (IsTable schema keys.table ⋯ IsPortion schema keys.table portion ⋯ Word (codes "SET") ⋯ Listed (Symbol 44) (IsSet schema keys.table) sets ⋯ IsWhere schema keys.table keys.comparisons) bytes rest
+      → Closing rest → update_at schema bytes ≡ Ok (Update keys portion sets, rest)
   unfolding update_at
-  update_whole keys sets bytes rest is closing =
+  update_whole keys portion sets bytes rest is closing =
       let a = is.0 in
       let b = is.1.1.0 in
       let c = is.1.1.1.1.0 in
+      let d = is.1.1.1.1.1.1.0 in
       ok_then _ _ (table_whole keys.table bytes a is.1.0)
-      (ok_then _ _ (word_whole (codes "SET") (lit< tt) a b is.1.1.1.0)
-      (ok_then _ _ (sets_whole keys.table sets b c is.1.1.1.1.1.0 (no_comma_before keys.table keys.comparisons c rest is.1.1.1.1.1.1 closing))
-      (ok_then _ _ (where_whole keys.table keys.comparisons c rest is.1.1.1.1.1.1 closing) refl)))
+      (ok_then _ _ (portion_whole schema keys.table portion a b is.1.1.1.0 (other_word_refused (codes "FOR") (codes "SET") refl (lit< tt) b c is.1.1.1.1.1.0))
+      (ok_then _ _ (word_whole (codes "SET") (lit< tt) b c is.1.1.1.1.1.0)
+      (ok_then _ _ (sets_whole keys.table sets c d is.1.1.1.1.1.1.1.0 (no_comma_before keys.table keys.comparisons d rest is.1.1.1.1.1.1.1.1 closing))
+      (ok_then _ _ (where_whole keys.table keys.comparisons d rest is.1.1.1.1.1.1.1.1 closing) refl))))
 
-  pub delete_whole : (keys : Keys) (bytes rest : List ℕ) → (Word (codes "FROM") ⋯ IsTable schema keys.table ⋯ IsWhere schema keys.table keys.comparisons) bytes rest
-      → Closing rest → delete_at schema bytes ≡ Ok (Delete keys, rest)
+  pub delete_whole : (keys : Keys) (portion : Option Portion) (bytes rest : List ℕ)
+      → (Word (codes "FROM") ⋯ IsTable schema keys.table ⋯ IsPortion schema keys.table portion ⋯ IsWhere schema keys.table keys.comparisons) bytes rest
+      → Closing rest → delete_at schema bytes ≡ Ok (Delete keys portion, rest)
   unfolding delete_at
-  delete_whole keys bytes rest is closing =
+  delete_whole keys portion bytes rest is closing =
       let a = is.0 in
       let b = is.1.1.0 in
+      let c = is.1.1.1.1.0 in
       ok_then _ _ (word_whole (codes "FROM") (lit< tt) bytes a is.1.0)
       (ok_then _ _ (table_whole keys.table a b is.1.1.1.0)
-      (ok_then _ _ (where_whole keys.table keys.comparisons b rest is.1.1.1.1 closing) refl))
+      (ok_then _ _ (portion_whole schema keys.table portion b c is.1.1.1.1.1.0 (no_for_before keys.table keys.comparisons c rest is.1.1.1.1.1.1 closing))
+      (ok_then _ _ (where_whole keys.table keys.comparisons c rest is.1.1.1.1.1.1 closing) refl)))
 
   pub select_whole : (form : Form) (keys : Keys) (bytes rest : List ℕ)
       → (Symbol 42 ⋯ Word (codes "FROM") ⋯ IsTable schema keys.table ⋯ IsForm form ⋯ IsWhere schema keys.table keys.comparisons) bytes rest

@@ -1,6 +1,6 @@
 -- Reading stops at a token, and the bytes before it can go on to one: tokens and literals.
-use Rattle.std.proofs.Common.{◌≡◌, ℕ, ◌≤◌, Bool, true, false, List, [], ◌∷◌, ◌++◌, Ok, Err, Some, None, refl, arith, drop}
-use Rattle.std.specs.Prelude.{ℤ, Option, ◌==◌, if◌then◌else◌, codes}
+use Rattle.std.proofs.Common.{◌≡◌, ℕ, ◌≤◌, Bool, true, false, List, [], ◌∷◌, ◌++◌, Ok, Err, Some, None, pos, inl, refl, arith, drop, lit≤}
+use Rattle.std.specs.Prelude.{ℤ, Option, ◌==◌, ◌-◌, ◌^◌, if◌then◌else◌, codes}
 use Rattle.std.specs.Char.{is_ascii_digit}
 use Rattle.std.specs.Str.{is_utf8}
 use Rattle.std.proofs.lemmas.Bool.{and_parts}
@@ -19,10 +19,10 @@ use Rattle.statement.specs.Token.{next, symbol_at, word_at, name_at}
 use Rattle.statement.specs.Literal.{digits_here, digits_at, begins_with, above_nought, below_nought, number_at, quoted, text_of, text_at, constant_at, begins_number, literal_at}
 use Rattle.statement.specs.Condition.{table_of, column_of, table_name_at, column_name_at, or_equal, operator_of, operator_at}
 use Rattle.statement.specs.Statement.{instant_at}
-use Rattle.statement.specs.Grammar.{◌⋯◌, Blanks, Symbol, Word, Name, Digits, Literal, IsOperator, IsInstant, IsTable, IsColumn}
+use Rattle.statement.specs.Grammar.{◌⋯◌, Blanks, Symbol, Word, Name, Digits, Literal, IsOperator, IsInstant, IsNumber, IsTable, IsColumn}
 use Rattle.statement.proofs.TokenGaps.{blanks_before, blanks_join}
 use Rattle.statement.proofs.GrammarSound.{symbol_sound, word_sound, name_sound}
-use Rattle.statement.proofs.LiteralSound.{digits_sound, literal_sound}
+use Rattle.statement.proofs.LiteralSound.{digits_sound, number_sound, literal_sound}
 use Rattle.statement.proofs.ListSound.{operator_sound}
 use Rattle.tokens.proofs.TokenFollows.{ends_so, all_from, all_test, is_plain_word}
 use Rattle.tokens.proofs.TokenGoing.{Reads, ReadsAfter, reads_map}
@@ -152,6 +152,15 @@ instant_reads bytes = digits_reads max_instant some_instant bytes
 
 -- ---- literals
 
+pub number_usual : UsualToken IsNumber
+number_usual =
+    let one = digits_usual (2 ^ 63 - 1) (lit≤ tt) in
+    record {
+      text = one.text;
+      value = pos one.value;
+      holds = λ bytes tail blanks clean. let is = one.holds bytes tail blanks clean in (is.0, (is.1.0, inl (one.value, (refl, is.1.1))));
+    }
+
 number_next : (bytes : List ℕ) → AtNext bytes (number_at bytes)
 unfolding number_at
 number_next bytes = by_found (if begins_with 45 (next bytes) then below_nought (drop 1 (next bytes)) else above_nought (next bytes))
@@ -159,6 +168,9 @@ number_next bytes = by_found (if begins_with 45 (next bytes) then below_nought (
     by_found : (o : Option (ℤ × List ℕ)) → AtNext bytes (elim o [ None ↦ Err (next bytes) | Some x ↦ Ok x ])
     by_found None = record { it = blanks_before bytes }
     by_found (Some x) = record { it = tt }
+
+pub number_reads : (bytes : List ℕ) → Reads IsNumber bytes (number_at bytes)
+number_reads bytes = token_reads number_usual _ (number_sound bytes) (number_next bytes)
 
 text_next : (bytes : List ℕ) → AtNext bytes (text_at bytes)
 unfolding text_at text_of

@@ -15,6 +15,7 @@ use Rattle.values.specs.declared.query.Operator.{Operator}
 use Rattle.values.specs.declared.query.Operator.TheVariants.{Equal, Below, AtMost, Above, AtLeast}
 use Rattle.values.specs.declared.query.Set.{Set}
 use Rattle.values.specs.declared.key.Key.{Key}
+use Rattle.values.specs.declared.period.Span.{Span}
 use Rattle.values.specs.Log.{Row}
 use Rattle.values.specs.Names.{same_name}
 use Rattle.values.specs.Commits.{max_instant}
@@ -22,12 +23,14 @@ use Rattle.statement.specs.declared.line.Written.{Written}
 use Rattle.statement.specs.declared.line.Written.TheVariants.{Clock, SplitKey, SplitTime, Migrate, Session, AddColumn}
 use Rattle.statement.specs.declared.statement.Statement.{Statement}
 use Rattle.statement.specs.declared.statement.Statement.TheVariants.{Begin, Insert, Update, Delete, Select, Commit, Rollback}
+use Rattle.statement.specs.declared.portion.Portion.{Portion}
 use Rattle.tokens.specs.Run.{AllBytes, Ends, Run}
 use Rattle.tokens.specs.Word.{is_name_byte}
 use Rattle.tokens.specs.Name.{is_name}
 use Rattle.tokens.specs.Digit.{capped_from}
 use Rattle.statement.specs.Token.{is_blank}
 use Rattle.statement.specs.Condition.{table_of, column_of}
+use Rattle.statement.specs.Portion.{is_period}
 
 abbrev pub Piece : Type 1
 Piece = List ℕ → List ℕ → Type 0
@@ -151,6 +154,13 @@ IsForm (Between start end) =
     Word (codes "FOR") ⋯ Word (codes "SYSTEM_TIME") ⋯ Word (codes "BETWEEN") ⋯ IsInstant start
     ⋯ Word (codes "AND") ⋯ IsInstant end
 
+abbrev pub IsNumber : ℤ → Piece
+IsNumber z = Blanks ⋯ Number z
+
+-- where a portion begins and ends, whichever is less
+abbrev pub Bounds : Span → Piece
+Bounds span = Word (codes "FROM") ⋯ IsNumber span.from ⋯ Word (codes "TO") ⋯ IsNumber span.to
+
 module _ (schema : Schema) where
   -- a name, which is that of the table that has it, or of none
   abbrev pub IsTable : ℕ → Piece
@@ -178,6 +188,18 @@ module _ (schema : Schema) where
     IsWhere [] = Empty
     IsWhere (c ∷ cs) = Word (codes "WHERE") ⋯ Listed (Word (codes "AND")) IsComparison (c ∷ cs)
 
+    -- a name, and whether it is that of the table's period
+    abbrev pub IsPeriod : Bool → Piece
+    IsPeriod of_period bytes rest =
+        (name : List ℕ) × (Name name bytes rest × (is_period schema table name ≡ of_period))
+
+    -- the portion of application time that is changed, where there is one
+    abbrev pub IsPortion : Option Portion → Piece
+    IsPortion None = Empty
+    IsPortion (Some portion) =
+        Word (codes "FOR") ⋯ Word (codes "PORTION") ⋯ Word (codes "OF")
+        ⋯ IsPeriod portion.of_period ⋯ Bounds portion.span
+
   abbrev pub IsStatement : Statement → Piece
   IsStatement Begin = Word (codes "BEGIN") ∣ Word (codes "START") ⋯ Word (codes "TRANSACTION")
   IsStatement Commit = Word (codes "COMMIT") ⋯ (Empty ∣ Word (codes "WORK"))
@@ -185,12 +207,13 @@ module _ (schema : Schema) where
   IsStatement (Insert table columns rows) =
       Word (codes "INSERT") ⋯ Word (codes "INTO") ⋯ IsTable table ⋯ IsColumnList table columns
       ⋯ Word (codes "VALUES") ⋯ Listed (Symbol 44) IsRow rows
-  IsStatement (Update keys sets) =
-      Word (codes "UPDATE") ⋯ IsTable keys.table ⋯ Word (codes "SET")
-      ⋯ Listed (Symbol 44) (IsSet keys.table) sets ⋯ IsWhere keys.table keys.comparisons
-  IsStatement (Delete keys) =
-      Word (codes "DELETE") ⋯ Word (codes "FROM") ⋯ IsTable keys.table
+  IsStatement (Update keys portion sets) =
+      Word (codes "UPDATE") ⋯ IsTable keys.table ⋯ IsPortion keys.table portion
+      ⋯ Word (codes "SET") ⋯ Listed (Symbol 44) (IsSet keys.table) sets
       ⋯ IsWhere keys.table keys.comparisons
+  IsStatement (Delete keys portion) =
+      Word (codes "DELETE") ⋯ Word (codes "FROM") ⋯ IsTable keys.table
+      ⋯ IsPortion keys.table portion ⋯ IsWhere keys.table keys.comparisons
   IsStatement (Select form keys) =
       Word (codes "SELECT") ⋯ Symbol 42 ⋯ Word (codes "FROM") ⋯ IsTable keys.table ⋯ IsForm form
       ⋯ IsWhere keys.table keys.comparisons

@@ -6,16 +6,19 @@ use Rattle.values.specs.declared.value.Value.TheVariants.{Null}
 use Rattle.values.specs.declared.table.Column.{Column}
 use Rattle.values.specs.declared.table.ColumnType.{ColumnType}
 use Rattle.values.specs.declared.table.Table.{Table}
+use Rattle.values.specs.declared.query.Keys.{Keys}
+use Rattle.values.specs.declared.query.Set.{Set}
 use Rattle.values.specs.Tables.{Schema}
 use Rattle.values.specs.declared.refusal.Refusal.{Refusal}
 use Rattle.values.specs.declared.refusal.Refusal.TheVariants.{NoSession, NoTable, BadRow}
 use Rattle.values.specs.Log.{Row}
 use Rattle.values.specs.Tables.{table_at}
 use Rattle.values.specs.Fit.{row_fault}
+use Rattle.statement.specs.declared.portion.Portion.{Portion}
 use Rattle.statement.specs.declared.statement.Statement.{Statement}
 use Rattle.statement.specs.declared.statement.Statement.TheVariants.{Begin, Insert, Update, Delete, Select, Commit, Rollback}
 use Rattle.steps.specs.declared.step.Step.{Step}
-use Rattle.steps.specs.declared.step.Step.TheVariants.{Begin as Begins, Insert as Inserts, Update as Updates, Delete as Deletes, Select as Selects, Commit as Commits, Rollback as RollsBack, AddColumn as AddsColumn}
+use Rattle.steps.specs.declared.step.Step.TheVariants.{Begin as Begins, Insert as Inserts, Update as Updates, Delete as Deletes, UpdatePortion as UpdatesPortion, DeletePortion as DeletesPortion, Select as Selects, Commit as Commits, Rollback as RollsBack, AddColumn as AddsColumn}
 use Rattle.steps.specs.Misfit.{max_session, misfit}
 use Rattle.tokens.specs.Token.{◌>>=◌}
 
@@ -83,13 +86,32 @@ module _ (schema : Schema) where
         else Err (BadRow 0)
   ]
 
+  -- a step on a portion: its table, then whether the table has its period, then the step
+  unfoldable pub portion_step : ℕ → Bool → Step → Result Step Refusal
+  portion_step number of_period step = elim (table_at schema number) [
+    | None ↦ Err NoTable
+    | Some _ ↦ if of_period then fitting_step step else Err (BadRow 0)
+  ]
+
+  -- an UPDATE of a portion, or of rows as they are
+  abbrev pub update_step : ℕ → Keys → Option Portion → List Set → Result Step Refusal
+  update_step session keys None sets = fitting_step (Updates session keys sets)
+  update_step session keys (Some portion) sets =
+      portion_step keys.table portion.of_period (UpdatesPortion session keys portion.span sets)
+
+  -- the same of a DELETE
+  abbrev pub delete_step : ℕ → Keys → Option Portion → Result Step Refusal
+  delete_step session keys None = fitting_step (Deletes session keys)
+  delete_step session keys (Some portion) =
+      portion_step keys.table portion.of_period (DeletesPortion session keys portion.span)
+
   -- the step of a session that there is
   unfoldable pub session_step : ℕ → ℕ → Statement → Result Step Refusal
   session_step reading session Begin = fitting_step (Begins session)
   session_step reading session (Insert number columns rows) =
       insert_step session number columns rows
-  session_step reading session (Update keys sets) = fitting_step (Updates session keys sets)
-  session_step reading session (Delete keys) = fitting_step (Deletes session keys)
+  session_step reading session (Update keys portion sets) = update_step session keys portion sets
+  session_step reading session (Delete keys portion) = delete_step session keys portion
   session_step reading session (Select form keys) = fitting_step (Selects session form keys)
   session_step reading session Commit = fitting_step (Commits session reading)
   session_step reading session Rollback = fitting_step (RollsBack session)

@@ -11,6 +11,7 @@ use Rattle.tokens.specs.Token.{Read, ◌>>=◌}
 use Rattle.statement.specs.Token.{symbol_at, word_at, after_optional_word}
 use Rattle.statement.specs.Literal.{digits_at, rows_at}
 use Rattle.statement.specs.Condition.{table_name_at, columns_at, sets_at, keys_at}
+use Rattle.statement.specs.Portion.{portion_at}
 
 -- an instant, of which this is the last
 unfoldable pub instant_at : List ℕ → Read ℕ
@@ -84,17 +85,19 @@ module _ (schema : Schema) where
   unfoldable pub update_at : List ℕ → Read Statement
   update_at bytes = do
     table ← table_name_at schema bytes
-    rest ← word_at (codes "SET") table.1
+    portion ← portion_at schema table.0 table.1
+    rest ← word_at (codes "SET") portion.1
     sets ← sets_at schema table.0 rest
     keys ← keys_at schema table.0 sets.1
-    Ok (Update keys.0 sets.0, keys.1)
+    Ok (Update keys.0 portion.0 sets.0, keys.1)
 
   unfoldable pub delete_at : List ℕ → Read Statement
   delete_at bytes = do
     rest ← word_at (codes "FROM") bytes
     table ← table_name_at schema rest
-    keys ← keys_at schema table.0 table.1
-    Ok (Delete keys.0, keys.1)
+    portion ← portion_at schema table.0 table.1
+    keys ← keys_at schema table.0 portion.1
+    Ok (Delete keys.0 portion.0, keys.1)
 
   unfoldable pub select_at : List ℕ → Read Statement
   select_at bytes = do

@@ -8,6 +8,7 @@ mod line;
 mod list;
 mod literal;
 mod meaning;
+mod portion;
 mod print;
 mod served_line;
 mod split;

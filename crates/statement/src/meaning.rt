@@ -2,16 +2,17 @@
 ghost use Rattle.std.specs.Prelude.{◌≡◌, ◌≢◌, ◌==◌, ◌≤◌, length, IfOk, [], Err, true};
 ghost use Rattle.std.specs.List.{list_any};
 ghost use Rattle.values.specs.Tables.{widest};
-ghost use Rattle.statement.specs.Meaning.{is_column_list, is_good_list, place_of, value_of, row_values, row_in, fitting_row, fitting_rows, fitting_step, insert_step, session_step, step_of, column_step};
+ghost use Rattle.statement.specs.Meaning.{is_column_list, is_good_list, place_of, value_of, row_values, row_in, fitting_row, fitting_rows, fitting_step, insert_step, portion_step, update_step, delete_step, session_step, step_of, column_step};
 ghost use Rattle.statement.specs.Memory.{UnlessMemory, is_insert};
 
 use crate::literal::WrittenRows;
+use crate::portion::Portion;
 use crate::statement::{Columns, Statement};
 use std::alloc::{AllocError, Global};
 use steps::{MAX_SESSION, Step};
 use values::{
-    Chars, ColumnNumber, ColumnType, Instant, Mem, Refusal, Row, Rows, Schema, Table, Value,
-    Values, fitting_rows_have_bytes,
+    Chars, ColumnNumber, ColumnType, Instant, Keys, Mem, Refusal, Row, Rows, Schema, Sets, Table,
+    Value, Values, fitting_rows_have_bytes,
 };
 
 /// Tells whether each name of a column list is a column's, and none is repeated. Columns are
@@ -188,6 +189,58 @@ fn insert_step(
     }
 }
 
+/// A step on a portion: its table, then whether the table has its period, then the step.
+#[tactic(auto, unfolding(crate::specs::Meaning::portion_step))]
+fn portion_step(schema: &Schema, number: u8, of_period: bool, step: Step) -> Result<Step, Refusal>
+    ensures is { result ≡ portion_step schema.now number of_period step }
+    ensures memory { result ≢ Err Refusal.Memory }
+{
+    if schema.table_at(number).is_none() {
+        return Err(Refusal::NoTable);
+    }
+    if !of_period {
+        return Err(Refusal::BadRow(0));
+    }
+    fitting_step(schema, step)
+}
+
+/// An UPDATE of a portion, or of rows as they are.
+fn update_step(
+    schema: &Schema,
+    session: u8,
+    keys: Keys,
+    portion: Option<Portion>,
+    sets: Sets,
+) -> Result<Step, Refusal>
+    ensures is { result ≡ update_step schema.now session keys portion sets }
+    ensures memory { result ≢ Err Refusal.Memory }
+{
+    let Some(portion) = portion else {
+        return fitting_step(schema, Step::Update(session, keys, sets));
+    };
+    let number = keys.table;
+    let step = Step::UpdatePortion(session, keys, portion.span, sets);
+    portion_step(schema, number, portion.of_period, step)
+}
+
+/// The same of a DELETE.
+fn delete_step(
+    schema: &Schema,
+    session: u8,
+    keys: Keys,
+    portion: Option<Portion>,
+) -> Result<Step, Refusal>
+    ensures is { result ≡ delete_step schema.now session keys portion }
+    ensures memory { result ≢ Err Refusal.Memory }
+{
+    let Some(portion) = portion else {
+        return fitting_step(schema, Step::Delete(session, keys));
+    };
+    let number = keys.table;
+    let step = Step::DeletePortion(session, keys, portion.span);
+    portion_step(schema, number, portion.of_period, step)
+}
+
 /// The step of a session that there is.
 #[tactic(auto, unfolding(crate::specs::Meaning::session_step))]
 fn session_step(
@@ -204,8 +257,10 @@ fn session_step(
         Statement::Insert(table, columns, rows) => {
             insert_step(alloc, schema, session, table, &columns, &rows)
         }
-        Statement::Update(keys, sets) => fitting_step(schema, Step::Update(session, keys, sets)),
-        Statement::Delete(keys) => fitting_step(schema, Step::Delete(session, keys)),
+        Statement::Update(keys, portion, sets) => {
+            update_step(schema, session, keys, portion, sets)
+        }
+        Statement::Delete(keys, portion) => delete_step(schema, session, keys, portion),
         Statement::Select(form, keys) => fitting_step(schema, Step::Select(session, form, keys)),
         Statement::Begin => fitting_step(schema, Step::Begin(session)),
         Statement::Commit => fitting_step(schema, Step::Commit(session, reading)),
@@ -214,7 +269,7 @@ fn session_step(
 }
 
 /// Returns the step of a statement, or why it does not fit: its session's number, then its table,
-/// then the first column at fault.
+/// then the name of its period, then the first column at fault.
 #[tactic(auto, unfolding(crate::specs::Meaning::step_of))]
 pub fn step_of(
     alloc: Global,

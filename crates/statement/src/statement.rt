@@ -6,6 +6,7 @@ ghost use Rattle.statement.specs.Statement.{instant_at, as_of_at, from_to_at, be
 
 use crate::condition::{columns_at, keys_at, sets_at, table_name_at};
 use crate::literal::{WrittenRows, digits_at, rows_at};
+use crate::portion::{Portion, portion_at};
 use crate::token::{Blanks, after_optional_word};
 use std::alloc::Global;
 use tokens::{Made, Read, symbol_at, word_at};
@@ -22,8 +23,10 @@ pub enum Statement {
     /// A table, the columns that its list names where there is one, and rows whose values are in
     /// the list's order or else in the table's.
     Insert(u8, Option<Columns>, WrittenRows),
-    Update(Keys, Sets),
-    Delete(Keys),
+    /// Keys, the portion that FOR PORTION OF names where there is one, and new values.
+    Update(Keys, Option<Portion>, Sets),
+    /// Keys, and such a portion.
+    Delete(Keys, Option<Portion>),
     Select(Form, Keys),
     Commit,
     Rollback,
@@ -136,10 +139,11 @@ fn update_at<'a>(alloc: Global, schema: &Schema, bytes: &'a [u8]) -> Made<'a, St
     ensures { Makes result (update_at schema.now bytes.now) }
 {
     let (table, rest) = table_name_at(schema, bytes)?;
+    let (portion, rest) = portion_at(schema, table, rest)?;
     let rest = word_at::<Blanks>(b"SET", rest)?;
     let (sets, rest) = sets_at(alloc, schema, table, rest)?;
     let (keys, rest) = keys_at(alloc, schema, table, rest)?;
-    Ok((Statement::Update(keys, sets), rest))
+    Ok((Statement::Update(keys, portion, sets), rest))
 }
 
 #[tactic(auto, unfolding(crate::specs::Statement::delete_at))]
@@ -148,8 +152,9 @@ fn delete_at<'a>(alloc: Global, schema: &Schema, bytes: &'a [u8]) -> Made<'a, St
 {
     let rest = word_at::<Blanks>(b"FROM", bytes)?;
     let (table, rest) = table_name_at(schema, rest)?;
+    let (portion, rest) = portion_at(schema, table, rest)?;
     let (keys, rest) = keys_at(alloc, schema, table, rest)?;
-    Ok((Statement::Delete(keys), rest))
+    Ok((Statement::Delete(keys, portion), rest))
 }
 
 #[tactic(auto, unfolding(crate::specs::Statement::select_at))]
