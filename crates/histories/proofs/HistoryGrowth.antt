@@ -13,7 +13,7 @@ use Rattle.values.specs.Commits.{conflicts, outcome, log_after, after, max_insta
 use Rattle.values.proofs.LawAsOf.{as_of_stays}
 use Rattle.values.proofs.LogPush.{Rises-push}
 use Rattle.steps.specs.declared.step.Step.{Step}
-use Rattle.steps.specs.declared.step.Step.TheVariants.{Begin, Insert, Update, Delete, Select, Commit, Rollback, AddColumn, SplitKey, SplitTime, Migrate}
+use Rattle.steps.specs.declared.step.Step.TheVariants.{Begin, Insert, Update, Delete, UpdatePortion, DeletePortion, Select, Commit, Rollback, AddColumn, SplitKey, SplitTime, Migrate}
 use Rattle.histories.specs.History.{History, schema_after, log, log_at_begin, own, net_change_of}
 use Rattle.histories.specs.Law.{LogsRise, LaterStepsAdd, PastStays}
 
@@ -56,6 +56,8 @@ log_rises schema (Begin i ∷ h) = log_rises schema h
 log_rises schema (Insert i number rows ∷ h) = log_rises schema h
 log_rises schema (Update i keys sets ∷ h) = log_rises schema h
 log_rises schema (Delete i keys ∷ h) = log_rises schema h
+log_rises schema (UpdatePortion i keys cut sets ∷ h) = log_rises schema h
+log_rises schema (DeletePortion i keys cut ∷ h) = log_rises schema h
 log_rises schema (Select i form keys ∷ h) = log_rises schema h
 log_rises schema (Rollback i ∷ h) = log_rises schema h
 log_rises schema (AddColumn i number name of ∷ h) = log_rises schema h
@@ -74,6 +76,8 @@ step_adds schema h (Begin i) = ([], sym (append-nil (log schema h)))
 step_adds schema h (Insert i number rows) = ([], sym (append-nil (log schema h)))
 step_adds schema h (Update i keys sets) = ([], sym (append-nil (log schema h)))
 step_adds schema h (Delete i keys) = ([], sym (append-nil (log schema h)))
+step_adds schema h (UpdatePortion i keys cut sets) = ([], sym (append-nil (log schema h)))
+step_adds schema h (DeletePortion i keys cut) = ([], sym (append-nil (log schema h)))
 step_adds schema h (Select i form keys) = ([], sym (append-nil (log schema h)))
 step_adds schema h (Rollback i) = ([], sym (append-nil (log schema h)))
 step_adds schema h (AddColumn i number name of) = ([], sym (append-nil (log schema h)))

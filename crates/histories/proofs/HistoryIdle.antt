@@ -12,9 +12,9 @@ use Rattle.values.specs.Writes.{Own}
 use Rattle.values.specs.Period.{periods_of}
 use Rattle.values.specs.Commits.{after}
 use Rattle.steps.specs.declared.step.Step.{Step}
-use Rattle.steps.specs.declared.step.Step.TheVariants.{Begin, Insert, Update, Delete, Select, Commit, Rollback, AddColumn, SplitKey, SplitTime, Migrate}
+use Rattle.steps.specs.declared.step.Step.TheVariants.{Begin, Insert, Update, Delete, UpdatePortion, DeletePortion, Select, Commit, Rollback, AddColumn, SplitKey, SplitTime, Migrate}
 use Rattle.steps.specs.declared.step.Reply.TheVariants.{Refused}
-use Rattle.steps.specs.Misfit.{max_session, misfit, misfit_of, bad_row, no_session}
+use Rattle.steps.specs.Misfit.{max_session, misfit, misfit_of, no_session}
 use Rattle.histories.specs.History.{History, schema_after, schema_by, has_open, log, log_at_begin, own, own_of, ends, begins, net_change_of}
 use Rattle.steps.specs.Idle.{is_idle}
 use Rattle.steps.specs.Write.{write, is_write_of}
@@ -47,6 +47,8 @@ begins_none i (Begin j) h = by (i == j)
 begins_none i (Insert j number rows) h = refl
 begins_none i (Update j keys sets) h = refl
 begins_none i (Delete j keys) h = refl
+begins_none i (UpdatePortion j keys cut sets) h = refl
+begins_none i (DeletePortion j keys cut) h = refl
 begins_none i (Select j form keys) h = refl
 begins_none i (Commit j reading) h = refl
 begins_none i (Rollback j) h = refl
@@ -66,7 +68,7 @@ none_open schema (step ∷ h) i large = (λ k. if ends i step then None else if 
 
 -- ---- steps that do not fit
 
-refused_write : (schema : Schema) (step : Step) (refusal : Refusal) (o : Own) → misfit schema step ≡ Some refusal → is_refused (write_reply schema step o) ≡ true
+pub refused_write : (schema : Schema) (step : Step) (refusal : Refusal) (o : Own) → misfit schema step ≡ Some refusal → is_refused (write_reply schema step o) ≡ true
 refused_write schema step refusal o is =
     λ k. is_refused (elim (is k) [ Some refusal ↦ Refused refusal | None ↦ written_reply step (write schema step o).0 ])
 
@@ -83,6 +85,8 @@ refused_schema now idle (Begin i) refusal is = refl
 refused_schema now idle (Insert i number rows) refusal is = refl
 refused_schema now idle (Update i keys sets) refusal is = refl
 refused_schema now idle (Delete i keys) refusal is = refl
+refused_schema now idle (UpdatePortion i keys cut sets) refusal is = refl
+refused_schema now idle (DeletePortion i keys cut) refusal is = refl
 refused_schema now idle (Select i form keys) refusal is = refl
 refused_schema now idle (Commit i reading) refusal is = refl
 refused_schema now idle (Rollback i) refusal is = refl
@@ -112,6 +116,8 @@ misfit_stands first w h (Begin i) refusal is stands = idle_stands first w h (Beg
 misfit_stands first w h (Insert i number rows) refusal is stands = idle_stands first w h (Insert i number rows) stands refl refl (λ j small. kept_session first h (Insert i number rows) j refusal is refl refl refl)
 misfit_stands first w h (Update i keys sets) refusal is stands = idle_stands first w h (Update i keys sets) stands refl refl (λ j small. kept_session first h (Update i keys sets) j refusal is refl refl refl)
 misfit_stands first w h (Delete i keys) refusal is stands = idle_stands first w h (Delete i keys) stands refl refl (λ j small. kept_session first h (Delete i keys) j refusal is refl refl refl)
+misfit_stands first w h (UpdatePortion i keys cut sets) refusal is stands = idle_stands first w h (UpdatePortion i keys cut sets) stands refl refl (λ j small. kept_session first h (UpdatePortion i keys cut sets) j refusal is refl refl refl)
+misfit_stands first w h (DeletePortion i keys cut) refusal is stands = idle_stands first w h (DeletePortion i keys cut) stands refl refl (λ j small. kept_session first h (DeletePortion i keys cut) j refusal is refl refl refl)
 misfit_stands first w h (Select i form keys) refusal is stands = idle_stands first w h (Select i form keys) stands refl refl (λ j small. kept_session first h (Select i form keys) j refusal is refl refl refl)
 misfit_stands first w h (Commit i reading) refusal is stands = idle_stands first w h (Commit i reading) stands refl same_log (λ j small. kept_session first h (Commit i reading) j refusal is (other i j (large (nat_lt max_session i) refusal i refl is) small) refl same_log)
   where
@@ -132,10 +138,10 @@ fits_session i is = by (nat_lt max_session i) refl is
     by true at is = cc
     by false at is = grind (arith, nat_tests)
 
-pub fits_table : (schema : Schema) (i number : ℕ) (fault : Table → Option ℕ) → misfit_of schema i number fault ≡ None → (i ≤ max_session) × ((t : Table) × (table_at schema number ≡ Some t))
-fits_table schema i number fault is = by (nat_lt max_session i) (table_at schema number) refl refl is
+pub fits_table : (schema : Schema) (i number : ℕ) (refusal : Table → Option Refusal) → misfit_of schema i number refusal ≡ None → (i ≤ max_session) × ((t : Table) × (table_at schema number ≡ Some t))
+fits_table schema i number refusal is = by (nat_lt max_session i) (table_at schema number) refl refl is
   where
-    by : (b : Bool) (t : Option Table) → nat_lt max_session i ≡ b → table_at schema number ≡ t → ◌≡◌ {A = Option Refusal} (if b then Some NoSession else elim t [ None ↦ Some NoTable | Some table ↦ bad_row (fault table) ]) None
+    by : (b : Bool) (t : Option Table) → nat_lt max_session i ≡ b → table_at schema number ≡ t → ◌≡◌ {A = Option Refusal} (if b then Some NoSession else elim t [ None ↦ Some NoTable | Some table ↦ refusal table ]) None
         → (i ≤ max_session) × ((t : Table) × (table_at schema number ≡ Some t))
     by true t at there is = cc
     by false None at there is = cc

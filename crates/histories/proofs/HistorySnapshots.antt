@@ -9,6 +9,7 @@ use Rattle.values.specs.declared.query.Keys.{Keys}
 use Rattle.values.specs.declared.table.Table.{Table}
 use Rattle.values.specs.declared.refusal.Refusal.TheVariants.{NoTable, NoSession}
 use Rattle.values.specs.Tables.{Schema, table_at}
+use Rattle.values.specs.Faults.{bad_row}
 use Rattle.values.specs.Fit.{comparisons_fault}
 use Rattle.values.specs.Log.{Log, last, upto, replay, changes}
 use Rattle.values.specs.Versions.{answer}
@@ -16,12 +17,12 @@ use Rattle.values.specs.Law.{IsLog}
 use Rattle.values.proofs.LawAsOf.{Rises-front, upto-append}
 use Rattle.values.proofs.LogPush.{upto_all}
 use Rattle.steps.specs.declared.step.Step.{Step}
-use Rattle.steps.specs.declared.step.Step.TheVariants.{Begin, Insert, Update, Delete, Select, Commit, Rollback, AddColumn, SplitKey, SplitTime, Migrate}
+use Rattle.steps.specs.declared.step.Step.TheVariants.{Begin, Insert, Update, Delete, UpdatePortion, DeletePortion, Select, Commit, Rollback, AddColumn, SplitKey, SplitTime, Migrate}
 use Rattle.steps.specs.declared.step.Listing.{Listing}
 use Rattle.steps.specs.declared.step.Listing.TheVariants.{Rows, Periods}
 use Rattle.steps.specs.declared.step.Reply.{Reply}
 use Rattle.steps.specs.declared.step.Reply.TheVariants.{Refused, Shown as Shows}
-use Rattle.steps.specs.Misfit.{max_session, bad_row}
+use Rattle.steps.specs.Misfit.{max_session}
 use Rattle.histories.specs.History.{History, schema_after, ends, begins, log, log_at_begin, own, snap_of, rewrite_all, listing}
 use Rattle.steps.specs.Listing.{rows_taken, rows_of}
 use Rattle.histories.specs.Law.{ReadsBySnapshot, SelectsBySnapshot}
@@ -79,6 +80,8 @@ begun_small i (Begin j) is = small (and_parts (i == j) (nat_le i max_session) is
 begun_small i (Insert j number rows) is = cc
 begun_small i (Update j keys sets) is = cc
 begun_small i (Delete j keys) is = cc
+begun_small i (UpdatePortion j keys cut sets) is = cc
+begun_small i (DeletePortion j keys cut) is = cc
 begun_small i (Select j form keys) is = cc
 begun_small i (Commit j reading) is = cc
 begun_small i (Rollback j) is = cc

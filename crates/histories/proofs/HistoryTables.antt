@@ -9,7 +9,7 @@ use Rattle.values.specs.Tables.{Schema, table_at}
 use Rattle.values.specs.Period.{periods_of}
 use Rattle.values.specs.Columns.{new_column, with_column, table_with, add_column, IsWidenedTo}
 use Rattle.steps.specs.declared.step.Step.{Step}
-use Rattle.steps.specs.declared.step.Step.TheVariants.{Begin, Insert, Update, Delete, Select, Commit, Rollback, AddColumn, SplitKey, SplitTime, Migrate}
+use Rattle.steps.specs.declared.step.Step.TheVariants.{Begin, Insert, Update, Delete, UpdatePortion, DeletePortion, Select, Commit, Rollback, AddColumn, SplitKey, SplitTime, Migrate}
 use Rattle.steps.specs.Idle.{is_idle}
 use Rattle.steps.specs.Misfit.{misfit}
 use Rattle.histories.specs.History.{History, has_open, schema_by, schema_after}
@@ -72,6 +72,8 @@ by_step now idle (Begin i) k x at = stays (table_at now k) x at
 by_step now idle (Insert i number rows) k x at = stays (table_at now k) x at
 by_step now idle (Update i keys sets) k x at = stays (table_at now k) x at
 by_step now idle (Delete i keys) k x at = stays (table_at now k) x at
+by_step now idle (UpdatePortion i keys cut sets) k x at = stays (table_at now k) x at
+by_step now idle (DeletePortion i keys cut) k x at = stays (table_at now k) x at
 by_step now idle (Select i form keys) k x at = stays (table_at now k) x at
 by_step now idle (Commit i reading) k x at = stays (table_at now k) x at
 by_step now idle (Rollback i) k x at = stays (table_at now k) x at
@@ -121,6 +123,8 @@ periods_step now idle (Begin i) = refl
 periods_step now idle (Insert i number rows) = refl
 periods_step now idle (Update i keys sets) = refl
 periods_step now idle (Delete i keys) = refl
+periods_step now idle (UpdatePortion i keys cut sets) = refl
+periods_step now idle (DeletePortion i keys cut) = refl
 periods_step now idle (Select i form keys) = refl
 periods_step now idle (Commit i reading) = refl
 periods_step now idle (Rollback i) = refl

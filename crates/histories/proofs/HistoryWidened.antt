@@ -10,6 +10,7 @@ use Rattle.values.specs.declared.query.Comparison.{Comparison}
 use Rattle.values.specs.declared.refusal.Refusal.TheVariants.{NoTable, NoSession}
 use Rattle.values.specs.Tables.{Schema, table_at, column_at, is_key_column, full_row}
 use Rattle.values.specs.Columns.{IsWidenedTo}
+use Rattle.values.specs.Faults.{bad_row}
 use Rattle.values.specs.Fit.{can_compare, comparison_fault, comparisons_fault}
 use Rattle.values.specs.Log.{Log, changes, upto}
 use Rattle.values.specs.Law.{IsLog, shown_rows}
@@ -18,7 +19,7 @@ use Rattle.steps.specs.declared.step.Listing.{Listing}
 use Rattle.steps.specs.declared.step.Listing.TheVariants.{Rows}
 use Rattle.steps.specs.declared.step.Reply.{Reply}
 use Rattle.steps.specs.declared.step.Reply.TheVariants.{Refused, Shown as Shows}
-use Rattle.steps.specs.Misfit.{max_session, bad_row}
+use Rattle.steps.specs.Misfit.{max_session}
 use Rattle.histories.specs.History.{schema_after, log, snap, listing}
 use Rattle.histories.specs.Law.{PastIsWidened, PastIsAnsweredWidened, widened_listing}
 use Rattle.histories.proofs.HistoryGrowth.{log_rises, later_steps_add}

@@ -19,3 +19,9 @@ pub mod TurnWritten
 mod StandsAltered
 pub mod HistoryTables
 mod HistoryWidened
+mod PeriodLawFits
+mod HistoryOwn
+mod PeriodLawTables
+mod PeriodLawWrites
+mod PeriodLawApart
+mod WorkedTables

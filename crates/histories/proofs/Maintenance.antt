@@ -12,7 +12,7 @@ use Rattle.values.specs.Versions.{answer}
 use Rattle.values.specs.Period.{periods_of}
 use Rattle.values.specs.Commits.{outcome, after}
 use Rattle.steps.specs.declared.step.Step.{Step}
-use Rattle.steps.specs.declared.step.Step.TheVariants.{Begin, Insert, Update, Delete, Select, Commit, Rollback, AddColumn, SplitKey, SplitTime, Migrate}
+use Rattle.steps.specs.declared.step.Step.TheVariants.{Begin, Insert, Update, Delete, UpdatePortion, DeletePortion, Select, Commit, Rollback, AddColumn, SplitKey, SplitTime, Migrate}
 use Rattle.steps.specs.declared.step.Listing.TheVariants.{Rows, Periods}
 use Rattle.steps.specs.declared.step.Reply.TheVariants.{Begun, RolledBack, Altered, Refused, Shown as Shows}
 use Rattle.steps.specs.Misfit.{misfit}
@@ -51,6 +51,8 @@ module _ (schema : Schema) where
   log_more h g (Insert i number rows) alike = alike.same_log
   log_more h g (Update i keys sets) alike = alike.same_log
   log_more h g (Delete i keys) alike = alike.same_log
+  log_more h g (UpdatePortion i keys cut sets) alike = alike.same_log
+  log_more h g (DeletePortion i keys cut) alike = alike.same_log
   log_more h g (Select i form keys) alike = alike.same_log
   log_more h g (Rollback i) alike = alike.same_log
   log_more h g (AddColumn i number name of) alike = alike.same_log
@@ -76,6 +78,8 @@ module _ (schema : Schema) where
   alike_without h g (Insert i number rows) is alike = cc
   alike_without h g (Update i keys sets) is alike = cc
   alike_without h g (Delete i keys) is alike = cc
+  alike_without h g (UpdatePortion i keys cut sets) is alike = cc
+  alike_without h g (DeletePortion i keys cut) is alike = cc
   alike_without h g (Select i form keys) is alike = cc
   alike_without h g (Commit i reading) is alike = cc
   alike_without h g (Rollback i) is alike = cc
@@ -90,6 +94,8 @@ module _ (schema : Schema) where
   alike_all (Insert i number rows ∷ h) = alike_more h (without_maintenance h) (Insert i number rows) (alike_all h)
   alike_all (Update i keys sets ∷ h) = alike_more h (without_maintenance h) (Update i keys sets) (alike_all h)
   alike_all (Delete i keys ∷ h) = alike_more h (without_maintenance h) (Delete i keys) (alike_all h)
+  alike_all (UpdatePortion i keys cut sets ∷ h) = alike_more h (without_maintenance h) (UpdatePortion i keys cut sets) (alike_all h)
+  alike_all (DeletePortion i keys cut ∷ h) = alike_more h (without_maintenance h) (DeletePortion i keys cut) (alike_all h)
   alike_all (Select i form keys ∷ h) = alike_more h (without_maintenance h) (Select i form keys) (alike_all h)
   alike_all (Commit i reading ∷ h) = alike_more h (without_maintenance h) (Commit i reading) (alike_all h)
   alike_all (Rollback i ∷ h) = alike_more h (without_maintenance h) (Rollback i) (alike_all h)
@@ -127,6 +133,16 @@ module _ (schema : Schema) where
         | None ↦ Refused NoTransaction
         | Some before ↦ write_reply (alike.same_tables k) (Delete i keys) (own_of (alike.same_tables k) (alike.same_log k) (alike.same_opened i k) (alike.same_own i k))
       ]
+  in_alike h g (UpdatePortion i keys cut sets) alike =
+      λ k. elim (alike.same_opened i k) [
+        | None ↦ Refused NoTransaction
+        | Some before ↦ write_reply (alike.same_tables k) (UpdatePortion i keys cut sets) (own_of (alike.same_tables k) (alike.same_log k) (alike.same_opened i k) (alike.same_own i k))
+      ]
+  in_alike h g (DeletePortion i keys cut) alike =
+      λ k. elim (alike.same_opened i k) [
+        | None ↦ Refused NoTransaction
+        | Some before ↦ write_reply (alike.same_tables k) (DeletePortion i keys cut) (own_of (alike.same_tables k) (alike.same_log k) (alike.same_opened i k) (alike.same_own i k))
+      ]
   in_alike h g (Select i form keys) alike = λ k. elim (table_at (alike.same_tables k) keys.table) [ None ↦ Refused NoTable | Some table ↦ Shows (listing_alike h g i form table keys alike k) ]
   in_alike h g (Commit i reading) alike =
       λ k. elim (alike.same_opened i k) [
@@ -161,6 +177,8 @@ module _ (schema : Schema) where
   all_alike (Insert i number rows ∷ steps) h g alike = both h g (Insert i number rows) steps alike (all_alike steps (Insert i number rows ∷ h) (Insert i number rows ∷ g) (alike_more h g (Insert i number rows) alike))
   all_alike (Update i keys sets ∷ steps) h g alike = both h g (Update i keys sets) steps alike (all_alike steps (Update i keys sets ∷ h) (Update i keys sets ∷ g) (alike_more h g (Update i keys sets) alike))
   all_alike (Delete i keys ∷ steps) h g alike = both h g (Delete i keys) steps alike (all_alike steps (Delete i keys ∷ h) (Delete i keys ∷ g) (alike_more h g (Delete i keys) alike))
+  all_alike (UpdatePortion i keys cut sets ∷ steps) h g alike = both h g (UpdatePortion i keys cut sets) steps alike (all_alike steps (UpdatePortion i keys cut sets ∷ h) (UpdatePortion i keys cut sets ∷ g) (alike_more h g (UpdatePortion i keys cut sets) alike))
+  all_alike (DeletePortion i keys cut ∷ steps) h g alike = both h g (DeletePortion i keys cut) steps alike (all_alike steps (DeletePortion i keys cut ∷ h) (DeletePortion i keys cut ∷ g) (alike_more h g (DeletePortion i keys cut) alike))
   all_alike (Select i form keys ∷ steps) h g alike = both h g (Select i form keys) steps alike (all_alike steps (Select i form keys ∷ h) (Select i form keys ∷ g) (alike_more h g (Select i form keys) alike))
   all_alike (Commit i reading ∷ steps) h g alike = both h g (Commit i reading) steps alike (all_alike steps (Commit i reading ∷ h) (Commit i reading ∷ g) (alike_more h g (Commit i reading) alike))
   all_alike (Rollback i ∷ steps) h g alike = both h g (Rollback i) steps alike (all_alike steps (Rollback i ∷ h) (Rollback i ∷ g) (alike_more h g (Rollback i) alike))

@@ -5,7 +5,7 @@ use Rattle.values.specs.declared.refusal.Refusal.{Refusal}
 use Rattle.values.specs.Tables.{Schema}
 use Rattle.values.specs.Log.{Log}
 use Rattle.steps.specs.declared.step.Step.{Step}
-use Rattle.steps.specs.declared.step.Step.TheVariants.{Begin, Insert, Update, Delete, Select, Commit, Rollback, AddColumn, SplitKey, SplitTime, Migrate}
+use Rattle.steps.specs.declared.step.Step.TheVariants.{Begin, Insert, Update, Delete, UpdatePortion, DeletePortion, Select, Commit, Rollback, AddColumn, SplitKey, SplitTime, Migrate}
 use Rattle.steps.specs.Misfit.{max_session, misfit}
 use Rattle.histories.specs.History.{History, schema_after, log, log_at_begin, own}
 use Rattle.steps.specs.Idle.{is_idle_to}
@@ -33,6 +33,8 @@ fitting_alike first w h (Begin i) fits stands = is_open first w h i (fits_sessio
 fitting_alike first w h (Insert i number rows) fits stands = ap not (is_open first w h i (fits_table (schema_after first h) i number _ fits).0 stands)
 fitting_alike first w h (Update i keys sets) fits stands = ap not (is_open first w h i (fits_table (schema_after first h) i keys.table _ fits).0 stands)
 fitting_alike first w h (Delete i keys) fits stands = ap not (is_open first w h i (fits_table (schema_after first h) i keys.table _ fits).0 stands)
+fitting_alike first w h (UpdatePortion i keys cut sets) fits stands = ap not (is_open first w h i (fits_table (schema_after first h) i keys.table _ fits).0 stands)
+fitting_alike first w h (DeletePortion i keys cut) fits stands = ap not (is_open first w h i (fits_table (schema_after first h) i keys.table _ fits).0 stands)
 fitting_alike first w h (Select i form keys) fits stands = refl
 fitting_alike first w h (Commit i reading) fits stands = ap not (is_open first w h i (fits_session i fits) stands)
 fitting_alike first w h (Rollback i) fits stands = refl

@@ -27,7 +27,7 @@ mapped : (f : History → Log) (o : Option History) → is_some (option_map f o)
 mapped f None = refl
 mapped f (Some g) = refl
 
-begun_alike : (first : Schema) (h : History) (i : ℕ) → is_some (log_at_begin first h i) ≡ has_open h i
+pub begun_alike : (first : Schema) (h : History) (i : ℕ) → is_some (log_at_begin first h i) ≡ has_open h i
 begun_alike first h i = ap is_some (opens_at_its_begin first h i) ∙ mapped (log first) (before_open i h)
 
 idle_is : (first : Schema) (w : World) (h : History) → Stands first w h → is_idle (is_open_at w) ≡ is_idle (has_open h)
@@ -37,7 +37,7 @@ negated : (b : Bool) → not b ≡ true → b ≡ false
 negated true e = cc
 negated false e = refl
 
-each_closed : (n : ℕ) (f : ℕ → Bool) → is_idle_to n f ≡ true → (j : ℕ) → j ≤ n → f j ≡ false
+pub each_closed : (n : ℕ) (f : ℕ → Bool) → is_idle_to n f ≡ true → (j : ℕ) → j ≤ n → f j ≡ false
 each_closed zero f e j small = let is : j ≡ 0 = omega (arith, small) in ap f is ∙ negated (f 0) e
 each_closed (suc n) f e j small = let parts = and_parts (not (f (suc n))) (is_idle_to n f) e in at_end (nat_le j n) j refl small (each_closed n f parts.1 j) (negated (f (suc n)) parts.0)
   where
@@ -48,7 +48,7 @@ each_closed (suc n) f e j small = let parts = and_parts (not (f (suc n))) (is_id
     at_end true j e small below at = below (grind (arith, nat_tests))
     at_end false j e small below at = let is : j ≡ suc n = beyond j e small in ap f is ∙ at
 
-none_of : (o : Option Log) → is_some o ≡ false → o ≡ None
+pub none_of : (o : Option Log) → is_some o ≡ false → o ≡ None
 none_of None e = refl
 none_of (Some l) e = cc
 

@@ -1,26 +1,31 @@
 -- Each step's turn is the reply of the history, and leaves a system that stands for the history with the step.
 use Rattle.std.proofs.Common.{◌≡◌, ◌≢◌, ℕ, Bool, true, false, List, [], ◌∷◌, Option, Some, None, refl, sym, ap, subst, ◌∙◌}
-use Rattle.std.specs.Prelude.{Result, Ok, Err, if◌then◌else◌, nat_lt, max, ◌+◌}
+use Rattle.std.specs.Prelude.{Result, Ok, Err, if◌then◌else◌, nat_lt, max, ◌+◌, not}
 use Rattle.values.specs.declared.key.Key.{Key}
 use Rattle.values.specs.declared.table.Table.{Table}
 use Rattle.values.specs.Tables.{Schema}
 use Rattle.values.specs.declared.refusal.Refusal.{Refusal}
-use Rattle.values.specs.declared.refusal.Refusal.TheVariants.{NoSession, NoTable, NoTransaction, InTransaction, TransactionsOpen, Conflict, ClockEnd, Memory}
+use Rattle.values.specs.declared.refusal.Refusal.TheVariants.{NoSession, NoTable, BadRow, NoTransaction, InTransaction, TransactionsOpen, Conflict, ClockEnd, Memory}
 use Rattle.values.specs.Log.{Net, Changes}
 use Rattle.values.specs.Tables.{table_at}
-use Rattle.values.specs.Period.{Periods, periods_of}
+use Rattle.values.specs.declared.period.Period.{Period}
+use Rattle.values.specs.declared.period.Span.{Span}
+use Rattle.values.specs.Faults.{bad_row}
+use Rattle.values.specs.Fit.{key_fault, comparisons_fault, update_fault, rows_fault, first_of}
+use Rattle.values.specs.Write.{has_bad_span, span_refusal, rows_refusal, portion_refusal}
+use Rattle.values.specs.Period.{Periods, periods_of, is_span}
 use Rattle.values.specs.Commits.{conflicts, outcome, max_instant}
 use Rattle.steps.specs.declared.step.Step.{Step}
-use Rattle.steps.specs.declared.step.Step.TheVariants.{Begin, Insert, Update, Delete, Select, Commit, Rollback, AddColumn, SplitKey, SplitTime, Migrate}
+use Rattle.steps.specs.declared.step.Step.TheVariants.{Begin, Insert, Update, Delete, UpdatePortion, DeletePortion, Select, Commit, Rollback, AddColumn, SplitKey, SplitTime, Migrate}
 use Rattle.steps.specs.declared.step.Reply.{Reply}
 use Rattle.steps.specs.declared.step.Reply.TheVariants.{Begun, RolledBack, Altered, Refused}
-use Rattle.steps.specs.Misfit.{max_session, misfit, bad_row}
+use Rattle.steps.specs.Misfit.{max_session, keys_refusal, key_misfit, misfit}
 use Rattle.histories.specs.History.{History, schema_after, reply, reply_in}
 use Rattle.steps.specs.Idle.{is_idle}
 use Rattle.steps.specs.Write.{write}
 use Rattle.steps.specs.Reply.{written_reply, is_memory, is_out_of_memory}
 use Rattle.values.specs.declared.table.ColumnType.{ColumnType}
-use Rattle.values.specs.Columns.{new_column, add_column}
+use Rattle.values.specs.Columns.{new_column, add_column, addition_fault}
 use Rattle.histories.proofs.StandsAltered.{alter_answers}
 use Rattle.histories.specs.World.{OpenTransaction, World}
 use Rattle.histories.specs.Stands.{Stands, open_at, is_open_at}
@@ -28,7 +33,7 @@ use Rattle.histories.specs.Turn.{put, Turn, turn, turn_in, end_turn, net_in, ope
 use Rattle.steps.proofs.WriteLeaves.{names_memory, write_is}
 use Rattle.histories.proofs.StandsOpen.{begin_answers}
 use Rattle.histories.proofs.StandsEnds.{rollback_answers, commit_answers}
-use Rattle.histories.proofs.TurnWrites.{insert_answers, update_answers, delete_answers}
+use Rattle.histories.proofs.TurnWrites.{insert_answers, update_answers, delete_answers, update_portion_answers, delete_portion_answers}
 use Rattle.histories.proofs.StandsShown.{select_is}
 use Rattle.histories.proofs.HistoryIdle.{idle_stands, misfit_stands, fits_session, fits_table}
 
@@ -37,6 +42,8 @@ answers_in first w h (Begin i) fits stands = begin_answers first w h i (fits_ses
 answers_in first w h (Insert i number rows) fits stands = insert_answers first w h i number rows fits (fits_table (schema_after first h) i number _ fits).0 stands
 answers_in first w h (Update i keys sets) fits stands = update_answers first w h i keys sets fits (fits_table (schema_after first h) i keys.table _ fits).0 stands
 answers_in first w h (Delete i keys) fits stands = delete_answers first w h i keys fits (fits_table (schema_after first h) i keys.table _ fits).0 stands
+answers_in first w h (UpdatePortion i keys cut sets) fits stands = update_portion_answers first w h i keys cut sets fits (fits_table (schema_after first h) i keys.table _ fits).0 stands
+answers_in first w h (DeletePortion i keys cut) fits stands = delete_portion_answers first w h i keys cut fits (fits_table (schema_after first h) i keys.table _ fits).0 stands
 answers_in first w h (Select i form keys) fits stands = let fit = fits_table (schema_after first h) i keys.table _ fits in (select_is first w h i form keys fit.0 stands, idle_stands first w h (Select i form keys) stands refl refl (λ j small. refl))
 answers_in first w h (Commit i reading) fits stands = commit_answers first w h i reading (fits_session i fits) stands
 answers_in first w h (Rollback i) fits stands = rollback_answers first w h i (fits_session i fits) stands
@@ -55,26 +62,50 @@ session_is_other : (b : Bool) → names_memory_in (if b then Some NoSession else
 session_is_other true = refl
 session_is_other false = refl
 
-table_is_other : (b : Bool) (t : Option Table) (fault : Table → Option ℕ) → names_memory_in (if b then Some NoSession else elim t [ None ↦ Some NoTable | Some table ↦ bad_row (fault table) ]) ≡ false
-table_is_other true t fault = refl
-table_is_other false None fault = refl
-table_is_other false (Some t) fault = by (fault t)
+fault_is_other : (fault : Option ℕ) → names_memory_in (bad_row fault) ≡ false
+fault_is_other None = refl
+fault_is_other (Some n) = refl
+
+fault_or_span_is_other : (fault : Option ℕ) (is_bad : Bool) → names_memory_in (first_of (bad_row fault) (span_refusal is_bad)) ≡ false
+fault_or_span_is_other None true = refl
+fault_or_span_is_other None false = refl
+fault_or_span_is_other (Some n) is_bad = refl
+
+portion_is_other : (table : Table) (cut : Span) (fault : Option ℕ) → names_memory_in (portion_refusal table cut fault) ≡ false
+portion_is_other table cut fault = by table.period
   where
-    by : (f : Option ℕ) → names_memory_in (bad_row f) ≡ false
+    by : (p : Option Period) → names_memory_in (elim p [ None ↦ Some (BadRow 0) | Some p ↦ first_of (bad_row fault) (span_refusal (not (is_span cut))) ]) ≡ false
     by None = refl
-    by (Some n) = refl
+    by (Some p) = fault_or_span_is_other fault (not (is_span cut))
+
+table_is_other : (b : Bool) (t : Option Table) (refusal : Table → Option Refusal) → ((table : Table) → names_memory_in (refusal table) ≡ false)
+    → names_memory_in (if b then Some NoSession else elim t [ None ↦ Some NoTable | Some table ↦ refusal table ]) ≡ false
+table_is_other true t refusal others = refl
+table_is_other false None refusal others = refl
+table_is_other false (Some t) refusal others = others t
+
+key_is_other : (schema : Schema) (key : Key) → names_memory_in (key_misfit schema key) ≡ false
+key_is_other schema key = table_is_other (nat_lt max_session 0) (table_at schema key.table) (λ table. bad_row (key_fault table key.parts)) (λ table. fault_is_other (key_fault table key.parts))
 
 misfit_is_other : (schema : Schema) (step : Step) → names_memory_in (misfit schema step) ≡ false
 misfit_is_other schema (Begin i) = session_is_other (nat_lt max_session i)
-misfit_is_other schema (Insert i number rows) = table_is_other (nat_lt max_session i) (table_at schema number) _
-misfit_is_other schema (Update i keys sets) = table_is_other (nat_lt max_session i) (table_at schema keys.table) _
-misfit_is_other schema (Delete i keys) = table_is_other (nat_lt max_session i) (table_at schema keys.table) _
-misfit_is_other schema (Select i form keys) = table_is_other (nat_lt max_session i) (table_at schema keys.table) _
+misfit_is_other schema (Insert i number rows) =
+    table_is_other (nat_lt max_session i) (table_at schema number) (λ table. rows_refusal table rows) (λ table. fault_or_span_is_other (rows_fault table rows) (has_bad_span table.period rows))
+misfit_is_other schema (Update i keys sets) =
+    table_is_other (nat_lt max_session i) (table_at schema keys.table) (λ table. bad_row (update_fault table keys sets)) (λ table. fault_is_other (update_fault table keys sets))
+misfit_is_other schema (Delete i keys) = table_is_other (nat_lt max_session i) (table_at schema keys.table) (keys_refusal keys) (λ table. fault_is_other (comparisons_fault table keys.comparisons))
+misfit_is_other schema (UpdatePortion i keys cut sets) =
+    table_is_other (nat_lt max_session i) (table_at schema keys.table) (λ table. portion_refusal table cut (update_fault table keys sets)) (λ table. portion_is_other table cut (update_fault table keys sets))
+misfit_is_other schema (DeletePortion i keys cut) =
+    table_is_other (nat_lt max_session i) (table_at schema keys.table) (λ table. portion_refusal table cut (comparisons_fault table keys.comparisons))
+    (λ table. portion_is_other table cut (comparisons_fault table keys.comparisons))
+misfit_is_other schema (Select i form keys) = table_is_other (nat_lt max_session i) (table_at schema keys.table) (keys_refusal keys) (λ table. fault_is_other (comparisons_fault table keys.comparisons))
 misfit_is_other schema (Commit i reading) = session_is_other (nat_lt max_session i)
 misfit_is_other schema (Rollback i) = session_is_other (nat_lt max_session i)
-misfit_is_other schema (AddColumn i number name of) = table_is_other (nat_lt max_session i) (table_at schema number) _
-misfit_is_other schema (SplitKey key) = table_is_other (nat_lt max_session 0) (table_at schema key.table) _
-misfit_is_other schema (SplitTime key instant) = table_is_other (nat_lt max_session 0) (table_at schema key.table) _
+misfit_is_other schema (AddColumn i number name of) =
+    table_is_other (nat_lt max_session i) (table_at schema number) (λ table. bad_row (addition_fault name of table)) (λ table. fault_is_other (addition_fault name of table))
+misfit_is_other schema (SplitKey key) = key_is_other schema key
+misfit_is_other schema (SplitTime key instant) = key_is_other schema key
 misfit_is_other schema Migrate = refl
 
 -- the reply is not that memory ran out, and the tables change only where it is that one was altered
@@ -94,6 +125,8 @@ written_is_other : (step : Step) (r : Result ℕ Refusal) → names_memory r ≡
 written_is_other (Insert i number rows) (Ok count) h = refl
 written_is_other (Update i keys sets) (Ok count) h = refl
 written_is_other (Delete i keys) (Ok count) h = refl
+written_is_other (UpdatePortion i keys cut sets) (Ok count) h = refl
+written_is_other (DeletePortion i keys cut) (Ok count) h = refl
 written_is_other (Begin i) (Ok count) h = refl
 written_is_other (Select i form keys) (Ok count) h = refl
 written_is_other (Commit i reading) (Ok count) h = refl
@@ -141,6 +174,8 @@ plain_in w (Begin i) = begin_plain w i (open_at w i)
 plain_in w (Insert i number rows) = write_plain w i (Insert i number rows) (open_at w i)
 plain_in w (Update i keys sets) = write_plain w i (Update i keys sets) (open_at w i)
 plain_in w (Delete i keys) = write_plain w i (Delete i keys) (open_at w i)
+plain_in w (UpdatePortion i keys cut sets) = write_plain w i (UpdatePortion i keys cut sets) (open_at w i)
+plain_in w (DeletePortion i keys cut) = write_plain w i (DeletePortion i keys cut) (open_at w i)
 plain_in w (Select i form keys) = record { answered = select_plain w (table_at w.schema keys.table) _ (λ t. refl); same_schema = λ other. refl }
 plain_in w (Commit i reading) = commit_plain w i reading (open_at w i)
 plain_in w (Rollback i) = rollback_plain w i (open_at w i)

@@ -1,6 +1,7 @@
 -- A write's turn against the history.
 use Rattle.std.proofs.Common.{◌≡◌, ◌≢◌, ℕ, ◌≤◌, Bool, true, false, List, [], ◌∷◌, ◌++◌, Option, Some, None, refl, sym, ap, subst, ◌∙◌}
 use Rattle.std.specs.Prelude.{if◌then◌else◌, ◌&&◌, ◌==◌, is_none, is_some, not, Result, Ok, Err}
+use Rattle.values.specs.declared.period.Span.{Span}
 use Rattle.values.specs.declared.query.Keys.{Keys}
 use Rattle.values.specs.declared.query.Set.{Set}
 use Rattle.values.specs.declared.refusal.Refusal.{Refusal}
@@ -9,7 +10,7 @@ use Rattle.values.specs.Tables.{Schema}
 use Rattle.values.specs.Log.{Log, Row, last, changes}
 use Rattle.values.specs.Writes.{Own}
 use Rattle.steps.specs.declared.step.Step.{Step}
-use Rattle.steps.specs.declared.step.Step.TheVariants.{Insert, Update, Delete}
+use Rattle.steps.specs.declared.step.Step.TheVariants.{Insert, Update, Delete, UpdatePortion, DeletePortion}
 use Rattle.steps.specs.declared.step.Reply.{Reply}
 use Rattle.steps.specs.declared.step.Reply.TheVariants.{Refused}
 use Rattle.steps.specs.Misfit.{max_session, misfit}
@@ -151,3 +152,13 @@ pub delete_answers : (first : Schema) (w : World) (h : History) (i : ℕ) (keys 
     → ((write_turn w i (Delete i keys)).0 ≡ reply_in first h (Delete i keys)) × Stands first (write_turn w i (Delete i keys)).1 (Delete i keys ∷ h)
 delete_answers first w h i keys fits small stands =
     write_answers first w h (Delete i keys) i (record { no_end = λ j. refl; no_begin = λ j. refl; its_own = λ j. refl; same_tables = refl; same_log = refl; fits = fits; counts = λ count. refl; replied = refl }) small stands
+
+pub update_portion_answers : (first : Schema) (w : World) (h : History) (i : ℕ) (keys : Keys) (cut : Span) (sets : List Set) → misfit (schema_after first h) (UpdatePortion i keys cut sets) ≡ None → i ≤ max_session → Stands first w h
+    → ((write_turn w i (UpdatePortion i keys cut sets)).0 ≡ reply_in first h (UpdatePortion i keys cut sets)) × Stands first (write_turn w i (UpdatePortion i keys cut sets)).1 (UpdatePortion i keys cut sets ∷ h)
+update_portion_answers first w h i keys cut sets fits small stands =
+    write_answers first w h (UpdatePortion i keys cut sets) i (record { no_end = λ j. refl; no_begin = λ j. refl; its_own = λ j. refl; same_tables = refl; same_log = refl; fits = fits; counts = λ count. refl; replied = refl }) small stands
+
+pub delete_portion_answers : (first : Schema) (w : World) (h : History) (i : ℕ) (keys : Keys) (cut : Span) → misfit (schema_after first h) (DeletePortion i keys cut) ≡ None → i ≤ max_session → Stands first w h
+    → ((write_turn w i (DeletePortion i keys cut)).0 ≡ reply_in first h (DeletePortion i keys cut)) × Stands first (write_turn w i (DeletePortion i keys cut)).1 (DeletePortion i keys cut ∷ h)
+delete_portion_answers first w h i keys cut fits small stands =
+    write_answers first w h (DeletePortion i keys cut) i (record { no_end = λ j. refl; no_begin = λ j. refl; its_own = λ j. refl; same_tables = refl; same_log = refl; fits = fits; counts = λ count. refl; replied = refl }) small stands

@@ -1,7 +1,7 @@
 -- The turn of a write.
 use Rattle.std.proofs.Common.{◌≡◌, ℕ, refl}
 use Rattle.values.specs.declared.write.Write.{Write}
-use Rattle.values.specs.declared.write.Write.TheVariants.{Insert, Update, Delete}
+use Rattle.values.specs.declared.write.Write.TheVariants.{Insert, Update, Delete, UpdatePortion, DeletePortion}
 use Rattle.steps.specs.Write.{step_of}
 use Rattle.histories.specs.Turn.{turn_in, write_turn}
 use Rattle.histories.specs.World.{World}
@@ -10,3 +10,5 @@ pub turn_is : (world : World) (i : ℕ) (w : Write) → turn_in world (step_of i
 turn_is world i (Insert number rows) = refl
 turn_is world i (Update keys sets) = refl
 turn_is world i (Delete keys) = refl
+turn_is world i (UpdatePortion keys cut sets) = refl
+turn_is world i (DeletePortion keys cut) = refl

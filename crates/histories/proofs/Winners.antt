@@ -19,10 +19,10 @@ use Rattle.values.specs.Each.{Each}
 use Rattle.values.specs.Log.{Log, Net, Row, Changes, last, changes, add_net, add_all, point_cmp}
 use Rattle.values.specs.Period.{Periods, periods_of}
 use Rattle.values.specs.Entity.{unit_of}
-use Rattle.values.specs.Commits.{latest_of, unit_changed_since, by_unit, conflicts, outcome, log_after, after, max_instant}
+use Rattle.values.specs.Commits.{latest_of, unit_changed_since, conflicts, outcome, log_after, after, max_instant}
 use Rattle.values.proofs.OrderTotal.{key_cmp_total, point_cmp-IsAntisymmetric}
 use Rattle.rows.proofs.SchemaPlaces.{Apart, apart_push, apart_no_two, each_to}
-use Rattle.steps.specs.declared.step.Step.TheVariants.{Begin, Insert, Update, Delete, Select, Commit, Rollback, AddColumn, SplitKey, SplitTime, Migrate}
+use Rattle.steps.specs.declared.step.Step.TheVariants.{Begin, Insert, Update, Delete, UpdatePortion, DeletePortion, Select, Commit, Rollback, AddColumn, SplitKey, SplitTime, Migrate}
 use Rattle.histories.specs.History.{History, schema_after, log, log_at_begin, net}
 use Rattle.histories.specs.Winners.{Winner, winners, winners_with, AreConcurrent, ShareAUnit}
 use Rattle.histories.specs.Law.{FirstCommitterWins, LogIsOfWinners}
@@ -73,6 +73,11 @@ settled_none : (xs : List (Key × ℕ)) (latest reading i : ℕ) → ◌≡◌ {
 ]) (Ok (Some i)) → xs ≡ []
 settled_none [] latest reading i e = refl
 settled_none (x ∷ xs) latest reading i e = cc
+
+-- a commit finds no conflict
+pub none_found : (periods : Periods) (m : Changes) (latest start : ℕ) (net : Net) (reading i : ℕ) → outcome periods m latest start net reading ≡ Ok (Some i) → conflicts periods m start net ≡ []
+none_found periods m latest start [] reading i e = cc
+none_found periods m latest start (c ∷ net) reading i e = settled_none (conflicts periods m start (c ∷ net)) latest reading i e
 
 abbrev transactions : List Winner → Log
 transactions ws = map (λ w. w.transaction) ws
@@ -158,8 +163,7 @@ module _ (periods : Periods) where
 
   -- a transaction is committed where none of its units was touched since it began
   untouched : (m : Changes) (latest start : ℕ) (net : Net) (reading i : ℕ) → outcome periods m latest start net reading ≡ Ok (Some i) → All (IsFree m start) (keys_of net)
-  untouched m latest start [] reading i e = cc
-  untouched m latest start (c ∷ net) reading i e = won_none m start (c ∷ net) (settled_none (conflicts periods m start (c ∷ net)) latest reading i e)
+  untouched m latest start net reading i e = won_none m start net (none_found periods m latest start net reading i e)
 
   abbrev Clash : Winner → Winner → Type 0
   Clash v w = AreConcurrent v w × ShareAUnit periods v w
@@ -208,6 +212,8 @@ log_is_of_winners schema (Begin i ∷ h) = log_is_of_winners schema h
 log_is_of_winners schema (Insert i number rows ∷ h) = log_is_of_winners schema h
 log_is_of_winners schema (Update i keys sets ∷ h) = log_is_of_winners schema h
 log_is_of_winners schema (Delete i keys ∷ h) = log_is_of_winners schema h
+log_is_of_winners schema (UpdatePortion i keys cut sets ∷ h) = log_is_of_winners schema h
+log_is_of_winners schema (DeletePortion i keys cut ∷ h) = log_is_of_winners schema h
 log_is_of_winners schema (Select i form keys ∷ h) = log_is_of_winners schema h
 log_is_of_winners schema (Rollback i ∷ h) = log_is_of_winners schema h
 log_is_of_winners schema (AddColumn i number name of ∷ h) = log_is_of_winners schema h
@@ -230,6 +236,8 @@ all_apart schema (Begin i ∷ h) = all_apart schema h
 all_apart schema (Insert i number rows ∷ h) = all_apart schema h
 all_apart schema (Update i keys sets ∷ h) = all_apart schema h
 all_apart schema (Delete i keys ∷ h) = all_apart schema h
+all_apart schema (UpdatePortion i keys cut sets ∷ h) = all_apart schema h
+all_apart schema (DeletePortion i keys cut ∷ h) = all_apart schema h
 all_apart schema (Select i form keys ∷ h) = all_apart schema h
 all_apart schema (Rollback i ∷ h) = all_apart schema h
 all_apart schema (AddColumn i number name of ∷ h) = all_apart schema h

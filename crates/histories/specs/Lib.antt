@@ -9,3 +9,5 @@ pub mod TurnLaw
 pub mod Winners
 pub mod Worked
 pub mod World
+pub mod PeriodLaw
+pub mod WorkedPeriods

@@ -18,7 +18,7 @@ use Rattle.values.specs.Writes.{Own}
 use Rattle.values.specs.Period.{periods_of}
 use Rattle.values.specs.Commits.{outcome}
 use Rattle.steps.specs.declared.step.Step.{Step}
-use Rattle.steps.specs.declared.step.Step.TheVariants.{Begin, Insert, Update, Delete, Select, Commit, Rollback, AddColumn, SplitKey, SplitTime, Migrate}
+use Rattle.steps.specs.declared.step.Step.TheVariants.{Begin, Insert, Update, Delete, UpdatePortion, DeletePortion, Select, Commit, Rollback, AddColumn, SplitKey, SplitTime, Migrate}
 use Rattle.steps.specs.declared.step.Listing.{Listing}
 use Rattle.steps.specs.declared.step.Listing.TheVariants.{Rows, Periods}
 use Rattle.steps.specs.declared.step.Reply.{Reply}
@@ -169,6 +169,8 @@ turn_in w (Begin i) = begin_turn w i
 turn_in w (Insert i number rows) = write_turn w i (Insert i number rows)
 turn_in w (Update i keys sets) = write_turn w i (Update i keys sets)
 turn_in w (Delete i keys) = write_turn w i (Delete i keys)
+turn_in w (UpdatePortion i keys cut sets) = write_turn w i (UpdatePortion i keys cut sets)
+turn_in w (DeletePortion i keys cut) = write_turn w i (DeletePortion i keys cut)
 turn_in w (Select i form keys) = (select_reply w i form keys, w)
 turn_in w (Commit i reading) = commit_turn w i reading
 turn_in w (Rollback i) = rollback_turn w i

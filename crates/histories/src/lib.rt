@@ -2,6 +2,7 @@
 #![tactic(auto)]
 
 mod law;
+mod period_law;
 mod turn_law;
 
 pub use law::{
@@ -9,4 +10,5 @@ pub use law::{
     maintenance_changes_no_other_reply, opens_at_its_begin, past_is_widened, past_stays,
     reads_depend_on_snapshot_and_own_writes, worked_examples_hold,
 };
+pub use period_law::{periods_never_overlap, worked_periods_hold};
 pub use turn_law::{memory_is_taken_alike, turns_give_the_replies};
