@@ -3,6 +3,7 @@ mod VersionChunks
 mod InsertionKeys
 mod InsertionCome
 mod OpenRecordText
+mod OverlapsFound
 pub mod LoadingReads
 mod StreamReads
 pub mod StreamRows

@@ -1,9 +1,8 @@
 -- A file of CSV as it is read on.
-use Rattle.std.proofs.Common.{◌≡◌, ℕ, Bool, true, false, List, [], ◌∷◌, ◌++◌, Option, Some, None, Result, Ok, Err, refl, sym, ap, ◌∙◌, subst, inl, inr, Global, append-nil, append_assoc, if◌then◌else◌, length, ◌==◌}
+use Rattle.std.proofs.Common.{◌≡◌, ℕ, Bool, true, false, List, [], ◌∷◌, ◌++◌, Option, Some, None, Result, Ok, Err, refl, sym, ap, ◌∙◌, subst, inl, inr, Global, append-nil, append_assoc, if◌then◌else◌}
 use Rattle.std.specs.Prelude.{◌⊎◌, IfErr, IfOk, Vec, is_some}
 use Rattle.csv.specs.declared.parser.Action.{Action}
 use Rattle.csv.specs.declared.parser.Action.TheVariants as act
-use Rattle.values.specs.Fit.{row_fault}
 use Rattle.csv.specs.Machine.{step, is_end, fields_after, field_after, ends_at_end}
 use Rattle.csv.specs.Reading.{AreRecords, default_config}
 use Rattle.csv.specs.declared.parser.State.{State}
@@ -12,10 +11,10 @@ use Rattle.values.specs.declared.table.Table.{Table}
 use Rattle.values.specs.declared.refusal.Refusal.{Refusal}
 use Rattle.values.specs.declared.refusal.Refusal.TheVariants.{BadRow, Memory}
 use Rattle.values.specs.Log.{Row}
-use Rattle.statement.specs.Meaning.{is_column_list, row_in}
+use Rattle.statement.specs.Meaning.{is_column_list}
 use Rattle.interchange.specs.declared.insertion.Insertion.{Insertion}
 use Rattle.interchange.specs.declared.loading.Loading.{Loading}
-use Rattle.interchange.specs.Load.{Record, column_list, vec_items, row_of, rows_from, rows_of, values_from, inserted}
+use Rattle.interchange.specs.Load.{Record, column_list, vec_items, row_of, rows_from, rows_of, inserted}
 use Rattle.interchange.specs.OpenRecord.{AreRecordsFrom, HasTaken, IsOpenAt}
 use Rattle.interchange.specs.Insertion.{HasCome}
 use Rattle.interchange.specs.Loading.{HasRecords, HasRows, IsAllRead, IsReadTo, IsRefusedAt, IsWhyOf, IsWholeOf}
@@ -161,26 +160,6 @@ row_refused table columns fields records why i is has more = has.goes_on (fields
   where
     later : Result Row Refusal → Result (List Row) Refusal
     later r = elim r [ Err refusal ↦ Err refusal | Ok row ↦ rows_from table columns (has.rows ++ row ∷ []) more ]
-
-unwrapped : Result Row Refusal → Row
-unwrapped (Ok row) = row
-unwrapped (Err why) = []
-
--- a row that a record writes fits its table
-pub row_fits : (table : Table) (columns : List ℕ) (fields : Record) (row : Row) → row_of table columns fields ≡ Ok row → row_fault table row ≡ None
-unfolding unwrapped
-row_fits table columns fields row is = by (length columns == length fields) is
-  where
-    values : Row
-    values = values_from columns fields [] 1 table.columns
-
-    inside : (found : Option ℕ) → row_fault table values ≡ found → ◌≡◌ {A = Result Row Refusal} (elim found [ Some column ↦ Err (BadRow column) | None ↦ Ok values ]) (Ok row) → row_fault table row ≡ None
-    inside (Some column) at is = cc is
-    inside None at is = ap (λ r. row_fault table (unwrapped r)) (sym is) ∙ at
-
-    by : (b : Bool) → ◌≡◌ {A = Result Row Refusal} (if b then row_in table values else Err (BadRow 0)) (Ok row) → row_fault table row ≡ None
-    by true is = inside (row_fault table values) refl is
-    by false is = cc is
 
 -- ---- a file that was read to its end
 

@@ -4,6 +4,7 @@ pub mod Version
 pub mod Report
 pub mod Place
 pub mod OpenRecord
+pub mod Overlaps
 pub mod Insertion
 pub mod Loading
 pub mod Stream

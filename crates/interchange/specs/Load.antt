@@ -10,6 +10,7 @@ use Rattle.values.specs.declared.table.Table.{Table}
 use Rattle.values.specs.declared.refusal.Refusal.{Refusal}
 use Rattle.values.specs.declared.refusal.Refusal.TheVariants.{BadRow, Memory}
 use Rattle.values.specs.Log.{Row}
+use Rattle.values.specs.Write.{rows_refusal}
 use Rattle.values.specs.Writes.{Own, insert_into}
 use Rattle.values.specs.Names.{column_number}
 use Rattle.statement.specs.Meaning.{is_column_list, place_of, row_in}
@@ -81,10 +82,17 @@ Loads table bytes result =
 abbrev pub nothing : Own
 nothing = record { rows = []; written = [] }
 
+-- what an INSERT of rows over no rows answers: why they do not fit comes first
+abbrev pub answered : Table → List Row → Result ℕ Refusal
+answered table rows = elim (rows_refusal table rows) [
+  | Some why ↦ Err why
+  | None ↦ (insert_into table rows nothing).0
+]
+
 -- rows, unless there is a reason why there are none, or why an INSERT of them over no rows is refused
 abbrev pub inserted : Table → Result (List Row) Refusal → Result (List Row) Refusal
 inserted table (Err why) = Err why
-inserted table (Ok rows) = elim (insert_into table rows nothing).0 [
+inserted table (Ok rows) = elim (answered table rows) [
   | Err why ↦ Err why
   | Ok count ↦ Ok rows
 ]

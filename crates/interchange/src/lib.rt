@@ -7,6 +7,7 @@ mod key_set;
 mod load;
 mod loading;
 mod open_record;
+mod overlaps;
 mod place;
 mod record;
 mod report;

@@ -115,11 +115,15 @@ fn load_rest<R: Read>(
 /// rows takes them: its first record names columns of the table, and each further record is a row.
 ///
 /// The file is read as a stream: of at most 1,000 rows the values are kept, and of all others the
-/// bytes of their keys, up to the first key that repeats.
+/// bytes of their keys. Of a table with a period of application time the spans of all rows are kept
+/// too, by entity, up to the first row that overlaps an earlier one of its entity; it is compared
+/// with those alone, so n rows of one entity are n * n / 2 pairs. After a key that repeats, or a
+/// span with no start below its end, nothing more is kept.
 ///
-/// `BadRow` as `load_rows` has it, as soon as the record was read. At the end of the file
-/// `DuplicateKey` with the first key that an earlier row has, and then `TooManyWrites` where there
-/// are over 1,000 rows.
+/// `BadRow` as `load_rows` has it, as soon as the record was read. At the end of the file, in this
+/// order: `BadPeriod` where the span of any row has no start below its end; `DuplicateKey` with the
+/// first key that an earlier row has; `Overlap` with the key of the first row whose span overlaps
+/// that of an earlier row of its entity; and `TooManyWrites` where there are over 1,000 rows.
 pub fn load_from<R: Read>(
     alloc: Global,
     reader: &mut R,

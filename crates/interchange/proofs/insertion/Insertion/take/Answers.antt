@@ -1,31 +1,13 @@
-use Rattle.std.proofs.Common.{[], ◌∷◌, ◌++◌, ap, ◌∙◌, subst, sym}
-use Rattle.values.specs.declared.key.Key.{Key}
-use Rattle.values.specs.Fit.{key_fault}
-use Rattle.values.proofs.RowKeys.{fitting_key}
-use Rattle.interchange.specs.Insertion.{HasKeys}
-use Rattle.interchange.proofs.InsertionCome.{come_after, come_again, come_new, on_ok}
+use Rattle.std.proofs.Common.{refl, sym, ◌∙◌}
+use Rattle.interchange.proofs.InsertionCome.{bad_after, bad_now, good_now, on_ok}
 use Rattle.interchange.proofs.insertion.Insertion.take.Goals as goal
 
-pub add-requires-clause-own : goal.add-requires-clause-own
-add-requires-clause-own c = record {
-  own = ap (λ (k : Key). k.table) c.in_ok-key.ensures.ok;
-  fits = ap (λ (k : Key). key_fault c.args.table.now k.parts) c.in_ok-key.ensures.ok ∙ fitting_key c.args.table.now.number c.args.table.now c.args.row c.requires.table c.requires.fits;
-  held = c.in_ok-key.ensures.held;
-}
+pub returns-then-self-clause-ok : goal.returns-then-self-clause-ok
+returns-then-self-clause-ok c = λ rows come. bad_after c.args.table.now rows c.args.row c.args.self.now c.requires.fits c.if-self.true come
 
-pub returns-then-is_some-clause-ok : goal.returns-then-is_some-clause-ok
-returns-then-is_some-clause-ok c = λ rows come. come_after c.args.table.now rows c.args.row c.args.self.now (sym c.is_some.ensures ∙ c.if-is_some.true) come
+pub returns-then-is_bad_span-clause-ok : goal.returns-then-is_bad_span-clause-ok
+returns-then-is_bad_span-clause-ok c = λ rows come. bad_now c.args.table.now rows c.args.row c.args.self.now _ c.requires.fits (sym c.if-is_bad_span.true ∙ c.is_bad_span.ensures) c.if-self.false refl come
 
-pub returns-then-branch-clause-ok : goal.returns-then-branch-clause-ok
-returns-then-branch-clause-ok c = on_ok c.keep.result c.keep.ensures.kept (λ kept rows come.
-    come_new c.args.table.now rows c.args.row c.in_ok-key.key c.args.self.now c.keep.new.self (sym c.is_some.ensures ∙ c.if-is_some.false) c.keep.ensures.repeated c.in_ok-key.ensures.ok
-    (λ keys has. sym c.if-branch.true ∙ c.in_ok-add.ensures.new keys has)
-    (λ keys has. subst (HasKeys c.args.table.now (keys ++ c.in_ok-key.key ∷ [])) (sym c.keep.ensures.keys) (c.in_ok-add.ensures.added keys has))
-    (λ keys has. kept c.args.table.now keys (subst (HasKeys c.args.table.now keys) c.keep.ensures.keys has))
-    come)
-
-pub returns-else-branch-clause-ok : goal.returns-else-branch-clause-ok
-returns-else-branch-clause-ok c = λ rows come.
-    come_again c.args.table.now rows c.args.row c.in_ok-key.key c.args.self.now (sym c.is_some.ensures ∙ c.if-is_some.false) c.in_ok-key.ensures.ok
-    (λ keys has. sym c.if-branch.false ∙ c.in_ok-add.ensures.new keys has)
-    come
+pub returns-clause-ok : goal.returns-clause-ok
+returns-clause-ok c = on_ok c.take_key.result c.take_key.ensures.ok (λ taken rows come.
+    good_now c.args.table.now rows c.args.row c.args.self.now c.take_key.new.self c.requires.fits (sym c.if-is_bad_span.false ∙ c.is_bad_span.ensures) c.if-self.false c.take_key.ensures.spans taken come)
