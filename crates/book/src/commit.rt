@@ -15,10 +15,10 @@ use validation::Engine;
 use values::{Instant, Mem, Refusal, Schema};
 
 impl<J: StoreName> Book<J> {
-    /// Ends a session's transaction of the store's tables with its net changes, by this reading of the clock: how it ended is
-    /// in the entry. The changes are handed in twice, once to be kept in the entry and once to be put in the tree. `NoTransaction` where the
-    /// transaction is not open here, `JournalFull` where there is no room for one more entry. After a refusal nothing has
-    /// changed.
+    /// Ends a session's transaction of the store's tables with its net changes, by this reading of the
+    /// clock: how it ended is in the entry. The changes are handed in twice, once to be kept in the entry
+    /// and once to be put in the tree. `NoTransaction` where the transaction is not open here,
+    /// `JournalFull` where there is no room for one more entry. After a refusal nothing has changed.
     pub fn commit(
         &mut self,
         schema: &Schema,

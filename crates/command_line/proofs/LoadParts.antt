@@ -77,5 +77,5 @@ no_rows_of (Load refusal) schema text table named (inr (inr file)) =
       number = table.number;
       rows = file.rows;
       says = record { table = table; is_named = named; number_is = refl; bytes = file.bytes; loads = file.loads };
-      refused = first_refused schema table file.rows refusal named.table_is file.fit file.refused;
+      refused = first_refused schema table file.rows refusal named.table_is file.refused;
     }))

@@ -8,14 +8,12 @@ use Rattle.values.specs.declared.refusal.Refusal.TheVariants.{NoTable, Memory as
 use Rattle.values.specs.Log.{Row, last}
 use Rattle.values.specs.Names.{table_number}
 use Rattle.values.specs.Tables.{Schema, IsTable, table_at}
-use Rattle.values.specs.Fit.{rows_fault}
-use Rattle.values.specs.Writes.{insert_into}
 use Rattle.steps.specs.declared.step.Step.{Step}
 use Rattle.steps.specs.declared.step.Step.TheVariants.{Begin, Insert, Commit}
 use Rattle.histories.specs.History.{History, log}
 use Rattle.statement.specs.Writer.{AppendsPrefix}
 use Rattle.interleaving.specs.SystemState.{SystemState, Stands}
-use Rattle.interchange.specs.Load.{Loads, nothing}
+use Rattle.interchange.specs.Load.{Loads, answered}
 use Rattle.interchange.specs.Report.{loaded_text}
 use Rattle.scripts.specs.First.{history_of, first_refusal}
 use Rattle.command_line.specs.declared.fault.Fault.{Fault}
@@ -106,8 +104,7 @@ pub record IsRefusedFile (table : Table) (refusal : Refusal) : Type 0 where
   pub bytes : List ℕ
   pub rows : List Row
   pub loads : Loads table bytes (Ok rows)
-  pub fit : rows_fault table rows ≡ None
-  pub refused : (insert_into table rows nothing).0 ≡ Err refusal
+  pub refused : answered table rows ≡ Err refusal
 
 -- why a table's file has no rows: it cannot be read, or this is what it says, or its rows are refused
 abbrev pub IsUnread : Fault → Table → Type 0

@@ -36,11 +36,12 @@ printf \"clock: 100\\n1: BEGIN\\n1: INSERT INTO emp VALUES (1, 'Ann')\\n1: COMMI
 Statements, each on a line of its own:\n  \
 BEGIN, START TRANSACTION, COMMIT, ROLLBACK\n  \
 INSERT INTO table [(column, ..)] VALUES (value, ..), ..\n  \
-UPDATE table SET column = value, .. [WHERE comparisons]\n  \
-DELETE FROM table [WHERE comparisons]\n  \
+UPDATE table [portion] SET column = value, .. [WHERE comparisons]\n  \
+DELETE FROM table [portion] [WHERE comparisons]\n  \
 SELECT * FROM table [FOR SYSTEM_TIME form] [WHERE comparisons]\n  \
 ALTER TABLE table ADD COLUMN column type, in a script\n\
 A form is AS OF instant, FROM instant TO instant or BETWEEN instant AND instant.\n\
+A portion is FOR PORTION OF period FROM number TO number.\n\
 Comparisons are a column, one of = < <= > >= and a value, joined by AND.\n\
 A value is a number, a 'text', TRUE, FALSE or NULL.\n\
 \n\

@@ -14,13 +14,14 @@ use Rattle.values.specs.declared.refusal.Refusal.{Refusal}
 use Rattle.values.specs.declared.refusal.Refusal.TheVariants.{NoSession, NoTable, TransactionsOpen, Memory}
 use Rattle.values.specs.Columns.{add_column, addition_fault, is_good_type, is_name_of, new_column}
 use Rattle.values.specs.Events.{IsKeyIn}
+use Rattle.values.specs.Faults.{bad_row}
 use Rattle.values.specs.Tables.{Schema, table_at, widest}
 use Rattle.values.proofs.ColumnsKeys.{key_in_more}
 use Rattle.tsbtree.specs.View.{TreeState, events, last}
 use Rattle.staging.specs.View.{Holds}
 use Rattle.transaction.specs.OpenTransactionState.{OpenTransactionState}
 use Rattle.steps.specs.Idle.{is_idle}
-use Rattle.steps.specs.Misfit.{max_session, bad_row, misfit, misfit_of}
+use Rattle.steps.specs.Misfit.{max_session, misfit, misfit_of}
 use Rattle.steps.specs.Reply.{is_out_of_memory, takes_no_memory_by}
 use Rattle.steps.specs.declared.step.Step.{Step}
 use Rattle.steps.specs.declared.step.Step.TheVariants.{AddColumn}
@@ -38,7 +39,7 @@ use Rattle.interleaving.proofs.SystemKeeps.{changes_again, session_is}
 -- ---- a table that a step fits
 
 -- the table has no fault
-pub fits_column : (schema : Schema) (i number : ℕ) (fault : Table → Option ℕ) → misfit_of schema i number fault ≡ None → IfSome (table_at schema number) (λ t. fault t ≡ None)
+pub fits_column : (schema : Schema) (i number : ℕ) (fault : Table → Option ℕ) → misfit_of schema i number (λ t. bad_row (fault t)) ≡ None → IfSome (table_at schema number) (λ t. fault t ≡ None)
 fits_column schema i number fault fits = by (nat_lt max_session i) (table_at schema number) fits
   where
     by : (b : Bool) (o : Option Table) → ◌≡◌ {A = Option Refusal} (if b then Some NoSession else elim o [ None ↦ Some NoTable | Some table ↦ bad_row (fault table) ]) None → IfSome o (λ t. fault t ≡ None)

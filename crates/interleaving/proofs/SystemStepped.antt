@@ -4,7 +4,7 @@ use Rattle.values.specs.declared.refusal.Refusal.{Refusal}
 use Rattle.values.specs.declared.refusal.Refusal.TheVariants.{Memory}
 use Rattle.values.specs.Tables.{Schema}
 use Rattle.steps.specs.declared.step.Step.{Step}
-use Rattle.steps.specs.declared.step.Step.TheVariants.{Begin, Insert, Update, Delete, Select, Commit, Rollback, AddColumn, SplitKey, SplitTime, Migrate}
+use Rattle.steps.specs.declared.step.Step.TheVariants.{Begin, Insert, Update, Delete, UpdatePortion, DeletePortion, Select, Commit, Rollback, AddColumn, SplitKey, SplitTime, Migrate}
 use Rattle.steps.specs.declared.step.Reply.{Reply}
 use Rattle.steps.specs.declared.step.Reply.TheVariants.{Altered, Refused}
 use Rattle.steps.specs.Misfit.{misfit}
@@ -48,6 +48,8 @@ same_leaves (Begin i) e = keeps_same e.nodes
 same_leaves (Insert i table rows) e = keeps_same e.nodes
 same_leaves (Update i keys sets) e = keeps_same e.nodes
 same_leaves (Delete i keys) e = keeps_same e.nodes
+same_leaves (UpdatePortion i keys cut sets) e = keeps_same e.nodes
+same_leaves (DeletePortion i keys cut) e = keeps_same e.nodes
 same_leaves (Select i form keys) e = keeps_same e.nodes
 same_leaves (Commit i reading) e = keeps_same e.nodes
 same_leaves (Rollback i) e = keeps_same e.nodes

@@ -1,11 +1,11 @@
 -- A write of an open transaction is the turn's: what its own writes make of it is what contracts see.
-use Rattle.std.proofs.Common.{◌≡◌, ◌≢◌, ℕ, ◌≤◌, List, Option, Some, None, Bool, true, false, sym, ap, ◌∙◌, subst, nat_lt, get_or, set, Result, Err, if◌then◌else◌}
+use Rattle.std.proofs.Common.{◌≡◌, ◌≢◌, ℕ, ◌≤◌, List, Option, Some, None, false, sym, ap, ◌∙◌, subst, get_or, set, Result, Err}
 use Rattle.std.proofs.lemmas.List.{set-get_or}
 use Rattle.std.specs.Option.{option_map}
 use Rattle.values.specs.declared.table.Table.{Table}
 use Rattle.values.specs.declared.write.Write.{Write}
 use Rattle.values.specs.declared.refusal.Refusal.{Refusal}
-use Rattle.values.specs.declared.refusal.Refusal.TheVariants.{NoTable, NoSession, NoTransaction, Memory}
+use Rattle.values.specs.declared.refusal.Refusal.TheVariants.{NoTable, NoTransaction, Memory}
 use Rattle.values.specs.Tables.{Schema, IsTable, table_at}
 use Rattle.values.specs.Log.{Changes, Net}
 use Rattle.values.specs.Write.{table_of, write_to}
@@ -16,7 +16,6 @@ use Rattle.transaction.specs.OpenTransactionState.{OpenTransactionState}
 use Rattle.steps.specs.declared.step.Reply.{Reply}
 use Rattle.steps.specs.declared.step.Reply.TheVariants.{Refused}
 use Rattle.steps.specs.declared.step.Step.{Step}
-use Rattle.steps.specs.Misfit.{max_session, bad_row, misfit_of}
 use Rattle.steps.specs.Write.{write}
 use Rattle.steps.specs.Reply.{written_reply}
 use Rattle.histories.specs.World.{OpenTransaction, World}
@@ -24,20 +23,10 @@ use Rattle.histories.specs.Stands.{open_at}
 use Rattle.histories.specs.Turn.{Turn, put, own_in, with_own, turn_in}
 use Rattle.steps.specs.Reply.{is_out_of_memory}
 use Rattle.steps.specs.Write.{step_of}
-use Rattle.steps.proofs.MisfitKeys.{no_fault}
 use Rattle.histories.proofs.TurnWritten.{turn_is}
 use Rattle.steps.proofs.WriteStep.{write_is}
 use Rattle.interleaving.specs.SystemState.{changes_in, open_of, world_of, IsOpenIn, IsOpen, IsSystem}
 use Rattle.interleaving.proofs.SystemKeeps.{session_is, put_is, begun_at, place_is}
-
--- ---- a step that fits the schema
-
-pub fits_as : (schema : Schema) (i number : ℕ) (fault : Table → Option ℕ) (table : Table) → Some table ≡ table_at schema number → misfit_of schema i number fault ≡ None → fault table ≡ None
-fits_as schema i number fault table at fits = by (nat_lt max_session i) ((λ j. if nat_lt max_session i then Some NoSession else elim (at j) [ None ↦ Some NoTable | Some table ↦ bad_row (fault table) ]) ∙ fits)
-  where
-    by : (b : Bool) → ◌≡◌ {A = Option Refusal} (if b then Some NoSession else bad_row (fault table)) None → fault table ≡ None
-    by true h = cc
-    by false h = no_fault (fault table) h
 
 -- ---- the turn
 

@@ -69,6 +69,12 @@ impl System {
                 self.write(*session, Write::Update(keys, sets.items()))
             }
             Step::Delete(session, keys) => self.write(*session, Write::Delete(keys)),
+            Step::UpdatePortion(session, keys, span, sets) => {
+                self.write(*session, Write::UpdatePortion(keys, *span, sets.items()))
+            }
+            Step::DeletePortion(session, keys, span) => {
+                self.write(*session, Write::DeletePortion(keys, *span))
+            }
             Step::Select(session, form, keys) => reply_of(self.select(*session, *form, keys)),
             Step::Commit(session, reading) => self.commit(*session, *reading),
             Step::Rollback(session) => self.rollback(*session),

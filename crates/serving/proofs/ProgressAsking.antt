@@ -5,7 +5,7 @@ use Rattle.std.specs.Option.{is_none, is_some}
 use Rattle.values.specs.declared.refusal.Refusal.{Refusal}
 use Rattle.values.specs.Tables.{Schema}
 use Rattle.steps.specs.declared.step.Step.{Step}
-use Rattle.steps.specs.declared.step.Step.TheVariants.{Begin, Insert, Update, Delete, Select, Commit, Rollback, AddColumn, SplitKey, SplitTime, Migrate}
+use Rattle.steps.specs.declared.step.Step.TheVariants.{Begin, Insert, Update, Delete, UpdatePortion, DeletePortion, Select, Commit, Rollback, AddColumn, SplitKey, SplitTime, Migrate}
 use Rattle.steps.specs.Misfit.{misfit}
 use Rattle.sessions.specs.SessionState.{SessionTransactionState, SessionState}
 use Rattle.serving.specs.declared.answer.Sent.TheVariants.{Refused as Refuses}
@@ -45,6 +45,8 @@ asks_run schema i (Begin j) b e = e
 asks_run schema i (Insert j number rows) b e = cc
 asks_run schema i (Update j keys sets) b e = cc
 asks_run schema i (Delete j keys) b e = cc
+asks_run schema i (UpdatePortion j keys cut sets) b e = cc
+asks_run schema i (DeletePortion j keys cut) b e = cc
 asks_run schema i (Select j form keys) b e = ap (λ x. x || is_none (misfit schema (Select i form keys))) e
 asks_run schema i (Commit j reading) b e = e
 asks_run schema i (Rollback j) b e = e

@@ -6,7 +6,7 @@ use Rattle.std.specs.Option.{is_none, is_some, option_map}
 use Rattle.values.specs.declared.refusal.Refusal.{Refusal}
 use Rattle.values.specs.declared.refusal.Refusal.TheVariants.{Memory}
 use Rattle.values.specs.declared.write.Write.{Write}
-use Rattle.values.specs.declared.write.Write.TheVariants.{Insert, Update, Delete}
+use Rattle.values.specs.declared.write.Write.TheVariants.{Insert, Update, Delete, UpdatePortion, DeletePortion}
 use Rattle.values.specs.Tables.{Schema}
 use Rattle.values.specs.Log.{Net}
 use Rattle.values.specs.Writes.{Own}
@@ -123,6 +123,8 @@ pub takes_write : (may_give : ℕ → Bool) (number : ℕ) (schema : Schema) (re
 takes_write may_give number schema receipt (Insert table rows) = λ p given reply p' is. is
 takes_write may_give number schema receipt (Update keys sets) = λ p given reply p' is. is
 takes_write may_give number schema receipt (Delete keys) = λ p given reply p' is. is
+takes_write may_give number schema receipt (UpdatePortion keys cut sets) = λ p given reply p' is. is
+takes_write may_give number schema receipt (DeletePortion keys cut) = λ p given reply p' is. is
 
 and_both : {A : Type 0} (b : Bool) (unfit : Option A) → b ≡ true → unfit ≡ None → (b && is_none unfit) ≡ true
 and_both b unfit e f = rw e (ap is_none f)
@@ -131,3 +133,5 @@ pub may_write : (may_give : ℕ → Bool) (number : ℕ) (schema : Schema) (rece
 may_write may_give number schema receipt (Insert table rows) = λ b e f. and_both b _ e f
 may_write may_give number schema receipt (Update keys sets) = λ b e f. and_both b _ e f
 may_write may_give number schema receipt (Delete keys) = λ b e f. and_both b _ e f
+may_write may_give number schema receipt (UpdatePortion keys cut sets) = λ b e f. and_both b _ e f
+may_write may_give number schema receipt (DeletePortion keys cut) = λ b e f. and_both b _ e f

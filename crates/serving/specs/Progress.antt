@@ -25,7 +25,7 @@ use Rattle.validation.specs.declared.cut.Cut.TheVariants.{Key as KeyCut, Time as
 use Rattle.steps.specs.declared.step.Listing.{Listing}
 use Rattle.steps.specs.declared.step.Listing.TheVariants.{Rows}
 use Rattle.steps.specs.declared.step.Step.{Step}
-use Rattle.steps.specs.declared.step.Step.TheVariants.{Begin, Insert, Update, Delete, Select, Commit, Rollback, AddColumn, SplitKey, SplitTime, Migrate}
+use Rattle.steps.specs.declared.step.Step.TheVariants.{Begin, Insert, Update, Delete, UpdatePortion, DeletePortion, Select, Commit, Rollback, AddColumn, SplitKey, SplitTime, Migrate}
 use Rattle.steps.specs.declared.step.Reply.{Reply}
 use Rattle.steps.specs.declared.step.Reply.TheVariants.{Begun, Shown, RolledBack, Done, Refused}
 use Rattle.steps.specs.Misfit.{misfit, key_misfit}
@@ -193,6 +193,10 @@ module _ (schema : Schema) (i : ℕ) where
       is_open && is_none (misfit schema (Insert i number rows))
   may_run_out (Update j keys sets) is_open = is_open && is_none (misfit schema (Update i keys sets))
   may_run_out (Delete j keys) is_open = is_open && is_none (misfit schema (Delete i keys))
+  may_run_out (UpdatePortion j keys cut sets) is_open =
+      is_open && is_none (misfit schema (UpdatePortion i keys cut sets))
+  may_run_out (DeletePortion j keys cut) is_open =
+      is_open && is_none (misfit schema (DeletePortion i keys cut))
   may_run_out (Select j form keys) is_open =
       not is_open || is_none (misfit schema (Select i form keys))
   may_run_out step is_open = asks_store step is_open
@@ -269,6 +273,10 @@ module _ (may_give : ℕ → Bool) (schema : Schema) (i : ℕ) where
   Takes (Insert j number rows) p given reply p' = TakesWrite schema i (Insert i number rows) p given reply p'
   Takes (Update j keys sets) p given reply p' = TakesWrite schema i (Update i keys sets) p given reply p'
   Takes (Delete j keys) p given reply p' = TakesWrite schema i (Delete i keys) p given reply p'
+  Takes (UpdatePortion j keys cut sets) p given reply p' =
+      TakesWrite schema i (UpdatePortion i keys cut sets) p given reply p'
+  Takes (DeletePortion j keys cut) p given reply p' =
+      TakesWrite schema i (DeletePortion i keys cut) p given reply p'
   Takes (Select j form keys) p given reply p' = MatchOption p.transaction
       (TakesQuery schema i form keys p given reply p')
       (λ t. Replies (query schema i t.changes t.own form keys) p given reply p')

@@ -58,6 +58,8 @@ fn asks_store(session: &Session, step: &Step) -> bool
         Step::Insert(_, _, _) => false,
         Step::Update(_, _, _) => false,
         Step::Delete(_, _) => false,
+        Step::UpdatePortion(_, _, _, _) => false,
+        Step::DeletePortion(_, _, _) => false,
         Step::Select(_, _, _) => session.start().is_none(),
         Step::Commit(_, _) => session.start().is_some(),
         Step::Rollback(_) => false,
@@ -86,6 +88,12 @@ fn take_step<J: StoreName, R: Wait, C: Readings>(
         Step::Insert(_, table, rows) => take_write(session, Write::Insert(*table, rows.items())),
         Step::Update(_, keys, sets) => take_write(session, Write::Update(keys, sets.items())),
         Step::Delete(_, keys) => take_write(session, Write::Delete(keys)),
+        Step::UpdatePortion(_, keys, span, sets) => {
+            take_write(session, Write::UpdatePortion(keys, *span, sets.items()))
+        }
+        Step::DeletePortion(_, keys, span) => {
+            take_write(session, Write::DeletePortion(keys, *span))
+        }
         Step::Select(_, form, keys) => take_query(rt, store, session, *form, keys),
         Step::Commit(_, _) => take_commit(rt, store, session, readings),
         Step::Rollback(_) => take_rollback(session),

@@ -8,7 +8,7 @@ use Rattle.values.specs.Tables.{Schema}
 use Rattle.values.specs.Log.{Log, upto, changes}
 use Rattle.values.specs.Writes.{Own}
 use Rattle.steps.specs.declared.step.Step.{Step}
-use Rattle.steps.specs.declared.step.Step.TheVariants.{Begin, Insert, Update, Delete, Select, Commit, Rollback, AddColumn, SplitKey, SplitTime, Migrate}
+use Rattle.steps.specs.declared.step.Step.TheVariants.{Begin, Insert, Update, Delete, UpdatePortion, DeletePortion, Select, Commit, Rollback, AddColumn, SplitKey, SplitTime, Migrate}
 use Rattle.steps.specs.declared.step.Reply.{Reply}
 use Rattle.steps.specs.declared.step.Reply.TheVariants.{Refused}
 use Rattle.steps.specs.Misfit.{misfit}
@@ -71,6 +71,26 @@ of_writer first h (Delete j keys) i e = record {
   counts = λ count. refl;
   refuses = λ refusal. refl;
   replied = ap (when_open first h (Delete j keys)) (same_writer i j e);
+}
+of_writer first h (UpdatePortion j keys cut sets) i e = record {
+  same_tables = refl;
+  no_end = refl;
+  no_begin = refl;
+  its_own = own_write i j (same_writer i j e);
+  same_log = refl;
+  counts = λ count. refl;
+  refuses = λ refusal. refl;
+  replied = ap (when_open first h (UpdatePortion j keys cut sets)) (same_writer i j e);
+}
+of_writer first h (DeletePortion j keys cut) i e = record {
+  same_tables = refl;
+  no_end = refl;
+  no_begin = refl;
+  its_own = own_write i j (same_writer i j e);
+  same_log = refl;
+  counts = λ count. refl;
+  refuses = λ refusal. refl;
+  replied = ap (when_open first h (DeletePortion j keys cut)) (same_writer i j e);
 }
 of_writer first h (Begin j) i e = cc
 of_writer first h (Select j form keys) i e = cc

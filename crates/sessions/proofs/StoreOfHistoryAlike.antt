@@ -17,7 +17,7 @@ use Rattle.staging.specs.View.{Holds}
 use Rattle.staging.specs.Own.{own as own_over, net_over}
 use Rattle.validation.specs.declared.cut.Cut.{Cut}
 use Rattle.steps.specs.declared.step.Step.{Step}
-use Rattle.steps.specs.declared.step.Step.TheVariants.{Begin as BeginStep, Commit as CommitStep, Insert, Update, Delete, Select, Rollback, AddColumn, SplitKey, SplitTime, Migrate}
+use Rattle.steps.specs.declared.step.Step.TheVariants.{Begin as BeginStep, Commit as CommitStep, Insert, Update, Delete, UpdatePortion, DeletePortion, Select, Rollback, AddColumn, SplitKey, SplitTime, Migrate}
 use Rattle.steps.specs.declared.step.Reply.{Reply}
 use Rattle.steps.specs.declared.step.Reply.TheVariants.{Begun, Done, Refused}
 use Rattle.steps.specs.Misfit.{max_session, misfit}
@@ -251,6 +251,8 @@ split_beside s j h (BeginStep i) cut done is at = absurd at
 split_beside s j h (Insert i number rows) cut done is at = absurd at
 split_beside s j h (Update i keys sets) cut done is at = absurd at
 split_beside s j h (Delete i keys) cut done is at = absurd at
+split_beside s j h (UpdatePortion i keys span sets) cut done is at = absurd at
+split_beside s j h (DeletePortion i keys span) cut done is at = absurd at
 split_beside s j h (Select i form keys) cut done is at = absurd at
 split_beside s j h (CommitStep i reading) cut done is at = absurd at
 split_beside s j h (Rollback i) cut done is at = absurd at
@@ -264,6 +266,8 @@ split_reply schema h cut (BeginStep i) at = absurd at
 split_reply schema h cut (Insert i number rows) at = absurd at
 split_reply schema h cut (Update i keys sets) at = absurd at
 split_reply schema h cut (Delete i keys) at = absurd at
+split_reply schema h cut (UpdatePortion i keys span sets) at = absurd at
+split_reply schema h cut (DeletePortion i keys span) at = absurd at
 split_reply schema h cut (Select i form keys) at = absurd at
 split_reply schema h cut (CommitStep i reading) at = absurd at
 split_reply schema h cut (Rollback i) at = absurd at
@@ -375,6 +379,8 @@ still : (schema : Schema) (h : History) (step : Step) (i : ℕ) → writer step 
 still schema h (Insert j number rows) i its = record { same_log = refl; same_begin = refl }
 still schema h (Update j keys sets) i its = record { same_log = refl; same_begin = refl }
 still schema h (Delete j keys) i its = record { same_log = refl; same_begin = refl }
+still schema h (UpdatePortion j keys cut sets) i its = record { same_log = refl; same_begin = refl }
+still schema h (DeletePortion j keys cut) i its = record { same_log = refl; same_begin = refl }
 still schema h (BeginStep j) i its = absurd (cc)
 still schema h (Select j form keys) i its = absurd (cc)
 still schema h (CommitStep j reading) i its = absurd (cc)

@@ -32,6 +32,12 @@ impl<J: StoreName> Calls<J> {
             Step::Insert(i, table, rows) => self.write(*i, Write::Insert(*table, rows.items())),
             Step::Update(i, keys, sets) => self.write(*i, Write::Update(keys, sets.items())),
             Step::Delete(i, keys) => self.write(*i, Write::Delete(keys)),
+            Step::UpdatePortion(i, keys, span, sets) => {
+                self.write(*i, Write::UpdatePortion(keys, *span, sets.items()))
+            }
+            Step::DeletePortion(i, keys, span) => {
+                self.write(*i, Write::DeletePortion(keys, *span))
+            }
             Step::Select(i, form, keys) => self.select(rt, store, *i, *form, keys),
             Step::Commit(i, reading) => self.commit(rt, store, *i, *reading),
             Step::Rollback(i) => self.rollback(*i),

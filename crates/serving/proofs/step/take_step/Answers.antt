@@ -14,6 +14,12 @@ returns-in-Update g c = let stepped = c.take_write-in-Update.ensures g.C.Reading
 pub returns-in-Delete : goal.returns-in-Delete
 returns-in-Delete g c = let stepped = c.take_write-in-Delete.ensures g.C.Readings.may_give in search rules
 
+pub returns-in-UpdatePortion : goal.returns-in-UpdatePortion
+returns-in-UpdatePortion g c = let stepped = c.take_write-in-UpdatePortion.ensures g.C.Readings.may_give in search rules
+
+pub returns-in-DeletePortion : goal.returns-in-DeletePortion
+returns-in-DeletePortion g c = let stepped = c.take_write-in-DeletePortion.ensures g.C.Readings.may_give in search rules
+
 pub returns-in-Select : goal.returns-in-Select
 returns-in-Select g c = let stepped = c.take_query.ensures g.C.Readings.may_give in search rules
 
