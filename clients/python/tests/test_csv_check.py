@@ -52,9 +52,32 @@ FILES = [
 ]
 
 
-def refusal_of(data):
+TARIFFS = """CREATE TABLE tariff (cover TEXT, since INT, until INT, cents INT,
+  s TIMESTAMP(12) GENERATED ALWAYS AS ROW START, e TIMESTAMP(12) GENERATED ALWAYS AS ROW END,
+  PERIOD FOR SYSTEM_TIME (s, e), PERIOD FOR validity (since, until), PRIMARY KEY (cover, validity WITHOUT OVERLAPS)
+) WITH SYSTEM VERSIONING"""
+TARIFF = read_schema(TARIFFS).table("tariff")
+
+# The same for a table with a period of application time.
+PERIODS = [
+    (b"cover,since,until\na,1,5\na,5,9\nb,2,7\n", None),
+    (b"cover,since,until\na,5,9\na,1,5\n", None),
+    (b"cover,since\na,1\n", "E3 bad row at column 3"),
+    (b"cover,since,until\na,5,9\na,1,6\n", "E14 overlap ('a', 1)"),
+    (b"cover,since,until\na,5,9\na,6,7\n", "E14 overlap ('a', 6)"),
+    (b"cover,since,until\na,5,6\na,8,9\na,1,20\n", "E14 overlap ('a', 1)"),
+    (b"cover,since,until\na,5,9\na,6,7\nb,1,2\nb,1,9\n", "E6 duplicate key ('b', 1)"),
+    (b"cover,since,until\na,5,9\na,5,7\nb,2,2\n", "E15 bad period"),
+    (b"cover,since,until\nb,3,2\nc,x,9\n", "E3 bad row at column 2"),
+    (b"cover,since,until\n" + b"".join(b"a,%d,%d\n" % (n, n + 1) for n in range(1000)), None),
+    (b"cover,since,until\n" + b"".join(b"a,%d,%d\n" % (n, n + 1) for n in range(1001)), "E9 too many writes"),
+    (b"cover,since,until\n" + b"".join(b"a,%d,%d\n" % (n, n + 1 + n // 1000) for n in range(1002)), "E14 overlap ('a', 1001)"),
+]
+
+
+def refusal_of(data, table=STAFF):
     """Returns the refusal of a file, as the check has it."""
-    faults = check_csv(STAFF, data).faults
+    faults = check_csv(table, data).faults
     return faults[0].reply if faults else None
 
 
@@ -62,6 +85,8 @@ class Checks(Files):
     def test_files_have_the_refusal_of_the_rules(self):
         for data, reply in FILES:
             self.assertEqual(refusal_of(data), reply, data[:60])
+        for data, reply in PERIODS:
+            self.assertEqual(refusal_of(data, TARIFF), reply, data[:60])
 
     def test_each_fault_has_its_record_line_and_field(self):
         data = b'name,no,site\n"a\nb",1,s\n\nx,y,s\nx,2\nx,3,s\nz,3,s\n'
@@ -89,9 +114,10 @@ class Checks(Files):
 @needs_program
 class Loads(Files):
     def test_the_program_refuses_the_same_files(self):
-        schema = self.file("tables.schema", SCHEMA)
-        for data, reply in FILES:
-            words = ("--schema", schema, "--load", "staff=" + self.file("rows.csv", data))
+        staff, tariff = self.file("tables.schema", SCHEMA), self.file("tariffs.schema", TARIFFS)
+        files = [(staff, "staff=", *one) for one in FILES] + [(tariff, "tariff=", *one) for one in PERIODS]
+        for schema, table, data, reply in files:
+            words = ("--schema", schema, "--load", table + self.file("rows.csv", data))
             out, err, status = run(*words, program=find_program())
             if reply is None:
                 self.assertEqual((out.split()[0], err, status), ("loaded", "", 0), data[:60])

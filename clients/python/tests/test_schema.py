@@ -2,7 +2,7 @@ import unittest
 
 from tests.served import SCHEMA
 from tsvd.errors import ProgrammingError
-from tsvd.schema import Column, read_schema, schema_of
+from tsvd.schema import Column, Period, read_schema, schema_of
 
 
 class Schemas(unittest.TestCase):
@@ -25,11 +25,17 @@ class Schemas(unittest.TestCase):
         self.assertEqual(schema.table("T").key, ("a", "b"))
         self.assertEqual(schema.table("t").columns[1], Column("b", "TEXT", 3, True))
 
-    def test_entries_of_later_grammars_are_passed_over(self):
+    def test_a_period_ends_the_key_with_its_start(self):
         schema = read_schema("CREATE TABLE t (a INT, f INT, u INT, PERIOD FOR valid (f, u), "
                              "PRIMARY KEY (a, valid WITHOUT OVERLAPS)) WITH SYSTEM VERSIONING")
         self.assertEqual([column.name for column in schema.table("t").columns], ["a", "f", "u"])
-        self.assertEqual(schema.table("t").key, ("a", "valid"))
+        self.assertEqual(schema.table("t").key, ("a", "f"))
+        self.assertEqual(schema.table("t").period, Period("valid", "f", "u"))
+        self.assertEqual([column.not_null for column in schema.table("t").columns], [False, True, True])
+
+    def test_entries_of_later_grammars_are_passed_over(self):
+        schema = read_schema("CREATE TABLE t (a INT, CHECK (a), PRIMARY KEY (a)) WITH SYSTEM VERSIONING")
+        self.assertEqual([column.name for column in schema.table("t").columns], ["a"])
 
     def test_without_a_text_there_is_the_sample(self):
         self.assertEqual(schema_of(None).table("emp").key, ("no",))

@@ -3,6 +3,7 @@
 from __future__ import annotations
 
 import argparse
+import bisect
 import pathlib
 import re
 from typing import Dict, Iterator, List, NamedTuple, Optional, Sequence, Set, Tuple
@@ -11,7 +12,7 @@ from .csv_records import Record, read_records
 from .errors import Key, ProgrammingError, Value
 from .limits import GREATEST_INTEGER, LEAST_INTEGER, LONGEST_KEY_TEXT, LONGEST_TEXT, MOST_WRITTEN
 from .literals import literal
-from .schema import Column, Schema, Table, schema_of
+from .schema import Column, Period, Schema, Table, schema_of
 
 DIGITS = re.compile(rb"-?[0-9]+")
 TRUTHS = {b"true": True, b"false": False}
@@ -168,21 +169,62 @@ def duplicate(table: Table, record: Record, row: Sequence[Value], seen: Dict[Key
     seen.setdefault(key, record.number)
 
 
+class Spans:
+    """Holds the periods of the rows that came, by entity; no two of an entity overlap."""
+
+    def __init__(self, table: Table, period: Period) -> None:
+        places = [table.place(period.start), table.place(period.end)]
+        self.start, self.end = [0 if place is None else place for place in places]
+        self.key = [place for place in (table.place(name) for name in table.key) if place is not None]
+        self.known: Dict[Key, List[Tuple[int, int, int]]] = {}
+
+    def span(self, row: Sequence[Value]) -> Tuple[int, int]:
+        """Returns the start and the end of a row."""
+        start, end = row[self.start], row[self.end]
+        return (start, end) if isinstance(start, int) and isinstance(end, int) else (0, 0)
+
+    def bad(self, record: Record, row: Sequence[Value]) -> Iterator[CsvFault]:
+        """Yields the fault of a row whose period does not end after its start."""
+        start, end = self.span(row)
+        if start >= end:
+            yield CsvFault(record, None, f"the period from {start} to {end} does not end after its start", "E15 bad period")
+
+    def overlap(self, record: Record, row: Sequence[Value]) -> Iterator[CsvFault]:
+        """Yields the fault of a row that overlaps an earlier one, and notes a row that does not."""
+        start, end = self.span(row)
+        key = tuple(row[place] for place in self.key)
+        spans = self.known.setdefault(key[:-1], [])
+        at = bisect.bisect_left(spans, (start, end, 0))
+        near = [span for span in spans[max(at - 1, 0):at + 1] if span[0] < end and start < span[1]]
+        if near:
+            yield CsvFault(record, None, f"the period from {start} to {end} overlaps that of record {near[0][2]}",
+                           f"E14 overlap {key_text(key)}")
+        elif start < end:
+            spans.insert(at, (start, end, record.number))
+
+
 def check_rows(table: Table, records: Sequence[Record], places: Dict[int, int]) -> List[CsvFault]:
     """Returns the faults of the records after the header, in the order in which a load reports them."""
     faults: List[CsvFault] = []
+    empty: List[CsvFault] = []
     doubles: List[CsvFault] = []
+    overlaps: List[CsvFault] = []
     seen: Dict[Key, int] = {}
+    spans = Spans(table, table.period) if table.period else None
     width = len(records[0].fields)
     for record in records[1:]:
         row = row_of(table, places, record, width, faults)
-        if row is not None:
-            doubles += duplicate(table, record, row, seen)
+        if row is None:
+            continue
+        if spans:
+            empty += spans.bad(record, row)
+            overlaps += spans.overlap(record, row)
+        doubles += duplicate(table, record, row, seen)
     many = len(records) - 1
     if many > MOST_WRITTEN:
-        doubles.append(CsvFault(None, None, f"the file has {many} rows; a load takes at most {MOST_WRITTEN}",
-                                "E9 too many writes"))
-    return faults + doubles
+        overlaps.append(CsvFault(None, None, f"the file has {many} rows; a load takes at most {MOST_WRITTEN}",
+                                 "E9 too many writes"))
+    return faults + empty + doubles + overlaps
 
 
 def check_csv(table: Table, data: bytes) -> Checked:

@@ -33,14 +33,26 @@ class Column(NamedTuple):
     not_null: bool
 
 
+class Period(NamedTuple):
+    """Describes a period of application time, by its name and the names of its columns."""
+
+    name: str
+    start: str
+    end: str
+
+
 class Table(NamedTuple):
-    """Describes a table: its user columns, and the names of its key and period columns."""
+    """Describes a table: its user columns, and the names of its key and period columns.
+
+    The key of a table with a period of application time ends with the period's start.
+    """
 
     name: str
     columns: Tuple[Column, ...]
     key: Tuple[str, ...]
     row_start: str
     row_end: str
+    period: Optional[Period] = None
 
     def place(self, name: str) -> Optional[int]:
         """Returns the position of a user column, from 0, or None."""
@@ -75,6 +87,7 @@ class Entries:
         self.columns: List[Column] = []
         self.key: List[str] = []
         self.period = {"START": "sys_start", "END": "sys_end"}
+        self.application: Optional[Period] = None
 
     def add(self, words: List[str]) -> None:
         """Adds an entry, given as tokens."""
@@ -82,11 +95,25 @@ class Entries:
         if upper[:2] == ["PRIMARY", "KEY"]:
             self.key = names_in(words)
         elif upper[0] == "PERIOD":
-            return
+            self.add_period(words)
         elif upper[1:2] == ["TIMESTAMP"]:
             self.add_generated(words[0], upper)
         elif upper[1:2] and upper[1] in TYPES:
             self.add_column(words[0], upper)
+
+    def add_period(self, words: List[str]) -> None:
+        """Adds a period of application time; the period of system time has no columns to set."""
+        names = names_in(words)
+        if len(words) > 2 and words[2].upper() != "SYSTEM_TIME" and len(names) == 2:
+            self.application = Period(words[2], *names)
+
+    def finish(self) -> None:
+        """Puts the period's start in the place of its name in the key; its columns are never NULL."""
+        period = self.application
+        if period:
+            own = (period.start.lower(), period.end.lower())
+            self.key = [period.start if name.lower() == period.name.lower() else name for name in self.key]
+            self.columns = [column._replace(not_null=column.not_null or column.name.lower() in own) for column in self.columns]
 
     def add_generated(self, name: str, upper: List[str]) -> None:
         """Adds a ROW START or ROW END column."""
@@ -130,10 +157,11 @@ def table_of(tokens: List[str]) -> Table:
     entries = Entries()
     for entry in entries_in(tokens[4:]):
         entries.add(entry)
+    entries.finish()
     if not entries.columns:
         raise ProgrammingError(f"schema: table {tokens[2]} has no column")
     return Table(tokens[2], tuple(entries.columns), tuple(entries.key),
-                 entries.period["START"], entries.period["END"])
+                 entries.period["START"], entries.period["END"], entries.application)
 
 
 def read_schema(text: str) -> Schema:
