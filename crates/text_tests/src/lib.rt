@@ -14,6 +14,10 @@ mod line_tests;
 #[cfg(test)]
 mod load_from_tests;
 #[cfg(test)]
+mod load_period_tests;
+#[cfg(test)]
 mod load_tests;
+#[cfg(test)]
+mod portion_tests;
 #[cfg(test)]
 mod stream_tests;

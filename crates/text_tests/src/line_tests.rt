@@ -7,7 +7,7 @@ use steps::Step;
 use values::{Comparison, Form, Instant, Key, Keys, Operator, Refusal, Row, Rows, Schema, Value};
 
 /// Lines, and the byte of the first unexpected token.
-static WRONG_TOKENS: [(&str, usize); 233] = [
+static WRONG_TOKENS: [(&str, usize); 231] = [
     ("- no comment", 0),
     ("-1: BEGIN", 0),
     ("+1: BEGIN", 0),
@@ -191,11 +191,6 @@ static WRONG_TOKENS: [(&str, usize); 233] = [
     ("1: BEGIN TRANSACTION", 9),
     ("1: INSERT INTO emp VALUES (1, 'Ann", 30),
     ("1: SELECT * FROM emp WHERE no = 99999999999999999999", 32),
-    (
-        "1: UPDATE emp FOR PORTION OF valid FROM 1 TO 2 SET name = 'x'",
-        14,
-    ),
-    ("1: DELETE FROM emp FOR PORTION OF valid FROM 1 TO 2", 19),
     ("1: SELECT * FROM Select", 17),
     ("1: SELECT * FROM overlaps", 17),
     ("1: DELETE FROM t WHERE n=1ANDn>0", 26),
