@@ -1,3 +1,6 @@
+pub mod OverlapSeen
+pub mod PortionDone
+pub mod PortionStarts
 pub mod StagedAnswered
 pub mod ViewBridge
 pub mod StagedCalls

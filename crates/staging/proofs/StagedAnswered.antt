@@ -13,12 +13,13 @@ use Rattle.values.specs.declared.table.Table.{Table}
 use Rattle.values.specs.declared.query.Keys.{Keys}
 use Rattle.values.specs.declared.query.Set.{Set}
 use Rattle.values.specs.declared.refusal.Refusal.{Refusal}
-use Rattle.values.specs.declared.refusal.Refusal.TheVariants.{DuplicateKey}
+use Rattle.values.specs.declared.refusal.Refusal.TheVariants.{DuplicateKey, Overlap}
 use Rattle.values.specs.Order.{key_cmp, is_key}
 use Rattle.values.specs.Log.{State, Net, Row, Changes, row_at, set_row, apply_net, rows_after}
 use Rattle.values.specs.Tables.{Schema, IsTable, full_row}
-use Rattle.values.specs.Fit.{rows_fault, row_fault, key_fault}
-use Rattle.values.specs.Writes.{Own, Written, write_keys, key_of, insert_into, update_in, delete_from, insert_rows, duplicate, duplicate_from, matching_keys, set_all}
+use Rattle.std.specs.Option.{option_map}
+use Rattle.values.specs.Fit.{rows_fault, row_fault, key_fault, first_of}
+use Rattle.values.specs.Writes.{Own, Written, write_keys, key_of, insert_into, update_in, delete_from, insert_rows, duplicate, overlapping, duplicate_from, matching_keys, set_all, full_rows}
 use Rattle.values.specs.Versions.{matches}
 use Rattle.values.specs.KeyEncoding.{IsShortKey}
 use Rattle.values.specs.RowEncoding.{IsHeld}
@@ -28,7 +29,7 @@ use Rattle.values.proofs.KeyLengths.{first_none}
 use Rattle.values.proofs.RowKeys.{fitting_key, keys_are_short}
 use Rattle.tsbtree.specs.View.{events, TreeState}
 use Rattle.staging.specs.Own.{Reads, rows_seen, own}
-use Rattle.staging.specs.Staged.{put_all, put_answer, insertions, updates, deletions, full_rows, sees, first_seen}
+use Rattle.staging.specs.Staged.{put_all, put_answer, insertions, updates, deletions, sees, first_seen}
 use Rattle.staging.proofs.StagedEntries.{sorted_from, sorted_apply, changed_to, apply-updates, apply-deletions}
 use Rattle.staging.proofs.ViewBridge.{are_seen, keyed_changes, sorted_base, sees_is, key_in}
 use Rattle.staging.proofs.StagedWide.{updates_wide}
@@ -68,10 +69,6 @@ insertion_keys : (table : Table) (rows : List Row) → keys_of (insertions (map 
 insertion_keys table [] = refl
 insertion_keys table (row ∷ rows) = ap (λ l. key_of table row ∷ l) (insertion_keys table rows)
 
-insertion_count : (table : Table) (rows : List Row) → length (insertions (map (key_of table) rows) rows) ≡ length rows
-insertion_count table [] = refl
-insertion_count table (row ∷ rows) = ap suc (insertion_count table rows)
-
 apply_insertions : (table : Table) (rows : List Row) (s : State) → apply_net s (insertions (map (key_of table) rows) rows) ≡ insert_rows table rows s
 apply_insertions table [] s = refl
 apply_insertions table (row ∷ rows) s = apply_insertions table rows _
@@ -91,22 +88,28 @@ duplicate_is schema table view t m w rows keys reads sorted upto ordered same ow
     (λ k h. sees_is schema t m w k (are_seen schema view t m reads.held sorted upto) (sorted_from w ordered) h)
     ∙ ap (duplicate_from (rows_seen m w) []) same
 
-abbrev unless_duplicate : Table → List Row → Own → Option Key → Written
-unless_duplicate table rows o found = elim found [
-  | Some key ↦ (Err (DuplicateKey key), o)
+abbrev unless_refused : Table → List Row → Own → Option Refusal → Written
+unless_refused table rows o found = elim found [
+  | Some refusal ↦ (Err refusal, o)
   | None ↦ write_keys (map (key_of table) rows) (length rows) (insert_rows table rows o.rows) o
 ]
 
-pub insert_duplicate : (table : Table) (rows : List Row) (o : Own) (key : Key) → duplicate table rows o.rows ≡ Some key → ◌≡◌ {A = Written} (Err (DuplicateKey key), o) (insert_into table rows o)
-insert_duplicate table rows o key is = sym (ap (unless_duplicate table rows o) is)
+abbrev refusal_of : Option Key → Option Key → Option Refusal
+refusal_of twice over = first_of (option_map DuplicateKey twice) (option_map Overlap over)
 
-pub insert_done : (table : Table) (rows : List Row) (m : Changes) (w new : Net) (r : Result ℕ Refusal) (cs : Net) → duplicate table rows (rows_seen m w) ≡ None → cs ≡ insertions (map (key_of table) rows) rows
-    → T (is_sorted key_cmp w) → r ≡ put_answer cs w → OnOk r (new ≡ put_all cs w) → OnErr r (new ≡ w) → ◌≡◌ {A = Written} (r, own m new) (insert_into table rows (own m w))
-insert_done table rows m w new r cs none is sorted answer ok err =
-    put_is m cs w new r sorted answer ok err
-    ∙ ap (λ cs. write_keys (keys_of cs) (length cs) (apply_net (rows_seen m w) cs) (own m w)) is
-    ∙ (λ i. write_keys (insertion_keys table rows i) (insertion_count table rows i) (apply_insertions table rows (rows_seen m w) i) (own m w))
-    ∙ sym (ap (unless_duplicate table rows (own m w)) none)
+pub insert_duplicate : (table : Table) (rows : List Row) (o : Own) (key : Key) → duplicate table rows o.rows ≡ Some key → ◌≡◌ {A = Written} (Err (DuplicateKey key), o) (insert_into table rows o)
+insert_duplicate table rows o key is = sym (ap (λ found. unless_refused table rows o (refusal_of found (overlapping table rows o.rows))) is)
+
+pub insert_overlap : (table : Table) (rows : List Row) (o : Own) (key : Key) → duplicate table rows o.rows ≡ None → overlapping table rows o.rows ≡ Some key → ◌≡◌ {A = Written} (Err (Overlap key), o) (insert_into table rows o)
+insert_overlap table rows o key none is = sym (λ i. unless_refused table rows o (refusal_of (none i) (is i)))
+
+pub insert_done : (table : Table) (rows : List Row) (m : Changes) (w new : Net) (r : Result ℕ Refusal) (cs : Net) → duplicate table rows (rows_seen m w) ≡ None → overlapping table rows (rows_seen m w) ≡ None → cs ≡ insertions (map (key_of table) rows) rows
+    → T (is_sorted key_cmp w) → r ≡ put_answer (length rows) cs w → OnOk r (new ≡ put_all cs w) → OnErr r (new ≡ w) → ◌≡◌ {A = Written} (r, own m new) (insert_into table rows (own m w))
+insert_done table rows m w new r cs none free is sorted answer ok err =
+    put_is m cs (length rows) w new r sorted answer ok err
+    ∙ ap (λ cs. write_keys (keys_of cs) (length rows) (apply_net (rows_seen m w) cs) (own m w)) is
+    ∙ (λ i. write_keys (insertion_keys table rows i) (length rows) (apply_insertions table rows (rows_seen m w) i) (own m w))
+    ∙ sym (λ i. unless_refused table rows (own m w) (refusal_of (none i) (free i)))
 
 -- ---- what is put has keys of the schema
 
@@ -151,12 +154,15 @@ module _ (P : Key → Type 0) where
   deleted_entries es h = All-from_recursion (λ c. P c.0) (deletions es) (deleted_all es (recursion_from_All (λ e. P e.0) es h))
 
 -- the keys of the rows that are seen are of the schema
+pub all_seen : (schema : Schema) (table : Table) (view : TreeState) (m : Changes) (w : Net) → Reads schema table view w m → AllByRecursion (λ e. IsKeyIn schema e.0) (rows_seen m w)
+all_seen schema table view m w reads =
+    all_applied (IsKeyIn schema) w (rows_after [] m) (net_keys (IsKeyIn schema) w (recursion_from_All (IsKeyIn schema) (keys_of w) reads.keys))
+    (all_after (IsKeyIn schema) m [] (keyed_changes schema m reads.held.keys) tt)
+
 pub seen_keys : (schema : Schema) (table : Table) (view : TreeState) (m : Changes) (w : Net) (p : Key × Row → Bool) → Reads schema table view w m → All (λ e. IsKeyIn schema e.0) (filter p (rows_seen m w))
 seen_keys schema table view m w p reads =
     All-from_recursion (λ e. IsKeyIn schema e.0) (filter p (rows_seen m w))
-    (all_chosen {X = Row} (IsKeyIn schema) p (rows_seen m w)
-    (all_applied (IsKeyIn schema) w (rows_after [] m) (net_keys (IsKeyIn schema) w (recursion_from_All (IsKeyIn schema) (keys_of w) reads.keys))
-    (all_after (IsKeyIn schema) m [] (keyed_changes schema m reads.held.keys) tt)))
+    (all_chosen {X = Row} (IsKeyIn schema) p (rows_seen m w) (all_seen schema table view m w reads))
 
 -- and those of rows with writes over them are short where both are
 pub rows_short : (found : State) (p : Key × Option Row → Bool) (w : Net) → All (λ e. IsShortKey e.0) found → All (λ c. IsShortKey c.0) w → All (λ e. IsShortKey e.0) (apply_net found (filter p w))
@@ -173,11 +179,11 @@ delete_keys [] = refl
 delete_keys (e ∷ es) = ap (λ l. e.0 ∷ l) (delete_keys es)
 
 pub update_done : (table : Table) (keys : Keys) (sets : List Set) (m : Changes) (w new : Net) (r : Result ℕ Refusal) (cs : Net) (found : State)
-    → found ≡ filter (λ e. matches table keys e.0) (rows_seen m w) → cs ≡ updates sets (full_rows table found) → T (is_sorted key_cmp w) → r ≡ put_answer cs w → OnOk r (new ≡ put_all cs w) → OnErr r (new ≡ w)
+    → found ≡ filter (λ e. matches table keys e.0) (rows_seen m w) → cs ≡ updates sets (full_rows table found) → T (is_sorted key_cmp w) → r ≡ put_answer (length found) cs w → OnOk r (new ≡ put_all cs w) → OnErr r (new ≡ w)
     → ◌≡◌ {A = Written} (r, own m new) (update_in table keys sets (own m w))
 update_done table keys sets m w new r cs found found_is is sorted answer ok err =
-    put_is m cs w new r sorted answer ok err
-    ∙ ap (λ cs. write_keys (keys_of cs) (length cs) (apply_net (rows_seen m w) cs) (own m w)) (is ∙ ap (λ m. updates sets (full_rows table m)) found_is ∙ updates_wide table sets kept)
+    put_is m cs (length found) w new r sorted answer ok err
+    ∙ ap (λ cs. write_keys (keys_of cs) (length found) (apply_net (rows_seen m w) cs) (own m w)) (is ∙ ap (λ m. updates sets (full_rows table m)) found_is ∙ updates_wide table sets kept)
     ∙ (λ i. write_keys (changed_keys kept i) (count i) (apply-updates (matches table keys) set_wide (rows_seen m w) (sorted_apply w (rows_after [] m) (sorted_base m)) i) (own m w))
   where
     set_wide : Row → Row
@@ -190,22 +196,19 @@ update_done table keys sets m w new r cs found found_is is sorted answer ok err 
     changed_keys [] = refl
     changed_keys (e ∷ m) = ap (λ l. e.0 ∷ l) (changed_keys m)
 
-    count : length (changed_to set_wide kept) ≡ length (matching_keys table keys (rows_seen m w))
-    count = length-map kept (λ e. (e.0, Some (set_wide e.1))) ∙ sym (length-map kept (λ e. e.0))
+    count : length found ≡ length (matching_keys table keys (rows_seen m w))
+    count = ap length found_is ∙ sym (length-map kept (λ e. e.0))
 
 pub delete_done : (table : Table) (keys : Keys) (m : Changes) (w new : Net) (r : Result ℕ Refusal) (cs : Net) (found : State)
-    → found ≡ filter (λ e. matches table keys e.0) (rows_seen m w) → cs ≡ deletions found → T (is_sorted key_cmp w) → r ≡ put_answer cs w → OnOk r (new ≡ put_all cs w) → OnErr r (new ≡ w)
+    → found ≡ filter (λ e. matches table keys e.0) (rows_seen m w) → cs ≡ deletions found → T (is_sorted key_cmp w) → r ≡ put_answer (length found) cs w → OnOk r (new ≡ put_all cs w) → OnErr r (new ≡ w)
     → ◌≡◌ {A = Written} (r, own m new) (delete_from table keys (own m w))
 delete_done table keys m w new r cs found found_is is sorted answer ok err =
-    put_is m cs w new r sorted answer ok err
-    ∙ ap (λ cs. write_keys (keys_of cs) (length cs) (apply_net (rows_seen m w) cs) (own m w)) (is ∙ ap deletions found_is)
+    put_is m cs (length found) w new r sorted answer ok err
+    ∙ ap (λ cs. write_keys (keys_of cs) (length found) (apply_net (rows_seen m w) cs) (own m w)) (is ∙ ap deletions found_is)
     ∙ (λ i. write_keys (delete_keys kept i) (count i) (apply-deletions (matches table keys) (rows_seen m w) (sorted_apply w (rows_after [] m) (sorted_base m)) i) (own m w))
   where
     kept : State
     kept = filter (λ e. matches table keys e.0) (rows_seen m w)
 
-    none : Key × Row → Key × Option Row
-    none e = (e.0, None)
-
-    count : length (deletions kept) ≡ length (matching_keys table keys (rows_seen m w))
-    count = length-map kept none ∙ sym (length-map kept (λ e. e.0))
+    count : length found ≡ length (matching_keys table keys (rows_seen m w))
+    count = ap length found_is ∙ sym (length-map kept (λ e. e.0))

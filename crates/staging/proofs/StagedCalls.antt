@@ -130,9 +130,9 @@ kept_ordered p (c ∷ w) h =
 -- ---- what is put
 
 -- a write of changes, over what was seen
-pub put_is : (m : Changes) (cs w new : Net) (r : Result ℕ Refusal) → T (is_sorted key_cmp w) → r ≡ put_answer cs w → OnOk r (new ≡ put_all cs w) → OnErr r (new ≡ w)
-    → ◌≡◌ {A = Written} (r, own m new) (write_keys (keys_of cs) (length cs) (apply_net (rows_seen m w) cs) (own m w))
-put_is m cs w new r sorted is ok err = by (nat_lt most_written (length (put_all cs w))) refl
+pub put_is : (m : Changes) (cs : Net) (count : ℕ) (w new : Net) (r : Result ℕ Refusal) → T (is_sorted key_cmp w) → r ≡ put_answer count cs w → OnOk r (new ≡ put_all cs w) → OnErr r (new ≡ w)
+    → ◌≡◌ {A = Written} (r, own m new) (write_keys (keys_of cs) count (apply_net (rows_seen m w) cs) (own m w))
+put_is m cs count w new r sorted is ok err = by (nat_lt most_written (length (put_all cs w))) refl
   where
     same_length : length (put_all cs w) ≡ length (add_keys (keys_of cs) (keys_of w))
     same_length = sym (length-map (put_all cs w) (λ c. c.0)) ∙ ap length (keys_put_all cs w)
@@ -140,14 +140,14 @@ put_is m cs w new r sorted is ok err = by (nat_lt most_written (length (put_all 
     own_put : own m (put_all cs w) ≡ record { rows = apply_net (rows_seen m w) cs; written = add_keys (keys_of cs) (keys_of w) }
     own_put = λ i. record { rows = apply-put_all cs w (rows_after [] m) (sorted_base m) sorted i; written = keys_put_all cs w i }
 
-    at : (b : Bool) → nat_lt most_written (length (put_all cs w)) ≡ b → write_keys (keys_of cs) (length cs) (apply_net (rows_seen m w) cs) (own m w)
-        ≡ (if b then (Err TooManyWrites, own m w) else (Ok (length cs), record { rows = apply_net (rows_seen m w) cs; written = add_keys (keys_of cs) (keys_of w) }))
-    at b h = ap (λ (b : Bool). if b then (Err TooManyWrites, own m w) else (Ok (length cs), record { rows = apply_net (rows_seen m w) cs; written = add_keys (keys_of cs) (keys_of w) })) (ap (nat_lt most_written) (sym same_length) ∙ h)
+    at : (b : Bool) → nat_lt most_written (length (put_all cs w)) ≡ b → write_keys (keys_of cs) count (apply_net (rows_seen m w) cs) (own m w)
+        ≡ (if b then (Err TooManyWrites, own m w) else (Ok count, record { rows = apply_net (rows_seen m w) cs; written = add_keys (keys_of cs) (keys_of w) }))
+    at b h = ap (λ (b : Bool). if b then (Err TooManyWrites, own m w) else (Ok count, record { rows = apply_net (rows_seen m w) cs; written = add_keys (keys_of cs) (keys_of w) })) (ap (nat_lt most_written) (sym same_length) ∙ h)
 
-    answer : (b : Bool) → nat_lt most_written (length (put_all cs w)) ≡ b → r ≡ (if b then Err TooManyWrites else Ok (length cs))
-    answer b h = is ∙ ap (λ (b : Bool). if b then Err TooManyWrites else Ok (length cs)) h
+    answer : (b : Bool) → nat_lt most_written (length (put_all cs w)) ≡ b → r ≡ (if b then Err TooManyWrites else Ok count)
+    answer b h = is ∙ ap (λ (b : Bool). if b then Err TooManyWrites else Ok count) h
 
-    by : (b : Bool) → nat_lt most_written (length (put_all cs w)) ≡ b → ◌≡◌ {A = Written} (r, own m new) (write_keys (keys_of cs) (length cs) (apply_net (rows_seen m w) cs) (own m w))
+    by : (b : Bool) → nat_lt most_written (length (put_all cs w)) ≡ b → ◌≡◌ {A = Written} (r, own m new) (write_keys (keys_of cs) count (apply_net (rows_seen m w) cs) (own m w))
     by true h =
         let same : new ≡ w = subst (λ r. OnErr r (new ≡ w)) (answer true h) err in
         (λ i. (answer true h i, own m (same i))) ∙ sym (at true h)

@@ -10,13 +10,13 @@ use Rattle.values.specs.declared.query.Keys.{Keys}
 use Rattle.values.specs.Event.{Event}
 use Rattle.values.specs.Log.{Net, Row, State}
 use Rattle.values.specs.Versions.{matches}
-use Rattle.values.specs.Writes.{insert_all}
+use Rattle.values.specs.Writes.{insert_all, full_rows}
 use Rattle.values.specs.KeyEncoding.{IsShortKey}
 use Rattle.keyrange.specs.declared.range.KeyRange.{KeyRange}
 use Rattle.searchrange.specs.Search.{IsInSearch, entry_taken}
 use Rattle.tsbtree.specs.View.{TreeState}
 use Rattle.staging.specs.Own.{WhenRead, rows_seen}
-use Rattle.staging.specs.Staged.{AreInSearch, full_rows}
+use Rattle.staging.specs.Staged.{AreInSearch}
 use Rattle.staging.proofs.StagedCalls.{all_entry}
 
 joined : (found : State) (o : Option (Key × Row)) (es : List (Key × Row)) → insert_all (insert_all found (cons_option o [])) es ≡ insert_all found (cons_option o es)

@@ -9,8 +9,8 @@ use Rattle.values.specs.declared.table.Table.{Table}
 use Rattle.values.specs.declared.query.Set.{Set}
 use Rattle.values.specs.Log.{Row, State}
 use Rattle.values.specs.Tables.{widened, full_row}
-use Rattle.values.specs.Writes.{set_all}
-use Rattle.staging.specs.Staged.{full_rows, updates, SetsOneOf}
+use Rattle.values.specs.Writes.{set_all, full_rows}
+use Rattle.staging.specs.Staged.{updates, SetsOneOf}
 
 -- a row is at least as wide as it was asked to be
 pub as_wide : (width : ℕ) (row : Row) → width ≤ length (widened width row)
@@ -36,3 +36,11 @@ rows_full table (e ∷ m) = ap (λ l. full_row table e.1 ∷ l) (rows_full table
 pub updates_wide : (table : Table) (sets : List Set) (m : State) → updates sets (full_rows table m) ≡ map (λ e. (e.0, Some (set_all sets (full_row table e.1)))) m
 updates_wide table sets [] = refl
 updates_wide table sets (e ∷ m) = ap (λ l. (e.0, Some (set_all sets (full_row table e.1))) ∷ l) (updates_wide table sets m)
+
+-- each is as wide as the table
+pub all_full_wide : (table : Table) (m : State) → All (λ e. length table.columns ≤ length e.1) (full_rows table m)
+all_full_wide table m = All-from_recursion (λ (e : Key × Row). length table.columns ≤ length e.1) (full_rows table m) (each m)
+  where
+    each : (m : State) → AllByRecursion (λ e. length table.columns ≤ length e.1) (full_rows table m)
+    each [] = tt
+    each (e ∷ m) = (as_wide (length table.columns) e.1, each m)

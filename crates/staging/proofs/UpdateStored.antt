@@ -30,7 +30,7 @@ all_set : (sets : List Set) (row : Row) → AllByRecursion (λ s. IsStored s.val
 all_set [] row h k = k
 all_set (s ∷ sets) row h k = all_set sets (slice_set row (s.column - 1) s.value) h.1 (set_stored row (s.column - 1) s.value h.0 k)
 
-all_length : (sets : List Set) (row : Row) → length (set_all sets row) ≡ length row
+pub all_length : (sets : List Set) (row : Row) → length (set_all sets row) ≡ length row
 all_length [] row = refl
 all_length (s ∷ sets) row = all_length sets (slice_set row (s.column - 1) s.value) ∙ set_length row (s.column - 1) s.value
 

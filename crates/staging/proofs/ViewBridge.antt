@@ -1,5 +1,5 @@
 -- What events say of keys by their bytes is what the changes say of them.
-use Rattle.std.proofs.Common.{◌≡◌, ℕ, ◌≤◌, Bool, true, false, cond, ◌&&◌, ◌||◌, T, [], ◌∷◌, Option, Some, None, refl, sym, ap, subst, ◌∙◌, arith, map, filter, is_some, if◌then◌else◌, nat_le, All, option_and_then}
+use Rattle.std.proofs.Common.{◌≡◌, ℕ, ◌≤◌, Bool, true, false, cond, ◌&&◌, ◌||◌, T, List, [], ◌∷◌, Option, Some, None, refl, sym, ap, subst, ◌∙◌, arith, map, filter, is_some, if◌then◌else◌, nat_le, All, option_and_then}
 use Rattle.std.proofs.lemmas.Bool.Decides.{nat_tests}
 use Rattle.std.proofs.lemmas.List.Elements.{All-head, All-tail, All-weaker}
 use Rattle.std.specs.Ordering.{is_eq, is_lt}
@@ -164,33 +164,34 @@ seen_is schema t m w q h sorted hq = by (lookup (is_at (key_cmp q)) w) ∙ sym (
 
 -- ---- net changes
 
-own_values : (s : State) (w : Net) → T (is_sorted key_cmp s) → T (is_sorted key_cmp w) → map (λ k. (k, row_at (apply_net s w) k)) (keys_of w) ≡ w
-own_values s w h sorted = all w w sorted (λ c is. row_at-apply w s c.0 h sorted ∙ ap (λ o. upon o (row_at s c.0)) is) (found w sorted)
+-- each entry is found at its key
+pub each_found : {X : Type 0} (ds : List (Key × X)) → T (is_sorted key_cmp ds) → AllByRecursion (λ c. lookup (is_at (key_cmp c.0)) ds ≡ Some c.1) ds
+each_found [] k = tt
+each_found {X = X} (d ∷ ds) k = (ap (λ b. cond b (Some d.1) (lookup (is_at (key_cmp d.0)) ds)) (itself d.0), more ds (each_found ds (second _ _ k)) (first _ _ k))
   where
-    found : (ds : Net) → T (is_sorted key_cmp ds) → AllByRecursion (λ c. lookup (is_at (key_cmp c.0)) ds ≡ Some c.1) ds
-    found [] k = tt
-    found (d ∷ ds) k = (ap (λ b. cond b (Some d.1) (lookup (is_at (key_cmp d.0)) ds)) (itself d.0), more ds (found ds (second _ _ k)) (first _ _ k))
+    itself : (k : Key) → is_key k k ≡ true
+    itself k = level (key_cmp k k) (key_cmp_total.antisymm k k)
       where
-        itself : (k : Key) → is_key k k ≡ true
-        itself k = level (key_cmp k k) (key_cmp_total.antisymm k k)
-          where
-            level : (o : Ordering) → o ≡ Rattle.std.specs.Ordering.ordering_reverse o → is_eq o ≡ true
-            level Less e = cc
-            level Equal e = refl
-            level Greater e = cc
+        level : (o : Ordering) → o ≡ Rattle.std.specs.Ordering.ordering_reverse o → is_eq o ≡ true
+        level Less e = cc
+        level Equal e = refl
+        level Greater e = cc
 
-        more : (es : Net) → AllByRecursion (λ c. lookup (is_at (key_cmp c.0)) ds ≡ Some c.1) es → T (below_all key_cmp d.0 es) → AllByRecursion (λ c. lookup (is_at (key_cmp c.0)) (d ∷ ds) ≡ Some c.1) es
-        more [] f b = tt
-        more (e ∷ es) f b = (ap (λ b. cond b (Some d.1) (lookup (is_at (key_cmp e.0)) ds)) (above d.0 e.0 (first _ _ b)) ∙ f.0, more es f.1 (second _ _ b))
+    more : (es : List (Key × X)) → AllByRecursion (λ c. lookup (is_at (key_cmp c.0)) ds ≡ Some c.1) es → T (below_all key_cmp d.0 es) → AllByRecursion (λ c. lookup (is_at (key_cmp c.0)) (d ∷ ds) ≡ Some c.1) es
+    more [] f b = tt
+    more (e ∷ es) f b = (ap (λ b. cond b (Some d.1) (lookup (is_at (key_cmp e.0)) ds)) (above d.0 e.0 (first _ _ b)) ∙ f.0, more es f.1 (second _ _ b))
+      where
+        above : (x y : Key) → T (is_lt (key_cmp x y)) → is_key y x ≡ false
+        above x y lt = by (key_cmp x y) refl lt
           where
-            above : (x y : Key) → T (is_lt (key_cmp x y)) → is_key y x ≡ false
-            above x y lt = by (key_cmp x y) refl lt
-              where
-                by : (o : Ordering) → key_cmp x y ≡ o → T (is_lt o) → is_key y x ≡ false
-                by Less is lt = ap is_eq (key_cmp_total.antisymm y x ∙ ap Rattle.std.specs.Ordering.ordering_reverse is)
-                by Equal is lt = absurd lt
-                by Greater is lt = absurd lt
+            by : (o : Ordering) → key_cmp x y ≡ o → T (is_lt o) → is_key y x ≡ false
+            by Less is lt = ap is_eq (key_cmp_total.antisymm y x ∙ ap Rattle.std.specs.Ordering.ordering_reverse is)
+            by Equal is lt = absurd lt
+            by Greater is lt = absurd lt
 
+own_values : (s : State) (w : Net) → T (is_sorted key_cmp s) → T (is_sorted key_cmp w) → map (λ k. (k, row_at (apply_net s w) k)) (keys_of w) ≡ w
+own_values s w h sorted = all w w sorted (λ c is. row_at-apply w s c.0 h sorted ∙ ap (λ o. upon o (row_at s c.0)) is) (each_found w sorted)
+  where
     all : (w ds : Net) → T (is_sorted key_cmp w) → ((c : Key × Option Row) → lookup (is_at (key_cmp c.0)) w ≡ Some c.1 → row_at (apply_net s w) c.0 ≡ c.1) → AllByRecursion (λ c. lookup (is_at (key_cmp c.0)) w ≡ Some c.1) ds
         → map (λ k. (k, row_at (apply_net s w) k)) (keys_of ds) ≡ ds
     all w [] k value f = refl

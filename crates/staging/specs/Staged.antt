@@ -1,10 +1,12 @@
 -- What a transaction's calls make of its own writes and of the events of its view.
-use Rattle.std.specs.Prelude.{ℕ, ◌≤◌, List, [], ◌∷◌, ◌++◌, ◌||◌, Bool, Option, Some, None, Result, Ok, Err, nat_lt, if◌then◌else◌, length, map, filter, is_some, All}
+use Rattle.std.specs.Prelude.{◌≡◌, ℕ, ◌≤◌, List, [], ◌∷◌, ◌++◌, ◌||◌, ◌&&◌, Bool, Option, Some, None, Result, Ok, Err, nat_lt, if◌then◌else◌, length, map, filter, is_some, All}
 use Rattle.std.specs.List.{list_any, filter_map}
 use Rattle.std.specs.BTreeMap.{insert_entry, is_at}
 use Rattle.std.specs.Map.{lookup, set_value, remove_entry}
 use Rattle.values.specs.declared.key.Key.{Key}
 use Rattle.values.specs.Event.{Event}
+use Rattle.values.specs.declared.period.Period.{Period}
+use Rattle.values.specs.declared.period.Span.{Span}
 use Rattle.values.specs.declared.table.Table.{Table}
 use Rattle.values.specs.declared.query.Keys.{Keys}
 use Rattle.values.specs.declared.query.Set.{Set}
@@ -12,10 +14,12 @@ use Rattle.values.specs.declared.refusal.Refusal.{Refusal}
 use Rattle.values.specs.declared.refusal.Refusal.TheVariants.{TooManyWrites}
 use Rattle.values.specs.Order.{key_cmp, is_key}
 use Rattle.values.specs.Log.{State, Net, Row, apply_net}
-use Rattle.values.specs.Tables.{full_row}
 use Rattle.values.specs.Versions.{matches}
 use Rattle.values.specs.Writes.{most_written, set_all, insert_all}
-use Rattle.values.specs.KeyEncoding.{bytes_of_key}
+use Rattle.values.specs.KeyEncoding.{bytes_of_key, IsShortKey}
+use Rattle.values.specs.KeyReading.{IsKeyOf}
+use Rattle.values.specs.Period.{span_of, overlap}
+use Rattle.values.specs.Entity.{entity_of}
 use Rattle.values.specs.Events.{row_until}
 use Rattle.keyrange.specs.declared.range.KeyRange.{KeyRange}
 use Rattle.searchrange.specs.Search.{IsInSearch, entry_taken}
@@ -35,15 +39,10 @@ abbrev pub put_back : List (Key × Option (Option Row)) → Net → Net
 put_back [] w = w
 put_back (c ∷ cs) w = put_back_one c.0 c.1 (put_back cs w)
 
--- the number of the changes, unless the keys are too many
-abbrev pub put_answer : Net → Net → Result ℕ Refusal
-put_answer changes w =
-    if nat_lt most_written (length (put_all changes w)) then Err TooManyWrites
-    else Ok (length changes)
-
--- rows with a value for each column of their table
-abbrev pub full_rows : Table → State → State
-full_rows table m = map (λ e. (e.0, full_row table e.1)) m
+-- the number of rows, unless the keys are too many
+abbrev pub put_answer : ℕ → Net → Net → Result ℕ Refusal
+put_answer count changes w =
+    if nat_lt most_written (length (put_all changes w)) then Err TooManyWrites else Ok count
 
 -- the entry sets one of so many values
 pub record SetsOneOf (width : ℕ) (s : Set) : Type 0 where
@@ -59,6 +58,19 @@ updates sets m = map (λ e. (e.0, Some (set_all sets e.1))) m
 
 abbrev pub deletions : State → Net
 deletions m = map (λ e. (e.0, None)) m
+
+-- rows at their keys, as they are put
+abbrev pub puts : State → Net
+puts m = map (λ e. (e.0, Some e.1)) m
+
+-- each key with its row
+abbrev pub keyed_rows : List Key → List Row → State
+keyed_rows (k ∷ ks) (row ∷ rows) = (k, row) ∷ keyed_rows ks rows
+keyed_rows _ _ = []
+
+-- the rows whose spans overlap one
+abbrev pub overlap_rows : Period → Span → State → State
+overlap_rows p s m = filter (λ e. overlap (span_of p e.1) s) m
 
 -- a key's row: by what was written, and where nothing was by the events until an instant
 abbrev pub row_in : List Event → ℕ → Net → Key → Option Row
@@ -93,3 +105,20 @@ rows_in table keys es w =
 -- what was written, without the keys that have no row both then and by the events until an instant
 abbrev pub net_in : List Event → ℕ → Net → Net
 net_in es t w = filter (λ c. is_some c.1 || is_some (row_until es (bytes_of_key c.0) t)) w
+
+-- the spans tell which spans overlap those of the entity's rows
+abbrev pub AreSpansOf : Period → Key → State → List Span → Type 0
+AreSpansOf p entity m spans =
+    (span : Span)
+    → list_any (overlap span) spans
+    ≡ list_any (λ e. is_key entity (entity_of e.0) && overlap span (span_of p e.1)) m
+
+-- where a row's key fits its table, or is short, so do and are all keys of changes with more of them
+pub record KeepsKeys (table : Table) (key : Key) (old new : Net) : Type 0 where
+  pub own : IsKeyOf table key → All (λ c. IsKeyOf table c.0) old → All (λ c. IsKeyOf table c.0) new
+  pub short : IsShortKey key → All (λ c. IsShortKey c.0) old → All (λ c. IsShortKey c.0) new
+
+-- and where those of rows do and are, so do and are those of their changes
+pub record KeepsAllKeys (table : Table) (rows : State) (changes : Net) : Type 0 where
+  pub own : All (λ e. IsKeyOf table e.0) rows → All (λ c. IsKeyOf table c.0) changes
+  pub short : All (λ e. IsShortKey e.0) rows → All (λ c. IsShortKey c.0) changes

@@ -24,8 +24,9 @@ impl Staged {
     {
         let search = Search::new(self.alloc, keys)?;
         let found = self.rows_found(view, &search)?;
+        let count = found.len();
         let changes = deletions(self.alloc, found)?;
-        self.put(changes)
+        self.put(changes, count)
     }
 }
 

@@ -34,8 +34,11 @@ impl Staged {
         if let Some(key) = self.first_seen(view, view.last(), &keys)? {
             return Err(Refusal::DuplicateKey(key));
         }
+        if let Some(key) = self.first_overlap(view, table, &keys, rows)? {
+            return Err(Refusal::Overlap(key));
+        }
         let changes = insertions(self.alloc, &keys, rows)?;
-        self.put(changes)
+        self.put(changes, rows.len())
     }
 }
 

@@ -5,6 +5,8 @@ mod bound;
 mod delete;
 mod insert;
 mod net;
+mod overlap;
+mod portion;
 mod staged;
 mod update;
 mod write;

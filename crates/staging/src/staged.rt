@@ -10,7 +10,7 @@ ghost use Rattle.values.specs.Order.{key_cmp, is_key};
 ghost use Rattle.values.specs.Tables.{Schema, IsTable, full_row, widened, widest};
 ghost use Rattle.values.specs.Memory.{OnlyMemory};
 ghost use Rattle.values.specs.Versions.{matches};
-ghost use Rattle.values.specs.Writes.{most_written, insert_all};
+ghost use Rattle.values.specs.Writes.{most_written, insert_all, full_rows};
 ghost use Rattle.values.specs.KeyEncoding.{IsShortKey, bytes_of_key};
 ghost use Rattle.values.specs.Fit.{key_fault};
 ghost use Rattle.values.specs.Events.{AreKeysIn, row_until};
@@ -18,7 +18,7 @@ ghost use Rattle.tsbtree.specs.View.{events};
 ghost use Rattle.searchrange.specs.Search.{entry_taken};
 ghost use Rattle.staging.specs.View.{Holds};
 ghost use Rattle.staging.specs.Own.{WhenRead, rows_seen, net_over};
-ghost use Rattle.staging.specs.Staged.{put_all, put_back_one, put_back, put_answer, row_in, sees, first_seen, net_in, full_rows, AreInSearch};
+ghost use Rattle.staging.specs.Staged.{put_all, put_back_one, put_back, put_answer, row_in, sees, first_seen, net_in, AreInSearch};
 
 use crate::bound::{is_past, least_key};
 use crate::net::Net;
@@ -184,17 +184,20 @@ impl Staged {
         Ok(None)
     }
 
-    /// Puts changes over what was written, unless the keys would be too many.
-    pub(crate) fn put(&mut self, changes: Vec<(Key, Option<Row>)>) -> Result<usize, Refusal>
+    /// Puts changes of so many rows over what was written, unless the keys would be too many.
+    pub(crate) fn put(
+        &mut self,
+        changes: Vec<(Key, Option<Row>)>,
+        count: usize,
+    ) -> Result<usize, Refusal>
         requires { All (λ c. IsShortKey c.0) changes.items }
-        ensures answer { result ≢ Err Refusal.Memory → result ≡ put_answer changes.items self.old }
+        ensures answer { result ≢ Err Refusal.Memory → result ≡ put_answer count changes.items self.old }
         ensures ok { OnOk result (self.new ≡ put_all changes.items self.old) }
         ensures err { OnErr result (self.new ≡ self.old) }
         ensures ordered { IsStrictlySortedBy key_cmp (keys_of self.old) }
     {
         // The length of a map comes with its order.
         let _written = self.writes.len();
-        let count = changes.len();
         let mut earlier = Vec::new(self.alloc);
         if let Err(refusal) = put_few(&mut self.writes, changes, &mut earlier) {
             put_back(&mut self.writes, earlier);

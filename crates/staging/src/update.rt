@@ -4,10 +4,10 @@ ghost use Rattle.values.specs.Memory.{OnlyMemory};
 ghost use Rattle.values.specs.Tables.{widest};
 ghost use Rattle.values.specs.RowEncoding.{IsStored};
 ghost use Rattle.values.specs.Fit.{sets_fault};
-ghost use Rattle.values.specs.Writes.{set_all, update_in};
+ghost use Rattle.values.specs.Writes.{set_all, update_in, full_rows};
 ghost use Rattle.values.specs.Events.{AreKeysIn};
 ghost use Rattle.staging.specs.Own.{WhenRead, IsAnswered, own};
-ghost use Rattle.staging.specs.Staged.{updates, full_rows, SetsOneOf};
+ghost use Rattle.staging.specs.Staged.{updates, SetsOneOf};
 
 use crate::staged::Staged;
 use searchrange::Search;
@@ -36,8 +36,9 @@ impl Staged {
         let table = keys.table;
         let search = Search::new(self.alloc, keys)?;
         let found = self.rows_found(view, &search)?;
+        let count = found.len();
         let changes = updates(self.alloc, table, sets, found)?;
-        self.put(changes)
+        self.put(changes, count)
     }
 }
 
@@ -64,7 +65,7 @@ fn updates(
 }
 
 /// Sets columns of a row, which has them, to new values in turn.
-fn set_all(sets: &[Set], row: Row) -> Result<Row, AllocError>
+pub(crate) fn set_all(sets: &[Set], row: Row) -> Result<Row, AllocError>
     requires stored { All (λ s. IsStored s.value) sets.now }
     requires within { All (SetsOneOf (length row)) sets.now }
     ensures { IfOk result (λ r. r ≡ set_all sets.now row) }

@@ -1,5 +1,5 @@
 use Rattle.std.proofs.Common.{◌≡◌}
-use Rattle.staging.specs.Staged.{full_rows}
+use Rattle.values.specs.Writes.{full_rows}
 use Rattle.staging.proofs.staged.full_rows.Given as goal
 
 abbrev pub invariant-loop-key : goal.invariant-loop-key

@@ -1,5 +1,6 @@
 use Rattle.std.proofs.Common.{◌≡◌}
-use Rattle.staging.specs.Staged.{updates, full_rows}
+use Rattle.values.specs.Writes.{full_rows}
+use Rattle.staging.specs.Staged.{updates}
 use Rattle.staging.proofs.update.updates.Given as goal
 
 abbrev pub invariant-loop-key : goal.invariant-loop-key

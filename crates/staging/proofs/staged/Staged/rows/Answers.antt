@@ -1,6 +1,6 @@
 use Rattle.std.proofs.Common.{◌∙◌, ap, sym, subst, All}
 use Rattle.values.specs.KeyEncoding.{IsShortKey}
-use Rattle.staging.specs.Staged.{full_rows}
+use Rattle.values.specs.Writes.{full_rows}
 use Rattle.staging.proofs.StagedWide.{full_keys}
 use Rattle.staging.proofs.staged.Staged.rows.Goals as goal
 

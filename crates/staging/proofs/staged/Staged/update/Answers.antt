@@ -1,9 +1,10 @@
-use Rattle.std.proofs.Common.{All, sym, subst}
+use Rattle.std.proofs.Common.{All, sym, subst, ap, ◌∙◌}
 use Rattle.values.specs.KeyEncoding.{IsShortKey}
 use Rattle.values.specs.Versions.{matches}
 use Rattle.values.specs.Events.{IsKeyIn}
-use Rattle.staging.specs.Staged.{full_rows}
+use Rattle.values.specs.Writes.{full_rows}
 use Rattle.staging.proofs.StagedWide.{full_keys}
+use Rattle.staging.specs.Staged.{put_answer}
 use Rattle.staging.proofs.StagedEntries.{sorted_from}
 use Rattle.staging.proofs.StagedAnswered.{updated_entries, update_done, keys_after, seen_keys}
 use Rattle.staging.proofs.StagedTaken.{found_by}
@@ -18,7 +19,7 @@ put-requires c = subst (All (λ w. IsShortKey w.0)) (sym c.in_ok-changes.ensures
 pub returns-clause-answers : goal.returns-clause-answers
 returns-clause-answers c = λ schema m reads ok.
     update_done c.args.keys.table.now c.args.keys.keys.now c.args.sets.now m c.args.self.now c.put.new.self c.put.result c.in_ok-changes.changes.items c.in_ok-found.found.entries (found_by c.args.view.now c.args.self.now c.in_ok-found.found.entries c.in_ok-search.search.table c.args.keys.table.now c.in_ok-search.search.keys c.args.keys.keys.now c.in_ok-search.ensures.table c.in_ok-search.ensures.keys c.in_ok-found.ensures.ok schema m reads) c.in_ok-changes.ensures.ok
-    (sorted_from c.args.self.now c.put.ensures.ordered) (c.put.ensures.answer ok) c.put.ensures.ok c.put.ensures.err
+    (sorted_from c.args.self.now c.put.ensures.ordered) (c.put.ensures.answer ok ∙ ap (λ n. put_answer n c.in_ok-changes.changes.items c.args.self.now) c.len-count.ensures.len) c.put.ensures.ok c.put.ensures.err
 
 pub returns-clause-keys : goal.returns-clause-keys
 returns-clause-keys c = λ schema m reads.
