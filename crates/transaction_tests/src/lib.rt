@@ -13,6 +13,8 @@ mod packed_tests;
 #[cfg(test)]
 mod period_tests;
 #[cfg(test)]
+mod portion_tests;
+#[cfg(test)]
 mod sample;
 #[cfg(test)]
 mod staging_tests;

@@ -1,6 +1,6 @@
 //! Transactions of a table with a period of application time: conflicts are by entity.
 ghost use Rattle.std.specs.Prelude.{IfOk};
-ghost use Rattle.values.specs.Tables.{IsTable};
+ghost use Rattle.values.specs.Tables.{HasInstants, IsTable};
 
 use crate::sample::nothing_staged;
 use crate::validation_tests::{begin, empty_engine};
@@ -12,10 +12,12 @@ use tsbtree::View;
 use validation::{Cut, Engine};
 use values::{
     Chars, Column, ColumnType, Comparison, Instant, Key, KeyBytes, Keys, Mem, Operator, Period,
-    Refusal, Row, Schema, Sequence, Span, Table, Value, Values, Write,
+    Refusal, Row, Schema, Sequence, Set, Span, Table, Value, Values, Write,
 };
 
-fn number_column(alloc: Global, name: &str) -> Mem<Column> {
+fn number_column(alloc: Global, name: &str) -> Mem<Column>
+    ensures { IfOk result HasInstants }
+{
     Ok(Column {
         name: Chars::copy_of(alloc, name)?,
         of: ColumnType::Int,
@@ -49,12 +51,13 @@ fn tariffs(alloc: Global) -> Mem<Table>
     })
 }
 
-fn schema(rt: &impl Abort, alloc: Global) -> Schema {
+/// The table of tariffs, alone.
+pub(crate) fn schema(rt: &impl Abort, alloc: Global) -> Schema {
     let table = tariffs(alloc).expect(rt, "there is memory");
     Schema::new(vec![in alloc; table].expect(rt, "there is memory"))
 }
 
-fn numbers(rt: &impl Abort, alloc: Global, numbers: &[i64]) -> Vec<Value> {
+pub(crate) fn numbers(rt: &impl Abort, alloc: Global, numbers: &[i64]) -> Vec<Value> {
     let mut values = Vec::new(alloc);
     for number in numbers {
         values
@@ -69,7 +72,7 @@ fn tariff(rt: &impl Abort, alloc: Global, id: i64, from: i64, to: i64) -> Vec<Ro
     vec![in alloc; row].expect(rt, "there is memory")
 }
 
-fn key(rt: &impl Abort, alloc: Global, parts: &[i64]) -> Key {
+pub(crate) fn key(rt: &impl Abort, alloc: Global, parts: &[i64]) -> Key {
     Key {
         table: 1,
         parts: Values::new(numbers(rt, alloc, parts)),
@@ -210,7 +213,7 @@ fn a_conflict_is_found_in_an_entity_that_was_split(rt: HostRuntime) {
     assert!(rt; conflicts(&rt, rt.alloc(), &mut engine, &view, 7, 500, 300));
 }
 
-fn span(from: i64, to: i64) -> Span {
+pub(crate) fn span(from: i64, to: i64) -> Span {
     Span { from, to }
 }
 
@@ -221,4 +224,49 @@ fn spans_overlap_where_each_starts_before_the_other_ends(rt: HostRuntime) {
     assert!(rt; !span(0, 10).overlaps(span(10, 20)) && !span(10, 20).overlaps(span(0, 10)));
     assert!(rt; span(i64::MIN, i64::MAX).overlaps(span(i64::MIN, i64::MAX)));
     assert!(rt; span(0, 1).is_proper() && !span(0, 0).is_proper() && !span(1, 0).is_proper());
+    let two = [span(0, 10), span(20, 30)];
+    assert!(rt; span(5, 20).overlaps_any(&two) && span(29, 40).overlaps_any(&two));
+    assert!(rt; !span(10, 20).overlaps_any(&two) && !span(0, 10).overlaps_any(&[]));
+}
+
+#[test]
+fn a_row_has_the_span_of_its_period(rt: HostRuntime) {
+    let table = tariffs(rt.alloc()).expect(&rt, "there is memory");
+    let rows = tariff(&rt, rt.alloc(), 7, -3, 12);
+    assert!(rt; rows.len() == 1);
+    let period = table.period.as_ref().expect(&rt, "the table has a period");
+    assert!(rt; period.span(&rows[0]) == span(-3, 12));
+}
+
+/// What an UPDATE sets where it sets one column.
+pub(crate) fn setting(rt: &impl Abort, alloc: Global, column: usize) -> Vec<Set> {
+    let set = Set {
+        column,
+        value: Value::Int(1),
+    };
+    vec![in alloc; set].expect(rt, "there is memory")
+}
+
+#[test]
+fn the_columns_of_a_key_and_of_a_period_are_fixed(rt: HostRuntime) {
+    let table = tariffs(rt.alloc()).expect(&rt, "there is memory");
+    for column in 1..=3 {
+        assert!(rt; table.is_fixed_column(column));
+        let sets = setting(&rt, rt.alloc(), column);
+        assert!(rt; table.check_sets(&sets) == Err(Refusal::BadRow(column)));
+    }
+    for column in [0, 4, 5] {
+        assert!(rt; !table.is_fixed_column(column));
+    }
+    let sets = setting(&rt, rt.alloc(), 4);
+    assert!(rt; table.check_sets(&sets) == Ok(()));
+}
+
+#[test]
+fn the_name_of_a_period_is_taken(rt: HostRuntime) {
+    let table = tariffs(rt.alloc()).expect(&rt, "there is memory");
+    assert!(rt; table.names_period(b"VALID") && table.names_period(b"valid"));
+    assert!(rt; !table.names_period(b"rate") && !table.names_period(b""));
+    assert!(rt; table.check_column(b"Valid", ColumnType::Int) == Err(Refusal::BadRow(0)));
+    assert!(rt; table.check_column(b"valid_to", ColumnType::Int) == Ok(()));
 }
