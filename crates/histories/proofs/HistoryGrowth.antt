@@ -35,12 +35,12 @@ pub outcome_above : (periods : Periods) (m : Changes) (latest start : ℕ) (net 
 outcome_above periods m latest start [] reading i e = cc
 outcome_above periods m latest start (change ∷ net) reading i e = settled (conflicts periods m start (change ∷ net)) latest reading i e
 
-rises_ended : (log : Log) (net : Net) (end : Result (Option ℕ) Refusal) → ((i : ℕ) → end ≡ Ok (Some i) → last log < i) → IsLog log → IsLog (log_after log net end)
+pub rises_ended : (log : Log) (net : Net) (end : Result (Option ℕ) Refusal) → ((i : ℕ) → end ≡ Ok (Some i) → last log < i) → IsLog log → IsLog (log_after log net end)
 rises_ended log net (Ok (Some i)) above r = Rises-push log 0 (record { instant = i; net = net }) r (above i refl)
 rises_ended log net (Ok None) above r = r
 rises_ended log net (Err e) above r = r
 
-adds_ended : (log : Log) (net : Net) (end : Result (Option ℕ) Refusal) → (added : Log) × (log_after log net end ≡ log ++ added)
+pub adds_ended : (log : Log) (net : Net) (end : Result (Option ℕ) Refusal) → (added : Log) × (log_after log net end ≡ log ++ added)
 adds_ended log net (Ok (Some i)) = (record { instant = i; net = net } ∷ [], refl)
 adds_ended log net (Ok None) = ([], sym (append-nil log))
 adds_ended log net (Err e) = ([], sym (append-nil log))

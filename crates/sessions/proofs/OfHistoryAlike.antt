@@ -22,15 +22,15 @@ use Rattle.sessions.specs.OfHistory.{own_at, WritesAnswerAlike, WritesLeaveAlike
 
 -- ---- a step that writes for a session
 
-record IsWriteStep (first : Schema) (h : History) (step : Step) (i : ℕ) : Type 0 where
-  same_tables : schema_after first (step ∷ h) ≡ schema_after first h
-  no_end : ends i step ≡ false
-  no_begin : begins i step ≡ false
-  its_own : is_write_of i step ≡ true
-  same_log : log first (step ∷ h) ≡ log first h
-  counts : (count : ℕ) → is_refused (written_reply step (Ok count)) ≡ false
-  refuses : (refusal : Refusal) → written_reply step (Err refusal) ≡ Refused refusal
-  replied : reply_in first h step ≡ elim (log_at_begin first h i) [ None ↦ Refused NoTransaction | Some before ↦ write_reply (schema_after first h) step (own_of (schema_after first h) (log first h) (log_at_begin first h i) (own first h i)) ]
+pub record IsWriteStep (first : Schema) (h : History) (step : Step) (i : ℕ) : Type 0 where
+  pub same_tables : schema_after first (step ∷ h) ≡ schema_after first h
+  pub no_end : ends i step ≡ false
+  pub no_begin : begins i step ≡ false
+  pub its_own : is_write_of i step ≡ true
+  pub same_log : log first (step ∷ h) ≡ log first h
+  pub counts : (count : ℕ) → is_refused (written_reply step (Ok count)) ≡ false
+  pub refuses : (refusal : Refusal) → written_reply step (Err refusal) ≡ Refused refusal
+  pub replied : reply_in first h step ≡ elim (log_at_begin first h i) [ None ↦ Refused NoTransaction | Some before ↦ write_reply (schema_after first h) step (own_of (schema_after first h) (log first h) (log_at_begin first h i) (own first h i)) ]
 
 same_writer : (i j : ℕ) → ◌≡◌ {A = Option ℕ} (Some j) (Some i) → j ≡ i
 same_writer i j e = cc
@@ -41,7 +41,7 @@ own_write i j e = ap (λ n. i == n) e ∙ itself i
 abbrev when_open : Schema → History → Step → ℕ → Reply
 when_open first h step j = elim (log_at_begin first h j) [ None ↦ Refused NoTransaction | Some before ↦ write_reply (schema_after first h) step (own_of (schema_after first h) (log first h) (log_at_begin first h j) (own first h j)) ]
 
-of_writer : (first : Schema) (h : History) (step : Step) (i : ℕ) → writer step ≡ Some i → IsWriteStep first h step i
+pub of_writer : (first : Schema) (h : History) (step : Step) (i : ℕ) → writer step ≡ Some i → IsWriteStep first h step i
 of_writer first h (Insert j number rows) i e = record {
   same_tables = refl;
   no_end = refl;
@@ -140,7 +140,7 @@ module _ (first : Schema) (h : History) (step : Step) (i : ℕ) (is : IsWriteSte
   answer_by None None writes = is.refuses NoTransaction
   answer_by None (Some before) writes = refl
 
-  answers : written_reply step (write_by schema step (misfit schema step) (own_at first h i)).0 ≡ reply first h step
+  pub answers : written_reply step (write_by schema step (misfit schema step) (own_at first h i)).0 ≡ reply first h step
   answers =
       answer_by (misfit schema step) (log_at_begin first h i) (own first h i)
       ∙ ap (λ r. unfit_or (misfit schema step) (reply_when (log_at_begin first h i) r)) (unfit_is (misfit schema step) (written_reply step (write schema step (at (log_at_begin first h i) (own first h i))).0))
@@ -170,7 +170,7 @@ module _ (first : Schema) (h : History) (step : Step) (i : ℕ) (is : IsWriteSte
   leave_by None None writes = refl
   leave_by None (Some before) writes = ap (λ (o : Own). Some o) (left before writes (write schema step (at (Some before) writes)).0 refl)
 
-  same_begin : log_at_begin first (step ∷ h) i ≡ log_at_begin first h i
+  pub same_begin : log_at_begin first (step ∷ h) i ≡ log_at_begin first h i
   same_begin = λ k. if is.no_end k then None else if is.no_begin k && is_none (log_at_begin first h i) then Some (log first h) else log_at_begin first h i
 
   own_more : own first (step ∷ h) i ≡ more (log_at_begin first h i) (own first h i) (refused_by (misfit schema step) (log_at_begin first h i) (own first h i))
@@ -178,12 +178,12 @@ module _ (first : Schema) (h : History) (step : Step) (i : ℕ) (is : IsWriteSte
       (λ k. if is.no_end k then [] else if is.its_own k && is_some (log_at_begin first h i) && not (is_refused (write_reply schema step (at (log_at_begin first h i) (own first h i)))) then own first h i ++ step ∷ [] else own first h i)
       ∙ ap (λ r. more (log_at_begin first h i) (own first h i) (is_refused r)) (sym (unfit_is (misfit schema step) (written_reply step (write schema step (at (log_at_begin first h i) (own first h i))).0)))
 
-  leaves : (write_by schema step (misfit schema step) (own_at first h i)).1 ≡ own_at first (step ∷ h) i
+  pub leaves : (write_by schema step (misfit schema step) (own_at first h i)).1 ≡ own_at first (step ∷ h) i
   leaves =
       leave_by (misfit schema step) (log_at_begin first h i) (own first h i)
       ∙ (λ k. option_map (λ before. own_of (sym is.same_tables k) (sym is.same_log k) (Some before) (sym own_more k)) (sym same_begin k))
 
-  same_snapshot : changes (upto (log first h) (snap first h i)) ≡ changes (upto (log first (step ∷ h)) (snap first (step ∷ h) i))
+  pub same_snapshot : changes (upto (log first h) (snap first h i)) ≡ changes (upto (log first (step ∷ h)) (snap first (step ∷ h) i))
   same_snapshot = λ k. changes (upto (sym is.same_log k) (snap_of (sym is.same_log k) (sym same_begin k)))
 
 pub writes_answer_alike : WritesAnswerAlike

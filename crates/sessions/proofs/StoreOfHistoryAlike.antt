@@ -46,7 +46,7 @@ use Rattle.sessions.proofs.OfHistoryAlike.{writes_leave_alike}
 -- ---- what is seen
 
 -- the rows that the changes up to an instant leave
-rows_at : (l : Log) (t : ℕ) → IsLog l → rows_after [] (changes (upto l t)) ≡ state l t
+pub rows_at : (l : Log) (t : ℕ) → IsLog l → rows_after [] (changes (upto l t)) ≡ state l t
 rows_at l t is =
     let rises : IsLog (upto l t) = Rises-upto l 0 t is in
     rows_now (upto l t) rises ∙ ap (replay []) (upto_all (upto l t) 0 (last (upto l t)) rises (omega arith))
@@ -68,12 +68,12 @@ opened f g (Some t) (Some before) same e = record { value = before; is = refl }
 some_is : {A : Type 0} (o : Option A) (x : A) → o ≡ Some x → o ≢ None
 some_is o x e none = cc (sym e ∙ none)
 
-same_some : {A : Type 0} (x y : A) → ◌≡◌ {A = Option A} (Some x) (Some y) → x ≡ y
+pub same_some : {A : Type 0} (x y : A) → ◌≡◌ {A = Option A} (Some x) (Some y) → x ≡ y
 same_some x y e = cc
 
 -- ---- an entry more
 
-stays : (e : Entry) (j : Entries) (n : ℕ) (x : Entry) → entry_at j n ≡ Some x → entry_at (e ∷ j) n ≡ Some x
+pub stays : (e : Entry) (j : Entries) (n : ℕ) (x : Entry) → entry_at j n ≡ Some x → entry_at (e ∷ j) n ≡ Some x
 stays e j n x at =
     let within : IsWithin j n = entry_within j n x at in
     let low : n ≤ length j = within.upto in
@@ -84,7 +84,7 @@ all_stay : (more j : Entries) (n : ℕ) (x : Entry) → entry_at j n ≡ Some x 
 all_stay [] j n x at = at
 all_stay (e ∷ more) j n x at = stays e (more ++ j) n x (all_stay more j n x at)
 
-put_here : (e : Entry) (j : Entries) (n : ℕ) → n ≡ length (e ∷ j) → entry_at (e ∷ j) n ≡ Some e
+pub put_here : (e : Entry) (j : Entries) (n : ℕ) → n ≡ length (e ∷ j) → entry_at (e ∷ j) n ≡ Some e
 put_here e j n at = ap (λ b. if b then Some e else entry_at j n) (ap (λ m. n == m) (sym at) ∙ itself n)
 
 may_follow : (s : SessionState) (e : Entry) (n : ℕ) (b c : BookState) → Grows s e n b c → MayFollow s.schema b.entries e
@@ -101,29 +101,29 @@ began_stays more j schema h step i (Some t) same seen began = (
 
 -- ---- BEGIN
 
-fit_reply : (first : Schema) (h : History) (step : Step) (r : Reply) → misfit (schema_after first h) step ≡ None → r ≡ reply_in first h step → r ≡ reply first h step
+pub fit_reply : (first : Schema) (h : History) (step : Step) (r : Reply) → misfit (schema_after first h) step ≡ None → r ≡ reply_in first h step → r ≡ reply first h step
 fit_reply first h step r fits is = is ∙ (λ k. elim (sym fits k) [ Some refusal ↦ Refused refusal | None ↦ reply_in first h step ])
 
-begins_itself : (i : ℕ) → i ≤ max_session → begins i (BeginStep i) ≡ true
+pub begins_itself : (i : ℕ) → i ≤ max_session → begins i (BeginStep i) ≡ true
 begins_itself i small = grind (arith, nat_tests)
 
 module _ (schema : Schema) (h : History) (i : ℕ) (small : i ≤ max_session) (none : log_at_begin schema h i ≡ None) where
-  abbrev now : History
+  abbrev pub now : History
   now = BeginStep i ∷ h
 
-  opens : log_at_begin schema now i ≡ Some (log schema h)
+  pub opens : log_at_begin schema now i ≡ Some (log schema h)
   opens = (λ k. if begins_itself i small k && is_none (none k) then Some (log schema h) else none k)
 
   unwritten : own schema now i ≡ []
   unwritten = no_writes schema h i none
 
-  snapshot_is : snap schema now i ≡ last (log schema h)
+  pub snapshot_is : snap schema now i ≡ last (log schema h)
   snapshot_is = ap (snap_of (log schema h)) opens
 
-  sees_all : seen_at schema now i ≡ changes (log schema h)
+  pub sees_all : seen_at schema now i ≡ changes (log schema h)
   sees_all = ap (λ t. changes (upto (log schema h) t)) snapshot_is ∙ ap changes (upto_all (log schema h) 0 (last (log schema h)) (log_rises schema h) (omega arith))
 
-  sees_own : ◌≡◌ {A = Option Own} (Some (own_over (seen_at schema now i) [])) (own_at schema now i)
+  pub sees_own : ◌≡◌ {A = Option Own} (Some (own_over (seen_at schema now i) [])) (own_at schema now i)
   sees_own =
       ap (λ rows. Some (record { rows = rows; written = [] }))
       (ap (λ t. rows_after [] (changes (upto (log schema h) t))) snapshot_is ∙ rows_at (log schema h) (last (log schema h)) (log_rises schema h))
@@ -172,19 +172,19 @@ module _ (schema : Schema) (h : History) (i : ℕ) where
           ∙ (λ k. own_of (schema_after schema h) (log schema h) (sym is k) (own schema h i))
 
   module _ (reading : ℕ) where
-    abbrev ended : History
+    abbrev pub ended : History
     ended = CommitStep i reading ∷ h
 
-    closes : log_at_begin schema ended i ≡ None
+    pub closes : log_at_begin schema ended i ≡ None
     closes = (λ k. if itself i k then None else log_at_begin schema h i)
 
-    has_none : ◌≡◌ {A = Option Own} None (own_at schema ended i)
+    pub has_none : ◌≡◌ {A = Option Own} None (own_at schema ended i)
     has_none = λ k. option_map (λ before. own_of (schema_after schema h) (log schema ended) (Some before) (own schema ended i)) (sym closes k)
 
-    log_then : (before : Log) → log_at_begin schema h i ≡ Some before → log schema ended ≡ after (periods_of (schema_after schema h)) (log schema h) (last before) (net schema h i) reading
+    pub log_then : (before : Log) → log_at_begin schema h i ≡ Some before → log schema ended ≡ after (periods_of (schema_after schema h)) (log schema h) (last before) (net schema h i) reading
     log_then before is = λ k. elim (is k) [ None ↦ log schema h | Some before ↦ after (periods_of (schema_after schema h)) (log schema h) (last before) (net_change_of (schema_after schema h) (log schema h) (log_at_begin schema h i) (own schema h i)) reading ]
 
-    reply_then : (before : Log) → log_at_begin schema h i ≡ Some before → commit_reply (outcome (periods_of (schema_after schema h)) (changes (log schema h)) (last (log schema h)) (snap schema h i) (net schema h i) reading) ≡ reply_in schema h (CommitStep i reading)
+    pub reply_then : (before : Log) → log_at_begin schema h i ≡ Some before → commit_reply (outcome (periods_of (schema_after schema h)) (changes (log schema h)) (last (log schema h)) (snap schema h i) (net schema h i) reading) ≡ reply_in schema h (CommitStep i reading)
     reply_then before is = λ k. elim (sym is k) [ Some before ↦ commit_reply (outcome (periods_of (schema_after schema h)) (changes (log schema h)) (last (log schema h)) (snap schema h i) (net schema h i) reading) | None ↦ Refused NoTransaction ]
 
 pub commits_answer_alike : CommitsAnswerAlike
@@ -307,32 +307,32 @@ refused_alike s j h is = (
 -- ---- another session
 
 module _ (schema : Schema) (h : History) (step : Step) (i : ℕ) (other : IsOfAnother i step) where
-  same_tables : schema_after schema (step ∷ h) ≡ schema_after schema h
+  pub same_tables : schema_after schema (step ∷ h) ≡ schema_after schema h
   same_tables = other.no_column (schema_after schema h) _
 
-  same_begin : log_at_begin schema (step ∷ h) i ≡ log_at_begin schema h i
+  pub same_begin : log_at_begin schema (step ∷ h) i ≡ log_at_begin schema h i
   same_begin = λ k. if other.no_end k then None else if other.no_begin k && is_none (log_at_begin schema h i) then Some (log schema h) else log_at_begin schema h i
 
   same_writes : own schema (step ∷ h) i ≡ own schema h i
   same_writes = λ k. if other.no_end k then [] else if other.no_write k && is_some (log_at_begin schema h i) && not (is_refused (write_reply (schema_after schema h) step (own_of (schema_after schema h) (log schema h) (log_at_begin schema h i) (own schema h i)))) then own schema h i ++ step ∷ [] else own schema h i
 
   -- what was committed until the snapshot stays
-  upto_stays : (before : Log) → log_at_begin schema h i ≡ Some before → upto (log schema (step ∷ h)) (last before) ≡ upto (log schema h) (last before)
+  pub upto_stays : (before : Log) → log_at_begin schema h i ≡ Some before → upto (log schema (step ∷ h)) (last before) ≡ upto (log schema h) (last before)
   upto_stays before is =
       let added = step_adds schema h step in
       ap (λ l. upto l (last before)) added.1
       ∙ upto-append (log schema h) added.0 0 (last before) (opened_below schema h i before is) (subst IsLog added.1 (log_rises schema (step ∷ h)))
 
-  open_stays : (before : Log) → log_at_begin schema h i ≡ Some before → own_at schema h i ≡ own_at schema (step ∷ h) i
+  pub open_stays : (before : Log) → log_at_begin schema h i ≡ Some before → own_at schema h i ≡ own_at schema (step ∷ h) i
   open_stays before is =
       (λ k. option_map (λ before. own_of (schema_after schema h) (log schema h) (Some before) (own schema h i)) (is k))
       ∙ (λ k. Some (rewrite_all (sym same_tables k) (sym same_writes k) (record { rows = replay [] (sym (upto_stays before is) k); written = [] })))
       ∙ (λ k. option_map (λ before. own_of (schema_after schema (step ∷ h)) (log schema (step ∷ h)) (Some before) (own schema (step ∷ h) i)) (sym (same_begin ∙ is) k))
 
-  snap_stays : (before : Log) → log_at_begin schema h i ≡ Some before → snap schema (step ∷ h) i ≡ snap schema h i
+  pub snap_stays : (before : Log) → log_at_begin schema h i ≡ Some before → snap schema (step ∷ h) i ≡ snap schema h i
   snap_stays before is = (λ k. snap_of (log schema (step ∷ h)) ((same_begin ∙ is) k)) ∙ (λ k. snap_of (log schema h) (sym is k))
 
-  seen_stays : (before : Log) → log_at_begin schema h i ≡ Some before → seen_at schema (step ∷ h) i ≡ seen_at schema h i
+  pub seen_stays : (before : Log) → log_at_begin schema h i ≡ Some before → seen_at schema (step ∷ h) i ≡ seen_at schema h i
   seen_stays before is =
       (λ k. changes (upto (log schema (step ∷ h)) (snap_of (log schema (step ∷ h)) ((same_begin ∙ is) k))))
       ∙ ap changes (upto_stays before is)
