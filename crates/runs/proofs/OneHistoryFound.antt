@@ -1,0 +1,273 @@
+-- A run whose store closed has one history: the events of all parts, in the order of their receipts.
+use Rattle.std.proofs.Common.{◌≡◌, ◌≢◌, ℕ, ◌≤◌, ◌==◌, false, cond, List, [], ◌∷◌, ◌++◌, Option, Some, None, is_some, refl, sym, ap, subst, ◌∙◌, arith, append-nil, append_assoc, filter, length, map, reverse, IsPermutation}
+use Rattle.std.specs.List.{AllByRecursion, cons_option, flat_map}
+use Rattle.std.specs.Option.{option_map}
+use Rattle.std.proofs.lemmas.Bool.Decides.{nat_tests}
+use Rattle.std.proofs.lemmas.List.Elements.{filter_map-append}
+use Rattle.values.specs.Tables.{Schema}
+use Rattle.values.specs.Log.{Row}
+use Rattle.steps.specs.Misfit.{max_session}
+use Rattle.histories.specs.History.{log}
+use Rattle.journal.specs.declared.entry.Entry.{Entry}
+use Rattle.journal.specs.Entries.{Entries, entry_at, numbers, log as journal_log}
+use Rattle.book.specs.Book.{BookState}
+use Rattle.serving.specs.Progress.{Given, after}
+use Rattle.runs.specs.Event.{Event, AreRight, history_after, of_part, receipt_of, receipts_of, with_step}
+use Rattle.runs.specs.OneHistory.{OneHistory, ServedRunsAreHistories, TellsLoaded, IsServiceStep, service_part}
+use Rattle.runs.specs.Run.{AreApart, IsPart, IsRun, Part, all_given}
+use Rattle.runs.specs.Tells.{Tells}
+use Rattle.runs.proofs.RunAlong.{Chain, RightAll, after_all, run}
+use Rattle.runs.proofs.OneHistoryBeside.{World, Beside, Held, May, Moves, Right, add, with_entry}
+use Rattle.runs.proofs.TellsFacts.{Facts, facts, first_of, number_of, numbers_of, took}
+use Rattle.runs.proofs.RunInTurn.{Climbs, Each, filter_in_turn, in_turn, in_turn_already, in_turn_each}
+use Rattle.runs.proofs.RunJournal.{onto}
+use Rattle.runs.proofs.RunLegal.{all_may_come, entries_in_turn, entries_of, whole_journal}
+use Rattle.runs.proofs.TellsLines.{lines_go}
+use Rattle.runs.proofs.RunLoaded.{LoadEvents, load_events, service_events, service_goes, service_its, service_takes, service_tells}
+use Rattle.runs.proofs.RunNumbered.{numbered}
+use Rattle.runs.proofs.OneHistoryOthers.{other}
+use Rattle.runs.proofs.OneHistoryOwn.{own}
+use Rattle.runs.proofs.RunPieces.{Apart, IsPiece, Piece, all_events, each_of, goes_of, none_of}
+
+-- ---- receipts of events in turn
+
+numbers_same : (xs : List Event) → numbers_of (receipts_of xs) ≡ map number_of (filter took xs)
+numbers_same [] = refl
+numbers_same (x ∷ xs) = by x.entry (numbers_same xs)
+  where
+    by : (entry : Option Entry) → numbers_of (receipts_of xs) ≡ map number_of (filter took xs)
+        → numbers_of (cons_option (option_map (λ entry. record { number = x.number; entry = entry }) entry) (receipts_of xs)) ≡ map number_of (cond (is_some entry) (x ∷ filter took xs) (filter took xs))
+    by None rest = rest
+    by (Some e) rest = ap (λ ns. x.number ∷ ns) rest
+
+abbrev StandsBy : Entries → ℕ → Option Entry → Type 0
+StandsBy j number None = Unit {0}
+StandsBy j number (Some e) = entry_at j number ≡ Some e
+
+abbrev EntryStands : Entries → Event → Type 0
+EntryStands j x = StandsBy j x.number x.entry
+
+abbrev AllStand : Entries → List Given → Type 0
+AllStand j given = AllByRecursion (λ g. entry_at j g.number ≡ Some g.entry) given
+
+stand_each : (j : Entries) (xs : List Event) → AllStand j (receipts_of xs) → Each number_of (EntryStands j) xs
+stand_each j [] stand = tt
+stand_each j (x ∷ xs) stand = by x.entry stand (λ stand. stand_each j xs stand)
+  where
+    by : (entry : Option Entry) → AllStand j (cons_option (option_map (λ entry. record { number = x.number; entry = entry }) entry) (receipts_of xs)) → (AllStand j (receipts_of xs) → Each number_of (EntryStands j) xs)
+        → StandsBy j x.number entry × Each number_of (EntryStands j) xs
+    by None stand rest = (tt, rest stand)
+    by (Some e) stand rest = (stand.0, rest stand.1)
+
+each_stands : (j : Entries) (xs : List Event) → Each number_of (EntryStands j) xs → AllStand j (receipts_of xs)
+each_stands j [] each = tt
+each_stands j (x ∷ xs) each = by x.entry each.0 (each_stands j xs each.1)
+  where
+    by : (entry : Option Entry) → StandsBy j x.number entry → AllStand j (receipts_of xs)
+        → AllStand j (cons_option (option_map (λ entry. record { number = x.number; entry = entry }) entry) (receipts_of xs))
+    by None here rest = rest
+    by (Some e) here rest = (here, rest)
+
+-- ---- what is reached
+
+module _ (schema : Schema) where
+  abbrev After : World → List Event → World
+  After = after_all (λ (e : Event). e.part) add (Moves schema) (May schema) (Right schema) (Beside schema)
+
+  reached : (xs : List Event) (w : World) → After w xs ≡ record { entries = onto (entries_of (receipts_of xs)) w.entries; history = history_after w.history xs }
+  reached [] w = refl
+  reached (x ∷ xs) w = reached xs (add x w) ∙ by x.entry
+    where
+      by : (entry : Option Entry) → ◌≡◌ {A = World} (record { entries = onto (entries_of (receipts_of xs)) (with_entry entry w.entries); history = history_after (with_step x.step w.history) xs })
+          (record { entries = onto (entries_of (cons_option (option_map (λ entry. record { number = x.number; entry = entry }) entry) (receipts_of xs))) w.entries; history = history_after (with_step x.step w.history) xs })
+      by None = refl
+      by (Some e) = refl
+
+  right_all : (xs : List Event) (w : World) → RightAll (λ (e : Event). e.part) add (Moves schema) (May schema) (Right schema) (Beside schema) w xs → AreRight schema w.history xs
+  right_all [] w right = tt
+  right_all (x ∷ xs) w right = (right.0, right_all xs (add x w) right.1)
+
+  -- ---- the parts of sessions
+
+  record Session (p : Part) : Type 0 where
+    events : List Event
+    tells : Tells schema p.number 0 p.lines p.told p.given events p.text
+    known : Facts p.number 0 p.given events
+    goes : Chain (Moves schema) None events p.later.transaction
+    some : 1 ≤ p.number
+    small : p.number ≤ max_session
+
+  session : (p : Part) → IsPart schema p → Session p
+  session p is =
+      let go = lines_go is.may_give schema p.number is.in_range 0 p.lines p.told (after 0 None) p.later p.given p.text is.serves in
+      record {
+        events = go.events;
+        tells = go.tells;
+        known = facts schema p.number 0 p.lines p.told p.given go.events p.text go.tells is.rises;
+        goes = go.goes;
+        some = is.some;
+        small = is.in_range;
+      }
+
+  abbrev piece : (p : Part) → Session p → Piece
+  piece p s = record { part = p.number; events = s.events }
+
+  abbrev Sessions : List Part → Type 0
+  Sessions [] = Unit {0}
+  Sessions (p ∷ parts) = Session p × Sessions parts
+
+  sessions : (parts : List Part) → AllByRecursion (IsPart schema) parts → Sessions parts
+  sessions [] are = tt
+  sessions (p ∷ parts) are = (session p are.0, sessions parts are.1)
+
+  abbrev pieces : (parts : List Part) → Sessions parts → List Piece
+  pieces [] s = []
+  pieces (p ∷ parts) s = piece p s.0 ∷ pieces parts s.1
+
+  climbing : (events : List Event) → Climbs number_of 0 events → in_turn number_of events ≡ events
+  climbing events climbs = in_turn_already number_of 0 events climbs
+
+  is_piece : (p : Part) (s : Session p) → IsPiece schema (piece p s)
+  is_piece p s = record { its = s.known.its; end = p.later.transaction; goes = subst (λ xs. Chain (Moves schema) None xs p.later.transaction) (sym (climbing s.events s.known.climbs)) s.goes }
+
+  are_pieces : (parts : List Part) (s : Sessions parts) (last : Piece) → IsPiece schema last → AllByRecursion (IsPiece schema) (pieces parts s ++ last ∷ [])
+  are_pieces [] s last is = (is, tt)
+  are_pieces (p ∷ parts) s last is = (is_piece p s.0, are_pieces parts s.1 last is)
+
+  differ : (a b : ℕ) → a ≢ b → (a == b) ≡ false
+  differ a b other = grind (arith, nat_tests, other)
+
+  all_differ : (p : Part) (parts : List Part) (s : Sessions parts) (last : Piece) → AllByRecursion (λ q. q.number ≢ p.number) parts → (last.part == p.number) ≡ false → AllByRecursion (λ q. (q.part == p.number) ≡ false) (pieces parts s ++ last ∷ [])
+  all_differ p [] s last apart other = (other, tt)
+  all_differ p (q ∷ parts) s last apart other = (differ q.number p.number apart.0, all_differ p parts s.1 last apart.1 other)
+
+  behind_all : (n : ℕ) → n ≤ max_session → (service_part == n) ≡ false
+  behind_all n small = grind (arith, nat_tests)
+
+  are_apart : (parts : List Part) (s : Sessions parts) (last : Piece) → last.part ≡ service_part → AreApart parts → Apart (pieces parts s ++ last ∷ [])
+  are_apart [] s last is apart = (tt, tt)
+  are_apart (p ∷ parts) s last is apart =
+      (all_differ p parts s.1 last apart.0 (ap (λ n. n == p.number) is ∙ behind_all p.number s.0.small), are_apart parts s.1 last is apart.1)
+
+  some_number : (n : ℕ) → 1 ≤ n → (n == 0) ≡ false
+  some_number n some = grind (arith, nat_tests)
+
+  none_zero : (parts : List Part) (s : Sessions parts) (last : Piece) → (last.part == 0) ≡ false → AllByRecursion (λ q. (q.part == 0) ≡ false) (pieces parts s ++ last ∷ [])
+  none_zero [] s last other = (other, tt)
+  none_zero (p ∷ parts) s last other = (some_number p.number s.0.some, none_zero parts s.1 last other)
+
+  receipts_joined : (xs ys : List Event) → receipts_of (xs ++ ys) ≡ receipts_of xs ++ receipts_of ys
+  receipts_joined xs ys = filter_map-append receipt_of xs ys
+
+  all_receipts : (parts : List Part) (s : Sessions parts) (last : Piece) → receipts_of (all_events (pieces parts s ++ last ∷ [])) ≡ flat_map (λ p. p.given) parts ++ receipts_of last.events
+  all_receipts [] s last = ap receipts_of (append-nil last.events)
+  all_receipts (p ∷ parts) s last =
+      receipts_joined s.0.events (all_events (pieces parts s.1 ++ last ∷ []))
+      ∙ (λ k. s.0.known.takes k ++ all_receipts parts s.1 last k)
+      ∙ sym (append_assoc p.given (flat_map (λ p. p.given) parts) (receipts_of last.events))
+
+  -- ---- the whole
+
+  module _ (b : BookState) (table : ℕ) (rows : List Row) (loaded : List Given) (parts : List Part) (service : List Given) (is : IsRun schema b table rows loaded parts service) where
+    load : LoadEvents schema table rows loaded
+    load = load_events schema b.entries table rows loaded is.is_book.legal (first_of (λ g. entry_at b.entries g.number ≡ Some g.entry) loaded (flat_map (λ p. p.given) parts ++ service) is.stand) is.is_loaded
+
+    served : Sessions parts
+    served = sessions parts is.are_parts
+
+    abbrev load_piece : Piece
+    load_piece = record { part = 0; events = load.events }
+
+    abbrev service_piece : Piece
+    service_piece = record { part = service_part; events = service_events service }
+
+    abbrev all : List Piece
+    all = load_piece ∷ pieces parts served ++ service_piece ∷ []
+
+    abbrev events : List Event
+    events = in_turn number_of (all_events all)
+
+    are : AllByRecursion (IsPiece schema) all
+    are = (
+      record { its = load.its; end = None; goes = subst (λ xs. Chain (Moves schema) None xs None) (sym (climbing load.events load.climbs)) load.goes },
+      are_pieces parts served service_piece (record { its = service_its service; end = None; goes = service_goes schema service is.serviced }),
+    )
+
+    apart : Apart all
+    apart = (none_zero parts served service_piece refl, are_apart parts served service_piece refl is.apart)
+
+    receipts_are : receipts_of (all_events all) ≡ all_given loaded parts service
+    receipts_are =
+        receipts_joined load.events (all_events (pieces parts served ++ service_piece ∷ []))
+        ∙ (λ k. load.takes k ++ (all_receipts parts served service_piece ∙ ap (λ gs. flat_map (λ p. p.given) parts ++ gs) (service_takes service)) k)
+
+    numbers_are : numbers_of (receipts_of events) ≡ numbers (length b.entries)
+    numbers_are =
+        numbers_same events
+        ∙ ap (map number_of) (filter_in_turn number_of took (all_events all))
+        ∙ numbered number_of (filter took (all_events all)) (length b.entries)
+        (subst (λ ns. IsPermutation ns (numbers (length b.entries))) (sym (ap numbers_of receipts_are) ∙ numbers_same (all_events all)) is.once)
+
+    stand : AllStand b.entries (receipts_of events)
+    stand = each_stands b.entries events (in_turn_each number_of (EntryStands b.entries) (all_events all) (stand_each b.entries (all_events all) (subst (AllStand b.entries) (sym receipts_are) is.stand)))
+
+    entries_are : entries_of (receipts_of events) ≡ reverse b.entries
+    entries_are = entries_in_turn b.entries (receipts_of events) numbers_are stand
+
+    of_all : (i : ℕ) → of_part i events ≡ in_turn number_of (of_part i (all_events all))
+    of_all i = filter_in_turn number_of (λ e. e.part == i) (all_events all)
+
+    abbrev start : World
+    start = record { entries = []; history = [] }
+
+    comes : (i : ℕ) → (t : Held) × Chain (Moves schema) None (of_part i events) t
+    comes i = subst (λ xs. (t : Held) × Chain (Moves schema) None xs t) (sym (of_all i)) (goes_of schema i all are apart)
+
+    ran : RightAll (λ (e : Event). e.part) add (Moves schema) (May schema) (Right schema) (Beside schema) start events
+        × ((i : ℕ) → Beside schema (After start events) i (comes i).0)
+    ran = run (λ (e : Event). e.part) add (Moves schema) (May schema) (Right schema) (Beside schema)
+        (record { own = own schema; other = other schema }) events start (λ i. None) (λ i. (comes i).0)
+        (all_may_come schema b.entries events is.is_book.legal is.is_book.holds.keys entries_are numbers_are)
+        (λ i. record { tables_stay = refl; log_is = refl; opened = refl })
+        (λ i. (comes i).1)
+
+    abbrev LogIs : World → Type 0
+    LogIs w = journal_log schema w.entries ≡ log schema w.history
+
+    log_is : journal_log schema b.entries ≡ log schema (history_after [] events)
+    log_is =
+        subst (λ j. journal_log schema j ≡ log schema (history_after [] events)) (ap (λ es. onto es []) entries_are ∙ whole_journal b.entries)
+        (subst LogIs (reached events start) (ran.1 0).log_is)
+
+    each : AllByRecursion (λ p. of_part p.part (all_events all) ≡ p.events) all
+    each = each_of schema all are apart
+
+    tells : (parts : List Part) (s : Sessions parts) (last : Piece) → AllByRecursion (λ p. of_part p.part (all_events all) ≡ p.events) (pieces parts s ++ last ∷ [])
+        → AllByRecursion (λ p. Tells schema p.number 0 p.lines p.told p.given (of_part p.number events) p.text) parts × (of_part last.part (all_events all) ≡ last.events)
+    tells [] s last each = (tt, each.0)
+    tells (p ∷ parts) s last each =
+        let rest = tells parts s.1 last each.1 in
+        let same : of_part p.number events ≡ s.0.events = of_all p.number ∙ ap (in_turn number_of) each.0 ∙ climbing s.0.events s.0.known.climbs in
+        ((subst (λ xs. Tells schema p.number 0 p.lines p.told p.given xs p.text) (sym same) s.0.tells, rest.0), rest.1)
+
+    not_of : (i : ℕ) (parts : List Part) (s : Sessions parts) (last : Piece) → (last.part == i) ≡ false → AllByRecursion (λ p. p.number ≢ i) parts → AllByRecursion (λ q. (q.part == i) ≡ false) (pieces parts s ++ last ∷ [])
+    not_of i [] s last other apart = (other, tt)
+    not_of i (p ∷ parts) s last other apart = (differ p.number i apart.0, not_of i parts s.1 last other apart.1)
+
+    turned : (a b : ℕ) → b ≢ a → (a == b) ≡ false
+    turned a b other = differ a b (λ e. other (sym e))
+
+    one : OneHistory schema b table rows parts events
+    one = record {
+      entries_are = entries_are;
+      numbered = numbers_are;
+      right = right_all events start ran.0;
+      log_is = log_is;
+      loaded = subst (TellsLoaded table rows) (sym (of_all 0 ∙ ap (in_turn number_of) each.0 ∙ climbing load.events load.climbs)) load.tells;
+      sent = (tells parts served service_piece each.1).0;
+      service = subst (AllByRecursion (λ e. IsServiceStep e.step)) (sym (of_all service_part ∙ ap (in_turn number_of) (tells parts served service_piece each.1).1)) (service_tells service);
+      no_other = λ i some inside apart. of_all i ∙ ap (in_turn number_of) (none_of schema i all are (turned 0 i some, not_of i parts served service_piece (turned service_part i inside) apart));
+    }
+
+pub served_runs_are_histories : ServedRunsAreHistories
+served_runs_are_histories schema b table rows loaded parts service is = (events schema b table rows loaded parts service is, one schema b table rows loaded parts service is)

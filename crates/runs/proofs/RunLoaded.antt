@@ -1,0 +1,219 @@
+-- The events of a load, and of the service.
+use Rattle.std.proofs.Common.{◌≡◌, ℕ, ◌≤◌, ◌<◌, ◌==◌, ◌||◌, inl, inr, Bool, true, false, List, [], ◌∷◌, Option, Some, None, Result, Ok, refl, sym, ap, subst, ◌∙◌, arith, map}
+use Rattle.std.specs.List.{AllByRecursion}
+use Rattle.std.proofs.lemmas.Bool.Decides.{nat_tests}
+use Rattle.values.specs.Tables.{Schema}
+use Rattle.values.specs.Log.{Row}
+use Rattle.values.specs.Writes.{Own}
+use Rattle.tsbtree.specs.View.{last as view_last}
+use Rattle.staging.specs.Own.{own}
+use Rattle.steps.specs.declared.step.Step.{Step}
+use Rattle.steps.specs.declared.step.Step.TheVariants.{Begin, Insert, Commit, Migrate}
+use Rattle.steps.specs.declared.step.Reply.{Reply}
+use Rattle.steps.specs.declared.step.Reply.TheVariants.{Begun, Committed, Done, Inserted}
+use Rattle.steps.specs.Misfit.{max_session, misfit}
+use Rattle.steps.specs.Reply.{written_reply}
+use Rattle.values.specs.declared.refusal.Refusal.{Refusal}
+use Rattle.journal.specs.declared.entry.Entry.{Entry}
+use Rattle.journal.specs.declared.entry.Entry.TheVariants.{Begin as Begins, Commit as Commits, Split as Splits, Install as Installs}
+use Rattle.journal.specs.Entries.{Entries, entry_at}
+use Rattle.journal.specs.Legal.{IsLegal}
+use Rattle.sessions.specs.SessionState.{write_by}
+use Rattle.serving.specs.Progress.{Given, ServedTransaction, after, with_own}
+use Rattle.runs.specs.Event.{Event, receipts_of}
+use Rattle.runs.specs.OneHistory.{IsServiceStep, TellsLoaded, service_part}
+use Rattle.runs.specs.Run.{IsLoad, IsLoaded, IsOfService}
+use Rattle.runs.proofs.RunAlong.{Chain}
+use Rattle.runs.proofs.OneHistoryBeside.{Held, Moves}
+use Rattle.runs.proofs.TellsFacts.{number_of}
+use Rattle.runs.proofs.RunInTurn.{Climbs, Each, in_turn, in_turn_each}
+use Rattle.runs.proofs.RunLegal.{commit_behind}
+
+-- ---- a load
+
+pub record LoadEvents (schema : Schema) (table : ℕ) (rows : List Row) (given : List Given) : Type 0 where
+  pub events : List Event
+  pub its : AllByRecursion (λ e. e.part ≡ 0) events
+  pub climbs : Climbs number_of 0 events
+  pub takes : receipts_of events ≡ given
+  pub goes : Chain (Moves schema) None events None
+  pub tells : TellsLoaded table rows events
+
+named : (n : ℕ) → ((n == 0) || (n == n)) ≡ true
+named n = by (n == 0) (let h : (n == n) ≡ true = grind (arith, nat_tests) in h)
+  where
+    by : (b : Bool) → (n == n) ≡ true → (b || (n == n)) ≡ true
+    by true h = refl
+    by false h = h
+
+module _ (schema : Schema) (table : ℕ) (row : Row) (more : List Row) (given : List Given) (l : IsLoad schema table (row ∷ more) given) where
+  abbrev step : Step
+  step = Insert 0 table (row ∷ more)
+
+  abbrev first : Given
+  first = record { number = l.begin; entry = Begins 0 l.earlier l.view }
+
+  abbrev second : Given
+  second = record { number = l.end; entry = Commits 0 l.begin l.net 0 (Ok (Some l.instant)) }
+
+  abbrev begun : ServedTransaction
+  begun = record { begin = l.begin; changes = l.shown; own = own l.shown [] }
+
+  abbrev written : ServedTransaction
+  written = record { begin = l.begin; changes = l.shown; own = own l.shown l.writes }
+
+  abbrev events : List Event
+  events =
+      record { part = 0; number = l.begin; entry = Some first.entry; step = Some (Begin 0, Begun (view_last l.view)) }
+      ∷ record { part = 0; number = l.begin; entry = None; step = Some (step, Inserted l.count) }
+      ∷ record { part = 0; number = l.end; entry = Some second.entry; step = Some (Commit 0 0, Committed (Some l.instant)) } ∷ []
+
+  answered : write_by schema step (misfit schema step) (Some (own l.shown [])) ≡ (Ok l.count, Some (own l.shown l.writes))
+  answered = (λ k. write_by schema step (l.fits k) (Some (own l.shown []))) ∙ ap (λ (x : Result ℕ Refusal × Own). (x.0, Some x.1)) l.inserted
+
+  small : 0 ≤ max_session
+  small = omega arith
+
+  abbrev Goes : Held → List Event → Held → Type 0
+  Goes = Chain (Moves schema)
+
+  goes : Goes None events None
+  goes = (
+    Some begun,
+    (
+      inl (record {
+        may_give = λ reading. true;
+        in_range = small;
+        its = refl;
+        read = refl;
+        receipt = l.earlier;
+        next = l.begin;
+        takes = record {
+          receipt = first;
+          changes = l.shown;
+          view = l.view;
+          takes = refl;
+          begins = record { earlier = l.earlier; entry_is = refl; names = named l.earlier; held = l.held };
+          reply_is = refl;
+          left = refl;
+        };
+      }),
+      (
+        Some written,
+        (
+          inl (record {
+            may_give = λ reading. true;
+            in_range = small;
+            its = refl;
+            read = tt;
+            receipt = l.begin;
+            next = l.begin;
+            takes = record {
+              takes = refl;
+              reply_is = sym (ap (λ (x : Result ℕ Refusal × Option Own). written_reply step x.0) answered);
+              left = sym (ap (λ (x : Result ℕ Refusal × Option Own). after l.begin (with_own (Some begun) x.1)) answered);
+            };
+          }),
+          (
+            None,
+            (
+              inl (record {
+                may_give = λ reading. true;
+                in_range = small;
+                its = refl;
+                read = refl;
+                receipt = l.begin;
+                next = l.end;
+                takes = record {
+                  receipt = second;
+                  reading = 0;
+                  end = Ok (Some l.instant);
+                  may = refl;
+                  takes = refl;
+                  entry_is = ap (λ net. Commits 0 l.begin net 0 (Ok (Some l.instant))) l.net_is;
+                  reply_is = refl;
+                  left = refl;
+                };
+              }),
+              refl,
+            ),
+          ),
+        ),
+      ),
+    ),
+  )
+
+  made : l.begin ≤ l.end → LoadEvents schema table (row ∷ more) given
+  made behind = record {
+    events = events;
+    its = (refl, (refl, (refl, tt)));
+    climbs = (omega arith, (omega arith, (behind, tt)));
+    takes = sym l.given_is;
+    goes = goes;
+    tells = record { begun = view_last l.view; count = l.count; instant = l.instant; steps = refl };
+  }
+
+pub load_events : (schema : Schema) (j : Entries) (table : ℕ) (rows : List Row) (given : List Given) → IsLegal schema j → AllByRecursion (λ g. entry_at j g.number ≡ Some g.entry) given → IsLoaded schema table rows given
+    → LoadEvents schema table rows given
+load_events schema j table [] given legal stand none = record { events = []; its = tt; climbs = tt; takes = sym none; goes = refl; tells = refl }
+load_events schema j table (row ∷ rows) given legal stand l =
+    let stands = subst (AllByRecursion (λ g. entry_at j g.number ≡ Some g.entry)) l.given_is stand in
+    let behind : l.begin < l.end = commit_behind schema j l.end 0 l.begin l.net 0 (Ok (Some l.instant)) legal stands.1.0 in
+    made schema table row rows given l (omega (arith, behind))
+
+-- ---- the service
+
+abbrev service_step : Entry → Option (Step × Reply)
+service_step (Installs rect block done) = Some (Migrate, Done)
+service_step (Begins session earlier view) = None
+service_step (Commits session begin net reading end) = None
+service_step (Splits cut done) = None
+
+abbrev pub service_event : Given → Event
+service_event g = record { part = service_part; number = g.number; entry = Some g.entry; step = service_step g.entry }
+
+abbrev pub service_events : List Given → List Event
+service_events service = map service_event service
+
+pub service_its : (service : List Given) → AllByRecursion (λ e. e.part ≡ service_part) (service_events service)
+service_its [] = tt
+service_its (g ∷ service) = (refl, service_its service)
+
+pub service_takes : (service : List Given) → receipts_of (service_events service) ≡ service
+service_takes [] = refl
+service_takes (g ∷ service) = ap (λ gs. g ∷ gs) (service_takes service)
+
+module _ (schema : Schema) where
+  moves_by : (number : ℕ) (e : Entry) → IsOfService e → Moves schema (record { part = service_part; number = number; entry = Some e; step = service_step e }) None None
+  moves_by number (Begins session earlier view) is = (tt, refl)
+  moves_by number (Installs rect block done) is = inr (record { e = Installs rect block done; entry_is = refl; idle = tt; step_is = refl; reply_is = refl; left = refl })
+  moves_by number (Commits session begin net reading end) is = absurd is
+  moves_by number (Splits cut done) is = absurd is
+
+  all_move : (service : List Given) → AllByRecursion (λ g. IsOfService g.entry) service → Each number_of (λ e. Moves schema e None None) (service_events service)
+  all_move [] are = tt
+  all_move (g ∷ service) are = (moves_by g.number g.entry are.0, all_move service are.1)
+
+  chained : (xs : List Event) → Each number_of (λ e. Moves schema e None None) xs → Chain (Moves schema) None xs None
+  chained [] each = refl
+  chained (x ∷ xs) each = (None, (each.0, chained xs each.1))
+
+  pub service_goes : (service : List Given) → AllByRecursion (λ g. IsOfService g.entry) service → Chain (Moves schema) None (in_turn number_of (service_events service)) None
+  service_goes service are = chained (in_turn number_of (service_events service)) (in_turn_each number_of (λ e. Moves schema e None None) (service_events service) (all_move service are))
+
+steps_by : (e : Entry) → IsServiceStep (service_step e)
+steps_by (Begins session earlier view) = tt
+steps_by (Installs rect block done) = refl
+steps_by (Commits session begin net reading end) = tt
+steps_by (Splits cut done) = tt
+
+all_step : (service : List Given) → Each number_of (λ e. IsServiceStep e.step) (service_events service)
+all_step [] = tt
+all_step (g ∷ service) = (steps_by g.entry, all_step service)
+
+same_all : (xs : List Event) → Each number_of (λ e. IsServiceStep e.step) xs → AllByRecursion (λ e. IsServiceStep e.step) xs
+same_all [] each = tt
+same_all (x ∷ xs) each = (each.0, same_all xs each.1)
+
+pub service_tells : (service : List Given) → AllByRecursion (λ e. IsServiceStep e.step) (in_turn number_of (service_events service))
+service_tells service = same_all (in_turn number_of (service_events service)) (in_turn_each number_of (λ e. IsServiceStep e.step) (service_events service) (all_step service))

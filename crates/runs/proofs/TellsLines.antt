@@ -1,0 +1,244 @@
+-- The events of a session's lines: how the session moves by them, and what it was told.
+use Rattle.std.proofs.Common.{◌≡◌, ℕ, ◌≤◌, ◌⊎◌, inl, inr, Bool, List, [], ◌∷◌, ◌++◌, Option, Some, None, Result, Ok, Err, refl, sym, ap, subst, ◌∙◌}
+use Rattle.values.specs.declared.refusal.Refusal.{Refusal}
+use Rattle.values.specs.declared.key.Key.{Key}
+use Rattle.values.specs.Tables.{Schema}
+use Rattle.values.specs.KeyEncoding.{bytes_of_key}
+use Rattle.validation.specs.declared.cut.Cut.{Cut}
+use Rattle.validation.specs.declared.cut.Cut.TheVariants.{Key as KeyCut, Time as TimeCut}
+use Rattle.tsbtree.specs.View.{TreeState}
+use Rattle.steps.specs.declared.step.Step.{Step}
+use Rattle.steps.specs.declared.step.Step.TheVariants.{Begin, Insert, Update, Delete, UpdatePortion, DeletePortion, Select, Commit, Rollback, AddColumn, SplitKey, SplitTime, Migrate}
+use Rattle.steps.specs.declared.step.Reply.{Reply}
+use Rattle.steps.specs.declared.step.Reply.TheVariants.{Refused}
+use Rattle.steps.specs.Misfit.{max_session, key_misfit}
+use Rattle.statement.specs.declared.line.Line.{Line}
+use Rattle.statement.specs.declared.line.Line.TheVariants.{Nothing, Clock, Step as Asks}
+use Rattle.lines.specs.Partial.{Partial}
+use Rattle.journal.specs.declared.entry.Entry.{Entry}
+use Rattle.journal.specs.declared.entry.Entry.TheVariants.{Begin as Begins, Commit as Commits, Split as Splits, Install as Installs}
+use Rattle.serving.specs.Progress.{Given, IsRefusedStep, PacksFirst, Progress, Replies, Takes, TakesMigrate, TakesSplit, after, takes_split}
+use Rattle.serving.specs.ServedSession.{Answers, IsKept, IsRefusedLine, Serves, Told, said}
+use Rattle.runs.specs.Event.{Event, events_of, last_of, read_by, with_reading}
+use Rattle.runs.specs.Tells.{Says, Tells}
+use Rattle.runs.proofs.RunAlong.{Chain, chain_append}
+use Rattle.runs.proofs.OneHistoryBeside.{Held, IsIdle, IsOwnStep, Moves}
+use Rattle.runs.proofs.TellsSteps.{IsServedStep, served_step}
+
+-- ---- a step by the reading of its entry
+
+module _ (may_give : ℕ → Bool) (schema : Schema) (i : ℕ) (p : Progress) (given : List Given) (reply : Reply) (p' : Progress) where
+  record AsRead (step : Step) (r : ℕ) : Type 0 where
+    its : IsOwnStep i (with_reading r step)
+    takes : Takes may_give schema i (with_reading r step) p given reply p'
+    again : with_reading r step ≡ with_reading r (with_reading r step)
+
+  as_read : (step : Step) (r : ℕ) → IsOwnStep i step → Takes may_give schema i step p given reply p' → AsRead step r
+  as_read (Begin j) r its did = record { its = its; takes = did; again = refl }
+  as_read (Insert j table rows) r its did = record { its = its; takes = did; again = refl }
+  as_read (Update j keys sets) r its did = record { its = its; takes = did; again = refl }
+  as_read (Delete j keys) r its did = record { its = its; takes = did; again = refl }
+  as_read (UpdatePortion j keys cut sets) r its did = record { its = its; takes = did; again = refl }
+  as_read (DeletePortion j keys cut) r its did = record { its = its; takes = did; again = refl }
+  as_read (Select j form keys) r its did = record { its = its; takes = did; again = refl }
+  as_read (Commit j said) r its did = record { its = its; takes = did; again = refl }
+  as_read (Rollback j) r its did = record { its = its; takes = did; again = refl }
+  as_read (AddColumn j table name of) r its did = absurd its
+  as_read (SplitKey key) r its did = record { its = its; takes = did; again = refl }
+  as_read (SplitTime key instant) r its did = record { its = its; takes = did; again = refl }
+  as_read Migrate r its did = absurd its
+
+module _ (may_give : ℕ → Bool) (schema : Schema) (i : ℕ) (small : i ≤ max_session) where
+  abbrev Goes : Held → List Event → Held → Type 0
+  Goes = Chain (Moves schema)
+
+  -- ---- one event
+
+  silent_goes : (last : ℕ) (step : Step) (reply : Reply) (receipt next : ℕ) (t t' : Held) → IsOwnStep i step → Takes may_give schema i step (after receipt t) [] reply (after next t')
+      → Goes t (events_of i last (Some (step, reply)) []) t'
+  silent_goes last step reply receipt next t t' its did =
+      (t', (inl (record { may_give = may_give; in_range = small; its = its; read = tt; receipt = receipt; next = next; takes = did }), refl))
+
+  taking_goes : (last number : ℕ) (e : Entry) (step : Step) (reply : Reply) (receipt next : ℕ) (t t' : Held) → IsOwnStep i step → Takes may_give schema i step (after receipt t) (record { number = number; entry = e } ∷ []) reply (after next t')
+      → Goes t (events_of i last (Some (step, reply)) (record { number = number; entry = e } ∷ [])) t'
+  taking_goes last number (Commits session begin net reading end) step reply receipt next t t' its did =
+      let by = as_read may_give schema i (after receipt t) (record { number = number; entry = Commits session begin net reading end } ∷ []) reply (after next t') step reading its did in
+      (t', (inl (record { may_give = may_give; in_range = small; its = by.its; read = by.again; receipt = receipt; next = next; takes = by.takes }), refl))
+  taking_goes last number (Begins session earlier view) step reply receipt next t t' its did =
+      (t', (inl (record { may_give = may_give; in_range = small; its = its; read = refl; receipt = receipt; next = next; takes = did }), refl))
+  taking_goes last number (Splits cut done) step reply receipt next t t' its did =
+      (t', (inl (record { may_give = may_give; in_range = small; its = its; read = refl; receipt = receipt; next = next; takes = did }), refl))
+  taking_goes last number (Installs rect block done) step reply receipt next t t' its did =
+      (t', (inl (record { may_give = may_give; in_range = small; its = its; read = refl; receipt = receipt; next = next; takes = did }), refl))
+
+  -- ---- a step takes at most one receipt
+
+  abbrev Few : List Given → Type 0
+  Few given = (given ≡ []) ⊎ ((g : Given) × (given ≡ g ∷ []))
+
+  abbrev SplitBy : Cut → Progress → Progress → List Given → Reply → Option Refusal → Type 0
+  SplitBy cut p p' given reply u = elim u [
+    | Some refusal ↦ Replies (Refused refusal) p given reply p'
+    | None ↦ TakesSplit schema i cut p given reply p'
+  ]
+
+  split_few : (key : Key) (cut : Cut) (p p' : Progress) (given : List Given) (reply : Reply) → takes_split schema i key cut p given reply p' → Few given
+  split_few key cut p p' given reply did = by (key_misfit schema key) did
+    where
+      by : (u : Option Refusal) → SplitBy cut p p' given reply u → Few given
+      by (Some refusal) did = inl did.takes
+      by None did = inr (did.receipt, did.takes)
+
+  few : (step : Step) (receipt next : ℕ) (t t' : Held) (given : List Given) (reply : Reply) → IsOwnStep i step → Takes may_give schema i step (after receipt t) given reply (after next t') → Few given
+  few (Begin j) receipt next None t' given reply its did = inr (did.receipt, did.takes)
+  few (Begin j) receipt next (Some t) t' given reply its did = inl did.takes
+  few (Insert j table rows) receipt next t t' given reply its did = inl did.takes
+  few (Update j keys sets) receipt next t t' given reply its did = inl did.takes
+  few (Delete j keys) receipt next t t' given reply its did = inl did.takes
+  few (UpdatePortion j keys cut sets) receipt next t t' given reply its did = inl did.takes
+  few (DeletePortion j keys cut) receipt next t t' given reply its did = inl did.takes
+  few (Select j form keys) receipt next None t' given reply its did = inr (did.receipt, did.takes)
+  few (Select j form keys) receipt next (Some t) t' given reply its did = inl did.takes
+  few (Commit j said) receipt next None t' given reply its did = inl did.takes
+  few (Commit j said) receipt next (Some t) t' given reply its did = inr (did.receipt, did.takes)
+  few (Rollback j) receipt next None t' given reply its did = inl did.takes
+  few (Rollback j) receipt next (Some t) t' given reply its did = inl did.takes
+  few (AddColumn j table name of) receipt next t t' given reply its did = absurd its
+  few (SplitKey key) receipt next t t' given reply its did = split_few key (KeyCut (bytes_of_key key)) (after receipt t) (after next t') given reply did
+  few (SplitTime key instant) receipt next t t' given reply its did = split_few key (TimeCut (bytes_of_key key) instant) (after receipt t) (after next t') given reply did
+  few Migrate receipt next t t' given reply its did = absurd its
+
+  own_goes : (last : ℕ) (step : Step) (reply : Reply) (p p' : Progress) (given : List Given) → IsOwnStep i step → Takes may_give schema i step p given reply p'
+      → Goes p.transaction (events_of i last (Some (step, reply)) given) p'.transaction
+  own_goes last step reply p p' given its did = by (few step p.receipt p'.receipt p.transaction p'.transaction given reply its did)
+    where
+      by : Few given → Goes p.transaction (events_of i last (Some (step, reply)) given) p'.transaction
+      by (inl none) =
+          subst (λ given. Goes p.transaction (events_of i last (Some (step, reply)) given) p'.transaction) (sym none)
+          (silent_goes last step reply p.receipt p'.receipt p.transaction p'.transaction its (subst (λ given. Takes may_give schema i step p given reply p') none did))
+      by (inr one) =
+          subst (λ given. Goes p.transaction (events_of i last (Some (step, reply)) given) p'.transaction) (sym one.1)
+          (taking_goes last one.0.number one.0.entry step reply p.receipt p'.receipt p.transaction p'.transaction its (subst (λ given. Takes may_give schema i step p given reply p') one.1 did))
+
+  -- ---- MIGRATE
+
+  idle_begin : (session earlier : ℕ) (view : TreeState) (e : Entry) → e ≡ Begins session earlier view → IsIdle e
+  idle_begin session earlier view e is = subst IsIdle (sym is) tt
+
+  migrate_goes : (last : ℕ) (reply : Reply) (p p' : Progress) (given : List Given) → TakesMigrate schema i p given reply p' → Goes p.transaction (events_of i last (Some (Migrate, reply)) given) p'.transaction
+  migrate_goes last reply p p' given did =
+      subst (λ given. Goes p.transaction (events_of i last (Some (Migrate, reply)) given) p'.transaction) (sym did.takes) (by did.packed did.packs)
+    where
+      first_idle : IsIdle did.receipt.entry
+      first_idle = idle_begin 0 did.begins.earlier did.view did.receipt.entry did.begins.entry_is
+
+      left : p'.transaction ≡ p.transaction
+      left = ap (λ (p : Progress). p.transaction) did.left
+
+      by : (packed : List Given) → PacksFirst did.view packed → Goes p.transaction (events_of i last (Some (Migrate, reply)) (did.receipt ∷ packed)) p'.transaction
+      by [] packs = (p'.transaction, (inr (record { e = did.receipt.entry; entry_is = refl; idle = first_idle; step_is = ap (λ e. read_by e Migrate) did.begins.entry_is; reply_is = did.reply_is; left = left }), refl))
+      by (g ∷ []) packs = (
+        p.transaction,
+        (
+          (first_idle, refl),
+          (p'.transaction, (inr (record { e = g.entry; entry_is = refl; idle = subst IsIdle (sym packs.entry_is) tt; step_is = ap (λ e. read_by e Migrate) packs.entry_is; reply_is = did.reply_is; left = left }), refl)),
+        ),
+      )
+      by (g ∷ f ∷ more) packs = absurd packs
+
+  step_goes : (last : ℕ) (step : Step) (reply : Reply) (p p' : Progress) (given : List Given) → IsServedStep schema i step → Takes may_give schema i step p given reply p'
+      → Goes p.transaction (events_of i last (Some (step, reply)) given) p'.transaction
+  step_goes last step reply p p' given (inl its) did = own_goes last step reply p p' given its did
+  step_goes last step reply p p' given (inr is) did =
+      subst (λ step. Goes p.transaction (events_of i last (Some (step, reply)) given) p'.transaction) (sym is)
+      (migrate_goes last reply p p' given (subst (λ step. Takes may_give schema i step p given reply p') is did))
+
+  -- ---- what is refused since there is no room
+
+  none_goes : (last : ℕ) (p p' : Progress) (given : List Given) → given ≡ [] → p' ≡ p → Goes p.transaction (events_of i last None given) p'.transaction
+  none_goes last p p' given none left =
+      subst (λ given. Goes p.transaction (events_of i last None given) p'.transaction) (sym none) (ap (λ (p : Progress). p.transaction) left)
+
+  one_goes : (last : ℕ) (t t' : Held) (given : List Given) (receipt : Given) (session earlier : ℕ) (view : TreeState) → given ≡ receipt ∷ [] → receipt.entry ≡ Begins session earlier view → t' ≡ t → Goes t (events_of i last None given) t'
+  one_goes last t t' given receipt session earlier view one entry_is left =
+      subst (λ given. Goes t (events_of i last None given) t') (sym one) (t', ((idle_begin session earlier view receipt.entry entry_is, left), refl))
+
+  refused_goes : (last : ℕ) (step : Step) (p p' : Progress) (given : List Given) (refusal : Refusal) → IsRefusedStep schema i step p given refusal p' → Goes p.transaction (events_of i last None given) p'.transaction
+  refused_goes last step p p' [] refusal did = none_goes last p p' [] did.takes did.left
+  refused_goes last (Select j form keys) p p' (g ∷ given) refusal did =
+      let unread = did.1.1 in
+      one_goes last p.transaction p'.transaction (g ∷ given) unread.receipt i unread.begins.earlier unread.view unread.takes unread.begins.entry_is
+      (ap (λ (p : Progress). p.transaction) unread.left ∙ sym did.0)
+  refused_goes last Migrate p p' (g ∷ given) refusal did =
+      one_goes last p.transaction p'.transaction (g ∷ given) did.receipt 0 did.begins.earlier did.view did.takes did.begins.entry_is (ap (λ (p : Progress). p.transaction) did.left)
+  refused_goes last (Begin j) p p' (g ∷ given) refusal did = absurd did
+  refused_goes last (Insert j table rows) p p' (g ∷ given) refusal did = absurd did
+  refused_goes last (Update j keys sets) p p' (g ∷ given) refusal did = absurd did
+  refused_goes last (Delete j keys) p p' (g ∷ given) refusal did = absurd did
+  refused_goes last (UpdatePortion j keys cut sets) p p' (g ∷ given) refusal did = absurd did
+  refused_goes last (DeletePortion j keys cut) p p' (g ∷ given) refusal did = absurd did
+  refused_goes last (Commit j said) p p' (g ∷ given) refusal did = absurd did
+  refused_goes last (Rollback j) p p' (g ∷ given) refusal did = absurd did
+  refused_goes last (AddColumn j table name of) p p' (g ∷ given) refusal did = absurd did
+  refused_goes last (SplitKey key) p p' (g ∷ given) refusal did = absurd did
+  refused_goes last (SplitTime key instant) p p' (g ∷ given) refusal did = absurd did
+
+  line_refused : (last : ℕ) (line : Partial) (says : Result Line Refusal) (p p' : Progress) (given : List Given) (refusal : Refusal) → IsRefusedLine schema i line says p given refusal p' → Goes p.transaction (events_of i last None given) p'.transaction
+  line_refused last line (Ok (Asks step)) p p' given refusal (inl unread) = none_goes last p p' given unread.1.1.0 unread.1.1.1
+  line_refused last line (Ok (Asks step)) p p' given refusal (inr did) = refused_goes last step p p' given refusal did
+  line_refused last line (Ok Nothing) p p' given refusal unread = none_goes last p p' given unread.1.1.0 unread.1.1.1
+  line_refused last line (Ok (Clock reading)) p p' given refusal unread = none_goes last p p' given unread.1.1.0 unread.1.1.1
+  line_refused last line (Err e) p p' given refusal unread = none_goes last p p' given unread.1.1.0 unread.1.1.1
+
+  -- ---- a line
+
+  record LineGoes (last : ℕ) (refused : Option Refusal) (says : Result Line Refusal) (p p' : Progress) (given : List Given) (text : List ℕ) : Type 0 where
+    step : Option (Step × Reply)
+    told : Says refused says step text
+    goes : Goes p.transaction (events_of i last step given) p'.transaction
+
+  answered : (last : ℕ) (line : Partial) (says : Result Line Refusal) → said schema i line ≡ says → (p p' : Progress) (given : List Given) (text : List ℕ) → Answers may_give schema i says p given text p' → LineGoes last None says p p' given text
+  answered last line (Err refusal) e p p' given text did = record { step = None; told = (refl, did.out_is); goes = none_goes last p p' given did.takes did.left }
+  answered last line (Ok Nothing) e p p' given text did = record { step = None; told = (refl, did.out_is); goes = none_goes last p p' given did.takes did.left }
+  answered last line (Ok (Clock reading)) e p p' given text did = record { step = None; told = (refl, did.out_is); goes = none_goes last p p' given did.takes did.left }
+  answered last line (Ok (Asks step)) e p p' given text did = record {
+    step = Some (step, did.reply);
+    told = (did.reply, refl, did.out_is);
+    goes = step_goes last step did.reply p p' given (served_step schema i line step e) did.taken;
+  }
+
+  kept : (last : ℕ) (line : Partial) (refused : Option Refusal) (p p' : Progress) (given : List Given) (text : List ℕ) → IsKept may_give schema i refused line p given text p' → LineGoes last refused (said schema i line) p p' given text
+  kept last line (Some refusal) p p' given text did = record { step = None; told = (refl, did.out_is); goes = line_refused last line (said schema i line) p p' given refusal did.refused }
+  kept last line None p p' given text did = answered last line (said schema i line) refl p p' given text did
+
+  -- ---- all lines
+
+  pub record LinesGo (last : ℕ) (lines : List Partial) (told : List Told) (p p' : Progress) (given : List Given) (text : List ℕ) : Type 0 where
+    pub events : List Event
+    pub tells : Tells schema i last lines told given events text
+    pub goes : Goes p.transaction events p'.transaction
+
+  pub lines_go : (last : ℕ) (lines : List Partial) (told : List Told) (p p' : Progress) (given : List Given) (text : List ℕ) → Serves may_give schema i lines told p given text p' → LinesGo last lines told p p' given text
+  lines_go last [] [] p p' given text did = record { events = []; tells = (did.0, refl, did.1.0); goes = ap (λ (p : Progress). p.transaction) did.1.1 }
+  lines_go last (line ∷ lines) (t ∷ told) p p' given text (own, (more, (sent, (rest, (between, (given_is, (text_is, (did, later)))))))) =
+      let now = kept last line t.refused p between own sent did.kept in
+      let then = lines_go (last_of last own) lines told between p' more rest later in
+      record {
+        events = events_of i last now.step own ++ then.events;
+        tells = (
+          own,
+          more,
+          events_of i last now.step own,
+          then.events,
+          sent,
+          rest,
+          given_is,
+          refl,
+          text_is,
+          record { counted = did.counted; step = now.step; says = now.told; events_are = refl },
+          then.tells,
+        );
+        goes = chain_append (Moves schema) p.transaction between.transaction p'.transaction (events_of i last now.step own) then.events now.goes then.goes;
+      }
+  lines_go last [] (t ∷ told) p p' given text did = absurd did
+  lines_go last (line ∷ lines) [] p p' given text did = absurd did

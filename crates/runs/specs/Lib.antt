@@ -1,0 +1,4 @@
+pub mod Event
+pub mod OneHistory
+pub mod Run
+pub mod Tells

@@ -1,0 +1,100 @@
+-- A closed store and all of its receipts: of rows that were loaded, of sessions, and of the service.
+use Rattle.std.specs.Prelude.{◌≡◌, ◌≢◌, ℕ, ◌<◌, ◌≤◌, List, [], ◌∷◌, ◌++◌, Bool, Some, None, Ok, length, map, IsPermutation}
+use Rattle.std.specs.List.{AllByRecursion, flat_map}
+use Rattle.values.specs.Log.{Changes, Net, Row}
+use Rattle.values.specs.Tables.{Schema}
+use Rattle.tsbtree.specs.View.{TreeState}
+use Rattle.staging.specs.View.{Holds}
+use Rattle.staging.specs.Own.{net_over, own}
+use Rattle.steps.specs.declared.step.Step.TheVariants.{Insert}
+use Rattle.steps.specs.Misfit.{max_session, misfit}
+use Rattle.steps.specs.Write.{write}
+use Rattle.lines.specs.Partial.{Partial}
+use Rattle.journal.specs.declared.entry.Entry.{Entry}
+use Rattle.journal.specs.declared.entry.Entry.TheVariants.{Begin, Commit, Split, Install}
+use Rattle.journal.specs.Entries.{entry_at, numbers}
+use Rattle.book.specs.Book.{BookState, IsBook}
+use Rattle.serving.specs.Progress.{Given, Progress, after}
+use Rattle.serving.specs.ServedSession.{Serves, Told}
+
+-- ---- rows that were loaded
+
+-- the two receipts of a transaction of session 0, which is committed at the reading 0: its begin
+-- shows these changes, and the INSERT of the rows over them is taken
+pub record IsLoad (schema : Schema) (table : ℕ) (rows : List Row) (given : List Given) : Type 0 where
+  pub begin : ℕ
+  pub earlier : ℕ
+  pub view : TreeState
+  pub end : ℕ
+  pub net : Net
+  pub instant : ℕ
+  pub given_is : given ≡
+      record { number = begin; entry = Begin 0 earlier view }
+      ∷ record { number = end; entry = Commit 0 begin net 0 (Ok (Some instant)) } ∷ []
+  pub shown : Changes
+  pub held : Holds schema view shown
+  pub fits : misfit schema (Insert 0 table rows) ≡ None
+  pub count : ℕ
+  pub writes : Net
+  pub inserted : write schema (Insert 0 table rows) (own shown []) ≡ (Ok count, own shown writes)
+  pub net_is : net ≡ net_over shown writes
+
+-- rows of a table were loaded, or there are none and nothing was done
+abbrev pub IsLoaded : Schema → ℕ → List Row → List Given → Type 0
+IsLoaded schema table [] given = given ≡ []
+IsLoaded schema table (row ∷ rows) given = IsLoad schema table (row ∷ rows) given
+
+-- ---- sessions
+
+-- what a session comes to: its number, the lines that were taken, what is told of each, its
+-- receipts, the text that it was sent, and what it has come to
+pub record Part : Type 0 where
+  pub number : ℕ
+  pub lines : List Partial
+  pub told : List Told
+  pub given : List Given
+  pub text : List ℕ
+  pub later : Progress
+
+-- numbers rise, from above this one
+abbrev pub Rises : ℕ → List Given → Type 0
+Rises last [] = Unit {0}
+Rises last (g ∷ given) = (last < g.number) × Rises g.number given
+
+pub record IsPart (schema : Schema) (p : Part) : Type 0 where
+  pub may_give : ℕ → Bool
+  pub some : 1 ≤ p.number
+  pub in_range : p.number ≤ max_session
+  pub serves : Serves may_give schema p.number p.lines p.told (after 0 None) p.given p.text p.later
+  pub rises : Rises 0 p.given
+
+-- no two have one number
+abbrev pub AreApart : List Part → Type 0
+AreApart [] = Unit {0}
+AreApart (p ∷ parts) = AllByRecursion (λ q. q.number ≢ p.number) parts × AreApart parts
+
+-- ---- the service
+
+-- a begin of its own session, or an install
+abbrev pub IsOfService : Entry → Type 0
+IsOfService (Begin session earlier view) = session ≡ 0
+IsOfService (Install rect block done) = Unit {0}
+IsOfService (Commit session begin net reading end) = ⊥
+IsOfService (Split cut done) = ⊥
+
+-- ---- all of it
+
+abbrev pub all_given : List Given → List Part → List Given → List Given
+all_given loaded parts service = loaded ++ (flat_map (λ p. p.given) parts ++ service)
+
+pub record IsRun (schema : Schema) (b : BookState) (table : ℕ) (rows : List Row)
+    (loaded : List Given) (parts : List Part) (service : List Given) : Type 0 where
+  pub is_book : IsBook schema b
+  pub is_loaded : IsLoaded schema table rows loaded
+  pub are_parts : AllByRecursion (IsPart schema) parts
+  pub apart : AreApart parts
+  pub serviced : AllByRecursion (λ g. IsOfService g.entry) service
+  pub stand : AllByRecursion (λ g. entry_at b.entries g.number ≡ Some g.entry)
+      (all_given loaded parts service)
+  pub once : IsPermutation (map (λ g. g.number) (all_given loaded parts service))
+      (numbers (length b.entries))
