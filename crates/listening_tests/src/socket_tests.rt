@@ -55,6 +55,16 @@ impl Gate for Shut {
     }
 }
 
+/// A gate that lets session 2 alone read.
+#[derive(Clone, Copy)]
+struct ForSecond;
+
+impl Gate for ForSecond {
+    fn pass<R: Wait>(&self, _rt: &R, session: u8, place: Place) -> bool {
+        place == Place::Committed || session == 2
+    }
+}
+
 fn insert_ann(rt: &impl Abort, alloc: Global, session: &mut Session) {
     let rows = vec![in alloc; employee(rt, alloc, 1, "Ann")].expect(rt, "there is memory");
     session
@@ -225,4 +235,14 @@ fn a_gate_that_gives_up_ends_its_session_alone(rt: HostRuntime) {
     );
     let found = serve_two_clients(&rt, rt.alloc(), &Shut, Play::InTurn, wanted);
     assert!(rt; found == (true, true, 4));
+}
+
+#[test]
+fn the_second_connection_is_session_2(rt: HostRuntime) {
+    let wanted = (
+        Wanted::Within("begun 100\ninserted 1\ncommitted ", ""),
+        Wanted::Whole("rows 2\n(1, 'Ann')\n(2, 'Bea')\nE4 no transaction\n"),
+    );
+    let found = serve_two_clients(&rt, rt.alloc(), &ForSecond, Play::InTurn, wanted);
+    assert!(rt; found == (true, true, 5));
 }
