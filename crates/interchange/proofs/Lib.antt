@@ -1,3 +1,7 @@
+mod KeptFieldBytes
+mod KeptFieldNumber
+mod KeptFieldHeader
+mod KeptFieldRows
 mod LoadFields
 mod VersionChunks
 mod InsertionKeys

@@ -1,5 +1,5 @@
 -- A file of CSV as it is read on.
-use Rattle.std.proofs.Common.{◌≡◌, ℕ, Bool, true, false, List, [], ◌∷◌, ◌++◌, Option, Some, None, Result, Ok, Err, refl, sym, ap, ◌∙◌, subst, inl, inr, Global, append-nil, append_assoc, if◌then◌else◌}
+use Rattle.std.proofs.Common.{◌≡◌, ◌≤◌, ℕ, Bool, true, false, List, [], ◌∷◌, ◌++◌, Option, Some, None, Result, Ok, Err, refl, sym, ap, ◌∙◌, subst, inl, inr, arith, length, Global, append-nil, append_assoc, if◌then◌else◌}
 use Rattle.std.specs.Prelude.{◌⊎◌, IfErr, IfOk, Vec, is_some}
 use Rattle.csv.specs.declared.parser.Action.{Action}
 use Rattle.csv.specs.declared.parser.Action.TheVariants as act
@@ -11,13 +11,18 @@ use Rattle.values.specs.declared.table.Table.{Table}
 use Rattle.values.specs.declared.refusal.Refusal.{Refusal}
 use Rattle.values.specs.declared.refusal.Refusal.TheVariants.{BadRow, Memory}
 use Rattle.values.specs.Log.{Row}
+use Rattle.values.specs.Tables.{widest}
 use Rattle.statement.specs.Meaning.{is_column_list}
+use Rattle.statement.specs.Memory.{UnlessMemory}
 use Rattle.interchange.specs.declared.insertion.Insertion.{Insertion}
 use Rattle.interchange.specs.declared.loading.Loading.{Loading}
 use Rattle.interchange.specs.Load.{Record, column_list, vec_items, row_of, rows_from, rows_of, inserted}
 use Rattle.interchange.specs.OpenRecord.{AreRecordsFrom, HasTaken, IsOpenAt}
 use Rattle.interchange.specs.Insertion.{HasCome}
 use Rattle.interchange.specs.Loading.{HasRecords, HasRows, IsAllRead, IsReadTo, IsRefusedAt, IsWhyOf, IsWholeOf}
+use Rattle.interchange.specs.KeptField.{kept_fields}
+use Rattle.interchange.proofs.KeptFieldHeader.{kept_list, list_few, no_list}
+use Rattle.interchange.proofs.KeptFieldRows.{row_same}
 use Rattle.interchange.proofs.OpenRecordText.{records_last, records_next, records_stay, some_records}
 
 -- ---- a text that goes on
@@ -25,7 +30,7 @@ use Rattle.interchange.proofs.OpenRecordText.{records_last, records_next, record
 -- a byte within a record
 pub read_within : (table : Table) (text : List ℕ) (byte : ℕ) (new : Loading) (s : State) (fields : Record) (field : List ℕ) (records : List Record)
     → ((rest : List ℕ) (more : List Record) → AreRecordsFrom s fields field rest more → AreRecords default_config state.StartRecord (text ++ rest) (records ++ more))
-    → HasRecords table records new → HasTaken new.record s fields field byte false → IsReadTo table (text ++ byte ∷ []) new
+    → HasRecords table records new → HasTaken table new.record s fields field byte false → IsReadTo table (text ++ byte ∷ []) new
 read_within table text byte new s fields field records goes_on taken took = record {
   records = records;
   state_is = (step default_config s byte).0;
@@ -40,7 +45,7 @@ read_within table text byte new s fields field records goes_on taken took = reco
 -- a byte that ends a record, which is then taken
 pub read_next : (table : Table) (text : List ℕ) (byte : ℕ) (new : Loading) (s : State) (fields : Record) (field : List ℕ) (records : List Record)
     → ((rest : List ℕ) (more : List Record) → AreRecordsFrom s fields field rest more → AreRecords default_config state.StartRecord (text ++ rest) (records ++ more))
-    → is_end (step default_config s byte).1 ≡ true → IsOpenAt new.record (step default_config s byte).0 [] []
+    → is_end (step default_config s byte).1 ≡ true → IsOpenAt table new.record (step default_config s byte).0 [] []
     → HasRecords table (records ++ fields_after (step default_config s byte).1 fields field ∷ []) new → IsReadTo table (text ++ byte ∷ []) new
 read_next table text byte new s fields field records goes_on ends begun taken = record {
   records = records ++ fields_after (step default_config s byte).1 fields field ∷ [];
@@ -120,46 +125,66 @@ refused_last table text why s fields field records goes_on ends (inr refused) = 
 
 -- ---- records that are taken
 
--- the header
-pub header_taken : (table : Table) (columns : List ℕ) (fields : Record) (i : Insertion) → columns ≡ column_list table fields → is_column_list columns ≡ true → HasCome table [] i
-    → HasRows table columns (fields ∷ []) i
-header_taken table columns fields i same list come = record {
-  rows = [];
-  goes_on = λ more.
-      ap (λ (b : Bool). if b then rows_from table (column_list table fields) [] more else Err (BadRow 0)) (ap is_column_list (sym same) ∙ list)
-      ∙ ap (λ c. rows_from table c [] more) (sym same);
-  come = come;
-}
+-- the header, by what is kept of it
+pub header_taken : (table : Table) (columns : List ℕ) (kept fields : Record) (i : Insertion) → length table.columns ≤ widest → kept ≡ kept_fields table fields
+    → columns ≡ column_list table kept → is_column_list columns ≡ true → HasCome table [] i → HasRows table columns (fields ∷ []) i
+header_taken table columns kept fields i few is names list come =
+    let named : columns ≡ column_list table (kept_fields table fields) = names ∙ ap (column_list table) is in
+    let same : columns ≡ column_list table fields = named ∙ kept_list table fields few (ap is_column_list (sym named) ∙ list) in
+    let listed : is_column_list (column_list table fields) ≡ true = ap is_column_list (sym same) ∙ list in
+    record {
+      few = omega (arith, ap length same, list_few table fields few listed);
+      rows = [];
+      goes_on = λ more.
+          ap (λ (b : Bool). if b then rows_from table (column_list table fields) [] more else Err (BadRow 0)) listed
+          ∙ ap (λ c. rows_from table c [] more) (sym same);
+      come = come;
+    }
 
-pub header_refused : (table : Table) (fields : Record) (records : List Record) (why : Refusal) → records ≡ []
-    → (why ≡ Memory) ⊎ ((why ≡ BadRow 0) × (is_column_list (column_list table fields) ≡ false)) → IsRefusedAt table records fields why
-header_refused table fields records why none (inl out) = inl out
-header_refused table fields records why none (inr (is, bad)) = inr (λ more.
+pub header_refused : (table : Table) (kept fields : Record) (records : List Record) (why : Refusal) → length table.columns ≤ widest → kept ≡ kept_fields table fields → records ≡ []
+    → (why ≡ Memory) ⊎ ((why ≡ BadRow 0) × (is_column_list (column_list table kept) ≡ false)) → IsRefusedAt table records fields why
+header_refused table kept fields records why few same none (inl out) = inl out
+header_refused table kept fields records why few same none (inr (is, bad)) = inr (λ more.
     ap (λ (l : List Record). rows_of table (l ++ fields ∷ more)) none
-    ∙ ap (λ (b : Bool). if b then rows_from table (column_list table fields) [] more else Err (BadRow 0)) bad
+    ∙ ap (λ (b : Bool). if b then rows_from table (column_list table fields) [] more else Err (BadRow 0))
+    (no_list table fields few (ap (λ k. is_column_list (column_list table k)) (sym same) ∙ bad))
     ∙ ap Err (sym is))
 
--- a row
-pub row_taken : (table : Table) (columns : List ℕ) (fields : Record) (records : List Record) (row : Row) (old new : Insertion) → row_of table columns fields ≡ Ok row
-    → ((rows : List Row) → HasCome table rows old → HasCome table (rows ++ row ∷ []) new) → HasRows table columns records old → HasRows table columns (records ++ fields ∷ []) new
-row_taken table columns fields records row old new is come has = record {
+-- a row, by what is kept of it
+row_is : (table : Table) (columns : List ℕ) (kept fields : Record) (records : List Record) (i : Insertion) → kept ≡ kept_fields table fields → HasRows table columns records i
+    → row_of table columns fields ≡ row_of table columns kept
+row_is table columns kept fields records i same has = sym (row_same table columns fields has.few) ∙ ap (row_of table columns) (sym same)
+
+pub row_taken : (table : Table) (columns : List ℕ) (kept fields : Record) (records : List Record) (row : Row) (old new : Insertion)
+    → row_of table columns kept ≡ Ok row → kept ≡ kept_fields table fields → ((rows : List Row) → HasCome table rows old → HasCome table (rows ++ row ∷ []) new) → HasRows table columns records old → HasRows table columns (records ++ fields ∷ []) new
+row_taken table columns kept fields records row old new is same come has = record {
+  few = has.few;
   rows = has.rows ++ row ∷ [];
   goes_on = λ more.
       ap (rows_of table) (append_assoc records (fields ∷ []) more)
       ∙ has.goes_on (fields ∷ more)
-      ∙ ap (later more) is;
+      ∙ ap (later more) (row_is table columns kept fields records old same has ∙ is);
   come = come has.rows has.come;
 }
   where
     later : List Record → Result Row Refusal → Result (List Row) Refusal
     later more r = elim r [ Err refusal ↦ Err refusal | Ok row ↦ rows_from table columns (has.rows ++ row ∷ []) more ]
 
-pub row_refused : (table : Table) (columns : List ℕ) (fields : Record) (records : List Record) (why : Refusal) (i : Insertion) → row_of table columns fields ≡ Err why → HasRows table columns records i
-    → (more : List Record) → rows_of table (records ++ fields ∷ more) ≡ Err why
-row_refused table columns fields records why i is has more = has.goes_on (fields ∷ more) ∙ ap later is
+-- memory ran out, or that is what a record is refused for
+refused_for : (why : Refusal) (answer : Result Row Refusal) → UnlessMemory (Err why) answer → (why ≡ Memory) ⊎ (answer ≡ Err why)
+refused_for Memory answer refused = inl refl
+refused_for why answer refused = inr refused
+
+pub row_refused : (table : Table) (columns : List ℕ) (kept fields : Record) (records : List Record) (why : Refusal) (i : Insertion)
+    → UnlessMemory (Err why) (row_of table columns kept) → kept ≡ kept_fields table fields → HasRows table columns records i → IsRefusedAt table records fields why
+row_refused table columns kept fields records why i refused same has = by (refused_for why (row_of table columns kept) refused)
   where
-    later : Result Row Refusal → Result (List Row) Refusal
-    later r = elim r [ Err refusal ↦ Err refusal | Ok row ↦ rows_from table columns (has.rows ++ row ∷ []) more ]
+    later : List Record → Result Row Refusal → Result (List Row) Refusal
+    later more r = elim r [ Err refusal ↦ Err refusal | Ok row ↦ rows_from table columns (has.rows ++ row ∷ []) more ]
+
+    by : (why ≡ Memory) ⊎ (row_of table columns kept ≡ Err why) → IsRefusedAt table records fields why
+    by (inl out) = inl out
+    by (inr is) = inr (λ more. has.goes_on (fields ∷ more) ∙ ap (later more) (row_is table columns kept fields records i same has ∙ is))
 
 -- ---- a file that was read to its end
 

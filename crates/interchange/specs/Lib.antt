@@ -3,6 +3,7 @@ pub mod Load
 pub mod Version
 pub mod Report
 pub mod Place
+pub mod KeptField
 pub mod OpenRecord
 pub mod Overlaps
 pub mod Insertion

@@ -1,5 +1,5 @@
 -- How far a file of CSV was read, and what is known of all of it.
-use Rattle.std.specs.Prelude.{◌≡◌, ◌⊎◌, ℕ, List, [], ◌∷◌, ◌++◌, Some, None, Result, Err}
+use Rattle.std.specs.Prelude.{◌≡◌, ◌≤◌, ◌⊎◌, ℕ, List, [], ◌∷◌, ◌++◌, Some, None, Result, Err, length}
 use Rattle.csv.specs.Reading.{AreRecords, default_config}
 use Rattle.csv.specs.declared.parser.State.{State}
 use Rattle.csv.specs.declared.parser.State.TheVariants as state
@@ -7,6 +7,7 @@ use Rattle.values.specs.declared.table.Table.{Table}
 use Rattle.values.specs.declared.refusal.Refusal.{Refusal}
 use Rattle.values.specs.declared.refusal.Refusal.TheVariants.{Memory}
 use Rattle.values.specs.Log.{Row}
+use Rattle.values.specs.Tables.{widest}
 use Rattle.interchange.specs.declared.insertion.Insertion.{Insertion}
 use Rattle.interchange.specs.declared.loading.Loading.{Loading}
 use Rattle.interchange.specs.Load.{Record, rows_from, rows_of, inserted}
@@ -23,6 +24,7 @@ pub record IsWholeOf (table : Table) (text : List ℕ) (result : Result (List Ro
 -- records were taken, of which the first names these columns: what rows they are, whatever follows
 pub record HasRows (table : Table) (columns : List ℕ) (records : List Record) (i : Insertion)
     : Type 0 where
+  pub few : length columns ≤ widest
   pub rows : List Row
   pub goes_on : (more : List Record)
       → rows_of table (records ++ more) ≡ rows_from table columns rows more
@@ -47,7 +49,7 @@ pub record IsReadTo (table : Table) (text : List ℕ) (l : Loading) : Type 0 whe
   pub state_is : State
   pub fields : Record
   pub field : List ℕ
-  pub at : IsOpenAt l.record state_is fields field
+  pub at : IsOpenAt table l.record state_is fields field
   pub taken : HasRecords table records l
   pub goes_on : (rest : List ℕ) (more : List Record) → AreRecordsFrom state_is fields field rest more
       → AreRecords default_config state.StartRecord (text ++ rest) (records ++ more)

@@ -3,6 +3,7 @@
 
 mod field;
 mod insertion;
+mod kept_field;
 mod key_set;
 mod load;
 mod loading;

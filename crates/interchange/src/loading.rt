@@ -3,6 +3,7 @@ ghost use Rattle.std.specs.Prelude.{◌≡◌, ◌++◌, ◌∷◌, ℕ, [], Err
 ghost use Rattle.csv.specs.Records.{fields_of};
 ghost use Rattle.csv.specs.declared.parser.State.{State};
 ghost use Rattle.values.specs.Tables.{IsTable};
+ghost use Rattle.interchange.specs.KeptField.{kept_fields};
 ghost use Rattle.interchange.specs.Load.{Record};
 ghost use Rattle.interchange.specs.Loading.{HasRecords, HasRows, IsAllRead, IsReadTo, IsRefusedAt, IsWhyOf, IsWholeOf};
 ghost use Rattle.interchange.specs.OpenRecord.{IsOpenAt};
@@ -22,7 +23,7 @@ pub(crate) struct Loading {
     rows: Insertion,
 }
 
-/// Takes a record as a row.
+/// Takes a record as a row, by what is kept of its fields.
 fn take_row(
     alloc: Global,
     table: &Table,
@@ -31,12 +32,14 @@ fn take_row(
     rows: &mut Insertion,
 ) -> Mem<()>
     requires good { IsTable table.now.number table.now }
-    ensures ok { OnOk result ((records : List Record)
+    ensures ok { OnOk result ((whole : Record) (records : List Record)
+        → fields_of fields.now ≡ kept_fields table.now whole
         → HasRows table.now columns.now records rows.old
-        → HasRows table.now columns.now (records ++ fields_of fields.now ∷ []) rows.new) }
-    ensures err { IfErr result (λ why. (records : List Record)
+        → HasRows table.now columns.now (records ++ whole ∷ []) rows.new) }
+    ensures err { IfErr result (λ why. (whole : Record) (records : List Record)
+        → fields_of fields.now ≡ kept_fields table.now whole
         → HasRows table.now columns.now records rows.old
-        → IsRefusedAt table.now records (fields_of fields.now) why) }
+        → IsRefusedAt table.now records whole why) }
 {
     match row_of(alloc, table, columns, fields) {
         Ok(row) => rows.take(alloc, table, row),
@@ -46,11 +49,11 @@ fn take_row(
 
 impl Loading {
     /// Makes a file of which nothing was read.
-    pub(crate) fn new(alloc: Global) -> Loading
-        ensures { (table : Table) → IsReadTo table [] result }
+    pub(crate) fn new(alloc: Global, table: &Table) -> Loading
+        ensures { IsReadTo table.now [] result }
     {
         Loading {
-            record: OpenRecord::new(alloc),
+            record: OpenRecord::new(alloc, table),
             columns: None,
             rows: Insertion::new(alloc),
         }
@@ -58,13 +61,14 @@ impl Loading {
 
     /// Takes the record at hand, which has ended, as the header.
     fn take_header(&mut self, alloc: Global, table: &Table) -> Mem<()>
+        requires good { IsTable table.now.number table.now }
         requires first { self.old.columns ≡ None }
         ensures ok { OnOk result ((s : State) (fields : Record) (records : List Record)
-            → IsOpenAt self.old.record s fields [] → HasRecords table.now records self.old
+            → IsOpenAt table.now self.old.record s fields [] → HasRecords table.now records self.old
             → HasRecords table.now (records ++ fields ∷ []) self.new) }
         ensures record { self.new.record ≡ self.old.record }
         ensures err { IfErr result (λ why. (s : State) (fields : Record) (records : List Record)
-            → IsOpenAt self.old.record s fields [] → HasRecords table.now records self.old
+            → IsOpenAt table.now self.old.record s fields [] → HasRecords table.now records self.old
             → IsRefusedAt table.now records fields why) }
     {
         match columns_of(alloc, table, self.record.fields()) {
@@ -80,12 +84,13 @@ impl Loading {
     fn take_record(&mut self, alloc: Global, table: &Table) -> Mem<()>
         requires good { IsTable table.now.number table.now }
         ensures ok { OnOk result ((s : State) (fields : Record) (records : List Record)
-            → IsOpenAt self.old.record s fields [] → HasRecords table.now records self.old
+            → IsOpenAt table.now self.old.record s fields [] → HasRecords table.now records self.old
             → HasRecords table.now (records ++ fields ∷ []) self.new) }
         ensures record { OnOk result ((s : State) (fields : Record)
-            → IsOpenAt self.old.record s fields [] → IsOpenAt self.new.record s fields []) }
+            → IsOpenAt table.now self.old.record s fields []
+            → IsOpenAt table.now self.new.record s fields []) }
         ensures err { IfErr result (λ why. (s : State) (fields : Record) (records : List Record)
-            → IsOpenAt self.old.record s fields [] → HasRecords table.now records self.old
+            → IsOpenAt table.now self.old.record s fields [] → HasRecords table.now records self.old
             → IsRefusedAt table.now records fields why) }
     {
         match &self.columns {
@@ -104,12 +109,13 @@ impl Loading {
     fn end_record(&mut self, alloc: Global, table: &Table) -> Mem<()>
         requires good { IsTable table.now.number table.now }
         ensures ok { OnOk result ((s : State) (fields : Record) (records : List Record)
-            → IsOpenAt self.old.record s fields [] → HasRecords table.now records self.old
+            → IsOpenAt table.now self.old.record s fields [] → HasRecords table.now records self.old
             → HasRecords table.now (records ++ fields ∷ []) self.new) }
         ensures record { OnOk result ((s : State) (fields : Record)
-            → IsOpenAt self.old.record s fields [] → IsOpenAt self.new.record s [] []) }
+            → IsOpenAt table.now self.old.record s fields []
+            → IsOpenAt table.now self.new.record s [] []) }
         ensures err { IfErr result (λ why. (s : State) (fields : Record) (records : List Record)
-            → IsOpenAt self.old.record s fields [] → HasRecords table.now records self.old
+            → IsOpenAt table.now self.old.record s fields [] → HasRecords table.now records self.old
             → IsRefusedAt table.now records fields why) }
     {
         match self.take_record(alloc, table) {

@@ -118,7 +118,9 @@ fn load_rest<R: Read>(
 /// bytes of their keys. Of a table with a period of application time the spans of all rows are kept
 /// too, by entity, up to the first row that overlaps an earlier one of its entity; it is compared
 /// with those alone, so n rows of one entity are n * n / 2 pairs. After a key that repeats, or a
-/// span with no start below its end, nothing more is kept.
+/// span with no start below its end, nothing more is kept. Of the record that is read at most 17 fields
+/// are kept, and of a field at most 1,021 bytes, or 21 more than the longest name of a column where
+/// that has over 1,000.
 ///
 /// `BadRow` as `load_rows` has it, as soon as the record was read. At the end of the file, in this
 /// order: `BadPeriod` where the span of any row has no start below its end; `DuplicateKey` with the
@@ -139,7 +141,7 @@ pub fn load_from<R: Read>(
         Ok(head) => head,
         Err(fault) => return Err(fault),
     };
-    let mut loading = Loading::new(alloc);
+    let mut loading = Loading::new(alloc, table);
     match loading.feed(alloc, table, without_mark(head.as_slice())) {
         Ok(()) => {}
         Err(why) => return Err(LoadFault::Refused(why)),

@@ -4,12 +4,12 @@ use Rattle.interchange.proofs.OpenRecordText.{records_from_start}
 use Rattle.interchange.proofs.loading.Loading.new.Goals as goal
 
 pub returns : goal.returns
-returns c = λ table. record {
+returns c = record {
   records = [];
   state_is = state.StartRecord;
   fields = [];
   field = [];
   at = c.new.ensures;
-  taken = (refl, c.new-2.ensures table);
+  taken = (refl, c.new-2.ensures c.args.table.now);
   goes_on = λ rest more from. records_from_start state.StartRecord rest more from;
 }
