@@ -48,13 +48,13 @@ both_true false b e = cc e
 one_more : (n : ℕ) → 1 + n ≡ suc n
 one_more n = omega arith
 
-no_nought : (n : ℕ) → (suc n == 0) ≡ false
-no_nought n = grind (arith, nat_tests)
+suc_no_zero : (n : ℕ) → (suc n == 0) ≡ false
+suc_no_zero n = grind (arith, nat_tests)
 
 front_zero : (most : ℕ) (bytes : List ℕ)
     → digits_here most (48 ∷ bytes) ≡ option_map (λ n. (n, drop (digit_count bytes) bytes)) (value_within most (48 ∷ take (digit_count bytes) bytes))
 unfolding digits_here
-front_zero most bytes = rw (one_more (digit_count bytes), no_nought (digit_count bytes))
+front_zero most bytes = rw (one_more (digit_count bytes), suc_no_zero (digit_count bytes))
 
 second_zero : (sign : ℕ → ℤ) (most : ℕ) (bytes : List ℕ) → signed sign most (48 ∷ 48 ∷ bytes) ≡ signed sign most (48 ∷ bytes)
 second_zero sign most bytes =
@@ -158,7 +158,7 @@ no_number sign most front more small some many = by (length rest == 0) refl
 
 -- ---- bytes that come one after another
 
--- so many bytes are not all zeros that what follows leaves a number too great
+-- the first bytes are not zeros alone: with 19 digits behind them they write a number over 64 bits
 record IsGreat (longest : ℕ) (kept : List ℕ) : Type 0 where
   front : List ℕ
   more : List ℕ
@@ -179,7 +179,7 @@ great_none longest kept bytes g many =
         at true e = with_minus b (front ++ (g.more ++ bytes)) e ∙ no_number minus (2 ^ 63) front (g.more ++ bytes) (omega arith) (sym (zeros_with b front e) ∙ some) more
         at false e = without_minus b (front ++ (g.more ++ bytes)) e ∙ no_number pos (2 ^ 63 - 1) (b ∷ front) (g.more ++ bytes) (omega arith) (sym (zeros_without b front e) ∙ some) more
 
--- the next byte would be the first that is kept behind a text, or so many bytes are no zeros
+-- at most one byte is kept behind those of a text, or the first bytes are not zeros alone
 abbrev MayGrow : ℕ → List ℕ → Type 0
 MayGrow longest kept = (length kept ≤ longest + 1) ⊎ IsGreat longest kept
 
@@ -211,7 +211,7 @@ great_grows longest kept byte (inr g) many other = record {
   some = g.some;
 }
 
--- whether a byte is kept, by how many there are, and by whether it is one more zero of many
+-- what is kept with a byte: whether there are few, the byte is one more leading zero, and there is room
 abbrev kept_by : List ℕ → ℕ → Bool → Bool → Bool → List ℕ
 kept_by kept byte short idle room = if short || (not idle && room) then kept ++ byte ∷ [] else kept
 
