@@ -14,8 +14,6 @@ mod line_tests;
 #[cfg(test)]
 mod load_from_tests;
 #[cfg(test)]
-mod load_long_tests;
-#[cfg(test)]
 mod load_period_tests;
 #[cfg(test)]
 mod load_tests;
