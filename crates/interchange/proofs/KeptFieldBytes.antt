@@ -1,17 +1,11 @@
--- What is kept of a field, byte by byte, and of a record, field by field.
-use Rattle.std.proofs.Common.{◌≡◌, ◌≤◌, ◌<◌, ◌+◌, ◌==◌, ◌&&◌, ◌||◌, ℕ, Bool, true, false, not, nat_lt, List, [], ◌∷◌, ◌++◌, refl, sym, ap, ◌∙◌, inl, inr, arith, length, map, take, append-nil, append_assoc, length-append, if◌then◌else◌}
+-- What is kept of a field, byte by byte.
+use Rattle.std.proofs.Common.{◌≡◌, ◌≤◌, ◌<◌, ◌+◌, ◌==◌, ◌&&◌, ◌||◌, ℕ, Bool, true, false, not, nat_lt, List, [], ◌∷◌, ◌++◌, refl, sym, ap, ◌∙◌, inl, inr, arith, length, take, append-nil, append_assoc, length-append, if◌then◌else◌}
 use Rattle.std.specs.Prelude.{◌⊎◌, nat_le}
 use Rattle.std.specs.List.{fold}
 use Rattle.std.proofs.lemmas.Bool.{le-leb, leb-true}
 use Rattle.std.proofs.lemmas.Bool.Decides.{nat_tests}
-use Rattle.std.proofs.lemmas.List.{length-take-le, map-append, take-append-le, take_all}
-use Rattle.std.proofs.lemmas.List.Sums.{fold-append}
-use Rattle.values.specs.declared.table.Table.{Table}
-use Rattle.interchange.specs.KeptField.{is_kept, is_zeros, keep_byte, kept_field, kept_fields, longest_field, most_fields, most_kept}
-use Rattle.interchange.specs.Load.{Record}
-
-pub kept_field_last : (longest : ℕ) (field : List ℕ) (byte : ℕ) → kept_field longest (field ++ byte ∷ []) ≡ keep_byte longest (kept_field longest field) byte
-kept_field_last longest field byte = fold-append (keep_byte longest) [] field (byte ∷ [])
+use Rattle.std.proofs.lemmas.List.{take-append-le, take_all}
+use Rattle.interchange.specs.KeptField.{is_kept, is_zeros, keep_byte, kept_field, most_kept}
 
 -- ---- the first fields
 
@@ -20,19 +14,6 @@ room_left n xs x less = sym (take_all n (xs ++ x ∷ []) (omega (arith, length-a
 
 pub no_room_left : {A : Type 0} (n : ℕ) (xs : List A) (x : A) → n ≤ length xs → length xs ≤ n → xs ≡ take n (xs ++ x ∷ [])
 no_room_left n xs x full few = sym (take-append-le n xs (x ∷ []) full ∙ take_all n xs few)
-
--- the first of some with one more are those of the first with it
-first_last : {A : Type 0} (n : ℕ) (xs : List A) (x : A) → (t : Bool) → nat_le (length xs) n ≡ t → take n (xs ++ x ∷ []) ≡ take n (take n xs ++ x ∷ [])
-first_last n xs x true is = ap (λ ys. take n (ys ++ x ∷ [])) (sym (take_all n xs (leb-true (length xs) n is)))
-first_last n xs x false is =
-    let full : n ≤ length xs = grind (arith, nat_tests) in
-    take-append-le n xs (x ∷ []) full ∙ no_room_left n (take n xs) x (omega (arith, length-take-le n xs full)) (omega (arith, length-take-le n xs full))
-
-pub kept_fields_last : (table : Table) (fields : Record) (field : List ℕ)
-    → kept_fields table (fields ++ field ∷ []) ≡ take most_fields (kept_fields table fields ++ kept_field (longest_field table) field ∷ [])
-kept_fields_last table fields field =
-    ap (take most_fields) (map-append (kept_field (longest_field table)) fields (field ∷ []))
-    ∙ first_last most_fields (map (kept_field (longest_field table)) fields) (kept_field (longest_field table) field) (nat_le (length (map (kept_field (longest_field table)) fields)) most_fields) refl
 
 -- ---- a field that may be a text or a name is kept whole, and each other one stays longer than those
 
