@@ -2,6 +2,7 @@
 use Rattle.std.proofs.Common.{◌≡◌, ℕ, zero, suc, ◌+◌, ◌<◌, ◌≤◌, ◌==◌, Bool, true, false, List, [], ◌∷◌, ◌++◌, Option, Some, None, refl, sym, ap, subst, ◌∙◌, arith, append-nil, append_assoc, map, length, length-append, reverse, slice_get}
 use Rattle.std.specs.Prelude.{if◌then◌else◌, Result}
 use Rattle.std.proofs.lemmas.Bool.Decides.{nat_tests}
+use Rattle.std.proofs.lemmas.List.{length-reverse}
 use Rattle.std.specs.List.{AllByRecursion, cons_option}
 use Rattle.std.specs.Option.{option_map}
 use Rattle.values.specs.declared.refusal.Refusal.{Refusal}
@@ -13,6 +14,7 @@ use Rattle.journal.specs.declared.entry.Entry.TheVariants.{Commit}
 use Rattle.journal.specs.Entries.{Entries, entry_at, numbers, log as journal_log}
 use Rattle.journal.specs.Legal.{IsLegal, MayCommit}
 use Rattle.journal.proofs.JournalNumbering.{IsWithin, entry_is, entry_within, reverse_more, reverse_push}
+use Rattle.sessions.proofs.StoreOfHistoryAlike.{same_some}
 use Rattle.serving.specs.Progress.{Given}
 use Rattle.runs.specs.Event.{Event, receipts_of}
 use Rattle.runs.proofs.RunAlong.{MayAll}
@@ -44,9 +46,6 @@ numbers_upward (suc n) = subst (λ m. Upward 0 (numbers n ++ suc m ∷ [])) (let
 -- ---- the entries in turn
 
 module _ (at : ℕ → Option Entry) where
-  same_some : (x y : Entry) → ◌≡◌ {A = Option Entry} (Some x) (Some y) → x ≡ y
-  same_some x y e = cc
-
   -- receipts that stand at their numbers, which go up, are of the entries from there on
   are_from : (from : ℕ) (given : List Given) (es : List Entry) → Upward from (numbers_of given) → AllByRecursion (λ g. at g.number ≡ Some g.entry) given
       → length given ≡ length es → ((k : ℕ) → at (suc from + k) ≡ slice_get es k) → entries_of given ≡ es
@@ -64,15 +63,11 @@ length_numbers : (given : List Given) → length (numbers_of given) ≡ length g
 length_numbers [] = refl
 length_numbers (g ∷ given) = ap suc (length_numbers given)
 
-length_reverse : (j : Entries) → length (reverse j) ≡ length j
-length_reverse [] = refl
-length_reverse (e ∷ j) = ap length (reverse_more e j) ∙ length-append (reverse j) (e ∷ []) ∙ (let is : length (reverse j) + 1 ≡ suc (length j) = omega (arith, length_reverse j) in is)
-
 -- what is numbered in turn, and stands in the journal, is its entries in their order
 pub entries_in_turn : (j : Entries) (given : List Given) → numbers_of given ≡ numbers (length j) → AllByRecursion (λ g. entry_at j g.number ≡ Some g.entry) given → entries_of given ≡ reverse j
 entries_in_turn j given same stand =
     are_from (entry_at j) 0 given (reverse j) (subst (Upward 0) (sym same) (numbers_upward (length j))) stand
-    (sym (length_numbers given) ∙ ap length same ∙ numbers_length (length j) ∙ sym (length_reverse j))
+    (sym (length_numbers given) ∙ ap length same ∙ numbers_length (length j) ∙ sym (length-reverse j))
     (λ k. ap (entry_at j) (let e : suc 0 + k ≡ k + 1 = omega arith in e) ∙ entry_is j k)
 
 onto_is : (es : List Entry) (j : Entries) → onto es j ≡ reverse es ++ j
@@ -135,9 +130,6 @@ module _ (schema : Schema) where
 
 -- ---- a commit stands behind its begin
 
-same_entry : (x y : Entry) → ◌≡◌ {A = Option Entry} (Some x) (Some y) → x ≡ y
-same_entry x y e = cc
-
 pub commit_behind : (schema : Schema) (j : Entries) (n session begin : ℕ) (net : Net) (reading : ℕ) (end : Result (Option ℕ) Refusal) → IsLegal schema j → entry_at j n ≡ Some (Commit session begin net reading end) → begin < n
 commit_behind schema [] n session begin net reading end legal at = absurd (cc)
 commit_behind schema (e ∷ j) n session begin net reading end legal at = by (n == length (e ∷ j)) refl at (λ at. commit_behind schema j n session begin net reading end legal.1 at)
@@ -149,7 +141,7 @@ commit_behind schema (e ∷ j) n session begin net reading end legal at = by (n 
 
     by : (b : Bool) → (n == length (e ∷ j)) ≡ b → (if b then Some e else entry_at j n) ≡ Some (Commit session begin net reading end) → (entry_at j n ≡ Some (Commit session begin net reading end) → begin < n) → begin < n
     by true is at rest =
-        let within : IsWithin j begin = here e legal (same_entry e _ at) in
+        let within : IsWithin j begin = here e legal (same_some e _ at) in
         let low : begin ≤ length j = within.upto in
         grind (arith, nat_tests)
     by false is at rest = rest at

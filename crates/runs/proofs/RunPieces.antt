@@ -5,7 +5,7 @@ use Rattle.std.proofs.lemmas.Bool.Decides.{nat_tests}
 use Rattle.std.proofs.lemmas.List.Elements.{filter-append}
 use Rattle.values.specs.Tables.{Schema}
 use Rattle.runs.specs.Event.{Event, of_part}
-use Rattle.runs.proofs.RunAlong.{Chain}
+use Rattle.runs.proofs.RunAlong.{Chain, same_number}
 use Rattle.runs.proofs.OneHistoryBeside.{Held, Moves}
 use Rattle.runs.proofs.TellsFacts.{number_of}
 use Rattle.runs.proofs.RunInTurn.{in_turn}
@@ -42,9 +42,6 @@ not_mine i j (x ∷ xs) other its =
 
 flip : (a b : ℕ) → (a == b) ≡ false → (b == a) ≡ false
 flip a b h = grind (arith, nat_tests)
-
-same_part : (a b : ℕ) → (a == b) ≡ true → a ≡ b
-same_part a b h = grind (arith, nat_tests)
 
 module _ (schema : Schema) where
   pub none_of : (i : ℕ) (pieces : List Piece) → AllByRecursion (IsPiece schema) pieces → AllByRecursion (λ p. (p.part == i) ≡ false) pieces → of_part i (all_events pieces) ≡ []
@@ -84,6 +81,6 @@ module _ (schema : Schema) where
     where
       by : (b : Bool) → (p.part == i) ≡ b → Comes (of_part i (all_events pieces)) → Comes (of_part i (p.events ++ all_events pieces))
       by true is rest =
-          subst (λ i. Comes (of_part i (p.events ++ all_events pieces))) (same_part p.part i is)
+          subst (λ i. Comes (of_part i (p.events ++ all_events pieces))) (same_number p.part i is)
           (subst Comes (sym (first_of p pieces are apart)) (are.0.end, are.0.goes))
       by false is rest = subst Comes (sym (later_of i p pieces are.0 is)) rest
