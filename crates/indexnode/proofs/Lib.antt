@@ -8,5 +8,6 @@ pub mod NodeMeeting
 pub mod ChoiceMiddle
 pub mod ChoiceOnlyCurrent
 pub mod ListPairs
+pub mod NodeAlone
 pub mod SplitMeeting
 pub mod SplitTiling

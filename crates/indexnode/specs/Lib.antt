@@ -1,4 +1,5 @@
 pub mod Choice
 pub mod Node
 pub mod Replacement
+pub mod Search
 pub mod Split

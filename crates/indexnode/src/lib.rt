@@ -6,6 +6,7 @@ mod list;
 mod node;
 mod reference;
 mod replacement;
+mod search;
 mod split;
 
 pub use list::{pair, single};

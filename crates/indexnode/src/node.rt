@@ -5,6 +5,7 @@ ghost use Rattle.keyrange.specs.Rect.{IsArea, has_point, Common};
 ghost use Rattle.indexnode.specs.Node.{Tiles, at_point, meet, MeetsWhereCommon};
 
 use crate::reference::Reference;
+use crate::search::{find_before, place_above};
 use keyrange::Rect;
 use slots::Share;
 use std::alloc::Global;
@@ -58,11 +59,14 @@ impl<C> IndexNode<C> {
         ensures holds { IsTrue (has_point result.now.rect key.now instant) }
         ensures among { Contains self.now.references.items result.now }
     {
-        let mut place = 0;
-        while !self.references[place].rect.contains(key, instant) {
-            place += 1;
+        let start = place_above(&self.references, key);
+        if let Some(found) = find_before(&self.references, start, key, instant) {
+            return found;
         }
-        &self.references[place]
+        match find_before(&self.references, self.references.len(), key, instant) {
+            Some(found) => found,
+            None => unreachable!(),
+        }
     }
 
     /// Lists the references that have a point in common with a rectangle, in their order.
