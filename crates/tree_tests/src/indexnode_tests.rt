@@ -7,23 +7,13 @@ ghost use Rattle.indexnode.specs.Node.{Tiles};
 ghost use Rattle.indexnode.specs.Split.{AreCurrentIn};
 ghost use Rattle.indexnode.specs.Replacement.{HasRect};
 
-use crate::sample::{all, count, key, time_halves};
+use crate::sample::{all, copy, count, key, key_halves, time_halves};
 use indexnode::{IndexNode, Reference, pair, single};
 use keyrange::Rect;
 use slots::Share;
 use std::alloc::Global;
 use std::process::Abort;
-use values::{Instant, KeyBytes, Mem};
-
-/// The halves of a rectangle at a key strictly inside.
-fn key_halves(rt: &impl Abort, area: &Rect, cut: &KeyBytes) -> (Rect, Rect)
-    ensures { AreHalves area.now result.0 result.1 }
-{
-    let Ok(Some(halves)) = area.cut_key(cut) else {
-        panic!(rt; "the key is inside")
-    };
-    halves
-}
+use values::{Instant, Mem};
 
 /// References to a child for each half of a rectangle.
 fn two_references<C: Drop>(
@@ -291,15 +281,6 @@ fn sums_by_key(rt: &impl Abort, alloc: Global) -> ((u64, usize), (u64, usize)) {
 #[test]
 fn each_half_has_each_reference_with_its_child(rt: HostRuntime) {
     assert!(rt; sums_by_key(&rt, rt.alloc()) == ((3, 1), (4, 1)));
-}
-
-fn copy(rt: &impl Abort, area: &Rect) -> Rect
-    ensures { result ≡ area.now }
-{
-    let Ok(copy) = area.copy() else {
-        panic!(rt; "there is memory")
-    };
-    copy
 }
 
 fn node_over<C: Drop>(

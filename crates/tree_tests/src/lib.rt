@@ -14,6 +14,8 @@ mod keysplit_tests;
 #[cfg(test)]
 mod sample;
 #[cfg(test)]
+mod search_tests;
+#[cfg(test)]
 mod searchrange_tests;
 #[cfg(test)]
 mod slots_tests;

@@ -1,7 +1,7 @@
 //! Keys, rectangles and events that several files of tests are made of. The run ends where memory
 //! runs out.
 ghost use Rattle.std.specs.Prelude.{◌≡◌};
-ghost use Rattle.keyrange.specs.Cut.{PartsTime};
+ghost use Rattle.keyrange.specs.Cut.{AreHalves, PartsTime};
 
 use datanode::DataNode;
 use keyrange::{KeyRange, Rect, TimeRange};
@@ -31,6 +31,16 @@ pub(crate) fn all(rt: &impl Abort, alloc: Global, from: Instant, to: Option<Inst
     area
 }
 
+/// The halves of a rectangle at a key strictly inside.
+pub(crate) fn key_halves(rt: &impl Abort, area: &Rect, cut: &KeyBytes) -> (Rect, Rect)
+    ensures { AreHalves area.now result.0 result.1 }
+{
+    let Ok(Some(halves)) = area.cut_key(cut) else {
+        panic!(rt; "the key is inside")
+    };
+    halves
+}
+
 /// The halves of a rectangle at an instant strictly inside.
 pub(crate) fn time_halves(rt: &impl Abort, area: &Rect, cut: Instant) -> (Rect, Rect)
     ensures { PartsTime area.now result.0 result.1 cut }
@@ -39,6 +49,15 @@ pub(crate) fn time_halves(rt: &impl Abort, area: &Rect, cut: Instant) -> (Rect, 
         panic!(rt; "the instant is inside")
     };
     halves
+}
+
+pub(crate) fn copy(rt: &impl Abort, area: &Rect) -> Rect
+    ensures { result ≡ area.now }
+{
+    let Ok(copy) = area.copy() else {
+        panic!(rt; "there is memory")
+    };
+    copy
 }
 
 pub(crate) fn row(rt: &impl Abort, alloc: Global) -> Row {

@@ -6,7 +6,7 @@ use searchrange::{Search, range_of_table};
 use std::alloc::Global;
 use std::process::Abort;
 use steps::fit_keys;
-use values::{Chars, Comparison, KeyBytes, Keys, Operator, Schema, Sequence, Value};
+use values::{Chars, Comparison, Key, KeyBytes, Keys, Operator, Schema, Sequence, Value, Values};
 
 fn is_end(end: &Option<KeyBytes>, bytes: &[u8]) -> bool {
     match end {
@@ -55,7 +55,8 @@ fn leave_of(
     };
     let keys = fit_keys(schema, 1, &keys).expect(rt, "they fit");
     let search = Search::new(alloc, keys).expect(rt, "there is memory");
-    is_range(search.range(), lo, hi)
+    let range = search.range(alloc).expect(rt, "there is memory");
+    is_range(&range, lo, hi)
 }
 
 /// Whether the comparisons leave this range of the sample table.
@@ -209,4 +210,137 @@ fn table_has(rt: &impl Abort, alloc: Global, table: u8, lo: &[u8], hi: &[u8]) ->
 fn a_table_has_the_keys_that_begin_with_its_number(rt: HostRuntime) {
     assert!(rt; table_has(&rt, rt.alloc(), 1, TABLE, NEXT_TABLE));
     assert!(rt; table_has(&rt, rt.alloc(), 255, b"\xff", b""));
+}
+
+/// Whether comparisons on the keys of the first table take the one key of these values; no values
+/// are no key.
+fn takes_one(
+    rt: &impl Abort,
+    alloc: Global,
+    schema: &Schema,
+    comparisons: Vec<Comparison>,
+    parts: Vec<Value>,
+) -> bool {
+    let keys = Keys {
+        table: 1,
+        comparisons: Sequence::new(comparisons),
+    };
+    let keys = fit_keys(schema, 1, &keys).expect(rt, "they fit");
+    let search = Search::new(alloc, keys).expect(rt, "there is memory");
+    let key = Key {
+        table: 1,
+        parts: Values::new(parts),
+    };
+    match search.key() {
+        None => key.parts.items().is_empty(),
+        Some(found) => *found == key,
+    }
+}
+
+/// Whether 5, compared as equal, and another comparison with a number take the key 5 of the sample
+/// table, or no one key.
+fn five_and(
+    rt: &impl Abort,
+    alloc: Global,
+    operator: Operator,
+    bound: i64,
+    is_taken: bool,
+) -> bool {
+    let schema = Schema::sample(alloc).expect(rt, "there is memory");
+    let five = number(Operator::Equal, 5);
+    let comparisons = two(rt, alloc, number(operator, bound), five);
+    let mut parts = Vec::new(alloc);
+    if is_taken {
+        parts.push(Value::Int(5)).expect(rt, "there is memory");
+    }
+    takes_one(rt, alloc, &schema, comparisons, parts)
+}
+
+#[test]
+fn a_number_that_is_given_is_the_key_where_it_meets_the_rest(rt: HostRuntime) {
+    for (operator, bound, is_taken) in [
+        (Operator::Equal, 5, true),
+        (Operator::Equal, 4, false),
+        (Operator::Below, 5, false),
+        (Operator::Below, 6, true),
+        (Operator::AtMost, 5, true),
+        (Operator::Above, 5, false),
+        (Operator::AtLeast, 5, true),
+    ] {
+        assert!(rt;
+            five_and(&rt, rt.alloc(), operator, bound, is_taken),
+            "{operator:?} {bound}"
+        );
+    }
+}
+
+/// Whether one comparison with a number takes the key of that number, or no one key.
+fn one_takes(rt: &impl Abort, alloc: Global, operator: Operator, is_taken: bool) -> bool {
+    let schema = Schema::sample(alloc).expect(rt, "there is memory");
+    let mut parts = Vec::new(alloc);
+    if is_taken {
+        parts.push(Value::Int(7)).expect(rt, "there is memory");
+    }
+    takes_one(
+        rt,
+        alloc,
+        &schema,
+        one(rt, alloc, number(operator, 7)),
+        parts,
+    )
+}
+
+#[test]
+fn an_equality_alone_gives_a_number(rt: HostRuntime) {
+    assert!(rt; one_takes(&rt, rt.alloc(), Operator::Equal, true));
+    assert!(rt; one_takes(&rt, rt.alloc(), Operator::AtLeast, false));
+    assert!(rt; one_takes(&rt, rt.alloc(), Operator::AtMost, false));
+}
+
+/// A comparison of the name with a text.
+fn name(rt: &impl Abort, alloc: Global, operator: Operator, name: &str) -> Comparison {
+    Comparison {
+        column: 2,
+        operator,
+        value: Value::Text(text(rt, alloc, name)),
+    }
+}
+
+/// Whether the number 2 and a name that compares so take the key of that name and that number, or
+/// no one key.
+fn name_and_2(
+    rt: &impl Abort,
+    alloc: Global,
+    operator: Operator,
+    called: &str,
+    is_taken: bool,
+) -> bool {
+    let Ok(schema) = Schema::read(alloc, TWO_COLUMNS) else {
+        return false;
+    };
+    let two_is = number(Operator::Equal, 2);
+    let comparisons = two(rt, alloc, two_is, name(rt, alloc, operator, called));
+    let mut parts = Vec::new(alloc);
+    if is_taken {
+        let value = Value::Text(text(rt, alloc, called));
+        parts.push(value).expect(rt, "there is memory");
+        parts.push(Value::Int(2)).expect(rt, "there is memory");
+    }
+    takes_one(rt, alloc, &schema, comparisons, parts)
+}
+
+#[test]
+fn a_key_of_two_columns_is_given_in_any_order_and_whole(rt: HostRuntime) {
+    for (operator, called, is_taken) in [
+        (Operator::Equal, "a", true),
+        (Operator::Equal, "", true),
+        (Operator::Equal, "ten is 10.", true),
+        (Operator::Equal, "eleven, 11.", false),
+        (Operator::AtLeast, "a", false),
+    ] {
+        assert!(rt;
+            name_and_2(&rt, rt.alloc(), operator, called, is_taken),
+            "{called}"
+        );
+    }
 }

@@ -7,7 +7,9 @@ use blocks::InPlace;
 use std::alloc::Global;
 use std::process::Abort;
 use treenodes::{Nodes, whole};
-use treewalk::{Shape, changed_since, events, leaves_in, next_change, standing, tree_shape};
+use treewalk::{
+    Shape, changed_since, changed_since_near, events, leaves_in, next_change, standing, tree_shape,
+};
 use values::{Instant, MAX_INSTANT};
 
 /// Key 1 has a row from 100 and is deleted at 200, key 2 has a row from 150.
@@ -110,6 +112,41 @@ fn a_deletion_in_an_earlier_leaf_is_a_change(rt: HostRuntime) {
         ] {
             let found = last_change_of(&rt, rt.alloc(), is_packed, number, since);
             assert!(rt; found == at, "key {number} since {since}");
+        }
+    }
+}
+
+/// When a key was last changed after an instant, 0 where it was not, and the number of its leaf, as
+/// they are found where a number is tried first.
+fn last_change_near(
+    rt: &impl Abort,
+    alloc: Global,
+    is_packed: bool,
+    near: usize,
+    number: u8,
+    since: Instant,
+) -> (Instant, usize) {
+    let nodes = some(rt, alloc, is_packed);
+    let (instant, leaf) = changed_since_near(&nodes, near, &key(rt, alloc, number), since);
+    (instant.unwrap_or(0), leaf)
+}
+
+#[test]
+fn a_last_change_is_the_same_whichever_node_is_tried_first(rt: HostRuntime) {
+    for is_packed in [false, true] {
+        for near in [0, 1, 2, 3, usize::MAX] {
+            for (number, since, at) in [
+                (1, 99, 200),
+                (1, 200, 0),
+                (2, 149, 150),
+                (2, 150, 0),
+                (3, 0, 0),
+                (1, MAX_INSTANT, 0),
+                (1, u64::MAX, 0),
+            ] {
+                let found = last_change_near(&rt, rt.alloc(), is_packed, near, number, since);
+                assert!(rt; found == (at, 2), "key {number} since {since} near {near}");
+            }
         }
     }
 }

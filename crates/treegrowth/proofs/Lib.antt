@@ -12,3 +12,4 @@ pub mod PlacesKept
 pub mod CommitDue
 pub mod SplitSteps
 pub mod CommitFew
+pub mod CommitRoom

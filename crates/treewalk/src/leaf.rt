@@ -1,5 +1,5 @@
 //! Data nodes are read, packed or not. Of a block one row is made at most, and no node.
-ghost use Rattle.std.specs.Prelude.{◌≡◌, ◌≤◌, List, IfOk, IsTrue, is_some, option_copied};
+ghost use Rattle.std.specs.Prelude.{◌≡◌, ℕ, ◌≤◌, List, IfOk, IsTrue, is_some, option_copied};
 ghost use Rattle.std.specs.List.Sorted.{IsStrictlySortedBy};
 ghost use Rattle.values.specs.Event.{Event as Change};
 ghost use Rattle.values.specs.Events.{event_cmp, event_since, event_until, row_until};
@@ -9,7 +9,7 @@ ghost use Rattle.datanode.specs.Cut.{cut};
 ghost use Rattle.datanode.specs.NextChange.{event_after};
 ghost use Rattle.treenodes.specs.Tree.{IsTree};
 ghost use Rattle.treenodes.specs.Map.{HoldsMap};
-ghost use Rattle.treenodes.specs.Lookup.{IsData};
+ghost use Rattle.treenodes.specs.Lookup.{IsData, IsLeafAt};
 ghost use Rattle.treewalk.specs.Gather.{events_at};
 ghost use Rattle.treewalk.specs.Leaf.{is_upto, node_in};
 
@@ -29,7 +29,45 @@ pub(crate) fn leaf<'a>(nodes: &'a Nodes, key: &KeyBytes, instant: Instant) -> &'
         → (node_in result.now).events ≡ cut (node_in result.now).rect m }
 {
     let (number, _) = leaf_at(nodes, key, instant);
+    numbered_leaf(nodes, number)
+}
+
+/// The data node of a number, as the cut of the map by its rectangle.
+pub(crate) fn numbered_leaf(nodes: &Nodes, number: usize) -> &Child
+    requires tree { IsTree nodes.now }
+    requires data { IsData nodes.now number }
+    ensures area { IsArea (node_in result.now).rect }
+    ensures point { (key : List ℕ) (instant : ℕ) → IsLeafAt nodes.now key instant number
+        → IsTrue (has_point (node_in result.now).rect key instant) }
+    ensures cut { (m : List Change) → HoldsMap nodes.now m
+        → (node_in result.now).events ≡ cut (node_in result.now).rect m }
+{
     nodes.at(number).child()
+}
+
+/// The number of the data node at a point: the one that is given, whatever it is a number of, where
+/// its node has the point.
+pub(crate) fn leaf_near(nodes: &Nodes, near: usize, key: &KeyBytes, instant: Instant) -> usize
+    requires tree { IsTree nodes.now }
+    requires instant { 1 ≤ instant }
+    ensures { IsLeafAt nodes.now key.now instant result }
+{
+    if is_leaf_at(nodes, near, key, instant) {
+        return near;
+    }
+    let (number, _) = leaf_at(nodes, key, instant);
+    number
+}
+
+/// Tells whether a number is that of the data node at a point.
+fn is_leaf_at(nodes: &Nodes, number: usize, key: &KeyBytes, instant: Instant) -> bool
+    requires { IsTree nodes.now }
+    ensures { IsTrue result → IsLeafAt nodes.now key.now instant number }
+{
+    match nodes.get(number) {
+        Some(slot) => slot.level() == 0 && slot.child().rect().contains(key, instant),
+        None => false,
+    }
 }
 
 /// The data node of a number.

@@ -12,7 +12,7 @@ mod range_change;
 mod shape;
 
 pub use change_after::next_change;
-pub use last_change::changed_since;
+pub use last_change::{changed_since, changed_since_near};
 pub use leaf::{has_row_in, row_in};
 pub use level::leaves_in;
 pub use listing::{events, standing};

@@ -3,3 +3,5 @@ pub mod ViewLeaf
 pub mod TreeSplit
 pub mod PackingFound
 pub mod PackingPast
+pub use Rattle.treenodes.proofs as treenodes
+pub use Rattle.treewalk.proofs as treewalk

@@ -1,8 +1,7 @@
 use Rattle.std.proofs.Common.{sym, ap, ◌∙◌}
 use Rattle.std.proofs.lemmas.Option.{slice_get_within}
 use Rattle.treenodes.specs.Node.{TreeNode, events_of}
-use Rattle.std.specs.Prelude.{List, [], Option, Some, None}
-use Rattle.values.specs.Event.{Event}
+use Rattle.std.specs.Prelude.{[], Option, Some, None}
 use Rattle.treewalk.proofs.leaf.leaf_of.Goals as goal
 
 pub at-requires : goal.at-requires
