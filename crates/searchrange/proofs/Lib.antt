@@ -8,5 +8,6 @@ mod PrefixBytes
 mod NarrowingSteps
 mod PrefixValueBytes
 mod NarrowingWithin
+mod OnlyKeyTaken
 mod SearchTaken
 pub mod SearchOwn

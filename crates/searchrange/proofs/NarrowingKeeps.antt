@@ -85,16 +85,16 @@ pub record StandsAt (table : Table) (key : Key) (b : List ℕ) (place : ℕ) (pr
   pub spelled : b ≡ prefix ++ (part_bytes value ++ rest)
   pub are_bytes : AreBytes b
 
-placed : (place : ℕ) (o : Option ℕ) → is_place place o ≡ true → o ≡ Some place
+pub placed : (place : ℕ) (o : Option ℕ) → is_place place o ≡ true → o ≡ Some place
 placed place None e = cc
 placed place (Some n) e = ap Some (equal n place e)
 
-is_equal : (o : Ordering) → compares IsEqual o ≡ true → o ≡ Equal
+pub is_equal : (o : Ordering) → compares IsEqual o ≡ true → o ≡ Equal
 is_equal Equal e = refl
 is_equal Less e = cc
 is_equal Greater e = cc
 
-equality : (op : Operator) → is_equality op ≡ true → op ≡ IsEqual
+pub equality : (op : Operator) → is_equality op ≡ true → op ≡ IsEqual
 equality IsEqual e = refl
 equality Below e = cc
 equality AtMost e = cc

@@ -1,3 +1,4 @@
 pub mod Entity
+pub mod OnlyKey
 pub mod Search
 pub mod SearchRange

@@ -1,17 +1,19 @@
 -- What a search condition takes of a table.
-use Rattle.std.specs.Prelude.{◌≡◌, ℕ, ◌<◌, List, Option, Some, None, Bool, true, false, if◌then◌else◌}
+use Rattle.std.specs.Prelude.{◌≡◌, ℕ, ◌<◌, List, Option, Some, None, Bool, true, false, if◌then◌else◌, IfSome}
 use Rattle.std.specs.Option.{option_map}
 use Rattle.values.specs.declared.key.Key.{Key}
 use Rattle.values.specs.declared.table.Table.{Table}
 use Rattle.values.specs.declared.query.Keys.{Keys}
 use Rattle.values.specs.Event.{Event}
 use Rattle.values.specs.Log.{Row}
+use Rattle.values.specs.Fit.{comparisons_fault}
 use Rattle.values.specs.Tables.{IsTable, full_row}
 use Rattle.values.specs.Versions.{matches}
 use Rattle.values.specs.KeyReading.{IsKeyWith, key_from}
 use Rattle.keyrange.specs.declared.range.KeyRange.{KeyRange}
 use Rattle.keyrange.specs.Range.{is_key_in}
-use Rattle.searchrange.specs.SearchRange.{search_range, range_of_table, Covers, IsWithin, TakesAll}
+use Rattle.searchrange.specs.OnlyKey.{only_key, IsOnly}
+use Rattle.searchrange.specs.SearchRange.{search_range, TakesAll}
 
 -- a table, the keys that are asked for, and the range that they leave
 pub record SearchState : Type 0 where
@@ -19,17 +21,17 @@ pub record SearchState : Type 0 where
   pub keys : Keys
   pub range : KeyRange
 
--- what is true of every search, of one besides whose condition each key of the range meets; the range
--- of table 255 has no end, so that nothing is said of it
-pub record IsSearch (table : Table) (keys : Keys) (range : KeyRange) (is_exact : Bool)
+-- what is true of every search, of one besides that has one key, and of one whose condition each key
+-- of the range meets; the range of table 255 has no end, so that nothing is said of it
+pub record IsSearch (table : Table) (keys : Keys) (key : Option Key) (is_exact : Bool)
     : Type 0 where
   pub good : IsTable table.number table
   pub own : keys.table ≡ table.number
-  pub range_is : range ≡ search_range table keys
-  pub covers : Covers table keys range
-  pub within : IsWithin range (range_of_table table.number)
+  pub fits : comparisons_fault table keys.comparisons ≡ None
+  pub key_is : key ≡ only_key table keys
+  pub only : IfSome key (IsOnly table keys)
   pub small : is_exact ≡ true → table.number < 255
-  pub exact : is_exact ≡ true → TakesAll table keys range
+  pub exact : is_exact ≡ true → TakesAll table keys (search_range table keys)
 
 -- the bytes are of a key of the table, in the range
 pub record IsOwnKey (table : Table) (range : KeyRange) (bytes : List ℕ) : Type 0 where

@@ -3,6 +3,7 @@
 
 mod entity;
 mod narrowing;
+mod only_key;
 mod prefix;
 mod search;
 mod table_range;

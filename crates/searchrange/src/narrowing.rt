@@ -19,7 +19,7 @@ use values::{
 /// A column that is to be equal to a value leaves the keys that go on with its bytes, and the next
 /// column narrows these; the first that is not is the last that narrows. Each key of the table that
 /// meets all comparisons is in the range; where each comparison is of a column that narrows, no
-/// other key of the table is, so a whole key that is given leaves a range of that key.
+/// other key of the table is.
 pub(crate) fn search_range(alloc: Global, table: &Table, keys: &Keys) -> Mem<KeyRange>
     requires good { IsTable table.now.number table.now }
     requires own { keys.now.table ≡ table.now.number }
@@ -27,8 +27,6 @@ pub(crate) fn search_range(alloc: Global, table: &Table, keys: &Keys) -> Mem<Key
     ensures ok { IfOk result (λ range. range ≡ search_range table.now keys.now) }
     ensures covers { IfOk result (λ range. Covers table.now keys.now range) }
     ensures within { IfOk result (λ range. IsWithin range (range_of_table table.now.number)) }
-    ensures exact { IfOk result (λ range. all_narrow table.now keys.now.comparisons ≡ true
-        → TakesAll table.now keys.now range) }
     ensures err { OnlyMemory result }
 {
     let _number = table.number;
@@ -62,8 +60,23 @@ pub(crate) fn range_of_keys(alloc: Global, table: &Table, keys: &Keys) -> Mem<Ke
     Ok(narrow(alloc, table, keys.comparisons.items(), range)?)
 }
 
+/// Whether each comparison is of a column that narrows: then each key of the table in the range
+/// meets them all.
+pub(crate) fn is_exact(table: &Table, keys: &Keys) -> bool
+    requires good { IsTable table.now.number table.now }
+    requires own { keys.now.table ≡ table.now.number }
+    requires fits { comparisons_fault table.now keys.now.comparisons ≡ None }
+    ensures narrow { result ≡ all_narrow table.now keys.now.comparisons }
+    ensures exact { result ≡ true
+        → TakesAll table.now keys.now (search_range table.now keys.now) }
+{
+    let _number = table.number;
+    read_values(keys.comparisons.items());
+    all_narrow(table, keys.comparisons.items())
+}
+
 /// Whether each comparison is of a column that narrows.
-pub(crate) fn all_narrow(table: &Table, comparisons: &[Comparison]) -> bool
+fn all_narrow(table: &Table, comparisons: &[Comparison]) -> bool
     ensures { result ≡ all_narrow table.now comparisons.now }
 {
     let end = narrowing_end(table, comparisons);
@@ -117,7 +130,11 @@ fn narrow(
 }
 
 /// The value that the column at a place is to be equal to.
-fn equal_at<'a>(table: &Table, place: usize, comparisons: &'a [Comparison]) -> Option<&'a Value>
+pub(crate) fn equal_at<'a>(
+    table: &Table,
+    place: usize,
+    comparisons: &'a [Comparison],
+) -> Option<&'a Value>
     ensures { option_copied result ≡ equal_at table.now place comparisons.now }
 {
     for comparison in comparisons {

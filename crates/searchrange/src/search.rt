@@ -1,12 +1,14 @@
-//! What a search condition takes of a table: a range of keys, and those of them that meet it.
-ghost use Rattle.std.specs.Prelude.{◌≡◌, IfOk, IfSome};
+//! What a search condition takes of a table: one key, or those keys of a range that meet it.
+ghost use Rattle.std.specs.Prelude.{◌≡◌, IfOk, IfSome, option_copied};
 ghost use Rattle.values.specs.Tables.{IsTable, full_row};
 ghost use Rattle.values.specs.KeyEncoding.{IsShortKey};
 ghost use Rattle.values.specs.Memory.{OnlyMemory};
 ghost use Rattle.searchrange.specs.SearchRange.{search_range, range_of_table, Covers, IsWithin};
+ghost use Rattle.searchrange.specs.OnlyKey.{only_key, IsOnly};
 ghost use Rattle.searchrange.specs.Search.{IsInSearch, entry_taken, is_taken, key_taken, row_taken};
 
-use crate::narrowing::{all_narrow, search_range};
+use crate::narrowing::{is_exact, search_range};
+use crate::only_key::only_key;
 use keyrange::KeyRange;
 use std::alloc::Global;
 use std::marker::Model;
@@ -14,28 +16,33 @@ use values::{
     Event, FittingKeys, Key, KeyBytes, Keys, Mem, Row, Table, fitting_keys_have_bytes, read_key,
 };
 
-/// A search condition over a table, with the range of keys that it leaves. Where each key of the
-/// range meets the condition, none is decoded.
+/// A search condition over a table, with the one key that it takes, where it has each key column
+/// equal to a value. Where each key of its range meets the condition, none is decoded.
 #[derive(Drop)]
 pub struct Search<'a> {
     table: &'a Table,
     keys: &'a Keys,
-    range: KeyRange,
+    key: Option<Key>,
     is_exact: bool,
 }
 
 impl<'a> Model for Search<'a> {
     ghost use Rattle.searchrange.specs.Search.{SearchState, IsSearch};
+    ghost use Rattle.searchrange.specs.SearchRange.{search_range};
 
     ghost Value = { SearchState };
 
-    ghost view = { λ s. record { table = s.table.now; keys = s.keys.now; range = s.range } };
+    ghost view = { λ s. record {
+      table = s.table.now;
+      keys = s.keys.now;
+      range = search_range s.table.now s.keys.now;
+    } };
 
-    ghost invariant = { λ s. IsSearch s.table.now s.keys.now s.range s.is_exact };
+    ghost invariant = { λ s. IsSearch s.table.now s.keys.now s.key s.is_exact };
 }
 
 impl<'a> Search<'a> {
-    /// Narrows the range of a table's keys by a search condition. Out of memory is the only
+    /// Looks for the one key that a search condition takes of a table. Out of memory is the only
     /// refusal.
     pub fn new(alloc: Global, keys: FittingKeys<'a>) -> Mem<Search<'a>>
         ensures table { IfOk result (λ s. s.table ≡ keys.entry.table.now) }
@@ -43,25 +50,39 @@ impl<'a> Search<'a> {
         ensures err { OnlyMemory result }
     {
         let FittingKeys { table, keys } = keys;
-        let range = search_range(alloc, table, keys)?;
-        let is_exact = table.number < 255 && all_narrow(table, keys.comparisons.items());
         Ok(Search {
             table,
             keys,
-            range,
-            is_exact,
+            key: only_key(alloc, table, keys)?,
+            is_exact: table.number < 255 && is_exact(table, keys),
         })
     }
 
-    /// Returns the range: each key of the table that meets the condition is in it.
-    pub fn range(&self) -> &KeyRange
-        ensures range { result.now ≡ self.now.range }
-        ensures is { result.now ≡ search_range self.now.table self.now.keys }
-        ensures covers { Covers self.now.table self.now.keys result.now }
-        ensures within { IsWithin result.now (range_of_table self.now.table.number) }
+    /// Returns the key that has in each column the value that the column is to be equal to, where
+    /// the condition asks that of each, and the key fits the table and meets the whole condition.
+    /// Of the table's keys the condition takes this one and no other.
+    pub fn key(&self) -> Option<&Key>
+        ensures is { option_copied result ≡ only_key self.now.table self.now.keys }
+        ensures only { IfSome result (λ key. IsOnly self.now.table self.now.keys key.now) }
+        ensures short { IfSome result (λ key. IsShortKey key.now) }
         ensures own { self.now.keys.table ≡ self.now.table.number }
     {
-        &self.range
+        fitting_keys_have_bytes();
+        self.key.as_ref()
+    }
+
+    /// Narrows the range of the table's keys by the condition: each key of the table that meets the
+    /// condition is in it. Out of memory is the only refusal.
+    pub fn range(&self, alloc: Global) -> Mem<KeyRange>
+        ensures range { IfOk result (λ range. range ≡ self.now.range) }
+        ensures is { IfOk result (λ range. range ≡ search_range self.now.table self.now.keys) }
+        ensures covers { IfOk result (Covers self.now.table self.now.keys) }
+        ensures within { IfOk result (λ range.
+            IsWithin range (range_of_table self.now.table.number)) }
+        ensures own { self.now.keys.table ≡ self.now.table.number }
+        ensures err { OnlyMemory result }
+    {
+        search_range(alloc, self.table, self.keys)
     }
 
     /// Returns the table.

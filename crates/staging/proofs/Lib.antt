@@ -1,6 +1,7 @@
 pub mod OverlapSeen
 pub mod PortionDone
 pub mod PortionStarts
+pub mod StagedOne
 pub mod StagedAnswered
 pub mod ViewBridge
 pub mod StagedCalls
@@ -15,3 +16,5 @@ pub mod StagedSeen
 pub mod StagedTaken
 pub mod StagedWide
 pub mod UpdateStored
+pub use Rattle.tsbtree.proofs.treenodes as treenodes
+pub use Rattle.tsbtree.proofs.treewalk as treewalk

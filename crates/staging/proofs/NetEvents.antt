@@ -15,7 +15,7 @@ use Rattle.values.specs.KeyEncoding.{bytes_of_key}
 use Rattle.values.specs.Events.{bytes_cmp, event_cmp, put_event, put_net}
 use Rattle.eventlist.proofs.PlaceOrder.{bytes_exact, sorted_head, sorted_tail, sorted_none}
 use Rattle.eventlist.proofs.PutPlaced.{all_put, sorted_put}
-use Rattle.treegrowth.specs.Commit.{put_each, IsCommit}
+use Rattle.tsbtree.specs.treegrowth.Commit.{put_each, IsCommit}
 use Rattle.staging.specs.Net.{put_bytes, event_at}
 
 -- ---- two events

@@ -1,6 +1,7 @@
 -- What a transaction's calls make of its own writes and of the events of its view.
 use Rattle.std.specs.Prelude.{◌≡◌, ℕ, ◌≤◌, List, [], ◌∷◌, ◌++◌, ◌||◌, ◌&&◌, Bool, Option, Some, None, Result, Ok, Err, nat_lt, if◌then◌else◌, length, map, filter, is_some, All}
-use Rattle.std.specs.List.{list_any, filter_map}
+use Rattle.std.specs.List.{cons_option, list_any, filter_map}
+use Rattle.std.specs.Option.{option_map}
 use Rattle.std.specs.BTreeMap.{insert_entry, is_at}
 use Rattle.std.specs.Map.{lookup, set_value, remove_entry}
 use Rattle.values.specs.declared.key.Key.{Key}
@@ -78,6 +79,10 @@ row_in es t w key = elim (lookup (is_at (key_cmp key)) w) [
   | Some row ↦ row
   | None ↦ row_until es (bytes_of_key key) t
 ]
+
+-- a key with that row, if it has one
+abbrev pub row_alone : List Event → ℕ → Net → Key → State
+row_alone es t w key = cons_option (option_map (λ row. (key, row)) (row_in es t w key)) []
 
 -- a key has a row: by what was written, and where nothing was by the events until an instant
 abbrev pub sees : List Event → ℕ → Net → Key → Bool

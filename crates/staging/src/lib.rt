@@ -13,3 +13,4 @@ mod write;
 
 pub use net::Net;
 pub use staged::Staged;
+pub use tsbtree::{Tree, View};

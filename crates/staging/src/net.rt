@@ -7,7 +7,7 @@ ghost use Rattle.values.specs.Event.{Event as Change};
 ghost use Rattle.values.specs.KeyEncoding.{IsShortKey};
 ghost use Rattle.values.specs.Memory.{OnlyMemory};
 ghost use Rattle.values.specs.Events.{put_net};
-ghost use Rattle.treegrowth.specs.Commit.{put_each, IsCommit};
+ghost use Rattle.tsbtree.specs.treegrowth.Commit.{put_each, IsCommit};
 ghost use Rattle.staging.specs.Net.{IsNet, put_bytes, event_at};
 
 use std::alloc::Global;

@@ -18,7 +18,7 @@ ghost use Rattle.tsbtree.specs.View.{events};
 ghost use Rattle.searchrange.specs.Search.{entry_taken};
 ghost use Rattle.staging.specs.View.{Holds};
 ghost use Rattle.staging.specs.Own.{WhenRead, rows_seen, net_over};
-ghost use Rattle.staging.specs.Staged.{put_all, put_back_one, put_back, put_answer, row_in, sees, first_seen, net_in, AreInSearch};
+ghost use Rattle.staging.specs.Staged.{put_all, put_back_one, put_back, put_answer, row_in, sees, first_seen, net_in, row_alone, AreInSearch};
 
 use crate::bound::{is_past, least_key};
 use crate::net::Net;
@@ -77,7 +77,7 @@ impl Staged {
     }
 
     /// Returns, by key, the rows that the transaction sees and that a search takes, as they are
-    /// stored.
+    /// stored. One key is looked up.
     pub(crate) fn rows_found(&self, view: &View, search: &Search<'_>) -> Mem<BTreeMap<Key, Row>>
         ensures ok { IfOk result (λ found. WhenRead search.now.table view.now self.now (λ schema m.
             found.entries
@@ -85,7 +85,12 @@ impl Staged {
         ensures short { IfOk result (λ found. All (λ e. IsShortKey e.0) found.entries) }
         ensures err { OnlyMemory result }
     {
-        let standing = view.standing(self.alloc, search.range(), view.last())?;
+        let last = view.last();
+        if let Some(key) = search.key() {
+            return self.row_alone(view, last, key);
+        }
+        let range = search.range(self.alloc)?;
+        let standing = view.standing(self.alloc, &range, last)?;
         let mut found = rows_taken(self.alloc, search, &standing)?;
         put_taken(
             self.alloc,
@@ -94,6 +99,23 @@ impl Staged {
             &self.writes,
             &mut found,
         )?;
+        Ok(found)
+    }
+
+    /// Returns a key with its row, what was written or else what the view has at an instant, where
+    /// there is one: it is looked up.
+    fn row_alone(&self, view: &View, last: Instant, key: &Key) -> Mem<BTreeMap<Key, Row>>
+        requires { IsShortKey key.now }
+        ensures ok { IfOk result (λ found. found.entries
+            ≡ row_alone (events view.now) last self.now key.now) }
+        ensures short { IfOk result (λ found. All (λ e. IsShortKey e.0) found.entries) }
+        ensures err { OnlyMemory result }
+        ensures ordered { IsStrictlySortedBy key_cmp (keys_of self.now) }
+    {
+        let mut found = BTreeMap::new(self.alloc);
+        if let Some(row) = self.row_found(view, last, key)? {
+            found.insert(key.clone()?, row)?;
+        }
         Ok(found)
     }
 
@@ -196,8 +218,10 @@ impl Staged {
         ensures err { OnErr result (self.new ≡ self.old) }
         ensures ordered { IsStrictlySortedBy key_cmp (keys_of self.old) }
     {
-        // The length of a map comes with its order.
-        let _written = self.writes.len();
+        if self.writes.len() == 0 {
+            self.writes = put_first(self.alloc, changes)?;
+            return Ok(count);
+        }
         let mut earlier = Vec::new(self.alloc);
         if let Err(refusal) = put_few(&mut self.writes, changes, &mut earlier) {
             put_back(&mut self.writes, earlier);
@@ -231,6 +255,27 @@ fn widen(width: usize, row: Option<Row>) -> Mem<Option<Row>>
         Some(row) => Ok(Some(row.widen(width)?)),
         None => Ok(None),
     }
+}
+
+/// Puts the first changes of a transaction, where there is nothing to put back. `TooManyWrites` as
+/// soon as the keys are too many.
+#[tactic(auto, using(crate::proofs::StagedPutBack::grown_all))]
+fn put_first(
+    alloc: Global,
+    changes: Vec<(Key, Option<Row>)>,
+) -> Result<BTreeMap<Key, Option<Row>>, Refusal>
+    ensures ok { IfOk result (λ writes. writes.entries ≡ put_all changes.items []) }
+    ensures few { IfOk result (λ writes. length writes.entries ≤ most_written) }
+    ensures err { IfErr result (λ refusal. refusal ≢ Refusal.Memory
+        → (refusal ≡ Refusal.TooManyWrites)
+        × (most_written < length (put_all changes.items []))) }
+{
+    let mut writes = BTreeMap::new(alloc);
+    for (key, row) in changes {
+        writes.insert(key, row)?;
+        check_few(&writes)?;
+    }
+    Ok(writes)
 }
 
 /// Puts changes over what was written, and keeps what was there before. `TooManyWrites` as soon as

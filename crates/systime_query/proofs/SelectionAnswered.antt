@@ -26,7 +26,7 @@ use Rattle.staging.specs.Staged.{AreInSearch}
 use Rattle.staging.specs.View.{Holds}
 use Rattle.staging.proofs.ViewNarrowed.{in_search}
 use Rattle.datanode.specs.NextChange.{event_after}
-use Rattle.tsbtree.specs.View.{TreeState, events}
+use Rattle.staging.specs.tsbtree.View.{TreeState, events}
 use Rattle.systime_query.specs.Selection.{WhenShown, next_of, shown_of}
 use Rattle.systime_query.specs.Window.{IsWindow, is_in_window, shown_in}
 use Rattle.systime_query.proofs.SelectionShown.{not_taken, none_selected, next_kept, now_shown}

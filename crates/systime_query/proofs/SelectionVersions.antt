@@ -29,7 +29,7 @@ use Rattle.values.proofs.KeyReads.{key_back}
 use Rattle.values.proofs.EventKeys.{same_key}
 use Rattle.keyrange.specs.declared.range.KeyRange.{KeyRange}
 use Rattle.keyrange.specs.Range.{is_key_in}
-use Rattle.tsbtree.specs.View.{TreeState, events}
+use Rattle.staging.specs.tsbtree.View.{TreeState, events}
 use Rattle.staging.specs.View.{Holds}
 use Rattle.searchrange.specs.SearchRange.{Covers}
 use Rattle.staging.proofs.ViewNarrowed.{IsOut, out_of_range}
@@ -139,7 +139,7 @@ equal : (a b : ℕ) → (a == b) ≡ true → a ≡ b
 equal a b e = grind (arith, nat_tests)
 
 module _ (schema : Schema) (table : Table) (form : Form) (keys : Keys) (is_table : table_at schema table.number ≡ Some table) (of_table : keys.table ≡ table.number) where
-  taken_is : (k : Key) → IsKeyIn schema k → is_taken table keys (bytes_of_key k) ≡ matches table keys k
+  pub taken_is : (k : Key) → IsKeyIn schema k → is_taken table keys (bytes_of_key k) ≡ matches table keys k
   taken_is k h = by (k.table == table.number) refl
     where
       found : Option Key → Bool

@@ -23,7 +23,7 @@ use Rattle.eventlist.specs.Listing.{stands_at, standing}
 use Rattle.eventlist.specs.Overtaking.{is_overtaken}
 use Rattle.eventlist.proofs.PlaceOrder.{sorted_head, sorted_tail, same_bytes, is_lower}
 use Rattle.eventlist.proofs.OvertakingNext.{not_earlier, stands_is}
-use Rattle.tsbtree.specs.View.{TreeState, events}
+use Rattle.staging.specs.tsbtree.View.{TreeState, events}
 use Rattle.searchrange.specs.SearchRange.{range_of_table, Covers, IsWithin}
 use Rattle.staging.specs.Staged.{AreInSearch}
 use Rattle.staging.specs.View.{Holds}
@@ -91,12 +91,12 @@ module _ (table : Table) (keys : Keys) (t : ℕ) where
           some true false k = refl
           some false x k = refl
 
-  kept : (e : Event) (fs : List Event) (b : Bool) → filter_map (row_taken table keys) (cond b (e ∷ fs) fs) ≡ cons_option (cond b (row_taken table keys e) None) (filter_map (row_taken table keys) fs)
+  pub kept : (e : Event) (fs : List Event) (b : Bool) → filter_map (row_taken table keys) (cond b (e ∷ fs) fs) ≡ cons_option (cond b (row_taken table keys e) None) (filter_map (row_taken table keys) fs)
   kept e fs true = refl
   kept e fs false = refl
 
   -- the rows of what a query as of the instant selects are those of the events that stand
-  selected_stand : (es : List Event) → IsStrictlySortedBy event_cmp es → map (λ s. s.row) (sel es) ≡ filter_map (row_taken table keys) (filter (stands_at es t) es)
+  pub selected_stand : (es : List Event) → IsStrictlySortedBy event_cmp es → map (λ s. s.row) (sel es) ≡ filter_map (row_taken table keys) (filter (stands_at es t) es)
   selected_stand [] sorted = refl
   selected_stand (e ∷ es) sorted =
       mapped (shown_of table (AsOf t) keys e (next_of e es)) (sel es)
@@ -105,7 +105,7 @@ module _ (table : Table) (keys : Keys) (t : ℕ) where
       ∙ ap (λ fs. filter_map (row_taken table keys) (cond (stands_at (e ∷ es) t e) (e ∷ fs) fs)) (sym (later_ones t e es es (sorted_head event_cmp e es sorted)))
 
   -- events that the query does not take show nothing
-  narrowed : (p : List ℕ → Bool) → (es ds : List Event) → AllByRecursion (λ e. p e.key ≡ false → is_taken table keys e.key ≡ false) ds
+  pub narrowed : (p : List ℕ → Bool) → (es ds : List Event) → AllByRecursion (λ e. p e.key ≡ false → is_taken table keys e.key ≡ false) ds
       → filter_map (row_taken table keys) (filter (λ e. p e.key && stands_at es t e) ds) ≡ filter_map (row_taken table keys) (filter (stands_at es t) ds)
   narrowed p es [] out = refl
   narrowed p es (e ∷ ds) out =

@@ -1,5 +1,5 @@
 -- The rows and the versions of events that a search takes, one event after the other.
-use Rattle.std.proofs.Common.{◌≡◌, ℕ, ◌+◌, ◌-◌, ◌<◌, ◌≤◌, List, [], ◌∷◌, ◌++◌, Option, Some, None, drop, filter_map, get_or, length, refl, sym, ap, subst, ◌∙◌, arith, take}
+use Rattle.std.proofs.Common.{◌≡◌, ℕ, ◌+◌, ◌-◌, ◌<◌, ◌≤◌, List, [], ◌∷◌, ◌++◌, Option, Some, None, drop, filter_map, get_or, length, sym, ap, subst, ◌∙◌, arith, take}
 use Rattle.std.proofs.lemmas.List.{append_assoc, drop_more, length-drop, take_all}
 use Rattle.std.proofs.lemmas.List.Elements.{All-get_or, All-head, All-tail}
 use Rattle.std.specs.List.{cons_option}

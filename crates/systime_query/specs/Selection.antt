@@ -9,7 +9,7 @@ use Rattle.values.specs.declared.query.Shown.{Shown}
 use Rattle.values.specs.Log.{Changes}
 use Rattle.values.specs.Tables.{Schema, table_at, full_row}
 use Rattle.values.specs.Versions.{selects}
-use Rattle.tsbtree.specs.View.{TreeState}
+use Rattle.staging.specs.tsbtree.View.{TreeState}
 use Rattle.staging.specs.View.{Holds}
 use Rattle.values.specs.Events.{is_bytes}
 use Rattle.searchrange.specs.Search.{is_taken}

@@ -8,8 +8,8 @@ ghost use Rattle.systime_query.specs.Window.{IsWindow};
 use crate::window::{shown_in, window_events};
 use blocks::Blocks;
 use searchrange::Search;
+use staging::View;
 use std::alloc::Global;
-use tsbtree::View;
 use values::{Form, Instant, Mem, Shown};
 
 /// Returns the versions of a table's rows that a query selects, with their periods, by key and then
@@ -77,6 +77,7 @@ fn within<B: Blocks>(
         v.items ≡ answer m search.now.table form search.now.keys)) }
     ensures err { OnlyMemory result }
 {
-    let found = window_events(alloc, blocks, view, search.range(), first, last)?;
+    let range = search.range(alloc)?;
+    let found = window_events(alloc, blocks, view, &range, first, last)?;
     shown_in(alloc, view, &found, last, form, search)
 }

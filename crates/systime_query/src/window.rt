@@ -5,7 +5,7 @@ ghost use Rattle.values.specs.Events.{event_cmp};
 ghost use Rattle.values.specs.Memory.{OnlyMemory};
 ghost use Rattle.keyrange.specs.Range.{is_key_in};
 ghost use Rattle.staging.specs.Staged.{AreInSearch};
-ghost use Rattle.tsbtree.specs.View.{events};
+ghost use Rattle.staging.specs.tsbtree.View.{events};
 ghost use Rattle.systime_query.specs.Selection.{next_of};
 ghost use Rattle.systime_query.specs.Window.{is_in_window, end_of, shown_in};
 
@@ -15,8 +15,8 @@ use blocks::Blocks;
 use eventlist::sort_events;
 use keyrange::KeyRange;
 use searchrange::Search;
+use staging::View;
 use std::alloc::Global;
-use tsbtree::View;
 use values::{Event, Form, Instant, Mem, SharedEvent, Shown};
 
 /// Lists the events of a range of keys whose rows stand at the first instant, and those after it up

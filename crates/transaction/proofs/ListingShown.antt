@@ -7,9 +7,9 @@ use Rattle.values.specs.declared.query.Keys.{Keys}
 use Rattle.values.specs.declared.refusal.Refusal.{Refusal}
 use Rattle.values.specs.Log.{Changes, State, Net, Row}
 use Rattle.values.specs.Versions.{answer, matches}
-use Rattle.staging.specs.Own.{WhenRead, rows_seen}
+use Rattle.systime_query.specs.staging.Own.{WhenRead, rows_seen}
 use Rattle.values.specs.Writes.{full_rows}
-use Rattle.staging.proofs.StagedWide.{rows_full}
+use Rattle.systime_query.proofs.staging.StagedWide.{rows_full}
 use Rattle.systime_query.specs.Selection.{WhenShown}
 use Rattle.steps.specs.declared.step.Listing.{Listing}
 use Rattle.steps.specs.declared.step.Listing.TheVariants.{Rows}

@@ -7,7 +7,7 @@ use Rattle.values.specs.declared.query.Keys.{Keys}
 use Rattle.values.specs.declared.query.Shown.{Shown as Version}
 use Rattle.values.specs.Log.{Changes, Net}
 use Rattle.values.specs.Versions.{answer}
-use Rattle.staging.specs.Own.{rows_seen}
+use Rattle.systime_query.specs.staging.Own.{rows_seen}
 use Rattle.steps.specs.declared.step.Listing.{Listing}
 use Rattle.steps.specs.declared.step.Listing.TheVariants.{Rows, Periods}
 use Rattle.steps.specs.Listing.{rows_taken, rows_of}

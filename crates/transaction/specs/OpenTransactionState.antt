@@ -1,6 +1,6 @@
 -- What contracts see of an open transaction.
 use Rattle.values.specs.Log.{Net}
-use Rattle.tsbtree.specs.View.{TreeState}
+use Rattle.systime_query.specs.tsbtree.View.{TreeState}
 
 -- what it sees of what was committed, and its own writes
 pub record OpenTransactionState : Type 0 where

@@ -7,3 +7,4 @@ mod write;
 
 pub use open_transaction::OpenTransaction;
 pub use select::listing_of;
+pub use systime_query::BlockCache;

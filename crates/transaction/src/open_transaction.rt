@@ -6,14 +6,13 @@ ghost use Rattle.values.specs.Log.{Changes, row_at};
 ghost use Rattle.values.specs.Memory.{OnlyMemory};
 ghost use Rattle.values.specs.Tables.{IsTable, Schema, full_row};
 ghost use Rattle.values.specs.Events.{AreKeysIn};
-ghost use Rattle.tsbtree.specs.View.{last};
-ghost use Rattle.staging.specs.View.{Holds};
-ghost use Rattle.staging.specs.Own.{WhenRead, net_over, rows_seen};
+ghost use Rattle.systime_query.specs.tsbtree.View.{last};
+ghost use Rattle.systime_query.specs.staging.View.{Holds};
+ghost use Rattle.systime_query.specs.staging.Own.{WhenRead, net_over, rows_seen};
 
-use staging::{Net, Staged};
 use std::alloc::Global;
 use std::marker::Model;
-use tsbtree::View;
+use systime_query::{Net, Staged, View};
 use values::{Instant, Key, Mem, Row, Table};
 
 /// What a transaction sees of what was committed, and its own writes, which nobody else sees.

@@ -2,7 +2,7 @@
 ghost use Rattle.std.specs.Prelude.{◌≡◌, IfOk, map};
 ghost use Rattle.values.specs.Memory.{OnlyMemory};
 ghost use Rattle.values.specs.Versions.{answer};
-ghost use Rattle.staging.specs.Own.{WhenRead};
+ghost use Rattle.systime_query.specs.staging.Own.{WhenRead};
 ghost use Rattle.systime_query.specs.Selection.{WhenShown};
 ghost use Rattle.transaction.specs.Listing.{as_listing, listing_in};
 
@@ -11,8 +11,7 @@ use blocks::Blocks;
 use searchrange::Search;
 use std::alloc::Global;
 use steps::Listing;
-use systime_query::{answer, current_rows, rows_at};
-use tsbtree::View;
+use systime_query::{View, answer, current_rows, rows_at};
 use values::{FittingKeys, Form, Key, Mem, Row, Rows, ShownRows};
 
 impl OpenTransaction {

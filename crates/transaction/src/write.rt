@@ -2,7 +2,7 @@
 ghost use Rattle.std.specs.Prelude.{◌≡◌, OnErr};
 ghost use Rattle.values.specs.Write.{write_to};
 ghost use Rattle.values.specs.Events.{AreKeysIn};
-ghost use Rattle.staging.specs.Own.{WhenRead, IsAnswered, own};
+ghost use Rattle.systime_query.specs.staging.Own.{WhenRead, IsAnswered, own};
 
 use crate::open_transaction::OpenTransaction;
 use values::{FittingWrite, Refusal};

@@ -1,7 +1,7 @@
 use Rattle.std.proofs.Common.{◌≡◌, ◌-◌, ◌∙◌, drop, length, subst, take}
 use Rattle.values.specs.Event.{Event}
 use Rattle.searchrange.specs.Search.{IsInSearch}
-use Rattle.tsbtree.specs.View.{events}
+use Rattle.staging.specs.tsbtree.View.{events}
 use Rattle.systime_query.specs.Selection.{shown_of}
 use Rattle.systime_query.specs.Window.{end_of}
 use Rattle.systime_query.proofs.StandingTaken.{next_inside, next_shown}

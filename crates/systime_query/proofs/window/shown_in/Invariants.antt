@@ -1,6 +1,6 @@
 use Rattle.std.proofs.Common.{◌≡◌, ◌++◌, length}
 use Rattle.staging.specs.Staged.{AreInSearch}
-use Rattle.tsbtree.specs.View.{events}
+use Rattle.staging.specs.tsbtree.View.{events}
 use Rattle.systime_query.specs.Window.{shown_in}
 use Rattle.systime_query.proofs.window.shown_in.Given as goal
 

@@ -1,6 +1,6 @@
 use Rattle.std.proofs.Common.{[], sym, ap, ◌∙◌}
 use Rattle.std.proofs.lemmas.List.{append-nil}
-use Rattle.tsbtree.specs.View.{events}
+use Rattle.staging.specs.tsbtree.View.{events}
 use Rattle.systime_query.proofs.WindowListed.{window_listed, some_later, no_later}
 use Rattle.systime_query.proofs.window.window_events.Goals as goal
 use Rattle.systime_query.proofs.window.window_events.Goals.{then-first-last+in_ok-later+in_ok-append, else-first-last}

@@ -2,8 +2,8 @@ use Rattle.std.proofs.Common.{◌≡◌, IfOk, subst}
 use Rattle.values.specs.Log.{Changes}
 use Rattle.values.specs.Tables.{Schema}
 use Rattle.values.specs.Events.{AreKeysIn}
-use Rattle.staging.specs.View.{Holds}
-use Rattle.staging.specs.Own.{net_over}
+use Rattle.systime_query.specs.staging.View.{Holds}
+use Rattle.systime_query.specs.staging.Own.{net_over}
 use Rattle.transaction.specs.OpenTransactionState.{OpenTransactionState}
 use Rattle.transaction.proofs.open_transaction.OpenTransaction.net.Goals as goal
 

@@ -1,5 +1,5 @@
 use Rattle.std.proofs.Common.{◌∙◌, ap, inl, inr}
-use Rattle.staging.proofs.StagedTaken.{wide_by}
+use Rattle.systime_query.proofs.staging.StagedTaken.{wide_by}
 use Rattle.transaction.proofs.ListingShown.{past_shown, is_plain, plain_shown}
 use Rattle.transaction.proofs.open_transaction.OpenTransaction.select.Goals as goal
 
