@@ -1,15 +1,15 @@
 //! Nodes of history are found, packed and installed.
 
-use crate::sample::schema;
+use crate::sample::{by, schema};
 use crate::validation_tests::{begin, empty_engine, instant_of, is_split};
 use std::alloc::Global;
 use std::process::Abort;
-use steps::fit_keys;
+use steps::{Listing, fit_keys};
 use systime_query::BlockCache;
 use transaction::listing_of;
 use tsbtree::View;
 use validation::{Engine, Job, PackedNode, find_job, pack_job};
-use values::{Form, Instant, Keys, Mem};
+use values::{Form, Instant, Keys, Mem, Operator};
 
 /// Commits the insertion of an employee at an instant, and splits the one current node there.
 fn commit_and_split(rt: &impl Abort, alloc: Global, engine: &mut Engine, number: i64, at: Instant) {
@@ -141,5 +141,37 @@ fn a_query_of_packed_history_asks_the_cache(rt: HostRuntime) {
     ];
     for (form, blocks) in kept {
         assert!(rt; count_kept(&rt, rt.alloc(), form) == blocks, "{form:?}");
+    }
+}
+
+/// How many rows an employee is shown with as of an instant, and how many blocks the cache keeps
+/// then that was handed to the query.
+fn count_of_one(rt: &impl Abort, alloc: Global, number: i64, at: Instant) -> (usize, usize) {
+    let engine = with_packed_history(rt, alloc);
+    let schema = schema(rt, alloc);
+    let keys = by(rt, alloc, Operator::Equal, number);
+    let keys = fit_keys(&schema, 1, &keys).expect(rt, "they fit");
+    let mut cache = BlockCache::new(alloc);
+    let view = engine.tree().current();
+    let listing = listing_of(alloc, &mut cache, view, Form::AsOf(at), keys);
+    let shown = match listing.expect(rt, "there is memory") {
+        Listing::Rows(rows) => rows.items().len(),
+        Listing::Periods(shown) => shown.items().len(),
+    };
+    (shown, cache.len())
+}
+
+#[test]
+fn one_key_of_packed_history_is_looked_up_without_the_cache(rt: HostRuntime) {
+    for (number, at, shown) in &[
+        (1, 99, 0),
+        (1, 100, 1),
+        (1, 199, 1),
+        (1, 200, 1),
+        (2, 199, 0),
+        (2, 200, 1),
+    ] {
+        let counts = count_of_one(&rt, rt.alloc(), *number, *at);
+        assert!(rt; counts == (*shown, 0), "{number} at {at}");
     }
 }

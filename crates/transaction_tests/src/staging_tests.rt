@@ -116,6 +116,31 @@ impl Desk {
         found.expect(rt, "there is memory").len()
     }
 
+    /// How many rows the transaction sees of an employee, and how many of them have this name.
+    fn count_of(&self, rt: &impl Abort, number: i64, name: &str) -> (usize, usize) {
+        let schema = schema(rt, self.alloc);
+        let keys = by(rt, self.alloc, Operator::Equal, number);
+        let keys = fit_keys(&schema, 1, &keys).expect(rt, "they fit");
+        let search = Search::new(self.alloc, keys).expect(rt, "there is memory");
+        let found = self.staged.rows(self.tree.current(), &search);
+        let found = found.expect(rt, "there is memory");
+        let row = employee(rt, self.alloc, number, name);
+        let mut named = 0usize;
+        for (_key, seen) in &found {
+            let is_named = seen.values() == row.values();
+            named = named.saturating_add(usize::from(is_named));
+        }
+        (found.len(), named)
+    }
+
+    /// Sets the name of one employee: how many rows that are.
+    fn count_called(&mut self, rt: &impl Abort, number: i64, name: &str) -> usize {
+        let sets = sets(rt, self.alloc, name);
+        let keys = by(rt, self.alloc, Operator::Equal, number);
+        let set = self.write(rt, Write::Update(&keys, &sets));
+        set.expect(rt, "the name is set")
+    }
+
     /// How many net changes the transaction has.
     fn count_changes(&self, rt: &impl Abort) -> usize {
         let net = self.staged.net(self.tree.current());
@@ -203,8 +228,48 @@ fn a_transaction_writes_1000_keys_at_most(rt: HostRuntime) {
     assert!(rt; desk.refuses_more(&rt, 1000));
 }
 
+/// Whether so many employees, from 0 on, are too many.
+fn refuses_many(rt: &impl Abort, desk: &mut Desk, count: i64) -> bool {
+    let rows = many(rt, desk.alloc, count);
+    desk.insert(rt, &rows) == Err(Refusal::TooManyWrites)
+}
+
+#[test]
+fn a_first_statement_writes_1000_keys_at_most(rt: HostRuntime) {
+    let mut desk = desk_of_none(&rt, rt.alloc());
+    assert!(rt; refuses_many(&rt, &mut desk, 1001));
+    assert!(rt; desk.count_changes(&rt) == 0);
+    assert!(rt; desk.hire_many(&rt, 1000) == 1000);
+    assert!(rt; desk.count_renamed(&rt, "Fay") == 1000);
+    assert!(rt; desk.count_of(&rt, 999, "Fay") == (1, 1));
+    assert!(rt; desk.count_changes(&rt) == 1000);
+}
+
 #[test]
 fn keys_of_another_table_are_refused(rt: HostRuntime) {
     let mut desk = desk_of_none(&rt, rt.alloc());
     assert!(rt; desk.refuses_table(&rt, 2));
+}
+
+#[test]
+fn one_key_is_looked_up_over_own_writes(rt: HostRuntime) {
+    let mut desk = desk_of_ann(&rt, rt.alloc());
+    assert!(rt; desk.count_of(&rt, 1, "Ann") == (1, 1));
+    assert!(rt; desk.count_of(&rt, 2, "Bea") == (0, 0));
+    assert!(rt; desk.hire(&rt, 2, "Bea") == 1);
+    assert!(rt; desk.count_of(&rt, 2, "Bea") == (1, 1));
+    assert!(rt; desk.count_called(&rt, 1, "Fay") == 1);
+    assert!(rt; desk.count_of(&rt, 1, "Fay") == (1, 1));
+    assert!(rt; desk.count_of(&rt, 2, "Fay") == (1, 0));
+}
+
+#[test]
+fn a_key_that_was_deleted_is_not_found(rt: HostRuntime) {
+    let mut desk = desk_of_ann(&rt, rt.alloc());
+    assert!(rt; desk.count_deleted(&rt, 2) == 0);
+    assert!(rt; desk.count_deleted(&rt, 1) == 1);
+    assert!(rt; desk.count_of(&rt, 1, "Ann") == (0, 0));
+    assert!(rt; desk.count_called(&rt, 1, "Fay") == 0);
+    assert!(rt; desk.count_deleted(&rt, 1) == 0);
+    assert!(rt; desk.count_changes(&rt) == 1);
 }

@@ -1,6 +1,6 @@
 //! Two employees over time.
 
-use crate::sample::{ann, by, commit, hire, nothing_staged, schema, sets, write};
+use crate::sample::{ann, by, commit, empty_tree, hire, many, nothing_staged, schema, sets, write};
 use searchrange::Search;
 use staging::Net;
 use std::alloc::Global;
@@ -8,7 +8,10 @@ use std::process::Abort;
 use steps::fit_keys;
 use systime_query::{BlockCache, answer, current_rows, rows_at};
 use tsbtree::{Tree, View};
-use values::{Form, Instant, Keys, Operator, Schema, Shown, Write};
+use values::{
+    Comparison, Form, Instant, Keys, MAX_INSTANT, Operator, Row, Schema, Sequence, Shown, Value,
+    Write,
+};
 
 /// The net change of a transaction that calls the employee with the number 1 Bea.
 fn renaming(rt: &impl Abort, alloc: Global, view: &View) -> Net {
@@ -159,4 +162,149 @@ fn rows_at_an_instant_are_those_that_stand(rt: HostRuntime) {
         assert!(rt; count_at(&rt, rt.alloc(), *at) == *count, "at {at}");
     }
     assert!(rt; count_now(&rt, rt.alloc()) == 2);
+}
+
+/// The name of the one employee of these rows; none where there is none, or more than one.
+fn name_in(rows: &[Row]) -> Option<&str> {
+    match rows {
+        [row] => match row.values() {
+            [_number, Value::Text(name)] => Some(name.text()),
+            _ => None,
+        },
+        _ => None,
+    }
+}
+
+/// Whether the employee with the number 1 has a name at an instant, and the one with 2 none then.
+fn is_called(rt: &impl Abort, alloc: Global, at: Instant, called: Option<&str>) -> bool {
+    let tree = ann_then_bea(rt, alloc);
+    let schema = schema(rt, alloc);
+    let mut cache = BlockCache::new(alloc);
+    let one = by(rt, alloc, Operator::Equal, 1);
+    let one = search(rt, alloc, &schema, &one);
+    let one = rows_at(alloc, &mut cache, tree.current(), at, &one).expect(rt, "there is memory");
+    let two = by(rt, alloc, Operator::Equal, 2);
+    let two = search(rt, alloc, &schema, &two);
+    let two = rows_at(alloc, &mut cache, tree.current(), at, &two).expect(rt, "there is memory");
+    name_in(&one) == called && one.len() == called.is_some() as usize && two.is_empty()
+}
+
+#[test]
+fn one_employee_is_looked_up_at_an_instant(rt: HostRuntime) {
+    let names = &[
+        (0, None),
+        (99, None),
+        (100, Some("Ann")),
+        (199, Some("Ann")),
+        (200, Some("Bea")),
+        (MAX_INSTANT, Some("Bea")),
+        (u64::MAX, Some("Bea")),
+    ];
+    for (at, called) in names {
+        assert!(rt; is_called(&rt, rt.alloc(), *at, *called), "at {at}");
+    }
+}
+
+/// So many employees from 100 on, from the number 0 on: in more than one leaf.
+fn many_at_100(rt: &impl Abort, alloc: Global, count: i64) -> Tree {
+    let mut tree = empty_tree(rt, alloc);
+    let mut staged = nothing_staged(rt, alloc);
+    let rows = many(rt, alloc, count);
+    let inserted = write(
+        rt,
+        alloc,
+        &mut staged,
+        tree.current(),
+        Write::Insert(1, &rows),
+    );
+    assert!(rt; inserted.is_ok());
+    let net = staged.net(tree.current()).expect(rt, "there is memory");
+    commit(rt, alloc, &mut tree, 100, net);
+    tree
+}
+
+/// How many rows an employee has now and at an instant, where there are 200 from 100 on.
+fn counts_of(
+    rt: &impl Abort,
+    alloc: Global,
+    tree: &Tree,
+    number: i64,
+    at: Instant,
+) -> (usize, usize) {
+    let schema = schema(rt, alloc);
+    let keys = by(rt, alloc, Operator::Equal, number);
+    let search = search(rt, alloc, &schema, &keys);
+    let now = current_rows(alloc, tree.current(), &search).expect(rt, "there is memory");
+    let then = rows_at(
+        alloc,
+        &mut BlockCache::new(alloc),
+        tree.current(),
+        at,
+        &search,
+    );
+    (now.len(), then.expect(rt, "there is memory").len())
+}
+
+/// How many of 200 employees, from 0 on, and of one before and one after them are found now, and
+/// at an instant.
+fn count_found(rt: &impl Abort, alloc: Global, at: Instant) -> (usize, usize) {
+    let tree = many_at_100(rt, alloc, 200);
+    let (mut now, mut then) = (0usize, 0usize);
+    for number in -1..=200 {
+        let (one_now, one_then) = counts_of(rt, alloc, &tree, number, at);
+        now = now.saturating_add(one_now);
+        then = then.saturating_add(one_then);
+    }
+    (now, then)
+}
+
+#[test]
+fn each_key_is_looked_up_in_its_leaf(rt: HostRuntime) {
+    assert!(rt; count_found(&rt, rt.alloc(), 99) == (200, 0));
+    assert!(rt; count_found(&rt, rt.alloc(), 100) == (200, 200));
+}
+
+/// The keys that are 1 and compare so with another number too.
+fn one_and(rt: &impl Abort, alloc: Global, operator: Operator, bound: i64) -> Keys {
+    let one = Comparison {
+        column: 1,
+        operator: Operator::Equal,
+        value: Value::Int(1),
+    };
+    let other = Comparison {
+        column: 1,
+        operator,
+        value: Value::Int(bound),
+    };
+    let comparisons = vec![in alloc; one, other];
+    Keys {
+        table: 1,
+        comparisons: Sequence::new(comparisons.expect(rt, "there is memory")),
+    }
+}
+
+/// Whether the employee with the number 1, where that compares so with another too, is shown now
+/// and at 100.
+fn is_shown_and(rt: &impl Abort, alloc: Global, operator: Operator, bound: i64) -> (bool, bool) {
+    let tree = ann_then_bea(rt, alloc);
+    let schema = schema(rt, alloc);
+    let keys = one_and(rt, alloc, operator, bound);
+    let search = search(rt, alloc, &schema, &keys);
+    let mut cache = BlockCache::new(alloc);
+    let now = current_rows(alloc, tree.current(), &search).expect(rt, "there is memory");
+    let then = rows_at(alloc, &mut cache, tree.current(), 100, &search);
+    let then = then.expect(rt, "there is memory");
+    (name_in(&now) == Some("Bea"), name_in(&then) == Some("Ann"))
+}
+
+#[test]
+fn a_key_that_is_given_meets_the_rest_too(rt: HostRuntime) {
+    for (operator, bound, is_shown) in &[
+        (Operator::AtLeast, 1, true),
+        (Operator::Below, 1, false),
+        (Operator::Equal, 2, false),
+    ] {
+        let shown = is_shown_and(&rt, rt.alloc(), *operator, *bound);
+        assert!(rt; shown == (*is_shown, *is_shown), "{operator:?} {bound}");
+    }
 }

@@ -29,8 +29,8 @@ use Rattle.keyrange.specs.declared.range.KeyRange.{KeyRange}
 use Rattle.keyrange.specs.Range.{is_key_in}
 use Rattle.searchrange.specs.SearchRange.{range_of_table, IsWithin}
 use Rattle.searchrange.proofs.SearchOwn.{own_number}
-use Rattle.treewalk.specs.RangeChange.{event_since_in}
-use Rattle.tsbtree.specs.View.{TreeState, events}
+use Rattle.staging.specs.treewalk.RangeChange.{event_since_in}
+use Rattle.staging.specs.tsbtree.View.{TreeState, events}
 use Rattle.staging.specs.View.{Holds}
 use Rattle.validation.specs.Conflict.{IsOfEntity, conflict_of, end_by}
 

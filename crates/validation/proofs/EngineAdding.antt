@@ -15,7 +15,7 @@ use Rattle.values.proofs.LogMaps.{sorted_insert}
 use Rattle.values.proofs.LogLatest.{point}
 use Rattle.values.proofs.OrderSorted.{is_less, sorted_from}
 use Rattle.values.proofs.EventKeys.{put_net_is, add_net_in}
-use Rattle.tsbtree.specs.View.{TreeState}
+use Rattle.staging.specs.tsbtree.View.{TreeState}
 use Rattle.staging.specs.View.{Holds, Adds}
 
 module _ {K X : Type 0} (R : K → K → Ordering) where

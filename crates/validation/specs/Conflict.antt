@@ -11,7 +11,7 @@ use Rattle.values.specs.Entity.{entity_of, unit_of}
 use Rattle.values.specs.Commits.{max_instant, unit_changed_since}
 use Rattle.values.specs.Period.{Periods}
 use Rattle.keyrange.specs.declared.range.KeyRange.{KeyRange}
-use Rattle.treewalk.specs.RangeChange.{event_since_in}
+use Rattle.staging.specs.treewalk.RangeChange.{event_since_in}
 use Rattle.searchrange.specs.Entity.{IsEntityRange}
 use Rattle.searchrange.specs.SearchRange.{range_of_table, IsWithin}
 

@@ -4,11 +4,11 @@ use Rattle.values.specs.Event.{Event}
 use Rattle.values.specs.Events.{put_net}
 use Rattle.values.specs.Log.{Net}
 use Rattle.keyrange.specs.Cut.{halves_by_key}
-use Rattle.treegrowth.specs.Commit.{IsCommit, put_each}
-use Rattle.treegrowth.specs.Leaves.{halves_upto}
-use Rattle.treegrowth.specs.Places.{SplitsOverfull}
-use Rattle.tsbtree.specs.View.{TreeState, last}
-use Rattle.tsbtree.specs.Growth.{IsSplitAt}
+use Rattle.staging.specs.treegrowth.Commit.{IsCommit, put_each}
+use Rattle.staging.specs.treegrowth.Leaves.{halves_upto}
+use Rattle.staging.specs.treegrowth.Places.{SplitsOverfull}
+use Rattle.staging.specs.tsbtree.View.{TreeState, last}
+use Rattle.staging.specs.tsbtree.Growth.{IsSplitAt}
 use Rattle.validation.specs.declared.cut.Cut.{Cut}
 use Rattle.validation.specs.declared.cut.Cut.TheVariants.{Key, Time}
 

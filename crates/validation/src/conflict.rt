@@ -9,14 +9,13 @@ ghost use Rattle.values.specs.KeyEncoding.{IsShortKey, bytes_of_key};
 ghost use Rattle.values.specs.Log.{Changes};
 ghost use Rattle.values.specs.Memory.{OnlyMemory};
 ghost use Rattle.values.specs.Period.{periods_of};
-ghost use Rattle.tsbtree.specs.View.{events};
+ghost use Rattle.staging.specs.tsbtree.View.{events};
 ghost use Rattle.staging.specs.View.{Holds};
 ghost use Rattle.validation.specs.Conflict.{IsOfEntity, conflict_of};
 
 use searchrange::entity_range;
-use staging::Net;
+use staging::{Net, View};
 use std::alloc::Global;
-use tsbtree::View;
 use values::{Instant, Key, Mem, Schema, Table, key_bytes};
 
 /// Finds the first unit of the net changes that was changed since, with the latest instant: the
@@ -33,6 +32,10 @@ pub(crate) fn first_conflict(
         → found ≡ slice_get (conflicts (periods_of schema.now) m start net.now) 0) }
     ensures err { OnlyMemory result }
 {
+    // Where nothing was committed since the start, no key has changed: none is looked up.
+    if view.last() <= start {
+        return Ok(None);
+    }
     for (key, _row) in net.changes() {
         if let Some(conflict) = conflict_of(alloc, schema, view, start, key)? {
             return Ok(Some(conflict));

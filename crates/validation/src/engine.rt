@@ -6,11 +6,11 @@ ghost use Rattle.values.specs.Tables.{Schema};
 ghost use Rattle.values.specs.Commits.{outcome, max_instant};
 ghost use Rattle.values.specs.Events.{AreKeysIn};
 ghost use Rattle.values.specs.Memory.{OnlyMemory};
-ghost use Rattle.treenodes.specs.History.{KeepsHistory, KeepsPast};
-ghost use Rattle.tsbtree.specs.View.{events, last, IsEmpty, IsState};
+ghost use Rattle.staging.specs.treenodes.History.{KeepsHistory, KeepsPast};
+ghost use Rattle.staging.specs.tsbtree.View.{events, last, IsEmpty, IsState};
 ghost use Rattle.staging.specs.View.{Holds, Adds};
-ghost use Rattle.tsbtree.specs.Growth.{HoldsSame};
-ghost use Rattle.tsbtree.specs.Packing.{IsInstalled};
+ghost use Rattle.staging.specs.tsbtree.Growth.{HoldsSame};
+ghost use Rattle.staging.specs.tsbtree.Packing.{IsInstalled};
 ghost use Rattle.validation.specs.Conflict.{end_by};
 ghost use Rattle.validation.specs.Split.{IsSplit, SplitsByNeed};
 
@@ -18,10 +18,9 @@ use crate::conflict::first_conflict;
 use crate::cut::Cut;
 use crate::packed_node::PackedNode;
 use commitclock::Clock;
-use staging::Net;
+use staging::{Net, Tree, View};
 use std::alloc::Global;
 use std::marker::Model;
-use tsbtree::{Tree, View};
 use values::{Instant, Key, Mem, Refusal, Schema};
 
 /// The tree of what was committed, and the clock that gives commits their instants.
@@ -34,7 +33,7 @@ pub struct Engine {
 
 impl Model for Engine {
     ghost use Rattle.std.specs.Prelude.{◌≡◌};
-    ghost use Rattle.tsbtree.specs.View.{TreeState, last};
+    ghost use Rattle.staging.specs.tsbtree.View.{TreeState, last};
 
     ghost Value = { TreeState };
 

@@ -3,14 +3,14 @@ ghost use Rattle.std.specs.Prelude.{◌≡◌, IfOk, MatchOption, option_copied}
 ghost use Rattle.values.specs.Memory.{OnlyMemory};
 ghost use Rattle.keyrange.specs.Rect.{IsArea};
 ghost use Rattle.blocks.specs.Block.{HasBlock};
-ghost use Rattle.treenodes.specs.Node.{TreeNode, data_node};
-ghost use Rattle.treenodes.specs.Backlog.{IsFirstWaiting, IsWaiting};
-ghost use Rattle.treenodes.specs.Tree.{IsTree};
+ghost use Rattle.staging.specs.treenodes.Node.{TreeNode, data_node};
+ghost use Rattle.staging.specs.treenodes.Backlog.{IsFirstWaiting, IsWaiting};
+ghost use Rattle.staging.specs.treenodes.Tree.{IsTree};
 
 use datanode::DataNode;
 use keyrange::Rect;
+use staging::View;
 use std::marker::Model;
-use tsbtree::View;
 use values::Mem;
 
 /// A data node of history that is to be packed, as a view shows it. Its type keeps that it has a

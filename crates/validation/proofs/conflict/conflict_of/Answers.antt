@@ -6,7 +6,7 @@ use Rattle.values.specs.Events.{IsKeyIn, event_since}
 use Rattle.values.specs.KeyEncoding.{bytes_of_key}
 use Rattle.values.specs.Log.{Changes}
 use Rattle.values.specs.Period.{periods_of}
-use Rattle.tsbtree.specs.View.{events}
+use Rattle.staging.specs.tsbtree.View.{events}
 use Rattle.staging.specs.View.{Holds}
 use Rattle.validation.specs.Conflict.{IsOfEntity, conflict_of}
 use Rattle.validation.proofs.ConflictUnits.{of_entity, of_key, none_of_table}

@@ -1,10 +1,16 @@
-use Rattle.std.proofs.Common.{rules, ◌≡◌, ◌<◌, ◌+◌, suc, Some, None, sym, ap, ◌∙◌, arith, length, get_or, drop}
+use Rattle.std.proofs.Common.{rules, ◌≡◌, ◌<◌, ◌≤◌, ◌+◌, suc, Some, None, sym, ap, ◌∙◌, arith, length, get_or, drop}
 use Rattle.std.specs.List.{slice_get}
 use Rattle.values.specs.Commits.{conflicts}
 use Rattle.values.specs.Period.{periods_of}
 use Rattle.validation.specs.Conflict.{conflict_of}
+use Rattle.validation.proofs.ConflictNone.{none_since}
 use Rattle.validation.proofs.ConflictUnits.{next_of}
 use Rattle.validation.proofs.conflict.first_conflict.Goals as goal
+
+pub returns-then-last-start-clause-ok : goal.returns-then-last-start-clause-ok
+returns-then-last-start-clause-ok c = λ m held keys.
+    let before : c.last.result ≤ c.args.start = search rules in
+    none_since c.args.schema.now (periods_of c.args.schema.now) c.args.view.now m c.last.result c.args.start c.args.net.now c.last.ensures.upto before held
 
 pub returns-in-Some-clause-ok : goal.returns-in-Some-clause-ok
 returns-in-Some-clause-ok c = λ m held keys.

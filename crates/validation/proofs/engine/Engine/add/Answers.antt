@@ -1,5 +1,5 @@
 use Rattle.std.proofs.Common.{rules, []}
-use Rattle.treegrowth.specs.Places.{SplitsOverfull}
+use Rattle.staging.specs.treegrowth.Places.{SplitsOverfull}
 use Rattle.staging.specs.View.{Adds}
 use Rattle.validation.proofs.EngineAdding.{added_holds}
 use Rattle.validation.proofs.engine.Engine.add.Goals as goal

@@ -2,7 +2,7 @@ use Rattle.std.proofs.Common.{◌≡◌, ◌≢◌, subst, Ok, Err}
 use Rattle.values.specs.declared.refusal.Refusal.TheVariants.{Memory}
 use Rattle.values.specs.Period.{periods_of}
 use Rattle.values.specs.Commits.{outcome}
-use Rattle.tsbtree.specs.View.{last}
+use Rattle.staging.specs.tsbtree.View.{last}
 use Rattle.validation.proofs.EngineAdding.{added_holds}
 use Rattle.validation.proofs.engine.Engine.commit.Goals as goal
 
