@@ -10,6 +10,7 @@
 #include <stdatomic.h>
 #include <stdio.h>
 #include <stdlib.h>
+#include <sys/syscall.h>
 #include <unistd.h>
 
 extern void *__libc_malloc(size_t size);
@@ -62,4 +63,12 @@ __attribute__((destructor)) static void tell(void)
     int file = path ? open(path, O_WRONLY | O_CREAT | O_TRUNC, 0600) : -1;
     if (file >= 0 && write(file, text, length) == length)
         close(file);
+}
+
+/* A program with threads may end so, and then no destructor runs. */
+void _exit(int status)
+{
+    tell();
+    syscall(SYS_exit_group, status);
+    __builtin_unreachable();
 }

@@ -35,3 +35,10 @@ module _ (old new : SessionState) (first given : List Given) (g : Given) (b : Ha
   broken_of parts =
       let part : IsPart g b.begun.view given = subst (λ (e : Entry). IsPart (g.0, e) b.begun.view given) (sym b.begun.entry_is) (parts g.0 old.number b.begun.earlier b.begun.view begin_is) in
       subst (IsBroken old new) (sym part.given_are) (record { begin = g; begins = b; part = subst (IsPart g b.begun.view) part.given_are part })
+
+  -- its begin is handed back
+  pub has_one : IsPartOf first given → given ≡ [] → ⊥
+  has_one parts none =
+      let part : IsPart g b.begun.view given = subst (λ (e : Entry). IsPart (g.0, e) b.begun.view given) (sym b.begun.entry_is) (parts g.0 old.number b.begun.earlier b.begun.view begin_is) in
+      let never : ◌≡◌ {A = List Given} [] (g ∷ part.installs) = sym none ∙ part.given_are in
+      cc

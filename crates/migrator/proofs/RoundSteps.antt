@@ -12,11 +12,11 @@ use Rattle.std.proofs.lemmas.List.Elements.{All-nil, All-push, Contains-append_l
 use Rattle.std.proofs.lemmas.List.Sorted.{IsPermutation-append_left, IsPermutation-map, IsPermutation-middle, IsPermutation-push_more, IsPermutation-refl, IsPermutation-swap_remove, IsPermutation-sym, IsPermutation-to_front, IsPermutation-trans}
 use Rattle.keyrange.specs.Rect.{Area}
 use Rattle.datanode.specs.Node.{Node}
-use Rattle.treenodes.specs.Node.{TreeNode, data_node}
-use Rattle.treenodes.specs.Tree.{IsTree}
-use Rattle.treenodes.specs.Backlog.{IsBehind, IsFirstWaiting, IsWaiting, start_cmp}
-use Rattle.treenodes.proofs.BacklogOrder.{start_total}
-use Rattle.tsbtree.specs.View.{TreeState}
+use Rattle.validation.specs.treenodes.Node.{TreeNode, data_node}
+use Rattle.validation.specs.treenodes.Tree.{IsTree}
+use Rattle.validation.specs.treenodes.Backlog.{IsBehind, IsFirstWaiting, IsWaiting, start_cmp}
+use Rattle.validation.proofs.treenodes.BacklogOrder.{start_total}
+use Rattle.validation.specs.tsbtree.View.{TreeState}
 use Rattle.blocks.specs.Block.{block_of}
 use Rattle.blocks.specs.PackedNode.{Packed}
 use Rattle.journal.specs.declared.entry.Entry.{Entry}

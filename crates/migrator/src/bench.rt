@@ -1,6 +1,7 @@
 //! The workers, and the channels between them and the round.
 use crate::fault::Cause;
 use crate::name::RoundName;
+use crate::stop::Stop;
 use crate::task::{Done, Task};
 use crossbeam_channel::{Receiver, Sender};
 use sessions::{Gate, Place, pass_gate};
@@ -8,7 +9,7 @@ use std::alloc::{AllocError, Global};
 use std::sync::Wait;
 
 /// What a worker answers: what it has packed, or why it has not, and then it has ended.
-pub(crate) type Answer<N> = Result<Done<N>, Cause>;
+pub(crate) type Answer<N> = Result<Done<N>, Stop>;
 
 /// The round's ends of the channels.
 #[derive(Drop)]
@@ -22,8 +23,8 @@ impl<N: RoundName> Desk<N> {
     /// did not pack.
     pub(crate) fn why_ended<R: Wait>(&self, rt: &R) -> Cause {
         for answer in self.answers.iter(rt) {
-            if let Err(cause) = answer {
-                return cause;
+            if let Err(stop) = answer {
+                return Cause::from(stop);
             }
         }
         Cause::Worker
@@ -86,13 +87,13 @@ fn take<N: RoundName, R: Wait, G: Gate>(
     bench: &Bench<N>,
     task: Task<N>,
 ) -> bool {
-    let answer = answer(rt, alloc, gate, bench.who, task);
+    let answer = pass_and_pack(rt, alloc, gate, bench.who, task);
     let goes_on = answer.is_ok();
     bench.answers.send(rt, answer).is_ok() && goes_on
 }
 
-/// Passes the gate, and packs.
-fn answer<N: RoundName, R: Wait, G: Gate>(
+/// Passes the gate as a worker, and packs.
+pub(crate) fn pass_and_pack<N: RoundName, R: Wait, G: Gate>(
     rt: &R,
     alloc: Global,
     gate: &G,
@@ -100,8 +101,5 @@ fn answer<N: RoundName, R: Wait, G: Gate>(
     task: Task<N>,
 ) -> Answer<N> {
     pass_gate(gate, rt, who, Place::Pack)?;
-    match task.pack(alloc) {
-        Ok(done) => Ok(done),
-        Err(_) => Err(Cause::Memory),
-    }
+    Ok(task.pack(alloc)?)
 }

@@ -1,17 +1,17 @@
 //! How a round is broken off.
+use crate::store_calls::Filled;
 use growlog::StoreName;
 use journal::Receipt;
 use sessions::GaveUp;
 use std::alloc::AllocError;
-use values::Refusal;
 
 /// Why a round was broken off.
 #[derive(Clone, Copy, Debug, PartialEq, Eq)]
 pub enum Cause {
     /// Memory ran out, or a thread could not be made.
     Memory,
-    /// The journal is full.
-    Full,
+    /// The store answered that its journal is full.
+    Full(Filled),
     /// The workers have ended, or a result is of a rectangle that was not asked for or has come
     /// before. Also that the session is of other tables than the store.
     Worker,
@@ -33,31 +33,5 @@ impl From<AllocError> for Cause {
 
     fn from(_: AllocError) -> Cause {
         Cause::Memory
-    }
-}
-
-impl From<GaveUp> for Cause {
-    ghost use Rattle.std.specs.Prelude.{◌≡◌};
-    ghost use Rattle.migrator.specs.declared.fault.Cause.TheVariants.{Gate};
-
-    ghost from_gives = { λ gave_up cause. cause ≡ Gate gave_up };
-
-    fn from(gave_up: GaveUp) -> Cause {
-        Cause::Gate(gave_up)
-    }
-}
-
-impl From<Refusal> for Cause {
-    ghost use Rattle.std.specs.Prelude.{◌≡◌};
-    ghost use Rattle.migrator.specs.Fault.{cause_of};
-
-    ghost from_gives = { λ refusal cause. cause ≡ cause_of refusal };
-
-    fn from(refusal: Refusal) -> Cause {
-        match refusal {
-            Refusal::Memory => Cause::Memory,
-            Refusal::JournalFull => Cause::Full,
-            _ => Cause::Worker,
-        }
     }
 }

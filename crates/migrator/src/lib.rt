@@ -7,7 +7,10 @@ mod name;
 mod request_list;
 mod round;
 mod run;
+mod stop;
+mod store_calls;
 mod task;
 
 pub use fault::{Cause, MigrateFault};
 pub use run::run_migrator;
+pub use store_calls::Filled;

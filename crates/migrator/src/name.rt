@@ -3,7 +3,7 @@ use std::marker::{Brand, Send, Sync};
 
 /// Which round it is: its begin, and the view that the begin shows. It is in the types alone.
 pub(crate) trait RoundName: Send + Sync {
-    ghost use Rattle.tsbtree.specs.View.{TreeState};
+    ghost use Rattle.validation.specs.tsbtree.View.{TreeState};
     ghost use Rattle.migrator.specs.Round.{Given};
 
     ghost begin: { Given };

@@ -1,21 +1,26 @@
 //! A round under way.
-ghost use Rattle.std.specs.Prelude.{◌≡◌, ◌<◌, ◌∷◌, [], IfErr, IfOk, MatchOption, OnOk, false, length, map, true};
+ghost use Rattle.std.specs.Prelude.{◌≡◌, ◌<◌, ◌∷◌, [], Err, IfErr, IfOk, IsErrAnd, MatchOption, OnOk, false, length, map, true};
+ghost use Rattle.migrator.specs.Fault.{cause_of};
 ghost use Rattle.migrator.specs.Round.{IsOver, IsPart, IsWhole};
 
-use crate::bench::Desk;
+use crate::bench::{Answer, Desk, pass_and_pack};
 use crate::fault::{Cause, MigrateFault};
 use crate::name::RoundName;
 use crate::request_list::RequestList;
+use crate::stop::Stop;
+use crate::store_calls::install_at;
 use crate::task::{Done, Task};
 use growlog::StoreName;
 use journal::Receipt;
 use keyrange::Rect;
-use sessions::LockedStore;
+use sessions::{Gate, LockedStore};
 use std::alloc::Global;
 use std::marker::{Model, PhantomData};
 use std::sync::Wait;
-use tsbtree::View;
-use validation::find_job;
+use validation::{View, find_job};
+
+/// The number of a round's first worker, and of the thread that packs where there are no workers.
+const FIRST_WORKER: u8 = 1;
 
 /// What a round has asked for, and its receipts so far: a begin, and installs of what its view shows
 /// unpacked. Contracts see the receipts as numbers and entries.
@@ -61,7 +66,7 @@ impl<J: StoreName, N: RoundName> Round<J, N> {
 
     /// Returns the task of packing the next node that the view shows unpacked, if there is one;
     /// from then on it counts as asked for.
-    fn next(&mut self, view: &View) -> Result<Option<Task<N>>, Cause>
+    fn next(&mut self, view: &View) -> Result<Option<Task<N>>, Stop>
         requires { view.now ≡ N.shown }
         ensures { IfOk result (λ found. MatchOption found
             (IsOver N.shown self.new.after) (λ _. Unit {0})) }
@@ -117,9 +122,23 @@ impl<J: StoreName, N: RoundName> Round<J, N> {
         desk: &Desk<N>,
     ) -> Result<(), Cause> {
         match desk.answers.recv(rt) {
-            Ok(Ok(done)) => self.install(rt, store, done),
-            Ok(Err(cause)) => Err(cause),
+            Ok(answer) => self.take(rt, store, answer),
             Err(_) => Err(Cause::Worker),
+        }
+    }
+
+    /// Installs what a worker has packed, or returns why it has not.
+    fn take<R: Wait>(
+        &mut self,
+        rt: &R,
+        store: &LockedStore<J>,
+        answer: Answer<N>,
+    ) -> Result<(), Cause>
+        ensures { IfErr answer (λ stop. result ≡ Err (cause_of stop)) }
+    {
+        match answer {
+            Ok(done) => self.install(rt, store, done),
+            Err(stop) => Err(Cause::from(stop)),
         }
     }
 
@@ -134,7 +153,7 @@ impl<J: StoreName, N: RoundName> Round<J, N> {
             return Err(Cause::Worker);
         };
         self.receipts.reserve(1)?;
-        let receipt = store.install(rt, done.into_packed())?;
+        let receipt = install_at(rt, store, done.into_packed())?;
         self.receipts.push_reserved(receipt);
         self.asked.remove(place);
         Ok(())
@@ -167,6 +186,53 @@ impl<J: StoreName, N: RoundName> Round<J, N> {
         Err(Cause::Worker)
     }
 
+    /// Packs all nodes that the view shows unpacked on this thread, as the only worker, and installs
+    /// each before it packs the next.
+    pub(crate) fn pack_here<R: Wait, G: Gate>(
+        &mut self,
+        rt: &R,
+        alloc: Global,
+        store: &LockedStore<J>,
+        view: &View,
+        gate: &G,
+    ) -> Result<(), Cause>
+        requires { view.now ≡ N.shown }
+        ensures { OnOk result (IsWhole N.begin N.shown self.new.given) }
+    {
+        for _ in rt.forever() {
+            if !self.pack_next(rt, alloc, store, view, gate)? {
+                return Ok(());
+            }
+        }
+        // Not reached: the loop does not end by itself.
+        Err(Cause::Worker)
+    }
+
+    /// Packs and installs the next node that the view shows unpacked; false if there is none, and
+    /// all were installed.
+    fn pack_next<R: Wait, G: Gate>(
+        &mut self,
+        rt: &R,
+        alloc: Global,
+        store: &LockedStore<J>,
+        view: &View,
+        gate: &G,
+    ) -> Result<bool, Cause>
+        requires { view.now ≡ N.shown }
+        ensures { IfOk result (λ packed.
+            packed ≡ false → IsWhole N.begin N.shown self.new.given) }
+    {
+        let Some(task) = self.next(view)? else {
+            if self.asked.len() == 0 {
+                return Ok(false);
+            }
+            return Err(Cause::Worker);
+        };
+        let answer = pass_and_pack(rt, alloc, gate, FIRST_WORKER, task);
+        self.take(rt, store, answer)?;
+        Ok(true)
+    }
+
     /// Tells whether all that the view shows unpacked was asked for and installed.
     fn is_whole(&mut self, view: &View) -> Result<bool, Cause>
         requires { view.now ≡ N.shown }
@@ -179,7 +245,8 @@ impl<J: StoreName, N: RoundName> Round<J, N> {
         Ok(self.asked.len() == 0)
     }
 
-    /// Ends the round once it was packed, and returns its receipts.
+    /// Ends the round once it was packed, and returns its receipts. Where packing ended by a cause,
+    /// the round is broken off by that.
     pub(crate) fn finish(
         self,
         view: &View,
@@ -190,6 +257,7 @@ impl<J: StoreName, N: RoundName> Round<J, N> {
             IsWhole N.begin N.shown (map (λ r. (r.number, r.entry)) rs.items)) }
         ensures err { IfErr result (λ f.
             IsPart N.begin N.shown (map (λ r. (r.number, r.entry)) f.receipts.items)) }
+        ensures cause { IfErr packed (λ cause. IsErrAnd result (λ f. f.cause ≡ cause)) }
     {
         let mut round = self;
         if let Err(cause) = packed {
@@ -204,7 +272,9 @@ impl<J: StoreName, N: RoundName> Round<J, N> {
 
     /// Breaks the round off, and hands back its receipts.
     fn break_off(self, cause: Cause) -> MigrateFault<J>
-        ensures { IsPart N.begin N.shown (map (λ r. (r.number, r.entry)) result.receipts.items) }
+        ensures part { IsPart N.begin N.shown
+            (map (λ r. (r.number, r.entry)) result.receipts.items) }
+        ensures cause { result.cause ≡ cause }
     {
         MigrateFault {
             cause,

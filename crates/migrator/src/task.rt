@@ -1,8 +1,8 @@
 //! What a worker is asked for, and what it has packed.
 ghost use Rattle.std.specs.Prelude.{◌≡◌, None};
 ghost use Rattle.blocks.specs.Block.{block_of};
-ghost use Rattle.treenodes.specs.Node.{data_node};
-ghost use Rattle.treenodes.specs.Backlog.{IsWaiting};
+ghost use Rattle.validation.specs.treenodes.Node.{data_node};
+ghost use Rattle.validation.specs.treenodes.Backlog.{IsWaiting};
 
 use crate::name::RoundName;
 use keyrange::Rect;
@@ -21,8 +21,8 @@ pub(crate) struct Task<N: RoundName> {
 impl<N: RoundName> Model for Task<N> {
     ghost use Rattle.std.specs.Prelude.{None};
     ghost use Rattle.datanode.specs.Node.{Node};
-    ghost use Rattle.treenodes.specs.Node.{data_node};
-    ghost use Rattle.treenodes.specs.Backlog.{IsWaiting};
+    ghost use Rattle.validation.specs.treenodes.Node.{data_node};
+    ghost use Rattle.validation.specs.treenodes.Backlog.{IsWaiting};
 
     ghost Value = { Node };
 
@@ -43,8 +43,8 @@ impl<N: RoundName> Model for Done<N> {
     ghost use Rattle.std.specs.Prelude.{◌≡◌, None};
     ghost use Rattle.blocks.specs.Block.{block_of};
     ghost use Rattle.blocks.specs.PackedNode.{Packed};
-    ghost use Rattle.treenodes.specs.Node.{data_node};
-    ghost use Rattle.treenodes.specs.Backlog.{IsWaiting};
+    ghost use Rattle.validation.specs.treenodes.Node.{data_node};
+    ghost use Rattle.validation.specs.treenodes.Backlog.{IsWaiting};
 
     ghost Value = { Packed };
 

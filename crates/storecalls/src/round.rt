@@ -2,7 +2,7 @@
 use crate::calls::Calls;
 use growlog::StoreName;
 use journal::Receipt;
-use migrator::{MigrateFault, run_migrator};
+use migrator::{Cause, MigrateFault, run_migrator};
 use sessions::{Gate, LockedStore, Place};
 use std::alloc::Global;
 use std::io::Write;
@@ -25,8 +25,8 @@ impl Gate for Open {
     }
 }
 
-/// Runs a round; where it is broken off, a second one. Writes how many receipts each had, and returns those for which
-/// there is no room.
+/// Runs a round; where it is broken off, a second one. Writes how each ended and how many receipts it had, and returns
+/// those for which there is no room.
 pub(crate) fn pack_all<J: StoreName, R: Threads + Wait + Sync, W: Write>(
     rt: &R,
     alloc: Global,
@@ -58,13 +58,23 @@ fn pack_once<J: StoreName, R: Threads + Wait + Sync, W: Write>(
         return (false, Vec::new(alloc));
     };
     let round = run_migrator(rt, alloc, store, &mut service, WORKERS, &Open);
-    let (is_whole, mut taken) = match round {
-        Ok(receipts) => (true, receipts),
-        Err(MigrateFault { cause: _, receipts }) => (false, receipts),
+    let is_whole = round.is_ok();
+    let (word, mut taken) = match round {
+        Ok(receipts) => ("packed", receipts),
+        Err(MigrateFault { cause, receipts }) => (word_of(cause), receipts),
     };
-    let word = if is_whole { "packed" } else { "broken off" };
     let _written = writeln!(out, "{word} {}", taken.len());
     // Where this is refused, what was taken is handed on.
     let _moved = calls.receipts.append(&mut taken);
     (is_whole, taken)
+}
+
+/// How a round that is broken off has ended.
+fn word_of(cause: Cause) -> &'static str {
+    match cause {
+        Cause::Memory => "broken off by memory",
+        Cause::Full(_) => "broken off by a full journal",
+        Cause::Worker => "broken off by its workers",
+        Cause::Gate(_) => "broken off by its gate",
+    }
 }

@@ -1,6 +1,6 @@
 use Rattle.std.proofs.Common.{ap, map, [], ◌∷◌, ◌++◌, ◌∙◌}
 use Rattle.std.proofs.lemmas.Result.{IfErr-weaker, IfOk-weaker}
-use Rattle.migrator.proofs.RoundBegun.{broken_of, is_one, round_of}
+use Rattle.migrator.proofs.RoundBegun.{broken_of, has_one, is_one, round_of}
 use Rattle.migrator.proofs.run.run_migrator.Goals as goal
 
 pub pack_begun-requires-after_bounds : goal.pack_begun-requires-after_bounds
@@ -22,4 +22,12 @@ returns-clause-broken g c =
     (λ f part.
     broken_of c.args.session.now c.begin.new.session _ _ (c.in-Ok.receipt.number, c.in-Ok.receipt.entry) c.in-Ok.ensures.ok
     (ap (map (λ r. (r.number, r.entry))) (c.push_reserved.ensures.items ∙ ap (λ l. l ++ c.in-Ok.receipt ∷ []) (c.reserve.ensures.items ∙ c.new-receipts.ensures.items))) part)
+    c.pack_begun.ensures.part
+
+pub returns-clause-own : goal.returns-clause-own
+returns-clause-own g c = λ _.
+    IfErr-weaker c.pack_begun.result _ _
+    (λ f part. λ none. absurd (
+    has_one c.args.session.now c.begin.new.session _ _ (c.in-Ok.receipt.number, c.in-Ok.receipt.entry) c.in-Ok.ensures.ok
+    (ap (map (λ r. (r.number, r.entry))) (c.push_reserved.ensures.items ∙ ap (λ l. l ++ c.in-Ok.receipt ∷ []) (c.reserve.ensures.items ∙ c.new-receipts.ensures.items))) part (ap (map (λ r. (r.number, r.entry))) none)))
     c.pack_begun.ensures.part
