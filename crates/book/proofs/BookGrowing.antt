@@ -13,9 +13,9 @@ use Rattle.values.specs.declared.key.Point.{Point}
 use Rattle.std.proofs.lemmas.List.Elements.{All-nil}
 use Rattle.values.proofs.LogPush.{add_all-push}
 use Rattle.blocks.specs.PackedNode.{Packed}
-use Rattle.tsbtree.specs.View.{TreeState, last as view_last, IsEmpty, IsState}
-use Rattle.tsbtree.specs.Growth.{HoldsSame}
-use Rattle.staging.specs.View.{Holds}
+use Rattle.validation.specs.tsbtree.View.{TreeState, last as view_last, IsEmpty, IsState}
+use Rattle.validation.specs.tsbtree.Growth.{HoldsSame}
+use Rattle.validation.specs.staging.View.{Holds}
 use Rattle.journal.specs.BegunState.{BegunState}
 use Rattle.journal.specs.declared.entry.Entry.{Entry}
 use Rattle.journal.specs.declared.entry.Entry.TheVariants.{Begin, Commit, Install}

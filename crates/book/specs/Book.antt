@@ -7,9 +7,9 @@ use Rattle.values.specs.Log.{Net, last, changes}
 use Rattle.values.specs.Period.{periods_of}
 use Rattle.values.specs.Commits.{outcome}
 use Rattle.blocks.specs.PackedNode.{Packed}
-use Rattle.tsbtree.specs.View.{TreeState, last as view_last, IsState}
-use Rattle.tsbtree.specs.Packing.{IsInstalled}
-use Rattle.staging.specs.View.{Holds}
+use Rattle.validation.specs.tsbtree.View.{TreeState, last as view_last, IsState}
+use Rattle.validation.specs.tsbtree.Packing.{IsInstalled}
+use Rattle.validation.specs.staging.View.{Holds}
 use Rattle.validation.specs.declared.cut.Cut.{Cut}
 use Rattle.validation.specs.Split.{IsSplit}
 use Rattle.journal.specs.BegunState.{BegunState}

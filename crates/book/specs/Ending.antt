@@ -5,8 +5,8 @@ use Rattle.values.specs.Log.{Changes, Net, add_net}
 use Rattle.values.specs.Period.{periods_of}
 use Rattle.values.specs.Commits.{outcome, max_instant}
 use Rattle.values.specs.Events.{AreKeysIn}
-use Rattle.tsbtree.specs.View.{TreeState, last}
-use Rattle.staging.specs.View.{Holds}
+use Rattle.validation.specs.tsbtree.View.{TreeState, last}
+use Rattle.validation.specs.staging.View.{Holds}
 use Rattle.values.specs.declared.refusal.Refusal.{Refusal}
 use Rattle.values.specs.declared.refusal.Refusal.TheVariants.{Memory}
 

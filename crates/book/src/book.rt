@@ -1,15 +1,14 @@
 //! What was committed and the journal, in step.
 ghost use Rattle.std.specs.Prelude.{◌≡◌, ◌<◌, [], Err, IfOk, OnOk, length};
 ghost use Rattle.values.specs.Memory.{OnlyMemory};
-ghost use Rattle.tsbtree.specs.View.{IsEmpty};
+ghost use Rattle.validation.specs.tsbtree.View.{IsEmpty};
 ghost use Rattle.book.specs.Book.{IsBook, OnlyRoom, most_entries};
 
 use growlog::{NewLog, StoreName};
 use journal::{Entry, Journal, SharedEntry};
 use std::alloc::Global;
 use std::marker::Model;
-use tsbtree::Tree;
-use validation::Engine;
+use validation::{Engine, Tree};
 use values::{Mem, Refusal};
 
 /// The entries that a journal may hold.

@@ -7,8 +7,7 @@ use crate::book::Book;
 use growlog::StoreName;
 use journal::{JournalGone, Receipt, SharedEntry};
 use std::marker::Model;
-use tsbtree::Tree;
-use validation::Engine;
+use validation::{Engine, Tree};
 
 /// A book that is closed: the tree, and all entries. Contracts see what they see of a book.
 #[derive(Drop)]

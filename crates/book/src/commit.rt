@@ -2,7 +2,7 @@
 ghost use Rattle.std.specs.Prelude.{◌≡◌, ◌<◌, Err, IfOk, IfSome, OnErr, OnOk, false, length, true};
 ghost use Rattle.values.specs.Events.{AreKeysIn};
 ghost use Rattle.values.specs.Memory.{OnlyMemory};
-ghost use Rattle.treenodes.specs.History.{KeepsHistory};
+ghost use Rattle.validation.specs.treenodes.History.{KeepsHistory};
 ghost use Rattle.journal.specs.Entries.{is_open};
 ghost use Rattle.book.specs.Book.{Adds, IsBook, OnlyRoom, commit_entry, most_entries};
 ghost use Rattle.book.specs.Ending.{IsEnd, IsWritten, MayBeWritten, instant_of, ran_out};
@@ -10,8 +10,7 @@ ghost use Rattle.book.specs.Ending.{IsEnd, IsWritten, MayBeWritten, instant_of, 
 use crate::book::{Book, make_room, twice};
 use growlog::StoreName;
 use journal::{Begun, Entry, Receipt};
-use staging::Net;
-use validation::Engine;
+use validation::{Engine, Net};
 use values::{Instant, Mem, Refusal, Schema};
 
 impl<J: StoreName> Book<J> {

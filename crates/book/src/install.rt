@@ -1,8 +1,8 @@
 //! An install of a packed node, which changes nothing that was committed.
 ghost use Rattle.std.specs.Prelude.{◌≡◌, ◌<◌, Bool, Err, IfOk, OnErr, length};
 ghost use Rattle.values.specs.Memory.{OnlyMemory};
-ghost use Rattle.treenodes.specs.History.{KeepsPast};
-ghost use Rattle.tsbtree.specs.Growth.{HoldsSame};
+ghost use Rattle.validation.specs.treenodes.History.{KeepsPast};
+ghost use Rattle.validation.specs.tsbtree.Growth.{HoldsSame};
 ghost use Rattle.journal.specs.declared.entry.Entry.TheVariants.{Install};
 ghost use Rattle.book.specs.Book.{Adds, IsBook, IsInstallEntry, OnlyRoom, most_entries};
 ghost use Rattle.book.specs.Outcomes.{entry_of};

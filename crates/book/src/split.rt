@@ -1,8 +1,8 @@
 //! A split of a node, which changes nothing that was committed.
 ghost use Rattle.std.specs.Prelude.{◌≡◌, ◌<◌, Bool, Err, IfOk, OnErr, length};
 ghost use Rattle.values.specs.Memory.{OnlyMemory};
-ghost use Rattle.treenodes.specs.History.{KeepsHistory};
-ghost use Rattle.tsbtree.specs.Growth.{HoldsSame};
+ghost use Rattle.validation.specs.treenodes.History.{KeepsHistory};
+ghost use Rattle.validation.specs.tsbtree.Growth.{HoldsSame};
 ghost use Rattle.journal.specs.declared.entry.Entry.TheVariants.{Split};
 ghost use Rattle.book.specs.Book.{Adds, IsBook, IsSplitEntry, OnlyRoom, most_entries};
 ghost use Rattle.book.specs.Outcomes.{entry_of};

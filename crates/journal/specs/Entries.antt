@@ -5,7 +5,7 @@ use Rattle.values.specs.Log.{Log}
 use Rattle.values.specs.Tables.{Schema}
 use Rattle.values.specs.Period.{periods_of}
 use Rattle.values.specs.Commits.{after}
-use Rattle.tsbtree.specs.View.{last}
+use Rattle.validation.specs.tsbtree.View.{last}
 use Rattle.journal.specs.BegunState.{BegunState}
 use Rattle.journal.specs.declared.entry.Entry.{Entry}
 use Rattle.journal.specs.declared.entry.Entry.TheVariants.{Begin, Commit, Split, Install}

@@ -6,7 +6,7 @@ use Rattle.values.specs.Tables.{Schema}
 use Rattle.values.specs.Period.{periods_of}
 use Rattle.values.specs.Commits.{outcome}
 use Rattle.values.specs.Events.{events_of}
-use Rattle.tsbtree.specs.View.{TreeState, events, last as view_last}
+use Rattle.validation.specs.tsbtree.View.{TreeState, events, last as view_last}
 use Rattle.journal.specs.declared.entry.Entry.{Entry}
 use Rattle.journal.specs.declared.entry.Entry.TheVariants.{Begin, Commit, Split, Install}
 use Rattle.journal.specs.Entries.{Entries, entry_at, log, has_entry_of, has_ended}

@@ -4,12 +4,10 @@ ghost use Rattle.values.specs.Memory.{OnlyMemory};
 
 use bytes::Bytes;
 use keyrange::Rect;
-use staging::Net;
 use std::alloc::Global;
 use std::marker::Model;
 use std::sync::Arc;
-use tsbtree::View;
-use validation::Cut;
+use validation::{Cut, Net, View};
 use values::{Instant, Mem, Refusal};
 
 /// What happened to a store.

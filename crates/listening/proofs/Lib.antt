@@ -1,2 +1,7 @@
 mod ConnectionPrefixes
+mod ConnectionRun
 mod LoadingCalls
+mod MigrationService
+mod PileCrossing
+mod PileParts
+mod ServerHistory

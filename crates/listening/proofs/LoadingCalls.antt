@@ -1,14 +1,14 @@
 -- A load, from what its calls do.
-use Rattle.std.proofs.Common.{◌≡◌, ◌≢◌, ℕ, List, [], ◌∷◌, Option, Some, None, sym, ap, ◌∙◌, subst, inl, inr}
+use Rattle.std.proofs.Common.{◌≡◌, ◌≢◌, ℕ, List, [], ◌∷◌, Option, Some, None, refl, sym, ap, ◌∙◌, subst, inl, inr}
 use Rattle.std.specs.Prelude.{◌⊎◌, Result, Ok, Err, IfErr, IfOk}
 use Rattle.values.specs.Log.{Changes, Net, Row}
 use Rattle.values.specs.Tables.{Schema}
 use Rattle.values.specs.Writes.{Own}
 use Rattle.values.specs.declared.refusal.Refusal.{Refusal}
 use Rattle.values.specs.declared.refusal.Refusal.TheVariants.{Memory, NoTransaction}
-use Rattle.tsbtree.specs.View.{TreeState}
-use Rattle.staging.specs.View.{Holds}
-use Rattle.staging.specs.Own.{net_over, own}
+use Rattle.sessions.specs.tsbtree.View.{TreeState}
+use Rattle.sessions.specs.staging.View.{Holds}
+use Rattle.sessions.specs.staging.Own.{net_over, own}
 use Rattle.steps.specs.declared.step.Step.{Step}
 use Rattle.steps.specs.declared.step.Step.TheVariants.{Insert}
 use Rattle.steps.specs.Write.{write}
@@ -19,7 +19,7 @@ use Rattle.sessions.specs.SessionState.{IsWrite, SessionState, WithWrites, with_
 use Rattle.sessions.specs.Store.{IsBegun, begun_with}
 use Rattle.serving.specs.Progress.{Given}
 use Rattle.serving.proofs.AnswerRefusing.{memory_or_reply}
-use Rattle.listening.specs.Loading.{HasEnded, IsLoadedBy, IsRefusedInsert, IsRoom, IsUnended, IsUnloaded, Inserts, unbegun}
+use Rattle.listening.specs.Loading.{HasEnded, IsLoadAt, IsLoadedAt, IsRefusedInsert, IsRoom, IsUnended, IsUnloaded, unbegun}
 
 pub if_err : {A E : Type 0} (r : Result A E) (P Q : E → Type 0) → ((x : E) → P x → Q x) → IfErr r P → IfErr r Q
 if_err (Ok x) P Q f p = tt
@@ -35,13 +35,13 @@ both p q = λ i. (p i, q i)
 inner : {A : Type 0} {a b : A} → Some a ≡ Some b → a ≡ b
 inner e = cc e
 
--- an INSERT that was taken wrote what the definitions say
-taken_by : (schema : Schema) (step : Step) (o o' : Own) (count : ℕ) (why : Option Refusal) → (Ok count, Some o') ≡ write_by schema step why (Some o) → write schema step o ≡ (Ok count, o')
+-- an INSERT that was taken fits, and wrote what the definitions say
+taken_by : (schema : Schema) (step : Step) (o o' : Own) (count : ℕ) (why : Option Refusal) → (Ok count, Some o') ≡ write_by schema step why (Some o) → (why ≡ None) × (write schema step o ≡ (Ok count, o'))
 taken_by schema step o o' count (Some r) e = absurd (never (ap (λ p. p.0) e))
   where
     never : {r : Refusal} → ◌≢◌ {A = Result ℕ Refusal} (Ok count) (Err r)
     never e = cc e
-taken_by schema step o o' count None e = sym (both (ap (λ p. p.0) e) (inner (ap (λ p. p.1) e)))
+taken_by schema step o o' count None e = (refl, sym (both (ap (λ p. p.0) e) (inner (ap (λ p. p.1) e))))
 
 -- the entry of the commit is of the begin, and tells the instant
 commit_entry : (e : Entry) (session begin begin' number reading instant : ℕ) (net net' : Net) (end : Result (Option ℕ) Refusal)
@@ -54,27 +54,27 @@ module _ (schema : Schema) (table : ℕ) (rows : List Row) (number earlier : ℕ
   abbrev at_with : Net → SessionState
   at_with writes = record { number = 0; schema = schema; receipt = number; transaction = Some (with_writes writes (begun_with number earlier view)) }
 
-  inserts : (writes net : Net) (count : ℕ) → IsWrite (Insert 0 table rows) (at_with []) (at_with writes) (Ok count) → ((m : Changes) → Holds schema view m → net ≡ net_over m writes)
-      → (m : Changes) → Holds schema view m → Inserts schema table rows m net
-  inserts writes net count wrote net_is m held = record {
-    count = count;
-    writes = writes;
-    inserted = taken_by schema (Insert 0 table rows) (own m []) (own m writes) count (misfit schema (Insert 0 table rows)) (wrote m held (λ e. cc));
-    net_is = net_is m held;
-  }
-
-  loads_with : (writes : Net) (count : ℕ) (entry : Entry) (receipts : List Given) (instant : ℕ) → entry ≡ Begin 0 earlier view → IsWrite (Insert 0 table rows) (at_with []) (at_with writes) (Ok count)
-      → HasEnded (at_with writes) (record { number = number; entry = entry }) receipts instant → IsLoadedBy schema table rows receipts instant
-  loads_with writes count entry receipts instant begins wrote ended = record {
-    begin = number;
-    earlier = earlier;
-    view = view;
-    end = ended.number;
-    net = ended.commits.net;
-    receipts_are = ended.receipts_are ∙ (λ k. record { number = number; entry = begins k } ∷ record { number = ended.number; entry = commits k } ∷ []);
-    changes = inserts writes ended.commits.net count wrote (λ m held.
-        ended.commits.net_is m (subst (λ r. Holds schema r.view m) ran_is held) ∙ ap (λ r. net_over m r.writes) (sym ran_is));
-  }
+  loads_with : (writes : Net) (count : ℕ) (entry : Entry) (receipts : List Given) (instant : ℕ) → entry ≡ Begin 0 earlier view → (m : Changes) → Holds schema view m → IsWrite (Insert 0 table rows) (at_with []) (at_with writes) (Ok count)
+      → HasEnded (at_with writes) (record { number = number; entry = entry }) receipts instant → IsLoadAt schema table rows receipts instant
+  loads_with writes count entry receipts instant begins m held wrote ended = (
+    record {
+      begin = number;
+      earlier = earlier;
+      view = view;
+      end = ended.number;
+      net = ended.commits.net;
+      instant = instant;
+      given_is = ended.receipts_are ∙ (λ k. record { number = number; entry = begins k } ∷ record { number = ended.number; entry = commits k } ∷ []);
+      shown = m;
+      held = held;
+      fits = taken.0;
+      count = count;
+      writes = writes;
+      inserted = taken.1;
+      net_is = ended.commits.net_is m (subst (λ r. Holds schema r.view m) ran_is held) ∙ ap (λ r. net_over m r.writes) (sym ran_is);
+    },
+    refl,
+  )
     where
       ran_is : with_writes writes (begun_with number earlier view) ≡ ended.commits.ran
       ran_is = inner ended.commits.was_open
@@ -82,21 +82,29 @@ module _ (schema : Schema) (table : ℕ) (rows : List Row) (number earlier : ℕ
       commits : ended.entry ≡ Commit 0 number ended.commits.net 0 (Ok (Some instant))
       commits = commit_entry ended.entry ended.at.0 ended.commits.ran.begun.number ended.at.1 number ended.at.3 instant ended.commits.net ended.at.2 ended.commits.end ended.commits.entry_is (sym (ap (λ r. r.begun.number) ran_is)) ended.at.4
 
+      taken : (misfit schema (Insert 0 table rows) ≡ None) × (write schema (Insert 0 table rows) (own m []) ≡ (Ok count, own m writes))
+      taken = taken_by schema (Insert 0 table rows) (own m []) (own m writes) count (misfit schema (Insert 0 table rows)) (wrote m held (λ e. cc))
+
   -- the session after the INSERT is the session before it, with what was written
-  loads_after : (t : SessionState) (count : ℕ) (entry : Entry) (receipts : List Given) (instant : ℕ) → entry ≡ Begin 0 earlier view → IsWrite (Insert 0 table rows) (at_with []) t (Ok count) → WithWrites (at_with []) t
-      → HasEnded t (record { number = number; entry = entry }) receipts instant → IsLoadedBy schema table rows receipts instant
-  loads_after t count entry receipts instant begins wrote rest ended =
-      loads_with rest.0 count entry receipts instant begins (subst (λ s. IsWrite (Insert 0 table rows) (at_with []) s (Ok count)) rest.1 wrote)
+  loads_after : (t : SessionState) (count : ℕ) (entry : Entry) (receipts : List Given) (instant : ℕ) → entry ≡ Begin 0 earlier view → (m : Changes) → Holds schema view m → IsWrite (Insert 0 table rows) (at_with []) t (Ok count) → WithWrites (at_with []) t
+      → HasEnded t (record { number = number; entry = entry }) receipts instant → IsLoadAt schema table rows receipts instant
+  loads_after t count entry receipts instant begins m held wrote rest ended =
+      loads_with rest.0 count entry receipts instant begins m held (subst (λ s. IsWrite (Insert 0 table rows) (at_with []) s (Ok count)) rest.1 wrote)
       (subst (λ s. HasEnded s (record { number = number; entry = entry }) receipts instant) rest.1 ended)
 
 pub loads_by : (schema : Schema) (table : ℕ) (rows : List Row) (s t : SessionState) (number count : ℕ) (entry : Entry) (receipts : List Given) (instant : ℕ)
     → IsBegun (unbegun schema) s number entry → IsWrite (Insert s.number table rows) s t (Ok count) → WithWrites s t → HasEnded t (record { number = number; entry = entry }) receipts instant
-    → IsLoadedBy schema table rows receipts instant
+    → IsLoadAt schema table rows receipts instant
 loads_by schema table rows s t number count entry receipts instant begun wrote rest ended =
-    loads_after schema table rows number begun.earlier begun.view t count entry receipts instant begun.entry_is
+    loads_after schema table rows number begun.earlier begun.view t count entry receipts instant begun.entry_is begun.shows.0 begun.shows.1
     (subst (λ s. IsWrite (Insert s.number table rows) s t (Ok count)) begun.session_is wrote)
     (subst (λ s. WithWrites s t) begun.session_is rest)
     ended
+
+-- there are rows
+pub loaded_at : (schema : Schema) (table : ℕ) (rows : List Row) (receipts : List Given) (instant : ℕ) → (rows ≡ [] → ⊥) → IsLoadAt schema table rows receipts instant → IsLoadedAt schema table rows receipts instant
+loaded_at schema table [] receipts instant some at = absurd (some refl)
+loaded_at schema table (row ∷ rows) receipts instant some at = at
 
 -- ---- why rows are not loaded
 

@@ -1,3 +1,5 @@
+pub mod Connection
 pub mod Loading
+pub mod Pile
 pub mod Request
 pub mod Server

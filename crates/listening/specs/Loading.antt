@@ -4,17 +4,17 @@ use Rattle.values.specs.Log.{Changes, Net, Row}
 use Rattle.values.specs.Tables.{Schema}
 use Rattle.values.specs.declared.refusal.Refusal.{Refusal}
 use Rattle.values.specs.declared.refusal.Refusal.TheVariants.{NoTransaction, JournalFull, Memory}
-use Rattle.tsbtree.specs.View.{TreeState}
-use Rattle.staging.specs.View.{Holds}
-use Rattle.staging.specs.Own.{net_over, own}
+use Rattle.sessions.specs.tsbtree.View.{TreeState}
+use Rattle.sessions.specs.staging.View.{Holds}
+use Rattle.sessions.specs.staging.Own.{own}
 use Rattle.steps.specs.declared.step.Step.TheVariants.{Insert}
-use Rattle.steps.specs.Write.{write}
 use Rattle.steps.specs.Misfit.{misfit}
 use Rattle.journal.specs.declared.entry.Entry.{Entry}
 use Rattle.journal.specs.declared.entry.Entry.TheVariants.{Begin, Commit}
 use Rattle.sessions.specs.SessionState.{SessionState, write_by}
 use Rattle.sessions.specs.Store.{IsCommitted}
 use Rattle.serving.specs.Progress.{Given}
+use Rattle.runs.specs.Run.{IsLoad}
 
 -- the entry of a commit that changed something at the instant
 abbrev pub IsCommitAt : Entry → ℕ → Type 0
@@ -36,32 +36,16 @@ pub record HasEnded (old : SessionState) (begun : Given) (receipts : List Given)
   pub at : IsCommitAt entry instant
   pub receipts_are : receipts ≡ begun ∷ record { number = number; entry = entry } ∷ []
 
--- what session 0 wrote over these changes: the INSERT of the rows was taken, and this is the net change
-pub record Inserts (schema : Schema) (table : ℕ) (rows : List Row) (m : Changes) (net : Net)
-    : Type 0 where
-  pub count : ℕ
-  pub writes : Net
-  pub inserted : write schema (Insert 0 table rows) (own m []) ≡ (Ok count, own m writes)
-  pub net_is : net ≡ net_over m writes
-
--- the two receipts of a transaction of session 0: its begin, and its commit of the rows at the reading 0
-pub record IsLoadedBy (schema : Schema) (table : ℕ) (rows : List Row) (receipts : List Given)
-    (instant : ℕ) : Type 0 where
-  pub begin : ℕ
-  pub earlier : ℕ
-  pub view : TreeState
-  pub end : ℕ
-  pub net : Net
-  pub receipts_are : receipts ≡
-      record { number = begin; entry = Begin 0 earlier view }
-      ∷ record { number = end; entry = Commit 0 begin net 0 (Ok (Some instant)) } ∷ []
-  pub changes : (m : Changes) → Holds schema view m → Inserts schema table rows m net
+-- the two receipts of a transaction of session 0 that inserts the rows, which is committed at the instant
+abbrev pub IsLoadAt : Schema → ℕ → List Row → List Given → ℕ → Type 0
+IsLoadAt schema table rows receipts instant =
+    (load : IsLoad schema table rows receipts) × (load.instant ≡ instant)
 
 -- rows of a table were loaded: without rows nothing was done
-abbrev pub IsLoaded : Schema → ℕ → List Row → List Given → ℕ → Type 0
-IsLoaded schema table [] receipts instant = (receipts ≡ []) × (instant ≡ 0)
-IsLoaded schema table (row ∷ rows) receipts instant =
-    IsLoadedBy schema table (row ∷ rows) receipts instant
+abbrev pub IsLoadedAt : Schema → ℕ → List Row → List Given → ℕ → Type 0
+IsLoadedAt schema table [] receipts instant = (receipts ≡ []) × (instant ≡ 0)
+IsLoadedAt schema table (row ∷ rows) receipts instant =
+    IsLoadAt schema table (row ∷ rows) receipts instant
 
 -- ---- why rows are not loaded, by the receipts that were taken before
 

@@ -1,5 +1,5 @@
 -- What a server writes, and what its closed store is.
-use Rattle.std.specs.Prelude.{◌≡◌, ◌⊎◌, ℕ, List, [], Option, Some, None, IfSome, IsSome, All, codes, length}
+use Rattle.std.specs.Prelude.{◌≡◌, ◌≢◌, ◌⊎◌, ℕ, List, [], Option, Some, None, IfSome, IsSome, All, codes, length}
 use Rattle.std.specs.Io.KnownBytes.{Appends, Keeps}
 use Rattle.values.specs.Commits.{max_instant}
 use Rattle.values.specs.Log.{changes}
@@ -15,7 +15,9 @@ use Rattle.interchange.specs.Report.{loaded_text}
 use Rattle.journal.specs.Entries.{entry_at, log}
 use Rattle.book.specs.Book.{BookState, IsBook}
 use Rattle.serving.specs.Progress.{Given}
-use Rattle.listening.specs.Loading.{IsLoaded, IsUnloaded}
+use Rattle.listening.specs.Loading.{IsLoadedAt, IsUnloaded}
+use Rattle.listening.specs.Connection.{IsOneRun}
+use Rattle.listening.specs.declared.server.Plan.{Plan}
 use Rattle.listening.specs.declared.server.TableRows.{TableRows}
 use Rattle.listening.specs.declared.server.ServerFault.{ServerFault}
 use Rattle.listening.specs.declared.server.ServerFault.TheVariants.{Load, Write, Listen}
@@ -25,7 +27,7 @@ use Rattle.listening.specs.declared.server.ServerFault.TheVariants.{Load, Write,
 pub record HasReported (schema : Schema) (first : TableRows) (receipts : List Given)
     (old new : Option (List ℕ)) : Type 0 where
   pub instant : ℕ
-  pub loaded : IsLoaded schema first.number first.rows.items receipts instant
+  pub loaded : IsLoadedAt schema first.number first.rows.items receipts instant
   pub wrote : Appends old new (loaded_text (length first.rows.items) instant)
 
 -- what is loaded, where something is, with its receipts, and its report
@@ -40,13 +42,25 @@ pub record IsClosedWith (schema : Schema) (receipts : List Given) (b : BookState
   pub is_book : IsBook schema b
   pub stand : All (λ g. entry_at b.entries g.number ≡ Some g.entry) receipts
 
+-- what its sessions were sent, with numbers up to this one, and the rows that were loaded first, where
+-- some were, is one history
+abbrev pub IsOneRunAfter : Schema → (sessions : ℕ) → Option TableRows → BookState → Type 0
+IsOneRunAfter schema sessions None b = IsOneRun schema sessions 0 [] b
+IsOneRunAfter schema sessions (Some first) b =
+    IsOneRun schema sessions first.number first.rows.items b
+
 -- the table that is exported, where one is, is one of these
 abbrev pub IsExportOf : Schema → Option ℕ → Type 0
 IsExportOf schema number = IfSome number (λ n. IsSome (table_at schema n))
 
+-- the port is the one that is asked for, unless the system is to choose one
+abbrev pub IsPortFor : (asked port : ℕ) → Type 0
+IsPortFor asked port = asked ≢ 0 → port ≡ asked
+
 -- the line that tells the port
-abbrev pub HasListened : (old new : Option (List ℕ)) → Type 0
-HasListened old new = (port : ℕ) × Appends old new (numbered (codes "listening ") port)
+abbrev pub HasListened : (asked : ℕ) → (old new : Option (List ℕ)) → Type 0
+HasListened asked old new =
+    (port : ℕ) × IsPortFor asked port × Appends old new (numbered (codes "listening ") port)
 
 -- the line that tells how many entries there are
 abbrev pub HasClosed : BookState → (old new : Option (List ℕ)) → Type 0
@@ -78,17 +92,19 @@ pub record EndsAfter (schema : Schema) (number : Option ℕ) (b : BookState)
   pub closes : HasClosed b old ended
   pub exported : HasExported schema number b ended new
 
--- the report of what was loaded, the port, and the end of a store that has the receipts of the load
-pub record HasServed (schema : Schema) (first : Option TableRows) (number : Option ℕ)
+-- the report of what was loaded, the port, and the end of a store that has the receipts of the load,
+-- and all of which is one history
+pub record HasServed (schema : Schema) (first : Option TableRows) (plan : Plan)
     (old new : Option (List ℕ)) : Type 0 where
   pub receipts : List Given
   pub reported : Option (List ℕ)
   pub listening : Option (List ℕ)
   pub b : BookState
   pub loads : HasFirst schema first receipts old reported
-  pub listens : HasListened reported listening
+  pub listens : HasListened plan.port reported listening
   pub closed : IsClosedWith schema receipts b
-  pub ends : EndsAfter schema number b listening new
+  pub history : IsOneRunAfter schema plan.sessions first b
+  pub ends : EndsAfter schema plan.export b listening new
 
 -- ---- what a fault leaves: what came before it, and a prefix of what was to be written next
 
@@ -99,19 +115,20 @@ pub record StopsInReport (schema : Schema) (first : Option TableRows) (old new :
   pub first_is : first ≡ Some rows
   pub receipts : List Given
   pub instant : ℕ
-  pub loaded : IsLoaded schema rows.number rows.rows.items receipts instant
+  pub loaded : IsLoadedAt schema rows.number rows.rows.items receipts instant
   pub wrote : AppendsPrefix old new (loaded_text (length rows.rows.items) instant)
 
 -- a prefix of the line that tells the port
-abbrev pub StopsListening : (old new : Option (List ℕ)) → Type 0
-StopsListening old new = (port : ℕ) × AppendsPrefix old new (numbered (codes "listening ") port)
+abbrev pub StopsListening : (asked : ℕ) → (old new : Option (List ℕ)) → Type 0
+StopsListening asked old new =
+    (port : ℕ) × IsPortFor asked port × AppendsPrefix old new (numbered (codes "listening ") port)
 
-pub record StopsAtPort (schema : Schema) (first : Option TableRows) (old new : Option (List ℕ))
-    : Type 0 where
+pub record StopsAtPort (schema : Schema) (first : Option TableRows) (asked : ℕ)
+    (old new : Option (List ℕ)) : Type 0 where
   pub receipts : List Given
   pub reported : Option (List ℕ)
   pub loads : HasFirst schema first receipts old reported
-  pub stops : StopsListening reported new
+  pub stops : StopsListening asked reported new
 
 -- a prefix of the table that is exported
 pub record StopsInExport (schema : Schema) (number : Option ℕ) (b : BookState)
@@ -130,16 +147,17 @@ StopsLate schema number b old new =
     AppendsPrefix old new (numbered (codes "closed ") (length b.entries))
     ⊎ StopsInExport schema number b old new
 
-pub record StopsAfter (schema : Schema) (first : Option TableRows) (number : Option ℕ)
+pub record StopsAfter (schema : Schema) (first : Option TableRows) (plan : Plan)
     (old new : Option (List ℕ)) : Type 0 where
   pub receipts : List Given
   pub reported : Option (List ℕ)
   pub listening : Option (List ℕ)
   pub b : BookState
   pub loads : HasFirst schema first receipts old reported
-  pub listens : HasListened reported listening
+  pub listens : HasListened plan.port reported listening
   pub closed : IsClosedWith schema receipts b
-  pub stops : StopsLate schema number b listening new
+  pub history : IsOneRunAfter schema plan.sessions first b
+  pub stops : StopsLate schema plan.export b listening new
 
 -- no rows were refused
 abbrev pub IsOther : ServerFault → Type 0
@@ -160,14 +178,14 @@ HasNoFirst (Load refusal) schema first old new = IsRefusedFirst schema first ref
 HasNoFirst Write schema first old new = StopsInReport schema first old new
 HasNoFirst (Listen fault) schema first old new = Keeps old new
 
-abbrev pub StopsSomewhere : Schema → Option TableRows → Option ℕ
+abbrev pub StopsSomewhere : Schema → Option TableRows → Plan
     → (old new : Option (List ℕ)) → Type 0
-StopsSomewhere schema first number old new =
-    StopsAtPort schema first old new ⊎ StopsAfter schema first number old new
+StopsSomewhere schema first plan old new =
+    StopsAtPort schema first plan.port old new ⊎ StopsAfter schema first plan old new
 
 -- where rows were refused, nothing was written
-abbrev pub HasStopped : ServerFault → Schema → Option TableRows → Option ℕ
+abbrev pub HasStopped : ServerFault → Schema → Option TableRows → Plan
     → (old new : Option (List ℕ)) → Type 0
-HasStopped fault schema first number old new =
+HasStopped fault schema first plan old new =
     HasNoFirst fault schema first old new
-    ⊎ (IsOther fault × StopsSomewhere schema first number old new)
+    ⊎ (IsOther fault × StopsSomewhere schema first plan old new)

@@ -1,17 +1,22 @@
 //! Connections, each served in a thread of its own.
-ghost use Rattle.std.specs.Prelude.{◌≡◌, All, IfOk, Some};
-ghost use Rattle.book.specs.Book.{IsBook};
+ghost use Rattle.std.specs.Prelude.{◌≡◌, ℕ, All, IfOk, List, Some, map};
+ghost use Rattle.values.specs.Log.{Row};
 ghost use Rattle.journal.specs.Entries.{entry_at};
+ghost use Rattle.book.specs.Book.{IsBook};
+ghost use Rattle.serving.specs.Progress.{Given};
+ghost use Rattle.runs.specs.Run.{IsLoaded};
+ghost use Rattle.listening.specs.Connection.{IsOneRun};
 
 use crate::acceptor::{Acceptor, refuse};
 use crate::clock::Microseconds;
 use crate::guarded::Guarded;
 use crate::migration::{Call, WakingGate, run_rounds};
-use crate::pile::{Pile, hand_over};
+use crate::pile::{Origin, Pile, hand_over};
 use book::Closed;
 use crossbeam_channel::{Receiver, Sender};
 use growlog::StoreName;
 use journal::Receipt;
+use runs::served_runs_are_histories;
 use serving::{End, Served, serve_session};
 use sessions::{Gate, LockedStore, Unclosed};
 use statement::print_refusal;
@@ -31,7 +36,8 @@ pub enum ListenFault {
     Socket,
     /// Memory ran out before the first connection was taken.
     Memory,
-    /// The receipts are not those of the store's entries, one for each.
+    /// The receipts are not those of the store's entries, one for each; or those of a session do
+    /// not rise, or two sessions have one number.
     NotClosed,
 }
 
@@ -43,7 +49,9 @@ const MOST_RECEIPTS: usize = 1_000_000;
 /// with their receipts and those of what was done before.
 ///
 /// The closed store is a book (`IsBook`), and the receipts of what was done before are of its
-/// entries.
+/// entries. Where those are a load's, there is one history (`IsOneRun`): its entries are the store's
+/// in their order, and each session was sent its replies at the places of its lines. Which bytes a
+/// socket had is not known: of a session it is said of some lines.
 ///
 /// A session that ends in a fault is not a fault here: its receipts count, and the others go on.
 /// Nor is a connection that cannot be served, as there is no memory, no thread or no descriptor for
@@ -65,24 +73,32 @@ where
     ensures book { IfOk result (IsBook J.schema) }
     ensures stand { IfOk result (λ c. All (λ r.
         entry_at c.entries r.number ≡ Some r.entry) before.items) }
+    ensures history { IfOk result (λ c. (table : ℕ) (rows : List Row)
+        → IsLoaded J.schema table rows
+        (map (λ r. record { number = r.number; entry = r.entry }) before.items)
+        → IsOneRun J.schema sessions table rows c) }
 {
+    served_runs_are_histories();
     let mut receipts = before;
     // All room for receipts is made before a session runs. Nobody touches what is not used of it.
     if receipts.reserve(MOST_RECEIPTS).is_err() {
         return give_up(store, receipts, ListenFault::Memory);
     }
-    let Ok(pile) = Vec::with_capacity(alloc, MOST_RECEIPTS) else {
+    let Ok(pile) = Pile::with_room(alloc, MOST_RECEIPTS) else {
         return give_up(store, receipts, ListenFault::Memory);
     };
     let pile = Mutex::new(pile);
     let served = serve_connections(rt, alloc, listener, sessions, &store, gate, &pile);
-    let mut others = pile.into_inner();
+    let (mut others, is_run) = pile.into_inner().into_receipts(sessions);
     if served.is_err() || receipts.append(&mut others).is_err() {
         let gone = store.give_up(receipts);
         gone.end(others);
         return Err(ListenFault::Memory);
     }
     others.destroy_empty();
+    if !is_run {
+        return give_up(store, receipts, ListenFault::NotClosed);
+    }
     match store.close(receipts) {
         Ok(closed) => Ok(closed),
         Err(Unclosed { store, receipts }) => give_up(store, receipts, ListenFault::NotClosed),
@@ -110,7 +126,7 @@ fn serve_connections<J, R, G>(
     sessions: u8,
     store: &LockedStore<J>,
     gate: &G,
-    pile: &Pile<J>,
+    pile: &Mutex<Pile<J>>,
 ) -> Result<(), AllocError>
 where
     J: StoreName,
@@ -158,7 +174,7 @@ fn serve_stream<J: StoreName, R: Clock + Wait, G: Gate>(
     calls: Sender<Call, Global>,
     stream: &TcpStream,
     number: u8,
-    pile: &Pile<J>,
+    pile: &Mutex<Pile<J>>,
 ) {
     let Ok(mut session) = store.session(alloc, number) else {
         return refuse(stream);
@@ -186,5 +202,5 @@ fn serve_stream<J: StoreName, R: Clock + Wait, G: Gate>(
         let _ = print_refusal(&mut writer, &Refusal::Memory);
         let _ = writer.flush();
     }
-    hand_over(rt, pile, receipts);
+    hand_over(rt, pile, Origin::Session(number), receipts);
 }

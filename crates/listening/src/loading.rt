@@ -1,7 +1,7 @@
 //! Rows that a store has before the first connection.
 ghost use Rattle.std.specs.Prelude.{◌≡◌, ◌≤◌, ℕ, [], IfErr, IfOk, IfSome, IsSome, None, map, vec_capacity};
 ghost use Rattle.sessions.specs.Store.{IsBegun};
-ghost use Rattle.listening.specs.Loading.{HasEnded, IsCommitAt, IsLoaded, IsLoadedBy, IsUnended, IsUnloaded, unbegun};
+ghost use Rattle.listening.specs.Loading.{HasEnded, IsCommitAt, IsLoadAt, IsLoadedAt, IsUnended, IsUnloaded, unbegun};
 
 use growlog::StoreName;
 use journal::{Entry, Receipt};
@@ -38,7 +38,7 @@ pub fn load_into<J: StoreName, R: Wait>(
     table: u8,
     rows: &[Row],
 ) -> Result<Loaded<J>, Unloaded<J>>
-    ensures ok { IfOk result (λ l. IsLoaded J.schema table rows.now
+    ensures ok { IfOk result (λ l. IsLoadedAt J.schema table rows.now
         (map (λ r. record { number = r.number; entry = r.entry }) l.receipts.items) l.instant) }
     ensures err { IfErr result (λ u. IsUnloaded J.schema table rows.now u.refusal
         (map (λ r. record { number = r.number; entry = r.entry }) u.receipts.items)) }
@@ -87,7 +87,7 @@ fn load_begun<J: StoreName, R: Wait>(
     requires begun { IsBegun (unbegun J.schema) session.old begun.number begun.entry }
     requires none { receipts.items ≡ [] }
     requires room { MOST_RECEIPTS ≤ vec_capacity receipts }
-    ensures ok { IfOk result (λ l. IsLoadedBy J.schema table rows.now
+    ensures ok { IfOk result (λ l. IsLoadAt J.schema table rows.now
         (map (λ r. record { number = r.number; entry = r.entry }) l.receipts.items) l.instant) }
     ensures err { IfErr result (λ u. IsUnloaded J.schema table rows.now u.refusal
         (map (λ r. record { number = r.number; entry = r.entry }) u.receipts.items)) }

@@ -1,7 +1,10 @@
 //! Rounds of the migrator beside the sessions.
-ghost use Rattle.std.specs.Prelude.{◌≡◌, None};
+ghost use Rattle.std.specs.Prelude.{◌≡◌, None, map};
+ghost use Rattle.std.specs.List.{AllByRecursion};
+ghost use Rattle.serving.specs.Progress.{Given};
+ghost use Rattle.runs.specs.Run.{IsOfService};
 
-use crate::pile::{Pile, hand_over};
+use crate::pile::{Origin, Pile, hand_over};
 use crossbeam_channel::{Receiver, Sender};
 use growlog::StoreName;
 use journal::Receipt;
@@ -9,7 +12,7 @@ use migrator::{MigrateFault, run_migrator};
 use sessions::{Gate, LockedStore, Place, Session};
 use std::alloc::Global;
 use std::cell::Cell;
-use std::sync::Wait;
+use std::sync::{Mutex, Wait};
 use std::thread::Threads;
 
 /// The commits of a session after which a round is called for.
@@ -69,7 +72,7 @@ pub(crate) fn run_rounds<J, R, G>(
     store: &LockedStore<J>,
     gate: &G,
     calls: Receiver<Call, Global>,
-    pile: &Pile<J>,
+    pile: &Mutex<Pile<J>>,
 )
 where
     J: StoreName,
@@ -81,11 +84,12 @@ where
     };
     for _call in calls.iter(rt) {
         let receipts = run_round(rt, alloc, store, &mut service, gate);
-        hand_over(rt, pile, receipts);
+        hand_over(rt, pile, Origin::Service, receipts);
     }
 }
 
-/// Runs one round, and returns its receipts, also if it was broken off.
+/// Runs one round of the service's session, and returns its receipts, also if it was broken off:
+/// they are of a begin and of installs.
 fn run_round<J, R, G>(
     rt: &R,
     alloc: Global,
@@ -97,8 +101,12 @@ where
     J: StoreName,
     R: Threads + Wait + Sync,
     G: Gate + Sync,
-    requires { service.old.transaction ≡ None }
-    ensures { service.new.transaction ≡ None }
+    requires number { service.old.number ≡ 0 }
+    requires none { service.old.transaction ≡ None }
+    ensures number { service.new.number ≡ 0 }
+    ensures none { service.new.transaction ≡ None }
+    ensures serviced { AllByRecursion (λ (g : Given). IsOfService g.entry)
+        (map (λ r. record { number = r.number; entry = r.entry }) result.items) }
 {
     match run_migrator(rt, alloc, store, service, WORKERS, gate) {
         Ok(receipts) => receipts,

@@ -1,8 +1,8 @@
 //! A store that is loaded, served and closed, and what is written of it.
-ghost use Rattle.std.specs.Prelude.{◌≡◌, ◌⊎◌, ℕ, [], Some, IfOk, IfErr, OnOk, map, codes, length};
+ghost use Rattle.std.specs.Prelude.{◌≡◌, ◌⊎◌, ℕ, [], List, Some, IfOk, IfErr, OnOk, map, codes, length};
 ghost use Rattle.std.specs.Io.KnownBytes.{Appends, Keeps};
 ghost use Rattle.values.specs.Commits.{max_instant};
-ghost use Rattle.values.specs.Log.{changes};
+ghost use Rattle.values.specs.Log.{Row, changes};
 ghost use Rattle.values.specs.Memory.{OnlyMemory};
 ghost use Rattle.values.specs.Tables.{IsTable, table_at};
 ghost use Rattle.values.specs.Versions.{answer};
@@ -12,6 +12,8 @@ ghost use Rattle.statement.specs.Writer.{AppendsPrefix};
 ghost use Rattle.journal.specs.Entries.{log};
 ghost use Rattle.book.specs.Book.{IsBook};
 ghost use Rattle.serving.specs.Progress.{Given};
+ghost use Rattle.runs.specs.Run.{IsLoaded};
+ghost use Rattle.listening.specs.Connection.{IsOneRun};
 ghost use Rattle.listening.specs.Server.{EndsAfter, HasFirst, HasListened, HasNoFirst, HasReported, HasServed, HasStopped, IsClosedWith, IsExportOf, IsOther, StopsListening, StopsLate, versions_text};
 
 use crate::always_open::AlwaysOpen;
@@ -72,7 +74,8 @@ const OUT_OF_MEMORY: ServerFault = ServerFault::Listen(ListenFault::Memory);
 /// Serves connections round a store of these tables, and reports its progress as it happens: if
 /// rows are to be loaded, `loaded N at I`; once it listens, `listening P`, where P is the port;
 /// when all connections have ended, `closed J`, where J is the number of entries; and then the
-/// table that is exported, with all its versions.
+/// table that is exported, with all its versions. What all sessions were sent, with the load before
+/// them, is one history of the closed store (`HasServed`).
 pub fn serve<R, O>(
     rt: &R,
     alloc: Global,
@@ -85,9 +88,9 @@ where
     R: Net<Listener = TcpListener, Stream = TcpStream> + Clock + Threads + Wait + Sync,
     O: Write,
     requires export { IsExportOf schema plan.export }
-    ensures ok { OnOk result (HasServed schema first plan.export
+    ensures ok { OnOk result (HasServed schema first plan
         (O.contents out.old) (O.contents out.new)) }
-    ensures err { IfErr result (λ fault. HasStopped fault schema first plan.export
+    ensures err { IfErr result (λ fault. HasStopped fault schema first plan
         (O.contents out.old) (O.contents out.new)) }
 {
     serve_store::<Brand, R, O>(rt, alloc, out, schema, first, plan, NewLog::new())
@@ -109,9 +112,9 @@ where
     requires log { opened.seen.book ≡ J.book }
     requires tables { schema ≡ J.schema }
     requires export { IsExportOf schema plan.export }
-    ensures ok { OnOk result (HasServed schema first plan.export
+    ensures ok { OnOk result (HasServed schema first plan
         (O.contents out.old) (O.contents out.new)) }
-    ensures err { IfErr result (λ fault. HasStopped fault schema first plan.export
+    ensures err { IfErr result (λ fault. HasStopped fault schema first plan
         (O.contents out.old) (O.contents out.new)) }
 {
     let Ok(tables) = schema.copy(alloc) else {
@@ -234,11 +237,15 @@ where
     J: StoreName,
     R: Net<Listener = TcpListener, Stream = TcpStream> + Clock + Threads + Wait + Sync,
     O: Write,
-    ensures ok { IfOk result (λ closed. HasListened (O.contents out.old) (O.contents out.new)
-        × IsClosedWith J.schema
+    ensures ok { IfOk result (λ closed. HasListened plan.port
+        (O.contents out.old) (O.contents out.new) × IsClosedWith J.schema
         (map (λ r. record { number = r.number; entry = r.entry }) receipts.items) closed) }
+    ensures history { IfOk result (λ closed. (table : ℕ) (rows : List Row)
+        → IsLoaded J.schema table rows
+        (map (λ r. record { number = r.number; entry = r.entry }) receipts.items)
+        → IsOneRun J.schema plan.sessions table rows closed) }
     ensures err { IfErr result (λ fault. IsOther fault
-        × StopsListening (O.contents out.old) (O.contents out.new)) }
+        × StopsListening plan.port (O.contents out.old) (O.contents out.new)) }
 {
     let Ok((listener, port)) = bind(rt, plan.port) else {
         let _gone = store.give_up(receipts);

@@ -16,3 +16,4 @@ pub mod RunPieces
 pub mod TellsFacts
 pub mod TellsLines
 pub mod TellsSteps
+pub mod WorkedTwice

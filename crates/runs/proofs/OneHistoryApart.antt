@@ -13,7 +13,7 @@ use Rattle.values.specs.KeyEncoding.{bytes_of_key}
 use Rattle.values.specs.Events.{is_bytes, event_of, events_of, IsKeyIn, AreChangesIn}
 use Rattle.values.proofs.EventKeys.{same_key as by_bytes}
 use Rattle.values.proofs.OrderTotal.{key_cmp_total}
-use Rattle.staging.proofs.StagedEntries.{same_key}
+use Rattle.serving.proofs.staging.StagedEntries.{same_key}
 
 module _ (schema : Schema) where
   abbrev In : Point → Type 0

@@ -13,9 +13,9 @@ use Rattle.values.specs.Log.{Log, Changes, State, last, upto, changes, rows_afte
 use Rattle.values.specs.Writes.{Own}
 use Rattle.values.specs.Versions.{answer}
 use Rattle.values.proofs.LogPush.{upto_all}
-use Rattle.tsbtree.specs.View.{TreeState, last as view_last}
-use Rattle.staging.specs.View.{Holds}
-use Rattle.staging.specs.Own.{own as own_over}
+use Rattle.serving.specs.tsbtree.View.{TreeState, last as view_last}
+use Rattle.serving.specs.staging.View.{Holds}
+use Rattle.serving.specs.staging.Own.{own as own_over}
 use Rattle.steps.specs.declared.step.Listing.{Listing}
 use Rattle.steps.specs.declared.step.Listing.TheVariants.{Rows, Periods}
 use Rattle.steps.specs.declared.step.Step.{Step}
@@ -32,9 +32,9 @@ use Rattle.journal.specs.declared.entry.Entry.{Entry}
 use Rattle.journal.specs.declared.entry.Entry.TheVariants.{Begin as Begins, Commit as Commits, Split as Splits, Install as Installs}
 use Rattle.journal.specs.Entries.{log as journal_log}
 use Rattle.journal.specs.Legal.{MayFollow, MayBegin}
-use Rattle.sessions.specs.OfHistory.{own_at, seen_at}
-use Rattle.sessions.proofs.OfHistoryEnded.{in_range_fits}
-use Rattle.sessions.proofs.StoreOfHistoryAlike.{begins_itself, fit_reply, opens, put_here, rows_at, sees_all, sees_own, snapshot_is, stays}
+use Rattle.serving.specs.sessions.OfHistory.{own_at, seen_at}
+use Rattle.serving.proofs.sessions.OfHistoryEnded.{in_range_fits}
+use Rattle.serving.proofs.sessions.StoreOfHistoryAlike.{begins_itself, fit_reply, opens, put_here, rows_at, sees_all, sees_own, snapshot_is, stays}
 use Rattle.serving.specs.Progress.{ServedTransaction, listed, query, unwritten, own_of as served_own}
 use Rattle.runs.proofs.OneHistoryBeside.{World, Beside, Held, IsIdle, IsOpened, MayCome, Opened}
 use Rattle.runs.proofs.OneHistoryPlain.{plain_shows_state}

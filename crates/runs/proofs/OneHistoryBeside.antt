@@ -4,7 +4,7 @@ use Rattle.values.specs.Tables.{Schema}
 use Rattle.values.specs.Log.{Log, changes}
 use Rattle.values.specs.Events.{AreChangesIn}
 use Rattle.values.specs.Writes.{Own}
-use Rattle.tsbtree.specs.View.{TreeState, last as view_last}
+use Rattle.serving.specs.tsbtree.View.{TreeState, last as view_last}
 use Rattle.steps.specs.declared.step.Step.{Step}
 use Rattle.steps.specs.declared.step.Step.TheVariants.{Begin, Insert, Update, Delete, UpdatePortion, DeletePortion, Select, Commit, Rollback, AddColumn, SplitKey, SplitTime, Migrate}
 use Rattle.steps.specs.declared.step.Reply.{Reply}
@@ -15,7 +15,7 @@ use Rattle.journal.specs.declared.entry.Entry.{Entry}
 use Rattle.journal.specs.declared.entry.Entry.TheVariants.{Begin as Begins, Commit as Commits, Split as Splits, Install as Installs}
 use Rattle.journal.specs.Entries.{Entries, entry_at, log as journal_log}
 use Rattle.journal.specs.Legal.{MayFollow}
-use Rattle.sessions.specs.OfHistory.{own_at, seen_at}
+use Rattle.serving.specs.sessions.OfHistory.{own_at, seen_at}
 use Rattle.serving.specs.Progress.{Given, ServedTransaction, Takes, after}
 use Rattle.runs.specs.Event.{Event, IsRight, read_by, with_step}
 

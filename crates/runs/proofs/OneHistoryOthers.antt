@@ -9,8 +9,8 @@ use Rattle.steps.specs.declared.step.Reply.{Reply}
 use Rattle.steps.specs.Misfit.{max_session}
 use Rattle.histories.specs.History.{History}
 use Rattle.journal.specs.declared.entry.Entry.{Entry}
-use Rattle.sessions.specs.StoreOfHistory.{IsOfAnother}
-use Rattle.sessions.proofs.StoreOfHistoryAlike.{open_stays, same_begin, seen_stays, snap_stays}
+use Rattle.serving.specs.sessions.StoreOfHistory.{IsOfAnother}
+use Rattle.serving.proofs.sessions.StoreOfHistoryAlike.{open_stays, same_begin, seen_stays, snap_stays}
 use Rattle.runs.specs.Event.{Event, with_step}
 use Rattle.runs.proofs.OneHistoryBeside.{World, Beside, Held, IsOwnStep, May, Moves, MovesBy, Opened, add, with_entry}
 use Rattle.runs.proofs.OneHistoryBegin.{opened_more}

@@ -8,9 +8,9 @@ use Rattle.values.specs.Tables.{Schema}
 use Rattle.values.specs.Log.{rows_after}
 use Rattle.values.specs.Writes.{net_of}
 use Rattle.values.specs.KeyEncoding.{bytes_of_key}
-use Rattle.staging.specs.Own.{own as own_over}
-use Rattle.validation.specs.declared.cut.Cut.{Cut}
-use Rattle.validation.specs.declared.cut.Cut.TheVariants.{Key as KeyCut, Time as TimeCut}
+use Rattle.serving.specs.staging.Own.{own as own_over}
+use Rattle.serving.specs.validation.declared.cut.Cut.{Cut}
+use Rattle.serving.specs.validation.declared.cut.Cut.TheVariants.{Key as KeyCut, Time as TimeCut}
 use Rattle.steps.specs.declared.step.Step.{Step}
 use Rattle.steps.specs.declared.step.Step.TheVariants.{Begin, Insert, Update, Delete, UpdatePortion, DeletePortion, Select, Commit, Rollback, AddColumn, SplitKey, SplitTime, Migrate}
 use Rattle.steps.specs.declared.step.Reply.{Reply}

@@ -8,7 +8,7 @@ use Rattle.values.specs.Log.{Net, last, state, changes, rows_after}
 use Rattle.values.specs.Period.{periods_of}
 use Rattle.values.specs.Commits.{outcome, after}
 use Rattle.values.specs.Writes.{Own, net_of}
-use Rattle.tsbtree.specs.View.{last as view_last}
+use Rattle.serving.specs.tsbtree.View.{last as view_last}
 use Rattle.steps.specs.declared.step.Step.{Step}
 use Rattle.steps.specs.declared.step.Step.TheVariants.{Commit}
 use Rattle.steps.specs.declared.step.Reply.TheVariants.{Refused}
@@ -21,11 +21,11 @@ use Rattle.journal.specs.declared.entry.Entry.{Entry}
 use Rattle.journal.specs.declared.entry.Entry.TheVariants.{Commit as Commits}
 use Rattle.journal.specs.Entries.{start_of, log as journal_log}
 use Rattle.journal.specs.Legal.{MayFollow, MayCommit}
-use Rattle.sessions.specs.OfHistory.{own_at}
-use Rattle.sessions.specs.SessionState.{write_by}
-use Rattle.sessions.proofs.OfHistoryAlike.{IsWriteStep, of_writer, answers, leaves, same_begin, same_snapshot}
-use Rattle.sessions.proofs.OfHistoryEnded.{in_range_fits}
-use Rattle.sessions.proofs.StoreOfHistoryAlike.{closes, fit_reply, log_then, reply_then, rows_at, same_some}
+use Rattle.serving.specs.sessions.OfHistory.{own_at}
+use Rattle.serving.specs.sessions.SessionState.{write_by}
+use Rattle.serving.proofs.sessions.OfHistoryAlike.{IsWriteStep, of_writer, answers, leaves, same_begin, same_snapshot}
+use Rattle.serving.proofs.sessions.OfHistoryEnded.{in_range_fits}
+use Rattle.serving.proofs.sessions.StoreOfHistoryAlike.{closes, fit_reply, log_then, reply_then, rows_at, same_some}
 use Rattle.serving.specs.Progress.{ServedTransaction, own_of as served_own, with_own}
 use Rattle.runs.proofs.OneHistoryBeside.{World, Beside, Held, IsOpened, MayCome, Opened}
 use Rattle.runs.proofs.OneHistoryBegin.{own_same}

@@ -14,7 +14,7 @@ use Rattle.journal.specs.declared.entry.Entry.TheVariants.{Commit}
 use Rattle.journal.specs.Entries.{Entries, entry_at, numbers, log as journal_log}
 use Rattle.journal.specs.Legal.{IsLegal, MayCommit}
 use Rattle.journal.proofs.JournalNumbering.{IsWithin, entry_is, entry_within, reverse_more, reverse_push}
-use Rattle.sessions.proofs.StoreOfHistoryAlike.{same_some}
+use Rattle.serving.proofs.sessions.StoreOfHistoryAlike.{same_some}
 use Rattle.serving.specs.Progress.{Given}
 use Rattle.runs.specs.Event.{Event, receipts_of}
 use Rattle.runs.proofs.RunAlong.{MayAll}

@@ -5,8 +5,8 @@ use Rattle.std.proofs.lemmas.Bool.Decides.{nat_tests}
 use Rattle.values.specs.Tables.{Schema}
 use Rattle.values.specs.Log.{Row}
 use Rattle.values.specs.Writes.{Own}
-use Rattle.tsbtree.specs.View.{last as view_last}
-use Rattle.staging.specs.Own.{own}
+use Rattle.serving.specs.tsbtree.View.{last as view_last}
+use Rattle.serving.specs.staging.Own.{own}
 use Rattle.steps.specs.declared.step.Step.{Step}
 use Rattle.steps.specs.declared.step.Step.TheVariants.{Begin, Insert, Commit, Migrate}
 use Rattle.steps.specs.declared.step.Reply.{Reply}
@@ -18,7 +18,7 @@ use Rattle.journal.specs.declared.entry.Entry.{Entry}
 use Rattle.journal.specs.declared.entry.Entry.TheVariants.{Begin as Begins, Commit as Commits, Split as Splits, Install as Installs}
 use Rattle.journal.specs.Entries.{Entries, entry_at}
 use Rattle.journal.specs.Legal.{IsLegal}
-use Rattle.sessions.specs.SessionState.{write_by}
+use Rattle.serving.specs.sessions.SessionState.{write_by}
 use Rattle.serving.specs.Progress.{Given, ServedTransaction, after, with_own}
 use Rattle.runs.specs.Event.{Event, receipts_of}
 use Rattle.runs.specs.OneHistory.{IsServiceStep, TellsLoaded, service_part}

@@ -4,9 +4,9 @@ use Rattle.values.specs.declared.refusal.Refusal.{Refusal}
 use Rattle.values.specs.declared.key.Key.{Key}
 use Rattle.values.specs.Tables.{Schema}
 use Rattle.values.specs.KeyEncoding.{bytes_of_key}
-use Rattle.validation.specs.declared.cut.Cut.{Cut}
-use Rattle.validation.specs.declared.cut.Cut.TheVariants.{Key as KeyCut, Time as TimeCut}
-use Rattle.tsbtree.specs.View.{TreeState}
+use Rattle.serving.specs.validation.declared.cut.Cut.{Cut}
+use Rattle.serving.specs.validation.declared.cut.Cut.TheVariants.{Key as KeyCut, Time as TimeCut}
+use Rattle.serving.specs.tsbtree.View.{TreeState}
 use Rattle.steps.specs.declared.step.Step.{Step}
 use Rattle.steps.specs.declared.step.Step.TheVariants.{Begin, Insert, Update, Delete, UpdatePortion, DeletePortion, Select, Commit, Rollback, AddColumn, SplitKey, SplitTime, Migrate}
 use Rattle.steps.specs.declared.step.Reply.{Reply}

@@ -10,7 +10,7 @@ use Rattle.steps.specs.declared.step.Reply.TheVariants.{Begun, Committed, Done, 
 use Rattle.steps.specs.Misfit.{max_session}
 use Rattle.histories.specs.History.{log}
 use Rattle.journal.specs.Entries.{numbers, log as journal_log}
-use Rattle.book.specs.Book.{BookState}
+use Rattle.serving.specs.book.Book.{BookState}
 use Rattle.serving.specs.Progress.{Given}
 use Rattle.runs.specs.Event.{Event, AreRight, history_after, of_part, receipts_of}
 use Rattle.runs.specs.Run.{IsRun, Part}

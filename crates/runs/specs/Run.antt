@@ -3,9 +3,9 @@ use Rattle.std.specs.Prelude.{◌≡◌, ◌≢◌, ℕ, ◌<◌, ◌≤◌, Lis
 use Rattle.std.specs.List.{AllByRecursion, flat_map}
 use Rattle.values.specs.Log.{Changes, Net, Row}
 use Rattle.values.specs.Tables.{Schema}
-use Rattle.tsbtree.specs.View.{TreeState}
-use Rattle.staging.specs.View.{Holds}
-use Rattle.staging.specs.Own.{net_over, own}
+use Rattle.serving.specs.tsbtree.View.{TreeState}
+use Rattle.serving.specs.staging.View.{Holds}
+use Rattle.serving.specs.staging.Own.{net_over, own}
 use Rattle.steps.specs.declared.step.Step.TheVariants.{Insert}
 use Rattle.steps.specs.Misfit.{max_session, misfit}
 use Rattle.steps.specs.Write.{write}
@@ -13,7 +13,7 @@ use Rattle.lines.specs.Partial.{Partial}
 use Rattle.journal.specs.declared.entry.Entry.{Entry}
 use Rattle.journal.specs.declared.entry.Entry.TheVariants.{Begin, Commit, Split, Install}
 use Rattle.journal.specs.Entries.{entry_at, numbers}
-use Rattle.book.specs.Book.{BookState, IsBook}
+use Rattle.serving.specs.book.Book.{BookState, IsBook}
 use Rattle.serving.specs.Progress.{Given, Progress, after}
 use Rattle.serving.specs.ServedSession.{Serves, Told}
 

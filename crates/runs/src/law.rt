@@ -1,5 +1,6 @@
 //! The law of a whole run.
 ghost use Rattle.runs.specs.OneHistory.{ServedRunsAreHistories};
+ghost use Rattle.runs.specs.Worked.{NoLongFork, NoReceiptTwice, OneAfterTheOther};
 
 /// What all sessions of a run were sent is one history: of a closed store, and of all its receipts,
 /// each with what it was taken for, where those of each session rise, there is one list of events. Its
@@ -11,4 +12,12 @@ ghost use Rattle.runs.specs.OneHistory.{ServedRunsAreHistories};
 /// want of room had to be.
 pub fn served_runs_are_histories()
     ensures histories { ServedRunsAreHistories }
+{}
+
+/// Checks worked runs: two sessions that see two commits in different orders are no history, and a
+/// receipt that is used twice is of no run.
+pub fn worked_runs_hold()
+    ensures no_long_fork { NoLongFork }
+    ensures one_after_the_other { OneAfterTheOther }
+    ensures no_receipt_twice { NoReceiptTwice }
 {}

@@ -3,4 +3,4 @@
 
 mod law;
 
-pub use law::served_runs_are_histories;
+pub use law::{served_runs_are_histories, worked_runs_hold};

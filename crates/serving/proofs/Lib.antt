@@ -7,3 +7,5 @@ pub mod AnswerRefusing
 pub mod ServeStarting
 pub mod ServeLineTelling
 pub mod WriteSteps
+pub use Rattle.sessions.proofs as sessions
+pub use Rattle.sessions.proofs.staging as staging

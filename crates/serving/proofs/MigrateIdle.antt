@@ -1,9 +1,9 @@
 -- MIGRATE where nothing waits to be packed.
 use Rattle.std.proofs.Common.{◌≡◌, ℕ, Option, Some, None, Ok, sym, subst}
 use Rattle.std.specs.Prelude.{MatchOption}
-use Rattle.treenodes.specs.Node.{TreeNode}
-use Rattle.treenodes.specs.Backlog.{IsWaiting}
-use Rattle.tsbtree.specs.View.{TreeState}
+use Rattle.sessions.specs.treenodes.Node.{TreeNode}
+use Rattle.sessions.specs.treenodes.Backlog.{IsWaiting}
+use Rattle.sessions.specs.tsbtree.View.{TreeState}
 use Rattle.journal.specs.declared.entry.Entry.{Entry}
 use Rattle.journal.specs.declared.entry.Entry.TheVariants.{Begin}
 use Rattle.serving.specs.Progress.{Given}

@@ -11,9 +11,9 @@ use Rattle.values.specs.declared.table.Table.{Table}
 use Rattle.values.specs.Tables.{Schema, table_at}
 use Rattle.values.specs.Log.{Changes, Net, rows_after}
 use Rattle.values.specs.Writes.{Own, net_of}
-use Rattle.tsbtree.specs.View.{last}
-use Rattle.staging.specs.Own.{own}
-use Rattle.transaction.specs.Listing.{listing_in}
+use Rattle.sessions.specs.tsbtree.View.{last}
+use Rattle.sessions.specs.staging.Own.{own}
+use Rattle.sessions.specs.transaction.Listing.{listing_in}
 use Rattle.steps.specs.declared.step.Listing.{Listing}
 use Rattle.values.specs.declared.table.ColumnType.{ColumnType}
 use Rattle.steps.specs.declared.step.Step.TheVariants.{Begin, Select, Commit, Rollback, AddColumn}

@@ -10,7 +10,7 @@ use Rattle.values.specs.declared.write.Write.TheVariants.{Insert, Update, Delete
 use Rattle.values.specs.Tables.{Schema}
 use Rattle.values.specs.Log.{Net}
 use Rattle.values.specs.Writes.{Own}
-use Rattle.staging.specs.Own.{own}
+use Rattle.sessions.specs.staging.Own.{own}
 use Rattle.steps.specs.declared.step.Step.{Step}
 use Rattle.steps.specs.declared.step.Reply.{Reply}
 use Rattle.steps.specs.declared.step.Reply.TheVariants.{Refused}

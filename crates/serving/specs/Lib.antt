@@ -4,3 +4,8 @@ pub mod Ends
 pub mod Serving
 pub mod ServedSession
 pub mod Progress
+pub use Rattle.sessions.specs.book as book
+pub use Rattle.sessions.specs as sessions
+pub use Rattle.sessions.specs.staging as staging
+pub use Rattle.sessions.specs.tsbtree as tsbtree
+pub use Rattle.validation.specs as validation

@@ -15,11 +15,11 @@ use Rattle.values.specs.Versions.{answer}
 use Rattle.values.specs.Writes.{Own, net_of}
 use Rattle.datanode.specs.Node.{Node}
 use Rattle.blocks.specs.Block.{block_of}
-use Rattle.treenodes.specs.Node.{TreeNode, data_node}
-use Rattle.treenodes.specs.Backlog.{IsFirstWaiting, IsWaiting}
-use Rattle.tsbtree.specs.View.{TreeState, last}
-use Rattle.staging.specs.View.{Holds}
-use Rattle.staging.specs.Own.{own}
+use Rattle.sessions.specs.treenodes.Node.{TreeNode, data_node}
+use Rattle.sessions.specs.treenodes.Backlog.{IsFirstWaiting, IsWaiting}
+use Rattle.sessions.specs.tsbtree.View.{TreeState, last}
+use Rattle.sessions.specs.staging.View.{Holds}
+use Rattle.sessions.specs.staging.Own.{own}
 use Rattle.validation.specs.declared.cut.Cut.{Cut}
 use Rattle.validation.specs.declared.cut.Cut.TheVariants.{Key as KeyCut, Time as TimeCut}
 use Rattle.steps.specs.declared.step.Listing.{Listing}
@@ -31,7 +31,7 @@ use Rattle.steps.specs.declared.step.Reply.TheVariants.{Begun, Shown, RolledBack
 use Rattle.steps.specs.Misfit.{misfit, key_misfit}
 use Rattle.steps.specs.Reply.{commit_reply, written_reply}
 use Rattle.steps.specs.Listing.{rows_taken}
-use Rattle.transaction.specs.Listing.{as_listing}
+use Rattle.sessions.specs.transaction.Listing.{as_listing}
 use Rattle.journal.specs.declared.entry.Entry.{Entry}
 use Rattle.journal.specs.declared.entry.Entry.TheVariants.{Begin as Begins, Commit as Commits, Split as Splits, Install as Installs}
 use Rattle.sessions.specs.SessionState.{write_by}

@@ -7,9 +7,9 @@ use Rattle.values.specs.declared.query.Form.{Form}
 use Rattle.values.specs.declared.query.Keys.{Keys}
 use Rattle.values.specs.Tables.{Schema}
 use Rattle.values.specs.Log.{Changes}
-use Rattle.tsbtree.specs.View.{TreeState}
-use Rattle.staging.specs.View.{Holds}
-use Rattle.staging.specs.Own.{own}
+use Rattle.sessions.specs.tsbtree.View.{TreeState}
+use Rattle.sessions.specs.staging.View.{Holds}
+use Rattle.sessions.specs.staging.Own.{own}
 use Rattle.validation.specs.declared.cut.Cut.{Cut}
 use Rattle.steps.specs.declared.step.Listing.{Listing}
 use Rattle.steps.specs.declared.step.Step.{Step}

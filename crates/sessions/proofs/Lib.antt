@@ -6,3 +6,4 @@ pub mod StoreCrossing
 pub mod SessionEnding
 pub mod StoreOfHistoryAlike
 pub mod SessionWriting
+pub use Rattle.validation.proofs.staging as staging

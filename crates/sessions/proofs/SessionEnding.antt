@@ -5,8 +5,8 @@ use Rattle.values.specs.Log.{Changes, Net, last, changes}
 use Rattle.values.specs.Period.{periods_of}
 use Rattle.values.specs.Commits.{outcome}
 use Rattle.values.specs.Events.{AreKeysIn}
-use Rattle.staging.specs.View.{Holds}
-use Rattle.staging.specs.Own.{net_over}
+use Rattle.validation.specs.staging.View.{Holds}
+use Rattle.validation.specs.staging.Own.{net_over}
 use Rattle.journal.specs.declared.entry.Entry.{Entry}
 use Rattle.journal.specs.Entries.{Entries, is_open, log}
 use Rattle.book.specs.Book.{BookState, commit_entry}

@@ -9,14 +9,14 @@ use Rattle.values.proofs.schema.Schema.TheSendSync as schema
 use Rattle.keyrange.proofs.rect.Rect.TheSendSync as rect
 use Rattle.slots.specs.contracts.slots.Slots as Slots
 use Rattle.slots.proofs.trie.Trie.TheLaws.TheKnot as knot
-use Rattle.treenodes.specs.contracts.node.Slot as Slot
-use Rattle.treenodes.proofs.node.Slot.TheSendSync as slot
-use Rattle.treenodes.specs.contracts.nodes.Nodes as Nodes
-use Rattle.tsbtree.specs.contracts.tree.Tree as Tree
-use Rattle.tsbtree.specs.contracts.view.View as View
+use Rattle.validation.specs.treenodes.contracts.node.Slot as Slot
+use Rattle.validation.proofs.treenodes.node.Slot.TheSendSync as slot
+use Rattle.validation.specs.treenodes.contracts.nodes.Nodes as Nodes
+use Rattle.validation.specs.tsbtree.contracts.tree.Tree as Tree
+use Rattle.validation.specs.tsbtree.contracts.view.View as View
 use Rattle.blocks.proofs.cache.BlockCache.TheSendSync as cache
-use Rattle.staging.proofs.net.Net.TheSendSync as net
-use Rattle.staging.proofs.staged.Staged.TheSendSync as staged
+use Rattle.validation.proofs.staging.net.Net.TheSendSync as net
+use Rattle.validation.proofs.staging.staged.Staged.TheSendSync as staged
 use Rattle.validation.specs.contracts.engine.Engine as Engine
 use Rattle.growlog.specs.declared.log.StoreName.{Ghosts}
 use Rattle.growlog.proofs.log.Log.TheSendSync as log

@@ -12,9 +12,9 @@ use Rattle.values.specs.Law.{IsLog}
 use Rattle.values.specs.Writes.{Own, net_of}
 use Rattle.values.proofs.LawAsOf.{Rises-upto, upto-append}
 use Rattle.values.proofs.LogPush.{upto_all}
-use Rattle.tsbtree.specs.View.{TreeState, last as view_last}
-use Rattle.staging.specs.View.{Holds}
-use Rattle.staging.specs.Own.{own as own_over, net_over}
+use Rattle.validation.specs.tsbtree.View.{TreeState, last as view_last}
+use Rattle.validation.specs.staging.View.{Holds}
+use Rattle.validation.specs.staging.Own.{own as own_over, net_over}
 use Rattle.validation.specs.declared.cut.Cut.{Cut}
 use Rattle.steps.specs.declared.step.Step.{Step}
 use Rattle.steps.specs.declared.step.Step.TheVariants.{Begin as BeginStep, Commit as CommitStep, Insert, Update, Delete, UpdatePortion, DeletePortion, Select, Rollback, AddColumn, SplitKey, SplitTime, Migrate}

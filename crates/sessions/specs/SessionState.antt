@@ -10,9 +10,9 @@ use Rattle.values.specs.Tables.{Schema, table_at, full_row}
 use Rattle.values.specs.Log.{Changes, Net, Row, row_at}
 use Rattle.values.specs.Writes.{Own}
 use Rattle.values.specs.Events.{AreKeysIn}
-use Rattle.tsbtree.specs.View.{TreeState, last}
-use Rattle.staging.specs.View.{Holds}
-use Rattle.staging.specs.Own.{own, rows_seen}
+use Rattle.validation.specs.tsbtree.View.{TreeState, last}
+use Rattle.validation.specs.staging.View.{Holds}
+use Rattle.validation.specs.staging.Own.{own, rows_seen}
 use Rattle.transaction.specs.Listing.{listing_in}
 use Rattle.transaction.specs.OpenTransactionState.{OpenTransactionState}
 use Rattle.steps.specs.declared.step.Listing.{Listing}

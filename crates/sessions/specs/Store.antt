@@ -4,9 +4,9 @@ use Rattle.values.specs.declared.refusal.Refusal.{Refusal}
 use Rattle.values.specs.declared.refusal.Refusal.TheVariants.{NoTransaction, JournalFull, Memory}
 use Rattle.values.specs.Log.{Changes, Net}
 use Rattle.blocks.specs.PackedNode.{Packed}
-use Rattle.tsbtree.specs.View.{TreeState, last}
-use Rattle.staging.specs.View.{Holds}
-use Rattle.staging.specs.Own.{net_over}
+use Rattle.validation.specs.tsbtree.View.{TreeState, last}
+use Rattle.validation.specs.staging.View.{Holds}
+use Rattle.validation.specs.staging.Own.{net_over}
 use Rattle.validation.specs.declared.cut.Cut.{Cut}
 use Rattle.journal.specs.declared.entry.Entry.{Entry}
 use Rattle.journal.specs.declared.entry.Entry.TheVariants.{Begin, Commit, Split, Install}

@@ -7,8 +7,8 @@ use Rattle.values.specs.declared.refusal.Refusal.TheVariants.{InTransaction, NoT
 use Rattle.values.specs.Tables.{Schema}
 use Rattle.values.specs.KeyEncoding.{bytes_of_key}
 use Rattle.blocks.specs.PackedNode.{Packed}
-use Rattle.tsbtree.specs.View.{last as view_last}
-use Rattle.staging.specs.View.{Holds}
+use Rattle.validation.specs.tsbtree.View.{last as view_last}
+use Rattle.validation.specs.staging.View.{Holds}
 use Rattle.validation.specs.declared.cut.Cut.{Cut}
 use Rattle.validation.specs.declared.cut.Cut.TheVariants.{Key, Time}
 use Rattle.steps.specs.declared.step.Reply.{Reply}

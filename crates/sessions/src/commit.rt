@@ -4,8 +4,8 @@ ghost use Rattle.values.specs.Events.{AreKeysIn};
 ghost use Rattle.values.specs.Log.{Changes};
 ghost use Rattle.values.specs.Memory.{OnlyMemory};
 ghost use Rattle.values.specs.Tables.{Schema as Tables};
-ghost use Rattle.staging.specs.Own.{net_over};
-ghost use Rattle.staging.specs.View.{Holds};
+ghost use Rattle.validation.specs.staging.Own.{net_over};
+ghost use Rattle.validation.specs.staging.View.{Holds};
 ghost use Rattle.book.specs.Book.{Adds, OnlyRoom};
 ghost use Rattle.sessions.specs.Store.{IsCommitAt, is_open_at};
 
@@ -13,8 +13,8 @@ use crate::session::Session;
 use book::Book;
 use growlog::StoreName;
 use journal::Receipt;
-use staging::Net;
 use transaction::OpenTransaction;
+use validation::Net;
 use values::{Instant, Mem, Refusal};
 
 impl Session {

@@ -101,8 +101,8 @@ impl Gate for Door {
 
 /// Readings that rise by one, from 10 on.
 #[derive(Clone, Copy)]
-struct Ticks {
-    next: Instant,
+pub(crate) struct Ticks {
+    pub(crate) next: Instant,
 }
 
 impl Readings for Ticks {
@@ -117,10 +117,10 @@ impl Readings for Ticks {
 
 /// A reader that gives at most so many bytes at a call, and fails at the call after so many.
 #[derive(Drop)]
-struct Source<'a> {
-    rest: &'a [u8],
-    most: usize,
-    calls: usize,
+pub(crate) struct Source<'a> {
+    pub(crate) rest: &'a [u8],
+    pub(crate) most: usize,
+    pub(crate) calls: usize,
 }
 
 impl Read for Source<'_> {
@@ -139,10 +139,10 @@ impl Read for Source<'_> {
 
 /// A writer that takes so many bytes, passes them on so many times, and then fails.
 #[derive(Drop)]
-struct Pipe {
-    taken: Vec<u8>,
-    room: usize,
-    flushes: usize,
+pub(crate) struct Pipe {
+    pub(crate) taken: Vec<u8>,
+    pub(crate) room: usize,
+    pub(crate) flushes: usize,
 }
 
 impl Write for Pipe {
@@ -165,7 +165,8 @@ impl Write for Pipe {
     }
 }
 
-fn kind_of(end: End) -> Ended {
+/// Returns why a session ended, in the tables' words.
+pub(crate) fn kind_of(end: End) -> Ended {
     match end {
         End::Closed => Ended::Closed,
         End::Read => Ended::Read,

@@ -12,11 +12,15 @@ mod desk;
 #[cfg(test)]
 mod end_tests;
 #[cfg(test)]
+mod few_tests;
+#[cfg(test)]
 mod install_tests;
 #[cfg(test)]
 mod line_tests;
 #[cfg(test)]
 mod log_tests;
+#[cfg(test)]
+mod replay_tests;
 #[cfg(test)]
 mod round_tests;
 #[cfg(test)]

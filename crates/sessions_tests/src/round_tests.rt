@@ -13,13 +13,13 @@ use std::sync::Wait;
 use std::thread::Threads;
 
 /// How a round ended, and how many begins and how many done installs it made.
-type Tally = (Option<Cause>, usize, usize);
+pub(crate) type Tally = (Option<Cause>, usize, usize);
 
 fn is_begin(entry: &Entry) -> bool {
     matches!(entry, Entry::Begin { .. })
 }
 
-fn is_done_install(entry: &Entry) -> bool {
+pub(crate) fn is_done_install(entry: &Entry) -> bool {
     match entry {
         Entry::Install { done, .. } => *done,
         _ => false,
@@ -27,7 +27,7 @@ fn is_done_install(entry: &Entry) -> bool {
 }
 
 /// Counts a round's receipts, and keeps them with the others.
-fn count<J: StoreName>(
+pub(crate) fn count<J: StoreName>(
     rt: &impl Abort,
     round: Result<Vec<Receipt<J>>, MigrateFault<J>>,
     all: &mut Vec<Receipt<J>>,
@@ -48,7 +48,7 @@ fn count<J: StoreName>(
 }
 
 /// A round of so many workers.
-fn run_round<J: StoreName, R: Abort + Threads + Wait + Sync, G: Gate + Sync>(
+pub(crate) fn run_round<J: StoreName, R: Abort + Threads + Wait + Sync, G: Gate + Sync>(
     rt: &R,
     alloc: Global,
     store: &LockedStore<J>,
@@ -62,7 +62,7 @@ fn run_round<J: StoreName, R: Abort + Threads + Wait + Sync, G: Gate + Sync>(
 }
 
 /// A round of so many workers, whose gate gives up once it was passed so often.
-fn run_round_of<J: StoreName, R: Abort + Threads + Wait + Sync>(
+pub(crate) fn run_round_of<J: StoreName, R: Abort + Threads + Wait + Sync>(
     rt: &R,
     alloc: Global,
     store: &LockedStore<J>,
@@ -159,7 +159,7 @@ fn a_gate_is_told_the_workers_from_1(rt: HostRuntime) {
     play(&rt, rt.alloc(), Scene::Badges);
 }
 
-/// A round whose gate never opens.
+/// A round whose gate never opens to its workers.
 pub(crate) fn pack_nothing<J: StoreName, R: Abort + Threads + Wait + Sync>(
     rt: &R,
     alloc: Global,
@@ -167,11 +167,11 @@ pub(crate) fn pack_nothing<J: StoreName, R: Abort + Threads + Wait + Sync>(
     desk: &mut Desk,
     receipts: &mut Vec<Receipt<J>>,
 ) -> Audit {
-    write_history(rt, alloc, store, &mut desk.first, (10, 11), receipts);
+    write_history(rt, alloc, store, &mut desk.first, (1, 18), receipts);
     let (cause, begins, installs) = run_round(rt, alloc, store, 2, &Barred::new(), receipts);
     assert!(rt; matches!(cause, Some(Cause::Gate(_))));
     assert!(rt; begins == 1 && installs == 0);
-    (6, 1, 11)
+    (54, 1, 18)
 }
 
 #[test]

@@ -5,6 +5,9 @@ use crate::call_tests::{make_calls, split_twice};
 use crate::case::{Case, serve_case};
 use crate::closing_tests::read_back;
 use crate::desk::{Desk, count_in, open_desk};
+use crate::few_tests::{
+    pack_five, pack_four, pack_none, pack_one, pack_one_twice, pack_two_by_two,
+};
 use crate::install_tests::install_twice;
 use crate::round_tests::{pack_all, pack_by_number, pack_in_two, pack_nothing, pack_together};
 use crate::run_tests::{hire_by_two, name_by_two};
@@ -46,6 +49,12 @@ pub(crate) enum Scene<'a> {
     TwoPackers,
     Badges,
     Barred,
+    PackNone,
+    PackOne,
+    PackFour,
+    PackFive,
+    PackTwoByTwo,
+    PackOneTwice,
     Serve(&'a Case<'a>),
 }
 
@@ -139,6 +148,12 @@ fn play_at<J: StoreName, R: Abort + Threads + Wait + Sync>(
         Scene::TwoPackers => pack_together(rt, alloc, store, desk, receipts),
         Scene::Badges => pack_by_number(rt, alloc, store, desk, receipts),
         Scene::Barred => pack_nothing(rt, alloc, store, desk, receipts),
+        Scene::PackNone => pack_none(rt, alloc, store, desk, receipts),
+        Scene::PackOne => pack_one(rt, alloc, store, desk, receipts),
+        Scene::PackFour => pack_four(rt, alloc, store, desk, receipts),
+        Scene::PackFive => pack_five(rt, alloc, store, desk, receipts),
+        Scene::PackTwoByTwo => pack_two_by_two(rt, alloc, store, desk, receipts),
+        Scene::PackOneTwice => pack_one_twice(rt, alloc, store, desk, receipts),
         Scene::Serve(case) => serve_case(rt, alloc, store, case, receipts),
     }
 }

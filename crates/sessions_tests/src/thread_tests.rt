@@ -31,7 +31,7 @@ fn transact<J: StoreName, R: Abort + Wait>(
 
 /// A tray in which threads put receipts: what a thread returns may be dropped, and a receipt may
 /// not.
-type Tray<J> = Mutex<Vec<Receipt<J>>>;
+pub(crate) type Tray<J> = Mutex<Vec<Receipt<J>>>;
 
 /// Transactions of a session that is new, whose receipts are put in the tray.
 fn run_session<J: StoreName, R: Abort + Wait>(

@@ -107,3 +107,66 @@ impl Gate for Barred {
         false
     }
 }
+
+/// How often worker 1 looks whether another has come, before a lone gate opens.
+const GLANCES: u32 = 200_000;
+
+/// A gate that opens to worker 1 where no other comes to it meanwhile.
+#[derive(Drop)]
+pub(crate) struct Lone {
+    other: Mutex<bool>,
+}
+
+impl Lone {
+    pub(crate) fn new() -> Lone {
+        Lone {
+            other: Mutex::new(false),
+        }
+    }
+}
+
+impl Gate for Lone {
+    fn pass<R: Wait>(&self, rt: &R, who: u8, place: Place) -> bool {
+        if who != 1 || place != Place::Pack {
+            *self.other.lock(rt) = true;
+            return false;
+        }
+        for _ in 0..GLANCES {
+            if *self.other.lock(rt) {
+                return false;
+            }
+        }
+        true
+    }
+}
+
+/// A gate that is open once it was come to twice.
+#[derive(Drop)]
+pub(crate) struct Pair {
+    come: Mutex<u32>,
+}
+
+impl Pair {
+    pub(crate) fn new() -> Pair {
+        Pair {
+            come: Mutex::new(0),
+        }
+    }
+
+    fn count<R: Wait>(&self, rt: &R) {
+        let mut come = self.come.lock(rt);
+        *come = come.saturating_add(1);
+    }
+}
+
+impl Gate for Pair {
+    fn pass<R: Wait>(&self, rt: &R, _who: u8, _place: Place) -> bool {
+        self.count(rt);
+        for _ in 0..TURNS {
+            if *self.come.lock(rt) >= 2 {
+                return true;
+            }
+        }
+        false
+    }
+}

@@ -2,7 +2,7 @@ use Rattle.std.proofs.Common.{◌∙◌, List, ap, length, map, refl, subst}
 use Rattle.statement.specs.Writer.{AppendsPrefix}
 use Rattle.interchange.specs.Report.{loaded_text}
 use Rattle.serving.specs.Progress.{Given}
-use Rattle.listening.specs.Loading.{IsLoaded}
+use Rattle.listening.specs.Loading.{IsLoadedAt}
 use Rattle.listening.proofs.server.load_and_report.Goals as goal
 
 pub returns-clause-err : goal.returns-clause-err
@@ -13,7 +13,7 @@ returns-clause-err g c =
       first_is = refl;
       receipts = given;
       instant = c.in-Ok.loaded.instant;
-      loaded = subst (λ rows. IsLoaded g.J.StoreName.schema c.args.first.now.number rows given c.in-Ok.loaded.instant) c.as_slice-rows.ensures.value c.in-Ok.ensures.ok;
+      loaded = subst (λ rows. IsLoadedAt g.J.StoreName.schema c.args.first.now.number rows given c.in-Ok.loaded.instant) c.as_slice-rows.ensures.value c.in-Ok.ensures.ok;
       wrote = subst (AppendsPrefix (g.O.Write.contents c.args.out.now) (g.O.Write.contents c.print_whole.new.out))
           (c.as_slice.ensures.value ∙ c.in-Ok-loaded_line.ensures ∙ ap (λ rows. loaded_text (length rows) c.in-Ok.loaded.instant) c.as_slice-rows.ensures.value)
           c.in-Err-print_whole.ensures;

@@ -1,0 +1,73 @@
+-- A closed store and all receipts, as a run and its one history.
+use Rattle.std.proofs.Common.{◌≡◌, ℕ, ◌≤◌, List, [], ◌∷◌, ◌++◌, Bool, true, ◌&&◌, Some, length, nat_le, refl, sym, ap, subst, ◌∙◌, arith, map, IsPermutation}
+use Rattle.std.proofs.lemmas.Bool.Decides.{nat_tests}
+use Rattle.std.proofs.lemmas.List.{map-append}
+use Rattle.std.proofs.lemmas.List.Elements.{All-map, recursion_from_All}
+use Rattle.std.proofs.lemmas.Simd.{map-map}
+use Rattle.std.proofs.lemmas.List.Sorted.{All-permutation, IsPermutation-append_right, IsPermutation-map, IsPermutation-sym, IsPermutation-trans}
+use Rattle.std.specs.Prelude.{All}
+use Rattle.std.specs.List.{AllByRecursion, flat_map, list_all}
+use Rattle.values.specs.Log.{Row}
+use Rattle.values.specs.Tables.{Schema}
+use Rattle.journal.specs.Entries.{entry_at, numbers}
+use Rattle.book.specs.Book.{BookState, IsBook}
+use Rattle.serving.specs.Progress.{Given}
+use Rattle.runs.specs.OneHistory.{ServedRunsAreHistories}
+use Rattle.runs.specs.Run.{IsLoaded, IsRun, Part}
+use Rattle.listening.specs.Pile.{AreOfRun}
+use Rattle.listening.specs.Connection.{IsOneRun}
+use Rattle.listening.proofs.PileParts.{both}
+
+-- what stands of all receipts stands of those of the parts
+stands : (P : Given → Type 0) (before given own : List Given) → IsPermutation given own → All P (before ++ given) → AllByRecursion P (before ++ own)
+stands P before given own are all =
+    recursion_from_All P (before ++ own) (All-permutation P (before ++ given) (before ++ own) (IsPermutation-append_right before given own are) all)
+
+-- all numbers are there once
+once : (before given own : List Given) (numbers : List ℕ) → IsPermutation given own → IsPermutation (map (λ g. g.number) (before ++ given)) numbers → IsPermutation (map (λ g. g.number) (before ++ own)) numbers
+once before given own numbers are all =
+    let moved = IsPermutation-map (λ (g : Given). g.number) (before ++ given) (before ++ own) (IsPermutation-append_right before given own are) in
+    IsPermutation-trans (map (λ g. g.number) (before ++ own)) (map (λ g. g.number) (before ++ given)) numbers (IsPermutation-sym (map (λ g. g.number) (before ++ given)) (map (λ g. g.number) (before ++ own)) moved) all
+
+-- no part has a number above the greatest
+upto : (most : ℕ) (parts : List Part) → list_all (λ n. nat_le n most) (map (λ p. p.number) parts) ≡ true → AllByRecursion (λ p. p.number ≤ most) parts
+upto most [] e = tt
+upto most (p ∷ parts) e =
+    let h = both (nat_le p.number most) (list_all (λ n. nat_le n most) (map (λ p. p.number) parts)) e in
+    let first : nat_le p.number most ≡ true = h.0 in
+    (grind (arith, nat_tests, first), upto most parts h.1)
+
+module _ (law : ServedRunsAreHistories) (schema : Schema) (b : BookState) (most table : ℕ) (rows : List Row) (before given : List Given) (sessions : List ℕ) where
+  is_run : IsBook schema b → IsLoaded schema table rows before → (run : AreOfRun schema sessions given) → All (λ g. entry_at b.entries g.number ≡ Some g.entry) (before ++ given)
+      → IsPermutation (map (λ g. g.number) (before ++ given)) (numbers (length b.entries)) → IsRun schema b table rows before run.parts run.service
+  is_run book loaded run stand all = record {
+    is_book = book;
+    is_loaded = loaded;
+    are_parts = run.are_parts;
+    apart = run.apart;
+    serviced = run.serviced;
+    stand = stands (λ g. entry_at b.entries g.number ≡ Some g.entry) before given (flat_map (λ p. p.given) run.parts ++ run.service) run.given_are stand;
+    once = once before given (flat_map (λ p. p.given) run.parts ++ run.service) (numbers (length b.entries)) run.given_are all;
+  }
+
+  one_run : IsBook schema b → IsLoaded schema table rows before → AreOfRun schema sessions given → list_all (λ n. nat_le n most) sessions ≡ true → All (λ g. entry_at b.entries g.number ≡ Some g.entry) (before ++ given)
+      → IsPermutation (map (λ g. g.number) (before ++ given)) (numbers (length b.entries)) → IsOneRun schema most table rows b
+  one_run book loaded run few stand all =
+      let found = law schema b table rows before run.parts run.service (is_run book loaded run stand all) in
+      record {
+        parts = run.parts;
+        are_parts = run.are_parts;
+        numbered = upto most run.parts (ap (λ ns. list_all (λ n. nat_le n most) ns) run.numbers_are ∙ few);
+        apart = run.apart;
+        events = found.0;
+        history = found.1;
+      }
+
+  -- from the receipts that closed the store: those of before, and those that were handed over
+  pub of_receipts : {R : Type 0} (f : R → Given) (all first later : List R) → all ≡ first ++ later → before ≡ map f first → given ≡ map f later
+      → IsBook schema b → IsLoaded schema table rows before → AreOfRun schema sessions given → list_all (λ n. nat_le n most) sessions ≡ true → All (λ r. entry_at b.entries (f r).number ≡ Some (f r).entry) all
+      → IsPermutation (map (λ r. (f r).number) all) (numbers (length b.entries)) → IsOneRun schema most table rows b
+  of_receipts f all first later are first_are later_are book loaded run few stand once =
+      let parts : map f all ≡ before ++ given = ap (map f) are ∙ map-append f first later ∙ (λ k. sym first_are k ++ sym later_are k) in
+      one_run book loaded run few (subst (All (λ g. entry_at b.entries g.number ≡ Some g.entry)) parts (All-map (λ g. entry_at b.entries g.number ≡ Some g.entry) f all stand))
+      (subst (λ gs. IsPermutation (map (λ g. g.number) gs) (numbers (length b.entries))) parts (subst (λ ns. IsPermutation ns (numbers (length b.entries))) (sym (map-map (λ (g : Given). g.number) f all)) once))
