@@ -137,14 +137,16 @@ abbrev pub HasRunMode : AskedMode → Option Text → Option ℕ → Schema
 HasRunMode (Scripts script) load number schema unread left old new =
     HasRunAll load script number schema unread left old new
 HasRunMode (Listens port sessions) load number schema unread left old new =
-    HasServedAll load number schema unread left old new
+    HasServedAll load (record { port = port; sessions = sessions; export = number }) schema
+    unread left old new
 
 abbrev pub HaltsMode : Fault → AskedMode → Option Text → Option ℕ → Schema
     → (unread left old new : Option (List ℕ)) → Type 0
 HaltsMode fault (Scripts script) load number schema unread left old new =
     HaltsAt fault load script number schema unread left old new
 HaltsMode fault (Listens port sessions) load number schema unread left old new =
-    HaltsServing fault load number schema unread left old new
+    HaltsServing fault load (record { port = port; sessions = sessions; export = number }) schema
+    unread left old new
 
 pub record HasDone (asked : Asked) (schema : Schema) (unread left old new : Option (List ℕ))
     : Type 0 where

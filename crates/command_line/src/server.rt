@@ -56,10 +56,10 @@ where
     O: Write,
     requires export { IsExportOf schema plan.export }
     ensures done { OnOk result (HasServedAll (option_map (λ text. text.now) text.entry)
-        plan.export schema (I.remaining reader.old) (I.remaining reader.new)
+        plan schema (I.remaining reader.old) (I.remaining reader.new)
         (O.contents out.old) (O.contents out.new)) }
     ensures halts { IfErr result (λ fault. HaltsServing fault
-        (option_map (λ text. text.now) text.entry) plan.export schema
+        (option_map (λ text. text.now) text.entry) plan schema
         (I.remaining reader.old) (I.remaining reader.new)
         (O.contents out.old) (O.contents out.new)) }
 {
