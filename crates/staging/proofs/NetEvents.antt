@@ -1,22 +1,24 @@
 -- Events that are put one after the other may first be put in order.
-use Rattle.std.proofs.Common.{◌≡◌, ℕ, ◌<◌, List, [], ◌∷◌, All, Option, Result, Ok, Err, IfOk, refl, sym, ap, subst, ◌∙◌, arith, length, map}
-use Rattle.std.specs.Ordering.{ordering_reverse, ordering_then, nat_cmp, match_ordering}
+use Rattle.std.proofs.Common.{◌≡◌, ℕ, ◌<◌, List, [], ◌∷◌, Option, Result, Ok, Err, IfOk, refl, sym, ap, subst, ◌∙◌, arith, length}
+use Rattle.std.specs.Ordering.{ordering_reverse, match_ordering}
 use Rattle.std.specs.declared.cmp.Ordering.{Ordering}
 use Rattle.std.specs.declared.cmp.Ordering.TheVariants.{Less, Equal, Greater}
-use Rattle.std.specs.BTreeMap.{insert_entry}
-use Rattle.std.specs.Cmp.{nat_cmp_total}
 use Rattle.std.specs.List.{AllByRecursion}
 use Rattle.std.specs.List.Sorted.{IsStrictlySortedBy}
 use Rattle.std.proofs.lemmas.List.Elements.{All-from_recursion}
 use Rattle.values.specs.Event.{Event}
 use Rattle.values.specs.EventOrder.{event_total}
+use Rattle.values.specs.declared.key.Key.{Key}
 use Rattle.values.specs.Log.{Net, Row}
 use Rattle.values.specs.KeyEncoding.{bytes_of_key}
-use Rattle.values.specs.Events.{bytes_cmp, event_cmp, put_event, put_net}
-use Rattle.eventlist.proofs.PlaceOrder.{bytes_exact, sorted_head, sorted_tail, sorted_none}
+use Rattle.values.specs.Events.{event_cmp, put_event, put_net}
+use Rattle.eventlist.proofs.PlaceOrder.{sorted_head, sorted_tail, sorted_none}
 use Rattle.eventlist.proofs.PutPlaced.{all_put, sorted_put}
 use Rattle.tsbtree.specs.treegrowth.Commit.{put_each, IsCommit}
-use Rattle.staging.specs.Net.{put_bytes, event_at}
+
+-- the event of a change at an instant
+abbrev event_at : ℕ → Key × Option Row → Event
+event_at i c = record { key = bytes_of_key c.0; at = i; row = c.1 }
 
 -- ---- two events
 
@@ -105,15 +107,15 @@ each_put e (x ∷ s) m h = by (event_cmp e x) refl (each_put e s (put_event x m)
 each_net : (i : ℕ) (net : Net) (s m : List Event) → IsStrictlySortedBy event_cmp s → put_each (put_net i net s) m ≡ put_net i net (put_each s m)
 each_net i [] s m h = refl
 each_net i (c ∷ net) s m h =
-    each_net i net _ m (sorted_put (event_at i (bytes_of_key c.0, c.1)) s h) ∙ ap (put_net i net) (each_put (event_at i (bytes_of_key c.0, c.1)) s m h)
+    each_net i net _ m (sorted_put (event_at i c) s h) ∙ ap (put_net i net) (each_put (event_at i c) s m h)
 
 sorted_net : (i : ℕ) (net : Net) (s : List Event) → IsStrictlySortedBy event_cmp s → IsStrictlySortedBy event_cmp (put_net i net s)
 sorted_net i [] s h = h
-sorted_net i (c ∷ net) s h = sorted_net i net _ (sorted_put (event_at i (bytes_of_key c.0, c.1)) s h)
+sorted_net i (c ∷ net) s h = sorted_net i net _ (sorted_put (event_at i c) s h)
 
 all_at : (i : ℕ) (net : Net) (s : List Event) → AllByRecursion (λ e. e.at ≡ i) s → AllByRecursion (λ e. e.at ≡ i) (put_net i net s)
 all_at i [] s h = h
-all_at i (c ∷ net) s h = all_at i net _ (all_put (λ e. e.at ≡ i) (event_at i (bytes_of_key c.0, c.1)) s refl h)
+all_at i (c ∷ net) s h = all_at i net _ (all_put (λ e. e.at ≡ i) (event_at i c) s refl h)
 
 some_put : (e : Event) (s : List Event) → 0 < length (put_event e s)
 some_put e [] = omega arith
@@ -121,59 +123,13 @@ some_put e (d ∷ s) = elim (event_cmp e d) as (λ o. 0 < length (choice e d s o
 
 some_more : (i : ℕ) (net : Net) (s : List Event) → 0 < length s → 0 < length (put_net i net s)
 some_more i [] s h = h
-some_more i (c ∷ net) s h = some_more i net _ (some_put (event_at i (bytes_of_key c.0, c.1)) s)
+some_more i (c ∷ net) s h = some_more i net _ (some_put (event_at i c) s)
 
 some_net : (i : ℕ) (net : Net) → 0 < length net → 0 < length (put_net i net [])
 some_net i [] h = absurd (omega arith)
-some_net i (c ∷ net) h = some_more i net _ (some_put (event_at i (bytes_of_key c.0, c.1)) [])
-
--- ---- by the bytes of keys
-
-level : (i : ℕ) → nat_cmp i i ≡ Equal
-level i = at (nat_cmp i i) (nat_cmp_total.antisymm i i)
-  where
-    at : (o : Ordering) → o ≡ ordering_reverse o → o ≡ Equal
-    at Less e = cc
-    at Equal e = refl
-    at Greater e = cc
-
-insert_is : (i : ℕ) (es : List (List ℕ × Option Row)) (k : List ℕ) (v : Option Row) → map (event_at i) (insert_entry bytes_cmp es k v) ≡ put_event (event_at i (k, v)) (map (event_at i) es)
-insert_is i [] k v = refl
-insert_is i (e ∷ es) k v = by (bytes_cmp k e.0) refl (insert_is i es k v)
-  where
-    by : (o : Ordering) → bytes_cmp k e.0 ≡ o → map (event_at i) (insert_entry bytes_cmp es k v) ≡ put_event (event_at i (k, v)) (map (event_at i) es)
-        → map (event_at i) (match_ordering o ((k, v) ∷ e ∷ es) ((e.0, v) ∷ es) (e ∷ insert_entry bytes_cmp es k v))
-        ≡ match_ordering (ordering_then o (nat_cmp i i)) (event_at i (k, v) ∷ event_at i e ∷ map (event_at i) es) (event_at i (k, v) ∷ map (event_at i) es) (event_at i e ∷ put_event (event_at i (k, v)) (map (event_at i) es))
-    by Less is rest = refl
-    by Equal is rest =
-        ap (λ b. event_at i (b, v) ∷ map (event_at i) es) (sym (bytes_exact k e.0 is))
-        ∙ sym (ap (λ o. match_ordering o (event_at i (k, v) ∷ event_at i e ∷ map (event_at i) es) (event_at i (k, v) ∷ map (event_at i) es) (event_at i e ∷ put_event (event_at i (k, v)) (map (event_at i) es))) (level i))
-    by Greater is rest = ap (λ l. event_at i e ∷ l) rest
-
-bytes_are : (i : ℕ) (net : Net) (es : List (List ℕ × Option Row)) → map (event_at i) (put_bytes net es) ≡ put_net i net (map (event_at i) es)
-bytes_are i [] es = refl
-bytes_are i (c ∷ net) es = bytes_are i net _ ∙ ap (put_net i net) (insert_is i es (bytes_of_key c.0) c.1)
-
-some_bytes : (es : List (List ℕ × Option Row)) (k : List ℕ) (v : Option Row) → 0 < length k → AllByRecursion (λ e. 0 < length e.0) es → AllByRecursion (λ e. 0 < length e.0) (insert_entry bytes_cmp es k v)
-some_bytes [] k v p h = (p, tt)
-some_bytes (e ∷ es) k v p h =
-    elim (bytes_cmp k e.0) as (λ o. AllByRecursion (λ e. 0 < length e.0) (match_ordering o ((k, v) ∷ e ∷ es) ((e.0, v) ∷ es) (e ∷ insert_entry bytes_cmp es k v))) [
-      | Less ↦ (p, h)
-      | Equal ↦ (h.0, h.1)
-      | Greater ↦ (h.0, some_bytes es k v p h.1)
-    ]
-
-all_some : (net : Net) (es : List (List ℕ × Option Row)) → AllByRecursion (λ e. 0 < length e.0) es → AllByRecursion (λ e. 0 < length e.0) (put_bytes net es)
-all_some [] es h = h
-all_some (c ∷ net) es h = all_some net _ (some_bytes es (bytes_of_key c.0) c.1 (omega arith) h)
-
-pub keys_are_some : (net : Net) → All (λ e. 0 < length e.0) (put_bytes net [])
-keys_are_some net = All-from_recursion (λ e. 0 < length e.0) (put_bytes net []) (all_some net [] tt)
+some_net i (c ∷ net) h = some_more i net _ (some_put (event_at i c) [])
 
 -- ---- what net changes stand for
-
-pub net_events : (i : ℕ) (net : Net) → map (event_at i) (put_bytes net []) ≡ put_net i net []
-net_events i net = bytes_are i net []
 
 pub net_adds : (i : ℕ) (net : Net) (es : List Event) → es ≡ put_net i net [] → (m : List Event) → put_each es m ≡ put_net i net m
 net_adds i net es is m = ap (λ l. put_each l m) is ∙ each_net i net [] m (sorted_none event_cmp)
