@@ -10,6 +10,8 @@ pub mod StagedEntries
 pub mod BoundKept
 pub mod ViewKeyTable
 pub mod ViewNarrowed
+pub mod MapBuilt
+pub mod MergedRows
 pub mod NetEvents
 pub mod StagedPutBack
 pub mod StagedSeen

@@ -164,14 +164,6 @@ seen_keys schema table view m w p reads =
     All-from_recursion (λ e. IsKeyIn schema e.0) (filter p (rows_seen m w))
     (all_chosen {X = Row} (IsKeyIn schema) p (rows_seen m w) (all_seen schema table view m w reads))
 
--- and those of rows with writes over them are short where both are
-pub rows_short : (found : State) (p : Key × Option Row → Bool) (w : Net) → All (λ e. IsShortKey e.0) found → All (λ c. IsShortKey c.0) w → All (λ e. IsShortKey e.0) (apply_net found (filter p w))
-rows_short found p w f h =
-    All-from_recursion (λ e. IsShortKey e.0) (apply_net found (filter p w))
-    (all_applied IsShortKey (filter p w) found
-    (all_chosen {X = Option Row} IsShortKey p w (recursion_from_All (λ c. IsShortKey c.0) w h))
-    (recursion_from_All (λ e. IsShortKey e.0) found f))
-
 -- ---- UPDATE and DELETE
 
 delete_keys : (es : State) → keys_of (deletions es) ≡ map (λ e. e.0) es

@@ -1,5 +1,5 @@
 -- What the calls of a transaction answer, for every list of changes that its view stands for.
-use Rattle.std.proofs.Common.{◌≡◌, ℕ, ◌≤◌, Bool, true, false, cond, ◌&&◌, T, List, [], ◌∷◌, Option, Some, Result, Ok, Err, OnOk, OnErr, refl, sym, ap, subst, ◌∙◌, filter, length, if◌then◌else◌, nat_lt, All}
+use Rattle.std.proofs.Common.{◌≡◌, ℕ, ◌≤◌, Bool, true, false, cond, ◌&&◌, T, List, [], ◌∷◌, Option, Some, Result, Ok, Err, OnOk, OnErr, refl, sym, ap, subst, ◌∙◌, filter, filter_map, length, if◌then◌else◌, nat_lt, All}
 use Rattle.std.proofs.lemmas.Bool.{and_parts}
 use Rattle.std.proofs.lemmas.List.{length-map}
 use Rattle.std.proofs.lemmas.List.Elements.{All-from_recursion, recursion_from_All}
@@ -8,6 +8,7 @@ use Rattle.std.specs.declared.cmp.Ordering.TheVariants.{Less, Equal, Greater}
 use Rattle.std.specs.BTreeMap.{insert_entry}
 use Rattle.std.specs.Map.{keys_of}
 use Rattle.std.specs.FinMap.{is_sorted}
+use Rattle.std.specs.FinMap.Entries.{is_sorted-where_key}
 use Rattle.std.specs.List.{AllByRecursion}
 use Rattle.std.specs.List.Sorted.{IsStrictlySortedBy}
 use Rattle.values.specs.declared.key.Key.{Key}
@@ -16,9 +17,9 @@ use Rattle.values.specs.declared.query.Keys.{Keys}
 use Rattle.values.specs.declared.refusal.Refusal.{Refusal}
 use Rattle.values.specs.declared.refusal.Refusal.TheVariants.{TooManyWrites}
 use Rattle.values.specs.Order.{key_cmp}
-use Rattle.values.specs.Log.{Net, Row, Changes, apply_net, row_at, rows_after}
+use Rattle.values.specs.Log.{State, Net, Row, Changes, apply_net, row_at, rows_after}
 use Rattle.values.specs.Tables.{Schema, table_at}
-use Rattle.values.specs.Writes.{Written, write_keys, most_written, insert_all, add_keys}
+use Rattle.values.specs.Writes.{Written, write_keys, most_written, add_keys}
 use Rattle.values.specs.Versions.{matches}
 use Rattle.values.specs.KeyReading.{IsKeyOf}
 use Rattle.values.specs.Events.{event_cmp, events_of, AreKeysIn}
@@ -29,13 +30,13 @@ use Rattle.staging.proofs.ViewKeyTable.{is_of_table}
 use Rattle.tsbtree.specs.View.{events, TreeState}
 use Rattle.staging.specs.View.{Holds}
 use Rattle.staging.specs.Own.{Reads, rows_seen, own, net_over}
-use Rattle.staging.specs.Staged.{put_all, put_answer, row_in, rows_in, net_in}
+use Rattle.staging.specs.Staged.{put_all, put_answer, row_in, net_in}
 use Rattle.staging.proofs.ViewNarrowed.{in_search, narrowed, others, out_of_range}
 use Rattle.searchrange.specs.SearchRange.{range_of_table, Covers, IsWithin}
-use Rattle.searchrange.specs.Search.{IsInSearch}
-use Rattle.staging.proofs.StagedEntries.{sorted_from, apply-put_all, keys_put_all}
+use Rattle.searchrange.specs.Search.{IsInSearch, entry_taken}
+use Rattle.staging.proofs.StagedEntries.{sorted_from, sorted_to, apply-filter, apply-put_all, keys_put_all}
 use Rattle.staging.proofs.ViewBridge.{are_seen, sorted_base, key_in, net_is, seen_is}
-use Rattle.staging.proofs.StagedSeen.{rows_are}
+use Rattle.staging.proofs.StagedSeen.{base_is}
 
 -- ---- what is read of a view
 
@@ -47,15 +48,24 @@ stand_in_search schema table range view t m within is_table held =
     (All-from_recursion (λ e. IsInSearch table range e.key) (standing (events_of m) (is_key_in range) t)
     (in_search schema table range within is_table (λ e. is_key_in range e.key && stands_at (events_of m) t e) (λ e h. (and_parts (is_key_in range e.key) (stands_at (events_of m) t e) h).0) m held.keys))
 
-pub rows_of_view : (schema : Schema) (table : Table) (keys : Keys) (range : KeyRange) (view : TreeState) (t : ℕ) (m : Changes) (w : Net) → Reads schema table view w m → keys.table ≡ table.number → Covers table keys range
-    → IsStrictlySortedBy event_cmp (events view) → All (λ e. e.at ≤ t) (events view) → IsStrictlySortedBy key_cmp (keys_of w)
-    → rows_in table keys (standing (events view) (is_key_in range) t) w ≡ filter (λ e. matches table keys e.0) (rows_seen m w)
-rows_of_view schema table keys range view t m w reads same covers sorted upto ordered =
-    ap (λ es. rows_in table keys (standing es (is_key_in range) t) w) reads.held.events_are
-    ∙ ap (λ es. apply_net (insert_all [] es) (filter (λ c. matches table keys c.0) w))
-    (narrowed table keys (is_key_in range) t (events_of m) (events_of m) (out_of_range schema table keys range covers reads.is_table m reads.held.keys)
-    ∙ sym (narrowed table keys (is_of_table table.number) t (events_of m) (events_of m) (others table keys (events_of m))))
-    ∙ rows_are schema table keys t m w reads.is_table same (are_seen schema view t m reads.held sorted upto) (sorted_from w ordered)
+-- the rows of the events that stand in the range of a search and that it takes
+pub taken_of_view : (schema : Schema) (table : Table) (keys : Keys) (range : KeyRange) (view : TreeState) (t : ℕ) (m : Changes) (w : Net) → Reads schema table view w m → keys.table ≡ table.number → Covers table keys range
+    → IsStrictlySortedBy event_cmp (events view) → All (λ e. e.at ≤ t) (events view) → filter_map (entry_taken table keys) (standing (events view) (is_key_in range) t) ≡ filter (λ e. matches table keys e.0) (rows_after [] m)
+taken_of_view schema table keys range view t m w reads same covers sorted upto =
+    ap (λ es. filter_map (entry_taken table keys) (standing es (is_key_in range) t)) reads.held.events_are
+    ∙ narrowed table keys (is_key_in range) t (events_of m) (events_of m) (out_of_range schema table keys range covers reads.is_table m reads.held.keys)
+    ∙ sym (narrowed table keys (is_of_table table.number) t (events_of m) (events_of m) (others table keys (events_of m)))
+    ∙ base_is schema table keys t m reads.is_table same (are_seen schema view t m reads.held sorted upto)
+
+-- are in order by key
+pub taken_ordered : (table : Table) (keys : Keys) (m : Changes) (found : State) → found ≡ filter (λ e. matches table keys e.0) (rows_after [] m) → IsStrictlySortedBy key_cmp (keys_of found)
+taken_ordered table keys m found is = subst (λ (s : State). IsStrictlySortedBy key_cmp (keys_of s)) (sym is) (sorted_to (filter (λ e. matches table keys e.0) (rows_after [] m)) (is_sorted-where_key key_cmp (matches table keys) (rows_after [] m) (sorted_base m)))
+
+-- and with the writes that it takes over them are the rows that the transaction sees
+pub rows_of_view : (table : Table) (keys : Keys) (m : Changes) (w : Net) (found : State) → found ≡ filter (λ e. matches table keys e.0) (rows_after [] m) → IsStrictlySortedBy key_cmp (keys_of w)
+    → apply_net found (filter (λ c. matches table keys c.0) w) ≡ filter (λ e. matches table keys e.0) (rows_seen m w)
+rows_of_view table keys m w found is ordered =
+    ap (λ s. apply_net s (filter (λ c. matches table keys c.0) w)) is ∙ apply-filter (matches table keys) w (rows_after [] m) (sorted_base m) (sorted_from w ordered)
 
 pub row_of_view : (schema : Schema) (table : Table) (view : TreeState) (t : ℕ) (m : Changes) (w : Net) (key : Key) → Reads schema table view w m → IsKeyOf table key → IsStrictlySortedBy event_cmp (events view) → All (λ e. e.at ≤ t) (events view)
     → IsStrictlySortedBy key_cmp (keys_of w) → row_in (events view) t w key ≡ row_at (rows_seen m w) key

@@ -9,6 +9,7 @@ use Rattle.std.specs.BTreeSet.{insert_key}
 use Rattle.std.specs.Map.{lookup, keys_of}
 use Rattle.std.specs.FinMap.{is_sorted}
 use Rattle.std.specs.FinMap.Entries.{below_all, is_sorted-where_key}
+use Rattle.std.specs.List.{AllByRecursion}
 use Rattle.std.specs.List.Sorted.{IsStrictlySortedBy}
 use Rattle.values.specs.declared.key.Key.{Key}
 use Rattle.values.specs.Order.{key_cmp, is_key}
@@ -26,6 +27,15 @@ same_key q k e = key_cmp-IsAntisymmetric q k (is_equal (key_cmp q k) e)
 -- a map's keys are in order
 pub sorted_from : {X : Type 0} (es : List (Key × X)) → IsStrictlySortedBy key_cmp (keys_of es) → T (is_sorted key_cmp es)
 sorted_from es h = sorted_by_key key_cmp es h
+
+pub sorted_to : {X : Type 0} (es : List (Key × X)) → T (is_sorted key_cmp es) → IsStrictlySortedBy key_cmp (keys_of es)
+unfolding IsStrictlySortedBy
+sorted_to [] h = tt
+sorted_to {X = X} (e ∷ es) h = (below es (first _ _ h), sorted_to es (second _ _ h))
+  where
+    below : (ds : List (Key × X)) → T (below_all key_cmp e.0 ds) → AllByRecursion (λ k. key_cmp e.0 k ≡ Less) (keys_of ds)
+    below [] h = tt
+    below (d ∷ ds) h = (is_less (key_cmp e.0 d.0) (first _ _ h), below ds (second _ _ h))
 
 -- what is above a key is not that key
 pub none_below : {X : Type 0} (es : List (Key × X)) (k q : Key) → key_cmp q k ≡ Equal → T (below_all key_cmp k es) → lookup (is_at (key_cmp q)) es ≡ None

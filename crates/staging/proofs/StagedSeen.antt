@@ -1,11 +1,13 @@
 -- The rows that a transaction sees, of the events whose rows stand.
 use Rattle.std.proofs.Common.{◌≡◌, ℕ, ◌≤◌, Bool, true, false, cond, ◌&&◌, ◌||◌, T, List, [], ◌∷◌, Option, Some, None, refl, sym, ap, subst, ◌∙◌, arith, not, filter, filter_map, is_some, if◌then◌else◌, nat_le, ◌==◌, inl, inr, ◌⊎◌}
 use Rattle.std.proofs.lemmas.Bool.Decides.{nat_tests}
-use Rattle.std.specs.declared.cmp.Ordering.TheVariants.{Less}
+use Rattle.std.specs.declared.cmp.Ordering.{Ordering}
+use Rattle.std.specs.declared.cmp.Ordering.TheVariants.{Less, Equal, Greater}
+use Rattle.std.specs.Ordering.{is_eq, is_lt, match_ordering, nat_cmp, ordering_reverse, ordering_then}
 use Rattle.std.specs.Option.{option_map}
 use Rattle.std.specs.BTreeMap.{insert_entry}
 use Rattle.std.specs.FinMap.{is_sorted}
-use Rattle.std.specs.FinMap.Entries.{is_sorted-where_key}
+use Rattle.std.specs.FinMap.Entries.{below_all, is_sorted-where_key}
 use Rattle.std.specs.List.{AllByRecursion, list_any, list_all, cons_option}
 use Rattle.std.specs.List.Sorted.{IsStrictlySortedBy}
 use Rattle.values.specs.declared.key.Key.{Key}
@@ -14,25 +16,24 @@ use Rattle.values.specs.Event.{Event}
 use Rattle.values.specs.declared.table.Table.{Table}
 use Rattle.values.specs.declared.query.Keys.{Keys}
 use Rattle.values.specs.Order.{key_cmp, is_key}
-use Rattle.values.specs.Log.{State, Net, Row, Changes, row_at, apply_net, rows_after}
+use Rattle.values.specs.Log.{State, Row, Changes, row_at, rows_after}
 use Rattle.values.specs.Tables.{Schema, table_at}
 use Rattle.values.specs.Writes.{insert_all}
 use Rattle.values.specs.Versions.{matches, holds}
 use Rattle.values.specs.KeyEncoding.{bytes_of_key}
 use Rattle.values.specs.Events.{is_bytes, event_cmp, event_of, events_of, IsKeyIn, later}
-use Rattle.values.proofs.OrderTotal.{key_cmp_total, key_cmp-IsAntisymmetric}
+use Rattle.values.proofs.OrderTotal.{key_cmp_total, key_cmp-IsAntisymmetric, both, first, second}
+use Rattle.values.proofs.OrderSorted.{is_less}
 use Rattle.values.proofs.LogMaps.{same_map, sorted_insert, lookup-insert_entry}
 use Rattle.values.proofs.KeyReads.{key_back}
 use Rattle.eventlist.specs.Overtaking.{overtakes}
 use Rattle.eventlist.specs.Listing.{stands_at, standing}
 use Rattle.staging.proofs.ViewKeyTable.{is_of_table}
-use Rattle.staging.specs.Own.{rows_seen}
-use Rattle.staging.specs.Staged.{rows_in}
 use Rattle.searchrange.specs.Search.{entry_taken}
 use Rattle.eventlist.proofs.PlaceOrder.{sorted_head, is_lower}
 use Rattle.eventlist.proofs.OvertakingNext.{not_earlier, not_itself, overtakes_is, is_overtakes, never}
-use Rattle.staging.proofs.StagedEntries.{upon, apply-filter, lookup-filter, same_key}
-use Rattle.staging.proofs.ViewBridge.{AreSeen, rest_seen, last_change, after_is, sorted_base, is_bytes_is_key, own_key, in_time}
+use Rattle.staging.proofs.StagedEntries.{upon, lookup-filter, same_key}
+use Rattle.staging.proofs.ViewBridge.{AreSeen, keys_compare, rest_seen, last_change, after_is, sorted_base, is_bytes_is_key, own_key, in_time}
 
 -- ---- which events stand, by those after them
 
@@ -225,14 +226,72 @@ inserted_is table keys (c ∷ cs) s q =
                 let last : last_change cs q ≡ None = ap (last_change cs) (same_key q c.0.key is) ∙ x_is in
                 (λ i. cond (mine i) (over (last i) (Some r)) (Some r)) ∙ sym (λ i. cond (mine i) (over (later (last i) (Some (Some r))) (row_at s q)) (row_at s q))
 
+-- ---- in order by key
+
+-- changes behind one, none of which is of its key, are of greater keys
+none_tied : (schema : Schema) (c : Point × Option Row) (cs : Changes) → IsKeyIn schema c.0.key → AllByRecursion (λ d. IsKeyIn schema d.0.key) cs → AllByRecursion (λ d. event_cmp (event_of c) d ≡ Less) (events_of cs) → has_later c.0.key cs ≡ false
+    → AllByRecursion (λ d. key_cmp c.0.key d.0.key ≡ Less) cs
+none_tied schema c [] hc hk hs h = tt
+none_tied schema c (d ∷ cs) hc hk hs h =
+    let apart = neither (is_key c.0.key d.0.key) (has_later c.0.key cs) h in (
+      lesser (key_cmp c.0.key d.0.key) (nat_cmp c.0.instant d.0.instant) (ap (λ o. ordering_then o (nat_cmp c.0.instant d.0.instant)) (sym (keys_compare schema c.0.key d.0.key hc hk.0)) ∙ hs.0) apart.0,
+      none_tied schema c cs hc hk.1 hs.1 apart.1,
+    )
+  where
+    neither : (a b : Bool) → (a || b) ≡ false → (a ≡ false) × (b ≡ false)
+    neither true b h = cc
+    neither false b h = (refl, h)
+
+    lesser : (o p : Ordering) → ordering_then o p ≡ Less → is_eq o ≡ false → o ≡ Less
+    lesser Less p is other = refl
+    lesser Equal p is other = cc
+    lesser Greater p is other = cc
+
+module _ (table : Table) (keys : Keys) where
+  below_taken : (k : Key) (cs : Changes) → AllByRecursion (λ d. key_cmp k d.0.key ≡ Less) cs → T (below_all key_cmp k (taken_rest table keys cs))
+  below_taken k [] h = tt
+  below_taken k (d ∷ cs) h = by (matches table keys d.0.key && not (has_later d.0.key cs)) d.1 (below_taken k cs h.1)
+    where
+      by : (b : Bool) (o : Option Row) → T (below_all key_cmp k (taken_rest table keys cs)) → T (below_all key_cmp k (cons_option (if b then option_map (λ row. (d.0.key, row)) o else None) (taken_rest table keys cs)))
+      by true (Some row) rest = both _ _ (subst (λ o. T (is_lt o)) (sym h.0) tt) rest
+      by true None rest = rest
+      by false o rest = rest
+
+  -- of each key the last change alone is taken
+  sorted_taken : (schema : Schema) (t : ℕ) (m : Changes) → AreSeen schema t m → T (is_sorted key_cmp (taken_rest table keys m))
+  sorted_taken schema t [] h = tt
+  sorted_taken schema t (c ∷ cs) h = by (matches table keys c.0.key) (has_later c.0.key cs) c.1 refl (sorted_taken schema t cs (rest_seen schema t c cs h))
+    where
+      by : (b l : Bool) (o : Option Row) → has_later c.0.key cs ≡ l → T (is_sorted key_cmp (taken_rest table keys cs))
+          → T (is_sorted key_cmp (cons_option (if b && not l then option_map (λ row. (c.0.key, row)) o else None) (taken_rest table keys cs)))
+      by true false (Some row) last rest =
+          both _ _ (below_taken c.0.key cs (none_tied schema c cs h.keys.0 h.keys.1 (sorted_head event_cmp (event_of c) (events_of cs) h.sorted) last)) rest
+      by true false None last rest = rest
+      by true true o last rest = rest
+      by false l o last rest = rest
+
+insert_behind : (e : Key × Row) (s es : State) → T (below_all key_cmp e.0 es) → insert_all (e ∷ s) es ≡ e ∷ insert_all s es
+insert_behind e s [] h = refl
+insert_behind e s (d ∷ es) h =
+    ap (λ o. insert_all (match_ordering o (d ∷ e ∷ s) ((e.0, d.1) ∷ s) (e ∷ insert_entry key_cmp s d.0 d.1)) es)
+    (key_cmp_total.antisymm d.0 e.0 ∙ ap ordering_reverse (is_less (key_cmp e.0 d.0) (first _ _ h)))
+    ∙ insert_behind e (insert_entry key_cmp s d.0 d.1) es (second _ _ h)
+
+-- rows in order are inserted as they are
+insert_rising : (es : State) → T (is_sorted key_cmp es) → insert_all [] es ≡ es
+insert_rising [] h = refl
+insert_rising (e ∷ es) h = insert_behind e [] es (first _ _ h) ∙ ap (λ l. e ∷ l) (insert_rising es (second _ _ h))
+
 sorted_inserted : (es s : State) → T (is_sorted key_cmp s) → T (is_sorted key_cmp (insert_all s es))
 sorted_inserted [] s h = h
 sorted_inserted (e ∷ es) s h = sorted_inserted es _ (sorted_insert key_cmp_total s e.0 e.1 h)
 
-base_is : (schema : Schema) (table : Table) (keys : Keys) (t : ℕ) (m : Changes) → table_at schema table.number ≡ Some table → keys.table ≡ table.number → AreSeen schema t m
-    → insert_all [] (filter_map (entry_taken table keys) (standing (events_of m) (is_of_table table.number) t)) ≡ filter (λ e. matches table keys e.0) (rows_after [] m)
+-- the rows of the events that stand and that the keys take
+pub base_is : (schema : Schema) (table : Table) (keys : Keys) (t : ℕ) (m : Changes) → table_at schema table.number ≡ Some table → keys.table ≡ table.number → AreSeen schema t m
+    → filter_map (entry_taken table keys) (standing (events_of m) (is_of_table table.number) t) ≡ filter (λ e. matches table keys e.0) (rows_after [] m)
 base_is schema table keys t m at same h =
-    ap (insert_all []) (taken_is schema table keys t m at same h)
+    taken_is schema table keys t m at same h
+    ∙ sym (insert_rising (taken_rest table keys m) (sorted_taken table keys schema t m h))
     ∙ same_map key_cmp_total key_cmp-IsAntisymmetric (insert_all [] (taken_rest table keys m)) (filter (λ e. matches table keys e.0) (rows_after [] m))
     (sorted_inserted (taken_rest table keys m) [] tt) (is_sorted-where_key key_cmp (matches table keys) (rows_after [] m) (sorted_base m))
     (λ q. inserted_is table keys m [] q ∙ by q (matches table keys q) (last_change m q) ∙ ap (λ o. cond (matches table keys q) o None) (sym (after_is m [] q tt)) ∙ sym (lookup-filter (matches table keys) q (rows_after [] m)))
@@ -242,9 +301,3 @@ base_is schema table keys t m at same h =
     by q true (Some None) = refl
     by q true (Some (Some r)) = refl
     by q false x = refl
-
--- the rows that a transaction sees and that the keys take
-pub rows_are : (schema : Schema) (table : Table) (keys : Keys) (t : ℕ) (m : Changes) (w : Net) → table_at schema table.number ≡ Some table → keys.table ≡ table.number → AreSeen schema t m → T (is_sorted key_cmp w)
-    → rows_in table keys (standing (events_of m) (is_of_table table.number) t) w ≡ filter (λ e. matches table keys e.0) (rows_seen m w)
-rows_are schema table keys t m w at same h sorted =
-    ap (λ s. apply_net s (filter (λ c. matches table keys c.0) w)) (base_is schema table keys t m at same h) ∙ apply-filter (matches table keys) w (rows_after [] m) (sorted_base m) sorted

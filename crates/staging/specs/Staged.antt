@@ -1,9 +1,11 @@
 -- What a transaction's calls make of its own writes and of the events of its view.
-use Rattle.std.specs.Prelude.{◌≡◌, ℕ, ◌≤◌, List, [], ◌∷◌, ◌++◌, ◌||◌, ◌&&◌, Bool, Option, Some, None, Result, Ok, Err, nat_lt, if◌then◌else◌, length, map, filter, is_some, All}
+use Rattle.std.specs.Prelude.{◌≡◌, ℕ, ◌≤◌, List, [], ◌∷◌, ◌++◌, ◌||◌, ◌&&◌, Bool, false, Option, Some, None, Result, Ok, Err, nat_lt, if◌then◌else◌, length, map, filter, is_some, All}
 use Rattle.std.specs.List.{cons_option, list_any, filter_map}
 use Rattle.std.specs.Option.{option_map}
 use Rattle.std.specs.BTreeMap.{insert_entry, is_at}
-use Rattle.std.specs.Map.{lookup, set_value, remove_entry}
+use Rattle.std.specs.Ordering.{is_le}
+use Rattle.std.specs.Map.{keys_of, lookup, set_value, remove_entry}
+use Rattle.std.specs.List.Sorted.{IsStrictlySortedBy}
 use Rattle.values.specs.declared.key.Key.{Key}
 use Rattle.values.specs.Event.{Event}
 use Rattle.values.specs.declared.period.Period.{Period}
@@ -16,7 +18,7 @@ use Rattle.values.specs.declared.refusal.Refusal.TheVariants.{TooManyWrites}
 use Rattle.values.specs.Order.{key_cmp, is_key}
 use Rattle.values.specs.Log.{State, Net, Row, apply_net}
 use Rattle.values.specs.Versions.{matches}
-use Rattle.values.specs.Writes.{most_written, set_all, insert_all}
+use Rattle.values.specs.Writes.{most_written, set_all}
 use Rattle.values.specs.KeyEncoding.{bytes_of_key, IsShortKey}
 use Rattle.values.specs.KeyReading.{IsKeyOf}
 use Rattle.values.specs.Period.{span_of, overlap}
@@ -104,8 +106,25 @@ AreInSearch table range es = All (λ e. IsInSearch table range e.key) es
 -- the rows of events that the keys take, and the writes that they take over them
 abbrev pub rows_in : Table → Keys → List Event → Net → State
 rows_in table keys es w =
-    apply_net (insert_all [] (filter_map (entry_taken table keys) es))
-    (filter (λ c. matches table keys c.0) w)
+    apply_net (filter_map (entry_taken table keys) es) (filter (λ c. matches table keys c.0) w)
+
+-- the first row's key is not above another
+abbrev pub starts_upto : Key → State → Bool
+starts_upto key [] = false
+starts_upto key (e ∷ m) = is_le (key_cmp e.0 key)
+
+-- the keys of rows, and of the rest of them, are short
+pub record AreShort (rows rest : State) : Type 0 where
+  pub of_rows : All (λ e. IsShortKey e.0) rows
+  pub of_rest : All (λ e. IsShortKey e.0) rest
+
+-- a key's write is put over the rest of some rows, and the rows up to its key are moved behind
+-- others: whatever writes of greater keys are put over the new rest, the rows are in all the same
+pub record PutsNext (key : Key) (row : Option Row) (rows rest new_rows new_rest : State)
+    : Type 0 where
+  pub put : (w : Net) → IsStrictlySortedBy key_cmp (key ∷ keys_of w)
+      → new_rows ++ apply_net new_rest w ≡ rows ++ apply_net rest ((key, row) ∷ w)
+  pub ordered : IsStrictlySortedBy key_cmp (keys_of new_rest)
 
 -- what was written, without the keys that have no row both then and by the events until an instant
 abbrev pub net_in : List Event → ℕ → Net → Net

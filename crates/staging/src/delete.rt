@@ -8,7 +8,6 @@ ghost use Rattle.staging.specs.Staged.{deletions};
 use crate::staged::Staged;
 use searchrange::Search;
 use std::alloc::{AllocError, Global};
-use std::collections::BTreeMap;
 use tsbtree::View;
 use values::{FittingKeys, Key, Refusal, Row};
 
@@ -30,10 +29,10 @@ impl Staged {
     }
 }
 
-fn deletions(alloc: Global, rows: BTreeMap<Key, Row>) -> Result<Vec<(Key, Option<Row>)>, AllocError>
-    ensures { IfOk result (λ v. v.items ≡ deletions rows.entries) }
+fn deletions(alloc: Global, rows: Vec<(Key, Row)>) -> Result<Vec<(Key, Option<Row>)>, AllocError>
+    ensures { IfOk result (λ v. v.items ≡ deletions rows.items) }
 {
-    let mut changes = Vec::new(alloc);
+    let mut changes = Vec::with_capacity(alloc, rows.len())?;
     for (key, _row) in rows {
         changes.push((key, None))?;
     }

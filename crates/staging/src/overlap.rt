@@ -14,7 +14,6 @@ ghost use Rattle.staging.specs.Staged.{keyed_rows, AreSpansOf};
 use crate::staged::Staged;
 use searchrange::{Search, entity_keys};
 use std::alloc::{AllocError, Global};
-use std::collections::BTreeMap;
 use tsbtree::View;
 use values::{FittingKeys, Key, Mem, Period, Row, Span, Table};
 
@@ -105,12 +104,8 @@ impl Staged {
 }
 
 /// Returns the spans of rows, by key.
-fn spans_of(
-    alloc: Global,
-    period: &Period,
-    rows: &BTreeMap<Key, Row>,
-) -> Result<Vec<Span>, AllocError>
-    ensures { IfOk result (λ spans. spans.items ≡ map (λ e. span_of period.now e.1) rows.now.entries) }
+fn spans_of(alloc: Global, period: &Period, rows: &[(Key, Row)]) -> Result<Vec<Span>, AllocError>
+    ensures { IfOk result (λ spans. spans.items ≡ map (λ e. span_of period.now e.1) rows.now) }
 {
     let mut spans = Vec::new(alloc);
     for (_key, row) in rows {

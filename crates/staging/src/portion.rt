@@ -15,7 +15,6 @@ use crate::staged::Staged;
 use crate::update::set_all;
 use searchrange::Search;
 use std::alloc::{AllocError, Global};
-use std::collections::BTreeMap;
 use tsbtree::View;
 use values::{FittingKeys, Key, Mem, Period, Refusal, Row, Set, Span, Table, Value};
 
@@ -71,9 +70,9 @@ impl Staged {
 
 impl Portion<'_> {
     /// Returns the rows whose periods overlap the span, each as wide as the table.
-    fn taken(&self, alloc: Global, found: BTreeMap<Key, Row>) -> Mem<Vec<(Key, Row)>>
+    fn taken(&self, alloc: Global, found: Vec<(Key, Row)>) -> Mem<Vec<(Key, Row)>>
         ensures ok { IfOk result (λ v. v.items ≡ full_rows self.now.table.now
-            (overlap_rows self.now.period.now self.now.span found.entries)) }
+            (overlap_rows self.now.period.now self.now.span found.items)) }
         ensures err { OnlyMemory result }
     {
         let width = self.table.columns.items().len();

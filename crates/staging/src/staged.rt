@@ -1,16 +1,16 @@
 //! A transaction's own writes.
-ghost use Rattle.std.specs.Prelude.{◌≡◌, ◌≢◌, ◌<◌, ◌≤◌, ◌||◌, [], All, None, IfOk, IfErr, OnOk, OnErr, Result, Err, filter, is_some, length};
+ghost use Rattle.std.specs.Prelude.{◌≡◌, ◌≢◌, ◌<◌, ◌≤◌, ◌||◌, [], ◌∷◌, ◌++◌, All, None, IfOk, IfErr, IfSome, IfNone, OnOk, OnErr, Result, Err, filter, is_some, length};
 ghost use Rattle.std.specs.BTreeMap.{IsOrdered, insert_entry};
 ghost use Rattle.std.specs.Map.{keys_of};
-ghost use Rattle.std.specs.List.{cons_option, filter_map, list_any};
+ghost use Rattle.std.specs.List.{filter_map, list_any};
 ghost use Rattle.std.specs.Option.{option_map};
 ghost use Rattle.std.specs.List.Sorted.{IsStrictlySortedBy};
-ghost use Rattle.values.specs.Log.{Changes, row_at, set_row, apply_net};
+ghost use Rattle.values.specs.Log.{Changes, row_at, apply_net};
 ghost use Rattle.values.specs.Order.{key_cmp, is_key};
 ghost use Rattle.values.specs.Tables.{Schema, IsTable, full_row, widened, widest};
 ghost use Rattle.values.specs.Memory.{OnlyMemory};
 ghost use Rattle.values.specs.Versions.{matches};
-ghost use Rattle.values.specs.Writes.{most_written, insert_all, full_rows};
+ghost use Rattle.values.specs.Writes.{most_written, full_rows};
 ghost use Rattle.values.specs.KeyEncoding.{IsShortKey, bytes_of_key};
 ghost use Rattle.values.specs.Fit.{key_fault};
 ghost use Rattle.values.specs.Events.{AreKeysIn, row_until};
@@ -18,13 +18,13 @@ ghost use Rattle.tsbtree.specs.View.{events};
 ghost use Rattle.searchrange.specs.Search.{entry_taken};
 ghost use Rattle.staging.specs.View.{Holds};
 ghost use Rattle.staging.specs.Own.{WhenRead, rows_seen, net_over};
-ghost use Rattle.staging.specs.Staged.{put_all, put_back_one, put_back, put_answer, row_in, sees, first_seen, net_in, row_alone, AreInSearch};
+ghost use Rattle.staging.specs.Staged.{put_all, put_back_one, put_back, put_answer, row_in, sees, first_seen, net_in, row_alone, starts_upto, AreInSearch, AreShort, PutsNext};
 
 use crate::bound::{is_past, least_key};
 use crate::net::Net;
 use searchrange::Search;
 use std::alloc::{AllocError, Global};
-use std::collections::{BTreeMap, BTreeSet};
+use std::collections::{BTreeMap, BTreeSet, VecDeque};
 use std::marker::Model;
 use tsbtree::View;
 use values::{Instant, Key, Keys, Mem, Refusal, Row, SharedEvent, Table, key_bytes, read_values};
@@ -78,11 +78,11 @@ impl Staged {
 
     /// Returns, by key, the rows that the transaction sees and that a search takes, as they are
     /// stored. One key is looked up.
-    pub(crate) fn rows_found(&self, view: &View, search: &Search<'_>) -> Mem<BTreeMap<Key, Row>>
+    pub(crate) fn rows_found(&self, view: &View, search: &Search<'_>) -> Mem<Vec<(Key, Row)>>
         ensures ok { IfOk result (λ found. WhenRead search.now.table view.now self.now (λ schema m.
-            found.entries
+            found.items
             ≡ filter (λ e. matches search.now.table search.now.keys e.0) (rows_seen m self.now))) }
-        ensures short { IfOk result (λ found. All (λ e. IsShortKey e.0) found.entries) }
+        ensures short { IfOk result (λ found. All (λ e. IsShortKey e.0) found.items) }
         ensures err { OnlyMemory result }
     {
         let last = view.last();
@@ -91,30 +91,29 @@ impl Staged {
         }
         let range = search.range(self.alloc)?;
         let standing = view.standing(self.alloc, &range, last)?;
-        let mut found = rows_taken(self.alloc, search, &standing)?;
-        put_taken(
+        let found = rows_taken(self.alloc, search, &standing)?;
+        Ok(with_writes(
             self.alloc,
             search.table(),
             search.keys(),
             &self.writes,
-            &mut found,
-        )?;
-        Ok(found)
+            found,
+        )?)
     }
 
     /// Returns a key with its row, what was written or else what the view has at an instant, where
     /// there is one: it is looked up.
-    fn row_alone(&self, view: &View, last: Instant, key: &Key) -> Mem<BTreeMap<Key, Row>>
+    fn row_alone(&self, view: &View, last: Instant, key: &Key) -> Mem<Vec<(Key, Row)>>
         requires { IsShortKey key.now }
-        ensures ok { IfOk result (λ found. found.entries
+        ensures ok { IfOk result (λ found. found.items
             ≡ row_alone (events view.now) last self.now key.now) }
-        ensures short { IfOk result (λ found. All (λ e. IsShortKey e.0) found.entries) }
+        ensures short { IfOk result (λ found. All (λ e. IsShortKey e.0) found.items) }
         ensures err { OnlyMemory result }
         ensures ordered { IsStrictlySortedBy key_cmp (keys_of self.now) }
     {
-        let mut found = BTreeMap::new(self.alloc);
+        let mut found = Vec::new(self.alloc);
         if let Some(row) = self.row_found(view, last, key)? {
-            found.insert(key.clone()?, row)?;
+            found.push((key.clone()?, row))?;
         }
         Ok(found)
     }
@@ -232,13 +231,13 @@ impl Staged {
 }
 
 /// Makes rows as wide as their table.
-fn full_rows(alloc: Global, table: &Table, found: BTreeMap<Key, Row>) -> Mem<Vec<(Key, Row)>>
+fn full_rows(alloc: Global, table: &Table, found: Vec<(Key, Row)>) -> Mem<Vec<(Key, Row)>>
     requires { length table.now.columns ≤ widest }
-    ensures ok { IfOk result (λ rows. rows.items ≡ full_rows table.now found.entries) }
+    ensures ok { IfOk result (λ rows. rows.items ≡ full_rows table.now found.items) }
     ensures err { OnlyMemory result }
 {
     let width = table.columns.items().len();
-    let mut rows = Vec::new(alloc);
+    let mut rows = Vec::with_capacity(alloc, found.len())?;
     for (key, row) in found {
         rows.push((key, row.widen(width)?))?;
     }
@@ -257,9 +256,9 @@ fn widen(width: usize, row: Option<Row>) -> Mem<Option<Row>>
     }
 }
 
-/// Puts the first changes of a transaction, where there is nothing to put back. `TooManyWrites` as
-/// soon as the keys are too many.
-#[tactic(auto, using(crate::proofs::StagedPutBack::grown_all))]
+/// Puts the first changes of a transaction, where there is nothing to put back: all at once, which
+/// compares each key of a rising list with the next alone. `TooManyWrites` where the keys are too
+/// many.
 fn put_first(
     alloc: Global,
     changes: Vec<(Key, Option<Row>)>,
@@ -270,12 +269,19 @@ fn put_first(
         → (refusal ≡ Refusal.TooManyWrites)
         × (most_written < length (put_all changes.items []))) }
 {
-    let mut writes = BTreeMap::new(alloc);
-    for (key, row) in changes {
-        writes.insert(key, row)?;
-        check_few(&writes)?;
-    }
+    let writes = map_of(alloc, changes)?;
+    check_few(&writes)?;
     Ok(writes)
+}
+
+/// Puts changes into a map, in turn.
+fn map_of(
+    alloc: Global,
+    changes: Vec<(Key, Option<Row>)>,
+) -> Result<BTreeMap<Key, Option<Row>>, AllocError>
+    ensures { IfOk result (λ writes. writes.entries ≡ put_all changes.items []) }
+{
+    changes.into_iter().collect(alloc)
 }
 
 /// Puts changes over what was written, and keeps what was there before. `TooManyWrites` as soon as
@@ -357,48 +363,71 @@ fn put_back_one(writes: &mut BTreeMap<Key, Option<Row>>, key: &Key, before: Opti
 }
 
 /// Reads the rows of events that a search takes.
-fn rows_taken(alloc: Global, search: &Search<'_>, events: &[SharedEvent]) -> Mem<BTreeMap<Key, Row>>
+fn rows_taken(alloc: Global, search: &Search<'_>, events: &[SharedEvent]) -> Mem<Vec<(Key, Row)>>
     ensures ok { IfOk result (λ found. AreInSearch search.now.table search.now.range events.now
-        → found.entries ≡ insert_all [] (filter_map
-        (entry_taken search.now.table search.now.keys) events.now)) }
-    ensures short { IfOk result (λ found. All (λ e. IsShortKey e.0) found.entries) }
+        → found.items
+        ≡ filter_map (entry_taken search.now.table search.now.keys) events.now) }
+    ensures short { IfOk result (λ found. All (λ e. IsShortKey e.0) found.items) }
     ensures err { OnlyMemory result }
 {
-    let mut found = BTreeMap::new(alloc);
+    let mut found = Vec::with_capacity(alloc, events.len())?;
     for event in events {
-        put_entry(&mut found, search.entry_in(alloc, event.event())?)?;
+        if let Some(entry) = search.entry_in(alloc, event.event())? {
+            found.push(entry)?;
+        }
     }
     Ok(found)
 }
 
-/// Puts a row at its key, where there is one.
-fn put_entry(rows: &mut BTreeMap<Key, Row>, entry: Option<(Key, Row)>) -> Result<(), AllocError>
-    ensures ok { OnOk result
-        (rows.new.entries ≡ insert_all rows.old.entries (cons_option entry [])) }
+/// Puts what was written over rows, both in order by key, as far as search keys take it.
+fn with_writes(
+    alloc: Global,
+    table: &Table,
+    keys: &Keys,
+    writes: &BTreeMap<Key, Option<Row>>,
+    found: Vec<(Key, Row)>,
+) -> Result<Vec<(Key, Row)>, AllocError>
+    requires short { All (λ e. IsShortKey e.0) found.items }
+    requires short_writes { All (λ c. IsShortKey c.0) writes.now.entries }
+    ensures put { IfOk result (λ rows. IsStrictlySortedBy key_cmp (keys_of found.items)
+        → rows.items ≡ apply_net found.items
+        (filter (λ c. matches table.now keys.now c.0) writes.now.entries)) }
+    ensures short { IfOk result (λ rows. All (λ e. IsShortKey e.0) rows.items) }
+    ensures ordered { OnOk result (IsOrdered key_cmp writes.now) }
 {
-    if let Some((key, row)) = entry {
-        rows.insert(key, row)?;
+    if writes.len() == 0 {
+        return Ok(found);
     }
-    Ok(())
+    let mut rest = VecDeque::from_vec(found);
+    let mut rows = Vec::with_capacity(alloc, rest.len())?;
+    put_taken(alloc, table, keys, writes, &mut rows, &mut rest)?;
+    rows.append(&mut Vec::from(rest))?;
+    Ok(rows)
 }
 
-/// Puts what was written over rows, as far as the keys take it: of the writes, which are in order
-/// by key, those are looked at that the first key column can have.
+/// Puts the writes that search keys take over the rest of some rows: those up to the last of these
+/// keys are moved behind other rows. Of the writes, which are in order by key, those are looked at
+/// that the first key column can have.
 fn put_taken(
     alloc: Global,
     table: &Table,
     keys: &Keys,
     writes: &BTreeMap<Key, Option<Row>>,
-    found: &mut BTreeMap<Key, Row>,
+    rows: &mut Vec<(Key, Row)>,
+    rest: &mut VecDeque<(Key, Row)>,
 ) -> Result<(), AllocError>
-    ensures put { OnOk result (found.new.entries ≡ apply_net found.old.entries
+    requires short { AreShort rows.old.items rest.old.items }
+    requires short_writes { All (λ c. IsShortKey c.0) writes.now.entries }
+    ensures put { OnOk result (IsStrictlySortedBy key_cmp (keys_of rest.old.items)
+        → rows.new.items ++ rest.new.items ≡ rows.old.items ++ apply_net rest.old.items
         (filter (λ c. matches table.now keys.now c.0) writes.now.entries)) }
+    ensures short { OnOk result (AreShort rows.new.items rest.new.items) }
     ensures ordered { OnOk result (IsOrdered key_cmp writes.now) }
 {
     let least = least_key(alloc, table, keys)?;
     for (key, row) in writes.range(least..) {
         if keys.matches(table, key) {
-            set_row(found, key, row)?;
+            put_next(rows, rest, key, row)?;
         } else if is_past(table, keys, key) {
             return Ok(());
         }
@@ -406,18 +435,52 @@ fn put_taken(
     Ok(())
 }
 
-fn set_row(rows: &mut BTreeMap<Key, Row>, key: &Key, row: &Option<Row>) -> Result<(), AllocError>
-    ensures { OnOk result (rows.new.entries ≡ set_row key.now row.now rows.old.entries) }
+/// Moves the rows of lesser keys from the rest of some rows behind others, and puts what was
+/// written of a key there in place of the row that it had.
+fn put_next(
+    rows: &mut Vec<(Key, Row)>,
+    rest: &mut VecDeque<(Key, Row)>,
+    key: &Key,
+    row: &Option<Row>,
+) -> Result<(), AllocError>
+    requires short { AreShort rows.old.items rest.old.items }
+    requires short_key { IsShortKey key.now }
+    ensures put { OnOk result (IsStrictlySortedBy key_cmp (keys_of rest.old.items) → PutsNext key.now
+        row.now rows.old.items rest.old.items rows.new.items rest.new.items) }
+    ensures short { OnOk result (AreShort rows.new.items rest.new.items) }
 {
-    match row {
-        Some(row) => {
-            rows.insert(key.clone()?, row.clone()?)?;
-        }
-        None => {
-            rows.remove(key);
+    while let Some(entry) = pop_upto(rest, key) {
+        if entry.0.cmp(key).is_lt() {
+            rows.push(entry)?;
         }
     }
+    if let Some(row) = row {
+        rows.push((key.clone()?, row.clone()?))?;
+    }
     Ok(())
+}
+
+/// Takes the first row, where its key is not above another.
+fn pop_upto(rest: &mut VecDeque<(Key, Row)>, key: &Key) -> Option<(Key, Row)>
+    ensures some { IfSome result (λ e. rest.old.items ≡ e ∷ rest.new.items) }
+    ensures none { IfNone result (rest.new.items ≡ rest.old.items) }
+    ensures upto { is_some result ≡ starts_upto key.now rest.old.items }
+{
+    if starts_upto(rest, key) {
+        rest.pop_front()
+    } else {
+        None
+    }
+}
+
+/// Tells whether the first row's key is not above another.
+fn starts_upto(rest: &VecDeque<(Key, Row)>, key: &Key) -> bool
+    ensures { result ≡ starts_upto key.now rest.now.items }
+{
+    match rest.front() {
+        Some((first, _row)) => first.cmp(key).is_le(),
+        None => false,
+    }
 }
 
 /// Returns the row of a key at an instant.

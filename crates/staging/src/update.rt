@@ -12,7 +12,6 @@ ghost use Rattle.staging.specs.Staged.{updates, SetsOneOf};
 use crate::staged::Staged;
 use searchrange::Search;
 use std::alloc::{AllocError, Global};
-use std::collections::BTreeMap;
 use tsbtree::View;
 use values::{FittingKeys, Key, Mem, Refusal, Row, Set, Table};
 
@@ -47,16 +46,16 @@ fn updates(
     alloc: Global,
     table: &Table,
     sets: &[Set],
-    rows: BTreeMap<Key, Row>,
+    rows: Vec<(Key, Row)>,
 ) -> Mem<Vec<(Key, Option<Row>)>>
     requires few { length table.now.columns ≤ widest }
     requires fit { sets_fault table.now [] sets.now ≡ None }
     ensures ok { IfOk result (λ v.
-        v.items ≡ updates sets.now (full_rows table.now rows.entries)) }
+        v.items ≡ updates sets.now (full_rows table.now rows.items)) }
     ensures err { OnlyMemory result }
 {
     let width = table.columns.items().len();
-    let mut changes = Vec::new(alloc);
+    let mut changes = Vec::with_capacity(alloc, rows.len())?;
     for (key, row) in rows {
         let row = row.widen(width)?;
         changes.push((key, Some(set_all(sets, row)?)))?;

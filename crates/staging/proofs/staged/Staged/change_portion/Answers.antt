@@ -22,12 +22,12 @@ invariant_of-portion c = record { has = c.args.keys.good.own_period c.in-Some.pe
 pub changes-requires : goal.changes-requires
 changes-requires c =
     let table = c.args.keys.table.now in
-    subst (All (λ e. length table.columns ≤ length e.1)) (sym (c.deref.ensures.value ∙ c.in_ok-taken.ensures.ok)) (all_full_wide table (overlap_rows c.in-Some.period c.args.span c.in_ok-found.found.entries))
+    subst (All (λ e. length table.columns ≤ length e.1)) (sym (c.deref.ensures.value ∙ c.in_ok-taken.ensures.ok)) (all_full_wide table (overlap_rows c.in-Some.period c.args.span c.in_ok-found.found.items))
 
 pub put-requires : goal.put-requires
 put-requires c =
     c.in_ok-changes.ensures.keys.short
-    (subst (All (λ e. IsShortKey e.0)) (sym (c.deref.ensures.value ∙ c.in_ok-taken.ensures.ok)) (taken_short c.args.keys.table.now c.in-Some.period c.args.span c.in_ok-found.found.entries c.in_ok-found.ensures.short))
+    (subst (All (λ e. IsShortKey e.0)) (sym (c.deref.ensures.value ∙ c.in_ok-taken.ensures.ok)) (taken_short c.args.keys.table.now c.in-Some.period c.args.span c.in_ok-found.found.items c.in_ok-found.ensures.short))
 
 pub returns-clause-answers : goal.returns-clause-answers
 returns-clause-answers c = λ schema m reads ok.
@@ -37,8 +37,8 @@ returns-clause-answers c = λ schema m reads ok.
     let sets = option_map (λ s. s.now) c.args.sets in
     let es = c.in_ok-taken.taken.items in
     let w = c.args.self.now in
-    portion_done table p keys c.args.span sets m w c.put.new.self c.put.result c.in_ok-changes.changes.items c.len.result c.in_ok-found.found.entries es c.in-Some.is
-    (found_by c.args.view.now w c.in_ok-found.found.entries c.in_ok-search.search.table table c.in_ok-search.search.keys keys c.in_ok-search.ensures.table c.in_ok-search.ensures.keys c.in_ok-found.ensures.ok schema m reads)
+    portion_done table p keys c.args.span sets m w c.put.new.self c.put.result c.in_ok-changes.changes.items c.len.result c.in_ok-found.found.items es c.in-Some.is
+    (found_by c.args.view.now w c.in_ok-found.found.items c.in_ok-search.search.table table c.in_ok-search.search.keys keys c.in_ok-search.ensures.table c.in_ok-search.ensures.keys c.in_ok-found.ensures.ok schema m reads)
     c.in_ok-taken.ensures.ok
     (c.in_ok-changes.ensures.ok ∙ ap (λ es. deletions es ++ puts (all_pieces p c.args.span sets es)) c.deref.ensures.value)
     (c.len.ensures ∙ sym c.deref.ensures.len ∙ ap length c.deref.ensures.value)
@@ -50,9 +50,9 @@ returns-clause-keys c = λ schema m reads.
     let keys = c.args.keys.keys.now in
     let w = c.args.self.now in
     let cs = c.in_ok-changes.changes.items in
-    let found : c.in_ok-found.found.entries ≡ filter (λ e. matches table keys e.0) (rows_seen m w) =
-    found_by c.args.view.now w c.in_ok-found.found.entries c.in_ok-search.search.table table c.in_ok-search.search.keys keys c.in_ok-search.ensures.table c.in_ok-search.ensures.keys c.in_ok-found.ensures.ok schema m reads in
+    let found : c.in_ok-found.found.items ≡ filter (λ e. matches table keys e.0) (rows_seen m w) =
+    found_by c.args.view.now w c.in_ok-found.found.items c.in_ok-search.search.table table c.in_ok-search.search.keys keys c.in_ok-search.ensures.table c.in_ok-search.ensures.keys c.in_ok-found.ensures.ok schema m reads in
     let own : All (λ e. IsKeyOf table e.0) c.deref.result.now =
-    subst (All (λ e. IsKeyOf table e.0)) (sym (c.deref.ensures.value ∙ c.in_ok-taken.ensures.ok)) (taken_own schema table c.in-Some.period c.args.span keys c.args.view.now m w c.in_ok-found.found.entries reads c.args.keys.own found) in
+    subst (All (λ e. IsKeyOf table e.0)) (sym (c.deref.ensures.value ∙ c.in_ok-taken.ensures.ok)) (taken_own schema table c.in-Some.period c.args.span keys c.args.view.now m w c.in_ok-found.found.items reads c.args.keys.own found) in
     keys_after schema cs w c.put.new.self c.put.result c.put.ensures.ok c.put.ensures.err reads.keys
     (All-weaker (λ c. IsKeyOf table c.0) (λ c. IsKeyIn schema c.0) (λ c is. key_in schema table c.0 reads.is_table is) cs (c.in_ok-changes.ensures.keys.own own))

@@ -1,12 +1,10 @@
-use Rattle.std.proofs.Common.{rules, ◌≡◌, [], All, ap, filter, filter_map, subst, sym, ◌∙◌}
+use Rattle.std.proofs.Common.{rules, ◌≡◌, [], ap, filter, filter_map, subst, sym, ◌∙◌}
 use Rattle.std.proofs.lemmas.Result.{IfOk-weaker}
-use Rattle.values.specs.KeyEncoding.{IsShortKey}
 use Rattle.std.specs.List.Sorted.{IsStrictlySortedBy}
 use Rattle.std.specs.Map.{keys_of}
-use Rattle.values.specs.Log.{Net, apply_net}
+use Rattle.values.specs.Log.{Net, apply_net, rows_after}
 use Rattle.values.specs.Order.{key_cmp}
 use Rattle.values.specs.Versions.{matches}
-use Rattle.values.specs.Writes.{insert_all}
 use Rattle.keyrange.specs.Range.{is_key_in}
 use Rattle.eventlist.specs.Listing.{standing}
 use Rattle.searchrange.specs.SearchRange.{range_of_table, Covers, IsWithin}
@@ -15,16 +13,15 @@ use Rattle.tsbtree.specs.View.{events}
 use Rattle.staging.specs.Own.{WhenRead, rows_seen}
 use Rattle.staging.specs.Staged.{row_alone, AreInSearch}
 use Rattle.staging.proofs.StagedOne.{one_of_view}
-use Rattle.staging.proofs.StagedAnswered.{rows_short}
-use Rattle.staging.proofs.StagedCalls.{rows_of_view, stand_in_search}
+use Rattle.staging.proofs.StagedCalls.{rows_of_view, stand_in_search, taken_of_view, taken_ordered}
 use Rattle.staging.proofs.staged.Staged.rows_found.Goals as goal
 
 pub returns-in-Some-clause-ok : goal.returns-in-Some-clause-ok
 returns-in-Some-clause-ok c =
     let s = c.args.search.now in
     let w = c.args.self.now in
-    IfOk-weaker c.row_alone.result (λ found. found.entries ≡ row_alone (events c.args.view.now) c.last-last.result w c.in-Some.key.now)
-    (λ found. WhenRead s.table c.args.view.now w (λ schema m. found.entries ≡ filter (λ e. matches s.table s.keys e.0) (rows_seen m w)))
+    IfOk-weaker c.row_alone.result (λ found. found.items ≡ row_alone (events c.args.view.now) c.last-last.result w c.in-Some.key.now)
+    (λ found. WhenRead s.table c.args.view.now w (λ schema m. found.items ≡ filter (λ e. matches s.table s.keys e.0) (rows_seen m w)))
     (λ found is. λ schema m reads.
     is ∙ one_of_view schema s.table s.keys c.args.view.now c.last-last.result m w c.in-Some.key.now reads c.key.ensures.own (search rules) c.last-last.ensures.ordered c.last-last.ensures.upto c.row_alone.ensures.ordered) c.row_alone.ensures.ok
 
@@ -36,14 +33,11 @@ returns-clause-ok c = λ schema m reads.
     let within : IsWithin s.range (range_of_table s.table.number) = subst (λ r. IsWithin r (range_of_table s.table.number)) c.in_ok-range.ensures.range c.in_ok-range.ensures.within in
     let covers : Covers s.table s.keys s.range = subst (Covers s.table s.keys) c.in_ok-range.ensures.range c.in_ok-range.ensures.covers in
     let inside : AreInSearch s.table s.range c.deref.result.now = subst (AreInSearch s.table s.range) (sym stand) (stand_in_search schema s.table s.range c.args.view.now c.last-last.result m within reads.is_table reads.held) in
-    c.in_ok-put_taken.ensures.put
-    ∙ (λ i. apply_net
-    ((c.in_ok-found.ensures.ok inside ∙ ap (λ es. insert_all [] (filter_map (entry_taken s.table s.keys) es)) stand) i)
-    (filter (λ w. matches (c.table.ensures.table i) (c.keys.ensures i) w.0) (c.self.view_is i)))
-    ∙ rows_of_view schema s.table s.keys s.range c.args.view.now c.last-last.result m c.args.self.now reads c.key.ensures.own covers c.last-last.ensures.ordered c.last-last.ensures.upto
-    (subst (λ (w : Net). IsStrictlySortedBy key_cmp (keys_of w)) c.self.view_is c.in_ok-put_taken.ensures.ordered)
-
-pub returns-clause-short : goal.returns-clause-short
-returns-clause-short c =
-    subst (All (λ e. IsShortKey e.0)) (sym c.in_ok-put_taken.ensures.put)
-    (rows_short c.in_ok-found.found.entries (λ w. matches c.table.result.now c.keys.result.now w.0) c.self.inside.writes.entries c.in_ok-found.ensures.short c.self.invariant)
+    let taken : c.in_ok-found.found.items ≡ filter (λ e. matches s.table s.keys e.0) (rows_after [] m) =
+    c.in_ok-found.ensures.ok inside
+    ∙ ap (filter_map (entry_taken s.table s.keys)) stand
+    ∙ taken_of_view schema s.table s.keys s.range c.args.view.now c.last-last.result m c.args.self.now reads c.key.ensures.own covers c.last-last.ensures.ordered c.last-last.ensures.upto in
+    c.in_ok-with_writes.ensures.put (taken_ordered s.table s.keys m c.in_ok-found.found.items taken)
+    ∙ (λ i. apply_net c.in_ok-found.found.items (filter (λ w. matches (c.table.ensures.table i) (c.keys.ensures i) w.0) (c.self.view_is i)))
+    ∙ rows_of_view s.table s.keys m c.args.self.now c.in_ok-found.found.items taken
+    (subst (λ (w : Net). IsStrictlySortedBy key_cmp (keys_of w)) c.self.view_is c.in_ok-with_writes.ensures.ordered)
