@@ -37,7 +37,7 @@ impl Staged {
         if let Some(key) = self.first_overlap(view, table, &keys, rows)? {
             return Err(Refusal::Overlap(key));
         }
-        let changes = insertions(self.alloc, &keys, rows)?;
+        let changes = insertions(self.alloc, keys, rows)?;
         self.put(changes, rows.len())
     }
 }
@@ -49,24 +49,26 @@ fn keys_of(alloc: Global, table: &Table, rows: &[Row]) -> Mem<Vec<Key>>
     ensures own { IfOk result (λ keys. All (IsKeyOf table.now) keys.items) }
     ensures err { OnlyMemory result }
 {
-    let mut keys = Vec::new(alloc);
+    let mut keys = Vec::with_capacity(alloc, rows.len())?;
     for row in rows {
         keys.push(table.key(alloc, row)?)?;
     }
     Ok(keys)
 }
 
+/// Makes the changes that put rows at their keys.
 fn insertions(
     alloc: Global,
-    keys: &[Key],
+    keys: Vec<Key>,
     rows: &[Row],
 ) -> Result<Vec<(Key, Option<Row>)>, AllocError>
-    requires { length keys.now ≡ length rows.now }
-    ensures { IfOk result (λ v. v.items ≡ insertions keys.now rows.now) }
+    requires { length keys.items ≡ length rows.now }
+    ensures { IfOk result (λ v. v.items ≡ insertions keys.items rows.now) }
 {
-    let mut changes = Vec::new(alloc);
-    for (i, key) in keys.iter().enumerate() {
-        changes.push((key.clone()?, Some(rows[i].clone()?)))?;
+    let mut changes = Vec::with_capacity(alloc, rows.len())?;
+    for key in keys {
+        let row = rows[changes.len()].clone()?;
+        changes.push((key, Some(row)))?;
     }
     Ok(changes)
 }

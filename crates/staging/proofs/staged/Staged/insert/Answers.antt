@@ -45,7 +45,7 @@ returns-in-Some-2-clause-answers c = λ schema m reads ok.
 pub put-requires : goal.put-requires
 put-requires c =
     subst (All (λ w. IsShortKey w.0)) (sym c.in_ok-changes.ensures)
-    (inserted_entries IsShortKey c.deref-3.result.now c.args.rows.now (subst (All IsShortKey) (sym c.deref-3.ensures.value) (short_keys c.args.table.now c.in_ok-keys.keys.items c.requires.good c.in_ok-keys.ensures.own)))
+    (inserted_entries IsShortKey c.in_ok-keys.keys.items c.args.rows.now (short_keys c.args.table.now c.in_ok-keys.keys.items c.requires.good c.in_ok-keys.ensures.own))
 
 pub returns-clause-answers : goal.returns-clause-answers
 returns-clause-answers c = λ schema m reads ok.
@@ -57,13 +57,12 @@ returns-clause-answers c = λ schema m reads ok.
     ∙ sym c.in_ok-key.ensures.ok
     ∙ c.in_default.is in
     let free : overlapping c.args.table.now c.args.rows.now (rows_seen m c.args.self.now) ≡ None = sym (c.in_ok-key-2.ensures.ok schema m reads) ∙ c.in_default-2.is in
-    insert_done c.args.table.now c.args.rows.now m c.args.self.now c.put.new.self c.put.result c.in_ok-changes.changes.items none free (c.in_ok-changes.ensures ∙ ap (λ ks. insertions ks c.args.rows.now) (c.deref-3.ensures.value ∙ c.in_ok-keys.ensures.ok))
+    insert_done c.args.table.now c.args.rows.now m c.args.self.now c.put.new.self c.put.result c.in_ok-changes.changes.items none free (c.in_ok-changes.ensures ∙ ap (λ ks. insertions ks c.args.rows.now) c.in_ok-keys.ensures.ok)
     (sorted_from c.args.self.now c.put.ensures.ordered) (c.put.ensures.answer ok) c.put.ensures.ok c.put.ensures.err
 
 pub returns-clause-keys : goal.returns-clause-keys
 returns-clause-keys c = λ schema m reads.
     keys_after schema c.in_ok-changes.changes.items c.args.self.now c.put.new.self c.put.result c.put.ensures.ok c.put.ensures.err reads.keys
     (subst (All (λ w. IsKeyIn schema w.0)) (sym c.in_ok-changes.ensures)
-    (inserted_entries (IsKeyIn schema) c.deref-3.result.now c.args.rows.now
-    (subst (All (IsKeyIn schema)) (sym c.deref-3.ensures.value)
-    (All-weaker (IsKeyOf c.args.table.now) (IsKeyIn schema) (λ k h. key_in schema c.args.table.now k reads.is_table h) c.in_ok-keys.keys.items c.in_ok-keys.ensures.own))))
+    (inserted_entries (IsKeyIn schema) c.in_ok-keys.keys.items c.args.rows.now
+    (All-weaker (IsKeyOf c.args.table.now) (IsKeyIn schema) (λ k h. key_in schema c.args.table.now k reads.is_table h) c.in_ok-keys.keys.items c.in_ok-keys.ensures.own)))
