@@ -1,14 +1,16 @@
 -- That a set of the keys that came before does for their list.
-use Rattle.std.proofs.Common.{◌≡◌, Bool, true, false, ◌||◌, List, [], ◌∷◌, ◌++◌, Some, refl, sym, ap, ◌∙◌, if◌then◌else◌}
+use Rattle.std.proofs.Common.{◌≡◌, ◌+◌, ◌<◌, suc, subst, arith, get_or, length, Bool, true, false, cond, ◌||◌, List, [], ◌∷◌, ◌++◌, Some, refl, sym, ap, ◌∙◌, if◌then◌else◌}
 use Rattle.std.proofs.lemmas.List.Folds.{list_any-append}
-use Rattle.std.specs.Ordering.{match_ordering}
+use Rattle.std.specs.Ordering.{is_eq, match_ordering, ordering_reverse}
 use Rattle.std.specs.declared.cmp.Ordering.{Ordering}
 use Rattle.std.specs.declared.cmp.Ordering.TheVariants.{Less, Equal, Greater}
-use Rattle.std.specs.List.{list_any}
+use Rattle.std.specs.List.{AllAdjacentBelow, AllByRecursion, find, list_any}
+use Rattle.std.specs.List.Sorted.{IsStrictlySortedBy}
+use Rattle.eventlist.proofs.PlaceOrder.{sorted_head, sorted_tail, sorted_cons, sorted_none}
 use Rattle.std.specs.BTreeSet.{insert_key}
 use Rattle.values.specs.declared.key.Key.{Key}
 use Rattle.values.specs.Order.{key_cmp, is_key}
-use Rattle.values.proofs.OrderTotal.{key_cmp-IsAntisymmetric}
+use Rattle.values.proofs.OrderTotal.{key_cmp_total, key_cmp-IsAntisymmetric}
 use Rattle.staging.specs.Staged.{first_seen}
 
 twice : (b r : Bool) → (b || r) ≡ (b || (b || r))
@@ -56,3 +58,52 @@ pub next_seen : (has : Key → Bool) (k : Key) (ks earlier : List Key) → (has 
 next_seen has k ks earlier h =
     same_seen has ks (insert_key key_cmp earlier k) (earlier ++ k ∷ []) (λ q. inserted_last q k earlier)
     ∙ sym (ap (λ (b : Bool). if b then Some k else first_seen has (earlier ++ k ∷ []) ks) h)
+
+-- ---- keys that rise
+
+-- none of them came before
+free_of : (has : Key → Bool) (ks earlier : List Key) → IsStrictlySortedBy key_cmp ks → AllByRecursion (λ k. list_any (is_key k) earlier ≡ false) ks → first_seen has earlier ks ≡ find has ks
+free_of has [] earlier sorted free = refl
+free_of has (k ∷ ks) earlier sorted free =
+    (λ i. if has k || free.0 i then Some k else free_of has ks (earlier ++ k ∷ []) (sorted_tail key_cmp k ks sorted) (more ks (sorted_head key_cmp k ks sorted) free.1) i) ∙ by (has k)
+  where
+    by : (b : Bool) → (if b || false then Some k else find has ks) ≡ cond b (Some k) (find has ks)
+    by true = refl
+    by false = refl
+
+    more : (ls : List Key) → AllByRecursion (λ l. key_cmp k l ≡ Less) ls → AllByRecursion (λ l. list_any (is_key l) earlier ≡ false) ls → AllByRecursion (λ l. list_any (is_key l) (earlier ++ k ∷ []) ≡ false) ls
+    more [] above free = tt
+    more (l ∷ ls) above free = (
+      list_any-append (is_key l) earlier (k ∷ []) ∙ (λ i. free.0 i || (ap is_eq (key_cmp_total.antisymm l k ∙ ap ordering_reverse above.0) i || false)),
+      more ls above.1 free.1,
+    )
+
+pub rising_seen : (has : Key → Bool) (ks : List Key) → IsStrictlySortedBy key_cmp ks → find has ks ≡ first_seen has [] ks
+rising_seen has ks sorted = sym (free_of has ks [] sorted (none ks))
+  where
+    none : (ls : List Key) → AllByRecursion (λ l. list_any (is_key l) [] ≡ false) ls
+    none [] = tt
+    none (l ∷ ls) = (refl, none ls)
+
+-- keys of which each is below the next rise
+pub rising : (ks : List Key) → AllAdjacentBelow (λ k l. key_cmp k l ≡ Less) ks (length ks) → IsStrictlySortedBy key_cmp ks
+rising [] h = sorted_none key_cmp
+rising (k ∷ ks) h =
+    with_first (
+    rising ks (λ i d lt.
+    let next : suc i + 1 ≡ suc (i + 1) = omega arith in
+    subst (λ j. key_cmp (get_or ks i d) (get_or (k ∷ ks) j d) ≡ Less) next (h (suc i) d (omega arith)))
+    )
+  where
+    further : (l : Key) (ls : List Key) → key_cmp k l ≡ Less → AllByRecursion (λ m. key_cmp l m ≡ Less) ls → AllByRecursion (λ m. key_cmp k m ≡ Less) ls
+    further l [] is h = tt
+    further l (m ∷ ls) is h = (key_cmp_total.trans k l m is h.0, further l ls is h.1)
+
+    above : (ls : List Key) → (1 < suc (length ls) → key_cmp k (get_or ls 0 k) ≡ Less) → IsStrictlySortedBy key_cmp ls → AllByRecursion (λ m. key_cmp k m ≡ Less) ls
+    above [] next h = tt
+    above (l ∷ ls) next h =
+        let is : key_cmp k l ≡ Less = next (omega arith) in
+        (is, further l ls is (sorted_head key_cmp l ls h))
+
+    with_first : IsStrictlySortedBy key_cmp ks → IsStrictlySortedBy key_cmp (k ∷ ks)
+    with_first sorted = sorted_cons key_cmp k ks (above ks (h 0 k) sorted) sorted

@@ -1,5 +1,5 @@
 //! A transaction's own writes.
-ghost use Rattle.std.specs.Prelude.{◌≡◌, ◌≢◌, ◌<◌, ◌≤◌, ◌||◌, [], ◌∷◌, ◌++◌, All, None, IfOk, IfErr, IfSome, IfNone, OnOk, OnErr, Result, Err, filter, is_some, length};
+ghost use Rattle.std.specs.Prelude.{◌≡◌, ◌≢◌, ◌<◌, ◌≤◌, ◌||◌, [], ◌∷◌, ◌++◌, All, None, IfOk, IfErr, IfSome, IfNone, OnOk, OnErr, Result, Err, true, filter, find, is_some, length};
 ghost use Rattle.std.specs.BTreeMap.{IsOrdered, insert_entry};
 ghost use Rattle.std.specs.Map.{keys_of};
 ghost use Rattle.std.specs.List.{filter_map, list_any};
@@ -185,7 +185,8 @@ impl Staged {
         Ok(seen || earlier.contains(key))
     }
 
-    /// Finds the first of the keys that the transaction sees, or that came before.
+    /// Finds the first of the keys that the transaction sees, or that came before. No key came
+    /// before where they rise.
     pub(crate) fn first_seen(&self, view: &View, last: Instant, keys: &[Key]) -> Mem<Option<Key>>
         requires { All IsShortKey keys.now }
         ensures ok { IfOk result (λ found. found
@@ -195,6 +196,34 @@ impl Staged {
     {
         // The length of a map comes with its order.
         let _written = self.writes.len();
+        if rise(keys) {
+            return self.first_there(view, last, keys);
+        }
+        self.first_taken(view, last, keys)
+    }
+
+    /// Finds the first of the keys that the transaction sees.
+    fn first_there(&self, view: &View, last: Instant, keys: &[Key]) -> Mem<Option<Key>>
+        requires { All IsShortKey keys.now }
+        ensures ok { IfOk result (λ found. found
+            ≡ find (sees (events view.now) last self.now) keys.now) }
+        ensures err { OnlyMemory result }
+    {
+        for key in keys {
+            if self.sees(view, last, key)? {
+                return Ok(Some(key.clone()?));
+            }
+        }
+        Ok(None)
+    }
+
+    /// Finds the first of the keys that the transaction sees, or that came before.
+    fn first_taken(&self, view: &View, last: Instant, keys: &[Key]) -> Mem<Option<Key>>
+        requires { All IsShortKey keys.now }
+        ensures ok { IfOk result (λ found. found
+            ≡ first_seen (sees (events view.now) last self.now) [] keys.now) }
+        ensures err { OnlyMemory result }
+    {
         let mut earlier = BTreeSet::new(self.alloc);
         for key in keys {
             if self.is_taken(view, last, key, &earlier)? {
@@ -228,6 +257,18 @@ impl Staged {
         }
         Ok(count)
     }
+}
+
+/// Tells whether keys strictly rise.
+fn rise(keys: &[Key]) -> bool
+    ensures { result ≡ true → IsStrictlySortedBy key_cmp keys.now }
+{
+    for i in 1..keys.len() {
+        if keys[i - 1].cmp(&keys[i]).is_ge() {
+            return false;
+        }
+    }
+    true
 }
 
 /// Makes rows as wide as their table.
