@@ -1,7 +1,7 @@
 //! A transaction's own writes.
-ghost use Rattle.std.specs.Prelude.{◌≡◌, ◌≢◌, ◌<◌, ◌≤◌, ◌||◌, [], ◌∷◌, ◌++◌, All, None, IfOk, IfErr, IfSome, IfNone, OnOk, OnErr, Result, Err, true, filter, find, is_some, length};
-ghost use Rattle.std.specs.BTreeMap.{IsOrdered, insert_entry};
-ghost use Rattle.std.specs.Map.{keys_of};
+ghost use Rattle.std.specs.Prelude.{◌≡◌, ◌≢◌, ◌<◌, ◌≤◌, ◌||◌, [], ◌∷◌, ◌++◌, All, None, IfOk, IfErr, IfSome, IfNone, OnOk, OnErr, Result, Err, true, filter, find, is_some, length, option_copied};
+ghost use Rattle.std.specs.BTreeMap.{IsOrdered, insert_entry, is_at};
+ghost use Rattle.std.specs.Map.{keys_of, lookup};
 ghost use Rattle.std.specs.List.{filter_map, list_any};
 ghost use Rattle.std.specs.Option.{option_map};
 ghost use Rattle.std.specs.List.Sorted.{IsStrictlySortedBy};
@@ -146,6 +146,17 @@ impl Staged {
         Ok(Net::of(net))
     }
 
+    /// Returns what was written of a key, where it was. A key behind all that were written takes
+    /// one comparison.
+    fn written(&self, key: &Key) -> Option<&Option<Row>>
+        ensures { option_copied result ≡ lookup (is_at (key_cmp key.now)) self.now }
+    {
+        match self.writes.last_key_value() {
+            Some((greatest, _row)) if greatest.cmp(key).is_lt() => None,
+            _ => self.writes.get(key),
+        }
+    }
+
     /// Returns the row of a key: what was written, or else what the view has at an instant.
     fn row_found(&self, view: &View, last: Instant, key: &Key) -> Mem<Option<Row>>
         requires { IsShortKey key.now }
@@ -155,7 +166,7 @@ impl Staged {
     {
         // The length of a map comes with its order.
         let _written = self.writes.len();
-        match self.writes.get(key) {
+        match self.written(key) {
             Some(row) => Ok(row.clone()?),
             None => Ok(committed_row(self.alloc, view, last, key)?),
         }
@@ -168,7 +179,7 @@ impl Staged {
         ensures ok { IfOk result (λ b. b ≡ sees (events view.now) last self.now key.now) }
         ensures err { OnlyMemory result }
     {
-        match self.writes.get(key) {
+        match self.written(key) {
             Some(row) => Ok(row.is_some()),
             None => Ok(has_row(self.alloc, view, last, key)?),
         }
