@@ -77,6 +77,8 @@ fn a_name_has_1_to_64_bytes_and_is_no_reserved_word(rt: HostRuntime) {
     let letters = [b'a'; 65];
     assert!(rt; is_name(letters.split_at(64).0) && !is_name(&letters));
     assert!(rt; is_reserved(b"overLaps") && !is_reserved(b"overlap"));
+    assert!(rt; is_reserved(b"add") && is_reserved(b"Key") && is_reserved(b"WORK"));
+    assert!(rt; !is_reserved(b"") && !is_reserved(b"_key") && !is_reserved(b"zone"));
 }
 
 #[test]

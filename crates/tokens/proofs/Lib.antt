@@ -6,3 +6,4 @@ pub mod RunRead
 pub mod PlaceSame
 pub mod TokenSame
 pub mod WordCases
+pub mod NameLetters

@@ -1,5 +1,5 @@
 -- Names, and the words that are none.
-use Rattle.std.specs.Prelude.{ℕ, List, [], ◌∷◌, ◌&&◌, Bool, false, Ok, Err, not, nat_le, length, codes, if◌then◌else◌}
+use Rattle.std.specs.Prelude.{ℕ, List, [], ◌∷◌, ◌&&◌, Bool, false, Ok, Err, not, nat_le, length, codes, zero, suc, if◌then◌else◌}
 use Rattle.std.specs.Char.{is_ascii_digit}
 use Rattle.std.specs.List.{list_any}
 use Rattle.values.specs.Names.{same_name}
@@ -24,6 +24,12 @@ reserved_words =
 
 unfoldable pub is_reserved : List ℕ → Bool
 is_reserved name = list_any (λ word. same_name word name) reserved_words
+
+-- one of the lists, by its place, has an item that passes
+abbrev pub any_at : {L W : Type 0} → (W → Bool) → (L → List W) → List L → ℕ → Bool
+any_at test items [] place = false
+any_at test items (l ∷ ls) zero = list_any test (items l)
+any_at test items (l ∷ ls) (suc place) = any_at test items ls place
 
 -- the bytes that a name may have
 abbrev pub longest_name : ℕ
