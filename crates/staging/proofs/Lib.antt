@@ -10,8 +10,8 @@ pub mod StagedEntries
 pub mod BoundKept
 pub mod ViewKeyTable
 pub mod ViewNarrowed
-pub mod MapBuilt
-pub mod MergedRows
+pub mod StagedBuilt
+pub mod StagedMerged
 pub mod NetEvents
 pub mod StagedPutBack
 pub mod StagedSeen

@@ -3,7 +3,7 @@ use Rattle.std.specs.BTreeMap.{IsFromIterResult}
 use Rattle.std.specs.Iterator.Runs.{EveryRun, ItemsAre, Trigger, WholeRun}
 use Rattle.std.specs.Vec.Iter.{into_iter_items, into_iter_steps}
 use Rattle.values.specs.Order.{key_cmp}
-use Rattle.staging.proofs.MapBuilt.{built_is}
+use Rattle.staging.proofs.StagedBuilt.{built_is}
 use Rattle.staging.proofs.NetEvents.{weaker}
 use Rattle.staging.proofs.staged.map_of.Goals as goal
 

@@ -6,7 +6,7 @@ use Rattle.std.specs.declared.cmp.Ordering.{Ordering}
 use Rattle.std.specs.declared.cmp.Ordering.TheVariants.{Less, Equal, Greater}
 use Rattle.values.specs.Order.{key_cmp}
 use Rattle.staging.specs.Staged.{starts_upto}
-use Rattle.staging.proofs.MergedRows.{MovesUpto, moved_none, moved_below, moved_own, put_there, short_moved, short_dropped}
+use Rattle.staging.proofs.StagedMerged.{MovesUpto, moved_none, moved_below, moved_own, put_there, short_moved, short_dropped}
 use Rattle.staging.proofs.staged.put_next.Goals as goal
 
 lesser : (o : Ordering) → is_lt o ≡ true → o ≡ Less

@@ -3,7 +3,7 @@ use Rattle.std.specs.List.Sorted.{IsStrictlySortedBy}
 use Rattle.std.specs.Map.{keys_of}
 use Rattle.values.specs.Order.{key_cmp}
 use Rattle.staging.specs.Staged.{AreShort}
-use Rattle.staging.proofs.MergedRows.{MovesUpto}
+use Rattle.staging.proofs.StagedMerged.{MovesUpto}
 use Rattle.staging.proofs.staged.put_next.Given as goal
 
 abbrev pub invariant-loop-entry : goal.invariant-loop-entry

@@ -10,7 +10,7 @@ use Rattle.values.specs.Log.{Net, Row, apply_net}
 use Rattle.values.specs.Order.{key_cmp}
 use Rattle.values.specs.Versions.{matches}
 use Rattle.staging.proofs.BoundKept.{kept_from, none_past, rest_above, rest_ordered, left_ordered}
-use Rattle.staging.proofs.MergedRows.{moved_more, moved_same}
+use Rattle.staging.proofs.StagedMerged.{moved_more, moved_same}
 use Rattle.staging.proofs.StagedCalls.{kept_entries}
 use Rattle.staging.proofs.staged.put_taken.Goals as goal
 

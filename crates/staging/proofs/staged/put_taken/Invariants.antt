@@ -5,7 +5,7 @@ use Rattle.values.specs.KeyEncoding.{IsShortKey}
 use Rattle.values.specs.Order.{key_cmp}
 use Rattle.values.specs.Versions.{matches}
 use Rattle.staging.specs.Staged.{AreShort}
-use Rattle.staging.proofs.MergedRows.{MovesAll}
+use Rattle.staging.proofs.StagedMerged.{MovesAll}
 use Rattle.staging.proofs.staged.put_taken.Given as goal
 
 abbrev pub invariant-loop-key : goal.invariant-loop-key
