@@ -43,6 +43,16 @@ pub(crate) fn one_row(rt: &impl Abort, alloc: Global, number: i64, name: &str) -
     rows.expect(rt, "there is memory")
 }
 
+/// Employees with these numbers.
+pub(crate) fn employees(rt: &impl Abort, alloc: Global, numbers: &[i64]) -> Vec<Row> {
+    let mut rows = Vec::new(alloc);
+    for number in numbers {
+        let row = employee(rt, alloc, *number, "n");
+        rows.push(row).expect(rt, "there is memory");
+    }
+    rows
+}
+
 /// So many employees, from 0 on.
 pub(crate) fn many(rt: &impl Abort, alloc: Global, count: i64) -> Vec<Row> {
     let mut rows = Vec::new(alloc);

@@ -1,7 +1,8 @@
 //! Own writes over what was committed before.
 
 use crate::sample::{
-    ann, by, employee, empty_tree, key, many, nothing_staged, one_row, schema, sets, write,
+    ann, by, employee, employees, empty_tree, key, many, nothing_staged, one_row, schema, sets,
+    write,
 };
 use searchrange::{Search, range_of_table};
 use staging::Staged;
@@ -114,6 +115,24 @@ impl Desk {
         let search = Search::new(self.alloc, all).expect(rt, "there is memory");
         let found = self.staged.rows(self.tree.current(), &search);
         found.expect(rt, "there is memory").len()
+    }
+
+    /// Whether the transaction sees employees with these numbers, in this order, and no other.
+    fn sees_in_order(&self, rt: &impl Abort, numbers: &[i64]) -> bool {
+        let schema = schema(rt, self.alloc);
+        let all = Keys::all(self.alloc, 1);
+        let all = fit_keys(&schema, 1, &all).expect(rt, "they fit");
+        let search = Search::new(self.alloc, all).expect(rt, "there is memory");
+        let found = self.staged.rows(self.tree.current(), &search);
+        let found = found.expect(rt, "there is memory");
+        let mut rest = numbers;
+        for (seen, _row) in &found {
+            match rest {
+                [number, others @ ..] if *seen == key(rt, self.alloc, *number) => rest = others,
+                _ => return false,
+            }
+        }
+        rest.is_empty()
     }
 
     /// How many rows the transaction sees of an employee, and how many of them have this name.
@@ -261,6 +280,41 @@ fn one_key_is_looked_up_over_own_writes(rt: HostRuntime) {
     assert!(rt; desk.count_called(&rt, 1, "Fay") == 1);
     assert!(rt; desk.count_of(&rt, 1, "Fay") == (1, 1));
     assert!(rt; desk.count_of(&rt, 2, "Fay") == (1, 0));
+}
+
+#[test]
+fn own_writes_lie_among_the_rows_by_key(rt: HostRuntime) {
+    let mut desk = desk_of_ann(&rt, rt.alloc());
+    assert!(rt; desk.sees_in_order(&rt, &[1]));
+    assert!(rt; desk.hire(&rt, 0, "Al") == 1);
+    assert!(rt; desk.sees_in_order(&rt, &[0, 1]));
+    assert!(rt; desk.hire(&rt, 3, "Cy") == 1);
+    assert!(rt; desk.sees_in_order(&rt, &[0, 1, 3]));
+    assert!(rt; desk.count_renamed(&rt, "Fay") == 3);
+    assert!(rt; desk.count_deleted(&rt, 1) == 1);
+    assert!(rt; desk.sees_in_order(&rt, &[0, 3]));
+    assert!(rt; desk.hire(&rt, 1, "Bo") == 1);
+    assert!(rt; desk.sees_in_order(&rt, &[0, 1, 3]));
+    assert!(rt; desk.count_of(&rt, 1, "Bo") == (1, 1) && desk.count_of(&rt, 3, "Fay") == (1, 1));
+}
+
+#[test]
+fn rows_are_inserted_in_any_order_of_their_keys(rt: HostRuntime) {
+    let mut desk = desk_of_none(&rt, rt.alloc());
+    for (numbers, twice) in &[
+        ([5, 5], Some(5)),
+        ([5, 4], None),
+        ([6, 7], None),
+        ([8, 7], Some(7)),
+    ] {
+        let rows = employees(&rt, rt.alloc(), numbers);
+        let answer = match twice {
+            Some(number) => Err(Refusal::DuplicateKey(key(&rt, rt.alloc(), *number))),
+            None => Ok(2),
+        };
+        assert!(rt; desk.insert(&rt, &rows) == answer);
+    }
+    assert!(rt; desk.sees_in_order(&rt, &[4, 5, 6, 7]));
 }
 
 #[test]
