@@ -4,6 +4,7 @@ ghost use Rattle.values.specs.KeyEncoding.{IsShortKey};
 
 use crate::sample::{key, schema};
 use std::alloc::Global;
+use std::cmp::Ordering;
 use std::process::Abort;
 use values::{
     Chars, Comparison, Key, KeyBytes, Keys, Operator, Table, Value, Values, key_bytes, ordinal_of,
@@ -115,6 +116,51 @@ fn the_ordinals_of_numbers_rise_from_0(rt: HostRuntime) {
     assert_eq!(rt; ordinal_of(-1), (1 << 63) - 1);
     assert_eq!(rt; ordinal_of(0), 1 << 63);
     assert_eq!(rt; ordinal_of(i64::MAX), u64::MAX);
+}
+
+/// Bytes in rising order: none, few, and some that differ on both sides of the first byte and of
+/// each eight behind it.
+const RISING_BYTES: &[&[u8]] = &[
+    b"",
+    b"\x00",
+    b"\x00\xff",
+    b"\x01",
+    b"\x01aaaaaaa",
+    b"\x01aaaaaaaa",
+    b"\x01aaaaaaaa\x00",
+    b"\x01aaaaaaaaaaaaaaaa",
+    b"\x01aaaaaaaaaaaaaaaab",
+    b"\x01aaaaaaaaaaaaaaab",
+    b"\x01aaaaaaaab",
+    b"\x01aaaaaaaa\xff",
+    b"\x01aaaaaaab",
+    b"\x01aaaaaab\x00",
+    b"\x01\xffaaaaaaa",
+    b"\x02",
+];
+
+/// Tells whether the keys of these bytes are in that order.
+fn are_keys_so(
+    rt: &impl Abort,
+    alloc: Global,
+    first: &[u8],
+    second: &[u8],
+    order: Ordering,
+) -> bool {
+    key(rt, alloc, first).cmp(&key(rt, alloc, second)) == order
+}
+
+#[test]
+fn key_bytes_are_in_the_order_of_their_bytes(rt: HostRuntime) {
+    for (place, first) in RISING_BYTES.iter().enumerate() {
+        for (other, second) in RISING_BYTES.iter().enumerate() {
+            let order = place.cmp(&other);
+            assert!(rt;
+                are_keys_so(&rt, rt.alloc(), first, second, order),
+                "at {place} and {other}"
+            );
+        }
+    }
 }
 
 /// Whether so many bytes are a key's.
