@@ -12,7 +12,9 @@ use book::{Book, Closed};
 use growlog::{NewLog, StoreName};
 use journal::{JournalGone, Receipt, SharedEntry};
 use std::alloc::Global;
-use std::sync::{Mutex, Wait};
+use std::hint::spin_loop;
+use std::sync::{Mutex, MutexGuard, Wait};
+use std::thread::yield_now;
 use validation::{Cut, PackedNode};
 use values::{Instant, Mem, Refusal, Schema};
 
@@ -30,6 +32,12 @@ pub struct Unclosed<J: StoreName> {
     pub store: LockedStore<J>,
     pub receipts: Vec<Receipt<J>>,
 }
+
+/// How often the lock is tried before a thread sleeps until it is free.
+const TRIES: u32 = 200;
+
+/// How many of these tries come before other threads are let run between them.
+const TRIES_AT_ONCE: u32 = 100;
 
 impl<J: StoreName> LockedStore<J> {
     /// Makes a store of these tables to which nothing has happened. Out of memory is the only
@@ -65,6 +73,22 @@ impl<J: StoreName> LockedStore<J> {
         self.schema == session.schema
     }
 
+    /// Takes the lock. Who has it has it for some microseconds, and a thread takes longer to sleep
+    /// and to be woken; so before it sleeps it tries for a while, and then lets others run between.
+    fn locked<R: Wait>(&self, rt: &R) -> MutexGuard<'_, Book<J>> {
+        for turn in 0..TRIES {
+            if let Some(book) = self.book.try_lock() {
+                return book;
+            }
+            if turn < TRIES_AT_ONCE {
+                spin_loop();
+            } else {
+                yield_now();
+            }
+        }
+        self.book.lock(rt)
+    }
+
     /// Begins a session's transaction, which sees what its receipt's entry shows. `NoTable` where
     /// the session is of other tables, `InTransaction` where one is open, `JournalFull` where there
     /// is no room for one more entry. After a refusal nothing has changed.
@@ -97,7 +121,7 @@ impl<J: StoreName> LockedStore<J> {
         if session.transaction.is_some() {
             return Err(Refusal::InTransaction);
         }
-        let opening = self.book.lock(rt).begin(session.number, session.receipt)?;
+        let opening = self.locked(rt).begin(session.number, session.receipt)?;
         Ok(session.take(opening))
     }
 
@@ -147,7 +171,7 @@ impl<J: StoreName> LockedStore<J> {
             return Err(Refusal::NoTransaction);
         };
         let (net, changes) = nets(&own.transaction)?;
-        let mut book = self.book.lock(rt);
+        let mut book = self.locked(rt);
         session.commit_at(&mut *book, net, changes, reading)
     }
 
@@ -158,7 +182,7 @@ impl<J: StoreName> LockedStore<J> {
         ensures split { IfOk result (λ r. IsSplitOf cut r.entry) }
         ensures why { OnlyRoom result }
     {
-        self.book.lock(rt).split(cut)
+        self.locked(rt).split(cut)
     }
 
     /// Puts a block in the place of its node, where that is in the tree unpacked: whether it was is
@@ -168,7 +192,7 @@ impl<J: StoreName> LockedStore<J> {
         ensures install { IfOk result (λ r. IsInstallOf packed r.entry) }
         ensures why { OnlyRoom result }
     {
-        self.book.lock(rt).install(packed)
+        self.locked(rt).install(packed)
     }
 
     /// Closes the store where the receipts are those of its entries, one for each, in whatever
