@@ -14,6 +14,7 @@ pub mod LineEnds
 pub mod MeaningOfLines
 pub mod GrammarMoves
 pub mod PrintRead
+pub mod PrintEnds
 pub mod PrintQuotes
 pub mod LineSame
 pub mod TokenSame

@@ -1,8 +1,9 @@
 //! Replies as they are printed.
 #![tactic(auto, using(crate::proofs::WriterPrefixes::joins))]
 
+ghost use Rattle.std.specs.Fmt.{signed_decimal};
 ghost use Rattle.std.specs.List.{list_any};
-ghost use Rattle.std.specs.Prelude.{◌≡◌, ◌==◌, ◌++◌, ◌∷◌, [], decimal, codes, flat_map};
+ghost use Rattle.std.specs.Prelude.{◌≡◌, List, ℕ, ◌==◌, ◌++◌, ◌∷◌, [], decimal, codes, flat_map};
 ghost use Rattle.statement.specs.Writer.{Prints};
 ghost use Rattle.statement.specs.Print.{line, numbered, quoted_byte, quoted, value_text, next_text, values_text, end_text, row_line, shown_line, listing_text, refusal_text, reply_text};
 
@@ -98,8 +99,8 @@ fn print_winner<W: Write>(writer: &mut W, key: &Key, instant: Instant) -> Printe
     ensures { Prints (W.contents writer.old) (W.contents writer.new) result
         (values_text key.now.parts ++ numbered (codes " at ") instant) }
 {
-    print_values(writer, key.parts.items())?;
-    print_numbered(writer, b" at ", instant)
+    print_values(writer, key.parts.items(), b") at ")?;
+    print_number_line(writer, instant)
 }
 
 fn print_listing<W: Write>(writer: &mut W, listing: &Listing) -> Printed
@@ -157,16 +158,8 @@ fn print_shown_lines<W: Write>(writer: &mut W, shown: &[Shown]) -> Printed
 fn print_shown<W: Write>(writer: &mut W, shown: &Shown) -> Printed
     ensures { Prints (W.contents writer.old) (W.contents writer.new) result (shown_line shown.now) }
 {
-    print_values(writer, shown.row.values())?;
-    print_period(writer, shown.from, shown.to)
-}
-
-fn print_period<W: Write>(writer: &mut W, from: Instant, to: Option<Instant>) -> Printed
-    ensures { Prints (W.contents writer.old) (W.contents writer.new) result
-        (codes " from " ++ (decimal from ++ (codes " to " ++ line (end_text to)))) }
-{
-    write_all(writer, b" from ")?;
-    print_ends(writer, from, to)
+    print_values(writer, shown.row.values(), b") from ")?;
+    print_ends(writer, shown.from, shown.to)
 }
 
 fn print_ends<W: Write>(writer: &mut W, from: Instant, to: Option<Instant>) -> Printed
@@ -191,43 +184,53 @@ fn print_values_line<W: Write>(writer: &mut W, values: &[Value]) -> Printed
     ensures { Prints (W.contents writer.old) (W.contents writer.new) result
         (line (values_text values.now)) }
 {
-    print_values(writer, values)?;
-    write_all(writer, b"\n")
+    print_values(writer, values, b")\n")
 }
 
-/// Writes values in parentheses.
-fn print_values<W: Write>(writer: &mut W, values: &[Value]) -> Printed
-    ensures { Prints (W.contents writer.old) (W.contents writer.new) result
-        (values_text values.now) }
+/// Writes values in parentheses. `ends` is the one that closes them and what is behind it: they are
+/// one piece for the writer.
+#[tactic(auto, using(crate::proofs::PrintEnds::ended_none, crate::proofs::PrintEnds::ended_first))]
+fn print_values<W: Write>(writer: &mut W, values: &[Value], ends: &[u8]) -> Printed
+    ensures { (behind : List ℕ) → ends.now ≡ codes ")" ++ behind
+        → Prints (W.contents writer.old) (W.contents writer.new) result
+        (values_text values.now ++ behind) }
 {
     match values {
-        [] => write_all(writer, b"()"),
-        [first, others @ ..] => print_first(writer, first, others),
+        [] => print_none(writer, ends),
+        [first, others @ ..] => print_first(writer, first, others, ends),
     }
 }
 
-fn print_first<W: Write>(writer: &mut W, first: &Value, others: &[Value]) -> Printed
+fn print_none<W: Write>(writer: &mut W, ends: &[u8]) -> Printed
     ensures { Prints (W.contents writer.old) (W.contents writer.new) result
-        (values_text (first.now ∷ others.now)) }
+        (codes "(" ++ ends.now) }
 {
     write_all(writer, b"(")?;
-    print_inside(writer, first, others)
+    write_all(writer, ends)
 }
 
-fn print_inside<W: Write>(writer: &mut W, first: &Value, others: &[Value]) -> Printed
+fn print_first<W: Write>(writer: &mut W, first: &Value, others: &[Value], ends: &[u8]) -> Printed
     ensures { Prints (W.contents writer.old) (W.contents writer.new) result
-        (value_text first.now ++ (flat_map next_text others.now ++ codes ")")) }
+        (codes "(" ++ (value_text first.now ++ (flat_map next_text others.now ++ ends.now))) }
+{
+    write_all(writer, b"(")?;
+    print_inside(writer, first, others, ends)
+}
+
+fn print_inside<W: Write>(writer: &mut W, first: &Value, others: &[Value], ends: &[u8]) -> Printed
+    ensures { Prints (W.contents writer.old) (W.contents writer.new) result
+        (value_text first.now ++ (flat_map next_text others.now ++ ends.now)) }
 {
     print_value(writer, first)?;
-    print_others(writer, others)
+    print_others(writer, others, ends)
 }
 
-fn print_others<W: Write>(writer: &mut W, others: &[Value]) -> Printed
+fn print_others<W: Write>(writer: &mut W, others: &[Value], ends: &[u8]) -> Printed
     ensures { Prints (W.contents writer.old) (W.contents writer.new) result
-        (flat_map next_text others.now ++ codes ")") }
+        (flat_map next_text others.now ++ ends.now) }
 {
     print_next_values(writer, others)?;
-    write_all(writer, b")")
+    write_all(writer, ends)
 }
 
 fn print_next_values<W: Write>(writer: &mut W, values: &[Value]) -> Printed
@@ -243,8 +246,29 @@ fn print_next_values<W: Write>(writer: &mut W, values: &[Value]) -> Printed
 fn print_next<W: Write>(writer: &mut W, value: &Value) -> Printed
     ensures { Prints (W.contents writer.old) (W.contents writer.new) result (next_text value.now) }
 {
+    match value {
+        Value::Text(text) => print_next_text(writer, text.text().as_bytes()),
+        Value::Int(number) => print_next_number(writer, *number),
+        Value::Bool(true) => write_all(writer, b", true"),
+        Value::Bool(false) => write_all(writer, b", false"),
+        Value::Null => write_all(writer, b", null"),
+    }
+}
+
+fn print_next_text<W: Write>(writer: &mut W, text: &[u8]) -> Printed
+    ensures { Prints (W.contents writer.old) (W.contents writer.new) result
+        (codes ", '" ++ (quoted text.now ++ codes "'")) }
+{
+    write_all(writer, b", '")?;
+    print_text(writer, text)
+}
+
+fn print_next_number<W: Write>(writer: &mut W, number: i64) -> Printed
+    ensures { Prints (W.contents writer.old) (W.contents writer.new) result
+        (codes ", " ++ signed_decimal number) }
+{
     write_all(writer, b", ")?;
-    print_value(writer, value)
+    print_number(writer, number)
 }
 
 fn print_value<W: Write>(writer: &mut W, value: &Value) -> Printed
