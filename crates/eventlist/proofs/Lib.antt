@@ -6,3 +6,4 @@ pub mod ListingRanges
 pub mod PlaceParts
 pub mod RangeEvents
 pub mod KeyGroupJumps
+pub mod KeyGroupEvents

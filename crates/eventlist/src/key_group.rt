@@ -5,8 +5,8 @@ ghost use Rattle.std.specs.Option.{option_to_list};
 ghost use Rattle.std.specs.List.Sorted.{IsStrictlySortedBy};
 ghost use Rattle.values.specs.Events.{event_cmp};
 ghost use Rattle.keyrange.specs.Range.{is_below};
-ghost use Rattle.eventlist.specs.Listing.{stands_at};
-ghost use Rattle.eventlist.specs.Place.{AreFirst};
+ghost use Rattle.eventlist.specs.Listing.{stands_at, is_of_key};
+ghost use Rattle.eventlist.specs.Place.{AreFirst, is_until};
 ghost use Rattle.eventlist.specs.KeyGroup.{is_up_to, first_key, AreOfKey, AreAbove};
 
 use crate::place::{place_after, place_behind_key};
@@ -60,6 +60,31 @@ fn is_up_to(events: &[SharedEvent], place: usize, key: &KeyBytes) -> bool
         None => false,
         Some(event) => !key.cmp(event.event().key()).is_lt(),
     }
+}
+
+/// Returns a key's events above an instant, up to another and with it.
+pub fn events_of_key<'a>(
+    events: &'a [SharedEvent],
+    key: &KeyBytes,
+    after: Instant,
+    last: Instant,
+) -> &'a [SharedEvent]
+    requires { IsStrictlySortedBy event_cmp events.now }
+    ensures { result.now ≡ filter (is_of_key key.now after last) events.now }
+{
+    let rest = events.split_at(place_after(events, key, after)).1;
+    rest.split_at(place_near(rest, key, last)).0
+}
+
+/// How many events are of lesser keys, or of the key and at the instant or before it, where they
+/// are few.
+fn place_near(events: &[SharedEvent], key: &KeyBytes, instant: Instant) -> usize
+    requires { IsStrictlySortedBy event_cmp events.now }
+    ensures bound { result ≤ length events.now }
+    ensures first { AreFirst (is_until key.now instant) events.now result }
+{
+    let reach = reach_of(events, key);
+    place_after(events.split_at(reach).0, key, instant)
 }
 
 /// Counts a key's events at the instant or before it.

@@ -9,7 +9,7 @@ mod put;
 mod range;
 mod sort;
 
-pub use key_group::{place_until, split_first_key};
+pub use key_group::{events_of_key, place_until, split_first_key};
 pub use listing::{events_in, standing};
 pub use overtaking::is_overtaken;
 pub use place::{

@@ -128,14 +128,14 @@ module _ (k : List ℕ) (t : ℕ) where
             ∙ last (nat_le e.at t) (event_until es k t) e.row refl r
             ∙ sym (ap (λ b. shown (option_and_then (λ e. e.row) (later (event_until es k t) (cond (b && nat_le e.at t) (Some e) None)))) is)
 
-    out : (es : List Event) → Taken es → AllByRecursion (λ e. is_bytes k e.key ≡ false → is_taken table keys e.key ≡ false) es
-    out [] h = tt
-    out (e ∷ es) h = (λ is. h.0 ∙ is, out es h.1)
+    pub other_keys : (es : List Event) → Taken es → AllByRecursion (λ e. is_bytes k e.key ≡ false → is_taken table keys e.key ≡ false) es
+    other_keys [] h = tt
+    other_keys (e ∷ es) h = (λ is. h.0 ∙ is, other_keys es h.1)
 
     pub selected_one : (es : List Event) → IsStrictlySortedBy event_cmp es → Taken es → shown (row_until es k t) ≡ map (λ s. s.row) (selected_by table (AsOf t) keys es)
     selected_one es sorted h =
         sym (one_row es sorted h)
-        ∙ narrowed table keys t (is_bytes k) es es (out es h)
+        ∙ narrowed table keys t (is_bytes k) es es (other_keys es h)
         ∙ sym (selected_stand table keys t es sorted)
 
 -- ---- the events that a search of one key takes are those of that key
@@ -146,7 +146,7 @@ module _ (schema : Schema) (table : Table) (keys : Keys) (key : Key) (only : IsO
       taken_is schema table Plain keys is_table of_table k h ∙ is_one schema table keys key only is_table of_table k h
       ∙ sym (same_key schema key k (key_in schema table key is_table only.own) h)
 
-  each_one : (m : Changes) → AreChangesIn schema m → AllByRecursion (λ e. is_taken table keys e.key ≡ is_bytes (bytes_of_key key) e.key) (events_of m)
+  pub each_one : (m : Changes) → AreChangesIn schema m → AllByRecursion (λ e. is_taken table keys e.key ≡ is_bytes (bytes_of_key key) e.key) (events_of m)
   each_one [] h = tt
   each_one (c ∷ cs) h =
       (taken_one c.0.key (All-head (λ (p : Point). IsKeyIn schema p.key) c.0 (keys_of cs) h), each_one cs (All-tail (λ (p : Point). IsKeyIn schema p.key) c.0 (keys_of cs) h))

@@ -7,12 +7,11 @@ use Rattle.std.proofs.lemmas.Bool.Decides.{nat_tests}
 use Rattle.values.specs.Event.{Event}
 use Rattle.keyrange.specs.declared.range.KeyRange.{KeyRange}
 use Rattle.keyrange.specs.Range.{is_key_in}
-use Rattle.eventlist.specs.Listing.{events_in, stands_at, standing}
+use Rattle.eventlist.specs.Listing.{events_in, is_in_window, stands_at, standing}
 use Rattle.eventlist.specs.Sort.{HasTie}
 use Rattle.datanode.specs.Cut.{IsMap}
 use Rattle.datanode.proofs.CutMembers.{In, In-filter, In-from_filter}
 use Rattle.staging.proofs.treewalk.GatherSorted.{sorted_out}
-use Rattle.systime_query.specs.Window.{is_in_window}
 
 from_append : {X : Type 0} (x : X) (xs ys : List X) → In x (xs ++ ys) → In x xs ⊎ In x ys
 from_append x [] ys i = inr i

@@ -15,13 +15,13 @@ use Rattle.values.specs.Log.{Row}
 use Rattle.values.specs.Versions.{selects, ends_after}
 use Rattle.values.specs.Events.{is_bytes, event_cmp, bytes_cmp, later}
 use Rattle.eventlist.specs.Overtaking.{overtakes}
-use Rattle.eventlist.specs.Listing.{stands_at}
+use Rattle.eventlist.specs.Listing.{is_in_window, stands_at}
 use Rattle.eventlist.proofs.PlaceOrder.{bytes_total, is_own, same_bytes, is_lower, sorted_head, sorted_tail}
 use Rattle.eventlist.proofs.OvertakingNext.{never, not_earlier, stands_before, stands_is, is_overtakes}
 use Rattle.datanode.specs.NextChange.{event_after}
 use Rattle.searchrange.specs.Search.{is_taken}
 use Rattle.systime_query.specs.Selection.{next_of, shown_of, selected_by}
-use Rattle.systime_query.specs.Window.{IsWindow, is_in_window, end_of, shown_in}
+use Rattle.systime_query.specs.Window.{IsWindow, end_of, shown_in}
 use Rattle.systime_query.proofs.StandingRows.{ends}
 
 clash : ◌≡◌ {A = Bool} true false → ⊥

@@ -1,5 +1,5 @@
 -- What of a key's events a form of FOR SYSTEM_TIME looks at, and when their versions end.
-use Rattle.std.specs.Prelude.{◌≡◌, ℕ, List, [], ◌∷◌, Option, Bool, ◌&&◌, ◌||◌, nat_le, nat_lt}
+use Rattle.std.specs.Prelude.{◌≡◌, ℕ, List, [], ◌∷◌, Option, ◌&&◌, nat_le}
 use Rattle.std.specs.List.{cons_option}
 use Rattle.values.specs.Event.{Event}
 use Rattle.values.specs.Events.{later}
@@ -8,7 +8,6 @@ use Rattle.values.specs.declared.table.Table.{Table}
 use Rattle.values.specs.declared.query.Form.{Form}
 use Rattle.values.specs.declared.query.Keys.{Keys}
 use Rattle.values.specs.declared.query.Shown.{Shown}
-use Rattle.eventlist.specs.Listing.{stands_at}
 use Rattle.datanode.specs.NextChange.{event_after}
 use Rattle.systime_query.specs.Selection.{next_of, shown_of}
 
@@ -17,10 +16,6 @@ use Rattle.systime_query.specs.Selection.{next_of, shown_of}
 abbrev pub IsWindow : Form → ℕ → ℕ → Type 0
 IsWindow form first last =
     (from : ℕ) (to : Option ℕ) → selects form from to ≡ (nat_le from last && ends_after to first)
-
--- the event's row holds at the first instant, or it is after that one, up to the last and with it
-abbrev pub is_in_window : List Event → ℕ → ℕ → Event → Bool
-is_in_window es first last e = stands_at es first e || (nat_lt first e.at && nat_le e.at last)
 
 -- the end of an event's version: by the event behind it, or else by its key's first one after the last instant
 abbrev pub end_of : List Event → ℕ → Event → List Event → Option ℕ

@@ -5,7 +5,7 @@ ghost use Rattle.values.specs.Memory.{OnlyMemory};
 ghost use Rattle.systime_query.specs.Selection.{WhenShown};
 ghost use Rattle.systime_query.specs.Window.{IsWindow};
 
-use crate::window::{shown_in, window_events};
+use crate::window::{key_events, shown_in, window_events};
 use blocks::Blocks;
 use searchrange::Search;
 use staging::View;
@@ -62,6 +62,7 @@ fn current<B: Blocks>(
 }
 
 /// The versions that a query selects which asks of the instants from one to another, and with it.
+/// Of one key only the nodes that have it are looked into.
 fn within<B: Blocks>(
     alloc: Global,
     blocks: &mut B,
@@ -78,6 +79,9 @@ fn within<B: Blocks>(
     ensures err { OnlyMemory result }
 {
     let range = search.range(alloc)?;
-    let found = window_events(alloc, blocks, view, &range, first, last)?;
+    let found = match search.key() {
+        Some(key) => key_events(alloc, blocks, view, key, &range, first, last)?,
+        None => window_events(alloc, blocks, view, &range, first, last)?,
+    };
     shown_in(alloc, view, &found, last, form, search)
 }

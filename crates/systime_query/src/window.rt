@@ -1,13 +1,15 @@
 //! The events that a form asks of, and the versions that they begin.
-ghost use Rattle.std.specs.Prelude.{◌≡◌, ◌≤◌, ◌&&◌, IfOk, filter};
+ghost use Rattle.std.specs.Prelude.{◌≡◌, ◌≤◌, ◌&&◌, IfOk, IsTrue, filter};
 ghost use Rattle.std.specs.List.Sorted.{IsStrictlySortedBy};
-ghost use Rattle.values.specs.Events.{event_cmp};
+ghost use Rattle.values.specs.Events.{event_cmp, is_bytes};
+ghost use Rattle.values.specs.KeyEncoding.{IsShortKey, bytes_of_key};
 ghost use Rattle.values.specs.Memory.{OnlyMemory};
 ghost use Rattle.keyrange.specs.Range.{is_key_in};
+ghost use Rattle.eventlist.specs.Listing.{is_in_window};
 ghost use Rattle.staging.specs.Staged.{AreInSearch};
 ghost use Rattle.staging.specs.tsbtree.View.{events};
 ghost use Rattle.systime_query.specs.Selection.{next_of};
-ghost use Rattle.systime_query.specs.Window.{is_in_window, end_of, shown_in};
+ghost use Rattle.systime_query.specs.Window.{end_of, shown_in};
 
 use crate::period::{is_same, shown_of};
 use crate::push::push_some;
@@ -17,7 +19,7 @@ use keyrange::KeyRange;
 use searchrange::Search;
 use staging::View;
 use std::alloc::Global;
-use values::{Event, Form, Instant, Mem, SharedEvent, Shown};
+use values::{Event, Form, Instant, Key, Mem, SharedEvent, Shown, key_bytes};
 
 /// Lists the events of a range of keys whose rows stand at the first instant, and those after it up
 /// to the last, by key and then by instant.
@@ -42,6 +44,29 @@ pub(crate) fn window_events<B: Blocks>(
         found.append(&mut later)?;
     }
     sort_events(&mut found)?;
+    Ok(found)
+}
+
+/// Lists the same events of one key, whose bytes are in a range.
+pub(crate) fn key_events<B: Blocks>(
+    alloc: Global,
+    blocks: &mut B,
+    view: &View,
+    key: &Key,
+    range: &KeyRange,
+    first: Instant,
+    last: Instant,
+) -> Mem<Vec<SharedEvent>>
+    requires short { IsShortKey key.now }
+    requires inside { IsTrue (is_key_in range.now (bytes_of_key key.now)) }
+    ensures ok { IfOk result (λ v. v.items ≡ filter
+        (λ e. is_in_window (events view.now) first last e && is_bytes (bytes_of_key key.now) e.key)
+        (events view.now)) }
+    ensures ordered { IfOk result (λ _. IsStrictlySortedBy event_cmp (events view.now)) }
+    ensures err { OnlyMemory result }
+{
+    let bytes = key_bytes(alloc, key)?;
+    let found = view.key_window(alloc, blocks, &bytes, range, first, last)?;
     Ok(found)
 }
 

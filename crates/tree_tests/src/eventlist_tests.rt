@@ -4,9 +4,9 @@ ghost use Rattle.values.specs.Events.{event_cmp};
 
 use crate::sample::{count, event, key, row};
 use eventlist::{
-    event_since, event_until, events_in, is_overtaken, last_event, of_range, place_after,
-    place_behind_key, place_of, place_of_key, place_until, put_event, sort_events, split_first_key,
-    standing,
+    event_since, event_until, events_in, events_of_key, is_overtaken, last_event, of_range,
+    place_after, place_behind_key, place_of, place_of_key, place_until, put_event, sort_events,
+    split_first_key, standing,
 };
 use keyrange::KeyRange;
 use std::alloc::Global;
@@ -252,4 +252,35 @@ fn are_all_when_sorted(rt: &impl Abort, alloc: Global, places: &[usize]) -> bool
 fn events_of_several_lists_are_put_in_order_once_each(rt: HostRuntime) {
     let places = [3, 1, 0, 2, 1, 3];
     assert!(rt; are_all_when_sorted(&rt, rt.alloc(), places.as_slice()));
+}
+
+/// How many events a key of table 1 has above an instant, up to another.
+fn count_of_key(
+    rt: &impl Abort,
+    alloc: Global,
+    number: u8,
+    after: Instant,
+    last: Instant,
+) -> usize {
+    let events = some(rt, alloc);
+    events_of_key(&events, &bytes(rt, alloc, 1, number), after, last).len()
+}
+
+/// A key, an instant, another, and how many events of the key are above the first up to the other.
+const SPANS: &[(u8, Instant, Instant, usize)] = &[
+    (1, 0, u64::MAX, 2),
+    (1, 100, 200, 1),
+    (1, 99, 199, 1),
+    (1, 200, u64::MAX, 0),
+    (1, 200, 99, 0),
+    (2, 149, 150, 1),
+    (3, 0, u64::MAX, 0),
+];
+
+#[test]
+fn the_events_of_a_key_are_those_of_a_span(rt: HostRuntime) {
+    for (number, after, last, count) in SPANS {
+        let found = count_of_key(&rt, rt.alloc(), *number, *after, *last);
+        assert!(rt; found == *count, "key {number} above {after} up to {last}");
+    }
 }

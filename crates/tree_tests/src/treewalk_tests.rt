@@ -8,7 +8,8 @@ use std::alloc::Global;
 use std::process::Abort;
 use treenodes::{Nodes, whole};
 use treewalk::{
-    Shape, changed_since, changed_since_near, events, leaves_in, next_change, standing, tree_shape,
+    Shape, changed_since, changed_since_near, events, key_window, leaves_in, next_change, standing,
+    tree_shape,
 };
 use values::{Instant, MAX_INSTANT};
 
@@ -84,6 +85,49 @@ fn a_row_stands_until_its_key_is_changed(rt: HostRuntime) {
         ] {
             let found = count_standing(&rt, rt.alloc(), is_packed, at);
             assert!(rt; found == count, "at {at}");
+        }
+    }
+}
+
+/// How many events of a key are in a window.
+fn count_in_window(
+    rt: &impl Abort,
+    alloc: Global,
+    is_packed: bool,
+    number: u8,
+    first: Instant,
+    last: Instant,
+) -> usize {
+    let nodes = some(rt, alloc, is_packed);
+    let key = key(rt, alloc, number);
+    let range = all_keys(alloc);
+    if !range.contains(&key) {
+        return usize::MAX;
+    }
+    let mut blocks = InPlace::new(alloc);
+    let found = key_window(alloc, &mut blocks, &nodes, &key, &range, first, last);
+    count(rt, found)
+}
+
+/// A key, the first and the last instant of a window, and how many of its events are in it.
+const WINDOWS: &[(u8, Instant, Instant, usize)] = &[
+    (1, 0, u64::MAX, 2),
+    (1, 100, 100, 1),
+    (1, 150, 250, 2),
+    (1, 200, 300, 0),
+    (2, 149, 300, 1),
+    (2, 150, 250, 1),
+    (2, 250, u64::MAX, 1),
+    (2, 150, 149, 1),
+    (3, 0, u64::MAX, 0),
+];
+
+#[test]
+fn a_key_is_followed_from_leaf_to_leaf(rt: HostRuntime) {
+    for is_packed in [false, true] {
+        for (number, first, last, count) in WINDOWS {
+            let found = count_in_window(&rt, rt.alloc(), is_packed, *number, *first, *last);
+            assert!(rt; found == *count, "key {number} from {first} to {last}");
         }
     }
 }

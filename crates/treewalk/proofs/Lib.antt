@@ -18,3 +18,4 @@ pub mod ChangeAfterShown
 pub mod ChangeAfterPlaced
 pub mod LeafKnown
 pub mod ShapeOrder
+pub mod WindowJoined

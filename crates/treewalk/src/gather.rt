@@ -116,7 +116,7 @@ fn gathered_of<B: Blocks>(
 }
 
 /// What is asked of a data node.
-fn asked_of<B: Blocks>(
+pub(crate) fn asked_of<B: Blocks>(
     alloc: Global,
     blocks: &mut B,
     child: &Child,

@@ -10,6 +10,7 @@ mod level;
 mod listing;
 mod range_change;
 mod shape;
+mod window;
 
 pub use change_after::next_change;
 pub use last_change::{changed_since, changed_since_near};
@@ -18,3 +19,4 @@ pub use level::leaves_in;
 pub use listing::{events, standing};
 pub use range_change::changed_in;
 pub use shape::{NodeShape, Shape, tree_shape};
+pub use window::key_window;

@@ -1,11 +1,11 @@
 //! What was committed until an instant.
-ghost use Rattle.std.specs.Prelude.{◌≡◌, ◌↔◌, ◌≤◌, All, IfOk, IfSome, IsTrue, MatchOption, is_some, option_copied};
+ghost use Rattle.std.specs.Prelude.{◌≡◌, ◌↔◌, ◌≤◌, ◌&&◌, All, IfOk, IfSome, IsTrue, MatchOption, filter, is_some, option_copied};
 ghost use Rattle.std.specs.List.Sorted.{IsStrictlySortedBy};
 ghost use Rattle.values.specs.Commits.{max_instant};
-ghost use Rattle.values.specs.Events.{event_cmp, row_until, event_since};
+ghost use Rattle.values.specs.Events.{event_cmp, is_bytes, row_until, event_since};
 ghost use Rattle.values.specs.Memory.{OnlyMemory};
 ghost use Rattle.keyrange.specs.Range.{is_key_in};
-ghost use Rattle.eventlist.specs.Listing.{events_in, standing};
+ghost use Rattle.eventlist.specs.Listing.{events_in, is_in_window, standing};
 ghost use Rattle.datanode.specs.Node.{Node};
 ghost use Rattle.blocks.specs.Block.{HasBlock};
 ghost use Rattle.treenodes.specs.Node.{TreeNode, data_node};
@@ -28,7 +28,8 @@ use std::alloc::Global;
 use std::marker::Model;
 use treenodes::{Child, Nodes, leaf_at};
 use treewalk::{
-    Shape, changed_in, changed_since, events, has_row_in, next_change, row_in, standing, tree_shape,
+    Shape, changed_in, changed_since, events, has_row_in, key_window, next_change, row_in,
+    standing, tree_shape,
 };
 use values::{Instant, KeyBytes, Mem, Row, SharedEvent};
 
@@ -200,6 +201,28 @@ impl View {
         ensures err { OnlyMemory result }
     {
         events(alloc, blocks, &self.nodes, range, from, to)
+    }
+
+    /// Lists a key's events by instant: the one whose row holds at the first instant, and those
+    /// after it up to the last and with it. Of blocks the events of a range are given that has the
+    /// key. `Memory` where it runs out.
+    pub fn key_window<B: Blocks>(
+        &self,
+        alloc: Global,
+        blocks: &mut B,
+        key: &KeyBytes,
+        range: &KeyRange,
+        first: Instant,
+        last: Instant,
+    ) -> Mem<Vec<SharedEvent>>
+        requires { IsTrue (is_key_in range.now key.now) }
+        ensures ok { IfOk result (λ v. v.items
+            ≡ filter (λ e. is_in_window (events self.now) first last e && is_bytes key.now e.key)
+            (events self.now)) }
+        ensures ordered { IsStrictlySortedBy event_cmp (events self.now) }
+        ensures err { OnlyMemory result }
+    {
+        key_window(alloc, blocks, &self.nodes, key, range, first, last)
     }
 
     /// Lists by key, of each key of a range, the event that shows its row at an instant, where it

@@ -1,5 +1,6 @@
 //! What views answer, as numbers.
 use crate::growth::key;
+use blocks::InPlace;
 use keyrange::KeyRange;
 use std::alloc::Global;
 use std::process::Abort;
@@ -26,6 +27,27 @@ pub(crate) fn count(rt: &impl Abort, alloc: Global, view: &View, from: Instant) 
 /// How many rows of all keys stand in a view at an instant.
 fn count_standing(rt: &impl Abort, alloc: Global, view: &View, at: Instant) -> usize {
     length(rt, view.standing(alloc, &all_keys(alloc), at))
+}
+
+/// How many events of a key a view has in a window.
+pub(crate) fn count_in_window(
+    rt: &impl Abort,
+    alloc: Global,
+    view: &View,
+    number: u8,
+    first: Instant,
+    last: Instant,
+) -> usize {
+    let key = key(rt, alloc, number);
+    let range = all_keys(alloc);
+    if !range.contains(&key) {
+        return usize::MAX;
+    }
+    let mut blocks = InPlace::new(alloc);
+    length(
+        rt,
+        view.key_window(alloc, &mut blocks, &key, &range, first, last),
+    )
 }
 
 /// The number in a key's row at an instant, and how many nodes were visited.

@@ -1,6 +1,6 @@
 //! What views answer, of trees with few changes and with many. A test keeps no tree: each helper
 //! makes its own.
-use crate::answer::{answers_of, count, number_in_row};
+use crate::answer::{answers_of, count, count_in_window, number_in_row};
 use crate::growth::{
     few_changes, few_changes_split, grow, new_tree, one_key, one_key_split, one_row, split_at,
 };
@@ -57,6 +57,26 @@ fn standing(rt: &impl Abort, alloc: Global, at: Instant) -> usize {
 fn rows_are_listed_over_a_split(rt: HostRuntime) {
     for (at, rows) in [(99, 0), (100, 2), (199, 2), (200, 1)] {
         assert!(rt; standing(&rt, rt.alloc(), at) == rows, "at {at}");
+    }
+}
+
+/// How many events of a key are in a window, over a split.
+fn in_window(rt: &impl Abort, alloc: Global, number: u8, first: Instant, last: Instant) -> usize {
+    let tree = few_changes_split(rt, alloc, &[150]);
+    count_in_window(rt, alloc, tree.current(), number, first, last)
+}
+
+#[test]
+fn a_key_is_followed_over_a_split(rt: HostRuntime) {
+    for (number, first, last, count) in [
+        (1, 0, MAX_INSTANT, 2),
+        (1, 150, 199, 1),
+        (1, 200, 300, 0),
+        (2, 99, 300, 1),
+        (2, 150, 300, 1),
+    ] {
+        let found = in_window(&rt, rt.alloc(), number, first, last);
+        assert!(rt; found == count, "key {number} from {first} to {last}");
     }
 }
 
