@@ -1,10 +1,13 @@
-//! Tests of `sessions`, `serving` and `migrator` by their public calls: sessions and rounds round one store.
+//! Tests of `sessions`, `serving`, `migrator` and `listening` by their public calls: sessions and rounds
+//! round one store, and clients over sockets.
 #![tactic(auto)]
 
 #[cfg(test)]
 mod call_tests;
 #[cfg(test)]
 mod case;
+#[cfg(test)]
+mod client;
 #[cfg(test)]
 mod closing_tests;
 #[cfg(test)]
@@ -28,10 +31,18 @@ mod run_tests;
 #[cfg(test)]
 mod scene;
 #[cfg(test)]
+mod server_tests;
+#[cfg(test)]
+mod socket_tests;
+#[cfg(test)]
+mod staff;
+#[cfg(test)]
 mod step;
 #[cfg(test)]
 mod store_tests;
 #[cfg(test)]
 mod thread_tests;
+#[cfg(test)]
+mod wanted;
 #[cfg(test)]
 mod worker_gate;

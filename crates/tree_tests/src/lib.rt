@@ -1,10 +1,23 @@
-//! Tests of crates of the tree by their public calls, a file for each crate.
+//! Tests of crates of the tree by their public calls, a file for each crate, and several for `blocks`
+//! and `tsbtree`.
 #![tactic(auto)]
 
+#[cfg(test)]
+mod answer;
+#[cfg(test)]
+mod block_sample;
+#[cfg(test)]
+mod bytes_tests;
+#[cfg(test)]
+mod cache_tests;
+#[cfg(test)]
+mod damage_tests;
 #[cfg(test)]
 mod datanode_tests;
 #[cfg(test)]
 mod eventlist_tests;
+#[cfg(test)]
+mod growth;
 #[cfg(test)]
 mod indexnode_tests;
 #[cfg(test)]
@@ -12,11 +25,25 @@ mod keyrange_tests;
 #[cfg(test)]
 mod keysplit_tests;
 #[cfg(test)]
+mod leaf_tests;
+#[cfg(test)]
+mod line;
+#[cfg(test)]
+mod packed_tests;
+#[cfg(test)]
+mod packing_tests;
+#[cfg(test)]
+mod range_change_tests;
+#[cfg(test)]
+mod read_tests;
+#[cfg(test)]
 mod sample;
 #[cfg(test)]
 mod search_tests;
 #[cfg(test)]
 mod searchrange_tests;
+#[cfg(test)]
+mod shape_tests;
 #[cfg(test)]
 mod slots_tests;
 #[cfg(test)]
@@ -29,3 +56,5 @@ mod treegrowth_tests;
 mod treenodes_tests;
 #[cfg(test)]
 mod treewalk_tests;
+#[cfg(test)]
+mod view_tests;

@@ -1,0 +1,98 @@
+//! Events, whose keys and rows are copied or shared.
+
+use crate::key_sample::key;
+use std::alloc::Global;
+use std::process::Abort;
+use values::{Event, Instant, KeyBytes, Row, SharedEvent, Value};
+
+fn row(rt: &impl Abort, alloc: Global) -> Row {
+    let values = vec![in alloc; Value::Int(7)].expect(rt, "there is memory");
+    Row::new(values).expect(rt, "a row of one value")
+}
+
+/// One value, from an instant on.
+fn event_at(rt: &impl Abort, alloc: Global, bytes: &[u8], at: Instant) -> Event {
+    let event = Event::new(key(rt, alloc, bytes), at, Some(row(rt, alloc)));
+    event.expect(rt, "the key is not empty")
+}
+
+fn event(rt: &impl Abort, alloc: Global) -> Event {
+    event_at(rt, alloc, b"\x01\x02", 100)
+}
+
+fn is_that(event: &Event) -> bool {
+    let is_key = event.key().bytes() == b"\x01\x02".as_slice();
+    let values = event.row().map(|row| row.values().len());
+    is_key && event.at() == 100 && values == Some(1)
+}
+
+fn copy_is_that(rt: &impl Abort, alloc: Global) -> bool {
+    let copied = event(rt, alloc).copy().expect(rt, "there is memory");
+    is_that(&copied)
+}
+
+#[test]
+fn a_copied_event_is_equal(rt: HostRuntime) {
+    assert!(rt; copy_is_that(&rt, rt.alloc()));
+}
+
+fn share_of(rt: &impl Abort, alloc: Global, event: Event) -> SharedEvent {
+    SharedEvent::new(alloc, event).expect(rt, "there is memory")
+}
+
+/// Whether a shared event and its share are that event.
+fn shares_are_that(rt: &impl Abort, alloc: Global) -> (bool, bool) {
+    let first = share_of(rt, alloc, event(rt, alloc));
+    let second = first.share().expect(rt, "there is memory");
+    (is_that(first.event()), is_that(second.event()))
+}
+
+#[test]
+fn a_shared_event_is_the_same(rt: HostRuntime) {
+    assert!(rt; shares_are_that(&rt, rt.alloc()) == (true, true));
+}
+
+/// Keys and instants, of which two are alike.
+const POINTS: &[(&[u8], Instant)] = &[(b"b", 1), (b"a", 9), (b"a", 2), (b"b", 1)];
+
+/// The events of these, in order.
+fn in_order(rt: &impl Abort, alloc: Global) -> Vec<SharedEvent> {
+    let mut events = Vec::new(alloc);
+    for (key, at) in POINTS {
+        let event = share_of(rt, alloc, event_at(rt, alloc, key, *at));
+        events.push(event).expect(rt, "there is memory");
+    }
+    events.sort().expect(rt, "there is memory");
+    events
+}
+
+/// Whether these are their instants in order, and the last two alone are equal.
+fn are_in_order(events: &[SharedEvent]) -> bool {
+    match events {
+        [first, second, third, last] => {
+            first.event().at() == 2
+                && second.event().at() == 9
+                && third.event().at() == 1
+                && last.event().at() == 1
+                && first != second
+                && third == last
+        }
+        _ => false,
+    }
+}
+
+#[test]
+fn shared_events_are_in_order_by_key_and_then_by_instant(rt: HostRuntime) {
+    assert!(rt; are_in_order(&in_order(&rt, rt.alloc())));
+}
+
+/// Whether the least key has no byte, and no event is made of it.
+fn is_least_empty(alloc: Global) -> bool {
+    let least = KeyBytes::least(alloc);
+    least.bytes().len() == 0 && Event::new(least, 1, None).is_none()
+}
+
+#[test]
+fn the_least_key_bytes_are_none(rt: HostRuntime) {
+    assert!(rt; is_least_empty(rt.alloc()));
+}
