@@ -118,8 +118,8 @@ fn the_ordinals_of_numbers_rise_from_0(rt: HostRuntime) {
     assert_eq!(rt; ordinal_of(i64::MAX), u64::MAX);
 }
 
-/// Bytes in rising order: none, few, and some that differ on both sides of the first byte and of
-/// each eight behind it.
+/// Bytes in rising order: none, few, some that others begin with, and some that differ from others
+/// at the first byte, in the middle or at the last.
 const RISING_BYTES: &[&[u8]] = &[
     b"",
     b"\x00",

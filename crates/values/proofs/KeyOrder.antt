@@ -72,7 +72,7 @@ split_off : (k n : ℕ) → n % 256 ^ suc k ≡ byte_at k n * 256 ^ k + n % 256 
 split_off k n =
     ap (λ m. n % m) (pow-succ' 256 k) ∙ mod-mul n {m = 256} {c = 256 ^ k} (omega arith) (pow_positive k) ∙ ap (λ b. b * 256 ^ k + n % 256 ^ k) (sym (byte_at-is k n))
 
-pub high_first_cmp : (k m n : ℕ) (xs ys : List ℕ)
+high_first_cmp : (k m n : ℕ) (xs ys : List ℕ)
     → bytes_cmp (bytes_high_first k m ++ xs) (bytes_high_first k n ++ ys) ≡ ordering_then (nat_cmp (m % 256 ^ k) (n % 256 ^ k)) (bytes_cmp xs ys)
 high_first_cmp zero m n xs ys = ap (λ o. ordering_then o (bytes_cmp xs ys)) (sym (tied_zero m n))
   where

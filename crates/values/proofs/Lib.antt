@@ -3,7 +3,6 @@ pub mod EventKeys
 pub mod KeyLengths
 pub mod KeyOrder
 pub mod KeyReads
-pub mod KeyWords
 pub mod LogLatest
 pub mod LogMaps
 pub mod LogPush

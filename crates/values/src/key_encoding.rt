@@ -1,8 +1,5 @@
 //! The bytes of keys, in the order of keys.
-ghost use Rattle.std.specs.Cmp.Lexicographic.{slice_cmp};
-ghost use Rattle.std.specs.Int.{w64, to_be_bytes};
-ghost use Rattle.std.specs.Ordering.{nat_cmp};
-ghost use Rattle.std.specs.Prelude.{◌≡◌, ℤ, ◌++◌, ◌∷◌, [], IfOk, IfSome, OnOk, Option, Some, None, if◌then◌else◌, nat_le, length, ◌<◌};
+ghost use Rattle.std.specs.Prelude.{◌≡◌, ℤ, ◌++◌, ◌∷◌, [], IfOk, OnOk, Option, Some, None, if◌then◌else◌, nat_le, length, ◌<◌};
 ghost use Rattle.values.specs.KeyEncoding.{ordinal_of, text_bytes, part_bytes, bytes_of_key, IsShortKey, longest_key};
 ghost use Rattle.values.specs.Fit.{IsKeyIn};
 ghost use Rattle.values.specs.Memory.{OnlyMemory};
@@ -151,56 +148,8 @@ impl Ord for KeyBytes {
     ghost matches_eq = { texts_ties };
 
     fn cmp(&self, other: &KeyBytes) -> Ordering {
-        order_of(self.bytes(), other.bytes())
+        self.bytes().cmp(other.bytes())
     }
-}
-
-/// Compares the bytes of keys: the table's number, and then what is behind it.
-fn order_of(first: &[u8], second: &[u8]) -> Ordering
-    ensures { result ≡ slice_cmp nat_cmp first.now second.now }
-{
-    match (first, second) {
-        ([table, parts @ ..], [other, others @ ..]) => {
-            let order = table.cmp(other);
-            if order.is_ne() {
-                return order;
-            }
-            order_by_words(parts, others)
-        }
-        _ => first.cmp(second),
-    }
-}
-
-/// Compares bytes, eight at a time while both have so many: those of a number are one comparison.
-#[tactic(auto, using(crate::proofs::KeyWords::words_cmp))]
-fn order_by_words(first: &[u8], second: &[u8]) -> Ordering
-    ensures { result ≡ slice_cmp nat_cmp first.now second.now }
-{
-    let mut first = first;
-    let mut second = second;
-    while let (Some((word, rest)), Some((other, others))) = (
-        split_word(first),
-        split_word(second),
-    ) {
-        let order = word.cmp(&other);
-        if order.is_ne() {
-            return order;
-        }
-        first = rest;
-        second = others;
-    }
-    if first.is_empty() && second.is_empty() {
-        return Ordering::Equal;
-    }
-    first.cmp(second)
-}
-
-/// Returns the number of which the first eight bytes are the digits, and the bytes behind them.
-fn split_word(bytes: &[u8]) -> Option<(u64, &[u8])>
-    ensures { IfSome result (λ pair. bytes.now ≡ to_be_bytes w64 pair.0 ++ pair.1.now) }
-{
-    let (word, rest) = bytes.split_first_chunk::<8>()?;
-    Some((u64::from_be_bytes(*word), rest))
 }
 
 /// Writes a key as bytes: the table's number, then each value.
