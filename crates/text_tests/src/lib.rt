@@ -4,6 +4,8 @@
 #[cfg(test)]
 mod alter_tests;
 #[cfg(test)]
+mod chars_tests;
+#[cfg(test)]
 mod cut;
 #[cfg(test)]
 mod event_tests;

@@ -1,3 +1,4 @@
+pub mod Chars
 pub mod Columns
 pub mod Commits
 pub mod Each

@@ -4,30 +4,45 @@ ghost use Rattle.std.specs.String.{string_bytes};
 ghost use Rattle.values.specs.Memory.{OnlyMemory};
 
 use crate::refusal::Mem;
+use arrayvec::ArrayString;
 use std::alloc::{AllocError, Global};
 use std::cmp::Ordering;
 use std::marker::Model;
 
+/// How many bytes of a text are kept in the value itself.
+const INSIDE: usize = 16;
+
+/// Where the bytes of a text are: short ones need no allocation.
+#[derive(Debug, Drop)]
+enum Text {
+    Short(ArrayString<INSIDE>),
+    Long(String),
+}
+
 /// A text, which contracts see as its bytes.
 #[derive(Debug, Drop)]
 pub struct Chars {
-    text: String,
+    text: Text,
 }
 
 impl Model for Chars {
     ghost use Rattle.std.specs.Prelude.{List, ℕ};
-    ghost use Rattle.std.specs.String.{string_bytes};
+    ghost use Rattle.values.specs.Chars.{bytes_of};
 
     ghost Value = { List ℕ };
 
-    ghost view = { λ c. string_bytes c.text };
+    ghost view = { λ c. bytes_of c.text };
 }
 
 impl Chars {
-    /// Makes the characters of a text, without copying it.
+    /// Makes the characters of a text; one of over 16 bytes is not copied.
     pub fn new(text: String) -> Chars
         ensures { result ≡ string_bytes text }
     {
+        let text = match ArrayString::from(text.as_str()) {
+            Ok(short) => Text::Short(short),
+            Err(_) => Text::Long(text),
+        };
         Chars { text }
     }
 
@@ -36,14 +51,21 @@ impl Chars {
         ensures ok { IfOk result (λ c. c ≡ text.now) }
         ensures err { OnlyMemory result }
     {
-        Ok(Chars::new(String::from_str(alloc, text)?))
+        let text = match ArrayString::from(text) {
+            Ok(short) => Text::Short(short),
+            Err(_) => Text::Long(String::from_str(alloc, text)?),
+        };
+        Ok(Chars { text })
     }
 
     /// Returns the text.
     pub fn text(&self) -> &str
         ensures { result.now ≡ self.now }
     {
-        self.text.as_str()
+        match &self.text {
+            Text::Short(short) => short.as_str(),
+            Text::Long(long) => long.as_str(),
+        }
     }
 }
 
@@ -53,9 +75,11 @@ impl Clone for Chars {
     ghost is_clone = { λ x y. y ≡ x };
 
     fn clone(&self) -> Result<Chars, AllocError> {
-        Ok(Chars {
-            text: self.text.clone()?,
-        })
+        let text = match &self.text {
+            Text::Short(short) => Text::Short(*short),
+            Text::Long(long) => Text::Long(long.clone()?),
+        };
+        Ok(Chars { text })
     }
 }
 

@@ -3,7 +3,7 @@ use Rattle.values.specs.Tables.{table_at, widest, AreTables}
 use Rattle.values.specs.Columns.{add_column}
 use Rattle.values.proofs.ColumnsTables.{added_are_tables, added_in_place, added_nowhere}
 use Rattle.values.proofs.schema.Schema.add_column.Goals as goal
-use Rattle.values.proofs.schema.Schema.add_column.Goals.{Joined-get_mut, in-Some+in_ok-push, in_default}
+use Rattle.values.proofs.schema.Schema.add_column.Goals.{Joined-get_mut, in-Some+in_ok-push, in_default+in-Long-1, in_default+in-Short-1}
 
 -- the tables afterwards
 tables_are : (c : Joined-get_mut) → c.match-get_mut.self-inside.tables.items ≡ (add_column c.args.number c.args.column (record { tables = c.self.inside.tables.items })).tables
@@ -12,7 +12,10 @@ tables_are c =
       | in-Some+in_ok-push w ↦
           ap (λ s. s.tables.items) w.self-inside-is
           ∙ added_in_place c.self.inside.tables.items c.args.number c.args.column w.in-Some.table.now w.push.new.self c.if-number-eq0.false (omega (arith, c.self.inside.tables.ok.0, w.in-Some.ensures.variant.0 refl)) w.in-Some.ensures.value w.in_ok-push.ensures.ok
-      | in_default w ↦
+      | in_default+in-Long-1 w ↦
+          ap (λ s. s.tables.items) w.self-inside-is
+          ∙ added_nowhere c.self.inside.tables.items c.args.number c.args.column (λ lt. let never = w.in_default.ensures.variant.1 (omega (arith, c.self.inside.tables.ok.0, lt)) in cc)
+      | in_default+in-Short-1 w ↦
           ap (λ s. s.tables.items) w.self-inside-is
           ∙ added_nowhere c.self.inside.tables.items c.args.number c.args.column (λ lt. let never = w.in_default.ensures.variant.1 (omega (arith, c.self.inside.tables.ok.0, lt)) in cc)
     ]
