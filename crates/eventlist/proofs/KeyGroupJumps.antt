@@ -5,9 +5,9 @@ use Rattle.std.specs.Ordering.{nat_cmp, ordering_then, match_ordering, is_lt}
 use Rattle.std.specs.declared.cmp.Ordering.{Ordering}
 use Rattle.std.specs.declared.cmp.Ordering.TheVariants.{Less, Equal, Greater}
 use Rattle.std.specs.List.{AllByRecursion, AllWithin, slice_get, list_any}
-use Rattle.std.specs.List.Sorted.{IsStrictlySortedBy}
+use Rattle.std.specs.List.Sorted.{IsStrictlySortedBy, IsPartitionedBy}
 use Rattle.std.proofs.lemmas.Bool.Decides.{nat_tests}
-use Rattle.std.proofs.lemmas.List.Elements.{All-nil, All-cons, All-weaker, filter-append, recursion_from_All}
+use Rattle.std.proofs.lemmas.List.Elements.{All-nil, All-cons, filter-append, recursion_from_All}
 use Rattle.std.proofs.lemmas.List.Folds.{list_any-append}
 use Rattle.values.specs.Event.{Event}
 use Rattle.values.specs.Events.{bytes_cmp, event_cmp}
@@ -19,7 +19,8 @@ use Rattle.eventlist.specs.KeyGroup.{is_up_to, first_key, AreOfKey, AreAbove}
 use Rattle.eventlist.proofs.PlaceOrder.{bytes_tie, bytes_exact, is_lower, sorted_head, sorted_tail, within_tail, within_rest, within_head}
 use Rattle.eventlist.proofs.OvertakingNext.{overtakes_is, is_overtakes, never, not_earlier, stands_before, stands_is}
 use Rattle.eventlist.proofs.ListingRanges.{not_above, not_above_parts, none_pass}
-use Rattle.eventlist.proofs.PlaceParts.{first_same, same_filter}
+use Rattle.eventlist.proofs.PlaceFound.{until_parts}
+use Rattle.eventlist.proofs.PlaceParts.{same_filter}
 
 -- ---- the first key's events
 
@@ -96,9 +97,11 @@ first_within p es r n le bound none h = (
 until_is : (key : List ℕ) (t : ℕ) (e : Event) → e.key ≡ key → is_until key t e ≡ nat_le e.at t
 until_is key t e same = ap (λ o. match_ordering o true (nat_le e.at t) false) (ap (λ k. bytes_cmp k key) same ∙ bytes_tie key)
 
--- where all are of one key the instant alone decides
-pub by_instant : (key : List ℕ) (t : ℕ) (es : List Event) (n : ℕ) → n ≤ length es → AreOfKey key es → AreFirst (is_until key t) es n → AreFirst (λ e. nat_le e.at t) es n
-by_instant key t es n le one h = first_same (is_until key t) (λ e. nat_le e.at t) es n le (All-weaker (λ (e : Event). e.key ≡ key) (λ (e : Event). is_until key t e ≡ nat_le e.at t) (until_is key t) es one) h
+-- where all are of one key the instant alone decides, and in their order it parts them
+pub instants_part : (key : List ℕ) (t : ℕ) (es : List Event) → IsStrictlySortedBy event_cmp es → AreOfKey key es → IsPartitionedBy (λ e. nat_le e.at t) es
+instants_part key t es sorted one i j d le lt up =
+    sym (until_is key t (get_or es i d) (one i d (omega (arith, le, lt))))
+    ∙ until_parts key t es sorted i j d le lt (until_is key t (get_or es j d) (one j d lt) ∙ up)
 
 abbrev lasting : List Event → ℕ → List Event
 lasting es t = filter (stands_at es t) es

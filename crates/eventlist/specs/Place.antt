@@ -13,6 +13,11 @@ AreFirst p es n = IsPartitionPoint (λ e. p e ≡ true) (λ e. p e ≡ false) es
 abbrev pub is_until : List ℕ → ℕ → Event → Bool
 is_until key t e = match_ordering (bytes_cmp e.key key) true (nat_le e.at t) false
 
+-- there is an event, and it is so
+abbrev pub is_until_at : List ℕ → ℕ → Option Event → Bool
+is_until_at key t None = false
+is_until_at key t (Some e) = is_until key t e
+
 -- the event, if it is of the key
 abbrev pub of_key : List ℕ → Option Event → Option Event
 of_key key None = None

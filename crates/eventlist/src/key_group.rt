@@ -6,10 +6,10 @@ ghost use Rattle.std.specs.List.Sorted.{IsStrictlySortedBy};
 ghost use Rattle.values.specs.Events.{event_cmp};
 ghost use Rattle.keyrange.specs.Range.{is_below};
 ghost use Rattle.eventlist.specs.Listing.{stands_at, is_of_key};
-ghost use Rattle.eventlist.specs.Place.{AreFirst, is_until};
+ghost use Rattle.eventlist.specs.Place.{AreFirst, is_until, is_until_at};
 ghost use Rattle.eventlist.specs.KeyGroup.{is_up_to, first_key, AreOfKey, AreAbove};
 
-use crate::place::{place_after, place_behind_key};
+use crate::place::{is_until, place_after, place_behind_key};
 use values::{Instant, KeyBytes, SharedEvent};
 
 /// Splits off the events of the first one's key from those behind them. It takes as long as the
@@ -77,14 +77,28 @@ pub fn events_of_key<'a>(
 }
 
 /// How many events are of lesser keys, or of the key and at the instant or before it, where they
-/// are few.
+/// are few: it takes as long as they are many.
 fn place_near(events: &[SharedEvent], key: &KeyBytes, instant: Instant) -> usize
     requires { IsStrictlySortedBy event_cmp events.now }
     ensures bound { result ≤ length events.now }
     ensures first { AreFirst (is_until key.now instant) events.now result }
 {
-    let reach = reach_of(events, key);
-    place_after(events.split_at(reach).0, key, instant)
+    let mut place = 0;
+    while is_until_at(events, place, key, instant) {
+        place += 1;
+    }
+    place
+}
+
+/// Whether there is an event at a place, of a lesser key, or of the key and at the instant or
+/// before it.
+fn is_until_at(events: &[SharedEvent], place: usize, key: &KeyBytes, instant: Instant) -> bool
+    ensures { result ≡ is_until_at key.now instant (slice_get events.now place) }
+{
+    match events.get(place) {
+        None => false,
+        Some(event) => is_until(key, instant, event.event()),
+    }
 }
 
 /// Counts a key's events at the instant or before it.
@@ -94,10 +108,7 @@ pub fn place_until(events: &[SharedEvent], instant: Instant) -> usize
     ensures bound { result ≤ length events.now }
     ensures first { AreFirst (λ e. nat_le e.at instant) events.now result }
 {
-    match events {
-        [first, ..] => place_after(events, first.event().key(), instant),
-        [] => 0,
-    }
+    events.partition_point(|event| event.event().at() <= instant)
 }
 
 /// Returns that of a key's events whose row holds at the instant.

@@ -8,7 +8,8 @@ ghost use Rattle.eventlist.specs.Place.{AreFirst, is_until, of_key, last_event, 
 use std::cmp::Ordering;
 use values::{Event, Instant, KeyBytes, SharedEvent};
 
-fn is_until(key: &KeyBytes, instant: Instant, event: &Event) -> bool
+/// Whether an event is of a lesser key, or of the key and at the instant or before it.
+pub(crate) fn is_until(key: &KeyBytes, instant: Instant, event: &Event) -> bool
     ensures { result ≡ is_until key.now instant event.now }
 {
     match event.key().cmp(key) {
