@@ -2,7 +2,8 @@
 //! makes its own.
 use crate::answer::{answers_of, count, count_in_window, number_in_row};
 use crate::growth::{
-    few_changes, few_changes_split, grow, new_tree, one_key, one_key_split, one_row, split_at,
+    changed_key, few_changes, few_changes_split, grow, many_keys_deleted, new_tree, one_key,
+    one_key_split, one_row, split_at, two_parents,
 };
 use std::alloc::Global;
 use std::process::Abort;
@@ -77,6 +78,71 @@ fn a_key_is_followed_over_a_split(rt: HostRuntime) {
     ] {
         let found = in_window(&rt, rt.alloc(), number, first, last);
         assert!(rt; found == count, "key {number} from {first} to {last}");
+    }
+}
+
+/// How many events of key 1 are in a window, over 65 leaves of one instant each.
+fn in_window_of_leaves(rt: &impl Abort, alloc: Global, first: Instant, last: Instant) -> usize {
+    count_in_window(
+        rt,
+        alloc,
+        one_key_split(rt, alloc).current(),
+        1,
+        first,
+        last,
+    )
+}
+
+#[test]
+fn a_key_is_followed_over_many_leaves(rt: HostRuntime) {
+    for (first, last, count) in [
+        (0, MAX_INSTANT, 65),
+        (1, 1, 1),
+        (30, 40, 11),
+        (64, 65, 2),
+        (65, MAX_INSTANT, 1),
+    ] {
+        let found = in_window_of_leaves(&rt, rt.alloc(), first, last);
+        assert!(rt; found == count, "from {first} to {last}");
+    }
+}
+
+/// How many events of a key there are, where leaves were split by keys and by instants.
+fn in_all(rt: &impl Abort, alloc: Global, number: u8) -> usize {
+    let tree = many_keys_deleted(rt, alloc);
+    count_in_window(rt, alloc, tree.current(), number, 0, MAX_INSTANT)
+}
+
+/// How many of its instants change a key.
+fn count_changes(number: u8) -> usize {
+    (1..163u8).filter(|at| changed_key(*at) == number).count()
+}
+
+#[test]
+fn each_key_is_followed_where_leaves_were_split_by_keys(rt: HostRuntime) {
+    for number in 1..46u8 {
+        let found = in_all(&rt, rt.alloc(), number);
+        assert!(rt; found == count_changes(number), "key {number}");
+    }
+}
+
+/// How many events of a key are in a window, where two nodes refer to one leaf.
+fn in_window_of_two_parents(rt: &impl Abort, alloc: Global, number: u8, first: Instant) -> usize {
+    let tree = two_parents(rt, alloc);
+    count_in_window(rt, alloc, tree.current(), number, first, MAX_INSTANT)
+}
+
+#[test]
+fn a_key_is_followed_from_a_leaf_of_two_parents(rt: HostRuntime) {
+    for (number, first, count) in [
+        (10, 0, 2),
+        (40, 0, 2),
+        (10, 199, 2),
+        (40, 200, 1),
+        (9, 0, 0),
+    ] {
+        let found = in_window_of_two_parents(&rt, rt.alloc(), number, first);
+        assert!(rt; found == count, "key {number} from {first}");
     }
 }
 

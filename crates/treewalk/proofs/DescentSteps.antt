@@ -27,6 +27,17 @@ level_at nodes number = elim (slice_get nodes number) [ None ↦ 0 | Some n ↦ 
 pub level_is : (nodes : List TreeNode) (number : ℕ) (n : TreeNode) → IsAt nodes number n → level_at nodes number ≡ n.level
 level_is nodes number n at = ap (λ (o : Option TreeNode). elim o [ None ↦ 0 | Some n ↦ n.level ]) at
 
+-- the node that a reference names is a level lower
+pub child_lower : (nodes : List TreeNode) → IsTree nodes → (number : ℕ) (n : TreeNode) (shown : Child) (x : IndexNode ℕ) → slice_get nodes number ≡ Some n → n ≡ seen n.level shown → shown ≡ Index x
+    → (r : Reference ℕ) → Contains x.references.items r → level_at nodes r.child < level_at nodes number
+child_lower nodes tree number n shown x at is same r among =
+    let index : IsIndex nodes n.level x.rect x.references.items = index_at nodes tree number n.level x.rect x.references.items (shown_at nodes number n shown (Index x) at is same) in
+    let refers : RefersTo nodes n.level r = All-contains (RefersTo nodes n.level) x.references.items r index.below among in
+    let under : n.level ≡ refers.node.level + 1 = refers.below in
+    let below = level_is nodes r.child refers.node refers.there in
+    let above = level_is nodes number n at in
+    omega arith
+
 module _ (nodes : List TreeNode) (tree : IsTree nodes) (area : Area) (is_area : IsArea area) where
   -- all points of a rectangle are at instants from the first on
   pub root_around : IsAround nodes area 0
@@ -65,12 +76,7 @@ module _ (nodes : List TreeNode) (tree : IsTree nodes) (area : Area) (is_area : 
         record { node = refers.node; there = refers.there; inside = subst (IsInside area) refers.same inside }
 
     pub child_below : (r : Reference ℕ) → Contains x.references.items r → level_at nodes r.child < level_at nodes number
-    child_below r among =
-        let refers : RefersTo nodes n.level r = All-contains (RefersTo nodes n.level) x.references.items r index_is.below among in
-        let under : n.level ≡ refers.node.level + 1 = refers.below in
-        let below = level_is nodes r.child refers.node refers.there in
-        let above = level_is nodes number n at in
-        omega arith
+    child_below r among = child_lower nodes tree number n shown x at is same r among
 
     -- the child at the first point, where the rectangle ends in it
     pub child_at_first : (r : Reference ℕ) (keys : KeyRange) (time : TimeRange) → keys ≡ area.keys → time ≡ area.time → Contains x.references.items r → has_point r.rect keys.lo time.from ≡ true → ends_within area r.rect ≡ true → IsAround nodes area r.child

@@ -60,7 +60,7 @@ pub(crate) fn leaf_near(nodes: &Nodes, near: usize, key: &KeyBytes, instant: Ins
 }
 
 /// Tells whether a number is that of the data node at a point.
-fn is_leaf_at(nodes: &Nodes, number: usize, key: &KeyBytes, instant: Instant) -> bool
+pub(crate) fn is_leaf_at(nodes: &Nodes, number: usize, key: &KeyBytes, instant: Instant) -> bool
     requires { IsTree nodes.now }
     ensures { IsTrue result → IsLeafAt nodes.now key.now instant number }
 {

@@ -2,6 +2,7 @@
 #![tactic(auto)]
 
 mod change_after;
+mod cursor;
 mod descent;
 mod gather;
 mod last_change;

@@ -9,6 +9,7 @@ ghost use Rattle.treenodes.specs.Tree.{IsTree};
 ghost use Rattle.treenodes.specs.Map.{HoldsMap};
 ghost use Rattle.treewalk.specs.Leaf.{node_in};
 
+use crate::cursor::Cursor;
 use crate::gather::{Query, asked_of};
 use crate::leaf::leaf;
 use blocks::{Block, Blocks};
@@ -19,8 +20,9 @@ use treenodes::{Child, Nodes};
 use values::{Instant, KeyBytes, Mem, SharedEvent};
 
 /// Lists a key's events by instant: the one whose row holds at the first instant, and those after
-/// it up to the last and with it. Each leaf of the key in that time is looked into once. Of a block
-/// the events of a range are read that has the key. `Memory` where it runs out.
+/// it up to the last and with it. Each leaf of the key in that time is looked into once, but the first,
+/// which is also asked for the row that holds. Of a block the events of a range are read that has
+/// the key. `Memory` where it runs out.
 pub fn key_window<B: Blocks>(
     alloc: Global,
     blocks: &mut B,
@@ -38,9 +40,10 @@ pub fn key_window<B: Blocks>(
     ensures err { OnlyMemory result }
 {
     let mut found = standing_event(alloc, blocks, nodes, key, range, first)?;
+    let mut cursor = Cursor::new();
     let mut until = first;
     while until < last {
-        let child = leaf(nodes, key, until + 1);
+        let child = cursor.leaf(nodes, key, until + 1);
         add_events(blocks, child, key, range, until, last, &mut found)?;
         match child.rect().time().to {
             None => return Ok(found),
