@@ -83,7 +83,7 @@ fn rows_shown(alloc: Global, events: &[SharedEvent], search: &Search<'_>) -> Mem
         → v.items ≡ filter_map (row_taken search.now.table search.now.keys) events.now) }
     ensures err { OnlyMemory result }
 {
-    let mut rows = Vec::new(alloc);
+    let mut rows = Vec::with_capacity(alloc, events.len())?;
     for event in events {
         push_some(&mut rows, search.row_in(alloc, event.event())?)?;
     }

@@ -84,7 +84,7 @@ pub(crate) fn shown_in(
         ≡ shown_in (events view.now) last search.now.table form search.now.keys found.now) }
     ensures err { OnlyMemory result }
 {
-    let mut shown = Vec::new(alloc);
+    let mut shown = Vec::with_capacity(alloc, found.len())?;
     let mut rest = found;
     while let [event, behind @ ..] = rest {
         rest = behind;
