@@ -2,7 +2,8 @@
 use Rattle.std.proofs.Common.{◌≡◌, ◌≤◌, ◌||◌, Bool, true, false, List, [], ◌∷◌, ◌++◌, Option, Some, None, All, refl, sym, ap, ◌∙◌, subst, arith, length, map, append-nil, append_assoc, if◌then◌else◌}
 use Rattle.std.proofs.lemmas.List.{map-append}
 use Rattle.std.proofs.lemmas.List.Elements.{All-head, All-tail, All-cons, All-nil}
-use Rattle.std.specs.List.{list_any}
+use Rattle.std.specs.List.{AllByRecursion, list_any}
+use Rattle.std.specs.List.Sorted.{IsStrictlySortedBy}
 use Rattle.std.specs.BTreeSet.{insert_key}
 use Rattle.std.specs.Ordering.{match_ordering, is_eq}
 use Rattle.std.specs.declared.cmp.Ordering.{Ordering}
@@ -20,8 +21,9 @@ use Rattle.values.specs.RowEncoding.{IsHeld}
 use Rattle.values.specs.Log.{Row}
 use Rattle.values.specs.Writes.{add_keys, duplicate_from, key_of}
 use Rattle.values.proofs.KeyOrder.{byte_order_is_key_order}
-use Rattle.values.proofs.OrderTotal.{key_cmp-IsAntisymmetric}
+use Rattle.values.proofs.OrderTotal.{key_cmp_total, key_cmp-IsAntisymmetric}
 use Rattle.interchange.specs.Insertion.{keys_of}
+use Rattle.interchange.proofs.KeySetOrder.{sorted_inserted}
 
 -- ---- a key among the earlier ones
 
@@ -126,6 +128,30 @@ pub any_bytes : (table : Table) (ls : List Key) (k : Key) → All (IsKeyOf table
     → list_any (λ b. is_eq (bytes_cmp (bytes_of_key k) b)) (map bytes_of_key ls) ≡ list_any (is_key k) ls
 any_bytes table [] k h own = refl
 any_bytes table (x ∷ ls) k h own = λ i. is_eq (same_order table k x own (All-head (IsKeyOf table) x ls h) i) || any_bytes table ls k (All-tail (IsKeyOf table) x ls h) own i
+
+sorted_added : (ks ls : List Key) → IsStrictlySortedBy key_cmp ls → IsStrictlySortedBy key_cmp (add_keys ks ls)
+sorted_added [] ls h = h
+sorted_added (k ∷ ks) ls h = sorted_added ks (insert_key key_cmp ls k) (sorted_inserted key_cmp_total ls k h)
+
+bytes_below : (table : Table) (k : Key) (ls : List Key) → IsKeyOf table k → All (IsKeyOf table) ls → AllByRecursion (λ l. key_cmp k l ≡ Less) ls
+    → AllByRecursion (λ b. bytes_cmp (bytes_of_key k) b ≡ Less) (map bytes_of_key ls)
+bytes_below table k [] own h below = tt
+bytes_below table k (x ∷ ls) own h below =
+    (same_order table k x own (All-head (IsKeyOf table) x ls h) ∙ below.0, bytes_below table k ls own (All-tail (IsKeyOf table) x ls h) below.1)
+
+bytes_sorted : (table : Table) (ls : List Key) → All (IsKeyOf table) ls → IsStrictlySortedBy key_cmp ls → IsStrictlySortedBy bytes_cmp (map bytes_of_key ls)
+unfolding IsStrictlySortedBy
+bytes_sorted table [] h sorted = tt
+bytes_sorted table (x ∷ ls) h sorted =
+    (bytes_below table x ls (All-head (IsKeyOf table) x ls h) (All-tail (IsKeyOf table) x ls h) sorted.0, bytes_sorted table ls (All-tail (IsKeyOf table) x ls h) sorted.1)
+
+none_sorted : IsStrictlySortedBy key_cmp []
+unfolding IsStrictlySortedBy
+none_sorted = tt
+
+-- the bytes of a set of keys are in their order
+pub added_sorted : (table : Table) (keys : List Key) → All (IsKeyOf table) (add_keys keys []) → IsStrictlySortedBy bytes_cmp (map bytes_of_key (add_keys keys []))
+added_sorted table keys h = bytes_sorted table (add_keys keys []) h (sorted_added keys [] none_sorted)
 
 -- ---- the first key that an earlier one repeats
 

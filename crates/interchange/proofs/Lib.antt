@@ -4,6 +4,7 @@ mod KeptFieldHeader
 mod KeptFieldRows
 mod LoadFields
 mod VersionChunks
+mod KeySetOrder
 mod InsertionKeys
 mod InsertionCome
 mod OpenRecordText

@@ -1,5 +1,5 @@
 -- Rows that one INSERT over no rows is to take, as they come.
-use Rattle.std.specs.Prelude.{◌≡◌, ◌≤◌, List, [], Some, None, false, length, map, All}
+use Rattle.std.specs.Prelude.{◌≡◌, ◌≤◌, ℕ, List, [], Some, None, false, length, map, All}
 use Rattle.values.specs.declared.table.Table.{Table}
 use Rattle.values.specs.declared.key.Key.{Key}
 use Rattle.values.specs.Log.{Row}
@@ -9,6 +9,7 @@ use Rattle.values.specs.Fit.{rows_fault}
 use Rattle.values.specs.Write.{has_bad_span}
 use Rattle.values.specs.Writes.{key_of, keyed, duplicate_from, add_keys, most_written}
 use Rattle.interchange.specs.declared.key_set.KeySet.{KeySet}
+use Rattle.interchange.specs.declared.key_set.KeySet.TheVariants.{Rising, Mixed}
 use Rattle.interchange.specs.declared.insertion.Insertion.{Insertion}
 use Rattle.interchange.specs.Overlaps.{HasSpans}
 
@@ -16,10 +17,15 @@ use Rattle.interchange.specs.Overlaps.{HasSpans}
 abbrev pub keys_of : Table → List Row → List Key
 keys_of table rows = map (key_of table) rows
 
+-- the bytes of the keys of a set
+abbrev pub bytes_in : KeySet → List (List ℕ)
+bytes_in (Rising keys) = keys.items
+bytes_in (Mixed keys) = keys.keys
+
 -- the set has these keys of the table, by their bytes
 pub record HasKeys (table : Table) (keys : List Key) (set : KeySet) : Type 0 where
   pub of_table : All (IsKeyOf table) (add_keys keys [])
-  pub bytes_are : set.keys.keys ≡ map bytes_of_key (add_keys keys [])
+  pub bytes_are : bytes_in set ≡ map bytes_of_key (add_keys keys [])
 
 -- no two of these rows have one key; as many are kept as one INSERT may have
 pub record AreApart (table : Table) (rows : List Row) (i : Insertion) : Type 0 where

@@ -8,10 +8,10 @@ use Rattle.interchange.proofs.InsertionCome.{on_err}
 use Rattle.interchange.proofs.LoadingReads.{err_items, none_of, ok_items, whole_of}
 use Rattle.interchange.proofs.loading.Loading.finish.Goals as goal
 
-abbrev Says : goal.Joined-self-5 → Result (List Row) Refusal → Type 0
+abbrev Says : goal.Joined-self-6 → Result (List Row) Refusal → Type 0
 Says c r = (text : List ℕ) → IsReadTo c.args.table.now text c.args.self → IsWholeOf c.args.table.now text r
 
-said : (c : goal.Joined-self-5) → Says c (vec_items c.finish.result)
+said : (c : goal.Joined-self-6) → Says c (vec_items c.finish.result)
 said c = λ text read. whole_of c.args.table.now text c.close.new.self (vec_items c.finish.result) (ap is_some c.in-Some.is) c.finish.ensures (c.in-Ok.ensures.ok text read)
 
 pub returns-in-Some-clause-ok : goal.returns-in-Some-clause-ok
