@@ -14,9 +14,9 @@ use Rattle.treenodes.proofs.LookupSteps.{is_data, bottom_of}
 use Rattle.treenodes.proofs.NodeNumbers.{one_at}
 use Rattle.treewalk.specs.Leaf.{node_in}
 use Rattle.treewalk.specs.Level.{AreMeeting, IsAround}
-use Rattle.treewalk.specs.Gather.{asked, events_at, AreGatheredIn}
+use Rattle.treewalk.specs.Gather.{asked, leaf_query, events_at, start_at, AreGatheredIn}
 use Rattle.treewalk.specs.declared.gather.Query.{Query}
-use Rattle.treewalk.proofs.GatherLeaves.{events_are}
+use Rattle.treewalk.proofs.GatherLeaves.{events_are, start_is}
 use Rattle.treewalk.proofs.LevelSteps.{from_around}
 
 module _ (nodes : List TreeNode) (tree : IsTree nodes) (area : Area) (is_area : IsArea area) (number : ℕ) (around : IsAround nodes area number) (n : TreeNode) (shown : Child)
@@ -30,9 +30,16 @@ module _ (nodes : List TreeNode) (tree : IsTree nodes) (area : Area) (is_area : 
   alone : AreMeeting nodes 0 area (number ∷ [])
   alone = subst (λ l. AreMeeting nodes l area (number ∷ [])) bottom (from_around nodes tree area is_area number around (number ∷ []) refl)
 
-  pub alone_asked : (query : Query) (range : KeyRange) (es : List Event) → es ≡ asked query range (node_in shown).events → AreGatheredIn query range nodes area es
+  shown_start : (node_in shown).rect.time.from ≡ start_at nodes number
+  shown_start = sym (start_is nodes tree number n at ∙ ap (λ (p : TreeNode). p.rect.time.from) is)
+
+  shown_events : (node_in shown).events ≡ events_at nodes number
+  shown_events = sym (events_are nodes tree number n at ∙ ap (λ (p : TreeNode). events_of p.content) is)
+
+  pub alone_asked : (query : Query) (range : KeyRange) (es : List Event) → es ≡ asked (leaf_query query (node_in shown).rect.time.from) range (node_in shown).events → AreGatheredIn query range nodes area es
   alone_asked query range es are = (
     number ∷ [],
     alone,
-    are ∙ ap (asked query range) (sym (events_are nodes tree number n at ∙ ap (λ (p : TreeNode). events_of p.content) is)) ∙ sym (append-nil (asked query range (events_at nodes number))),
+    are ∙ ap (λ t. asked (leaf_query query t) range (node_in shown).events) shown_start ∙ ap (asked (leaf_query query (start_at nodes number)) range) shown_events
+        ∙ sym (append-nil (asked (leaf_query query (start_at nodes number)) range (events_at nodes number))),
   )

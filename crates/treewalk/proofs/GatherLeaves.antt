@@ -11,7 +11,7 @@ use Rattle.treenodes.specs.Node.{Content, Events, References, TreeNode, IsAt, Is
 use Rattle.treenodes.specs.Tree.{IsTree}
 use Rattle.treenodes.specs.Map.{HoldsMap, IsCut}
 use Rattle.treewalk.specs.Level.{MeetsAt, AreMeeting, AreLeaves}
-use Rattle.treewalk.specs.Gather.{events_at}
+use Rattle.treewalk.specs.Gather.{events_at, start_at}
 use Rattle.treewalk.proofs.ListingMembers.{contained, member, In-flat_map, In-from_flat_map}
 use Rattle.treewalk.proofs.LevelNodes.{NodeAt, at_level, is_listed}
 
@@ -30,6 +30,9 @@ module _ (nodes : List TreeNode) (tree : IsTree nodes) where
   pub events_are : (number : ℕ) (n : TreeNode) → IsAt nodes number n → events_at nodes number ≡ events_of n.content
   events_are number n at = ap (λ (o : Option TreeNode). elim o [ None ↦ [] | Some n ↦ events_of n.content ]) at
 
+  pub start_is : (number : ℕ) (n : TreeNode) → IsAt nodes number n → start_at nodes number ≡ n.rect.time.from
+  start_is number n at = ap (λ (o : Option TreeNode). elim o [ None ↦ 0 | Some n ↦ n.rect.time.from ]) at
+
   -- the events of a leaf are the cut of the map
   pub leaf_cut : (m : List Event) → HoldsMap nodes m → (number : ℕ) (n : TreeNode) → IsAt nodes number n → n.level ≡ 0 → events_at nodes number ≡ cut n.rect m
   leaf_cut m holds number n at level =
@@ -37,24 +40,30 @@ module _ (nodes : List TreeNode) (tree : IsTree nodes) where
 
 -- ---- all leaves of a rectangle
 
--- a point of the rectangle, at which the leaf shows an event
-pub record IsShownAt (area : Area) (m : List Event) (f : List Event → List Event) (e : Event) : Type 0 where
+-- a point of the rectangle, at which the leaf shows an event; what it shows is told by its start and its events
+pub record IsShownAt (area : Area) (m : List Event) (f : ℕ → List Event → List Event) (e : Event) : Type 0 where
   pub instant : ℕ
   pub is_first : 1 ≤ instant
   pub is_last : instant ≤ max_instant
   pub inside : has_point area e.key instant ≡ true
-  pub shown : (r : Area) → has_point r e.key instant ≡ true → In e (f (cut r m))
+  pub shown : (r : Area) → has_point r e.key instant ≡ true → In e (f r.time.from (cut r m))
 
-module _ (nodes : List TreeNode) (tree : IsTree nodes) (m : List Event) (holds : HoldsMap nodes m) (area : Area) (numbers : List ℕ) (are : AreMeeting nodes 0 area numbers) (f : List Event → List Event) where
+module _ (nodes : List TreeNode) (tree : IsTree nodes) (m : List Event) (holds : HoldsMap nodes m) (area : Area) (numbers : List ℕ) (are : AreMeeting nodes 0 area numbers) (f : ℕ → List Event → List Event) where
+  abbrev found_at : ℕ → List Event
+  found_at number = f (start_at nodes number) (events_at nodes number)
+
   abbrev all_found : List Event
-  all_found = flat_map (λ number. f (events_at nodes number)) numbers
+  all_found = flat_map found_at numbers
+
+  leaf_shows : (number : ℕ) (n : TreeNode) → IsAt nodes number n → n.level ≡ 0 → found_at number ≡ f n.rect.time.from (cut n.rect m)
+  leaf_shows number n at level = ap (λ t. f t (events_at nodes number)) (start_is nodes tree number n at) ∙ ap (f n.rect.time.from) (leaf_cut nodes tree m holds number n at level)
 
   -- what leaves show is the map's
-  pub all_sound : (P : Event → Type 0) → ((r : Area) → Common r area → (e : Event) → In e (f (cut r m)) → P e) → (e : Event) → In e all_found → P e
+  pub all_sound : (P : Event → Type 0) → ((r : Area) → Common r area → (e : Event) → In e (f r.time.from (cut r m)) → P e) → (e : Event) → In e all_found → P e
   all_sound P each e i =
-      let s = In-from_flat_map (λ number. f (events_at nodes number)) numbers e i in
+      let s = In-from_flat_map found_at numbers e i in
       let meets : MeetsAt nodes 0 area s.0 = All-contains (MeetsAt nodes 0 area) numbers s.0 are.each (contained numbers s.0 s.1) in
-      each meets.node.rect meets.common e (subst (λ es. In e (f es)) (leaf_cut nodes tree m holds s.0 meets.node meets.there meets.of_level) s.2)
+      each meets.node.rect meets.common e (subst (In e) (leaf_shows s.0 meets.node meets.there meets.of_level) s.2)
 
   -- and what some leaf shows is found
   pub all_whole : (e : Event) → IsShownAt area m f e → In e all_found
@@ -66,5 +75,5 @@ module _ (nodes : List TreeNode) (tree : IsTree nodes) (m : List Event) (holds :
         of_level = leaf.of_level;
         common = record { key = e.key; instant = h.instant; is_first = h.is_first; is_last = h.is_last; in_first = leaf.holds; in_second = h.inside };
       } in
-      In-flat_map (λ number. f (events_at nodes number)) numbers leaf.number e (member numbers leaf.number (are.whole leaf.number meets))
-      (subst (λ es. In e (f es)) (sym (leaf_cut nodes tree m holds leaf.number leaf.node leaf.there leaf.of_level)) (h.shown leaf.node.rect leaf.holds))
+      In-flat_map found_at numbers leaf.number e (member numbers leaf.number (are.whole leaf.number meets))
+      (subst (In e) (sym (leaf_shows leaf.number leaf.node leaf.there leaf.of_level)) (h.shown leaf.node.rect leaf.holds))

@@ -1,8 +1,8 @@
 -- What was gathered of the leaves, put in order, is what is asked of the map.
-use Rattle.std.proofs.Common.{◌≡◌, ℕ, ◌≤◌, Bool, true, List, Option, Some, None, refl, sym, ap, subst, ◌∙◌, arith, nat_le, min}
+use Rattle.std.proofs.Common.{◌≡◌, ℕ, ◌≤◌, Bool, true, List, Option, Some, None, refl, sym, ap, subst, ◌∙◌, arith, nat_le, min, max}
 use Rattle.std.specs.Prelude.{Contains, ◌&&◌}
 use Rattle.std.specs.List.{filter}
-use Rattle.std.proofs.lemmas.Bool.{and_parts, and_from, leb-true}
+use Rattle.std.proofs.lemmas.Bool.{and_parts, and_from, leb-true, le-leb}
 use Rattle.std.proofs.lemmas.Bool.Decides.{Decides-like, same_from_decides}
 use Rattle.values.specs.Event.{Event}
 use Rattle.values.specs.Commits.{max_instant}
@@ -15,11 +15,12 @@ use Rattle.datanode.specs.Cut.{IsMap, in_cut, cut}
 use Rattle.datanode.proofs.CutMembers.{In, In-filter, In-from_filter, filter_alike}
 use Rattle.datanode.proofs.CutOrder.{In_place}
 use Rattle.datanode.proofs.CutLaws.{IsTimeIn, in_cut_decides, time_decides}
+use Rattle.datanode.proofs.NodePut.{point_of}
 use Rattle.treenodes.specs.Node.{TreeNode}
 use Rattle.treenodes.specs.Tree.{IsTree}
 use Rattle.treenodes.specs.Map.{HoldsMap}
 use Rattle.treewalk.specs.Level.{AreMeeting}
-use Rattle.treewalk.specs.Gather.{instants, area_between, asked, AreGathered}
+use Rattle.treewalk.specs.Gather.{instants, area_between, asked, leaf_query, AreGathered}
 use Rattle.treewalk.specs.declared.gather.Query.{Query}
 use Rattle.treewalk.specs.declared.gather.Query.TheVariants.{Between, At}
 use Rattle.treenodes.proofs.MapRead.{held}
@@ -28,13 +29,17 @@ use Rattle.treewalk.proofs.GatherArea.{Asked, area_of, asked_area, asked_point, 
 use Rattle.treewalk.proofs.GatherLeaves.{IsShownAt, all_sound, all_whole}
 use Rattle.treewalk.proofs.ListingStanding.{Stands, stands_decides, to_cut, from_cut}
 
+-- what is asked of a leaf, by its start and its events
+abbrev of_leaf : Query → KeyRange → ℕ → List Event → List Event
+of_leaf query range start = asked (leaf_query query start) range
+
 -- an event that passes is at a point in question, and a leaf that has the point shows it
 pub record IsSeen (query : Query) (range : KeyRange) (m : List Event) (e : Event) : Type 0 where
   pub area : area_between range (instants query).0 (instants query).1 ≡ Some (area_of range (instants query).0 (instants query).1)
-  pub shown : IsShownAt (area_of range (instants query).0 (instants query).1) m (asked query range) e
+  pub shown : IsShownAt (area_of range (instants query).0 (instants query).1) m (of_leaf query range) e
 
 module _ (nodes : List TreeNode) (tree : IsTree nodes) (m : List Event) (holds : HoldsMap nodes m) (query : Query) (range : KeyRange) (p : Event → Bool)
-    (sound : (r : Area) → Common r (area_of range (instants query).0 (instants query).1) → (e : Event) → In e (asked query range (cut r m)) → In e m × (p e ≡ true))
+    (sound : (r : Area) → Common r (area_of range (instants query).0 (instants query).1) → (e : Event) → In e (of_leaf query range r.time.from (cut r m)) → In e m × (p e ≡ true))
     (seen : (e : Event) → In e m → p e ≡ true → IsSeen query range m e) where
   listed_by : (o : Option Area) → area_between range (instants query).0 (instants query).1 ≡ o → (found es : List Event) → AreGathered query range nodes found → IsMap es
       → ((e : Event) → Contains es e → Contains found e) → ((e : Event) → Contains found e → HasTie e es) → es ≡ filter p m
@@ -47,8 +52,8 @@ module _ (nodes : List TreeNode) (tree : IsTree nodes) (m : List Event) (holds :
       let one : area ≡ area_of range (instants query).0 (instants query).1 = area_is range (instants query).0 (instants query).1 area is in
       let meeting = subst (λ a. AreMeeting nodes 0 a some.0) one some.1 in
       sorted_out m p holds.ordered found es sorted from kept
-      (λ e i. all_sound nodes tree m holds (area_of range (instants query).0 (instants query).1) some.0 meeting (asked query range) (λ x. In x m × (p x ≡ true)) sound e (subst (In e) some.2 i))
-      (λ e i passes. subst (In e) (sym some.2) (all_whole nodes tree m holds (area_of range (instants query).0 (instants query).1) some.0 meeting (asked query range) e (seen e i passes).shown))
+      (λ e i. all_sound nodes tree m holds (area_of range (instants query).0 (instants query).1) some.0 meeting (of_leaf query range) (λ x. In x m × (p x ≡ true)) sound e (subst (In e) some.2 i))
+      (λ e i passes. subst (In e) (sym some.2) (all_whole nodes tree m holds (area_of range (instants query).0 (instants query).1) some.0 meeting (of_leaf query range) e (seen e i passes).shown))
 
   listed : (found es : List Event) → AreGathered query range nodes found → IsMap es
       → ((e : Event) → Contains es e → Contains found e) → ((e : Event) → Contains found e → HasTie e es) → es ≡ filter p m
@@ -63,6 +68,24 @@ module _ (nodes : List TreeNode) (tree : IsTree nodes) (m : List Event) (holds :
     abbrev passes : Event → Bool
     passes e = is_key_in range e.key && (nat_le from e.at && nat_le e.at to)
 
+    -- it passes, and is not from before a leaf's start
+    abbrev passes_from : ℕ → Event → Bool
+    passes_from start e = is_key_in range e.key && (nat_le (max from start) e.at && nat_le e.at to)
+
+    own_passes : (start : ℕ) (e : Event) → passes_from start e ≡ true → passes e ≡ true
+    own_passes start e h =
+        let key = and_parts (is_key_in range e.key) _ h in
+        let time = and_parts (nat_le (max from start) e.at) _ key.1 in
+        let late : max from start ≤ e.at = leb-true (max from start) e.at time.0 in
+        and_from _ _ key.0 (and_from _ _ (le-leb from e.at (omega arith)) time.1)
+
+    passes_own : (start : ℕ) (e : Event) → start ≤ e.at → passes e ≡ true → passes_from start e ≡ true
+    passes_own start e late h =
+        let key = and_parts (is_key_in range e.key) _ h in
+        let time = and_parts (nat_le from e.at) _ key.1 in
+        let first : from ≤ e.at = leb-true from e.at time.0 in
+        and_from _ _ key.0 (and_from _ _ (le-leb (max from start) e.at (omega arith)) time.1)
+
     between : (e : Event) → In e m → passes e ≡ true → Asked range from to e.key e.at
     between e i h =
         let time = and_parts (nat_le from e.at) _ (and_parts (is_key_in range e.key) _ h).1 in
@@ -70,7 +93,7 @@ module _ (nodes : List TreeNode) (tree : IsTree nodes) (m : List Event) (holds :
 
     pub events_listed : es ≡ events_in m range from to
     events_listed = listed nodes tree m holds (Between from to) range passes
-        (λ r common e i. (let k = In-from_filter passes (cut r m) e i in ((In-from_filter (in_cut r m) m e k.0).0, k.1)))
+        (λ r common e i. (let k = In-from_filter (passes_from r.time.from) (cut r m) e i in ((In-from_filter (in_cut r m) m e k.0).0, own_passes r.time.from e k.1)))
         (λ e i h. (let b = between e i h in record {
           area = asked_area range from to e.key e.at b;
           shown = record {
@@ -78,7 +101,7 @@ module _ (nodes : List TreeNode) (tree : IsTree nodes) (m : List Event) (holds :
             is_first = (in_time e i).0;
             is_last = (in_time e i).1;
             inside = asked_point range from to e.key e.at b;
-            shown = λ r point. In-filter passes (cut r m) e (held r m e i point) h;
+            shown = λ r point. In-filter (passes_from r.time.from) (cut r m) e (held r m e i point) (passes_own r.time.from e (point_of r e point).start h);
           };
         }))
         found es are sorted out kept

@@ -87,9 +87,9 @@ module _ (nodes : List TreeNode) (tree : IsTree nodes) (m : List Event) (holds :
   pub leaves_latest : (area : Area) → area_between range (start + 1) max_instant ≡ Some area → (numbers : List ℕ) → AreMeeting nodes 0 area numbers
       → event_since_in (flat_map (events_at nodes) numbers) start range ≡ event_since_in m start range
   leaves_latest area is numbers are = same_latest (counts range start) (counts range start) (flat_map (events_at nodes) numbers) m
-      (λ x i k. (all_sound nodes tree m holds (area_of range (start + 1) max_instant) numbers meeting (λ es. es) (λ e. In e m) (λ r common e j. (In-from_filter (in_cut r m) m e j).0) x i, k))
+      (λ x i k. (all_sound nodes tree m holds (area_of range (start + 1) max_instant) numbers meeting (λ start es. es) (λ e. In e m) (λ r common e j. (In-from_filter (in_cut r m) m e j).0) x i, k))
       (λ x i k. (
-        all_whole nodes tree m holds (area_of range (start + 1) max_instant) numbers meeting (λ es. es) x (record {
+        all_whole nodes tree m holds (area_of range (start + 1) max_instant) numbers meeting (λ start es. es) x (record {
           instant = x.at;
           is_first = (in_time nodes tree m holds x i).0;
           is_last = (in_time nodes tree m holds x i).1;

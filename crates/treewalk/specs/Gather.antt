@@ -33,13 +33,25 @@ abbrev pub asked : Query → KeyRange → List Event → List Event
 asked (Between from to) range es = events_in es range from to
 asked (At instant) range es = standing es (is_key_in range) instant
 
+-- what a query asks of a leaf that begins at an instant: of the events between two instants those
+-- at its own points alone
+abbrev pub leaf_query : Query → ℕ → Query
+leaf_query (Between from to) start = Between (max from start) to
+leaf_query (At instant) start = At instant
+
 -- the events of the node that has the number
 abbrev pub events_at : List TreeNode → ℕ → List Event
 events_at nodes number = elim (slice_get nodes number) [ None ↦ [] | Some n ↦ events_of n.content ]
 
+-- the first instant of the node that has the number
+abbrev pub start_at : List TreeNode → ℕ → ℕ
+start_at nodes number = elim (slice_get nodes number) [ None ↦ 0 | Some n ↦ n.rect.time.from ]
+
 -- what is asked of each node, one after the other
 abbrev pub asked_of_all : Query → KeyRange → List TreeNode → List ℕ → List Event
-asked_of_all query range nodes = flat_map (λ number. asked query range (events_at nodes number))
+asked_of_all query range nodes =
+    flat_map
+    (λ number. asked (leaf_query query (start_at nodes number)) range (events_at nodes number))
 
 -- the query asked of all data nodes that have a point of a rectangle
 abbrev pub AreGatheredIn : Query → KeyRange → List TreeNode → Area → List Event → Type 0

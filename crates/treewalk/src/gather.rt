@@ -2,7 +2,7 @@
 ghost use Rattle.std.specs.Prelude.{◌≡◌, IfOk};
 ghost use Rattle.values.specs.Memory.{OnlyMemory};
 ghost use Rattle.treenodes.specs.Tree.{IsTree};
-ghost use Rattle.treewalk.specs.Gather.{instants, area_between, asked, asked_of_all, AreGathered, AreGatheredIn};
+ghost use Rattle.treewalk.specs.Gather.{instants, area_between, asked, asked_of_all, AreGathered, AreGatheredIn, leaf_query};
 ghost use Rattle.treewalk.specs.Leaf.{node_in};
 ghost use Rattle.treewalk.specs.Level.{AreLeaves};
 
@@ -115,7 +115,7 @@ fn gathered_of<B: Blocks>(
     Ok(found)
 }
 
-/// What is asked of a data node.
+/// What is asked of a data node: of the events between two instants those at its own points alone.
 pub(crate) fn asked_of<B: Blocks>(
     alloc: Global,
     blocks: &mut B,
@@ -123,13 +123,27 @@ pub(crate) fn asked_of<B: Blocks>(
     range: &KeyRange,
     query: Query,
 ) -> Mem<Vec<SharedEvent>>
-    ensures ok { IfOk result (λ v. v.items ≡ asked query range.now (node_in child.now).events) }
+    ensures ok { IfOk result (λ v. v.items
+        ≡ asked (leaf_query query (node_in child.now).rect.time.from)
+        range.now (node_in child.now).events) }
     ensures err { OnlyMemory result }
 {
+    let query = leaf_query(query, child.rect().time().from);
     match child {
         Child::Data(node) => asked_of_node(alloc, node, range, query),
         Child::Packed(block) => asked_of_block(alloc, blocks, block, range, query),
         Child::Index(_) => Ok(Vec::new(alloc)),
+    }
+}
+
+/// What a query asks of a leaf that begins at an instant. An event from before it is carried, and
+/// is listed of the leaf at its own point. The row that holds at an instant may be a carried one.
+fn leaf_query(query: Query, start: Instant) -> Query
+    ensures { result ≡ leaf_query query start }
+{
+    match query {
+        Query::Between(from, to) => Query::Between(from.max(start), to),
+        Query::At(instant) => Query::At(instant),
     }
 }
 

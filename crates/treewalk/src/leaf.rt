@@ -10,7 +10,7 @@ ghost use Rattle.datanode.specs.NextChange.{event_after};
 ghost use Rattle.treenodes.specs.Tree.{IsTree};
 ghost use Rattle.treenodes.specs.Map.{HoldsMap};
 ghost use Rattle.treenodes.specs.Lookup.{IsData, IsLeafAt};
-ghost use Rattle.treewalk.specs.Gather.{events_at};
+ghost use Rattle.treewalk.specs.Gather.{events_at, start_at};
 ghost use Rattle.treewalk.specs.Leaf.{is_upto, node_in};
 
 use blocks::Block;
@@ -73,7 +73,8 @@ pub(crate) fn is_leaf_at(nodes: &Nodes, number: usize, key: &KeyBytes, instant: 
 /// The data node of a number.
 pub(crate) fn leaf_of(nodes: &Nodes, number: usize) -> &Child
     requires { IsData nodes.now number }
-    ensures { (node_in result.now).events ≡ events_at nodes.now number }
+    ensures events { (node_in result.now).events ≡ events_at nodes.now number }
+    ensures start { (node_in result.now).rect.time.from ≡ start_at nodes.now number }
 {
     nodes.at(number).child()
 }

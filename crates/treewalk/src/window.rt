@@ -20,9 +20,9 @@ use treenodes::{Child, Nodes};
 use values::{Instant, KeyBytes, Mem, SharedEvent};
 
 /// Lists a key's events by instant: the one whose row holds at the first instant, and those after
-/// it up to the last and with it. Each leaf of the key in that time is looked into once, but the first,
-/// which is also asked for the row that holds. Of a block the events of a range are read that has
-/// the key. `Memory` where it runs out.
+/// it up to the last and with it. Each leaf of the key in that time is looked into once, but the
+/// first, which may be asked twice: for the row that holds, and for the events behind it. Of a
+/// block the events of a range are read that has the key. `Memory` where it runs out.
 pub fn key_window<B: Blocks>(
     alloc: Global,
     blocks: &mut B,

@@ -10,4 +10,4 @@ use Rattle.treewalk.proofs.range_change.change_in_leaves.Goals as goal
 pub loop-number-preserved : goal.loop-number-preserved
 loop-number-preserved c =
     latest_of_more (counts c.args.range.now c.args.start) (events_at c.args.nodes.now) c.args.numbers.now c.loop-number.number-index c.loop-number.latest c.in_ok-found.found c.latest_of-latest.result c.loop-number-test.true c.loop-number.invariant
-    (c.in_ok-found.ensures.ok ∙ ap (λ (es : List Event). event_since_in es c.args.start c.args.range.now) c.leaf_of.ensures) c.latest_of-latest.ensures
+    (c.in_ok-found.ensures.ok ∙ ap (λ (es : List Event). event_since_in es c.args.start c.args.range.now) c.leaf_of.ensures.events) c.latest_of-latest.ensures
