@@ -7,3 +7,4 @@ pub mod PlaceSame
 pub mod TokenSame
 pub mod WordCases
 pub mod NameLetters
+pub mod WordLetters

@@ -11,4 +11,4 @@ pub use digit::{capped_at, split_digits};
 pub use name::{is_reserved, kept_name_at, name_at};
 pub use token::{After, Made, Read, Separators, Stop, symbol_at};
 pub use type_name::type_at;
-pub use word::{after_word, is_word_at, word_at};
+pub use word::{after_word, is_word_at, word_at, word_here};

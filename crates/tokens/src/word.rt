@@ -1,16 +1,15 @@
 //! Words of the grammars, which are read in any case.
-ghost use Rattle.std.specs.Prelude.{◌≡◌, ◌≤◌, length, false, IsUtf8, Ok, Err, if◌then◌else◌};
+ghost use Rattle.std.specs.Prelude.{◌≡◌, ◌≤◌, length, IsUtf8, Ok, Err, if◌then◌else◌};
 ghost use Rattle.values.specs.Names.{same_name};
 ghost use Rattle.tokens.specs.Token.{Leaves, prefix_while, skip_while};
 ghost use Rattle.tokens.specs.Word.{is_name_byte, word_length, is_word_at, after_word, word_at};
 
 use crate::token::{After, Separators};
-use values::same_name;
 
 fn is_name_byte(byte: u8) -> bool
     ensures { result ≡ is_name_byte byte }
 {
-    byte.is_ascii_alphanumeric() || byte == b'_'
+    byte.is_ascii_alphabetic() || byte.is_ascii_digit() || byte == b'_'
 }
 
 /// The number of bytes that the word or name at the start has.
@@ -35,28 +34,12 @@ pub(crate) fn split_word(bytes: &[u8]) -> (&[u8], &[u8])
     bytes.split_at(word_length(bytes))
 }
 
-/// Tells whether a word and the bytes may begin alike. Most words are told apart here, before the
-/// bytes of the word at the start are counted.
-#[inline(always)]
-fn begins_alike(word: &[u8], bytes: &[u8]) -> bool
-    ensures { result ≡ false → same_name word.now (prefix_while is_name_byte bytes.now) ≡ false }
-{
-    match (word, bytes) {
-        ([letter, ..], [byte, ..]) => letter.eq_ignore_ascii_case(byte),
-        _ => true,
-    }
-}
-
 /// Tells whether a word comes next, in any case.
 #[tactic(auto, unfolding(crate::specs::Word::is_word_at))]
 pub fn is_word_at<S: Separators>(word: &[u8], bytes: &[u8]) -> bool
     ensures { result ≡ is_word_at S.next word.now bytes.now }
 {
-    let at = S::next(bytes);
-    if !begins_alike(word, at) {
-        return false;
-    }
-    same_name(word, split_word(at).0)
+    word_here(word, S::next(bytes)).is_ok()
 }
 
 /// Returns the bytes after the word that comes next.
@@ -67,29 +50,33 @@ pub fn after_word<S: Separators>(bytes: &[u8]) -> &[u8]
     split_word(S::next(bytes)).1
 }
 
-/// Reads a word, in any case: the bytes after it. The test of its first letter is compiled into
-/// each caller: most words that may come next are told apart there.
+/// Reads a word, in any case: the bytes after it.
 #[inline(always)]
 #[tactic(auto, unfolding(crate::specs::Word::word_at, crate::specs::Word::is_word_at, crate::specs::Word::after_word))]
 pub fn word_at<'a, S: Separators>(word: &[u8], bytes: &'a [u8]) -> After<'a>
     ensures { Leaves result (word_at S.next word.now bytes.now) }
 {
-    let at = S::next(bytes);
-    if !begins_alike(word, at) {
-        return Err(at);
-    }
-    word_here(word, at)
+    word_here(word, S::next(bytes))
 }
 
-/// The bytes after a word at the very start.
-fn word_here<'a>(word: &[u8], at: &'a [u8]) -> After<'a>
+/// Reads a word at the very start, in any case: the bytes after it. It is compiled into each
+/// caller, where the word is known: most are told apart by their first letters.
+#[inline(always)]
+pub fn word_here<'a>(word: &[u8], at: &'a [u8]) -> After<'a>
     ensures { Leaves result (if same_name word.now (prefix_while is_name_byte at.now)
         then Ok (skip_while is_name_byte at.now) else Err at.now) }
 {
-    let (front, rest) = split_word(at);
-    if same_name(word, front) {
-        Ok(rest)
-    } else {
-        Err(at)
+    let mut rest = at;
+    for letter in word {
+        match rest {
+            [byte, others @ ..] if is_name_byte(*letter) && letter.eq_ignore_ascii_case(byte) => {
+                rest = others;
+            }
+            _ => return Err(at),
+        }
+    }
+    match rest {
+        [byte, ..] if is_name_byte(*byte) => Err(at),
+        _ => Ok(rest),
     }
 }
