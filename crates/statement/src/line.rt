@@ -13,7 +13,7 @@ use crate::token::{Blanks, end_at};
 use lines::LONGEST_LINE;
 use std::alloc::Global;
 use steps::Step;
-use tokens::{Made, Read, Separators, Stop, symbol_at, word_at};
+use tokens::{Made, Read, Separators, Stop, symbol_at, word_at, word_here};
 use values::{Chars, ColumnType, Instant, Key, MAX_INT, Refusal, Schema};
 
 /// What a line of a script says.
@@ -117,15 +117,16 @@ pub(crate) fn migrate_at(bytes: &[u8]) -> Read<'_, Written>
 }
 
 /// A line of no session, by its first word.
-#[tactic(auto, unfolding(crate::specs::Line::service_at))]
+#[tactic(auto, unfolding(crate::specs::Line::service_at, tokens::specs::Word::word_at, tokens::specs::Word::is_word_at, tokens::specs::Word::after_word))]
 fn service_at<'a>(alloc: Global, schema: &Schema, bytes: &'a [u8]) -> Made<'a, Written>
     ensures makes { Makes result (service_at schema.now bytes.now) }
     ensures memory { IsTrue (can_run_out inserts result) → asks_to_split bytes.now ≡ true }
 {
-    if let Ok(rest) = word_at::<Blanks>(b"SPLIT", bytes) {
+    let at = Blanks::next(bytes);
+    if let Ok(rest) = word_here(b"SPLIT", at) {
         return split_at(alloc, schema, rest);
     }
-    if let Ok(rest) = word_at::<Blanks>(b"MIGRATE", bytes) {
+    if let Ok(rest) = word_here(b"MIGRATE", at) {
         return Ok(migrate_at(rest)?);
     }
     Ok(clock_at(bytes)?)

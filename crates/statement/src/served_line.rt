@@ -10,19 +10,20 @@ use crate::split::split_at;
 use crate::token::Blanks;
 use lines::LONGEST_LINE;
 use std::alloc::Global;
-use tokens::{Made, Separators, Stop, word_at};
+use tokens::{Made, Separators, Stop, word_here};
 use values::{Instant, Refusal, Schema};
 
 /// A line that a session sends, by its first word; a statement is that session's.
-#[tactic(auto, unfolding(crate::specs::ServedLine::served_at))]
+#[tactic(auto, unfolding(crate::specs::ServedLine::served_at, tokens::specs::Word::word_at, tokens::specs::Word::is_word_at, tokens::specs::Word::after_word))]
 fn served_at<'a>(alloc: Global, schema: &Schema, session: u8, bytes: &'a [u8]) -> Made<'a, Written>
     ensures makes { Makes result (served_at schema.now session bytes.now) }
     ensures memory { IsTrue (can_run_out inserts result) → serves_values bytes.now ≡ true }
 {
-    if let Ok(rest) = word_at::<Blanks>(b"SPLIT", bytes) {
+    let at = Blanks::next(bytes);
+    if let Ok(rest) = word_here(b"SPLIT", at) {
         return split_at(alloc, schema, rest);
     }
-    if let Ok(rest) = word_at::<Blanks>(b"MIGRATE", bytes) {
+    if let Ok(rest) = word_here(b"MIGRATE", at) {
         return Ok(migrate_at(rest)?);
     }
     request_at(alloc, schema, u64::from(session), bytes)

@@ -9,7 +9,7 @@ use crate::literal::{WrittenRows, digits_at, rows_at};
 use crate::portion::{Portion, portion_at};
 use crate::token::{Blanks, after_optional_word};
 use std::alloc::Global;
-use tokens::{Made, Read, symbol_at, word_at};
+use tokens::{Made, Read, Separators, symbol_at, word_at, word_here};
 use values::{ColumnNumber, Form, Instant, Keys, MAX_INSTANT, Schema, Sequence, Sets};
 
 /// A column list, in its order.
@@ -170,21 +170,22 @@ fn select_at<'a>(alloc: Global, schema: &Schema, bytes: &'a [u8]) -> Made<'a, St
 }
 
 /// A statement on rows, by its first word.
-#[tactic(auto, unfolding(crate::specs::Statement::data_at))]
+#[tactic(auto, unfolding(crate::specs::Statement::data_at, tokens::specs::Word::word_at, tokens::specs::Word::is_word_at, tokens::specs::Word::after_word))]
 fn data_at<'a>(alloc: Global, schema: &Schema, bytes: &'a [u8]) -> Made<'a, Statement>
     ensures makes { Makes result (data_at schema.now bytes.now) }
     ensures memory { IsTrue (can_run_out is_insert result) → is_on_rows bytes.now ≡ true }
 {
-    if let Ok(rest) = word_at::<Blanks>(b"INSERT", bytes) {
+    let at = Blanks::next(bytes);
+    if let Ok(rest) = word_here(b"INSERT", at) {
         return insert_at(alloc, schema, rest);
     }
-    if let Ok(rest) = word_at::<Blanks>(b"UPDATE", bytes) {
+    if let Ok(rest) = word_here(b"UPDATE", at) {
         return update_at(alloc, schema, rest);
     }
-    if let Ok(rest) = word_at::<Blanks>(b"DELETE", bytes) {
+    if let Ok(rest) = word_here(b"DELETE", at) {
         return delete_at(alloc, schema, rest);
     }
-    let rest = word_at::<Blanks>(b"SELECT", bytes)?;
+    let rest = word_here(b"SELECT", at)?;
     select_at(alloc, schema, rest)
 }
 
@@ -199,21 +200,22 @@ fn start_at(bytes: &[u8]) -> Read<'_, Statement>
 }
 
 /// Reads any statement, by its first word.
-#[tactic(auto, unfolding(crate::specs::Statement::statement_at))]
+#[tactic(auto, unfolding(crate::specs::Statement::statement_at, tokens::specs::Word::word_at, tokens::specs::Word::is_word_at, tokens::specs::Word::after_word))]
 pub fn statement_at<'a>(alloc: Global, schema: &Schema, bytes: &'a [u8]) -> Made<'a, Statement>
     ensures makes { Makes result (statement_at schema.now bytes.now) }
     ensures memory { IsTrue (can_run_out is_insert result) → is_on_rows bytes.now ≡ true }
 {
-    if let Ok(rest) = word_at::<Blanks>(b"BEGIN", bytes) {
+    let at = Blanks::next(bytes);
+    if let Ok(rest) = word_here(b"BEGIN", at) {
         return Ok((Statement::Begin, rest));
     }
-    if let Ok(rest) = word_at::<Blanks>(b"START", bytes) {
+    if let Ok(rest) = word_here(b"START", at) {
         return Ok(start_at(rest)?);
     }
-    if let Ok(rest) = word_at::<Blanks>(b"COMMIT", bytes) {
+    if let Ok(rest) = word_here(b"COMMIT", at) {
         return Ok((Statement::Commit, after_optional_word(b"WORK", rest)));
     }
-    if let Ok(rest) = word_at::<Blanks>(b"ROLLBACK", bytes) {
+    if let Ok(rest) = word_here(b"ROLLBACK", at) {
         return Ok((Statement::Rollback, after_optional_word(b"WORK", rest)));
     }
     data_at(alloc, schema, bytes)

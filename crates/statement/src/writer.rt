@@ -9,8 +9,8 @@ use std::io::Write;
 #[derive(Clone, Copy, Debug, PartialEq, Eq)]
 pub struct WriteFault;
 
-/// Writes all of a text, or stops in its midst. It is compiled into each caller: most texts are a few
-/// bytes whose number is known there.
+/// Writes all of a text, or stops in its midst. It is compiled into each caller: most texts are a
+/// few bytes whose number is known there.
 #[inline(always)]
 pub fn write_all<W: Write>(writer: &mut W, text: &[u8]) -> Result<(), WriteFault>
     ensures { Prints (W.contents writer.old) (W.contents writer.new) result text.now }
