@@ -29,7 +29,8 @@ fn column_of(schema: &Schema, table: u8, name: &[u8]) -> ColumnNumber
     }
 }
 
-/// The number of the user column with a name, or 0.
+/// The number of the user column with a name, or 0. It is compiled into its few callers.
+#[inline(always)]
 #[tactic(auto, unfolding(crate::specs::Condition::column_name_at))]
 fn column_name_at<'a>(schema: &Schema, table: u8, bytes: &'a [u8]) -> Read<'a, ColumnNumber>
     ensures { Gives result (column_name_at schema.now table bytes.now) }

@@ -164,7 +164,9 @@ fn line_of(step: Result<Step, Refusal>) -> Result<Line, Refusal>
     }
 }
 
-/// Returns the step of what is written, or why it does not fit the schema.
+/// Returns the step of what is written, or why it does not fit the schema. It is compiled into its
+/// two callers: what is written is large, and need not be moved in and out.
+#[inline(always)]
 #[tactic(auto, unfolding(crate::specs::Line::meaning_of))]
 pub(crate) fn meaning_of(
     alloc: Global,

@@ -54,7 +54,9 @@ pub fn digits_at(most: u64, bytes: &[u8]) -> Read<'_, u64>
     digits_here(most, at).ok_or(at)
 }
 
-/// Reads a whole number of 64 bits, whose minus is right before its digits.
+/// Reads a whole number of 64 bits, whose minus is right before its digits. It is compiled into its
+/// few callers.
+#[inline(always)]
 #[tactic(auto, unfolding(crate::specs::Literal::number_at))]
 pub fn number_at(bytes: &[u8]) -> Read<'_, i64>
     ensures { Gives result (number_at bytes.now) }

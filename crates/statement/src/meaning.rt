@@ -154,7 +154,9 @@ fn fitting_rows(
     Ok(Rows::new(fit))
 }
 
-/// Returns a step, if it fits the schema.
+/// Returns a step, if it fits the schema. It is compiled into its callers, where the step is made:
+/// it is large, and need not be moved in and out.
+#[inline(always)]
 pub fn fitting_step(schema: &Schema, step: Step) -> Result<Step, Refusal>
     ensures is { result ≡ fitting_step schema.now step }
     ensures memory { result ≢ Err Refusal.Memory }

@@ -98,7 +98,8 @@ fn is_name(bytes: &[u8]) -> bool
     }
 }
 
-/// Reads a name.
+/// Reads a name. It is compiled into its few callers.
+#[inline(always)]
 #[tactic(auto, unfolding(crate::specs::Name::name_at))]
 pub fn name_at<S: Separators>(bytes: &[u8]) -> Read<'_, &[u8]>
     ensures is { GivesBytes result (name_at S.next bytes.now) }
