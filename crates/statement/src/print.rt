@@ -8,6 +8,7 @@ ghost use Rattle.statement.specs.Writer.{Prints};
 ghost use Rattle.statement.specs.Print.{line, numbered, quoted_byte, quoted, value_text, next_text, values_text, end_text, row_line, shown_line, listing_text, refusal_text, reply_text};
 
 use crate::writer::{WriteFault, print_number, write_all};
+use arrayvec::ArrayVec;
 use std::io::Write;
 use steps::{Listing, Reply};
 use values::{Instant, Key, Refusal, Row, Shown, Value};
@@ -16,6 +17,12 @@ use values::{Instant, Key, Refusal, Row, Shown, Value};
 const QUOTE: u8 = b'\'';
 
 type Printed = Result<(), WriteFault>;
+
+/// What is put together before it is written. It takes as many bytes as fit.
+type Piece = ArrayVec<u8, PIECE>;
+
+/// The most bytes of a line that is written as one piece.
+const PIECE: usize = 128;
 
 /// Writes a reply: one line, and one more for each row that it shows. Where the writer fails, it
 /// took a prefix of that text.
@@ -131,7 +138,19 @@ fn print_row_lines<W: Write>(writer: &mut W, rows: &[Row]) -> Printed
     Ok(())
 }
 
+/// Writes the line of a row as one piece, where it is not too long for that.
 fn print_row<W: Write>(writer: &mut W, row: &Row) -> Printed
+    ensures { Prints (W.contents writer.old) (W.contents writer.new) result (row_line row.now) }
+{
+    let mut piece = Piece::new();
+    match put_row(&mut piece, row) {
+        Ok(()) => write_all(writer, piece.as_slice()),
+        Err(WriteFault) => put_row(writer, row),
+    }
+}
+
+/// Writes the line of a row, value by value.
+fn put_row<W: Write>(writer: &mut W, row: &Row) -> Printed
     ensures { Prints (W.contents writer.old) (W.contents writer.new) result (row_line row.now) }
 {
     print_values_line(writer, row.values())
@@ -155,7 +174,19 @@ fn print_shown_lines<W: Write>(writer: &mut W, shown: &[Shown]) -> Printed
     Ok(())
 }
 
+/// Writes the line of a version as one piece, where it is not too long for that.
 fn print_shown<W: Write>(writer: &mut W, shown: &Shown) -> Printed
+    ensures { Prints (W.contents writer.old) (W.contents writer.new) result (shown_line shown.now) }
+{
+    let mut piece = Piece::new();
+    match put_shown(&mut piece, shown) {
+        Ok(()) => write_all(writer, piece.as_slice()),
+        Err(WriteFault) => put_shown(writer, shown),
+    }
+}
+
+/// Writes the line of a version, value by value.
+fn put_shown<W: Write>(writer: &mut W, shown: &Shown) -> Printed
     ensures { Prints (W.contents writer.old) (W.contents writer.new) result (shown_line shown.now) }
 {
     print_values(writer, shown.row.values(), b") from ")?;

@@ -30,6 +30,8 @@ mod period_schema_tests;
 #[cfg(test)]
 mod portion_tests;
 #[cfg(test)]
+mod print_tests;
+#[cfg(test)]
 mod row_tests;
 #[cfg(test)]
 mod schema_tests;

@@ -231,3 +231,37 @@ fn a_reader_that_fails_ends_a_load(rt: HostRuntime) {
         );
     }
 }
+
+/// A header, and rows with these keys.
+fn rows_of<R: AllocGlobal + Abort>(rt: &R, numbers: &[u32]) -> Vec<u8> {
+    let mut text = rows_below(rt, 1);
+    for number in numbers {
+        let first = *number as usize;
+        add_rows(rt, &mut text, first, first + 1);
+    }
+    text
+}
+
+#[test]
+fn a_key_is_told_from_earlier_ones_while_keys_rise_and_once_they_do_not(rt: HostRuntime) {
+    let repeated: &[(&[u32], i64)] = &[
+        (&[1, 2, 3, 3], 3),
+        (&[1, 2, 3, 2], 2),
+        (&[1, 2, 3, 1], 1),
+        (&[1, 3, 2, 1], 1),
+        (&[1, 3, 2, 3], 3),
+        (&[1, 3, 2, 2], 2),
+        (&[1, 3, 2, 4, 4], 4),
+    ];
+    for (numbers, number) in repeated {
+        let text = rows_of(&rt, *numbers);
+        let loaded = load(&rt, rt.alloc(), text.as_slice());
+        assert!(rt; repeats(loaded, *number), "{number}");
+    }
+    let apart: &[&[u32]] = &[&[1, 2, 3], &[1, 2, 4, 3], &[4, 3, 2, 1], &[1, 3, 2, 5, 4]];
+    for numbers in apart {
+        let text = rows_of(&rt, *numbers);
+        let rows = load(&rt, rt.alloc(), text.as_slice()).expect(&rt, "the file has rows");
+        assert_eq!(rt; rows.len(), numbers.len());
+    }
+}

@@ -2,7 +2,7 @@ use Rattle.std.proofs.Common.{refl, ◌++◌}
 use Rattle.std.specs.Prelude.{codes, decimal}
 use Rattle.statement.specs.Print.{line, end_text}
 use Rattle.statement.proofs.PrintEnds.{both_printed, both_stopped}
-use Rattle.statement.proofs.print.print_shown.Goals as goal
+use Rattle.statement.proofs.print.put_shown.Goals as goal
 
 pub returns-in_err-print_values : goal.returns-in_err-print_values
 returns-in_err-print_values g c =
