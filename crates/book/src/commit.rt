@@ -10,13 +10,13 @@ ghost use Rattle.book.specs.Ending.{IsEnd, IsWritten, MayBeWritten, instant_of, 
 use crate::book::{Book, make_room, twice};
 use growlog::StoreName;
 use journal::{Begun, Entry, Receipt};
-use validation::{Engine, Net};
+use validation::{Engine, KeyedNet, Net};
 use values::{Instant, Mem, Refusal, Schema};
 
 impl<J: StoreName> Book<J> {
     /// Ends a session's transaction of the store's tables with its net changes, by this reading of the
     /// clock: how it ended is in the entry. The changes are handed in twice, once to be kept in the entry
-    /// and once to be put in the tree. `NoTransaction` where the transaction is not open here,
+    /// and once with the bytes of their keys, to be looked up and put in the tree. `NoTransaction` where the transaction is not open here,
     /// `JournalFull` where there is no room for one more entry. After a refusal nothing has changed.
     pub fn commit(
         &mut self,
@@ -24,7 +24,7 @@ impl<J: StoreName> Book<J> {
         session: u8,
         begun: &Begun,
         net: Net,
-        changes: Net,
+        changes: KeyedNet,
         reading: Instant,
     ) -> Result<Receipt<J>, Refusal>
         requires tables { schema.now ≡ J.schema }
@@ -48,7 +48,7 @@ impl<J: StoreName> Book<J> {
             return Err(Refusal::NoTransaction);
         }
         make_room(&mut self.journal)?;
-        let end = ending(&self.engine, schema, begun.start(), &net, reading)?;
+        let end = ending(&self.engine, schema, begun.start(), &changes, reading)?;
         let instant = instant_of(&end);
         let entry = Entry::Commit {
             session,
@@ -71,7 +71,7 @@ fn ending(
     engine: &Engine,
     schema: &Schema,
     start: Instant,
-    net: &Net,
+    net: &KeyedNet,
     reading: Instant,
 ) -> Mem<Result<Option<Instant>, Refusal>>
     ensures is { IfOk result (IsEnd schema.now engine.now start net.now reading) }
@@ -87,7 +87,7 @@ fn ending(
 
 /// The write: puts the changes of a transaction in place, where it is committed. Where memory runs out nothing has
 /// changed.
-fn write(engine: &mut Engine, instant: Option<Instant>, changes: Net) -> Mem<()>
+fn write(engine: &mut Engine, instant: Option<Instant>, changes: KeyedNet) -> Mem<()>
     requires { IfSome instant (MayBeWritten engine.old changes) }
     ensures ok { OnOk result (IsWritten engine.old engine.new changes instant) }
     ensures history { KeepsHistory engine.old.nodes engine.new.nodes }

@@ -9,32 +9,55 @@ ghost use Rattle.validation.specs.staging.View.{Holds};
 ghost use Rattle.book.specs.Book.{Adds, OnlyRoom};
 ghost use Rattle.sessions.specs.Store.{IsCommitAt, is_open_at};
 
-use crate::session::Session;
+use crate::session::{Session, SessionTransaction};
 use book::Book;
 use growlog::StoreName;
 use journal::Receipt;
+use std::alloc::Global;
 use transaction::OpenTransaction;
-use validation::Net;
+use validation::{KeyedNet, Net};
 use values::{Instant, Mem, Refusal};
+
+/// A commit that is in the book: its receipt, and the transaction that it ended, which is let go
+/// once the lock is free.
+pub struct Ended<J: StoreName> {
+    pub receipt: Receipt<J>,
+    transaction: Option<SessionTransaction>,
+}
+
+impl<J: StoreName> Ended<J> {
+    /// Lets go of the transaction, and returns the receipt.
+    pub fn into_receipt(self) -> Receipt<J>
+        ensures { result ≡ self.receipt }
+    {
+        let Ended {
+            receipt,
+            transaction,
+        } = self;
+        drop(transaction);
+        receipt
+    }
+}
 
 impl Session {
     /// Ends the open transaction at a book of the same tables, by this reading of the clock: the
-    /// step of `LockedStore::commit` that runs under the lock. Its net changes are handed in twice.
-    /// `NoTransaction` where none is open, or none at this book, `JournalFull` where there is no
+    /// step of `LockedStore::commit` that runs under the lock. Its net changes are handed in twice,
+    /// once with the bytes of their keys. `NoTransaction` where none is open, or none at this book, `JournalFull` where there is no
     /// room for one more entry. After a refusal neither the book nor the session has changed.
     pub fn commit_at<J: StoreName>(
         &mut self,
         book: &mut Book<J>,
         net: Net,
-        changes: Net,
+        changes: KeyedNet,
         reading: Instant,
-    ) -> Result<Receipt<J>, Refusal>
+    ) -> Result<Ended<J>, Refusal>
         requires tables { self.old.schema ≡ J.schema }
         requires keys { AreKeysIn J.schema net }
         requires twice { changes ≡ net }
-        ensures committed { IfOk result (λ r.
-            IsCommitAt book.old self.old self.new net reading r.number r.entry) }
-        ensures adds { IfOk result (λ r. Adds r.entry r.number book.old book.new) }
+        ensures committed { IfOk result (λ e. IsCommitAt book.old self.old self.new net reading
+            e.receipt.number e.receipt.entry) }
+        ensures adds { IfOk result (λ e.
+            Adds e.receipt.entry e.receipt.number book.old book.new) }
         ensures none { is_open_at book.old.entries self.old ≡ false
             → result ≡ Err Refusal.NoTransaction }
         ensures why { is_open_at book.old.entries self.old ≡ true → OnlyRoom result }
@@ -45,14 +68,16 @@ impl Session {
             return Err(Refusal::NoTransaction);
         };
         let receipt = book.commit(&self.schema, self.number, &own.begun, net, changes, reading)?;
-        self.transaction = None;
         self.receipt = receipt.number;
-        Ok(receipt)
+        Ok(Ended {
+            receipt,
+            transaction: self.transaction.take(),
+        })
     }
 }
 
-/// Returns the net changes of a transaction, twice.
-pub(crate) fn nets(transaction: &OpenTransaction) -> Mem<(Net, Net)>
+/// Returns the net changes of a transaction, twice, once with the bytes of their keys.
+pub(crate) fn nets(alloc: Global, transaction: &OpenTransaction) -> Mem<(Net, KeyedNet)>
     ensures ok { IfOk result (λ nets. (schema : Tables) (m : Changes)
         → Holds schema transaction.now.view m → AreKeysIn schema transaction.now.writes
         → nets.0 ≡ net_over m transaction.now.writes) }
@@ -61,7 +86,7 @@ pub(crate) fn nets(transaction: &OpenTransaction) -> Mem<(Net, Net)>
     ensures twice { IfOk result (λ nets. nets.1 ≡ nets.0) }
     ensures err { OnlyMemory result }
 {
-    let net = transaction.net()?;
-    let changes = net.copy()?;
+    let changes = transaction.net()?;
+    let net = changes.net(alloc)?;
     Ok((net, changes))
 }

@@ -9,6 +9,7 @@ mod session;
 mod store;
 mod write;
 
+pub use commit::Ended;
 pub use gate::{Gate, GaveUp, Place, pass_gate};
 pub use law::{sessions_answer_as_histories, stores_answer_as_histories};
 pub use session::Session;

@@ -170,9 +170,9 @@ impl<J: StoreName> LockedStore<J> {
         let Some(own) = &session.transaction else {
             return Err(Refusal::NoTransaction);
         };
-        let (net, changes) = nets(&own.transaction)?;
-        let mut book = self.locked(rt);
-        session.commit_at(&mut *book, net, changes, reading)
+        let (net, changes) = nets(session.alloc, &own.transaction)?;
+        let ended = session.commit_at(&mut *self.locked(rt), net, changes, reading)?;
+        Ok(ended.into_receipt())
     }
 
     /// Splits the current data node of a key, where its cut lies inside the node and is no instant

@@ -4,6 +4,7 @@
 mod bound;
 mod delete;
 mod insert;
+mod keyed_net;
 mod net;
 mod overlap;
 mod portion;
@@ -11,6 +12,7 @@ mod staged;
 mod update;
 mod write;
 
+pub use keyed_net::{KeyedChange, KeyedNet};
 pub use net::Net;
 pub use staged::Staged;
 pub use tsbtree::{Tree, View};

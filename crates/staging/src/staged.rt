@@ -21,7 +21,7 @@ ghost use Rattle.staging.specs.Own.{WhenRead, rows_seen, net_over};
 ghost use Rattle.staging.specs.Staged.{put_all, put_back_one, put_back, put_answer, row_in, sees, first_seen, net_in, row_alone, starts_upto, AreInSearch, AreShort, PutsNext};
 
 use crate::bound::{is_past, least_key};
-use crate::net::Net;
+use crate::keyed_net::{KeyedChange, KeyedNet};
 use searchrange::Search;
 use std::alloc::{AllocError, Global};
 use std::collections::{BTreeMap, BTreeSet, VecDeque};
@@ -135,7 +135,7 @@ impl Staged {
 
     /// Returns what the transaction changes: what each key that it wrote has in the end, without
     /// those that are absent both then and in the view.
-    pub fn net(&self, view: &View) -> Mem<Net>
+    pub fn net(&self, view: &View) -> Mem<KeyedNet>
         ensures ok { IfOk result (λ net. (schema : Schema) (m : Changes)
             → Holds schema view.now m → AreKeysIn schema self.now → net ≡ net_over m self.now) }
         ensures keys { IfOk result (λ net. (schema : Schema)
@@ -143,7 +143,7 @@ impl Staged {
         ensures err { OnlyMemory result }
     {
         let net = net_of(self.alloc, view, view.last(), &self.writes)?;
-        Ok(Net::of(net))
+        KeyedNet::of(self.alloc, net)
     }
 
     /// Returns what was written of a key, where it was. A key behind all that were written takes
@@ -563,7 +563,7 @@ fn net_of(
     view: &View,
     last: Instant,
     writes: &BTreeMap<Key, Option<Row>>,
-) -> Mem<Vec<(Key, Option<Row>)>>
+) -> Mem<Vec<KeyedChange>>
     requires { All (λ w. IsShortKey w.0) writes.now.entries }
     ensures ok { IfOk result (λ net. net.items ≡ net_in (events view.now) last writes.now.entries) }
     ensures err { OnlyMemory result }
@@ -572,7 +572,7 @@ fn net_of(
     let mut net = Vec::new(alloc);
     for (key, row) in writes {
         if stays(alloc, view, last, key, row)? {
-            net.push((key.clone()?, row.clone()?))?;
+            net.push(KeyedChange::new(alloc, key.clone()?, row.clone()?)?)?;
         }
     }
     Ok(net)

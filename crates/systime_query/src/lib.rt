@@ -9,5 +9,5 @@ mod window;
 
 pub use blocks::BlockCache;
 pub use selection::answer;
-pub use staging::{Net, Staged, View};
+pub use staging::{KeyedNet, Staged, View};
 pub use standing::{current_rows, rows_at};

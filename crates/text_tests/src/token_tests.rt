@@ -2,6 +2,7 @@
 
 use tokens::{
     Separators, after_word, is_reserved, is_word_at, name_at, split_digits, symbol_at, word_at,
+    word_here,
 };
 
 /// A grammar whose tokens have nothing between them.
@@ -85,4 +86,32 @@ fn a_name_has_1_to_64_bytes_and_is_no_reserved_word(rt: HostRuntime) {
 fn digits_are_split_from_what_follows(rt: HostRuntime) {
     let (digits, rest) = split_digits(b"0190a1");
     assert!(rt; digits == "0190".as_bytes() && rest == "a1".as_bytes());
+}
+
+/// Texts, and how many bytes are left behind SYSTEM_TIME at the very start, where it is read.
+const SYSTEM_TIMES: &[(&str, Option<usize>)] = &[
+    ("SYSTEM_TIME", Some(0)),
+    ("system_Time{", Some(1)),
+    ("system_time@x", Some(2)),
+    ("system_time\u{e9}", Some(2)),
+    ("system_time_", None),
+    ("system_time0", None),
+    ("system_timeZ", None),
+    ("system_tim", None),
+    ("system\u{7f}time", None),
+    ("3ystem_time", None),
+    (" system_time", None),
+    ("", None),
+];
+
+#[test]
+fn a_word_is_read_at_the_very_start_up_to_its_last_letter(rt: HostRuntime) {
+    for (text, left) in SYSTEM_TIMES {
+        match word_here(b"SYSTEM_TIME", text.as_bytes()) {
+            Ok(rest) => assert!(rt; *left == Some(rest.len()), "{text}"),
+            Err(at) => assert!(rt; left.is_none() && at == text.as_bytes(), "{text}"),
+        }
+    }
+    assert!(rt; word_here(b"a b", b"a b").is_err());
+    assert!(rt; word_here(b"", b"(").is_ok() && word_here(b"", b"a").is_err());
 }

@@ -12,7 +12,7 @@ ghost use Rattle.systime_query.specs.staging.Own.{WhenRead, net_over, rows_seen}
 
 use std::alloc::Global;
 use std::marker::Model;
-use systime_query::{Net, Staged, View};
+use systime_query::{KeyedNet, Staged, View};
 use values::{Instant, Key, Mem, Row, Table};
 
 /// What a transaction sees of what was committed, and its own writes, which nobody else sees.
@@ -63,7 +63,7 @@ impl OpenTransaction {
 
     /// Returns what the transaction changes: what each key that it wrote has in the end, without
     /// those that are absent both then and in the view.
-    pub fn net(&self) -> Mem<Net>
+    pub fn net(&self) -> Mem<KeyedNet>
         ensures ok { IfOk result (λ net. (schema : Schema) (m : Changes)
             → Holds schema self.now.view m → AreKeysIn schema self.now.writes
             → net ≡ net_over m self.now.writes) }

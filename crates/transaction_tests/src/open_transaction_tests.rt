@@ -88,8 +88,15 @@ fn a_transaction_reads_its_own_writes_in_a_plain_query_alone(rt: HostRuntime) {
     assert!(rt; count_outside(&rt, rt.alloc()) == 0);
 }
 
-fn count_changes(rt: &impl Abort, transaction: &OpenTransaction) -> usize {
+/// How many changes a transaction has, and as many in a copy. The bytes of a key begin with its
+/// table's number.
+fn count_changes(rt: &impl Abort, alloc: Global, transaction: &OpenTransaction) -> usize {
     let net = transaction.net().expect(rt, "there is memory");
+    for change in net.changes() {
+        assert!(rt; change.bytes().bytes().first() == Some(&change.key().table));
+    }
+    let copy = net.net(alloc).expect(rt, "there is memory");
+    assert!(rt; copy.changes().len() == net.changes().len());
     net.changes().len()
 }
 
@@ -116,7 +123,7 @@ fn change_all(rt: &impl Abort, alloc: Global, is_deletion: bool) -> (usize, usiz
     } else {
         update_all(rt, alloc, &mut transaction)
     };
-    (met, count_changes(rt, &transaction))
+    (met, count_changes(rt, alloc, &transaction))
 }
 
 #[test]

@@ -4,7 +4,7 @@ ghost use Rattle.values.specs.Tables.{HasInstants, IsTable};
 
 use crate::sample::nothing_staged;
 use crate::validation_tests::{begin, empty_engine};
-use staging::Net;
+use staging::KeyedNet;
 use std::alloc::Global;
 use std::process::Abort;
 use steps::fit_write;
@@ -80,7 +80,7 @@ pub(crate) fn key(rt: &impl Abort, alloc: Global, parts: &[i64]) -> Key {
 }
 
 /// The net change of a transaction with one write.
-fn net(rt: &impl Abort, alloc: Global, view: &View, write: Write<'_>) -> Net {
+fn net(rt: &impl Abort, alloc: Global, view: &View, write: Write<'_>) -> KeyedNet {
     let schema = schema(rt, alloc);
     let write = fit_write(&schema, 1, write).expect(rt, "it fits");
     let mut staged = nothing_staged(rt, alloc);

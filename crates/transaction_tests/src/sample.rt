@@ -1,6 +1,6 @@
 //! Employees, and trees in which they were committed. The run ends where memory does.
 
-use staging::{Net, Staged};
+use staging::{KeyedNet, Staged};
 use std::alloc::Global;
 use std::process::Abort;
 use steps::fit_write;
@@ -102,7 +102,7 @@ pub(crate) fn insertion(
     view: &View,
     number: i64,
     name: &str,
-) -> Net {
+) -> KeyedNet {
     let rows = one_row(rt, alloc, number, name);
     let mut staged = nothing_staged(rt, alloc);
     let inserted = write(rt, alloc, &mut staged, view, Write::Insert(1, &rows));
@@ -111,9 +111,9 @@ pub(crate) fn insertion(
 }
 
 /// Puts net changes into a tree, at an instant after its last.
-pub(crate) fn commit(rt: &impl Abort, alloc: Global, tree: &mut Tree, at: Instant, net: Net) {
+pub(crate) fn commit(rt: &impl Abort, alloc: Global, tree: &mut Tree, at: Instant, net: KeyedNet) {
     assert!(rt; tree.current().last() < at && at <= 1000);
-    let events = net.into_events(alloc, at).expect(rt, "there is memory");
+    let events = net.into_events(at).expect(rt, "there is memory");
     tree.apply(at, events).expect(rt, "there is memory");
 }
 

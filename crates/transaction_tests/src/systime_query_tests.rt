@@ -2,7 +2,7 @@
 
 use crate::sample::{ann, by, commit, empty_tree, hire, many, nothing_staged, schema, sets, write};
 use searchrange::Search;
-use staging::Net;
+use staging::KeyedNet;
 use std::alloc::Global;
 use std::process::Abort;
 use steps::fit_keys;
@@ -14,7 +14,7 @@ use values::{
 };
 
 /// The net change of a transaction that calls the employee with the number 1 Bea.
-fn renaming(rt: &impl Abort, alloc: Global, view: &View) -> Net {
+fn renaming(rt: &impl Abort, alloc: Global, view: &View) -> KeyedNet {
     let one = by(rt, alloc, Operator::Equal, 1);
     let sets = sets(rt, alloc, "Bea");
     let mut staged = nothing_staged(rt, alloc);

@@ -14,9 +14,9 @@ ghost use Rattle.staging.specs.View.{Holds};
 ghost use Rattle.validation.specs.Conflict.{IsOfEntity, conflict_of};
 
 use searchrange::entity_range;
-use staging::{Net, View};
+use staging::{KeyedChange, KeyedNet, View};
 use std::alloc::Global;
-use values::{Instant, Key, Mem, Schema, Table, key_bytes};
+use values::{Instant, Key, Mem, Schema, Table};
 
 /// Finds the first unit of the net changes that was changed since, with the latest instant: the
 /// entity of a key whose table has a period, and of another table the key.
@@ -25,7 +25,7 @@ pub(crate) fn first_conflict(
     schema: &Schema,
     view: &View,
     start: Instant,
-    net: &Net,
+    net: &KeyedNet,
 ) -> Mem<Option<(Key, Instant)>>
     ensures ok { IfOk result (λ found. (m : Changes)
         → Holds schema.now view.now m → AreKeysIn schema.now net.now
@@ -36,51 +36,46 @@ pub(crate) fn first_conflict(
     if view.last() <= start {
         return Ok(None);
     }
-    for (key, _row) in net.changes() {
-        if let Some(conflict) = conflict_of(alloc, schema, view, start, key)? {
+    for change in net.changes() {
+        if let Some(conflict) = conflict_of(alloc, schema, view, start, change)? {
             return Ok(Some(conflict));
         }
     }
     Ok(None)
 }
 
-/// The unit of a key, where it was changed since, with the latest instant.
+/// The unit of a changed key, where it was changed since, with the latest instant.
 fn conflict_of(
     alloc: Global,
     schema: &Schema,
     view: &View,
     start: Instant,
-    key: &Key,
+    change: &KeyedChange,
 ) -> Mem<Option<(Key, Instant)>>
-    requires short { IsShortKey key.now }
+    requires short { IsShortKey change.now.0 }
     ensures ok { IfOk result (λ found. (m : Changes)
-        → Holds schema.now view.now m → IsKeyIn schema.now key.now
-        → found ≡ conflict_of (periods_of schema.now) m start key.now) }
+        → Holds schema.now view.now m → IsKeyIn schema.now change.now.0
+        → found ≡ conflict_of (periods_of schema.now) m start change.now.0) }
     ensures err { OnlyMemory result }
 {
+    let key = change.key();
     let Some(table) = schema.table_at(key.table) else {
-        return conflict_of_key(alloc, view, start, key);
+        return conflict_of_key(view, start, change);
     };
     match &table.period {
         Some(_) => conflict_of_entity(alloc, table, view, start, key),
-        None => conflict_of_key(alloc, view, start, key),
+        None => conflict_of_key(view, start, change),
     }
 }
 
-fn conflict_of_key(
-    alloc: Global,
-    view: &View,
-    start: Instant,
-    key: &Key,
-) -> Mem<Option<(Key, Instant)>>
-    requires short { IsShortKey key.now }
-    ensures ok { IfOk result (λ found. found
-        ≡ option_map (λ i. (key.now, i)) (event_since (events view.now) start (bytes_of_key key.now))) }
+fn conflict_of_key(view: &View, start: Instant, change: &KeyedChange) -> Mem<Option<(Key, Instant)>>
+    requires short { IsShortKey change.now.0 }
+    ensures ok { IfOk result (λ found. found ≡ option_map (λ i. (change.now.0, i))
+        (event_since (events view.now) start (bytes_of_key change.now.0))) }
     ensures err { OnlyMemory result }
 {
-    let bytes = key_bytes(alloc, key)?;
-    match view.changed_since(&bytes, start) {
-        Some(instant) => Ok(Some((key.copy()?, instant))),
+    match view.changed_since(change.bytes(), start) {
+        Some(instant) => Ok(Some((change.key().copy()?, instant))),
         None => Ok(None),
     }
 }

@@ -18,7 +18,7 @@ use crate::conflict::first_conflict;
 use crate::cut::Cut;
 use crate::packed_node::PackedNode;
 use commitclock::Clock;
-use staging::{Net, Tree, View};
+use staging::{KeyedNet, Tree, View};
 use std::alloc::Global;
 use std::marker::Model;
 use values::{Instant, Key, Mem, Refusal, Schema};
@@ -97,7 +97,7 @@ impl Engine {
         &mut self,
         schema: &Schema,
         start: Instant,
-        net: Net,
+        net: KeyedNet,
         reading: Instant,
     ) -> Result<Option<Instant>, Refusal>
         ensures outcome { (m : Changes)
@@ -132,7 +132,7 @@ impl Engine {
         &self,
         schema: &Schema,
         start: Instant,
-        net: &Net,
+        net: &KeyedNet,
         reading: Instant,
     ) -> Result<Option<Instant>, Refusal>
         ensures outcome { (m : Changes)
@@ -177,7 +177,7 @@ impl Engine {
 
     /// Adds net changes at an instant after the last, as `validate` answers it. Only nodes that
     /// they overfill are split. Where memory runs out nothing has changed.
-    pub fn add(&mut self, instant: Instant, net: Net) -> Mem<()>
+    pub fn add(&mut self, instant: Instant, net: KeyedNet) -> Mem<()>
         requires later { last self.old < instant }
         requires in_range { instant ≤ max_instant }
         requires some { 0 < length net }
@@ -190,7 +190,7 @@ impl Engine {
         ensures err { OnErr result (self.new ≡ self.old) }
         ensures memory { OnlyMemory result }
     {
-        let events = net.into_events(self.alloc, instant)?;
+        let events = net.into_events(instant)?;
         self.tree.apply(instant, events)?;
         self.clock.advance(instant);
         Ok(())
@@ -201,7 +201,7 @@ impl Engine {
         &self,
         schema: &Schema,
         start: Instant,
-        net: &Net,
+        net: &KeyedNet,
         reading: Instant,
     ) -> Result<Option<Instant>, Refusal>
         ensures outcome { (m : Changes)

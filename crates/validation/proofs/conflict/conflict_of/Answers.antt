@@ -1,4 +1,4 @@
-use Rattle.std.proofs.Common.{rules, ◌≡◌, Some, None}
+use Rattle.std.proofs.Common.{rules, ◌≡◌, IfOk, Some, None, subst}
 use Rattle.std.proofs.lemmas.Result.{IfOk-weaker}
 use Rattle.std.specs.Option.{option_map}
 use Rattle.values.specs.Tables.{table_at, IsTable}
@@ -16,20 +16,21 @@ pub returns-in-Some-period-clause-ok : goal.returns-in-Some-period-clause-ok
 returns-in-Some-period-clause-ok c =
     let schema = c.args.schema.now in
     let view = c.args.view.now in
-    let key = c.args.key.now in
+    let key = c.args.change.now.0 in
     let table = c.in-Some.table.now in
     let at : table_at schema key.table ≡ Some table = search rules in
     let good : IsTable key.table table = search rules in
     let has : table.period ≡ Some c.in-Some-period.field-0 = search rules in
     IfOk-weaker c.conflict_of_entity.result (IsOfEntity table (events view) c.args.start key)
     (λ found. (m : Changes) → Holds schema view m → IsKeyIn schema key → found ≡ conflict_of (periods_of schema) m c.args.start key)
-    (λ found is. of_entity schema view table c.in-Some-period.field-0 c.args.start key found at good has is) c.conflict_of_entity.ensures.ok
+    (λ found is. of_entity schema view table c.in-Some-period.field-0 c.args.start key found at good has is)
+    (subst (λ k. IfOk c.conflict_of_entity.result (IsOfEntity table (events view) c.args.start k)) c.key-key.ensures c.conflict_of_entity.ensures.ok)
 
 pub returns-in-None-clause-ok : goal.returns-in-None-clause-ok
 returns-in-None-clause-ok c =
     let schema = c.args.schema.now in
     let view = c.args.view.now in
-    let key = c.args.key.now in
+    let key = c.args.change.now.0 in
     let table = c.in-Some.table.now in
     let at : table_at schema key.table ≡ Some table = search rules in
     let none : table.period ≡ None = search rules in

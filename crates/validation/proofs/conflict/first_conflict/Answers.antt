@@ -16,21 +16,21 @@ pub returns-in-Some-clause-ok : goal.returns-in-Some-clause-ok
 returns-in-Some-clause-ok c = λ m held keys.
     let schema = c.args.schema.now in
     let net = c.args.net.now in
-    let i = c.loop-key.key-index in
-    let item = c.loop-key-item.result in
+    let i = c.loop-change.change-index in
+    let item = c.change-item.result in
     let within : i < length net = search rules in
     let is : item ≡ get_or net i item = search rules in
     let next = next_of schema (periods_of schema) m c.args.start net i item within is keys in
     let found : Some c.in-Some.conflict ≡ conflict_of (periods_of schema) m c.args.start item.0 = sym c.in-Some.is ∙ c.in_ok-conflict.ensures.ok m held next.0 in
     ap (λ o. elim o [ Some x ↦ Some x | None ↦ slice_get (conflicts (periods_of schema) m c.args.start (drop (suc i) net)) 0 ]) found
-    ∙ sym next.1 ∙ c.loop-key.invariant m held keys
+    ∙ sym next.1 ∙ c.loop-change.invariant m held keys
 
-pub loop-key-preserved : goal.loop-key-preserved
-loop-key-preserved c = λ m held keys.
+pub loop-change-preserved : goal.loop-change-preserved
+loop-change-preserved c = λ m held keys.
     let schema = c.args.schema.now in
     let net = c.args.net.now in
-    let i = c.loop-key.key-index in
-    let item = c.loop-key-item.result in
+    let i = c.loop-change.change-index in
+    let item = c.change-item.result in
     let within : i < length net = search rules in
     let is : item ≡ get_or net i item = search rules in
     let next = next_of schema (periods_of schema) m c.args.start net i item within is keys in
@@ -38,4 +38,4 @@ loop-key-preserved c = λ m held keys.
     let on : i + 1 ≡ suc i = omega arith in
     ap (λ k. slice_get (conflicts (periods_of schema) m c.args.start (drop k net)) 0) on
     ∙ ap (λ o. elim o [ Some x ↦ Some x | None ↦ slice_get (conflicts (periods_of schema) m c.args.start (drop (suc i) net)) 0 ]) none
-    ∙ sym next.1 ∙ c.loop-key.invariant m held keys
+    ∙ sym next.1 ∙ c.loop-change.invariant m held keys

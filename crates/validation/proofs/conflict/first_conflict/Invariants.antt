@@ -7,8 +7,8 @@ use Rattle.values.specs.Period.{periods_of}
 use Rattle.staging.specs.View.{Holds}
 use Rattle.validation.proofs.conflict.first_conflict.Given as goal
 
-abbrev pub invariant-loop-key : goal.invariant-loop-key
-invariant-loop-key l =
+abbrev pub invariant-loop-change : goal.invariant-loop-change
+invariant-loop-change l =
     (m : Changes) → Holds l.schema l.view m → AreKeysIn l.schema l.net
-    → slice_get (conflicts (periods_of l.schema) m l.start (drop l.key-index l.net)) 0
+    → slice_get (conflicts (periods_of l.schema) m l.start (drop l.change-index l.net)) 0
     ≡ slice_get (conflicts (periods_of l.schema) m l.start l.net) 0

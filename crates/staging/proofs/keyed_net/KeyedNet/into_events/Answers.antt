@@ -1,7 +1,7 @@
 use Rattle.std.proofs.Common.{[], ap, ◌∙◌}
 use Rattle.values.specs.Events.{put_net}
 use Rattle.staging.proofs.NetEvents.{net_adds, net_commit, net_some, weaker}
-use Rattle.staging.proofs.net.Net.into_events.Goals as goal
+use Rattle.staging.proofs.keyed_net.KeyedNet.into_events.Goals as goal
 
 pub returns-clause-adds : goal.returns-clause-adds
 returns-clause-adds c =

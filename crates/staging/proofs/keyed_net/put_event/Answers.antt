@@ -2,8 +2,8 @@ use Rattle.std.proofs.Common.{sym, ap, subst, ◌∙◌}
 use Rattle.std.specs.List.Sorted.{IsStrictlySortedBy}
 use Rattle.values.specs.Events.{event_cmp}
 use Rattle.eventlist.proofs.PutPlaced.{put_by, sorted_put}
-use Rattle.staging.proofs.net.put_event.Goals as goal
-use Rattle.staging.proofs.net.put_event.Goals.{then-is_there+in-Some-1, then-is_there+in-None-1, else-is_there+in_ok-insert}
+use Rattle.staging.proofs.keyed_net.put_event.Goals as goal
+use Rattle.staging.proofs.keyed_net.put_event.Goals.{then-is_there+in-Some-1, then-is_there+in-None-1, else-is_there+in_ok-insert}
 
 pub returns-clause-ok : goal.returns-clause-ok
 returns-clause-ok c =

@@ -8,7 +8,7 @@ use Rattle.values.specs.Event.{Event}
 use Rattle.values.specs.Events.{event_cmp}
 use Rattle.eventlist.specs.Place.{AreFirst, is_before}
 use Rattle.eventlist.proofs.PutPlaced.{before_parts}
-use Rattle.staging.proofs.net.place_of.Goals as goal
+use Rattle.staging.proofs.keyed_net.place_of.Goals as goal
 
 -- where the last event is before another, all are
 all_before : (e last : Event) (es : List Event) → IsStrictlySortedBy event_cmp es → Some last ≡ slice_get es (length es - 1) → is_before e last ≡ true → AreFirst (is_before e) es (length es)
