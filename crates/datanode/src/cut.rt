@@ -35,17 +35,19 @@ fn is_in_cut(events: &[SharedEvent], place: usize, rect: &Rect) -> bool
         && (time.contains(event.at()) || is_carried(events, place, time.from))
 }
 
-/// Lists the events that the rectangle holds, without copying events.
+/// Lists the events that the rectangle holds, without copying events. The list has no more room
+/// than they need: most of them are history, and come to be no more.
 pub(crate) fn cut(alloc: Global, events: &[SharedEvent], rect: &Rect) -> Mem<Vec<SharedEvent>>
     requires { IsMap events.now }
     ensures ok { IfOk result (λ v. v.items ≡ cut rect.now events.now) }
     ensures err { OnlyMemory result }
 {
-    let mut found = Vec::new(alloc);
+    let mut found = Vec::with_capacity(alloc, events.len())?;
     for place in 0..events.len() {
         if is_in_cut(events, place, rect) {
             found.push(events[place].share()?)?;
         }
     }
+    found.shrink_to_fit();
     Ok(found)
 }

@@ -87,7 +87,7 @@ fn values_of(
         ≡ values_from columns.now (fields_of fields.now) [] 1 table.now.columns) }
     ensures err { OnlyMemory result }
 {
-    let mut values = Vec::new(alloc);
+    let mut values = Vec::with_capacity(alloc, table.columns.items().len())?;
     for (i, column) in table.columns.items().iter().enumerate() {
         values.push(value_in(alloc, columns, fields, i + 1, column)?)?;
     }

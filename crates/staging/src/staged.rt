@@ -134,7 +134,8 @@ impl Staged {
     }
 
     /// Returns what the transaction changes: what each key that it wrote has in the end, without
-    /// those that are absent both then and in the view.
+    /// those that are absent both then and in the view. The bytes of each key are with it.
+    /// `Memory` where it runs out.
     pub fn net(&self, view: &View) -> Mem<KeyedNet>
         ensures ok { IfOk result (λ net. (schema : Schema) (m : Changes)
             → Holds schema view.now m → AreKeysIn schema self.now → net ≡ net_over m self.now) }
@@ -569,7 +570,7 @@ fn net_of(
     ensures err { OnlyMemory result }
     ensures ordered { OnOk result (IsOrdered key_cmp writes.now) }
 {
-    let mut net = Vec::new(alloc);
+    let mut net = Vec::with_capacity(alloc, writes.len())?;
     for (key, row) in writes {
         if stays(alloc, view, last, key, row)? {
             net.push(KeyedChange::new(alloc, key.clone()?, row.clone()?)?)?;
