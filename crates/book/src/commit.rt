@@ -16,8 +16,9 @@ use values::{Instant, Mem, Refusal, Schema};
 impl<J: StoreName> Book<J> {
     /// Ends a session's transaction of the store's tables with its net changes, by this reading of the
     /// clock: how it ended is in the entry. The changes are handed in twice, once to be kept in the entry
-    /// and once with the bytes of their keys, to be looked up and put in the tree. `NoTransaction` where the transaction is not open here,
-    /// `JournalFull` where there is no room for one more entry. After a refusal nothing has changed.
+    /// and once with the bytes of their keys, to be looked up and put in the tree. `NoTransaction` where
+    /// the transaction is not open here, `JournalFull` where there is no room for one more entry. After a
+    /// refusal nothing has changed.
     pub fn commit(
         &mut self,
         schema: &Schema,
@@ -85,8 +86,8 @@ fn ending(
     Ok(end)
 }
 
-/// The write: puts the changes of a transaction in place, where it is committed. Where memory runs out nothing has
-/// changed.
+/// The write: puts the changes of a transaction in place, where it is committed. Where memory runs out
+/// nothing has changed.
 fn write(engine: &mut Engine, instant: Option<Instant>, changes: KeyedNet) -> Mem<()>
     requires { IfSome instant (MayBeWritten engine.old changes) }
     ensures ok { OnOk result (IsWritten engine.old engine.new changes instant) }

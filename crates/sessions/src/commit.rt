@@ -42,8 +42,9 @@ impl<J: StoreName> Ended<J> {
 impl Session {
     /// Ends the open transaction at a book of the same tables, by this reading of the clock: the
     /// step of `LockedStore::commit` that runs under the lock. Its net changes are handed in twice,
-    /// once with the bytes of their keys. `NoTransaction` where none is open, or none at this book, `JournalFull` where there is no
-    /// room for one more entry. After a refusal neither the book nor the session has changed.
+    /// once with the bytes of their keys. `NoTransaction` where none is open, or none at this book,
+    /// `JournalFull` where there is no room for one more entry. After a refusal neither the book nor the
+    /// session has changed.
     pub fn commit_at<J: StoreName>(
         &mut self,
         book: &mut Book<J>,

@@ -18,11 +18,11 @@ const QUOTE: u8 = b'\'';
 
 type Printed = Result<(), WriteFault>;
 
-/// What is put together before it is written. It takes as many bytes as fit.
-type Piece = ArrayVec<u8, PIECE>;
+/// The line of a row, put together before it is written. It takes as many bytes as fit.
+type RowLine = ArrayVec<u8, LONGEST_ROW_LINE>;
 
-/// The most bytes of a line that is written as one piece.
-const PIECE: usize = 128;
+/// The most bytes of a row's line that is written at once.
+const LONGEST_ROW_LINE: usize = 128;
 
 /// Writes a reply: one line, and one more for each row that it shows. Where the writer fails, it
 /// took a prefix of that text.
@@ -138,13 +138,13 @@ fn print_row_lines<W: Write>(writer: &mut W, rows: &[Row]) -> Printed
     Ok(())
 }
 
-/// Writes the line of a row as one piece, where it is not too long for that.
+/// Writes the line of a row at once, where it is not too long for that.
 fn print_row<W: Write>(writer: &mut W, row: &Row) -> Printed
     ensures { Prints (W.contents writer.old) (W.contents writer.new) result (row_line row.now) }
 {
-    let mut piece = Piece::new();
-    match put_row(&mut piece, row) {
-        Ok(()) => write_all(writer, piece.as_slice()),
+    let mut line = RowLine::new();
+    match put_row(&mut line, row) {
+        Ok(()) => write_all(writer, line.as_slice()),
         Err(WriteFault) => put_row(writer, row),
     }
 }
@@ -174,13 +174,13 @@ fn print_shown_lines<W: Write>(writer: &mut W, shown: &[Shown]) -> Printed
     Ok(())
 }
 
-/// Writes the line of a version as one piece, where it is not too long for that.
+/// Writes the line of a version at once, where it is not too long for that.
 fn print_shown<W: Write>(writer: &mut W, shown: &Shown) -> Printed
     ensures { Prints (W.contents writer.old) (W.contents writer.new) result (shown_line shown.now) }
 {
-    let mut piece = Piece::new();
-    match put_shown(&mut piece, shown) {
-        Ok(()) => write_all(writer, piece.as_slice()),
+    let mut line = RowLine::new();
+    match put_shown(&mut line, shown) {
+        Ok(()) => write_all(writer, line.as_slice()),
         Err(WriteFault) => put_shown(writer, shown),
     }
 }
@@ -219,7 +219,7 @@ fn print_values_line<W: Write>(writer: &mut W, values: &[Value]) -> Printed
 }
 
 /// Writes values in parentheses. `ends` is the one that closes them and what is behind it: they are
-/// one piece for the writer.
+/// written at once.
 #[tactic(auto, using(crate::proofs::PrintEnds::ended_none, crate::proofs::PrintEnds::ended_first))]
 fn print_values<W: Write>(writer: &mut W, values: &[Value], ends: &[u8]) -> Printed
     ensures { (behind : List ℕ) → ends.now ≡ codes ")" ++ behind

@@ -62,7 +62,8 @@ impl OpenTransaction {
     }
 
     /// Returns what the transaction changes: what each key that it wrote has in the end, without
-    /// those that are absent both then and in the view.
+    /// those that are absent both then and in the view. The bytes of each key are with it.
+    /// `Memory` where it runs out.
     pub fn net(&self) -> Mem<KeyedNet>
         ensures ok { IfOk result (λ net. (schema : Schema) (m : Changes)
             → Holds schema self.now.view m → AreKeysIn schema self.now.writes

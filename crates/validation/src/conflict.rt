@@ -5,7 +5,7 @@ ghost use Rattle.std.specs.List.{slice_get};
 ghost use Rattle.std.specs.Option.{option_map};
 ghost use Rattle.values.specs.Commits.{conflicts};
 ghost use Rattle.values.specs.Events.{AreKeysIn, IsKeyIn, event_since};
-ghost use Rattle.values.specs.KeyEncoding.{IsShortKey, bytes_of_key};
+ghost use Rattle.values.specs.KeyEncoding.{bytes_of_key};
 ghost use Rattle.values.specs.Log.{Changes};
 ghost use Rattle.values.specs.Memory.{OnlyMemory};
 ghost use Rattle.values.specs.Period.{periods_of};
@@ -52,7 +52,6 @@ fn conflict_of(
     start: Instant,
     change: &KeyedChange,
 ) -> Mem<Option<(Key, Instant)>>
-    requires short { IsShortKey change.now.0 }
     ensures ok { IfOk result (λ found. (m : Changes)
         → Holds schema.now view.now m → IsKeyIn schema.now change.now.0
         → found ≡ conflict_of (periods_of schema.now) m start change.now.0) }
@@ -69,7 +68,6 @@ fn conflict_of(
 }
 
 fn conflict_of_key(view: &View, start: Instant, change: &KeyedChange) -> Mem<Option<(Key, Instant)>>
-    requires short { IsShortKey change.now.0 }
     ensures ok { IfOk result (λ found. found ≡ option_map (λ i. (change.now.0, i))
         (event_since (events view.now) start (bytes_of_key change.now.0))) }
     ensures err { OnlyMemory result }
