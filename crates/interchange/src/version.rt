@@ -13,7 +13,7 @@ use itoa::{Buffer, Integer};
 use statement::write_all;
 use std::alloc::{AllocError, Global};
 use std::io::Write;
-use values::{Instant, Row, Shown, Table, Value};
+use values::{Instant, Shown, ShownRow, Table, Value};
 
 /// Why an export stopped.
 #[derive(Clone, Copy, Debug, PartialEq, Eq)]
@@ -54,7 +54,7 @@ fn print_value(fields: &mut ByteRecord, value: &Value) -> Printed
     }
 }
 
-fn print_row(fields: &mut ByteRecord, row: &Row) -> Printed
+fn print_row(fields: &mut ByteRecord, row: &ShownRow) -> Printed
     requires { partial_of fields.old ≡ [] }
     ensures fields { OnOk result (fields_of fields.new
         ≡ fields_of fields.old ++ map field_of row.now) }

@@ -1,5 +1,6 @@
 //! What a search condition takes of a table: one key, or those keys of a range that meet it.
 ghost use Rattle.std.specs.Prelude.{◌≡◌, IfOk, IfSome, option_copied};
+ghost use Rattle.std.specs.Option.{option_map};
 ghost use Rattle.values.specs.Tables.{IsTable, full_row};
 ghost use Rattle.values.specs.KeyEncoding.{IsShortKey};
 ghost use Rattle.values.specs.Memory.{OnlyMemory};
@@ -13,7 +14,8 @@ use keyrange::KeyRange;
 use std::alloc::Global;
 use std::marker::Model;
 use values::{
-    Event, FittingKeys, Key, KeyBytes, Keys, Mem, Row, Table, fitting_keys_have_bytes, read_key,
+    Event, FittingKeys, Key, KeyBytes, Keys, Mem, Row, SharedEvent, ShownRow, Table,
+    fitting_keys_have_bytes, read_key,
 };
 
 /// A search condition over a table, with the one key that it takes, where it has each key column
@@ -135,27 +137,32 @@ impl<'a> Search<'a> {
     }
 
     /// Returns the row of an event whose key is of the table and in the range, where the condition
-    /// takes the key. A row that was stored before columns were added has NULL in them.
-    pub fn row_in(&self, alloc: Global, event: &Event) -> Mem<Option<Row>>
+    /// takes the key: the event is shared, and its row is not copied. A row that was stored before
+    /// columns were added is copied, and has NULL in them.
+    pub fn row_in(&self, alloc: Global, event: &SharedEvent) -> Mem<Option<ShownRow>>
         ensures ok { IfOk result (λ row. IsInSearch self.now.table self.now.range event.now.key
             → row ≡ row_taken self.now.table self.now.keys event.now) }
         ensures err { OnlyMemory result }
     {
-        let Some(row) = event.row() else {
-            return Ok(None);
-        };
-        if !self.takes(alloc, event.key())? {
-            return Ok(None);
+        if self.takes(alloc, event.event().key())? {
+            self.shown_row(event)
+        } else {
+            Ok(None)
         }
-        Ok(Some(self.full_row(row)?))
     }
 
-    /// Copies a stored row, as wide as the table.
-    fn full_row(&self, row: &Row) -> Mem<Row>
-        ensures ok { IfOk result (λ r. r ≡ full_row self.now.table row.now) }
+    /// The row of an event, as wide as the table, where it has one.
+    fn shown_row(&self, event: &SharedEvent) -> Mem<Option<ShownRow>>
+        ensures ok { IfOk result (λ row. row
+            ≡ option_map (full_row self.now.table) event.now.row) }
         ensures err { OnlyMemory result }
     {
-        row.copy()?.widen(self.table.columns.items().len())
+        let width = self.table.columns.items().len();
+        match event.event().row() {
+            None => Ok(None),
+            Some(row) if width <= row.values().len() => ShownRow::of_event(event),
+            Some(row) => Ok(Some(ShownRow::new(row.copy()?.widen(width)?))),
+        }
     }
 
     /// Reads an event like [`Search::row_in`], and returns the key with the row as it is stored.

@@ -11,7 +11,7 @@ use crate::writer::{WriteFault, print_number, write_all};
 use arrayvec::ArrayVec;
 use std::io::Write;
 use steps::{Listing, Reply};
-use values::{Instant, Key, Refusal, Row, Shown, Value};
+use values::{Instant, Key, Refusal, Shown, ShownRow, Value};
 
 /// What encloses a text, and is doubled inside it.
 const QUOTE: u8 = b'\'';
@@ -120,7 +120,7 @@ fn print_listing<W: Write>(writer: &mut W, listing: &Listing) -> Printed
     }
 }
 
-fn print_rows<W: Write>(writer: &mut W, rows: &[Row]) -> Printed
+fn print_rows<W: Write>(writer: &mut W, rows: &[ShownRow]) -> Printed
     ensures { Prints (W.contents writer.old) (W.contents writer.new) result
         (listing_text (Listing.Rows rows.now)) }
 {
@@ -128,7 +128,7 @@ fn print_rows<W: Write>(writer: &mut W, rows: &[Row]) -> Printed
     print_row_lines(writer, rows)
 }
 
-fn print_row_lines<W: Write>(writer: &mut W, rows: &[Row]) -> Printed
+fn print_row_lines<W: Write>(writer: &mut W, rows: &[ShownRow]) -> Printed
     ensures { Prints (W.contents writer.old) (W.contents writer.new) result
         (flat_map row_line rows.now) }
 {
@@ -139,7 +139,7 @@ fn print_row_lines<W: Write>(writer: &mut W, rows: &[Row]) -> Printed
 }
 
 /// Writes the line of a row at once, where it is not too long for that.
-fn print_row<W: Write>(writer: &mut W, row: &Row) -> Printed
+fn print_row<W: Write>(writer: &mut W, row: &ShownRow) -> Printed
     ensures { Prints (W.contents writer.old) (W.contents writer.new) result (row_line row.now) }
 {
     let mut line = RowLine::new();
@@ -150,7 +150,7 @@ fn print_row<W: Write>(writer: &mut W, row: &Row) -> Printed
 }
 
 /// Writes the line of a row, value by value.
-fn put_row<W: Write>(writer: &mut W, row: &Row) -> Printed
+fn put_row<W: Write>(writer: &mut W, row: &ShownRow) -> Printed
     ensures { Prints (W.contents writer.old) (W.contents writer.new) result (row_line row.now) }
 {
     print_values_line(writer, row.values())

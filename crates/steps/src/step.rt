@@ -4,7 +4,8 @@ ghost use Rattle.steps.specs.Reply.{write_count};
 ghost use Rattle.steps.specs.Write.{step_of};
 
 use values::{
-    Chars, ColumnType, Form, Instant, Key, Keys, Refusal, Rows, Sets, ShownRows, Span, Write,
+    Chars, ColumnType, Form, Instant, Key, Keys, Refusal, Rows, Sequence, Sets, ShownRow,
+    ShownRows, Span, Write,
 };
 
 /// The highest session number; 0 is the service's own.
@@ -37,7 +38,7 @@ pub enum Step {
 /// What a query shows: the rows alone, or with their periods.
 #[derive(Drop)]
 pub enum Listing {
-    Rows(Rows),
+    Rows(Sequence<ShownRow>),
     Periods(ShownRows),
 }
 

@@ -1,3 +1,4 @@
+mod PeriodShown
 pub mod SelectionAnswered
 pub mod SelectionShown
 mod StandingOne

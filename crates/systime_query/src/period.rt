@@ -7,12 +7,12 @@ ghost use Rattle.systime_query.specs.Selection.{shown_of};
 
 use searchrange::Search;
 use std::alloc::Global;
-use values::{Event, Form, Instant, KeyBytes, Mem, Shown};
+use values::{Form, Instant, KeyBytes, Mem, SharedEvent, Shown};
 
 /// The version that an event begins, where the form selects it and the search takes its key.
 pub(crate) fn shown_of(
     alloc: Global,
-    event: &Event,
+    event: &SharedEvent,
     to: Option<Instant>,
     form: Form,
     search: &Search<'_>,
@@ -21,16 +21,13 @@ pub(crate) fn shown_of(
         → s ≡ shown_of search.now.table form search.now.keys event.now to) }
     ensures err { OnlyMemory result }
 {
-    if !form.selects(event.at(), to) {
+    let from = event.event().at();
+    if !form.selects(from, to) {
         return Ok(None);
     }
     match search.row_in(alloc, event)? {
         None => Ok(None),
-        Some(row) => Ok(Some(Shown {
-            row,
-            from: event.at(),
-            to,
-        })),
+        Some(row) => Ok(Some(Shown { row, from, to })),
     }
 }
 

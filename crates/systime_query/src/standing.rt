@@ -19,7 +19,7 @@ use blocks::Blocks;
 use searchrange::Search;
 use staging::View;
 use std::alloc::Global;
-use values::{Instant, Key, Mem, Row, SharedEvent, Table, key_bytes};
+use values::{Instant, Key, Mem, SharedEvent, ShownRow, Table, key_bytes};
 
 /// Returns, by key, the rows of a table that a query as of an instant shows. One key is looked up;
 /// of a range the events of packed nodes are those that `blocks` gives.
@@ -29,7 +29,7 @@ pub fn rows_at<B: Blocks>(
     view: &View,
     instant: Instant,
     search: &Search<'_>,
-) -> Mem<Vec<Row>>
+) -> Mem<Vec<ShownRow>>
     ensures ok { IfOk result (λ v. WhenShown view.now search.now.table search.now.keys (λ m.
         v.items ≡ shown_rows m search.now.table (AsOf instant) search.now.keys)) }
     ensures err { OnlyMemory result }
@@ -44,7 +44,7 @@ pub fn rows_at<B: Blocks>(
 
 /// Returns, by key, the rows of a table that a query without a form of time shows, the current
 /// ones. They are in current nodes, of which none is packed.
-pub fn current_rows(alloc: Global, view: &View, search: &Search<'_>) -> Mem<Vec<Row>>
+pub fn current_rows(alloc: Global, view: &View, search: &Search<'_>) -> Mem<Vec<ShownRow>>
     ensures ok { IfOk result (λ v. WhenShown view.now search.now.table search.now.keys (λ m.
         v.items ≡ shown_rows m search.now.table Plain search.now.keys)) }
     ensures err { OnlyMemory result }
@@ -59,7 +59,13 @@ pub fn current_rows(alloc: Global, view: &View, search: &Search<'_>) -> Mem<Vec<
 }
 
 /// The row of a key at an instant, as wide as its table, where it has one: it is looked up.
-fn row_at(alloc: Global, view: &View, table: &Table, key: &Key, instant: Instant) -> Mem<Vec<Row>>
+fn row_at(
+    alloc: Global,
+    view: &View,
+    table: &Table,
+    key: &Key,
+    instant: Instant,
+) -> Mem<Vec<ShownRow>>
     requires few { length table.now.columns ≤ widest }
     requires short { IsShortKey key.now }
     ensures ok { IfOk result (λ v. v.items ≡ cons_option (option_map (full_row table.now)
@@ -73,19 +79,22 @@ fn row_at(alloc: Global, view: &View, table: &Table, key: &Key, instant: Instant
     let (row, _visits) = view.get(&bytes, instant)?;
     match row {
         None => Ok(Vec::new(alloc)),
-        Some(row) => Ok(vec![in alloc; row.widen(table.columns.items().len())?]?),
+        Some(row) => {
+            let row = row.widen(table.columns.items().len())?;
+            Ok(vec![in alloc; ShownRow::new(row)]?)
+        }
     }
 }
 
 /// The rows of events whose keys the search takes.
-fn rows_shown(alloc: Global, events: &[SharedEvent], search: &Search<'_>) -> Mem<Vec<Row>>
+fn rows_shown(alloc: Global, events: &[SharedEvent], search: &Search<'_>) -> Mem<Vec<ShownRow>>
     ensures ok { IfOk result (λ v. AreInSearch search.now.table search.now.range events.now
         → v.items ≡ filter_map (row_taken search.now.table search.now.keys) events.now) }
     ensures err { OnlyMemory result }
 {
     let mut rows = Vec::with_capacity(alloc, events.len())?;
     for event in events {
-        push_some(&mut rows, search.row_in(alloc, event.event())?)?;
+        push_some(&mut rows, search.row_in(alloc, event)?)?;
     }
     Ok(rows)
 }

@@ -88,8 +88,7 @@ pub(crate) fn shown_in(
     let mut rest = found;
     while let [event, behind @ ..] = rest {
         rest = behind;
-        let event = event.event();
-        let end = end_of(view, last, event, behind);
+        let end = end_of(view, last, event.event(), behind);
         push_some(&mut shown, shown_of(alloc, event, end, form, search)?)?;
     }
     Ok(shown)

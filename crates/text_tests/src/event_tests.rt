@@ -3,7 +3,7 @@
 use crate::key_sample::key;
 use std::alloc::Global;
 use std::process::Abort;
-use values::{Event, Instant, KeyBytes, Row, SharedEvent, Value};
+use values::{Event, Instant, KeyBytes, Row, SharedEvent, ShownRow, Value};
 
 fn row(rt: &impl Abort, alloc: Global) -> Row {
     let values = vec![in alloc; Value::Int(7)].expect(rt, "there is memory");
@@ -50,6 +50,45 @@ fn shares_are_that(rt: &impl Abort, alloc: Global) -> (bool, bool) {
 #[test]
 fn a_shared_event_is_the_same(rt: HostRuntime) {
     assert!(rt; shares_are_that(&rt, rt.alloc()) == (true, true));
+}
+
+/// The number of the one value of a row that is shown.
+fn number_of(row: &ShownRow) -> Option<i64> {
+    match row.values() {
+        [Value::Int(number)] => Some(*number),
+        _ => None,
+    }
+}
+
+/// What is shown of an event with a row, or of one that deletes it.
+fn shown_of(rt: &impl Abort, alloc: Global, has_row: bool) -> Option<i64> {
+    let row = has_row.then_some(()).map(|_| row(rt, alloc));
+    let event = Event::new(key(rt, alloc, b"\x01\x02"), 100, row);
+    let event = share_of(rt, alloc, event.expect(rt, "the key is not empty"));
+    let shown = ShownRow::of_event(&event).expect(rt, "there is memory");
+    number_of(&shown?)
+}
+
+#[test]
+fn a_shown_row_is_that_of_its_event_or_one_by_itself(rt: HostRuntime) {
+    let alloc = rt.alloc();
+    assert!(rt; shown_of(&rt, alloc, true) == Some(7));
+    assert!(rt; shown_of(&rt, alloc, false).is_none());
+    assert!(rt; number_of(&ShownRow::new(row(&rt, alloc))) == Some(7));
+}
+
+/// A row that is shown when the list that had its event is gone.
+fn row_that_is_left(rt: &impl Abort, alloc: Global) -> Option<i64> {
+    let shown = {
+        let event = share_of(rt, alloc, event(rt, alloc));
+        ShownRow::of_event(&event).expect(rt, "there is memory")
+    };
+    number_of(&shown?)
+}
+
+#[test]
+fn a_shown_row_outlives_the_list_that_has_its_event(rt: HostRuntime) {
+    assert!(rt; row_that_is_left(&rt, rt.alloc()) == Some(7));
 }
 
 /// Keys and instants, of which two are alike.

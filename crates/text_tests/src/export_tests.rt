@@ -4,7 +4,7 @@ use std::alloc::Global;
 use std::io;
 use std::io::{ErrorKind, Write};
 use std::process::Abort;
-use values::{Instant, Shown, Table};
+use values::{Instant, Shown, ShownRow, Table};
 
 /// The rows of a file, as versions that begin at 1, 2 and so on; those at even instants have ended.
 fn versions(rt: &impl Abort, alloc: Global, bytes: &[u8]) -> Vec<Shown> {
@@ -15,6 +15,7 @@ fn versions(rt: &impl Abort, alloc: Global, bytes: &[u8]) -> Vec<Shown> {
     for row in rows {
         from = from.saturating_add(1);
         let to = if from % 2 == 0 { Some(1000) } else { None };
+        let row = ShownRow::new(row);
         let pushed = shown.push(Shown { row, from, to });
         pushed.expect(rt, "there is memory");
     }

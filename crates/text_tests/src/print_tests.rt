@@ -3,7 +3,7 @@ use statement::print_reply;
 use std::alloc::Global;
 use std::process::Abort;
 use steps::{Listing, Reply};
-use values::{Chars, Row, Sequence, Shown, Value};
+use values::{Chars, Row, Sequence, Shown, ShownRow, Value};
 
 /// So many letters, the last of which is another.
 fn letters(rt: &impl Abort, alloc: Global, count: usize, last: char) -> String {
@@ -16,10 +16,11 @@ fn letters(rt: &impl Abort, alloc: Global, count: usize, last: char) -> String {
 }
 
 /// A row of the number 1 and a text of so many letters.
-fn row(rt: &impl Abort, alloc: Global, count: usize, last: char) -> Row {
+fn row(rt: &impl Abort, alloc: Global, count: usize, last: char) -> ShownRow {
     let text = Value::Text(Chars::new(letters(rt, alloc, count, last)));
     let values = vec![in alloc; Value::Int(1), text];
-    Row::new(values.expect(rt, "there is memory")).expect(rt, "a row of two values")
+    let row = Row::new(values.expect(rt, "there is memory"));
+    ShownRow::new(row.expect(rt, "a row of two values"))
 }
 
 fn printed(rt: &impl Abort, alloc: Global, listing: Listing) -> Vec<u8> {

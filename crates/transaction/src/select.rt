@@ -12,7 +12,7 @@ use searchrange::Search;
 use std::alloc::Global;
 use steps::Listing;
 use systime_query::{View, answer, current_rows, rows_at};
-use values::{FittingKeys, Form, Key, Mem, Row, Rows, ShownRows};
+use values::{FittingKeys, Form, Key, Mem, Row, Sequence, ShownRow, ShownRows};
 
 impl OpenTransaction {
     /// Returns what a query of a table shows: a plain one the rows that the transaction sees, any
@@ -34,7 +34,7 @@ impl OpenTransaction {
             Form::Plain => {
                 let search = Search::new(alloc, keys)?;
                 let found = self.staged.rows(&self.view, &search)?;
-                Ok(Listing::Rows(Rows::new(rows_of(alloc, found)?)))
+                Ok(Listing::Rows(Sequence::new(rows_of(alloc, found)?)))
             }
             Form::AsOf(_) | Form::FromTo(_, _) | Form::Between(_, _) => {
                 listing_of(alloc, blocks, &self.view, form, keys)
@@ -60,11 +60,11 @@ pub fn listing_of<B: Blocks>(
     match form {
         Form::Plain => {
             let rows = current_rows(alloc, view, &search)?;
-            Ok(Listing::Rows(Rows::new(rows)))
+            Ok(Listing::Rows(Sequence::new(rows)))
         }
         Form::AsOf(instant) => {
             let rows = rows_at(alloc, blocks, view, instant, &search)?;
-            Ok(Listing::Rows(Rows::new(rows)))
+            Ok(Listing::Rows(Sequence::new(rows)))
         }
         Form::FromTo(_, _) | Form::Between(_, _) => {
             let shown = answer(alloc, blocks, view, form, &search)?;
@@ -74,13 +74,13 @@ pub fn listing_of<B: Blocks>(
 }
 
 /// The rows, by their keys.
-fn rows_of(alloc: Global, found: Vec<(Key, Row)>) -> Mem<Vec<Row>>
+fn rows_of(alloc: Global, found: Vec<(Key, Row)>) -> Mem<Vec<ShownRow>>
     ensures ok { IfOk result (λ v. v.items ≡ map (λ e. e.1) found.items) }
     ensures memory { OnlyMemory result }
 {
-    let mut rows = Vec::new(alloc);
+    let mut rows = Vec::with_capacity(alloc, found.len())?;
     for (_key, row) in found {
-        rows.push(row)?;
+        rows.push(ShownRow::new(row))?;
     }
     Ok(rows)
 }

@@ -10,7 +10,7 @@ use std::process::Abort;
 use steps::{Listing, Reply, Step};
 use values::{
     Chars, ColumnType, Form, Instant, Keys, Operator, Refusal, Row, Rows, Schema, Sets, Shown,
-    Value,
+    ShownRow, Value,
 };
 
 /// A step on the table of employees: its session, and what it is about.
@@ -148,7 +148,7 @@ fn why(refusal: &Refusal) -> &'static str {
     }
 }
 
-fn rows_told(rt: &impl Abort, alloc: Global, rows: &[Row]) -> String {
+fn rows_told(rt: &impl Abort, alloc: Global, rows: &[ShownRow]) -> String {
     let mut text = String::new(alloc);
     for row in rows {
         push_row(rt, &mut text, row);
@@ -170,7 +170,7 @@ fn push(rt: &impl Abort, text: &mut String, more: &str) {
 }
 
 /// The name in a row, and NULL in a third column.
-fn push_row(rt: &impl Abort, text: &mut String, row: &Row) {
+fn push_row(rt: &impl Abort, text: &mut String, row: &ShownRow) {
     match row.values() {
         [_, Value::Text(name)] => push(rt, text, name.text()),
         [_, Value::Text(name), Value::Null] => {

@@ -9,8 +9,8 @@ use steps::fit_keys;
 use systime_query::{BlockCache, answer, current_rows, rows_at};
 use tsbtree::{Tree, View};
 use values::{
-    Comparison, Form, Instant, Keys, MAX_INSTANT, Operator, Row, Schema, Sequence, Shown, Value,
-    Write,
+    Comparison, Form, Instant, Keys, MAX_INSTANT, Operator, Schema, Sequence, Shown, ShownRow,
+    Value, Write,
 };
 
 /// The net change of a transaction that calls the employee with the number 1 Bea.
@@ -165,7 +165,7 @@ fn rows_at_an_instant_are_those_that_stand(rt: HostRuntime) {
 }
 
 /// The name of the one employee of these rows; none where there is none, or more than one.
-fn name_in(rows: &[Row]) -> Option<&str> {
+fn name_in(rows: &[ShownRow]) -> Option<&str> {
     match rows {
         [row] => match row.values() {
             [_number, Value::Text(name)] => Some(name.text()),

@@ -25,6 +25,7 @@ pub mod RowEncoding
 pub mod RowLaw
 pub mod RowReading
 pub mod Sample
+pub mod ShownRow
 pub mod Tables
 pub mod Versions
 pub mod Write

@@ -6,6 +6,7 @@ use crate::key::Instant;
 use crate::refusal::Mem;
 use crate::row::Row;
 use crate::sequence::Sequence;
+use crate::shown_row::ShownRow;
 use crate::value::Value;
 use std::alloc::Global;
 
@@ -86,9 +87,9 @@ pub type Sets = Sequence<Set>;
 pub type Rows = Sequence<Row>;
 
 /// A row with its period, which has no end where none has come.
-#[derive(Debug, Drop)]
+#[derive(Drop)]
 pub struct Shown {
-    pub row: Row,
+    pub row: ShownRow,
     pub from: Instant,
     pub to: Option<Instant>,
 }

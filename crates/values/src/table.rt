@@ -107,7 +107,7 @@ impl Table {
         ensures held { IfOk result (λ k. All IsHeld k.parts) }
         ensures err { OnlyMemory result }
     {
-        let mut parts = Vec::new(alloc);
+        let mut parts = Vec::with_capacity(alloc, self.key.items().len())?;
         for column in self.key.items() {
             parts.push(value_at(row.values(), *column)?)?;
         }

@@ -6,10 +6,10 @@ use Rattle.statement.proofs.print.put_shown.Goals as goal
 
 pub returns-in_err-print_values : goal.returns-in_err-print_values
 returns-in_err-print_values g c =
-    both_stopped _ _ _ _ c.values.result.now c.args.shown.now.row (codes " from ") (decimal c.args.shown.now.from ++ (codes " to " ++ line (end_text c.args.shown.now.to))) c.values.ensures.are
+    both_stopped _ _ _ _ c.values.result.now c.args.shown.now.row (codes " from ") (decimal c.args.shown.now.from ++ (codes " to " ++ line (end_text c.args.shown.now.to))) c.values.ensures
     c.from_residual.ensures.1 (c.in_err-print_values.ensures (codes " from ") refl)
 
 pub returns : goal.returns
 returns g c =
-    both_printed _ _ _ _ c.values.result.now c.args.shown.now.row (codes " from ") _ c.values.ensures.are
+    both_printed _ _ _ _ c.values.result.now c.args.shown.now.row (codes " from ") _ c.values.ensures
     (c.in_ok-print_values.ensures (codes " from ") refl) c.print_ends.ensures
