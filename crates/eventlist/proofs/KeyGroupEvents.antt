@@ -18,7 +18,8 @@ use Rattle.eventlist.proofs.PlaceParts.{passing_taken, first_same, dropped_fail}
 use Rattle.eventlist.proofs.ListingRanges.{front_dropped}
 
 module _ (key : List ℕ) (t : ℕ) (es : List Event) where
-  there_is : (n : ℕ) → is_until_at key t (slice_get es n) ≡ true → n < length es
+  -- a place at which an event is so is inside
+  pub there_is : (n : ℕ) → is_until_at key t (slice_get es n) ≡ true → n < length es
   there_is n p = by (nat_lt n (length es)) refl
     where
       by : (b : Bool) → nat_lt n (length es) ≡ b → n < length es

@@ -7,3 +7,4 @@ pub mod PlaceParts
 pub mod RangeEvents
 pub mod KeyGroupJumps
 pub mod KeyGroupEvents
+pub mod NearbyBounds

@@ -6,10 +6,11 @@ ghost use Rattle.std.specs.List.Sorted.{IsStrictlySortedBy};
 ghost use Rattle.values.specs.Events.{event_cmp};
 ghost use Rattle.keyrange.specs.Range.{is_below};
 ghost use Rattle.eventlist.specs.Listing.{stands_at, is_of_key};
-ghost use Rattle.eventlist.specs.Place.{AreFirst, is_until, is_until_at};
+ghost use Rattle.eventlist.specs.Place.{AreFirst, is_until};
 ghost use Rattle.eventlist.specs.KeyGroup.{is_up_to, first_key, AreOfKey, AreAbove};
 
-use crate::place::{is_until, place_after, place_behind_key};
+use crate::nearby::place_from;
+use crate::place::{is_until_at, place_behind_key};
 use values::{Instant, KeyBytes, SharedEvent};
 
 /// Splits off the events of the first one's key from those behind them. It takes as long as the
@@ -62,18 +63,23 @@ fn is_up_to(events: &[SharedEvent], place: usize, key: &KeyBytes) -> bool
     }
 }
 
-/// Returns a key's events above an instant, up to another and with it.
+/// Returns a key's events above an instant, up to another and with it, and the place at which they
+/// begin. Their place is searched from `near`, as by [`place_from`]: it may be the place in another
+/// list, or any number.
 pub fn events_of_key<'a>(
     events: &'a [SharedEvent],
     key: &KeyBytes,
     after: Instant,
     last: Instant,
-) -> &'a [SharedEvent]
+    near: usize,
+) -> (&'a [SharedEvent], usize)
     requires { IsStrictlySortedBy event_cmp events.now }
-    ensures { result.now ≡ filter (is_of_key key.now after last) events.now }
+    ensures are { result.0.now ≡ filter (is_of_key key.now after last) events.now }
+    ensures place { AreFirst (is_until key.now after) events.now result.1 }
 {
-    let rest = events.split_at(place_after(events, key, after)).1;
-    rest.split_at(place_near(rest, key, last)).0
+    let place = place_from(events, key, after, near);
+    let rest = events.split_at(place).1;
+    (rest.split_at(place_near(rest, key, last)).0, place)
 }
 
 /// How many events are of lesser keys, or of the key and at the instant or before it, where they
@@ -88,17 +94,6 @@ fn place_near(events: &[SharedEvent], key: &KeyBytes, instant: Instant) -> usize
         place += 1;
     }
     place
-}
-
-/// Whether there is an event at a place, of a lesser key, or of the key and at the instant or
-/// before it.
-fn is_until_at(events: &[SharedEvent], place: usize, key: &KeyBytes, instant: Instant) -> bool
-    ensures { result ≡ is_until_at key.now instant (slice_get events.now place) }
-{
-    match events.get(place) {
-        None => false,
-        Some(event) => is_until(key, instant, event.event()),
-    }
 }
 
 /// Counts a key's events at the instant or before it.

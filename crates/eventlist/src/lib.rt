@@ -3,6 +3,7 @@
 
 mod key_group;
 mod listing;
+mod nearby;
 mod overtaking;
 mod place;
 mod put;
@@ -11,6 +12,7 @@ mod sort;
 
 pub use key_group::{events_of_key, place_until, split_first_key};
 pub use listing::{events_in, standing};
+pub use nearby::place_from;
 pub use overtaking::is_overtaken;
 pub use place::{
     event_since, event_until, last_event, place_after, place_behind_key, place_of, place_of_key,

@@ -1,9 +1,10 @@
 //! Places in lists of shared events, which are in order.
 ghost use Rattle.std.specs.Prelude.{◌≡◌, ◌≤◌, Some, length, not, option_copied};
+ghost use Rattle.std.specs.List.{slice_get};
 ghost use Rattle.std.specs.List.Sorted.{IsStrictlySortedBy};
 ghost use Rattle.values.specs.Events.{event_cmp, event_until, event_since};
 ghost use Rattle.keyrange.specs.Range.{is_below};
-ghost use Rattle.eventlist.specs.Place.{AreFirst, is_until, of_key, last_event, since, is_before};
+ghost use Rattle.eventlist.specs.Place.{AreFirst, is_until, is_until_at, of_key, last_event, since, is_before};
 
 use std::cmp::Ordering;
 use values::{Event, Instant, KeyBytes, SharedEvent};
@@ -16,6 +17,22 @@ pub(crate) fn is_until(key: &KeyBytes, instant: Instant, event: &Event) -> bool
         Ordering::Less => true,
         Ordering::Equal => event.at() <= instant,
         Ordering::Greater => false,
+    }
+}
+
+/// Whether there is an event at a place, of a lesser key, or of the key and at the instant or
+/// before it.
+pub(crate) fn is_until_at(
+    events: &[SharedEvent],
+    place: usize,
+    key: &KeyBytes,
+    instant: Instant,
+) -> bool
+    ensures { result ≡ is_until_at key.now instant (slice_get events.now place) }
+{
+    match events.get(place) {
+        None => false,
+        Some(event) => is_until(key, instant, event.event()),
     }
 }
 

@@ -5,8 +5,8 @@ ghost use Rattle.values.specs.Events.{event_cmp};
 use crate::sample::{count, event, key, row};
 use eventlist::{
     event_since, event_until, events_in, events_of_key, is_overtaken, last_event, of_range,
-    place_after, place_behind_key, place_of, place_of_key, place_until, put_event, sort_events,
-    split_first_key, standing,
+    place_after, place_behind_key, place_from, place_of, place_of_key, place_until, put_event,
+    sort_events, split_first_key, standing,
 };
 use keyrange::KeyRange;
 use std::alloc::Global;
@@ -254,33 +254,130 @@ fn events_of_several_lists_are_put_in_order_once_each(rt: HostRuntime) {
     assert!(rt; are_all_when_sorted(&rt, rt.alloc(), places.as_slice()));
 }
 
-/// How many events a key of table 1 has above an instant, up to another.
+/// How many events a key of table 1 has above an instant, up to another, and where they begin.
 fn count_of_key(
     rt: &impl Abort,
     alloc: Global,
     number: u8,
     after: Instant,
     last: Instant,
-) -> usize {
+    near: usize,
+) -> (usize, usize) {
     let events = some(rt, alloc);
-    events_of_key(&events, &bytes(rt, alloc, 1, number), after, last).len()
+    let key = bytes(rt, alloc, 1, number);
+    let (found, place) = events_of_key(&events, &key, after, last, near);
+    (found.len(), place)
 }
 
-/// A key, an instant, another, and how many events of the key are above the first up to the other.
-const SPANS: &[(u8, Instant, Instant, usize)] = &[
-    (1, 0, u64::MAX, 2),
-    (1, 100, 200, 1),
-    (1, 99, 199, 1),
-    (1, 200, u64::MAX, 0),
-    (1, 200, 99, 0),
-    (2, 149, 150, 1),
-    (3, 0, u64::MAX, 0),
+/// A key, an instant, another, and how many events of the key are above the first up to the other,
+/// and where they begin.
+const SPANS: &[(u8, Instant, Instant, (usize, usize))] = &[
+    (1, 0, u64::MAX, (2, 0)),
+    (1, 100, 200, (1, 1)),
+    (1, 99, 199, (1, 0)),
+    (1, 200, u64::MAX, (0, 2)),
+    (1, 200, 99, (0, 2)),
+    (2, 149, 150, (1, 2)),
+    (3, 0, u64::MAX, (0, 3)),
 ];
 
 #[test]
 fn the_events_of_a_key_are_those_of_a_span(rt: HostRuntime) {
-    for (number, after, last, count) in SPANS {
-        let found = count_of_key(&rt, rt.alloc(), *number, *after, *last);
-        assert!(rt; found == *count, "key {number} above {after} up to {last}");
+    for near in [0, 1, 2, 3, 4, 5, usize::MAX] {
+        for (number, after, last, count) in SPANS {
+            let found = count_of_key(&rt, rt.alloc(), *number, *after, *last, near);
+            assert!(rt;
+                found == *count,
+                "key {number} above {after} up to {last} near {near}"
+            );
+        }
+    }
+}
+
+/// Adds six changes of a key of table 1, at 10, 20 and so on.
+fn add_changes(rt: &impl Abort, alloc: Global, events: &mut Vec<SharedEvent>, number: u8) {
+    for at in [10, 20, 30, 40, 50, 60] {
+        let event = change(rt, alloc, bytes(rt, alloc, 1, number), at, true);
+        events.push(event).expect(rt, "there is memory");
+    }
+}
+
+/// Six changes of each of these keys of table 1.
+fn changes_of(rt: &impl Abort, alloc: Global, numbers: &[u8]) -> Vec<SharedEvent>
+    ensures { IsStrictlySortedBy event_cmp result.items }
+{
+    let mut events = Vec::new(alloc);
+    for number in numbers {
+        add_changes(rt, alloc, &mut events, *number);
+    }
+    sort_events(&mut events).expect(rt, "there is memory");
+    events
+}
+
+/// Whether a place is found, searched as a whole and from each place nearby.
+fn is_place(events: &[SharedEvent], key: &KeyBytes, instant: Instant, place: usize) -> bool
+    requires { IsStrictlySortedBy event_cmp events.now }
+{
+    for near in 0..events.len() + 4 {
+        if place_from(events, key, instant, near) != place {
+            return false;
+        }
+    }
+    place_from(events, key, instant, usize::MAX) == place
+        && place_after(events, key, instant) == place
+}
+
+fn is_place_in(
+    rt: &impl Abort,
+    alloc: Global,
+    numbers: &[u8],
+    number: u8,
+    instant: Instant,
+    place: usize,
+) -> bool {
+    let events = changes_of(rt, alloc, numbers);
+    is_place(&events, &bytes(rt, alloc, 1, number), instant, place)
+}
+
+/// A key, an instant, and the place after them among six changes of each of the keys 2, 4 and 6.
+const PLACES: &[(u8, Instant, usize)] = &[
+    (1, u64::MAX, 0),
+    (2, 0, 0),
+    (2, 9, 0),
+    (2, 10, 1),
+    (2, 39, 3),
+    (2, 60, 6),
+    (3, 30, 6),
+    (4, 0, 6),
+    (4, 10, 7),
+    (4, 30, 9),
+    (4, u64::MAX, 12),
+    (5, 10, 12),
+    (6, 49, 16),
+    (6, 50, 17),
+    (6, 60, 18),
+    (7, 0, 18),
+];
+
+#[test]
+fn a_place_is_found_from_each_place_nearby(rt: HostRuntime) {
+    for (number, instant, place) in PLACES {
+        let numbers = [2, 4, 6];
+        let is_found = is_place_in(
+            &rt,
+            rt.alloc(),
+            numbers.as_slice(),
+            *number,
+            *instant,
+            *place,
+        );
+        assert!(rt; is_found, "key {number} at {instant}");
+    }
+}
+
+#[test]
+fn each_place_in_an_empty_list_is_its_start(rt: HostRuntime) {
+    for number in [1, 2] {
+        assert!(rt; is_place_in(&rt, rt.alloc(), [].as_slice(), number, 10, 0));
     }
 }

@@ -21,7 +21,8 @@ use values::{Instant, KeyBytes, Mem, SharedEvent};
 
 /// Lists a key's events by instant: the one whose row holds at the first instant, and those after
 /// it up to the last and with it. Each leaf of the key in that time is looked into once, but the
-/// first, which may be asked twice: for the row that holds, and for the events behind it. Of a
+/// first, which may be asked twice: for the row that holds, and for the events behind it. In a leaf
+/// the key's place is searched from its place in the leaf before, which is often close by. Of a
 /// block the events of a range are read that has the key. `Memory` where it runs out.
 pub fn key_window<B: Blocks>(
     alloc: Global,
@@ -41,10 +42,14 @@ pub fn key_window<B: Blocks>(
 {
     let mut found = standing_event(alloc, blocks, nodes, key, range, first)?;
     let mut cursor = Cursor::new();
+    // No leaf has this place: the first one is searched in halves.
+    let mut near = usize::MAX;
     let mut until = first;
     while until < last {
         let child = cursor.leaf(nodes, key, until + 1);
-        add_events(blocks, child, key, range, until, last, &mut found)?;
+        add_events(
+            blocks, child, key, range, until, last, &mut near, &mut found,
+        )?;
         match child.rect().time().to {
             None => return Ok(found),
             Some(end) => until = end - 1,
@@ -90,7 +95,8 @@ fn add_of_key(events: &[SharedEvent], key: &KeyBytes, found: &mut Vec<SharedEven
     Ok(())
 }
 
-/// Adds a leaf's events of a key above an instant, up to another and with it.
+/// Adds a leaf's events of a key above an instant, up to another and with it. Their place is
+/// searched from `near`, which is their place from then on; a block leaves it as it was.
 fn add_events<B: Blocks>(
     blocks: &mut B,
     child: &Child,
@@ -98,6 +104,7 @@ fn add_events<B: Blocks>(
     range: &KeyRange,
     after: Instant,
     last: Instant,
+    near: &mut usize,
     found: &mut Vec<SharedEvent>,
 ) -> Mem<()>
     requires inside { IsTrue (is_key_in range.now key.now) }
@@ -107,7 +114,11 @@ fn add_events<B: Blocks>(
     ensures err { OnlyMemory result }
 {
     match child {
-        Child::Data(node) => add_all(events_of_key(node.events(), key, after, last), found),
+        Child::Data(node) => {
+            let (events, place) = events_of_key(node.events(), key, after, last, *near);
+            *near = place;
+            add_all(events, found)
+        }
         Child::Packed(block) => add_of_block(blocks, block, key, range, after, last, found),
         Child::Index(_) => Ok(()),
     }
