@@ -1,5 +1,5 @@
 -- The next event shows whether an event is is_carried.
-use Rattle.std.proofs.Common.{◌≡◌, ℕ, ◌+◌, ◌<◌, Bool, true, false, ◌&&◌, ◌||◌, List, Option, Some, refl, sym, ap, ◌∙◌, arith, length, get_or, nat_le, nat_lt, not, is_some, slice_index_or}
+use Rattle.std.proofs.Common.{◌≡◌, ℕ, ◌+◌, ◌<◌, Bool, true, false, ◌&&◌, List, Option, Some, refl, sym, ap, ◌∙◌, arith, length, get_or, nat_le, nat_lt, not, is_some, slice_index_or}
 use Rattle.std.specs.List.{slice_get, list_any}
 use Rattle.std.proofs.lemmas.Bool.Decides.{nat_tests}
 use Rattle.std.proofs.lemmas.Option.{slice_get_read}
@@ -8,11 +8,7 @@ use Rattle.values.specs.Event.{Event}
 use Rattle.eventlist.specs.Overtaking.{overtakes, is_overtaken}
 use Rattle.eventlist.specs.Listing.{stands_at}
 use Rattle.eventlist.proofs.OvertakingNext.{stands_is}
-use Rattle.keyrange.specs.declared.range.KeyRange.{KeyRange}
-use Rattle.keyrange.specs.declared.range.TimeRange.{TimeRange}
-use Rattle.keyrange.specs.Rect.{Area}
-use Rattle.keyrange.specs.Range.{is_key_in, is_time_in}
-use Rattle.datanode.specs.Cut.{IsMap, is_carried, in_cut, stays_to}
+use Rattle.datanode.specs.Cut.{IsMap, is_carried, stays_to}
 
 early : (t u : ℕ) → nat_lt t u ≡ true → nat_le t u ≡ true
 early t u h = grind (arith, nat_tests)
@@ -32,24 +28,3 @@ pub is_carried_by : (es : List Event) (i : ℕ) (e : Event) (t : ℕ) (next : Op
 is_carried_by es i e t next b map lt at is_next is d =
     is ∙ ap (stays_to e t) is_next ∙ sym (carried_next es i e t map (slice_get_read es (length es) i e refl lt at))
     ∙ ap (is_carried es t) (get_or_read es i e lt at d)
-
--- ---- whether an event is in the cut, over the code's terms
-
-module _ (r : Area) (es : List Event) (e x : Event) (keys : KeyRange) (time : TimeRange) (at : x ≡ e) (is_keys : keys ≡ r.keys) (is_time : time ≡ r.time) where
-  key_is : is_key_in keys x.key ≡ is_key_in r.keys e.key
-  key_is = λ i. is_key_in (is_keys i) (at i).key
-
-  time_is : is_time_in time x.at ≡ is_time_in r.time e.at
-  time_is = λ i. is_time_in (is_time i) (at i).at
-
-  pub of_other_key : (b : Bool) → b ≡ is_key_in keys x.key → b ≡ false → b ≡ in_cut r es e
-  unfolding in_cut
-  of_other_key b is no_key = no_key ∙ sym (ap (λ k. k && (is_time_in r.time e.at || is_carried es r.time.from e)) (sym key_is ∙ sym is ∙ no_key))
-
-  pub of_time : is_key_in keys x.key ≡ true → (b : Bool) → b ≡ is_time_in time x.at → b ≡ true → b ≡ in_cut r es e
-  unfolding in_cut
-  of_time key b is in_time = in_time ∙ sym ((λ i. (sym key_is ∙ key) i && ((sym time_is ∙ sym is ∙ in_time) i || is_carried es r.time.from e)))
-
-  pub of_carried : is_key_in keys x.key ≡ true → is_time_in time x.at ≡ false → (b : Bool) → b ≡ is_carried es time.from e → b ≡ in_cut r es e
-  unfolding in_cut
-  of_carried key late b is = is ∙ ap (λ (t : TimeRange). is_carried es t.from e) is_time ∙ sym ((λ i. (sym key_is ∙ key) i && ((sym time_is ∙ late) i || is_carried es r.time.from e)))

@@ -2,6 +2,7 @@ pub mod CutMembers
 pub mod CutOrder
 pub mod CutLaws
 pub mod CutNext
+mod CutRange
 pub mod CutParts
 pub mod LawHalves
 pub mod LawLast

@@ -5,7 +5,7 @@ ghost use Rattle.values.specs.Memory.{OnlyMemory};
 ghost use Rattle.values.specs.Events.{row_until, put_event};
 ghost use Rattle.keyrange.specs.Rect.{IsArea, IsInside, has_point};
 ghost use Rattle.keyrange.specs.Range.{is_key_in};
-ghost use Rattle.eventlist.specs.Place.{last_event};
+ghost use Rattle.eventlist.specs.Place.{AreFirst, last_event, is_before};
 ghost use Rattle.eventlist.specs.Listing.{events_in};
 ghost use Rattle.eventlist.specs.Overtaking.{overtakes};
 ghost use Rattle.datanode.specs.Cut.{IsMap, cut};
@@ -207,13 +207,26 @@ fn put(events: &mut Vec<SharedEvent>, rect: &Rect, event: SharedEvent) -> Result
     ensures ok { OnOk result (events.new.items ≡ cut rect.now (put_event event events.old.items)) }
     ensures err { OnErr result (events.new.items ≡ events.old.items) }
 {
-    let place = place_of(events, event.event());
+    let place = place_in(events, event.event());
     if is_replaced(events, place, rect.time().from, &event) {
         events[place - 1] = event;
     } else {
         events.insert(place, event)?;
     }
     Ok(())
+}
+
+/// Counts the events before another. Where keys rise these are all, so the last one is compared
+/// first.
+fn place_in(events: &[SharedEvent], event: &Event) -> usize
+    requires { IsMap events.now }
+    ensures bound { result ≤ length events.now }
+    ensures first { AreFirst (is_before event.now) events.now result }
+{
+    match events.last() {
+        Some(last) if last.event().order(event).is_lt() => events.len(),
+        _ => place_of(events, event),
+    }
 }
 
 /// Whether the event before a place is carried no more, once another one comes.

@@ -1,7 +1,9 @@
 //! Nodes worked out by hand.
+ghost use Rattle.keyrange.specs.Rect.{IsInside};
 
-use crate::sample::{all_keys, count, empty_node, key, put, sample_node, time_halves};
+use crate::sample::{all_keys, count, empty_node, key, key_halves, put, sample_node, time_halves};
 use datanode::{DataNode, is_carried};
+use keyrange::Rect;
 use std::alloc::Global;
 use std::process::Abort;
 use values::Instant;
@@ -130,4 +132,161 @@ fn in_copy(rt: &impl Abort, alloc: Global) -> (usize, bool) {
 #[test]
 fn a_copy_holds_the_same_events(rt: HostRuntime) {
     assert!(rt; in_copy(&rt, rt.alloc()) == (2, true));
+}
+
+/// The instants of a node's events, in order.
+fn instants(rt: &impl Abort, alloc: Global, node: &DataNode) -> Vec<Instant> {
+    let mut instants = Vec::new(alloc);
+    for event in node.events() {
+        let pushed = instants.push(event.event().at());
+        pushed.expect(rt, "there is memory");
+    }
+    instants
+}
+
+/// A node with a row of key 8, changes of keys 2 and 4, and key 6, which is deleted. No two events
+/// have an instant in common.
+fn four_keys(rt: &impl Abort, alloc: Global) -> DataNode {
+    let mut node = empty_node(rt, alloc);
+    for (number, at, there) in [
+        (8, 108, true),
+        (2, 102, true),
+        (2, 160, true),
+        (6, 106, true),
+        (6, 140, false),
+        (4, 104, true),
+        (4, 200, true),
+    ] {
+        assert!(rt; put(rt, alloc, &mut node, number, at, there));
+    }
+    node
+}
+
+/// What lies in a rectangle, of a key or a greater one, below another key, and from an instant on.
+fn area_between(rt: &impl Abort, alloc: Global, area: &Rect, lo: u8, hi: u8, from: Instant) -> Rect
+    ensures { IsInside result area.now }
+{
+    let (_below, rest) = key_halves(rt, area, &key(rt, alloc, lo));
+    let (between, _above) = key_halves(rt, &rest, &key(rt, alloc, hi));
+    let (_past, now) = time_halves(rt, &between, from);
+    now
+}
+
+/// The node's part there.
+fn part_between(
+    rt: &impl Abort,
+    alloc: Global,
+    node: &DataNode,
+    lo: u8,
+    hi: u8,
+    from: Instant,
+) -> DataNode {
+    let area = area_between(rt, alloc, node.rect(), lo, hi, from);
+    node.part(area).expect(rt, "there is memory")
+}
+
+/// The instants of that part of the four keys.
+fn instants_between(rt: &impl Abort, alloc: Global, lo: u8, hi: u8, from: Instant) -> Vec<Instant> {
+    let node = part_between(rt, alloc, &four_keys(rt, alloc), lo, hi, from);
+    instants(rt, alloc, &node)
+}
+
+#[test]
+fn a_part_holds_its_range_of_keys(rt: HostRuntime) {
+    let cases: [(u8, u8, Instant, &[Instant]); 14] = [
+        (1, 9, 150, &[102, 160, 104, 200, 108]),
+        (2, 6, 150, &[102, 160, 104, 200]),
+        (3, 6, 150, &[104, 200]),
+        (2, 4, 150, &[102, 160]),
+        (2, 5, 200, &[160, 200]),
+        (4, 9, 150, &[104, 200, 108]),
+        (4, 5, 250, &[200]),
+        (4, 8, 106, &[104, 200, 106, 140]),
+        (6, 8, 107, &[106, 140]),
+        (8, 9, 150, &[108]),
+        (6, 8, 150, &[]),
+        (5, 6, 150, &[]),
+        (1, 2, 150, &[]),
+        (9, 10, 150, &[]),
+    ];
+    for (lo, hi, from, expected) in cases {
+        let found = instants_between(&rt, rt.alloc(), lo, hi, from);
+        assert!(rt;
+            found.as_slice() == expected,
+            "keys from {lo} to {hi} from {from} on"
+        );
+    }
+}
+
+/// The instants of the four keys' part from an instant on.
+fn instants_since(rt: &impl Abort, alloc: Global, from: Instant) -> Vec<Instant> {
+    let node = since(rt, &four_keys(rt, alloc), from);
+    instants(rt, alloc, &node)
+}
+
+#[test]
+fn a_part_of_all_keys_carries_the_first_and_the_last(rt: HostRuntime) {
+    let cases: [(Instant, &[Instant]); 3] = [
+        (101, &[102, 160, 104, 200, 106, 140, 108]),
+        (150, &[102, 160, 104, 200, 108]),
+        (250, &[160, 200, 108]),
+    ];
+    for (from, expected) in cases {
+        let found = instants_since(&rt, rt.alloc(), from);
+        assert!(rt; found.as_slice() == expected, "from {from} on");
+    }
+}
+
+/// A node with a row of key 4 and one of key 6.
+fn two_keys(rt: &impl Abort, alloc: Global) -> DataNode {
+    let mut node = empty_node(rt, alloc);
+    assert!(rt; put(rt, alloc, &mut node, 4, 104, true));
+    assert!(rt; put(rt, alloc, &mut node, 6, 106, true));
+    node
+}
+
+/// The instants of a node's events, once one more is put.
+fn instants_with(
+    rt: &impl Abort,
+    alloc: Global,
+    mut node: DataNode,
+    number: u8,
+    at: Instant,
+) -> Vec<Instant> {
+    assert!(rt; put(rt, alloc, &mut node, number, at, true));
+    instants(rt, alloc, &node)
+}
+
+#[test]
+fn an_event_is_put_before_others_between_them_and_at_the_end(rt: HostRuntime) {
+    let cases: [(u8, Instant, &[Instant]); 6] = [
+        (2, 300, &[300, 104, 106]),
+        (4, 300, &[104, 300, 106]),
+        (5, 103, &[104, 103, 106]),
+        (6, 300, &[104, 106, 300]),
+        (7, 103, &[104, 106, 103]),
+        (7, 300, &[104, 106, 300]),
+    ];
+    for (number, at, expected) in cases {
+        let node = two_keys(&rt, rt.alloc());
+        let found = instants_with(&rt, rt.alloc(), node, number, at);
+        assert!(rt; found.as_slice() == expected, "key {number} at {at}");
+    }
+}
+
+#[test]
+fn the_carried_event_gives_way_also_at_the_end(rt: HostRuntime) {
+    let cases: [(u8, Instant, &[Instant]); 6] = [
+        (4, 150, &[150, 106]),
+        (4, 151, &[104, 151, 106]),
+        (5, 150, &[104, 150, 106]),
+        (6, 150, &[104, 150]),
+        (6, 151, &[104, 106, 151]),
+        (7, 150, &[104, 106, 150]),
+    ];
+    for (number, at, expected) in cases {
+        let node = since(&rt, &two_keys(&rt, rt.alloc()), 150);
+        let found = instants_with(&rt, rt.alloc(), node, number, at);
+        assert!(rt; found.as_slice() == expected, "key {number} at {at}");
+    }
 }
