@@ -16,6 +16,7 @@ use Rattle.statement.specs.Meaning.{is_column_list}
 use Rattle.statement.specs.Memory.{UnlessMemory}
 use Rattle.interchange.specs.declared.insertion.Insertion.{Insertion}
 use Rattle.interchange.specs.declared.loading.Loading.{Loading}
+use Rattle.interchange.specs.declared.open_record.OpenRecord.{OpenRecord}
 use Rattle.interchange.specs.Load.{Record, column_list, vec_items, row_of, rows_from, rows_of, inserted}
 use Rattle.interchange.specs.OpenRecord.{AreRecordsFrom, HasTaken, IsOpenAt}
 use Rattle.interchange.specs.Insertion.{HasCome}
@@ -75,7 +76,7 @@ refused_next table text byte rest why s fields field records goes_on ends (inr r
     }
 
 -- a byte that ends a record leaves nothing of the next field
-pub no_field : (s : State) (byte : ℕ) (field : List ℕ) → is_end (step default_config s byte).1 ≡ true → field_after (step default_config s byte).1 byte field ≡ []
+no_field : (s : State) (byte : ℕ) (field : List ℕ) → is_end (step default_config s byte).1 ≡ true → field_after (step default_config s byte).1 byte field ≡ []
 no_field s byte field = by (step default_config s byte).1
   where
     by : (a : Action) → is_end a ≡ true → field_after a byte field ≡ []
@@ -83,6 +84,12 @@ no_field s byte field = by (step default_config s byte).1
     by act.Copy e = cc e
     by act.EndField e = refl
     by act.EndRecord e = refl
+
+-- the record that it ended, before it is taken
+pub ended_at : (table : Table) (r : OpenRecord) (s : State) (fields : Record) (field : List ℕ) (byte : ℕ) → HasTaken table r s fields field byte true
+    → IsOpenAt table r (step default_config s byte).0 (fields_after (step default_config s byte).1 fields field) []
+ended_at table r s fields field byte took =
+    subst (IsOpenAt table r (step default_config s byte).0 (fields_after (step default_config s byte).1 fields field)) (no_field s byte field (sym took.ended_is)) took.left
 
 -- ---- the end of a text
 

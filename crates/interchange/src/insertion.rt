@@ -74,12 +74,11 @@ impl Insertion {
         if self.repeated.is_some() {
             return Ok(());
         }
-        let key = table.key(alloc, &row)?;
-        if self.keys.add(alloc, table, &key)? {
-            self.overlaps.take(alloc, table, &key, &row)?;
+        if self.keys.add(alloc, table, &row)? {
+            self.overlaps.take(alloc, table, &row)?;
             self.keep(row)
         } else {
-            self.repeated = Some(key);
+            self.repeated = Some(table.key(alloc, &row)?);
             Ok(())
         }
     }

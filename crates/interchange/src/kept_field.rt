@@ -1,5 +1,6 @@
 //! A field as far as it was read, and what is kept of it.
-ghost use Rattle.std.specs.Prelude.{◌≡◌, ◌≤◌, [], ◌++◌, ◌∷◌, length, OnOk};
+ghost use Rattle.std.specs.Prelude.{◌≡◌, ◌≤◌, ◌<◌, ◌==◌, [], ◌++◌, ◌∷◌, length, OnOk};
+ghost use Rattle.std.specs.List.{list_all};
 ghost use Rattle.interchange.specs.KeptField.{is_kept, is_zeros, keep_byte, longest_field, most_kept};
 
 use std::alloc::{AllocError, Global};
@@ -16,9 +17,9 @@ pub(crate) struct KeptField {
     /// The bytes that a text or a column's name may have.
     longest: usize,
     bytes: Vec<u8>,
-    /// The bytes are zeros alone, or a minus and then zeros alone.
+    /// Behind that length: the bytes are zeros alone, or a minus and then zeros alone.
     only_zeros: bool,
-    ghost zeros: { only_zeros ≡ is_zeros bytes.items },
+    ghost zeros: { longest < length bytes.items → only_zeros ≡ is_zeros bytes.items },
     ghost short: { length bytes.items ≤ most_kept longest },
 }
 
@@ -48,7 +49,6 @@ impl KeptField {
         ensures empty { self.new.bytes.items ≡ [] }
     {
         self.bytes.clear();
-        self.only_zeros = true;
     }
 
     /// Tells whether the next byte is kept.
@@ -65,14 +65,30 @@ impl KeptField {
         ensures kept { OnOk result (self.new.bytes.items
             ≡ keep_byte self.old.longest self.old.bytes.items byte) }
     {
-        if !self.is_kept(byte) {
-            return Ok(());
+        if self.bytes.len() < self.longest {
+            self.bytes.push(byte)?;
+        } else if self.is_kept(byte) {
+            self.bytes.push(byte)?;
+            self.only_zeros = is_zeros(&self.bytes);
         }
-        let still_zeros = byte == b'0' || byte == b'-' && self.bytes.is_empty();
-        self.bytes.push(byte)?;
-        self.only_zeros = self.only_zeros && still_zeros;
         Ok(())
     }
+}
+
+/// Tells whether bytes are zeros alone, or a minus and then zeros alone.
+fn is_zeros(bytes: &[u8]) -> bool
+    ensures { result ≡ is_zeros bytes.now }
+{
+    match bytes {
+        [] => true,
+        [first, others @ ..] => (*first == b'-' || *first == b'0') && are_zeros(others),
+    }
+}
+
+fn are_zeros(bytes: &[u8]) -> bool
+    ensures { result ≡ list_all (λ b. b == 48) bytes.now }
+{
+    bytes.iter().all(|byte| *byte == b'0')
 }
 
 /// Returns how many bytes a field may have that is a text, or the name of one of the table's columns.

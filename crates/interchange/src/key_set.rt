@@ -1,23 +1,27 @@
 //! The keys of rows that came before.
-ghost use Rattle.std.specs.Prelude.{◌≡◌, ◌++◌, ◌∷◌, [], IfOk, List, length, not};
+ghost use Rattle.std.specs.Prelude.{◌≡◌, ◌++◌, ◌∷◌, [], IfOk, List, None, OnOk, length, not};
 ghost use Rattle.std.specs.BTreeSet.{insert_key};
 ghost use Rattle.std.specs.List.{list_all, list_any};
 ghost use Rattle.std.specs.List.Sorted.{IsStrictlySortedBy};
 ghost use Rattle.std.specs.Ordering.{is_lt};
 ghost use Rattle.values.specs.declared.key.Key.{Key as TableKey};
 ghost use Rattle.values.specs.Events.{bytes_cmp, is_bytes};
-ghost use Rattle.values.specs.KeyEncoding.{IsShortKey};
+ghost use Rattle.values.specs.KeyEncoding.{bytes_of_key, part_bytes};
 ghost use Rattle.values.specs.KeyReading.{IsKeyOf};
+ghost use Rattle.values.specs.Fit.{row_fault};
 ghost use Rattle.values.specs.Memory.{OnlyMemory};
 ghost use Rattle.values.specs.Order.{is_key};
-ghost use Rattle.values.specs.Tables.{IsTable};
-ghost use Rattle.values.specs.Writes.{add_keys};
+ghost use Rattle.values.specs.Tables.{IsTable, value_at};
+ghost use Rattle.values.specs.Writes.{add_keys, key_of};
 ghost use Rattle.interchange.specs.Insertion.{HasKeys, bytes_in};
 
-use std::alloc::Global;
+use std::alloc::{AllocError, Global};
 use std::collections::BTreeSet;
 use std::mem;
-use values::{Key, KeyBytes, Mem, Table, fitting_rows_have_keys, key_bytes};
+use values::{
+    ColumnNumber, KeyBuffer, KeyBytes, Mem, Row, Table, fitting_rows_have_keys, push_part,
+    read_values,
+};
 
 /// Keys of a table, by their bytes. Most files come in the order of their keys, so the keys are a
 /// list as long as each is above the last, and one comparison tells that a key is new.
@@ -48,19 +52,19 @@ impl KeySet {
         }
     }
 
-    /// Adds a key of the table, and tells whether it is new.
-    pub(crate) fn add(&mut self, alloc: Global, table: &Table, key: &Key) -> Mem<bool>
+    /// Adds the key of a row that fits the table, and tells whether it is new.
+    pub(crate) fn add(&mut self, alloc: Global, table: &Table, row: &Row) -> Mem<bool>
         requires table { IsTable table.now.number table.now }
-        requires own { IsKeyOf table.now key.now }
+        requires fits { row_fault table.now row.now ≡ None }
         ensures new { IfOk result (λ is_new. (keys : List TableKey)
-            → HasKeys table.now keys self.old → is_new ≡ not (list_any (is_key key.now) keys)) }
+            → HasKeys table.now keys self.old
+            → is_new ≡ not (list_any (is_key (key_of table.now row.now)) keys)) }
         ensures added { IfOk result (λ _. (keys : List TableKey)
             → HasKeys table.now keys self.old
-            → HasKeys table.now (keys ++ key.now ∷ []) self.new) }
+            → HasKeys table.now (keys ++ key_of table.now row.now ∷ []) self.new) }
         ensures err { OnlyMemory result }
     {
-        fitting_rows_have_keys();
-        let bytes = key_bytes(alloc, key)?;
+        let bytes = row_key(alloc, table, row)?;
         self.insert(alloc, bytes)
     }
 
@@ -86,6 +90,45 @@ impl KeySet {
             }
             KeySet::Mixed(keys) => Ok(keys.insert(key)?),
         }
+    }
+}
+
+/// Makes the bytes of the key of a row that fits the table, without making the key.
+fn row_key(alloc: Global, table: &Table, row: &Row) -> Result<KeyBytes, AllocError>
+    requires table { IsTable table.now.number table.now }
+    requires fits { row_fault table.now row.now ≡ None }
+    ensures own { IsKeyOf table.now (key_of table.now row.now) }
+    ensures bytes { IfOk result (λ b. b ≡ bytes_of_key (key_of table.now row.now)) }
+{
+    fitting_rows_have_keys();
+    read_values(row.values());
+    let bytes = key_buffer(alloc, table, row)?;
+    match KeyBytes::from_buffer(bytes) {
+        Some(bytes) => Ok(bytes),
+        None => unreachable!(),
+    }
+}
+
+/// Writes the table's number, and the values of a row in its key columns.
+fn key_buffer(alloc: Global, table: &Table, row: &Row) -> Result<KeyBuffer, AllocError>
+    ensures { IfOk result (λ b. b.items ≡ bytes_of_key (key_of table.now row.now)) }
+{
+    let mut bytes = KeyBuffer::new(alloc);
+    bytes.push(table.number)?;
+    for column in table.key.items() {
+        push_value(&mut bytes, row, *column)?;
+    }
+    Ok(bytes)
+}
+
+/// Writes the value of a row in a column; NULL, which is past the end too, has no bytes.
+fn push_value(bytes: &mut KeyBuffer, row: &Row, column: ColumnNumber) -> Result<(), AllocError>
+    ensures { OnOk result (bytes.new.items
+        ≡ bytes.old.items ++ part_bytes (value_at row.now column)) }
+{
+    match row.values().get(column.saturating_sub(1)) {
+        Some(value) => push_part(bytes, value),
+        None => Ok(()),
     }
 }
 

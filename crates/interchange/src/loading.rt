@@ -127,22 +127,6 @@ impl Loading {
         }
     }
 
-    /// Takes the next byte.
-    fn take_byte(&mut self, alloc: Global, table: &Table, byte: u8) -> Mem<()>
-        requires good { IsTable table.now.number table.now }
-        ensures ok { OnOk result ((text : List ℕ) → IsReadTo table.now text self.old
-            → IsReadTo table.now (text ++ byte ∷ []) self.new) }
-        ensures err { IfErr result (λ why. (text rest : List ℕ)
-            → IsReadTo table.now text self.old
-            → IsWhyOf why table.now (text ++ byte ∷ rest)) }
-    {
-        match self.record.take(byte) {
-            Ok(true) => self.end_record(alloc, table),
-            Ok(false) => Ok(()),
-            Err(_) => Err(Refusal::Memory),
-        }
-    }
-
     /// Takes the next bytes. A refusal is that of the file, whatever follows them.
     pub(crate) fn feed(&mut self, alloc: Global, table: &Table, bytes: &[u8]) -> Mem<()>
         requires good { IsTable table.now.number table.now }
@@ -153,9 +137,11 @@ impl Loading {
             → IsWhyOf why table.now (text ++ (bytes.now ++ rest))) }
     {
         for byte in bytes {
-            match self.take_byte(alloc, table, *byte) {
-                Ok(()) => {}
-                Err(why) => return Err(why),
+            if self.record.take(*byte)? {
+                match self.end_record(alloc, table) {
+                    Ok(()) => {}
+                    Err(why) => return Err(why),
+                }
             }
         }
         Ok(())

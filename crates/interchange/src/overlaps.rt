@@ -8,7 +8,7 @@ ghost use Rattle.values.specs.Log.{State};
 ghost use Rattle.values.specs.Memory.{OnlyMemory};
 ghost use Rattle.values.specs.Order.{is_key};
 ghost use Rattle.values.specs.Period.{overlap};
-ghost use Rattle.values.specs.Writes.{overlap_from};
+ghost use Rattle.values.specs.Writes.{keyed, overlap_from};
 ghost use Rattle.interchange.specs.Overlaps.{HasSpans, spans_at};
 
 use std::alloc::Global;
@@ -34,11 +34,11 @@ impl Overlaps {
         }
     }
 
-    /// Takes the next row, with its key. It is compared with the earlier rows of its entity alone:
+    /// Takes the next row. It is compared with the earlier rows of its entity alone:
     /// n rows of one entity are n * n / 2 pairs at most.
-    pub(crate) fn take(&mut self, alloc: Global, table: &Table, key: &Key, row: &Row) -> Mem<()>
+    pub(crate) fn take(&mut self, alloc: Global, table: &Table, row: &Row) -> Mem<()>
         ensures ok { OnOk result ((rows : State) → HasSpans table.now.period rows self.old
-            → HasSpans table.now.period (rows ++ (key.now, row.now) ∷ []) self.new) }
+            → HasSpans table.now.period (rows ++ keyed table.now row.now ∷ []) self.new) }
         ensures err { OnlyMemory result }
     {
         let Some(period) = &table.period else {
@@ -47,7 +47,8 @@ impl Overlaps {
         if self.first.is_some() {
             return Ok(());
         }
-        self.take_span(alloc, key, period.span(row))
+        let key = table.key(alloc, row)?;
+        self.take_span(alloc, &key, period.span(row))
     }
 
     /// Takes the span of the row with a key.

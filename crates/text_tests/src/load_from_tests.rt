@@ -1,9 +1,10 @@
 //! Files of CSV that are read from a stream.
 use crate::cut::Cut;
 use interchange::{LoadFault, load_from, load_rows};
+use rows::ReadSchema;
 use std::alloc::Global;
 use std::process::Abort;
-use values::{Refusal, Row, Table, Value};
+use values::{Key, Refusal, Row, Schema, Table, Value};
 
 /// The rows of a file for the sample table.
 fn load(rt: &impl Abort, alloc: Global, bytes: &[u8]) -> Result<Vec<Row>, LoadFault> {
@@ -142,15 +143,16 @@ fn number_after_zeros<R: AllocGlobal + Abort>(rt: &R, zeros: usize, end: &[u8]) 
 
 #[test]
 fn leading_zeros_of_a_number_do_not_matter(rt: HostRuntime) {
-    let ends: [(&[u8], Option<i64>); 6] = [
+    let ends: [(&[u8], Option<i64>); 7] = [
         (b"", Some(0)),
         (b"7", Some(-7)),
         (b"9223372036854775808", Some(i64::MIN)),
         (b"9223372036854775809", None),
         (b"100000000000000000000000000000", None),
         (b"7x", None),
+        (b"-00", None),
     ];
-    for zeros in [3, 999, 1000, 1001, 5000] {
+    for zeros in [3, 997, 998, 999, 1000, 1001, 5000] {
         for (end, number) in ends {
             assert!(rt;
                 number_after_zeros(&rt, zeros, end) == number,
@@ -263,5 +265,58 @@ fn a_key_is_told_from_earlier_ones_while_keys_rise_and_once_they_do_not(rt: Host
         let text = rows_of(&rt, *numbers);
         let rows = load(&rt, rt.alloc(), text.as_slice()).expect(&rt, "the file has rows");
         assert_eq!(rt; rows.len(), numbers.len());
+    }
+}
+
+const KEY_ORDER: &str = "CREATE TABLE t (a TEXT, n INT, b TEXT,
+  s TIMESTAMP GENERATED ALWAYS AS ROW START, e TIMESTAMP GENERATED ALWAYS AS ROW END,
+  PERIOD FOR SYSTEM_TIME (s, e),
+  PRIMARY KEY (b, n)
+) WITH SYSTEM VERSIONING;
+";
+
+/// What a file answers for the table `t (a, n, b)` with the key `(b, n)`.
+fn load_by_key(rt: &impl Abort, alloc: Global, bytes: &[u8]) -> Result<Vec<Row>, LoadFault> {
+    let schema = Schema::read(alloc, KEY_ORDER.as_bytes()).expect(rt, "it is a schema");
+    let table = schema.table_at(1).expect(rt, "it has a table");
+    let mut reader = Cut {
+        rest: bytes,
+        most: 4096,
+        calls: usize::MAX,
+    };
+    load_from(alloc, &mut reader, table)
+}
+
+fn is_key_of(key: &Key, name: &str, number: i64) -> bool {
+    match key.parts.items() {
+        [Value::Text(text), Value::Int(found)] => text.text() == name && *found == number,
+        _ => false,
+    }
+}
+
+#[test]
+fn a_key_has_its_columns_in_its_order(rt: HostRuntime) {
+    let apart: [&[u8]; 4] = [
+        b"a,n,b\np,1,x\np,2,x\np,1,y\n",
+        b"b,n,a\ny,1,p\nx,2,p\nx,1,p\n",
+        b"n,b\n1,x\n1,x\0\n1,\n1,x\0y\n",
+        b"n,b\n-1,x\n0,x\n1,x\n",
+    ];
+    for bytes in apart {
+        assert!(rt; load_by_key(&rt, rt.alloc(), bytes).is_ok(), "{bytes:?}");
+    }
+    let repeated: [(&[u8], &str, i64); 4] = [
+        (b"a,n,b\np,1,x\np,2,x\nq,1,x\n", "x", 1),
+        (b"b,n,a\ny,1,p\nx,2,p\ny,1,q\n", "y", 1),
+        (b"n,b\n1,x\n1,x\0\n1,x\0\n", "x\0", 1),
+        (b"n,b\n-1,\n0,\n-1,\n", "", -1),
+    ];
+    for (bytes, name, number) in repeated {
+        let loaded = load_by_key(&rt, rt.alloc(), bytes);
+        let found = match &loaded {
+            Err(LoadFault::Refused(Refusal::DuplicateKey(key))) => is_key_of(key, name, number),
+            _ => false,
+        };
+        assert!(rt; found, "{bytes:?}");
     }
 }
