@@ -8,6 +8,7 @@ mod PrefixBytes
 mod NarrowingSteps
 mod PrefixValueBytes
 mod NarrowingWithin
+mod OnlyKeyNarrows
 mod OnlyKeyTaken
 mod SearchTaken
 pub mod SearchOwn

@@ -4,6 +4,7 @@ ghost use Rattle.values.specs.Tables.{IsTable};
 ghost use Rattle.values.specs.Fit.{comparisons_fault};
 ghost use Rattle.values.specs.KeyEncodingLaw.{IsStorable};
 ghost use Rattle.values.specs.Memory.{OnlyMemory};
+ghost use Rattle.searchrange.specs.OnlyKey.{only_key};
 ghost use Rattle.searchrange.specs.SearchRange.{range_of_table, from_bytes, before_bytes, after_prefix, upto_prefix, narrowed, is_equality, is_at, is_before_place, narrowed_at, narrowing_end, equal_at, all_narrow, narrowed_from, search_range, Covers, IsWithin, TakesAll};
 
 use crate::prefix::next_prefix;
@@ -11,7 +12,8 @@ use crate::table_range::range_of_table;
 use keyrange::{KeyRange, is_before_end, is_below};
 use std::alloc::{AllocError, Global};
 use values::{
-    ColumnNumber, Comparison, KeyBuffer, KeyBytes, Keys, Mem, Operator, Table, Value, push_part,
+    ColumnNumber, Comparison, Key, KeyBuffer, KeyBytes, Keys, Mem, Operator, Table, Value,
+    push_part,
 };
 
 /// The range of the table's keys, narrowed by the comparisons on its leading key columns.
@@ -61,18 +63,19 @@ pub(crate) fn range_of_keys(alloc: Global, table: &Table, keys: &Keys) -> Mem<Ke
 }
 
 /// Whether each comparison is of a column that narrows: then each key of the table in the range
-/// meets them all.
-pub(crate) fn is_exact(table: &Table, keys: &Keys) -> bool
+/// meets them all. So it is where the condition takes one key, and then none is looked at.
+pub(crate) fn is_exact(table: &Table, keys: &Keys, key: Option<&Key>) -> bool
     requires good { IsTable table.now.number table.now }
     requires own { keys.now.table ≡ table.now.number }
     requires fits { comparisons_fault table.now keys.now.comparisons ≡ None }
+    requires key { option_copied key ≡ only_key table.now keys.now }
     ensures narrow { result ≡ all_narrow table.now keys.now.comparisons }
     ensures exact { result ≡ true
         → TakesAll table.now keys.now (search_range table.now keys.now) }
 {
     let _number = table.number;
     read_values(keys.comparisons.items());
-    all_narrow(table, keys.comparisons.items())
+    key.is_some() || all_narrow(table, keys.comparisons.items())
 }
 
 /// Whether each comparison is of a column that narrows.

@@ -52,11 +52,12 @@ impl<'a> Search<'a> {
         ensures err { OnlyMemory result }
     {
         let FittingKeys { table, keys } = keys;
+        let key = only_key(alloc, table, keys)?;
         Ok(Search {
             table,
             keys,
-            key: only_key(alloc, table, keys)?,
-            is_exact: table.number < 255 && is_exact(table, keys),
+            is_exact: table.number < 255 && is_exact(table, keys, key.as_ref()),
+            key,
         })
     }
 

@@ -6,7 +6,9 @@ use searchrange::{Search, range_of_table};
 use std::alloc::Global;
 use std::process::Abort;
 use steps::fit_keys;
-use values::{Chars, Comparison, Key, KeyBytes, Keys, Operator, Schema, Sequence, Value, Values};
+use values::{
+    Chars, Comparison, Key, KeyBytes, Keys, Operator, Schema, Sequence, Value, Values, key_bytes,
+};
 
 fn is_end(end: &Option<KeyBytes>, bytes: &[u8]) -> bool {
     match end {
@@ -212,8 +214,8 @@ fn a_table_has_the_keys_that_begin_with_its_number(rt: HostRuntime) {
     assert!(rt; table_has(&rt, rt.alloc(), 255, b"\xff", b""));
 }
 
-/// Whether comparisons on the keys of the first table take the one key of these values; no values
-/// are no key.
+/// Whether comparisons on the keys of the first table take the one key of these values, also by its
+/// bytes; no values are no key.
 fn takes_one(
     rt: &impl Abort,
     alloc: Global,
@@ -233,7 +235,10 @@ fn takes_one(
     };
     match search.key() {
         None => key.parts.items().is_empty(),
-        Some(found) => *found == key,
+        Some(found) => {
+            let bytes = key_bytes(alloc, found).expect(rt, "there is memory");
+            *found == key && search.takes(alloc, &bytes).expect(rt, "there is memory")
+        }
     }
 }
 
