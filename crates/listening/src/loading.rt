@@ -4,7 +4,8 @@ ghost use Rattle.sessions.specs.Store.{IsBegun};
 ghost use Rattle.listening.specs.Loading.{HasEnded, IsCommitAt, IsLoadAt, IsLoadedAt, IsUnended, IsUnloaded, unbegun};
 
 use growlog::StoreName;
-use sessions::{Entry, LockedStore, Receipt, Session};
+use journal::{Entry, Receipt};
+use sessions::{LockedStore, Session};
 use std::alloc::Global;
 use std::sync::Wait;
 use values::{Instant, Refusal, Row, Write};

@@ -1,7 +1,8 @@
 //! How a round is broken off.
 use crate::store_calls::Filled;
 use growlog::StoreName;
-use sessions::{GaveUp, Receipt};
+use journal::Receipt;
+use sessions::GaveUp;
 use std::alloc::AllocError;
 
 /// Why a round was broken off.

@@ -1,6 +1,7 @@
 //! The outcome of a served session.
 use growlog::StoreName;
-use sessions::{GaveUp, Receipt};
+use journal::Receipt;
+use sessions::GaveUp;
 
 /// Why a served session ended.
 #[derive(Clone, Copy, Debug, PartialEq, Eq)]

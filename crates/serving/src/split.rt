@@ -5,10 +5,11 @@ ghost use Rattle.serving.specs.Serving.{IsCutBy, IsStepped, reply_of};
 
 use crate::answer::{Answer, Sent};
 use growlog::StoreName;
-use sessions::{Cut, LockedStore, Session};
+use sessions::{LockedStore, Session};
 use std::alloc::Global;
 use std::sync::Wait;
 use steps::{Reply, key_misfit};
+use validation::Cut;
 use values::{Instant, Key, fitting_key_bytes};
 
 /// Splits the current data node of a key there.

@@ -2,7 +2,8 @@
 use crate::desk::{Desk, insert, sees};
 use crate::scene::{Audit, Scene, play};
 use growlog::StoreName;
-use sessions::{Entry, LockedStore, Receipt, Session};
+use journal::{Entry, Receipt};
+use sessions::{LockedStore, Session};
 use std::alloc::Global;
 use std::process::Abort;
 use std::sync::Wait;
