@@ -63,7 +63,7 @@ pub(crate) fn range_of_keys(alloc: Global, table: &Table, keys: &Keys) -> Mem<Ke
 }
 
 /// Whether each comparison is of a column that narrows: then each key of the table in the range
-/// meets them all. So it is where the condition takes one key, and then none is looked at.
+/// meets them all.
 pub(crate) fn is_exact(table: &Table, keys: &Keys, key: Option<&Key>) -> bool
     requires good { IsTable table.now.number table.now }
     requires own { keys.now.table ≡ table.now.number }
@@ -75,6 +75,16 @@ pub(crate) fn is_exact(table: &Table, keys: &Keys, key: Option<&Key>) -> bool
 {
     let _number = table.number;
     read_values(keys.comparisons.items());
+    all_narrow_with(table, keys, key)
+}
+
+/// Whether each comparison is of a column that narrows. Where the condition takes one key all are,
+/// and none is looked at.
+fn all_narrow_with(table: &Table, keys: &Keys, key: Option<&Key>) -> bool
+    requires fits { comparisons_fault table.now keys.now.comparisons ≡ None }
+    requires key { option_copied key ≡ only_key table.now keys.now }
+    ensures { result ≡ all_narrow table.now keys.now.comparisons }
+{
     key.is_some() || all_narrow(table, keys.comparisons.items())
 }
 
