@@ -12,3 +12,6 @@ mod split;
 pub use begin::Opening;
 pub use book::Book;
 pub use closing::Closed;
+pub use journal::{Begun, Entry, JournalGone, Receipt, SharedEntry};
+pub use transaction::{BlockCache, OpenTransaction, listing_of};
+pub use validation::{Cut, Job, KeyedNet, Net, PackedNode, View, find_job, pack_job};

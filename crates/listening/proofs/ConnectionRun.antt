@@ -9,8 +9,8 @@ use Rattle.std.specs.Prelude.{All}
 use Rattle.std.specs.List.{AllByRecursion, flat_map, list_all}
 use Rattle.values.specs.Log.{Row}
 use Rattle.values.specs.Tables.{Schema}
-use Rattle.journal.specs.Entries.{entry_at, numbers}
-use Rattle.book.specs.Book.{BookState, IsBook}
+use Rattle.sessions.specs.journal.Entries.{entry_at, numbers}
+use Rattle.sessions.specs.book.Book.{BookState, IsBook}
 use Rattle.serving.specs.Progress.{Given}
 use Rattle.runs.specs.OneHistory.{ServedRunsAreHistories}
 use Rattle.runs.specs.Run.{IsLoaded, IsRun, Part}

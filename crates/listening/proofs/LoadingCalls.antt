@@ -13,8 +13,8 @@ use Rattle.steps.specs.declared.step.Step.{Step}
 use Rattle.steps.specs.declared.step.Step.TheVariants.{Insert}
 use Rattle.steps.specs.Write.{write}
 use Rattle.steps.specs.Misfit.{misfit}
-use Rattle.journal.specs.declared.entry.Entry.{Entry}
-use Rattle.journal.specs.declared.entry.Entry.TheVariants.{Begin, Commit}
+use Rattle.sessions.specs.journal.declared.entry.Entry.{Entry}
+use Rattle.sessions.specs.journal.declared.entry.Entry.TheVariants.{Begin, Commit}
 use Rattle.sessions.specs.SessionState.{IsWrite, SessionState, WithWrites, with_writes, write_by}
 use Rattle.sessions.specs.Store.{IsBegun, begun_with}
 use Rattle.serving.specs.Progress.{Given}

@@ -4,7 +4,7 @@ use Rattle.std.proofs.lemmas.List.Elements.{recursion_from_All}
 use Rattle.std.specs.Prelude.{All}
 use Rattle.std.specs.List.{AllByRecursion}
 use Rattle.sessions.specs.tsbtree.View.{TreeState}
-use Rattle.journal.specs.declared.entry.Entry.{Entry}
+use Rattle.sessions.specs.journal.declared.entry.Entry.{Entry}
 use Rattle.sessions.specs.SessionState.{SessionState}
 use Rattle.serving.specs.Progress.{Given}
 use Rattle.migrator.specs.Round.{HasBegun, IsBroken, IsInstallIn, IsRound, Given as Numbered}

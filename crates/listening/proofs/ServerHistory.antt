@@ -4,7 +4,7 @@ use Rattle.std.specs.Prelude.{Result, Ok, Err, OnOk}
 use Rattle.values.specs.Log.{Row}
 use Rattle.values.specs.Tables.{Schema}
 use Rattle.statement.specs.Writer.{AppendsPrefix}
-use Rattle.book.specs.Book.{BookState, IsBook}
+use Rattle.sessions.specs.book.Book.{BookState, IsBook}
 use Rattle.serving.specs.Progress.{Given}
 use Rattle.runs.specs.Run.{IsLoaded}
 use Rattle.listening.specs.Connection.{IsOneRun}

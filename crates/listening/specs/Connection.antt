@@ -3,7 +3,7 @@ use Rattle.std.specs.Prelude.{◌≤◌, ℕ, List}
 use Rattle.std.specs.List.{AllByRecursion}
 use Rattle.values.specs.Log.{Row}
 use Rattle.values.specs.Tables.{Schema}
-use Rattle.book.specs.Book.{BookState}
+use Rattle.sessions.specs.book.Book.{BookState}
 use Rattle.runs.specs.Event.{Event}
 use Rattle.runs.specs.OneHistory.{OneHistory}
 use Rattle.runs.specs.Run.{AreApart, IsPart, Part}

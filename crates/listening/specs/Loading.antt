@@ -9,8 +9,8 @@ use Rattle.sessions.specs.staging.View.{Holds}
 use Rattle.sessions.specs.staging.Own.{own}
 use Rattle.steps.specs.declared.step.Step.TheVariants.{Insert}
 use Rattle.steps.specs.Misfit.{misfit}
-use Rattle.journal.specs.declared.entry.Entry.{Entry}
-use Rattle.journal.specs.declared.entry.Entry.TheVariants.{Begin, Commit}
+use Rattle.sessions.specs.journal.declared.entry.Entry.{Entry}
+use Rattle.sessions.specs.journal.declared.entry.Entry.TheVariants.{Begin, Commit}
 use Rattle.sessions.specs.SessionState.{SessionState, write_by}
 use Rattle.sessions.specs.Store.{IsCommitted}
 use Rattle.serving.specs.Progress.{Given}

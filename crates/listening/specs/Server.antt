@@ -12,8 +12,8 @@ use Rattle.statement.specs.Print.{numbered}
 use Rattle.statement.specs.Writer.{AppendsPrefix}
 use Rattle.interchange.specs.Version.{export_text}
 use Rattle.interchange.specs.Report.{loaded_text}
-use Rattle.journal.specs.Entries.{entry_at, log}
-use Rattle.book.specs.Book.{BookState, IsBook}
+use Rattle.sessions.specs.journal.Entries.{entry_at, log}
+use Rattle.sessions.specs.book.Book.{BookState, IsBook}
 use Rattle.serving.specs.Progress.{Given}
 use Rattle.listening.specs.Loading.{IsLoadedAt, IsUnloaded}
 use Rattle.listening.specs.Connection.{IsOneRun}

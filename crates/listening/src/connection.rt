@@ -1,8 +1,8 @@
 //! Connections, each served in a thread of its own.
 ghost use Rattle.std.specs.Prelude.{◌≡◌, ℕ, All, IfOk, List, Some, map};
 ghost use Rattle.values.specs.Log.{Row};
-ghost use Rattle.journal.specs.Entries.{entry_at};
-ghost use Rattle.book.specs.Book.{IsBook};
+ghost use Rattle.sessions.specs.journal.Entries.{entry_at};
+ghost use Rattle.sessions.specs.book.Book.{IsBook};
 ghost use Rattle.serving.specs.Progress.{Given};
 ghost use Rattle.runs.specs.Run.{IsLoaded};
 ghost use Rattle.listening.specs.Connection.{IsOneRun};
@@ -12,13 +12,11 @@ use crate::clock::Microseconds;
 use crate::guarded::Guarded;
 use crate::migration::{Call, WakingGate, run_rounds};
 use crate::pile::{Origin, Pile, hand_over};
-use book::Closed;
 use crossbeam_channel::{Receiver, Sender};
 use growlog::StoreName;
-use journal::Receipt;
 use runs::served_runs_are_histories;
 use serving::{End, Served, serve_session};
-use sessions::{Gate, LockedStore, Unclosed};
+use sessions::{Closed, Gate, LockedStore, Receipt, Unclosed};
 use statement::print_refusal;
 use std::alloc::{AllocError, Global};
 use std::io::{BufWriter, Write};

@@ -4,8 +4,7 @@ ghost use Rattle.sessions.specs.Store.{IsBegun};
 ghost use Rattle.listening.specs.Loading.{HasEnded, IsCommitAt, IsLoadAt, IsLoadedAt, IsUnended, IsUnloaded, unbegun};
 
 use growlog::StoreName;
-use journal::{Entry, Receipt};
-use sessions::{LockedStore, Session};
+use sessions::{Entry, LockedStore, Receipt, Session};
 use std::alloc::Global;
 use std::sync::Wait;
 use values::{Instant, Refusal, Row, Write};

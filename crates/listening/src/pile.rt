@@ -5,7 +5,7 @@ ghost use Rattle.serving.specs.Progress.{Given};
 ghost use Rattle.listening.specs.Pile.{AreOfRun, IsOf, counted, goes_on, rises_from};
 
 use growlog::StoreName;
-use journal::Receipt;
+use sessions::Receipt;
 use std::alloc::{AllocError, Global};
 use std::marker::Model;
 use std::sync::{Mutex, Wait};

@@ -1,7 +1,7 @@
 -- Which round it is: that of the first receipt.
 use Rattle.std.proofs.Common.{◌≡◌, List, [], ◌∷◌, refl, sym, ap, subst, ◌∙◌}
-use Rattle.journal.specs.declared.entry.Entry.{Entry}
-use Rattle.journal.specs.declared.entry.Entry.TheVariants.{Begin}
+use Rattle.sessions.specs.journal.declared.entry.Entry.{Entry}
+use Rattle.sessions.specs.journal.declared.entry.Entry.TheVariants.{Begin}
 use Rattle.sessions.specs.SessionState.{SessionState}
 use Rattle.migrator.specs.Round.{Given, HasBegun, IsBroken, IsOne, IsPart, IsPartOf, IsRound, IsWhole, IsWholeOf}
 use Rattle.migrator.proofs.RoundSteps.{begins, breaks}

@@ -14,11 +14,11 @@ use Rattle.values.specs.Events.{bytes_cmp}
 use Rattle.keyrange.specs.Rect.{Area, Common, IsArea}
 use Rattle.keyrange.specs.Range.{is_key_in, is_time_in}
 use Rattle.keyrange.proofs.RectInside.{facts_of, first_instant_in, first_key_in}
-use Rattle.validation.specs.treenodes.Node.{Content, Events, References, TreeNode, IsAt}
-use Rattle.validation.specs.treenodes.Tree.{HasContent, IsTree}
-use Rattle.validation.specs.treenodes.Backlog.{IsWaiting, is_data, start_cmp}
-use Rattle.validation.proofs.treenodes.BacklogOrder.{start_total}
-use Rattle.validation.proofs.treenodes.NodeNumbers.{one_at}
+use Rattle.sessions.specs.treenodes.Node.{Content, Events, References, TreeNode, IsAt}
+use Rattle.sessions.specs.treenodes.Tree.{HasContent, IsTree}
+use Rattle.sessions.specs.treenodes.Backlog.{IsWaiting, is_data, start_cmp}
+use Rattle.sessions.proofs.treenodes.BacklogOrder.{start_total}
+use Rattle.sessions.proofs.treenodes.NodeNumbers.{one_at}
 
 both_equal : (o p : Ordering) → ordering_then o p ≡ Equal → (o ≡ Equal) × (p ≡ Equal)
 both_equal Less p h = absurd (cc)

@@ -12,15 +12,15 @@ use Rattle.std.proofs.lemmas.List.Elements.{All-nil, All-push, Contains-append_l
 use Rattle.std.proofs.lemmas.List.Sorted.{IsPermutation-append_left, IsPermutation-map, IsPermutation-middle, IsPermutation-push_more, IsPermutation-refl, IsPermutation-swap_remove, IsPermutation-sym, IsPermutation-to_front, IsPermutation-trans}
 use Rattle.keyrange.specs.Rect.{Area}
 use Rattle.datanode.specs.Node.{Node}
-use Rattle.validation.specs.treenodes.Node.{TreeNode, data_node}
-use Rattle.validation.specs.treenodes.Tree.{IsTree}
-use Rattle.validation.specs.treenodes.Backlog.{IsBehind, IsFirstWaiting, IsWaiting, start_cmp}
-use Rattle.validation.proofs.treenodes.BacklogOrder.{start_total}
-use Rattle.validation.specs.tsbtree.View.{TreeState}
+use Rattle.sessions.specs.treenodes.Node.{TreeNode, data_node}
+use Rattle.sessions.specs.treenodes.Tree.{IsTree}
+use Rattle.sessions.specs.treenodes.Backlog.{IsBehind, IsFirstWaiting, IsWaiting, start_cmp}
+use Rattle.sessions.proofs.treenodes.BacklogOrder.{start_total}
+use Rattle.sessions.specs.tsbtree.View.{TreeState}
 use Rattle.blocks.specs.Block.{block_of}
 use Rattle.blocks.specs.PackedNode.{Packed}
-use Rattle.journal.specs.declared.entry.Entry.{Entry}
-use Rattle.journal.specs.declared.entry.Entry.TheVariants.{Install}
+use Rattle.sessions.specs.journal.declared.entry.Entry.{Entry}
+use Rattle.sessions.specs.journal.declared.entry.Entry.TheVariants.{Install}
 use Rattle.sessions.specs.Store.{IsInstallOf}
 use Rattle.migrator.specs.Round.{AreInstalled, Given, IsInstallIn, IsAskedLast, IsOver, IsPart, IsUnderWay, IsWhole, RoundState, rect_of}
 use Rattle.migrator.proofs.RoundStarts.{sorted_more, sorted_none, sorted_one, starts_apart}

@@ -4,12 +4,12 @@ use Rattle.std.specs.List.Sorted.{IsPermutation, IsStrictlySortedBy}
 use Rattle.keyrange.specs.Rect.{Area}
 use Rattle.datanode.specs.Node.{Node}
 use Rattle.blocks.specs.Block.{block_of}
-use Rattle.validation.specs.treenodes.Node.{TreeNode, data_node}
-use Rattle.validation.specs.treenodes.Tree.{IsTree}
-use Rattle.validation.specs.treenodes.Backlog.{IsWaiting, start_cmp}
-use Rattle.validation.specs.tsbtree.View.{TreeState}
-use Rattle.journal.specs.declared.entry.Entry.{Entry}
-use Rattle.journal.specs.declared.entry.Entry.TheVariants.{Begin, Commit, Split, Install}
+use Rattle.sessions.specs.treenodes.Node.{TreeNode, data_node}
+use Rattle.sessions.specs.treenodes.Tree.{IsTree}
+use Rattle.sessions.specs.treenodes.Backlog.{IsWaiting, start_cmp}
+use Rattle.sessions.specs.tsbtree.View.{TreeState}
+use Rattle.sessions.specs.journal.declared.entry.Entry.{Entry}
+use Rattle.sessions.specs.journal.declared.entry.Entry.TheVariants.{Begin, Commit, Split, Install}
 use Rattle.sessions.specs.SessionState.{SessionState, with_transaction}
 use Rattle.sessions.specs.Store.{IsBegun}
 

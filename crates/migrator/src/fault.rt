@@ -1,8 +1,7 @@
 //! How a round is broken off.
 use crate::store_calls::Filled;
 use growlog::StoreName;
-use journal::Receipt;
-use sessions::GaveUp;
+use sessions::{GaveUp, Receipt};
 use std::alloc::AllocError;
 
 /// Why a round was broken off.

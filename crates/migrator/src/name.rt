@@ -3,7 +3,7 @@ use std::marker::{Brand, Send, Sync};
 
 /// Which round it is: its begin, and the view that the begin shows. It is in the types alone.
 pub(crate) trait RoundName: Send + Sync {
-    ghost use Rattle.validation.specs.tsbtree.View.{TreeState};
+    ghost use Rattle.sessions.specs.tsbtree.View.{TreeState};
     ghost use Rattle.migrator.specs.Round.{Given};
 
     ghost begin: { Given };
@@ -13,7 +13,7 @@ pub(crate) trait RoundName: Send + Sync {
 
 impl RoundName for Brand {
     ghost use Rattle.std.specs.Prelude.{[]};
-    ghost use Rattle.journal.specs.declared.entry.Entry.TheVariants.{Begin};
+    ghost use Rattle.sessions.specs.journal.declared.entry.Entry.TheVariants.{Begin};
 
     ghost begin = { (0, Begin 0 0 record { nodes = []; latest = 0 }) };
 

@@ -11,13 +11,11 @@ use crate::stop::Stop;
 use crate::store_calls::install_at;
 use crate::task::{Done, Task};
 use growlog::StoreName;
-use journal::Receipt;
 use keyrange::Rect;
-use sessions::{Gate, LockedStore};
+use sessions::{Gate, LockedStore, Receipt, View, find_job};
 use std::alloc::Global;
 use std::marker::{Model, PhantomData};
 use std::sync::Wait;
-use validation::{View, find_job};
 
 /// The number of a round's first worker, and of the thread that packs where there are no workers.
 const FIRST_WORKER: u8 = 1;

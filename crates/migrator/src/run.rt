@@ -1,7 +1,7 @@
 //! Rounds of the migrator.
 ghost use Rattle.std.specs.Prelude.{◌≡◌, ◌≢◌, ◌∷◌, [], Err, IfErr, IfOk, IsErrAnd, None, OnErr, Some, map, ℕ, ◌<◌};
-ghost use Rattle.journal.specs.declared.entry.Entry.TheVariants.{Begin};
-ghost use Rattle.validation.specs.tsbtree.View.{TreeState};
+ghost use Rattle.sessions.specs.journal.declared.entry.Entry.TheVariants.{Begin};
+ghost use Rattle.sessions.specs.tsbtree.View.{TreeState};
 ghost use Rattle.migrator.specs.Fault.{IsNoRoom, IsNoStart};
 ghost use Rattle.migrator.specs.Round.{HasBegun, IsBroken, IsOne, IsPart, IsPartOf, IsRound, IsWhole, IsWholeOf};
 
@@ -11,15 +11,13 @@ use crate::name::RoundName;
 use crate::round::Round;
 use crate::store_calls::begin_at;
 use growlog::StoreName;
-use journal::{Entry, Receipt};
 use keyrange::Rect;
-use sessions::{Gate, LockedStore, Session};
+use sessions::{Entry, Gate, LockedStore, Receipt, Session, View};
 use std::alloc::Global;
 use std::marker::Brand;
 use std::sync::Wait;
 use std::thread;
 use std::thread::Threads;
-use validation::View;
 use values::Mem;
 
 /// The most workers of a round.

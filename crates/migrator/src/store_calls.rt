@@ -5,10 +5,8 @@ ghost use Rattle.sessions.specs.Store.{IsBegun, IsInstallOf};
 
 use crate::fault::Cause;
 use growlog::StoreName;
-use journal::Receipt;
-use sessions::{LockedStore, Session};
+use sessions::{LockedStore, PackedNode, Receipt, Session};
 use std::sync::Wait;
-use validation::PackedNode;
 use values::Refusal;
 
 /// That a store answered that its journal is full. Only the calls of a store in this module make

@@ -1,14 +1,14 @@
 //! What a worker is asked for, and what it has packed.
 ghost use Rattle.std.specs.Prelude.{◌≡◌, None};
 ghost use Rattle.blocks.specs.Block.{block_of};
-ghost use Rattle.validation.specs.treenodes.Node.{data_node};
-ghost use Rattle.validation.specs.treenodes.Backlog.{IsWaiting};
+ghost use Rattle.sessions.specs.treenodes.Node.{data_node};
+ghost use Rattle.sessions.specs.treenodes.Backlog.{IsWaiting};
 
 use crate::name::RoundName;
 use keyrange::Rect;
+use sessions::{Job, PackedNode, pack_job};
 use std::alloc::Global;
 use std::marker::{Model, PhantomData};
-use validation::{Job, PackedNode, pack_job};
 use values::Mem;
 
 /// A node that a worker is to pack. Its type keeps that the round's view shows it unpacked.
@@ -21,8 +21,8 @@ pub(crate) struct Task<N: RoundName> {
 impl<N: RoundName> Model for Task<N> {
     ghost use Rattle.std.specs.Prelude.{None};
     ghost use Rattle.datanode.specs.Node.{Node};
-    ghost use Rattle.validation.specs.treenodes.Node.{data_node};
-    ghost use Rattle.validation.specs.treenodes.Backlog.{IsWaiting};
+    ghost use Rattle.sessions.specs.treenodes.Node.{data_node};
+    ghost use Rattle.sessions.specs.treenodes.Backlog.{IsWaiting};
 
     ghost Value = { Node };
 
@@ -43,8 +43,8 @@ impl<N: RoundName> Model for Done<N> {
     ghost use Rattle.std.specs.Prelude.{◌≡◌, None};
     ghost use Rattle.blocks.specs.Block.{block_of};
     ghost use Rattle.blocks.specs.PackedNode.{Packed};
-    ghost use Rattle.validation.specs.treenodes.Node.{data_node};
-    ghost use Rattle.validation.specs.treenodes.Backlog.{IsWaiting};
+    ghost use Rattle.sessions.specs.treenodes.Node.{data_node};
+    ghost use Rattle.sessions.specs.treenodes.Backlog.{IsWaiting};
 
     ghost Value = { Packed };
 

@@ -28,10 +28,10 @@ use Rattle.histories.specs.History as history
 use Rattle.histories.specs.History.{History, schema_after, log, log_at_begin, mine_of, own, own_of, reply, reply_in, snap, snap_of}
 use Rattle.histories.proofs.HistoryGrowth.{log_rises}
 use Rattle.histories.proofs.StandsEnds.{itself}
-use Rattle.journal.specs.declared.entry.Entry.{Entry}
-use Rattle.journal.specs.declared.entry.Entry.TheVariants.{Begin as Begins, Commit as Commits, Split as Splits, Install as Installs}
-use Rattle.journal.specs.Entries.{log as journal_log}
-use Rattle.journal.specs.Legal.{MayFollow, MayBegin}
+use Rattle.serving.specs.journal.declared.entry.Entry.{Entry}
+use Rattle.serving.specs.journal.declared.entry.Entry.TheVariants.{Begin as Begins, Commit as Commits, Split as Splits, Install as Installs}
+use Rattle.serving.specs.journal.Entries.{log as journal_log}
+use Rattle.serving.specs.journal.Legal.{MayFollow, MayBegin}
 use Rattle.serving.specs.sessions.OfHistory.{own_at, seen_at}
 use Rattle.serving.proofs.sessions.OfHistoryEnded.{in_range_fits}
 use Rattle.serving.proofs.sessions.StoreOfHistoryAlike.{begins_itself, fit_reply, opens, put_here, rows_at, sees_all, sees_own, snapshot_is, stays}

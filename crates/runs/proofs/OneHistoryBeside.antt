@@ -11,10 +11,10 @@ use Rattle.steps.specs.declared.step.Reply.{Reply}
 use Rattle.steps.specs.declared.step.Reply.TheVariants.{Done}
 use Rattle.steps.specs.Misfit.{max_session}
 use Rattle.histories.specs.History.{History, schema_after, log, log_at_begin, snap}
-use Rattle.journal.specs.declared.entry.Entry.{Entry}
-use Rattle.journal.specs.declared.entry.Entry.TheVariants.{Begin as Begins, Commit as Commits, Split as Splits, Install as Installs}
-use Rattle.journal.specs.Entries.{Entries, entry_at, log as journal_log}
-use Rattle.journal.specs.Legal.{MayFollow}
+use Rattle.serving.specs.journal.declared.entry.Entry.{Entry}
+use Rattle.serving.specs.journal.declared.entry.Entry.TheVariants.{Begin as Begins, Commit as Commits, Split as Splits, Install as Installs}
+use Rattle.serving.specs.journal.Entries.{Entries, entry_at, log as journal_log}
+use Rattle.serving.specs.journal.Legal.{MayFollow}
 use Rattle.serving.specs.sessions.OfHistory.{own_at, seen_at}
 use Rattle.serving.specs.Progress.{Given, ServedTransaction, Takes, after}
 use Rattle.runs.specs.Event.{Event, IsRight, read_by, with_step}

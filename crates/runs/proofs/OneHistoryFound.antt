@@ -8,8 +8,8 @@ use Rattle.values.specs.Tables.{Schema}
 use Rattle.values.specs.Log.{Row}
 use Rattle.steps.specs.Misfit.{max_session}
 use Rattle.histories.specs.History.{log}
-use Rattle.journal.specs.declared.entry.Entry.{Entry}
-use Rattle.journal.specs.Entries.{Entries, entry_at, numbers, log as journal_log}
+use Rattle.serving.specs.journal.declared.entry.Entry.{Entry}
+use Rattle.serving.specs.journal.Entries.{Entries, entry_at, numbers, log as journal_log}
 use Rattle.serving.specs.book.Book.{BookState}
 use Rattle.serving.specs.Progress.{Given, after}
 use Rattle.runs.specs.Event.{Event, AreRight, history_after, of_part, receipt_of, receipts_of, with_step}

@@ -8,7 +8,7 @@ use Rattle.steps.specs.declared.step.Step.TheVariants.{Begin, Insert, Update, De
 use Rattle.steps.specs.declared.step.Reply.{Reply}
 use Rattle.steps.specs.Misfit.{max_session}
 use Rattle.histories.specs.History.{History}
-use Rattle.journal.specs.declared.entry.Entry.{Entry}
+use Rattle.serving.specs.journal.declared.entry.Entry.{Entry}
 use Rattle.serving.specs.sessions.StoreOfHistory.{IsOfAnother}
 use Rattle.serving.proofs.sessions.StoreOfHistoryAlike.{open_stays, same_begin, seen_stays, snap_stays}
 use Rattle.runs.specs.Event.{Event, with_step}

@@ -18,8 +18,8 @@ use Rattle.steps.specs.declared.step.Reply.TheVariants.{Done, Refused}
 use Rattle.steps.specs.Misfit.{max_session, misfit, key_misfit}
 use Rattle.steps.specs.Write.{writer}
 use Rattle.histories.specs.History.{History, reply, reply_in, schema_after}
-use Rattle.journal.specs.declared.entry.Entry.{Entry}
-use Rattle.journal.specs.declared.entry.Entry.TheVariants.{Commit as Commits}
+use Rattle.serving.specs.journal.declared.entry.Entry.{Entry}
+use Rattle.serving.specs.journal.declared.entry.Entry.TheVariants.{Commit as Commits}
 use Rattle.serving.specs.Progress.{Given, Progress, Replies, ServedTransaction, Takes, TakesBegin, TakesCommit, TakesQuery, TakesSplit, TakesWrite, after, takes_split}
 use Rattle.runs.specs.Event.{Event, IsRight, read_by, with_step}
 use Rattle.runs.proofs.OneHistoryBeside.{World, Beside, Held, IsIdle, IsOwnStep, IsRead, May, MayBy, Moves, MovesBy, Packs, Right, add, given_by, with_entry}

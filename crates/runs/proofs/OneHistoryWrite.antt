@@ -17,10 +17,10 @@ use Rattle.steps.specs.Reply.{commit_reply, written_reply}
 use Rattle.steps.specs.Write.{writer}
 use Rattle.histories.specs.History.{History, schema_after, log, log_at_begin, net, net_change_of, own, own_of, reply, snap, snap_of}
 use Rattle.histories.proofs.HistoryGrowth.{log_rises}
-use Rattle.journal.specs.declared.entry.Entry.{Entry}
-use Rattle.journal.specs.declared.entry.Entry.TheVariants.{Commit as Commits}
-use Rattle.journal.specs.Entries.{start_of, log as journal_log}
-use Rattle.journal.specs.Legal.{MayFollow, MayCommit}
+use Rattle.serving.specs.journal.declared.entry.Entry.{Entry}
+use Rattle.serving.specs.journal.declared.entry.Entry.TheVariants.{Commit as Commits}
+use Rattle.serving.specs.journal.Entries.{start_of, log as journal_log}
+use Rattle.serving.specs.journal.Legal.{MayFollow, MayCommit}
 use Rattle.serving.specs.sessions.OfHistory.{own_at}
 use Rattle.serving.specs.sessions.SessionState.{write_by}
 use Rattle.serving.proofs.sessions.OfHistoryAlike.{IsWriteStep, of_writer, answers, leaves, same_begin, same_snapshot}

@@ -13,9 +13,9 @@ use Rattle.values.proofs.LawAsOf.{upto-append}
 use Rattle.values.proofs.LogPush.{upto_all}
 use Rattle.values.proofs.LogUpto.{changes_upto_is}
 use Rattle.histories.proofs.HistoryGrowth.{adds_ended, outcome_above, rises_ended}
-use Rattle.journal.specs.declared.entry.Entry.{Entry}
-use Rattle.journal.specs.declared.entry.Entry.TheVariants.{Begin, Commit, Split, Install}
-use Rattle.journal.specs.Entries.{Entries, entry_at, start_of, log}
+use Rattle.serving.specs.journal.declared.entry.Entry.{Entry}
+use Rattle.serving.specs.journal.declared.entry.Entry.TheVariants.{Begin, Commit, Split, Install}
+use Rattle.serving.specs.journal.Entries.{Entries, entry_at, start_of, log}
 
 -- ---- its log
 

@@ -9,11 +9,11 @@ use Rattle.values.specs.declared.refusal.Refusal.{Refusal}
 use Rattle.values.specs.Tables.{Schema}
 use Rattle.values.specs.Log.{Net, changes}
 use Rattle.values.specs.Events.{AreChangesIn}
-use Rattle.journal.specs.declared.entry.Entry.{Entry}
-use Rattle.journal.specs.declared.entry.Entry.TheVariants.{Commit}
-use Rattle.journal.specs.Entries.{Entries, entry_at, numbers, log as journal_log}
-use Rattle.journal.specs.Legal.{IsLegal, MayCommit}
-use Rattle.journal.proofs.JournalNumbering.{IsWithin, entry_is, entry_within, reverse_more, reverse_push}
+use Rattle.serving.specs.journal.declared.entry.Entry.{Entry}
+use Rattle.serving.specs.journal.declared.entry.Entry.TheVariants.{Commit}
+use Rattle.serving.specs.journal.Entries.{Entries, entry_at, numbers, log as journal_log}
+use Rattle.serving.specs.journal.Legal.{IsLegal, MayCommit}
+use Rattle.serving.proofs.journal.JournalNumbering.{IsWithin, entry_is, entry_within, reverse_more, reverse_push}
 use Rattle.serving.proofs.sessions.StoreOfHistoryAlike.{same_some}
 use Rattle.serving.specs.Progress.{Given}
 use Rattle.runs.specs.Event.{Event, receipts_of}

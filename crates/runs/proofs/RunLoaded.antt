@@ -14,10 +14,10 @@ use Rattle.steps.specs.declared.step.Reply.TheVariants.{Begun, Committed, Done, 
 use Rattle.steps.specs.Misfit.{max_session, misfit}
 use Rattle.steps.specs.Reply.{written_reply}
 use Rattle.values.specs.declared.refusal.Refusal.{Refusal}
-use Rattle.journal.specs.declared.entry.Entry.{Entry}
-use Rattle.journal.specs.declared.entry.Entry.TheVariants.{Begin as Begins, Commit as Commits, Split as Splits, Install as Installs}
-use Rattle.journal.specs.Entries.{Entries, entry_at}
-use Rattle.journal.specs.Legal.{IsLegal}
+use Rattle.serving.specs.journal.declared.entry.Entry.{Entry}
+use Rattle.serving.specs.journal.declared.entry.Entry.TheVariants.{Begin as Begins, Commit as Commits, Split as Splits, Install as Installs}
+use Rattle.serving.specs.journal.Entries.{Entries, entry_at}
+use Rattle.serving.specs.journal.Legal.{IsLegal}
 use Rattle.serving.specs.sessions.SessionState.{write_by}
 use Rattle.serving.specs.Progress.{Given, ServedTransaction, after, with_own}
 use Rattle.runs.specs.Event.{Event, receipts_of}

@@ -3,7 +3,7 @@ use Rattle.std.proofs.Common.{◌≡◌, ℕ, zero, suc, ◌<◌, ◌≤◌, Lis
 use Rattle.std.proofs.lemmas.Bool.Decides.{nat_tests}
 use Rattle.std.proofs.lemmas.List.Sorted.{sum_by-IsPermutation}
 use Rattle.std.proofs.lemmas.List.Sums.{sum_by-cons}
-use Rattle.journal.specs.Entries.{numbers}
+use Rattle.serving.specs.journal.Entries.{numbers}
 use Rattle.runs.proofs.RunInTurn.{in_turn, in_turn_climbs, in_turn_sum, Climbs}
 
 abbrev itself : ℕ → ℕ

@@ -15,8 +15,8 @@ use Rattle.steps.specs.Misfit.{max_session, key_misfit}
 use Rattle.statement.specs.declared.line.Line.{Line}
 use Rattle.statement.specs.declared.line.Line.TheVariants.{Nothing, Clock, Step as Asks}
 use Rattle.lines.specs.Partial.{Partial}
-use Rattle.journal.specs.declared.entry.Entry.{Entry}
-use Rattle.journal.specs.declared.entry.Entry.TheVariants.{Begin as Begins, Commit as Commits, Split as Splits, Install as Installs}
+use Rattle.serving.specs.journal.declared.entry.Entry.{Entry}
+use Rattle.serving.specs.journal.declared.entry.Entry.TheVariants.{Begin as Begins, Commit as Commits, Split as Splits, Install as Installs}
 use Rattle.serving.specs.Progress.{Given, IsRefusedStep, PacksFirst, Progress, Replies, Takes, TakesMigrate, TakesSplit, after, takes_split}
 use Rattle.serving.specs.ServedSession.{Answers, IsKept, IsRefusedLine, Serves, Told, said}
 use Rattle.runs.specs.Event.{Event, events_of, last_of, read_by, with_reading}

@@ -3,7 +3,7 @@ use Rattle.std.proofs.Common.{◌≡◌, ℕ, zero, suc, ◌+◌, ◌<◌, ◌�
 use Rattle.std.proofs.lemmas.Bool.Decides.{nat_tests}
 use Rattle.std.proofs.lemmas.List.Sums.{sum_by-cons, sum_by-append}
 use Rattle.std.proofs.lemmas.List.Sorted.{sum_by-IsPermutation}
-use Rattle.journal.specs.Entries.{numbers}
+use Rattle.serving.specs.journal.Entries.{numbers}
 
 abbrev same : ℕ → ℕ → ℕ
 same n m = if m == n then 1 else 0

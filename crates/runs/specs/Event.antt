@@ -7,8 +7,8 @@ use Rattle.steps.specs.declared.step.Step.{Step}
 use Rattle.steps.specs.declared.step.Step.TheVariants.{Commit}
 use Rattle.steps.specs.declared.step.Reply.{Reply}
 use Rattle.histories.specs.History.{History, reply}
-use Rattle.journal.specs.declared.entry.Entry.{Entry}
-use Rattle.journal.specs.declared.entry.Entry.TheVariants.{Begin as Begins, Commit as Commits, Split as Splits, Install as Installs}
+use Rattle.serving.specs.journal.declared.entry.Entry.{Entry}
+use Rattle.serving.specs.journal.declared.entry.Entry.TheVariants.{Begin as Begins, Commit as Commits, Split as Splits, Install as Installs}
 use Rattle.serving.specs.Progress.{Given}
 
 -- whose it is; the number of its part's last receipt, 0 before the first; the entry of that receipt,

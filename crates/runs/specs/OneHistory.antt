@@ -9,7 +9,7 @@ use Rattle.steps.specs.declared.step.Reply.{Reply}
 use Rattle.steps.specs.declared.step.Reply.TheVariants.{Begun, Committed, Done, Inserted}
 use Rattle.steps.specs.Misfit.{max_session}
 use Rattle.histories.specs.History.{log}
-use Rattle.journal.specs.Entries.{numbers, log as journal_log}
+use Rattle.serving.specs.journal.Entries.{numbers, log as journal_log}
 use Rattle.serving.specs.book.Book.{BookState}
 use Rattle.serving.specs.Progress.{Given}
 use Rattle.runs.specs.Event.{Event, AreRight, history_after, of_part, receipts_of}

@@ -10,9 +10,9 @@ use Rattle.steps.specs.declared.step.Step.TheVariants.{Insert}
 use Rattle.steps.specs.Misfit.{max_session, misfit}
 use Rattle.steps.specs.Write.{write}
 use Rattle.lines.specs.Partial.{Partial}
-use Rattle.journal.specs.declared.entry.Entry.{Entry}
-use Rattle.journal.specs.declared.entry.Entry.TheVariants.{Begin, Commit, Split, Install}
-use Rattle.journal.specs.Entries.{entry_at, numbers}
+use Rattle.serving.specs.journal.declared.entry.Entry.{Entry}
+use Rattle.serving.specs.journal.declared.entry.Entry.TheVariants.{Begin, Commit, Split, Install}
+use Rattle.serving.specs.journal.Entries.{entry_at, numbers}
 use Rattle.serving.specs.book.Book.{BookState, IsBook}
 use Rattle.serving.specs.Progress.{Given, Progress, after}
 use Rattle.serving.specs.ServedSession.{Serves, Told}

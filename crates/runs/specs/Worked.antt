@@ -10,7 +10,7 @@ use Rattle.steps.specs.declared.step.Step.TheVariants.{Begin, Insert, Select, Co
 use Rattle.steps.specs.declared.step.Listing.TheVariants.{Rows}
 use Rattle.steps.specs.declared.step.Reply.{Reply}
 use Rattle.steps.specs.declared.step.Reply.TheVariants.{Begun, Inserted, Shown, Committed}
-use Rattle.journal.specs.declared.entry.Entry.{Entry}
+use Rattle.serving.specs.journal.declared.entry.Entry.{Entry}
 use Rattle.serving.specs.book.Book.{BookState}
 use Rattle.serving.specs.Progress.{Given}
 use Rattle.runs.specs.Event.{Event, AreRight}

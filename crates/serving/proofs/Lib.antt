@@ -9,3 +9,4 @@ pub mod ServeLineTelling
 pub mod WriteSteps
 pub use Rattle.sessions.proofs as sessions
 pub use Rattle.sessions.proofs.staging as staging
+pub use Rattle.sessions.proofs.journal as journal

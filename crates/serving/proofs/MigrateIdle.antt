@@ -4,8 +4,8 @@ use Rattle.std.specs.Prelude.{MatchOption}
 use Rattle.sessions.specs.treenodes.Node.{TreeNode}
 use Rattle.sessions.specs.treenodes.Backlog.{IsWaiting}
 use Rattle.sessions.specs.tsbtree.View.{TreeState}
-use Rattle.journal.specs.declared.entry.Entry.{Entry}
-use Rattle.journal.specs.declared.entry.Entry.TheVariants.{Begin}
+use Rattle.sessions.specs.journal.declared.entry.Entry.{Entry}
+use Rattle.sessions.specs.journal.declared.entry.Entry.TheVariants.{Begin}
 use Rattle.serving.specs.Progress.{Given}
 use Rattle.serving.specs.Serving.{IsPackedOf}
 

@@ -20,8 +20,8 @@ use Rattle.steps.specs.declared.step.Step.TheVariants.{Begin, Select, Commit, Ro
 use Rattle.steps.specs.declared.step.Reply.{Reply}
 use Rattle.steps.specs.declared.step.Reply.TheVariants.{Begun, Shown, RolledBack, Refused}
 use Rattle.steps.specs.Misfit.{misfit}
-use Rattle.journal.specs.declared.entry.Entry.{Entry}
-use Rattle.journal.specs.declared.entry.Entry.TheVariants.{Commit as Commits}
+use Rattle.sessions.specs.journal.declared.entry.Entry.{Entry}
+use Rattle.sessions.specs.journal.declared.entry.Entry.TheVariants.{Commit as Commits}
 use Rattle.sessions.specs.SessionState.{SessionTransactionState, SessionState, IsSelect, TakesNoMemory, select_in, start_of, with_transaction}
 use Rattle.sessions.specs.Store.{IsBegun, IsCommitted, begun_with}
 use Rattle.serving.specs.declared.answer.Sent.{Sent}

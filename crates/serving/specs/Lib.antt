@@ -8,4 +8,5 @@ pub use Rattle.sessions.specs.book as book
 pub use Rattle.sessions.specs as sessions
 pub use Rattle.sessions.specs.staging as staging
 pub use Rattle.sessions.specs.tsbtree as tsbtree
-pub use Rattle.validation.specs as validation
+pub use Rattle.sessions.specs.validation as validation
+pub use Rattle.sessions.specs.journal as journal

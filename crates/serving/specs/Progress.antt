@@ -20,8 +20,8 @@ use Rattle.sessions.specs.treenodes.Backlog.{IsFirstWaiting, IsWaiting}
 use Rattle.sessions.specs.tsbtree.View.{TreeState, last}
 use Rattle.sessions.specs.staging.View.{Holds}
 use Rattle.sessions.specs.staging.Own.{own}
-use Rattle.validation.specs.declared.cut.Cut.{Cut}
-use Rattle.validation.specs.declared.cut.Cut.TheVariants.{Key as KeyCut, Time as TimeCut}
+use Rattle.sessions.specs.validation.declared.cut.Cut.{Cut}
+use Rattle.sessions.specs.validation.declared.cut.Cut.TheVariants.{Key as KeyCut, Time as TimeCut}
 use Rattle.steps.specs.declared.step.Listing.{Listing}
 use Rattle.steps.specs.declared.step.Listing.TheVariants.{Rows}
 use Rattle.steps.specs.declared.step.Step.{Step}
@@ -32,8 +32,8 @@ use Rattle.steps.specs.Misfit.{misfit, key_misfit}
 use Rattle.steps.specs.Reply.{commit_reply, written_reply}
 use Rattle.steps.specs.Listing.{rows_taken}
 use Rattle.sessions.specs.transaction.Listing.{as_listing}
-use Rattle.journal.specs.declared.entry.Entry.{Entry}
-use Rattle.journal.specs.declared.entry.Entry.TheVariants.{Begin as Begins, Commit as Commits, Split as Splits, Install as Installs}
+use Rattle.sessions.specs.journal.declared.entry.Entry.{Entry}
+use Rattle.sessions.specs.journal.declared.entry.Entry.TheVariants.{Begin as Begins, Commit as Commits, Split as Splits, Install as Installs}
 use Rattle.sessions.specs.SessionState.{write_by}
 
 -- a receipt: an entry of the journal, and its number

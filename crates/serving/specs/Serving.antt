@@ -10,7 +10,7 @@ use Rattle.values.specs.Log.{Changes}
 use Rattle.sessions.specs.tsbtree.View.{TreeState}
 use Rattle.sessions.specs.staging.View.{Holds}
 use Rattle.sessions.specs.staging.Own.{own}
-use Rattle.validation.specs.declared.cut.Cut.{Cut}
+use Rattle.sessions.specs.validation.declared.cut.Cut.{Cut}
 use Rattle.steps.specs.declared.step.Listing.{Listing}
 use Rattle.steps.specs.declared.step.Step.{Step}
 use Rattle.steps.specs.declared.step.Step.TheVariants.{Select}
@@ -19,8 +19,8 @@ use Rattle.steps.specs.declared.step.Reply.TheVariants.{Refused, Shown, Done}
 use Rattle.steps.specs.Misfit.{misfit}
 use Rattle.steps.specs.Reply.{commit_reply}
 use Rattle.statement.specs.Print.{refusal_text, reply_text}
-use Rattle.journal.specs.declared.entry.Entry.{Entry}
-use Rattle.journal.specs.declared.entry.Entry.TheVariants.{Begin, Commit, Split, Install}
+use Rattle.sessions.specs.journal.declared.entry.Entry.{Entry}
+use Rattle.sessions.specs.journal.declared.entry.Entry.TheVariants.{Begin, Commit, Split, Install}
 use Rattle.sessions.specs.SessionState.{IsSelect, TakesNoMemory, SessionTransactionState, SessionState}
 use Rattle.serving.specs.declared.answer.Sent.{Sent}
 use Rattle.serving.specs.declared.answer.Sent.TheVariants.{Reply as Replies, Ending, Refused as Refuses}

@@ -4,7 +4,7 @@ ghost use Rattle.values.specs.Memory.{OnlyMemory};
 
 use crate::answer::Answer;
 use growlog::StoreName;
-use journal::Receipt;
+use sessions::Receipt;
 use std::alloc::Global;
 use std::marker::Model;
 use values::Mem;

@@ -6,7 +6,7 @@ ghost use Rattle.steps.specs.Reply.{commit_reply};
 ghost use Rattle.serving.specs.Serving.{ending_in};
 
 use growlog::StoreName;
-use journal::{Entry, Receipt};
+use sessions::{Entry, Receipt};
 use statement::{WriteFault, print_refusal, print_reply};
 use std::io::Write;
 use std::marker::Model;

@@ -5,12 +5,10 @@ ghost use Rattle.serving.specs.Serving.{HasServiceBegun, IsMigrated, IsNoRoom, I
 
 use crate::answer::{Answer, Sent};
 use growlog::StoreName;
-use journal::{Entry, Receipt};
-use sessions::{LockedStore, Session};
+use sessions::{Entry, LockedStore, Receipt, Session, find_job, pack_job};
 use std::alloc::Global;
 use std::sync::Wait;
 use steps::Reply;
-use validation::{find_job, pack_job};
 use values::Refusal;
 
 /// Packs the first data node of history that a begin of the service's own session shows unpacked,

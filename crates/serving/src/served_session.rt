@@ -1,7 +1,6 @@
 //! The outcome of a served session.
 use growlog::StoreName;
-use journal::Receipt;
-use sessions::GaveUp;
+use sessions::{GaveUp, Receipt};
 
 /// Why a served session ended.
 #[derive(Clone, Copy, Debug, PartialEq, Eq)]

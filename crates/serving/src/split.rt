@@ -5,11 +5,10 @@ ghost use Rattle.serving.specs.Serving.{IsCutBy, IsStepped, reply_of};
 
 use crate::answer::{Answer, Sent};
 use growlog::StoreName;
-use sessions::{LockedStore, Session};
+use sessions::{Cut, LockedStore, Session};
 use std::alloc::Global;
 use std::sync::Wait;
 use steps::{Reply, key_misfit};
-use validation::Cut;
 use values::{Instant, Key, fitting_key_bytes};
 
 /// Splits the current data node of a key there.

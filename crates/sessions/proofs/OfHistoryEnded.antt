@@ -10,7 +10,7 @@ use Rattle.values.specs.Tables.{Schema, table_at, full_row}
 use Rattle.values.specs.declared.table.Table.{Table}
 use Rattle.values.specs.Log.{Log, Changes, State, Row, row_at}
 use Rattle.values.specs.Writes.{Own}
-use Rattle.validation.specs.staging.Own.{own as own_over, rows_seen}
+use Rattle.book.specs.staging.Own.{own as own_over, rows_seen}
 use Rattle.steps.specs.declared.step.Step.{Step}
 use Rattle.steps.specs.declared.step.Step.TheVariants.{Rollback}
 use Rattle.steps.specs.declared.step.Reply.TheVariants.{Refused, RolledBack}

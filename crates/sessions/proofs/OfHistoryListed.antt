@@ -23,10 +23,10 @@ use Rattle.values.specs.Order.{key_cmp, is_key}
 use Rattle.values.specs.Log.{State, Row, row_at, rows_after}
 use Rattle.values.proofs.OrderTotal.{key_cmp_total, key_cmp-IsAntisymmetric}
 use Rattle.values.proofs.LogMaps.{same_map}
-use Rattle.validation.specs.staging.Own.{rows_seen}
-use Rattle.validation.proofs.staging.ViewBridge.{sorted_base}
-use Rattle.validation.proofs.staging.StagedEntries.{lookup-filter, same_key, sorted_apply}
-use Rattle.transaction.specs.Listing.{listing_in}
+use Rattle.book.specs.staging.Own.{rows_seen}
+use Rattle.book.proofs.staging.ViewBridge.{sorted_base}
+use Rattle.book.proofs.staging.StagedEntries.{lookup-filter, same_key, sorted_apply}
+use Rattle.book.specs.transaction.Listing.{listing_in}
 use Rattle.steps.specs.declared.step.Listing.TheVariants.{Rows}
 use Rattle.steps.specs.declared.step.Step.TheVariants.{Select}
 use Rattle.steps.specs.declared.step.Reply.TheVariants.{Shown}

@@ -11,8 +11,8 @@ use Rattle.values.specs.Tables.{table_at}
 use Rattle.values.specs.Log.{Log, Changes, State, upto, changes}
 use Rattle.values.specs.Versions.{answer}
 use Rattle.values.specs.Writes.{Own}
-use Rattle.validation.specs.staging.Own.{own as own_over}
-use Rattle.transaction.specs.Listing.{listing_in}
+use Rattle.book.specs.staging.Own.{own as own_over}
+use Rattle.book.specs.transaction.Listing.{listing_in}
 use Rattle.steps.specs.declared.step.Listing.TheVariants.{Rows, Periods}
 use Rattle.steps.specs.declared.step.Step.TheVariants.{Select}
 use Rattle.steps.specs.declared.step.Reply.TheVariants.{Refused, Shown}

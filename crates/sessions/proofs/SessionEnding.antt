@@ -5,10 +5,10 @@ use Rattle.values.specs.Log.{Changes, Net, last, changes}
 use Rattle.values.specs.Period.{periods_of}
 use Rattle.values.specs.Commits.{outcome}
 use Rattle.values.specs.Events.{AreKeysIn}
-use Rattle.validation.specs.staging.View.{Holds}
-use Rattle.validation.specs.staging.Own.{net_over}
-use Rattle.journal.specs.declared.entry.Entry.{Entry}
-use Rattle.journal.specs.Entries.{Entries, is_open, log}
+use Rattle.book.specs.staging.View.{Holds}
+use Rattle.book.specs.staging.Own.{net_over}
+use Rattle.book.specs.journal.declared.entry.Entry.{Entry}
+use Rattle.book.specs.journal.Entries.{Entries, is_open, log}
 use Rattle.book.specs.Book.{BookState, commit_entry}
 use Rattle.sessions.specs.SessionState.{SessionTransactionState, SessionState, MayBeOpen}
 use Rattle.sessions.specs.Store.{IsCommitAt, IsCommitted, is_open_at}

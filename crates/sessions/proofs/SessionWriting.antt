@@ -5,11 +5,11 @@ use Rattle.values.specs.declared.table.Table.{Table}
 use Rattle.values.specs.Tables.{Schema, table_at}
 use Rattle.values.specs.Log.{Net}
 use Rattle.values.specs.Events.{AreKeysIn}
-use Rattle.validation.specs.tsbtree.View.{last}
-use Rattle.validation.specs.staging.View.{Holds}
-use Rattle.validation.specs.staging.Own.{WhenRead}
-use Rattle.transaction.specs.OpenTransactionState.{OpenTransactionState}
-use Rattle.journal.specs.BegunState.{BegunState}
+use Rattle.book.specs.tsbtree.View.{last}
+use Rattle.book.specs.staging.View.{Holds}
+use Rattle.book.specs.staging.Own.{WhenRead}
+use Rattle.book.specs.transaction.OpenTransactionState.{OpenTransactionState}
+use Rattle.book.specs.journal.BegunState.{BegunState}
 use Rattle.sessions.specs.SessionState.{SessionTransactionState, SessionState, IsOpenOver, IsSession, MayBeOpen, WithWrites, session_transaction, with_transaction, with_writes}
 
 abbrev pub state : ℕ → Schema → ℕ → Option SessionTransactionState → SessionState

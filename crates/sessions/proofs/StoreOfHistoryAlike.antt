@@ -12,10 +12,10 @@ use Rattle.values.specs.Law.{IsLog}
 use Rattle.values.specs.Writes.{Own, net_of}
 use Rattle.values.proofs.LawAsOf.{Rises-upto, upto-append}
 use Rattle.values.proofs.LogPush.{upto_all}
-use Rattle.validation.specs.tsbtree.View.{TreeState, last as view_last}
-use Rattle.validation.specs.staging.View.{Holds}
-use Rattle.validation.specs.staging.Own.{own as own_over, net_over}
-use Rattle.validation.specs.declared.cut.Cut.{Cut}
+use Rattle.book.specs.tsbtree.View.{TreeState, last as view_last}
+use Rattle.book.specs.staging.View.{Holds}
+use Rattle.book.specs.staging.Own.{own as own_over, net_over}
+use Rattle.book.specs.validation.declared.cut.Cut.{Cut}
 use Rattle.steps.specs.declared.step.Step.{Step}
 use Rattle.steps.specs.declared.step.Step.TheVariants.{Begin as BeginStep, Commit as CommitStep, Insert, Update, Delete, UpdatePortion, DeletePortion, Select, Rollback, AddColumn, SplitKey, SplitTime, Migrate}
 use Rattle.steps.specs.declared.step.Reply.{Reply}
@@ -29,11 +29,11 @@ use Rattle.histories.proofs.HistoryGrowth.{log_rises, step_adds}
 use Rattle.histories.proofs.HistoryNow.{rows_now}
 use Rattle.histories.proofs.StandsOpen.{no_writes}
 use Rattle.histories.proofs.HistoryPrefixes.{opened_below}
-use Rattle.journal.specs.declared.entry.Entry.{Entry}
-use Rattle.journal.specs.declared.entry.Entry.TheVariants.{Begin, Commit, Split, Install}
-use Rattle.journal.specs.Entries.{Entries, entry_at, start_of, log as journal_log}
-use Rattle.journal.specs.Legal.{IsLegal, MayFollow, MayBegin, MayCommit}
-use Rattle.journal.proofs.JournalNumbering.{IsWithin, entry_within}
+use Rattle.book.specs.journal.declared.entry.Entry.{Entry}
+use Rattle.book.specs.journal.declared.entry.Entry.TheVariants.{Begin, Commit, Split, Install}
+use Rattle.book.specs.journal.Entries.{Entries, entry_at, start_of, log as journal_log}
+use Rattle.book.specs.journal.Legal.{IsLegal, MayFollow, MayBegin, MayCommit}
+use Rattle.book.proofs.journal.JournalNumbering.{IsWithin, entry_within}
 use Rattle.book.specs.Book.{BookState}
 use Rattle.sessions.specs.SessionState.{SessionTransactionState, SessionState, WithWrites, own_in, with_transaction, with_writes, write_in}
 use Rattle.sessions.specs.Store.{begun_with}

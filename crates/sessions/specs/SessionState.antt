@@ -10,17 +10,17 @@ use Rattle.values.specs.Tables.{Schema, table_at, full_row}
 use Rattle.values.specs.Log.{Changes, Net, Row, row_at}
 use Rattle.values.specs.Writes.{Own}
 use Rattle.values.specs.Events.{AreKeysIn}
-use Rattle.validation.specs.tsbtree.View.{TreeState, last}
-use Rattle.validation.specs.staging.View.{Holds}
-use Rattle.validation.specs.staging.Own.{own, rows_seen}
-use Rattle.transaction.specs.Listing.{listing_in}
-use Rattle.transaction.specs.OpenTransactionState.{OpenTransactionState}
+use Rattle.book.specs.tsbtree.View.{TreeState, last}
+use Rattle.book.specs.staging.View.{Holds}
+use Rattle.book.specs.staging.Own.{own, rows_seen}
+use Rattle.book.specs.transaction.Listing.{listing_in}
+use Rattle.book.specs.transaction.OpenTransactionState.{OpenTransactionState}
 use Rattle.steps.specs.declared.step.Listing.{Listing}
 use Rattle.steps.specs.declared.step.Step.{Step}
 use Rattle.steps.specs.declared.step.Step.TheVariants.{Select}
 use Rattle.steps.specs.Misfit.{max_session, misfit, key_misfit}
 use Rattle.steps.specs.Write.{write}
-use Rattle.journal.specs.BegunState.{BegunState}
+use Rattle.book.specs.journal.BegunState.{BegunState}
 
 -- an open transaction: its begin, what it sees of what was committed, and its own writes
 pub record SessionTransactionState : Type 0 where

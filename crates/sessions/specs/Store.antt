@@ -4,13 +4,13 @@ use Rattle.values.specs.declared.refusal.Refusal.{Refusal}
 use Rattle.values.specs.declared.refusal.Refusal.TheVariants.{NoTransaction, JournalFull, Memory}
 use Rattle.values.specs.Log.{Changes, Net}
 use Rattle.blocks.specs.PackedNode.{Packed}
-use Rattle.validation.specs.tsbtree.View.{TreeState, last}
-use Rattle.validation.specs.staging.View.{Holds}
-use Rattle.validation.specs.staging.Own.{net_over}
-use Rattle.validation.specs.declared.cut.Cut.{Cut}
-use Rattle.journal.specs.declared.entry.Entry.{Entry}
-use Rattle.journal.specs.declared.entry.Entry.TheVariants.{Begin, Commit, Split, Install}
-use Rattle.journal.specs.Entries.{Entries, is_open}
+use Rattle.book.specs.tsbtree.View.{TreeState, last}
+use Rattle.book.specs.staging.View.{Holds}
+use Rattle.book.specs.staging.Own.{net_over}
+use Rattle.book.specs.validation.declared.cut.Cut.{Cut}
+use Rattle.book.specs.journal.declared.entry.Entry.{Entry}
+use Rattle.book.specs.journal.declared.entry.Entry.TheVariants.{Begin, Commit, Split, Install}
+use Rattle.book.specs.journal.Entries.{Entries, is_open}
 use Rattle.book.specs.Book.{BookState, commit_entry}
 use Rattle.sessions.specs.SessionState.{SessionTransactionState, SessionState}
 

@@ -7,10 +7,10 @@ use Rattle.values.specs.declared.refusal.Refusal.TheVariants.{InTransaction, NoT
 use Rattle.values.specs.Tables.{Schema}
 use Rattle.values.specs.KeyEncoding.{bytes_of_key}
 use Rattle.blocks.specs.PackedNode.{Packed}
-use Rattle.validation.specs.tsbtree.View.{last as view_last}
-use Rattle.validation.specs.staging.View.{Holds}
-use Rattle.validation.specs.declared.cut.Cut.{Cut}
-use Rattle.validation.specs.declared.cut.Cut.TheVariants.{Key, Time}
+use Rattle.book.specs.tsbtree.View.{last as view_last}
+use Rattle.book.specs.staging.View.{Holds}
+use Rattle.book.specs.validation.declared.cut.Cut.{Cut}
+use Rattle.book.specs.validation.declared.cut.Cut.TheVariants.{Key, Time}
 use Rattle.steps.specs.declared.step.Reply.{Reply}
 use Rattle.steps.specs.declared.step.Reply.TheVariants.{Begun, Done, Refused}
 use Rattle.steps.specs.declared.step.Step.{Step}
@@ -19,9 +19,9 @@ use Rattle.steps.specs.Misfit.{max_session, misfit}
 use Rattle.histories.specs.History.{History, schema_by, begins, ends, log, reply, snap}
 use Rattle.steps.specs.Reply.{commit_reply}
 use Rattle.steps.specs.Write.{is_write_of, writer}
-use Rattle.journal.specs.declared.entry.Entry.{Entry}
-use Rattle.journal.specs.declared.entry.Entry.TheVariants.{Begin, Commit, Split, Install}
-use Rattle.journal.specs.Entries.{Entries, entry_at, log as journal_log}
+use Rattle.book.specs.journal.declared.entry.Entry.{Entry}
+use Rattle.book.specs.journal.declared.entry.Entry.TheVariants.{Begin, Commit, Split, Install}
+use Rattle.book.specs.journal.Entries.{Entries, entry_at, log as journal_log}
 use Rattle.book.specs.Book.{BookState, IsBook, Adds}
 use Rattle.sessions.specs.SessionState.{SessionTransactionState, SessionState, WithWrites, own_in, with_transaction, write_in}
 use Rattle.sessions.specs.OfHistory.{IsIn, seen_at}

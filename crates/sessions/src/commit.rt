@@ -4,18 +4,15 @@ ghost use Rattle.values.specs.Events.{AreKeysIn};
 ghost use Rattle.values.specs.Log.{Changes};
 ghost use Rattle.values.specs.Memory.{OnlyMemory};
 ghost use Rattle.values.specs.Tables.{Schema as Tables};
-ghost use Rattle.validation.specs.staging.Own.{net_over};
-ghost use Rattle.validation.specs.staging.View.{Holds};
+ghost use Rattle.book.specs.staging.Own.{net_over};
+ghost use Rattle.book.specs.staging.View.{Holds};
 ghost use Rattle.book.specs.Book.{Adds, OnlyRoom};
 ghost use Rattle.sessions.specs.Store.{IsCommitAt, is_open_at};
 
 use crate::session::{Session, SessionTransaction};
-use book::Book;
+use book::{Book, KeyedNet, Net, OpenTransaction, Receipt};
 use growlog::StoreName;
-use journal::Receipt;
 use std::alloc::Global;
-use transaction::OpenTransaction;
-use validation::{KeyedNet, Net};
 use values::{Instant, Mem, Refusal};
 
 /// A commit that is in the book: its receipt, and the transaction that it ended, which is let go

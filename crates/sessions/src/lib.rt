@@ -9,6 +9,10 @@ mod session;
 mod store;
 mod write;
 
+pub use book::{
+    BlockCache, Closed, Cut, Entry, Job, PackedNode, Receipt, SharedEntry, View, find_job,
+    listing_of, pack_job,
+};
 pub use commit::Ended;
 pub use gate::{Gate, GaveUp, Place, pass_gate};
 pub use law::{sessions_answer_as_histories, stores_answer_as_histories};

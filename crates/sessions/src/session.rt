@@ -2,17 +2,15 @@
 ghost use Rattle.std.specs.Prelude.{◌≡◌, ◌<◌, ◌≤◌, [], Err, IfOk, IsOk, MatchOption, None, Some};
 ghost use Rattle.steps.specs.Misfit.{max_session};
 ghost use Rattle.values.specs.Log.{Changes};
-ghost use Rattle.validation.specs.tsbtree.View.{last};
-ghost use Rattle.validation.specs.staging.View.{Holds};
+ghost use Rattle.book.specs.tsbtree.View.{last};
+ghost use Rattle.book.specs.staging.View.{Holds};
 ghost use Rattle.sessions.specs.SessionState.{session_transaction, start_of, with_transaction};
 
-use book::Opening;
+use book::{Begun, BlockCache, OpenTransaction, Opening, Receipt};
 use growlog::StoreName;
-use journal::{Begun, Receipt};
 use std::alloc::Global;
 use std::marker::Model;
 use steps::MAX_SESSION;
-use transaction::{BlockCache, OpenTransaction};
 use values::{Instant, Refusal, Schema};
 
 /// A transaction that a session has open, and where it began.

@@ -2,20 +2,18 @@
 ghost use Rattle.std.specs.Prelude.{◌≡◌, ◌≢◌, ◌<◌, ◌≤◌, ◌⊎◌, ◌↔◌, All, Err, IfErr, IfOk, IsPermutation, IsSome, IsTrue, None, OnErr, Some, length, map};
 ghost use Rattle.values.specs.Memory.{OnlyMemory};
 ghost use Rattle.steps.specs.Misfit.{max_session};
-ghost use Rattle.journal.specs.Entries.{entry_at, numbers};
+ghost use Rattle.book.specs.journal.Entries.{entry_at, numbers};
 ghost use Rattle.book.specs.Book.{IsBook, OnlyRoom};
 ghost use Rattle.sessions.specs.Store.{IsBegun, IsCommitted, IsInstallOf, IsSplitOf, OnlyRoomOrNone};
 
 use crate::commit::nets;
 use crate::session::Session;
-use book::{Book, Closed};
+use book::{Book, Closed, Cut, JournalGone, PackedNode, Receipt, SharedEntry};
 use growlog::{NewLog, StoreName};
-use journal::{JournalGone, Receipt, SharedEntry};
 use std::alloc::Global;
 use std::hint::spin_loop;
 use std::sync::{Mutex, MutexGuard, Wait};
 use std::thread::yield_now;
-use validation::{Cut, PackedNode};
 use values::{Instant, Mem, Refusal, Schema};
 
 /// A store round which many threads run sessions. What its calls promise holds if they return.

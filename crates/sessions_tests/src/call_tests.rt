@@ -3,12 +3,10 @@ use crate::desk::{Desk, count, delete, insert, is_no_transaction, key, sees, set
 use crate::scene::{Audit, Scene, play};
 use crate::step::{begin, split};
 use growlog::StoreName;
-use journal::Receipt;
-use sessions::{LockedStore, Session};
+use sessions::{Cut, LockedStore, Receipt, Session};
 use std::alloc::Global;
 use std::process::Abort;
 use std::sync::Wait;
-use validation::Cut;
 use values::{Form, KeyBytes, Keys};
 
 /// An open transaction writes: whether the new name is seen, and how many rows are seen after a deletion.

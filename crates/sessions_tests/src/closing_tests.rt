@@ -2,8 +2,7 @@
 use crate::desk::{Desk, insert, sees};
 use crate::scene::{Audit, Scene, play};
 use growlog::StoreName;
-use journal::{Entry, Receipt};
-use sessions::{LockedStore, Session};
+use sessions::{Entry, LockedStore, Receipt, Session};
 use std::alloc::Global;
 use std::process::Abort;
 use std::sync::Wait;

@@ -3,12 +3,10 @@ use crate::desk::Desk;
 use crate::scene::{Audit, Scene, play};
 use crate::step::{begin, write_history};
 use growlog::StoreName;
-use journal::{Entry, Receipt};
-use sessions::LockedStore;
+use sessions::{Entry, LockedStore, PackedNode, Receipt, find_job, pack_job};
 use std::alloc::Global;
 use std::process::Abort;
 use std::sync::Wait;
-use validation::{PackedNode, find_job, pack_job};
 
 /// The first node of history that the last receipt shows unpacked, which is a begin, with its block.
 fn pack_first<J: StoreName>(

@@ -13,18 +13,14 @@ use crate::round_tests::{pack_all, pack_by_number, pack_in_two, pack_nothing, pa
 use crate::run_tests::{hire_by_two, name_by_two};
 use crate::store_tests::{commit_elsewhere, count_beside};
 use crate::thread_tests::{hire_in_threads, keep_view, name_in_threads};
-use book::Closed;
 use growlog::{NewLog, StoreName};
-use journal::{Receipt, SharedEntry};
-use sessions::{LockedStore, Unclosed};
+use sessions::{BlockCache, Closed, LockedStore, Receipt, SharedEntry, Unclosed, listing_of};
 use std::alloc::Global;
 use std::marker::Brand;
 use std::process::Abort;
 use std::sync::Wait;
 use std::thread::Threads;
 use steps::fit_keys;
-use systime_query::BlockCache;
-use transaction::listing_of;
 use values::{Form, Keys, Schema};
 
 /// What a closed store shows: how many entries, how many employees, and the instant of the last commit.

@@ -1,12 +1,10 @@
 //! Steps at a store, whose receipts are kept. The run ends where a step is refused.
 use crate::desk::{insert, sees, set_name};
 use growlog::StoreName;
-use journal::{Entry, Receipt};
-use sessions::{LockedStore, Session};
+use sessions::{Cut, Entry, LockedStore, Receipt, Session};
 use std::alloc::Global;
 use std::process::Abort;
 use std::sync::Wait;
-use validation::Cut;
 use values::{Instant, KeyBytes, Refusal};
 
 /// Keeps more receipts with the others.

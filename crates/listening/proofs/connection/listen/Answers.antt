@@ -1,7 +1,7 @@
 use Rattle.std.proofs.Common.{◌≡◌, ◌++◌, ◌∙◌, true, not, map, ap, sym, subst, if◌then◌else◌}
 use Rattle.std.specs.Prelude.{All, Some}
 use Rattle.std.specs.Result.{is_ok}
-use Rattle.journal.specs.Entries.{entry_at}
+use Rattle.sessions.specs.journal.Entries.{entry_at}
 use Rattle.serving.specs.Progress.{Given}
 use Rattle.listening.proofs.ConnectionPrefixes.{all_front}
 use Rattle.listening.proofs.ConnectionRun.{of_receipts}

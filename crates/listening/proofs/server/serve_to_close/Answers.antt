@@ -1,7 +1,7 @@
 use Rattle.std.proofs.Common.{◌∙◌, refl}
 use Rattle.std.specs.Prelude.{◌≡◌, Some}
 use Rattle.std.proofs.lemmas.List.Elements.{All-map}
-use Rattle.journal.specs.Entries.{entry_at}
+use Rattle.sessions.specs.journal.Entries.{entry_at}
 use Rattle.serving.specs.Progress.{Given}
 use Rattle.listening.proofs.ServerHistory.{none_written}
 use Rattle.listening.proofs.server.serve_to_close.Goals as goal

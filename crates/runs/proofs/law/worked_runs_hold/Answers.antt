@@ -3,7 +3,7 @@ use Rattle.steps.specs.declared.step.Listing.{Listing}
 use Rattle.steps.specs.declared.step.Listing.TheVariants.{Rows, Periods}
 use Rattle.steps.specs.declared.step.Reply.{Reply}
 use Rattle.steps.specs.declared.step.Reply.TheVariants.{Begun, Inserted, Updated, Deleted, Shown, Committed, RolledBack, Altered, Done, Refused}
-use Rattle.journal.specs.Entries.{numbers}
+use Rattle.serving.specs.journal.Entries.{numbers}
 use Rattle.runs.proofs.WorkedTwice.{not_twice}
 use Rattle.runs.proofs.law.worked_runs_hold.Goals as goal
 
