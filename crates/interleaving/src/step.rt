@@ -42,6 +42,26 @@ impl System {
         if let Some(refusal) = step.misfit(&self.schema) {
             return Reply::Refused(refusal);
         }
+        self.step_that_fits(step)
+    }
+
+    /// Takes a step like `step`, which is known to fit the tables, as one that a line asks for: that
+    /// is not looked at again.
+    pub fn step_that_fits(&mut self, step: Step) -> Reply
+        requires { misfit self.old.schema step ≡ None }
+        ensures answers { (first : Schema) (h : History) → Stands first self.old h
+            → result ≢ Reply.Refused Refusal.Memory
+            → (result ≡ reply first h step) × Stands first self.new (step ∷ h) }
+        ensures refused { leaves_all result ≡ true → self.new ≡ self.old }
+        ensures schema { result ≢ Reply.Altered → self.new.schema ≡ self.old.schema }
+        ensures altered { result ≡ Reply.Altered → IsAlterStep step self.old self.new }
+        ensures tree { result ≡ Reply.Done → IsTreeStep step self.old self.new }
+        ensures engine { may_change_tree step result ≡ false → self.new.engine ≡ self.old.engine }
+        ensures history { LeavesHistory step self.old.engine self.new.engine }
+        ensures splits { SplitsAsReplied step result self.old.engine self.new.engine }
+        ensures no_memory { takes_no_memory (world self.old) step ≡ true
+            → is_out_of_memory result ≡ false }
+    {
         self.step_in(&step)
     }
 

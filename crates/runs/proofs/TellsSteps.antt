@@ -127,10 +127,10 @@ module _ (schema : Schema) (i : ℕ) where
     where
       by : (found : Option Table) (b : Bool) → Gives (IsOwnStep i) (elim found [
         | None ↦ Err NoTable
-        | Some table ↦ if b then (fitting_rows table columns [] rows >>= λ fit. Ok (Inserts i number fit)) else Err (BadRow 0)
+        | Some table ↦ if b then (fitting_rows table columns [] rows >>= λ fit. fitting_step schema (Inserts i number fit)) else Err (BadRow 0)
       ])
       by None b = tt
-      by (Some table) true = then_gives (IsOwnStep i) (fitting_rows table columns [] rows) _ (λ fit. refl)
+      by (Some table) true = then_gives (IsOwnStep i) (fitting_rows table columns [] rows) _ (λ fit. fitting (IsOwnStep i) (Inserts i number fit) refl)
       by (Some table) false = tt
 
   session_of : (statement : Statement) → Gives (IsOwnStep i) (session_step schema 0 i statement)

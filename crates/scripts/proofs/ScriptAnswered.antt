@@ -1,5 +1,5 @@
 -- A line of a script was answered.
-use Rattle.std.proofs.Common.{◌≡◌, ◌≢◌, ℕ, List, [], ◌∷◌, Bool, true, false, Option, sym, ap, subst, ◌∙◌, append-nil, refl}
+use Rattle.std.proofs.Common.{◌≡◌, ◌≢◌, ℕ, List, [], ◌∷◌, Bool, true, false, Option, Some, None, sym, ap, subst, ◌∙◌, append-nil, refl}
 use Rattle.std.specs.Prelude.{Result, Ok, Err, OnOk, OnErr, ◌||◌, not, if◌then◌else◌}
 use Rattle.std.specs.Io.KnownBytes.{Appends, Keeps}
 use Rattle.std.proofs.KnownBytes.{Appends-kept}
@@ -9,6 +9,7 @@ use Rattle.values.specs.declared.refusal.Refusal.TheVariants.{Syntax, NoTable, B
 use Rattle.steps.specs.declared.step.Step.{Step}
 use Rattle.steps.specs.declared.step.Reply.{Reply}
 use Rattle.steps.specs.declared.step.Reply.TheVariants.{Refused}
+use Rattle.steps.specs.Misfit.{misfit}
 use Rattle.histories.specs.History.{History, reply}
 use Rattle.steps.specs.Reply.{is_memory, is_out_of_memory}
 use Rattle.histories.specs.Memory.{takes_no_memory, takes_no_memory_after}
@@ -106,6 +107,16 @@ pub broken_as : (a b : Option (List ℕ)) (schema : Schema) (p : Progress) (line
 broken_as a b schema p line r e wrote = record { mark = false; wrote = subst (λ x. AppendsPrefix a b (answered schema p x)) (sym e) wrote }
 
 -- ---- a step
+
+-- a step that is said by a line fits the tables
+pub asked_fits : (s : Script) (step : Step)
+    → ((schema : Schema) (reading : ℕ) (line : List ℕ) (step : Step) → line_says schema reading line ≡ Ok (Asks step) → misfit schema step ≡ None)
+    → said_by s ≡ Ok (Asks step) → misfit s.system.schema step ≡ None
+asked_fits s step fits e = by s.line e
+  where
+    by : (line : Partial) → read_at line_says s.system.schema s.reading line ≡ Ok (Asks step) → misfit s.system.schema step ≡ None
+    by None e = cc e
+    by (Some bytes) e = fits s.system.schema s.reading bytes step e
 
 -- what a step answered and left
 pub record Stepped (s s' : Script) (step : Step) (r : Reply) : Type 0 where

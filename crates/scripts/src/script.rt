@@ -13,7 +13,9 @@ ghost use Rattle.scripts.specs.Script.{said_by, IsRead, IsAt, AnswersLine, Break
 
 use interleaving::System;
 use lines::{CHUNK, LineBuffer, MOST_READS, line_length};
-use statement::{Line, WriteFault, print_refusal, print_reply, read_line, write_all};
+use statement::{
+    Line, WriteFault, asked_steps_fit, print_refusal, print_reply, read_line, write_all,
+};
 use std::alloc::Global;
 use std::io::{Read, Write};
 use steps::{Reply, Step};
@@ -81,7 +83,8 @@ fn take_step<W: Write>(writer: &mut W, script: &mut Script, step: Step) -> Resul
     ensures err { OnErr result (BreaksLine
         (W.contents writer.old) (W.contents writer.new) script.old) }
 {
-    let reply = script.system.step(step);
+    asked_steps_fit();
+    let reply = script.system.step_that_fits(step);
     print_reply(writer, &reply)
 }
 

@@ -11,6 +11,7 @@ pub mod TokenGoing
 pub mod GrammarHolds
 pub mod GrammarLengths
 pub mod LineEnds
+pub mod MeaningFits
 pub mod MeaningOfLines
 pub mod GrammarMoves
 pub mod PrintRead

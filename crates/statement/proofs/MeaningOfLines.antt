@@ -6,9 +6,9 @@ use Rattle.values.specs.Tables.{Schema, table_at}
 use Rattle.values.specs.declared.table.ColumnType.{ColumnType}
 use Rattle.values.specs.Columns.{addition_fault}
 use Rattle.values.specs.Faults.{bad_row}
-use Rattle.values.specs.Fit.{row_fault, comparisons_fault, update_fault, key_fault, first_of}
+use Rattle.values.specs.Fit.{row_fault, rows_fault, comparisons_fault, update_fault, key_fault, first_of}
 use Rattle.values.specs.Period.{is_span}
-use Rattle.values.specs.Write.{span_refusal, portion_refusal}
+use Rattle.values.specs.Write.{has_bad_span, span_refusal, portion_refusal}
 use Rattle.values.specs.declared.period.Period.{Period}
 use Rattle.values.specs.declared.period.Span.{Span}
 use Rattle.values.specs.Log.{Row}
@@ -119,18 +119,21 @@ module _ (schema : Schema) where
       by_row (Ok fits) s go = go fits
       by_row (Err r) s go = record { it = s.it }
 
+  inserted_misses : (session number : ℕ) (rows : List Row) → Misses (misfit schema (Inserts session number rows))
+  inserted_misses session number rows = table_misses session number _ (λ table. first_misses (rows_fault table rows) (span_refusal (has_bad_span table.period rows)) (span_misses (has_bad_span table.period rows)))
+
   insert_says : (session number : ℕ) (columns : Option (List ℕ)) (rows : List Row) → Says (insert_step schema session number columns rows)
   unfolding insert_step
   insert_says session number columns rows = by_table (table_at schema number)
     where
-      by_list : (table : Table) (t : Bool) → Says {A = Step} (if t then (fitting_rows table columns [] rows >>= λ fit. Ok (Inserts session number fit)) else Err (BadRow 0))
-      by_list table true = then_says _ _ (rows_say table columns [] rows) (λ fit. record { it = tt })
+      by_list : (table : Table) (t : Bool) → Says {A = Step} (if t then (fitting_rows table columns [] rows >>= λ fit. fitting_step schema (Inserts session number fit)) else Err (BadRow 0))
+      by_list table true = then_says _ _ (rows_say table columns [] rows) (λ fit. step_says (Inserts session number fit) (inserted_misses session number fit))
       by_list table false = record { it = tt }
 
       by_table : (o : Option Table)
           → Says {A = Step} (elim o [
             | None ↦ Err NoTable
-            | Some table ↦ if is_good_list columns then (fitting_rows table columns [] rows >>= λ fit. Ok (Inserts session number fit)) else Err (BadRow 0)
+            | Some table ↦ if is_good_list columns then (fitting_rows table columns [] rows >>= λ fit. fitting_step schema (Inserts session number fit)) else Err (BadRow 0)
           ])
       by_table None = record { it = tt }
       by_table (Some table) = by_list table (is_good_list columns)

@@ -76,13 +76,14 @@ module _ (schema : Schema) where
   abbrev pub fitting_step : Step → Result Step Refusal
   fitting_step step = elim (misfit schema step) [ Some refusal ↦ Err refusal | None ↦ Ok step ]
 
-  -- an INSERT: its table, then its column list, then its rows
+  -- an INSERT: its table, then its column list, then its rows, then the step
   unfoldable pub insert_step : ℕ → ℕ → Option (List ℕ) → List Row → Result Step Refusal
   insert_step session number columns rows = elim (table_at schema number) [
     | None ↦ Err NoTable
     | Some table ↦
         if is_good_list columns
-        then (fitting_rows table columns [] rows >>= λ fit. Ok (Inserts session number fit))
+        then (fitting_rows table columns [] rows >>= λ fit.
+        fitting_step (Inserts session number fit))
         else Err (BadRow 0)
   ]
 

@@ -8,6 +8,7 @@ mod line;
 mod list;
 mod literal;
 mod meaning;
+mod meaning_law;
 mod portion;
 mod print;
 mod served_line;
@@ -23,6 +24,7 @@ pub use grammar_law::{
 pub use line::{Line, read_line};
 pub use literal::{digits_here, number_here};
 pub use meaning::{is_column_list, place_of, row_in};
+pub use meaning_law::asked_steps_fit;
 pub use print::{print_refusal, print_reply};
 pub use served_line::read_served;
 pub use steps::{Listing, Reply, Step};

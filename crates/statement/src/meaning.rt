@@ -167,7 +167,7 @@ pub fn fitting_step(schema: &Schema, step: Step) -> Result<Step, Refusal>
     }
 }
 
-/// An INSERT: its table, then its column list, then its rows.
+/// An INSERT: its table, then its column list, then its rows, then the step.
 #[tactic(auto, unfolding(crate::specs::Meaning::insert_step))]
 fn insert_step(
     alloc: Global,
@@ -186,7 +186,7 @@ fn insert_step(
         return Err(Refusal::BadRow(0));
     }
     match fitting_rows(alloc, table, columns, rows.items()) {
-        Ok(rows) => Ok(Step::Insert(session, number, rows)),
+        Ok(rows) => fitting_step(schema, Step::Insert(session, number, rows)),
         Err(refusal) => Err(refusal),
     }
 }

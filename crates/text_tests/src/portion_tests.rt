@@ -177,7 +177,7 @@ static NO_TABLE: [&str; 2] = [
 ];
 
 /// Statements that do not fit their table, and the column that is answered.
-static BAD_ROW: [(&str, usize); 13] = [
+static BAD_ROW: [(&str, usize); 14] = [
     ("UPDATE pol FOR PORTION OF other FROM 2 TO 1 SET id = 1", 0),
     ("UPDATE pol FOR PORTION OF rate FROM 1 TO 2 SET rate = 1", 0),
     ("UPDATE pol FOR PORTION OF valid_ FROM 1 TO 2 SET id = 1", 0),
@@ -209,14 +209,17 @@ static BAD_ROW: [(&str, usize); 13] = [
         "DELETE FROM pol FOR PORTION OF valid FROM 5 TO 5 WHERE rate = 1",
         4,
     ),
+    ("INSERT INTO pol VALUES (1, 5, 5, 0), (2, 1, 'x', 0)", 3),
 ];
 
-/// Statements whose FROM is not below their TO, and which have no other fault.
-static BAD_PERIOD: [&str; 4] = [
+/// Statements with a start that is not below its end, and no other fault.
+static BAD_PERIOD: [&str; 6] = [
     "UPDATE pol FOR PORTION OF valid FROM 2 TO 1 SET rate = 1",
     "UPDATE pol FOR PORTION OF valid FROM 5 TO 5 SET rate = 1 WHERE id = 1",
     "DELETE FROM pol FOR PORTION OF valid FROM -1 TO -2",
     "DELETE FROM pol FOR PORTION OF valid FROM 0 TO -0",
+    "INSERT INTO pol VALUES (1, 5, 5, 0)",
+    "INSERT INTO pol (b, a, id) VALUES (2, 1, 1), (1, 2, 2)",
 ];
 
 const SCHEMA: &str = "CREATE TABLE emp (
