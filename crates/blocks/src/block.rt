@@ -42,7 +42,8 @@ fn push_events(alloc: Global, bytes: &mut Vec<u8>, events: &[SharedEvent]) -> Me
     Ok(())
 }
 
-/// Packs a node of history: its bytes in form 2.
+/// Packs a node of history: its bytes in form 2. They have no more room than they need, since they
+/// are kept as long as the tree.
 pub fn pack(alloc: Global, node: &DataNode) -> Mem<Bytes>
     requires { HasBlock node.now }
     ensures bytes { IfOk result (λ bytes. bytes ≡ block_of node.now) }
@@ -54,6 +55,7 @@ pub fn pack(alloc: Global, node: &DataNode) -> Mem<Bytes>
     push_rect(&mut bytes, node.rect())?;
     bytes.push(node.len() as u8)?;
     push_events(alloc, &mut bytes, node.events())?;
+    bytes.shrink_to_fit();
     Ok(Bytes::from_vec(bytes)?)
 }
 
