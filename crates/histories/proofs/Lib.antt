@@ -13,6 +13,9 @@ pub mod StandsShown
 pub mod HistorySnapshots
 pub mod TurnReplies
 pub mod Winners
+mod ConflictOrder
+mod ConflictFound
+mod ConflictLeast
 pub mod WorldGrowth
 pub mod TurnWrites
 pub mod TurnWritten
@@ -24,4 +27,5 @@ mod HistoryOwn
 mod PeriodLawTables
 mod PeriodLawWrites
 mod PeriodLawApart
+mod PeriodLawPoints
 mod WorkedTables

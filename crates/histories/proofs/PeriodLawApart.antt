@@ -72,7 +72,7 @@ module _ (first : Schema) (good : AreTables 1 first.tables) where
   -- ---- a history
 
   -- what a session sees, where what was committed is sound
-  own_sound : (h : History) (i : ℕ) → ((t : ℕ) → Sound (state (log first h) t)) → Sound (mine first h i)
+  pub own_sound : (h : History) (i : ℕ) → ((t : ℕ) → Sound (state (log first h) t)) → Sound (mine first h i)
   own_sound h i sound =
       sound_first first h (mine first h i)
       (writes_sound (schema_after first h) (tables_are first h good) (own first h i) (record { rows = state (log first h) (snap first h i); written = [] }) (own_fits first h i)
@@ -81,7 +81,7 @@ module _ (first : Schema) (good : AreTables 1 first.tables) where
   own_over : (h : History) (i : ℕ) → IsOver (state (log first h) (snap first h i)) (mine first h i) (written_keys first h i)
   own_over h i q none = ((writes_after (schema_after first h) (own first h i) (record { rows = state (log first h) (snap first h i); written = [] })).other q none).1
 
-  log_sound : (h : History) (t : ℕ) → Sound (state (log first h) t)
+  pub log_sound : (h : History) (t : ℕ) → Sound (state (log first h) t)
   log_sound [] t = record { apart = tt; keyed = tt }
   log_sound (Commit i reading ∷ h) t = by (log_at_begin first h i) refl (log_sound h)
     where

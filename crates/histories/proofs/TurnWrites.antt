@@ -23,7 +23,7 @@ use Rattle.histories.specs.Turn.{put, Turn, own_in, with_own, write_turn}
 use Rattle.steps.proofs.WriteLeaves.{is_err, write_is}
 use Rattle.histories.proofs.StandsEnds.{stands_put, stands_still, not_other, itself}
 
-rewrite_more : (schema : Schema) (own : List Step) (step : Step) (o : Own) → rewrite_all schema (own ++ step ∷ []) o ≡ (write schema step (rewrite_all schema own o)).1
+pub rewrite_more : (schema : Schema) (own : List Step) (step : Step) (o : Own) → rewrite_all schema (own ++ step ∷ []) o ≡ (write schema step (rewrite_all schema own o)).1
 rewrite_more schema [] step o = refl
 rewrite_more schema (s ∷ own) step o = rewrite_more schema own step (write schema s o).1
 

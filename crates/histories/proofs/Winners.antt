@@ -86,14 +86,14 @@ module _ (periods : Periods) where
   -- ---- the units that changes touch since an instant
 
   -- the point is of the unit, and above the instant
-  abbrev hit : ℕ → Key → Point → Bool
+  abbrev pub hit : ℕ → Key → Point → Bool
   hit start u p = is_key u (unit_of periods p.key) && nat_lt start p.instant
 
-  abbrev touched : Changes → ℕ → Key → Bool
+  abbrev pub touched : Changes → ℕ → Key → Bool
   touched [] start u = false
   touched (c ∷ cs) start u = touched cs start u || hit start u c.0
 
-  touched_is : (m : Changes) (start : ℕ) (u : Key) → is_some (unit_changed_since periods m start u) ≡ touched m start u
+  pub touched_is : (m : Changes) (start : ℕ) (u : Key) → is_some (unit_changed_since periods m start u) ≡ touched m start u
   touched_is [] start u = refl
   touched_is (c ∷ cs) start u = either (unit_changed_since periods cs start u) (hit start u c.0) c.0.instant ∙ ap (λ b. b || hit start u c.0) (touched_is cs start u)
 
@@ -114,7 +114,7 @@ module _ (periods : Periods) where
   kept_net [] i m start u e = e
   kept_net (c ∷ net) i m start u e = kept_net net i _ start u (touched_insert m (record { key = c.0; instant = i }) c.1 start u ∙ or_kept (hit start u (record { key = c.0; instant = i })) (touched m start u) e)
 
-  kept_log : (log : Log) (m : Changes) (start : ℕ) (u : Key) → touched m start u ≡ true → touched (add_all m log) start u ≡ true
+  pub kept_log : (log : Log) (m : Changes) (start : ℕ) (u : Key) → touched m start u ≡ true → touched (add_all m log) start u ≡ true
   kept_log [] m start u e = e
   kept_log (t ∷ log) m start u e = kept_log log _ start u (kept_net t.net t.instant m start u e)
 
@@ -125,14 +125,14 @@ module _ (periods : Periods) where
       tested = grind (arith, nat_tests)
 
   -- the unit of the key is touched, or is not
-  abbrev IsTouched : Changes → ℕ → Key → Type 0
+  abbrev pub IsTouched : Changes → ℕ → Key → Type 0
   IsTouched m start k = touched m start (unit_of periods k) ≡ true
 
-  abbrev IsFree : Changes → ℕ → Key → Type 0
+  abbrev pub IsFree : Changes → ℕ → Key → Type 0
   IsFree m start k = touched m start (unit_of periods k) ≡ false
 
   -- a net change touches the units of its keys
-  net_touches : (net : Net) (i : ℕ) (m : Changes) (start : ℕ) → start < i → All (IsTouched (add_net i m net) start) (keys_of net)
+  pub net_touches : (net : Net) (i : ℕ) (m : Changes) (start : ℕ) → start < i → All (IsTouched (add_net i m net) start) (keys_of net)
   net_touches [] i m start above = All-nil (IsTouched m start)
   net_touches (c ∷ net) i m start above =
       All-cons (IsTouched (add_net i m (c ∷ net)) start) c.0 (keys_of net)
@@ -152,7 +152,7 @@ module _ (periods : Periods) where
 
   -- ---- what a commit finds
 
-  won_none : (m : Changes) (start : ℕ) (net : Net) → conflicts periods m start net ≡ [] → All (IsFree m start) (keys_of net)
+  pub won_none : (m : Changes) (start : ℕ) (net : Net) → conflicts periods m start net ≡ [] → All (IsFree m start) (keys_of net)
   won_none m start [] e = All-nil (IsFree m start)
   won_none m start (c ∷ net) e = by (unit_changed_since periods m start (unit_of periods c.0)) (won_none m start net) refl e
     where

@@ -1,3 +1,4 @@
+pub mod Conflict
 pub mod Due
 pub mod History
 pub mod Law

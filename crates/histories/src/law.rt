@@ -1,6 +1,7 @@
 //! What every history of steps comes to.
 ghost use Rattle.values.specs.Tables.{Schema};
 ghost use Rattle.histories.specs.Law.{OpensAtItsBegin, LogsRise, LaterStepsAdd, PastStays, PastIsReadAlike, PastIsAnsweredAlike, TablesOnlyGrow, PastIsWidened, PastIsAnsweredWidened, FirstCommitterWins, LogIsOfWinners, ReadsBySnapshot, SelectsBySnapshot, MaintenanceChangesNoReply, MaintenanceCommitsNothing, AnsweredRepliesAreDue};
+ghost use Rattle.histories.specs.Conflict.{ConflictIsLeast, ConflictIsReported, ConflictIsUnique};
 ghost use Rattle.histories.specs.Worked.{ClosedStart, OpenEnd, DegeneratePeriods, ClockRunsBack, FirstCommitter, WriteSkew, ConcurrentWinners, NetChange, NoChangeNoConflict, OwnWrites, LargestInstant, RefusalsInOrder, ColumnAdded, WrittenWide, AdditionsRefused};
 
 /// States that a session's open transaction began at the log of the steps before its first BEGIN
@@ -40,6 +41,15 @@ pub fn past_is_widened()
 pub fn concurrent_commits_share_no_key()
     ensures apart { (first : Schema) → FirstCommitterWins first }
     ensures whole { (first : Schema) → LogIsOfWinners first }
+{}
+
+/// States which conflict a refused COMMIT names: the least unit of its net change that was changed
+/// since its transaction began, and the latest instant at which a key of that unit was changed. A
+/// unit is an entity if the table has a period of application time, and a key otherwise.
+pub fn conflicts_name_the_least_unit()
+    ensures least { (first : Schema) → ConflictIsLeast first }
+    ensures reported { (first : Schema) → ConflictIsReported first }
+    ensures unique { ConflictIsUnique }
 {}
 
 /// States that reads are of a snapshot (Berenson et al. 1995, section 4.2): what SELECT answers
