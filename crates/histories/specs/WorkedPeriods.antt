@@ -159,6 +159,21 @@ EntityConflict =
     ∷ Updated 1 ∷ Inserted 1
     ∷ Committed (Some 40) ∷ Refused (Conflict (entity 7) 40) ∷ [])
 
+-- of two entities in conflict the least is named, whichever was written first, and of its commits since
+-- the transaction began the last
+abbrev pub LeastConflict : Type 0
+LeastConflict =
+    Answers (inserted ++ Begin 2
+    ∷ Begin 1 ∷ insert 1 (policy 7 300 310 1) ∷ Commit 1 20
+    ∷ Begin 1 ∷ insert 1 (policy 9 0 10 1) ∷ Commit 1 30
+    ∷ Begin 1 ∷ insert 1 (policy 7 320 330 1) ∷ Commit 1 40
+    ∷ insert 2 (policy 9 20 30 2) ∷ insert 2 (policy 7 200 210 2) ∷ Commit 2 50 ∷ [])
+    (inserted_replies ++ Begun 10
+    ∷ Begun 10 ∷ Inserted 1 ∷ Committed (Some 20)
+    ∷ Begun 20 ∷ Inserted 1 ∷ Committed (Some 30)
+    ∷ Begun 30 ∷ Inserted 1 ∷ Committed (Some 40)
+    ∷ Inserted 1 ∷ Inserted 1 ∷ Refused (Conflict (entity 7) 40) ∷ [])
+
 -- two that change two entities both commit; so do two that change two keys of a table without a
 -- period
 abbrev pub EntitiesApart : Type 0

@@ -17,6 +17,9 @@ returns-clause-portion_deleted c = refl
 pub returns-clause-entity_conflict : goal.returns-clause-entity_conflict
 returns-clause-entity_conflict c = refl
 
+pub returns-clause-least_conflict : goal.returns-clause-least_conflict
+returns-clause-least_conflict c = refl
+
 pub returns-clause-entities_apart : goal.returns-clause-entities_apart
 returns-clause-entities_apart c = refl
 
