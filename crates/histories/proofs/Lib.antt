@@ -13,6 +13,7 @@ pub mod StandsShown
 pub mod HistorySnapshots
 pub mod TurnReplies
 pub mod Winners
+mod LawRefused
 mod ConflictOrder
 mod ConflictFound
 mod ConflictLeast

@@ -39,6 +39,7 @@ use Rattle.periods.proofs.NoOverlapPieces.{and_first, one_table, each-append}
 use Rattle.periods.proofs.PointChanged.{portion_changes_points}
 use Rattle.histories.specs.History.{History, schema_after, log, log_at_begin, own, own_of, mine, mine_of}
 use Rattle.histories.specs.PeriodLaw.{portion_step, IsAnswered, PortionsChangePoints, OtherPointsStay, OthersSeeTheSame, PortionsCountTaken}
+use Rattle.histories.proofs.LawRefused.{own_now}
 use Rattle.histories.proofs.PeriodLawApart as apart
 use Rattle.histories.proofs.PeriodLawFits.{updated_portion_fits, deleted_portion_fits}
 use Rattle.histories.proofs.PeriodLawTables.{IsAt, is_at, table_fits, tables_are, sound_now}
@@ -93,9 +94,6 @@ portion_counted i keys cut (Some sets) = record { is_answer = λ count. refl; is
 portion_counted i keys cut None = record { is_answer = λ count. refl; is_one = one_deleted }
 
 -- ---- the rows that the session then sees
-
-abbrev own_now : Schema → History → ℕ → Own
-own_now first h i = own_of (schema_after first h) (log first h) (log_at_begin first h i) (own first h i)
 
 portion_done : (first : Schema) (h : History) (i count : ℕ) (keys : Keys) (cut : Span) (sets : Option (List Set)) → IsAnswered first h (portion_step i keys cut sets) count
     → IsDone (schema_after first h) (portion_step i keys cut sets) (log_at_begin first h i) (own_now first h i) count

@@ -1,9 +1,10 @@
 -- What the definitions amount to.
-use Rattle.std.specs.Prelude.{◌≡◌, ℕ, ◌≤◌, ◌++◌, List, Some, map}
+use Rattle.std.specs.Prelude.{◌≡◌, ℕ, ◌≤◌, ◌∷◌, ◌++◌, List, Some, map}
 use Rattle.std.specs.Option.{option_map}
 use Rattle.values.specs.declared.query.Form.{Form}
 use Rattle.values.specs.declared.query.Form.TheVariants.{AsOf}
 use Rattle.values.specs.declared.query.Keys.{Keys}
+use Rattle.values.specs.declared.refusal.Refusal.{Refusal}
 use Rattle.values.specs.Tables.{Schema, table_at, full_row}
 use Rattle.values.specs.Columns.{IsWidenedTo}
 use Rattle.values.specs.Period.{periods_of}
@@ -16,11 +17,12 @@ use Rattle.steps.specs.declared.step.Step.TheVariants.{Select}
 use Rattle.steps.specs.declared.step.Listing.{Listing}
 use Rattle.steps.specs.declared.step.Listing.TheVariants.{Rows, Periods}
 use Rattle.steps.specs.declared.step.Reply.{Reply}
-use Rattle.steps.specs.declared.step.Reply.TheVariants.{Shown as Shows}
+use Rattle.steps.specs.declared.step.Reply.TheVariants.{Refused, Shown as Shows}
+use Rattle.steps.specs.Write.{writer}
 use Rattle.histories.specs.Due.{AllAnswered, due}
 use Rattle.histories.specs.Maintenance.{without_maintenance, with_maintenance}
 use Rattle.steps.specs.Misfit.{max_session}
-use Rattle.histories.specs.History.{History, schema_after, before_open, log, log_at_begin, own, snap, listing, reply, replies}
+use Rattle.histories.specs.History.{History, schema_after, before_open, log, log_at_begin, mine, net, own, snap, listing, reply, replies}
 use Rattle.histories.specs.Winners.{winners, AreConcurrent, ShareAUnit}
 
 -- a session's open transaction began at the log of the steps before its BEGIN
@@ -129,6 +131,16 @@ SelectsBySnapshot first =
     (h g : History) (i j : ℕ) (form : Form) (keys : Keys)
     → SeeTheSame first h i g j
     → reply first h (Select i form keys) ≡ reply first g (Select j form keys)
+
+-- a write that is refused changes nothing: every session sees the rows that it saw, and has the net
+-- change that it had; nothing is committed
+abbrev pub RefusedWritesChangeNothing : Schema → Type 0
+RefusedWritesChangeNothing first =
+    (h : History) (step : Step) (i j : ℕ) (refusal : Refusal)
+    → writer step ≡ Some i → reply first h step ≡ Refused refusal
+    → (mine first (step ∷ h) j ≡ mine first h j)
+    × (net first (step ∷ h) j ≡ net first h j)
+    × (log first (step ∷ h) ≡ log first h)
 
 -- steps of maintenance, anywhere before or among other steps, change none of the others' replies
 abbrev pub MaintenanceChangesNoReply : Schema → Type 0

@@ -1,6 +1,6 @@
 //! What every history of steps comes to.
 ghost use Rattle.values.specs.Tables.{Schema};
-ghost use Rattle.histories.specs.Law.{OpensAtItsBegin, LogsRise, LaterStepsAdd, PastStays, PastIsReadAlike, PastIsAnsweredAlike, TablesOnlyGrow, PastIsWidened, PastIsAnsweredWidened, FirstCommitterWins, LogIsOfWinners, ReadsBySnapshot, SelectsBySnapshot, MaintenanceChangesNoReply, MaintenanceCommitsNothing, AnsweredRepliesAreDue};
+ghost use Rattle.histories.specs.Law.{OpensAtItsBegin, LogsRise, LaterStepsAdd, PastStays, PastIsReadAlike, PastIsAnsweredAlike, TablesOnlyGrow, PastIsWidened, PastIsAnsweredWidened, FirstCommitterWins, LogIsOfWinners, ReadsBySnapshot, SelectsBySnapshot, RefusedWritesChangeNothing, MaintenanceChangesNoReply, MaintenanceCommitsNothing, AnsweredRepliesAreDue};
 ghost use Rattle.histories.specs.Conflict.{ConflictIsLeast, ConflictIsReported, ConflictIsUnique};
 ghost use Rattle.histories.specs.Worked.{ClosedStart, OpenEnd, DegeneratePeriods, ClockRunsBack, FirstCommitter, WriteSkew, ConcurrentWinners, NetChange, NoChangeNoConflict, OwnWrites, LargestInstant, RefusalsInOrder, ColumnAdded, WrittenWide, AdditionsRefused};
 
@@ -58,6 +58,14 @@ pub fn conflicts_name_the_least_unit()
 pub fn reads_depend_on_snapshot_and_own_writes()
     ensures listings { (first : Schema) → ReadsBySnapshot first }
     ensures replies { (first : Schema) → SelectsBySnapshot first }
+{}
+
+/// States that a write that is refused changes nothing: every session sees the rows that it saw, so
+/// also the same values at each point of application time, and has the net change that it had;
+/// nothing is committed. The writes are INSERT, UPDATE and DELETE, portions of application time among
+/// them.
+pub fn refused_writes_change_nothing()
+    ensures { (first : Schema) → RefusedWritesChangeNothing first }
 {}
 
 /// States that splits and migrations, anywhere before or among other steps, change no reply to
