@@ -138,7 +138,7 @@ replied (Err refusal) u t e = ap Err (the e)
     the : Refused refusal ≡ Refused (Conflict u t) → refusal ≡ Conflict u t
     the e = cc
 
-abbrev end_now : Schema → History → ℕ → ℕ → Result (Option ℕ) Refusal
+abbrev pub end_now : Schema → History → ℕ → ℕ → Result (Option ℕ) Refusal
 end_now first h i reading = outcome (periods_of (schema_after first h)) (changes (log first h)) (last (log first h)) (snap first h i) (net first h i) reading
 
 commit_ends : (first : Schema) (h : History) (i reading : ℕ) (u : Key) (t : ℕ) → reply first h (Commit i reading) ≡ Refused (Conflict u t) → end_now first h i reading ≡ Err (Conflict u t)
@@ -179,10 +179,10 @@ ends_so periods m latest start (c ∷ net) reading x xs e =
       | [] ↦ if nat_lt max_instant (max reading (latest + 1)) then Err ClockEnd else Ok (Some (max reading (latest + 1)))
     ] in end) e
 
-beyond : (i : ℕ) → nat_lt max_session i ≡ true → max_session < i
+pub beyond : (i : ℕ) → nat_lt max_session i ≡ true → max_session < i
 beyond i e = grind (arith, nat_tests)
 
-replies_so : (first : Schema) (h : History) (i reading : ℕ) (before : Log) → nat_lt max_session i ≡ false → log_at_begin first h i ≡ Some before → reply first h (Commit i reading) ≡ commit_reply (end_now first h i reading)
+pub replies_so : (first : Schema) (h : History) (i reading : ℕ) (before : Log) → nat_lt max_session i ≡ false → log_at_begin first h i ≡ Some before → reply first h (Commit i reading) ≡ commit_reply (end_now first h i reading)
 replies_so first h i reading before small is =
     ap (λ b. let r : Reply = elim (if b then Some NoSession else None) [ Some refusal ↦ Refused refusal | None ↦ reply_in first h (Commit i reading) ] in r) small
     ∙ ap (λ (b : Option Log). let r : Reply = elim b [ Some before ↦ commit_reply (end_now first h i reading) | None ↦ Refused NoTransaction ] in r) is

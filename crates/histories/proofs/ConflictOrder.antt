@@ -8,6 +8,9 @@ use Rattle.std.specs.declared.cmp.Ordering.{Ordering}
 use Rattle.std.specs.declared.cmp.Ordering.TheVariants.{Less, Equal, Greater}
 use Rattle.values.specs.declared.key.Key.{Key}
 use Rattle.values.specs.declared.period.Period.{Period}
+use Rattle.values.specs.declared.period.Span.{Span}
+use Rattle.values.specs.declared.query.Keys.{Keys}
+use Rattle.values.specs.declared.query.Set.{Set}
 use Rattle.values.specs.declared.refusal.Refusal.{Refusal}
 use Rattle.values.specs.declared.refusal.Refusal.TheVariants.{NoTable, TooManyWrites}
 use Rattle.values.specs.declared.table.Table.{Table}
@@ -19,6 +22,7 @@ use Rattle.values.specs.Period.{Periods, periods_of}
 use Rattle.values.specs.Portion.{portion_in, portion_keys, change_portion, change_portion_in, taken}
 use Rattle.values.specs.Tables.{Schema, table_at, AreTables, value_at}
 use Rattle.values.specs.Writes.{Own, Written, most_written, add_keys, net_of, write_keys, key_of, insert_into, insert_rows, insert_refusal, update_in, delete_from, matching_keys, update_rows, delete_rows}
+use Rattle.values.proofs.LogStates.{state_matches}
 use Rattle.values.proofs.OrderTotal.{key_cmp_total}
 use Rattle.rows.proofs.SchemaPlaces.{each_to}
 use Rattle.steps.specs.declared.step.Step.{Step}
@@ -27,7 +31,9 @@ use Rattle.steps.specs.Write.{write}
 use Rattle.periods.specs.NoOverlap.{IsKeyedIn, AreKeyed}
 use Rattle.periods.proofs.NoOverlapApart.{one_key}
 use Rattle.periods.proofs.UnitsOrder.{units_in_order}
-use Rattle.histories.specs.History.{History, schema_after, log, own, rewrite_all, snap, mine, net, written_keys}
+use Rattle.histories.specs.History.{History, schema_after, log, log_at_begin, own, own_of, rewrite_all, snap, mine, net, written_keys}
+use Rattle.histories.proofs.HistoryGrowth.{log_rises}
+use Rattle.histories.proofs.HistorySorted.{Sorted, sorted_deleted, sorted_inserted, sorted_portion, sorted_updated}
 use Rattle.histories.proofs.PeriodLawApart as apart
 
 -- ---- the order of keys
@@ -68,54 +74,68 @@ rise_added : (ks ls : List Key) → Rise ls → Rise (add_keys ks ls)
 rise_added [] ls rise = rise
 rise_added (k ∷ ks) ls rise = rise_added ks (insert_key key_cmp ls k) (rise_inserted k ls rise)
 
--- ---- the keys that writes write
+-- ---- what writes leave
 
-keys_rise : (keys : List Key) (count : ℕ) (rows : State) (o : Own) → Rise o.written → Rise (write_keys keys count rows o).1.written
-keys_rise keys count rows o rise = by (nat_lt most_written (length (add_keys keys o.written)))
+-- the keys that were written rise, and the rows are in the order of their keys
+pub record IsOrdered (o : Own) : Type 0 where
+  pub written : Rise o.written
+  pub rows : Sorted o.rows
+
+keys_ordered : (keys : List Key) (count : ℕ) (rows : State) (o : Own) → Sorted rows → IsOrdered o → IsOrdered (write_keys keys count rows o).1
+keys_ordered keys count rows o sorted ordered = by (nat_lt most_written (length (add_keys keys o.written)))
   where
-    by : (b : Bool) → Rise (cond {A = Written} b (Err TooManyWrites, o) (Ok count, record { rows = rows; written = add_keys keys o.written })).1.written
-    by true = rise
-    by false = rise_added keys o.written rise
+    by : (b : Bool) → IsOrdered (cond {A = Written} b (Err TooManyWrites, o) (Ok count, record { rows = rows; written = add_keys keys o.written })).1
+    by true = ordered
+    by false = record { written = rise_added keys o.written ordered.written; rows = sorted }
 
-table_rises : (t : Option Table) (does : Table → Own → Written) (o : Own) → Rise o.written → ((table : Table) → Rise (does table o).1.written) → Rise (elim t as (λ _. Written) [ None ↦ (Err NoTable, o) | Some table ↦ does table o ]).1.written
-table_rises None does o rise after = rise
-table_rises (Some table) does o rise after = after table
+table_ordered : (t : Option Table) (does : Table → Own → Written) (o : Own) → IsOrdered o → ((table : Table) → IsOrdered (does table o).1) → IsOrdered (elim t as (λ _. Written) [ None ↦ (Err NoTable, o) | Some table ↦ does table o ]).1
+table_ordered None does o ordered after = ordered
+table_ordered (Some table) does o ordered after = after table
 
-insert_rises : (table : Table) (rows : List Row) (o : Own) → Rise o.written → Rise (insert_into table rows o).1.written
-insert_rises table rows o rise = by (insert_refusal table rows o.rows)
+insert_ordered : (table : Table) (rows : List Row) (o : Own) → IsOrdered o → IsOrdered (insert_into table rows o).1
+insert_ordered table rows o ordered = by (insert_refusal table rows o.rows)
   where
-    by : (r : Option Refusal) → Rise (elim r as (λ _. Written) [ Some refusal ↦ (Err refusal, o) | None ↦ write_keys (map (key_of table) rows) (length rows) (insert_rows table rows o.rows) o ]).1.written
-    by (Some refusal) = rise
-    by None = keys_rise (map (key_of table) rows) (length rows) (insert_rows table rows o.rows) o rise
+    by : (r : Option Refusal) → IsOrdered (elim r as (λ _. Written) [ Some refusal ↦ (Err refusal, o) | None ↦ write_keys (map (key_of table) rows) (length rows) (insert_rows table rows o.rows) o ]).1
+    by (Some refusal) = ordered
+    by None = keys_ordered (map (key_of table) rows) (length rows) (insert_rows table rows o.rows) o (sorted_inserted table rows o.rows ordered.rows) ordered
 
-portion_rises : (table : Table) (does : Period → Own → Written) (o : Own) (q : Option Period) → Rise o.written → ((p : Period) → Rise (does p o).1.written) → Rise (elim q as (λ _. Written) [ None ↦ (Ok 0, o) | Some p ↦ does p o ]).1.written
-portion_rises table does o None rise after = rise
-portion_rises table does o (Some p) rise after = after p
+portion_ordered : (table : Table) (keys : Keys) (cut : Span) (sets : Option (List Set)) (o : Own) → IsOrdered o → IsOrdered (portion_in table keys cut sets o).1
+portion_ordered table keys cut sets o ordered = by table.period
+  where
+    by : (q : Option Period) → IsOrdered (elim q as (λ _. Written) [ None ↦ (Ok 0, o) | Some p ↦ change_portion_in table p keys cut sets o ]).1
+    by None = ordered
+    by (Some p) =
+        keys_ordered (portion_keys table p keys cut sets o.rows) (length (taken table p keys cut o.rows)) (change_portion table p keys cut sets o.rows) o
+        (sorted_portion table p keys cut sets o.rows ordered.rows) ordered
 
-write_rises : (now : Schema) (step : Step) (o : Own) → Rise o.written → Rise (write now step o).1.written
-write_rises now (Insert i number rows) o rise = table_rises (table_at now number) (λ table. insert_into table rows) o rise (λ table. insert_rises table rows o rise)
-write_rises now (Update i keys sets) o rise = table_rises (table_at now keys.table) (λ table. update_in table keys sets) o rise (λ table. keys_rise (matching_keys table keys o.rows) (length (matching_keys table keys o.rows)) (update_rows table keys sets o.rows) o rise)
-write_rises now (Delete i keys) o rise = table_rises (table_at now keys.table) (λ table. delete_from table keys) o rise (λ table. keys_rise (matching_keys table keys o.rows) (length (matching_keys table keys o.rows)) (delete_rows table keys o.rows) o rise)
-write_rises now (UpdatePortion i keys cut sets) o rise =
-    table_rises (table_at now keys.table) (λ table. portion_in table keys cut (Some sets)) o rise
-    (λ table. portion_rises table (λ p. change_portion_in table p keys cut (Some sets)) o table.period rise
-    (λ p. keys_rise (portion_keys table p keys cut (Some sets) o.rows) (length (taken table p keys cut o.rows)) (change_portion table p keys cut (Some sets) o.rows) o rise))
-write_rises now (DeletePortion i keys cut) o rise =
-    table_rises (table_at now keys.table) (λ table. portion_in table keys cut None) o rise
-    (λ table. portion_rises table (λ p. change_portion_in table p keys cut None) o table.period rise
-    (λ p. keys_rise (portion_keys table p keys cut None o.rows) (length (taken table p keys cut o.rows)) (change_portion table p keys cut None o.rows) o rise))
-write_rises now (Begin i) o rise = rise
-write_rises now (Select i form keys) o rise = rise
-write_rises now (Commit i reading) o rise = rise
-write_rises now (Rollback i) o rise = rise
-write_rises now (AddColumn i number name of) o rise = rise
-write_rises now (SplitKey key) o rise = rise
-write_rises now (SplitTime key instant) o rise = rise
-write_rises now Migrate o rise = rise
+write_ordered : (now : Schema) (step : Step) (o : Own) → IsOrdered o → IsOrdered (write now step o).1
+write_ordered now (Insert i number rows) o ordered = table_ordered (table_at now number) (λ table. insert_into table rows) o ordered (λ table. insert_ordered table rows o ordered)
+write_ordered now (Update i keys sets) o ordered =
+    table_ordered (table_at now keys.table) (λ table. update_in table keys sets) o ordered
+    (λ table. keys_ordered (matching_keys table keys o.rows) (length (matching_keys table keys o.rows)) (update_rows table keys sets o.rows) o (sorted_updated table keys sets o.rows ordered.rows) ordered)
+write_ordered now (Delete i keys) o ordered =
+    table_ordered (table_at now keys.table) (λ table. delete_from table keys) o ordered
+    (λ table. keys_ordered (matching_keys table keys o.rows) (length (matching_keys table keys o.rows)) (delete_rows table keys o.rows) o (sorted_deleted table keys o.rows ordered.rows) ordered)
+write_ordered now (UpdatePortion i keys cut sets) o ordered = table_ordered (table_at now keys.table) (λ table. portion_in table keys cut (Some sets)) o ordered (λ table. portion_ordered table keys cut (Some sets) o ordered)
+write_ordered now (DeletePortion i keys cut) o ordered = table_ordered (table_at now keys.table) (λ table. portion_in table keys cut None) o ordered (λ table. portion_ordered table keys cut None o ordered)
+write_ordered now (Begin i) o ordered = ordered
+write_ordered now (Select i form keys) o ordered = ordered
+write_ordered now (Commit i reading) o ordered = ordered
+write_ordered now (Rollback i) o ordered = ordered
+write_ordered now (AddColumn i number name of) o ordered = ordered
+write_ordered now (SplitKey key) o ordered = ordered
+write_ordered now (SplitTime key instant) o ordered = ordered
+write_ordered now Migrate o ordered = ordered
 
-writes_rise : (now : Schema) (own : List Step) (o : Own) → Rise o.written → Rise (rewrite_all now own o).written
-writes_rise now [] o rise = rise
-writes_rise now (step ∷ own) o rise = writes_rise now own (write now step o).1 (write_rises now step o rise)
+writes_ordered : (now : Schema) (own : List Step) (o : Own) → IsOrdered o → IsOrdered (rewrite_all now own o)
+writes_ordered now [] o ordered = ordered
+writes_ordered now (step ∷ own) o ordered = writes_ordered now own (write now step o).1 (write_ordered now step o ordered)
+
+-- so it is of what a session sees and wrote
+pub own_ordered : (first : Schema) (h : History) (i : ℕ) → IsOrdered (own_of (schema_after first h) (log first h) (log_at_begin first h i) (own first h i))
+own_ordered first h i =
+    writes_ordered (schema_after first h) (own first h i) (record { rows = state (log first h) (snap first h i); written = [] })
+    (record { written = tt; rows = (state_matches (log first h) (snap first h i) (log_rises first h)).by_key })
 
 -- ---- net changes
 
@@ -216,7 +236,7 @@ all_wide first m keyed = each_to (IsKeyedIn (table_at first) (periods_of first))
 pub own_units_rise : (first : Schema) → AreTables 1 first.tables → (h : History) (i : ℕ) → UnitsRise (periods_of first) (net first h i)
 own_units_rise first good h i =
     units_rise (periods_of first) (key_width first) (net first h i)
-    (net_rises seen (mine first h i) (written_keys first h i) (writes_rise (schema_after first h) (own first h i) (record { rows = seen; written = [] }) tt))
+    (net_rises seen (mine first h i) (written_keys first h i) (own_ordered first h i).written)
     (each_changed (IsWide (periods_of first) (key_width first)) seen (mine first h i) (written_keys first h i)
     (all_wide first seen (apart.log_sound first good h (snap first h i)).keyed)
     (all_wide first (mine first h i) (apart.own_sound first good h i (λ t. apart.log_sound first good h t)).keyed))

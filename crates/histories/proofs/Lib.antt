@@ -14,9 +14,12 @@ pub mod HistorySnapshots
 pub mod TurnReplies
 pub mod Winners
 mod LawRefused
+mod HistorySorted
 mod ConflictOrder
 mod ConflictFound
 mod ConflictLeast
+mod CommitLawRows
+mod CommitLawPoints
 pub mod WorldGrowth
 pub mod TurnWrites
 pub mod TurnWritten

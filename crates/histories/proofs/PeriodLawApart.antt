@@ -37,7 +37,7 @@ replay_push (u ∷ log) m t = replay_push log (apply_net m u.net) t
 state_now : (log : Log) → IsLog log → replay [] log ≡ state log (last log)
 state_now log rises = ap (replay []) (sym (upto_all log 0 (last log) rises (let same : last log ≤ last log = omega arith in same)))
 
-state_push : (log : Log) (t : Transaction) (s : ℕ) → IsLog log → last log < t.instant → t.instant ≤ s → state (log ++ t ∷ []) s ≡ apply_net (state log (last log)) t.net
+pub state_push : (log : Log) (t : Transaction) (s : ℕ) → IsLog log → last log < t.instant → t.instant ≤ s → state (log ++ t ∷ []) s ≡ apply_net (state log (last log)) t.net
 state_push log t s rises above within =
     ap (replay []) (upto_all (log ++ t ∷ []) 0 s (Rises-push log 0 t rises above) (subst (λ n. n ≤ s) (sym (last_push log t)) within))
     ∙ replay_push log [] t ∙ ap (λ (m : State). apply_net m t.net) (state_now log rises)

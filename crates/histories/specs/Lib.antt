@@ -1,3 +1,4 @@
+pub mod CommitLaw
 pub mod Conflict
 pub mod Due
 pub mod History

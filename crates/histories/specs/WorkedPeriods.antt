@@ -187,6 +187,23 @@ EntitiesApart =
     ∷ Inserted 1 ∷ Inserted 1
     ∷ Committed (Some 20) ∷ Committed (Some 21) ∷ [])
 
+-- what is then committed is, of each entity, what its transaction saw; a transaction that is refused
+-- adds nothing
+abbrev pub CommitsJoined : Type 0
+CommitsJoined =
+    Answers (inserted ++ Begin 1 ∷ Begin 2 ∷ Begin 3
+    ∷ UpdatePortion 1 all (from_to 30 110) (rate 9) ∷ insert 2 (policy 8 0 10 1)
+    ∷ insert 3 (policy 9 0 10 2) ∷ DeletePortion 3 (of_id 7) (from_to 0 50)
+    ∷ Commit 1 20 ∷ Select 2 Plain all ∷ Commit 2 20 ∷ Commit 3 20 ∷ Select 1 Plain all ∷ [])
+    (inserted_replies ++ Begun 10 ∷ Begun 10 ∷ Begun 10
+    ∷ Updated 2 ∷ Inserted 1
+    ∷ Inserted 1 ∷ Deleted 1
+    ∷ Committed (Some 20)
+    ∷ rows (policy 7 0 100 5 ∷ policy 7 100 120 6 ∷ policy 8 0 10 1 ∷ [])
+    ∷ Committed (Some 21) ∷ Refused (Conflict (entity 7) 20)
+    ∷ rows (policy 7 0 30 5 ∷ policy 7 30 100 9 ∷ policy 7 100 110 9 ∷ policy 7 110 120 6
+    ∷ policy 8 0 10 1 ∷ []) ∷ [])
+
 -- an INSERT looks at the rows that the transaction sees, its own and without those that it deleted,
 -- and at earlier rows of its own; a duplicate key of any row comes before an overlap of any
 abbrev pub OwnRowsCount : Type 0

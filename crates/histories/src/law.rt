@@ -1,6 +1,7 @@
 //! What every history of steps comes to.
 ghost use Rattle.values.specs.Tables.{Schema};
 ghost use Rattle.histories.specs.Law.{OpensAtItsBegin, LogsRise, LaterStepsAdd, PastStays, PastIsReadAlike, PastIsAnsweredAlike, TablesOnlyGrow, PastIsWidened, PastIsAnsweredWidened, FirstCommitterWins, LogIsOfWinners, ReadsBySnapshot, SelectsBySnapshot, RefusedWritesChangeNothing, MaintenanceChangesNoReply, MaintenanceCommitsNothing, AnsweredRepliesAreDue};
+ghost use Rattle.histories.specs.CommitLaw.{CommitsAtItsInstant, TouchedRowsAreSeen, UntouchedRowsStay, TouchedPointsAreSeen, UntouchedPointsStay, OthersCommitNothing};
 ghost use Rattle.histories.specs.Conflict.{ConflictIsLeast, ConflictIsReported, ConflictIsUnique};
 ghost use Rattle.histories.specs.Worked.{ClosedStart, OpenEnd, DegeneratePeriods, ClockRunsBack, FirstCommitter, WriteSkew, ConcurrentWinners, NetChange, NoChangeNoConflict, OwnWrites, LargestInstant, RefusalsInOrder, ColumnAdded, WrittenWide, AdditionsRefused};
 
@@ -50,6 +51,21 @@ pub fn conflicts_name_the_least_unit()
     ensures least { (first : Schema) → ConflictIsLeast first }
     ensures reported { (first : Schema) → ConflictIsReported first }
     ensures unique { ConflictIsUnique }
+{}
+
+/// States what a COMMIT makes of what is committed. If the reply is an instant, it is then the last,
+/// and of each unit that the session's net change touches, what the session saw is committed: its
+/// rows, and in a table with a period of application time its values at each time. Of every other
+/// unit, what was committed before stays, also what others committed since the session's BEGIN. After
+/// any other reply nothing is committed. A unit is an entity if the table has a period, and a key
+/// otherwise.
+pub fn commits_publish_what_was_seen()
+    ensures instant { (first : Schema) → CommitsAtItsInstant first }
+    ensures rows { (first : Schema) → TouchedRowsAreSeen first }
+    ensures other_rows { (first : Schema) → UntouchedRowsStay first }
+    ensures points { (first : Schema) → TouchedPointsAreSeen first }
+    ensures other_points { (first : Schema) → UntouchedPointsStay first }
+    ensures nothing { (first : Schema) → OthersCommitNothing first }
 {}
 
 /// States that reads are of a snapshot (Berenson et al. 1995, section 4.2): what SELECT answers

@@ -1,7 +1,7 @@
 //! What every history of steps comes to in tables with a period of application time.
 ghost use Rattle.values.specs.Tables.{Schema};
 ghost use Rattle.histories.specs.PeriodLaw.{NeverOverlap, OwnNeverOverlap, PortionsChangePoints, OtherPointsStay, OthersSeeTheSame, PortionsCountTaken};
-ghost use Rattle.histories.specs.WorkedPeriods.{GoodTables, OverlapsRefused, PortionUpdated, PortionDeleted, EntityConflict, LeastConflict, EntitiesApart, OwnRowsCount, PeriodColumnsStay, PortionsWiden};
+ghost use Rattle.histories.specs.WorkedPeriods.{GoodTables, OverlapsRefused, PortionUpdated, PortionDeleted, EntityConflict, LeastConflict, EntitiesApart, CommitsJoined, OwnRowsCount, PeriodColumnsStay, PortionsWiden};
 
 /// States that no two rows of one entity overlap (ISO/IEC 9075-2:2011, 4.14.1 and 11.7): not at any
 /// instant of what was committed, and not among the rows that a session sees, its own writes
@@ -31,6 +31,7 @@ pub fn worked_periods_hold()
     ensures entity_conflict { EntityConflict }
     ensures least_conflict { LeastConflict }
     ensures entities_apart { EntitiesApart }
+    ensures commits_joined { CommitsJoined }
     ensures own_rows_count { OwnRowsCount }
     ensures period_columns_stay { PeriodColumnsStay }
     ensures portions_widen { PortionsWiden }

@@ -182,43 +182,44 @@ IsFresh periods seen now net = (u q : Key) → is_some (net_last net u) ≡ true
 abbrev pub IsOver : State → State → List Key → Type 0
 IsOver seen mine written = (q : Key) → list_any (is_key q) written ≡ false → row_at mine q ≡ row_at seen q
 
-module _ (periods : Periods) (seen mine now : State) (written : List Key) (sorted : T (is_sorted key_cmp now)) (is_over : IsOver seen mine written) (fresh : IsFresh periods seen now (net_of seen mine written)) (free_mine : Free periods mine) (free_now : Free periods now) where
+module _ (periods : Periods) (seen mine now : State) (written : List Key) (sorted : T (is_sorted key_cmp now)) (is_over : IsOver seen mine written) (fresh : IsFresh periods seen now (net_of seen mine written)) where
   -- with the net changes: of a unit that they touch, what the transaction sees; of another, what was there
-  touched_is : (u q : Key) → is_some (net_last (net_of seen mine written) u) ≡ true → unit_of periods u ≡ unit_of periods q → row_at (apply_net now (net_of seen mine written)) q ≡ row_at mine q
+  pub touched_is : (u q : Key) → is_some (net_last (net_of seen mine written) u) ≡ true → unit_of periods u ≡ unit_of periods q → row_at (apply_net now (net_of seen mine written)) q ≡ row_at mine q
   touched_is u q says unit =
       row_at_net (net_of seen mine written) now q sorted
       ∙ ap (over (net_last (net_of seen mine written) q)) (fresh u q says unit)
       ∙ net_gives seen mine written q (is_over q)
 
-  untouched_is : (q : Key) → is_some (net_last (net_of seen mine written) q) ≡ false → row_at (apply_net now (net_of seen mine written)) q ≡ row_at now q
+  pub untouched_is : (q : Key) → is_some (net_last (net_of seen mine written) q) ≡ false → row_at (apply_net now (net_of seen mine written)) q ≡ row_at now q
   untouched_is q says = row_at_net (net_of seen mine written) now q sorted ∙ by (net_last (net_of seen mine written) q) says
     where
       by : (o : Option (Option Row)) → is_some o ≡ false → over o (row_at now q) ≡ row_at now q
       by None e = refl
       by (Some v) e = cc
 
-  pub merged_free : Free periods (apply_net now (net_of seen mine written))
-  merged_free k l r s at_k at_l other = by_period (periods k.table) refl
-    where
-      by_touch : (p : Period) → periods k.table ≡ Some p → is_key (entity_of k) (entity_of l) ≡ true → (a b : Bool)
-          → is_some (net_last (net_of seen mine written) k) ≡ a → is_some (net_last (net_of seen mine written) l) ≡ b → clash periods (k, r) (l, s) ≡ false
-      by_touch p at same true b says_k says_l =
-          free_mine k l r s (sym (touched_is k k says_k refl) ∙ at_k) (sym (touched_is k l says_k (unit_at periods p k l at same)) ∙ at_l) other
-      by_touch p at same false true says_k says_l =
-          free_mine k l r s (sym (touched_is l k says_l (sym (unit_at periods p k l at same))) ∙ at_k) (sym (touched_is l l says_l refl) ∙ at_l) other
-      by_touch p at same false false says_k says_l =
-          free_now k l r s (sym (untouched_is k says_k) ∙ at_k) (sym (untouched_is l says_l) ∙ at_l) other
+  module _ (free_mine : Free periods mine) (free_now : Free periods now) where
+    pub merged_free : Free periods (apply_net now (net_of seen mine written))
+    merged_free k l r s at_k at_l other = by_period (periods k.table) refl
+      where
+        by_touch : (p : Period) → periods k.table ≡ Some p → is_key (entity_of k) (entity_of l) ≡ true → (a b : Bool)
+            → is_some (net_last (net_of seen mine written) k) ≡ a → is_some (net_last (net_of seen mine written) l) ≡ b → clash periods (k, r) (l, s) ≡ false
+        by_touch p at same true b says_k says_l =
+            free_mine k l r s (sym (touched_is k k says_k refl) ∙ at_k) (sym (touched_is k l says_k (unit_at periods p k l at same)) ∙ at_l) other
+        by_touch p at same false true says_k says_l =
+            free_mine k l r s (sym (touched_is l k says_l (sym (unit_at periods p k l at same))) ∙ at_k) (sym (touched_is l l says_l refl) ∙ at_l) other
+        by_touch p at same false false says_k says_l =
+            free_now k l r s (sym (untouched_is k says_k) ∙ at_k) (sym (untouched_is l says_l) ∙ at_l) other
 
-      by_entity : (p : Period) → periods k.table ≡ Some p → (b : Bool) → is_key (entity_of k) (entity_of l) ≡ b → clash periods (k, r) (l, s) ≡ false
-      by_entity p at true same = by_touch p at same (is_some (net_last (net_of seen mine written) k)) (is_some (net_last (net_of seen mine written) l)) refl refl
-      by_entity p at false same = ap (λ o. clash_by o (k, r) (l, s)) at ∙ ap (λ b. b && overlap (span_of p r) (span_of p s)) same
+        by_entity : (p : Period) → periods k.table ≡ Some p → (b : Bool) → is_key (entity_of k) (entity_of l) ≡ b → clash periods (k, r) (l, s) ≡ false
+        by_entity p at true same = by_touch p at same (is_some (net_last (net_of seen mine written) k)) (is_some (net_last (net_of seen mine written) l)) refl refl
+        by_entity p at false same = ap (λ o. clash_by o (k, r) (l, s)) at ∙ ap (λ b. b && overlap (span_of p r) (span_of p s)) same
 
-      by_period : (o : Option Period) → periods k.table ≡ o → clash periods (k, r) (l, s) ≡ false
-      by_period None at = ap (λ o. clash_by o (k, r) (l, s)) at
-      by_period (Some p) at = by_entity p at (is_key (entity_of k) (entity_of l)) refl
+        by_period : (o : Option Period) → periods k.table ≡ o → clash periods (k, r) (l, s) ≡ false
+        by_period None at = ap (λ o. clash_by o (k, r) (l, s)) at
+        by_period (Some p) at = by_entity p at (is_key (entity_of k) (entity_of l)) refl
 
-  pub merged_apart : NoOverlap periods (apply_net now (net_of seen mine written))
-  merged_apart = apart_from periods (apply_net now (net_of seen mine written)) (sorted_net (net_of seen mine written) now sorted) merged_free
+    pub merged_apart : NoOverlap periods (apply_net now (net_of seen mine written))
+    merged_apart = apart_from periods (apply_net now (net_of seen mine written)) (sorted_net (net_of seen mine written) now sorted) merged_free
 
 -- ---- no conflict by units: each unit of the net changes is fresh
 

@@ -23,6 +23,9 @@ returns-clause-least_conflict c = refl
 pub returns-clause-entities_apart : goal.returns-clause-entities_apart
 returns-clause-entities_apart c = refl
 
+pub returns-clause-commits_joined : goal.returns-clause-commits_joined
+returns-clause-commits_joined c = refl
+
 pub returns-clause-own_rows_count : goal.returns-clause-own_rows_count
 returns-clause-own_rows_count c = refl
 
