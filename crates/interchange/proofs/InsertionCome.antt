@@ -21,7 +21,7 @@ use Rattle.values.specs.Writes.{Written, add_keys, duplicate, duplicate_from, in
 use Rattle.interchange.specs.declared.insertion.Insertion.{Insertion}
 use Rattle.interchange.specs.Insertion.{AreApart, AreKeyed, HasCome, HasKeys, keys_of}
 use Rattle.interchange.specs.Load.{inserted, nothing}
-use Rattle.interchange.specs.Overlaps.{HasSpans}
+use Rattle.interchange.specs.Overlaps.{AreProper, HasSpans}
 use Rattle.interchange.proofs.InsertionKeys.{keys_last, no_fewer, repeated_last, repeated_stays}
 
 pub on_ok : {A E : Type 0} {P Q : Type 0} (r : Result A E) → OnOk r P → (P → Q) → OnOk r Q
@@ -188,12 +188,33 @@ spans_fit : (table : Table) (rows : List Row) (i : Insertion) → i.has_bad_span
 unfolding by_spans by_keys
 spans_fit table rows i is come = ap (by_spans table rows) (spans_refuse table rows i false is come)
 
+-- no span is bad
+proper_of : (table : Table) (rows : List Row) (period : Option Period) → has_bad_span period rows ≡ false → AreProper period (map (keyed table) rows)
+proper_of table rows None good = tt
+proper_of table [] (Some p) good = tt
+proper_of table (row ∷ rows) (Some p) good = (first (is_span (span_of p row)) _ good, proper_of table rows (Some p) (others (is_span (span_of p row)) _ good))
+  where
+    first : (a b : Bool) → (not a || b) ≡ false → a ≡ true
+    first true b good = refl
+    first false b good = cc good
+
+    others : (a b : Bool) → (not a || b) ≡ false → b ≡ false
+    others true b good = good
+    others false b good = cc good
+
 -- the rows are apart, and this is the first that overlaps
-apart_ends : (table : Table) (rows : List Row) (i : Insertion) (found : Option Key) → i.has_bad_span ≡ false → i.repeated ≡ None → ((period : Option Period) (state : State) → HasSpans period state i.overlaps → found ≡ overlap_from period [] state)
+apart_ends : (table : Table) (rows : List Row) (i : Insertion) (found : Option Key) → i.has_bad_span ≡ false → i.repeated ≡ None → ((period : Option Period) (state : State) → AreProper period state → HasSpans period state i.overlaps → found ≡ overlap_from period [] state)
     → HasCome table rows i → inserted table (Ok rows) ≡ by_keys table rows None found
 apart_ends table rows i found good none first come =
     let apart = apart_of table rows i (ap is_some none) (come.keyed good) in
-    spans_fit table rows i good come ∙ (λ j. by_keys table rows (apart.apart j) (sym (first table.period (map (keyed table) rows) apart.spans) j))
+    spans_fit table rows i good come ∙ (λ j. by_keys table rows (apart.apart j) (sym (first table.period (map (keyed table) rows) (proper_of table rows table.period (sym come.bad ∙ good)) apart.spans) j))
+
+-- the rows are apart, and one overlaps an earlier one
+pub ends_overlap : (table : Table) (rows : List Row) (i : Insertion) (found : Option Key) (key : Key) → i.has_bad_span ≡ false → i.repeated ≡ None → found ≡ Some key
+    → ((period : Option Period) (state : State) → AreProper period state → HasSpans period state i.overlaps → found ≡ overlap_from period [] state)
+    → HasCome table rows i → Err (Overlap key) ≡ inserted table (Ok rows)
+unfolding by_keys
+ends_overlap table rows i found key good none is first come = sym (apart_ends table rows i found good none first come ∙ ap (by_keys table rows None) is)
 
 as_written : Table → List Row → Bool → Result (List Row) Refusal
 as_written table rows many = as_rows rows (by many).0
@@ -207,7 +228,7 @@ written_by table rows true = refl
 written_by table rows false = refl
 
 counted : (table : Table) (rows : List Row) (i : Insertion) (found : Option Key) (n : ℕ) (b : Bool) → i.has_bad_span ≡ false → i.repeated ≡ None → found ≡ None
-    → ((period : Option Period) (state : State) → HasSpans period state i.overlaps → found ≡ overlap_from period [] state)
+    → ((period : Option Period) (state : State) → AreProper period state → HasSpans period state i.overlaps → found ≡ overlap_from period [] state)
     → ((table : Table) (keys : List Key) → HasKeys table keys i.keys → n ≡ length (add_keys keys [])) → nat_lt most_written n ≡ b → HasCome table rows i → inserted table (Ok rows) ≡ by_count rows b
 unfolding by_keys as_written
 counted table rows i found n b good none is first count many come =
@@ -225,13 +246,13 @@ within n h = grind (arith, nat_tests)
 
 -- all rows came, and there are too many, or not
 pub ends_many : (table : Table) (rows : List Row) (i : Insertion) (found : Option Key) (n : ℕ) → i.has_bad_span ≡ false → i.repeated ≡ None → found ≡ None
-    → ((period : Option Period) (state : State) → HasSpans period state i.overlaps → found ≡ overlap_from period [] state)
+    → ((period : Option Period) (state : State) → AreProper period state → HasSpans period state i.overlaps → found ≡ overlap_from period [] state)
     → ((table : Table) (keys : List Key) → HasKeys table keys i.keys → n ≡ length (add_keys keys [])) → most_written < n → HasCome table rows i → Err TooManyWrites ≡ inserted table (Ok rows)
 unfolding by_count
 ends_many table rows i found n good none is first count many come = sym (counted table rows i found n true good none is first count (above n many) come)
 
 pub ends_few : (table : Table) (rows : List Row) (i : Insertion) (found : Option Key) (n : ℕ) → i.has_bad_span ≡ false → i.repeated ≡ None → found ≡ None
-    → ((period : Option Period) (state : State) → HasSpans period state i.overlaps → found ≡ overlap_from period [] state)
+    → ((period : Option Period) (state : State) → AreProper period state → HasSpans period state i.overlaps → found ≡ overlap_from period [] state)
     → ((table : Table) (keys : List Key) → HasKeys table keys i.keys → n ≡ length (add_keys keys [])) → n ≤ most_written → HasCome table rows i → Ok i.rows.items ≡ inserted table (Ok rows)
 unfolding by_count
 ends_few table rows i found n good none is first count few come =

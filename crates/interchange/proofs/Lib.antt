@@ -8,6 +8,7 @@ mod KeySetOrder
 mod InsertionKeys
 mod InsertionCome
 mod OpenRecordText
+mod ApartSpansTaken
 mod OverlapsFound
 pub mod LoadingReads
 mod StreamReads

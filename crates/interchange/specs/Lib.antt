@@ -5,6 +5,7 @@ pub mod Report
 pub mod Place
 pub mod KeptField
 pub mod OpenRecord
+pub mod ApartSpans
 pub mod Overlaps
 pub mod Insertion
 pub mod Loading

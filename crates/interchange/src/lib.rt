@@ -1,6 +1,7 @@
 //! Rows in and out as CSV.
 #![tactic(auto)]
 
+mod apart_spans;
 mod field;
 mod insertion;
 mod kept_field;

@@ -1,5 +1,5 @@
 //! The first row that overlaps an earlier one of its entity.
-ghost use Rattle.std.specs.Prelude.{◌≡◌, ◌++◌, ◌∷◌, [], IfOk, List, None, Option, OnOk, Some, if◌then◌else◌};
+ghost use Rattle.std.specs.Prelude.{◌≡◌, ◌++◌, ◌∷◌, [], MatchBool, None, Option, OnOk, Some, if◌then◌else◌, true};
 ghost use Rattle.std.specs.List.{list_any};
 ghost use Rattle.values.specs.declared.key.Key.{Key as TableKey};
 ghost use Rattle.values.specs.declared.period.Period.{Period as TablePeriod};
@@ -7,10 +7,12 @@ ghost use Rattle.values.specs.Entity.{entity_of};
 ghost use Rattle.values.specs.Log.{State};
 ghost use Rattle.values.specs.Memory.{OnlyMemory};
 ghost use Rattle.values.specs.Order.{is_key};
-ghost use Rattle.values.specs.Period.{overlap};
+ghost use Rattle.values.specs.Period.{is_span, overlap};
 ghost use Rattle.values.specs.Writes.{keyed, overlap_from};
-ghost use Rattle.interchange.specs.Overlaps.{HasSpans, spans_at};
+ghost use Rattle.interchange.specs.ApartSpans.{AreInTurn, HasOneMore};
+ghost use Rattle.interchange.specs.Overlaps.{AreProper, HasSpans, spans_at};
 
+use crate::apart_spans::ApartSpans;
 use std::alloc::Global;
 use std::collections::BTreeMap;
 use values::{Key, Mem, Row, Span, Table};
@@ -19,7 +21,7 @@ use values::{Key, Mem, Row, Span, Table};
 /// first row that overlaps an earlier one of its entity, whose key is kept.
 #[derive(Drop)]
 pub(crate) struct Overlaps {
-    spans: BTreeMap<Key, Vec<Span>>,
+    spans: BTreeMap<Key, ApartSpans>,
     first: Option<Key>,
 }
 
@@ -34,8 +36,7 @@ impl Overlaps {
         }
     }
 
-    /// Takes the next row. It is compared with the earlier rows of its entity alone:
-    /// n rows of one entity are n * n / 2 pairs at most.
+    /// Takes the next row. It is compared with one earlier row of its entity.
     pub(crate) fn take(&mut self, alloc: Global, table: &Table, row: &Row) -> Mem<()>
         ensures ok { OnOk result ((rows : State) → HasSpans table.now.period rows self.old
             → HasSpans table.now.period (rows ++ keyed table.now row.now ∷ []) self.new) }
@@ -54,29 +55,31 @@ impl Overlaps {
     /// Takes the span of the row with a key.
     fn take_span(&mut self, alloc: Global, key: &Key, span: Span) -> Mem<()>
         requires { self.old.first ≡ None }
-        ensures first { OnOk result (self.new.first
+        ensures first { OnOk result (AreInTurn (spans_at self.old (entity_of key.now))
+            → self.new.first
             ≡ (if list_any (overlap span) (spans_at self.old (entity_of key.now))
             then Some key.now else None)) }
-        ensures kept { OnOk result (self.new.first ≡ None → (entity : TableKey)
-            → spans_at self.new entity ≡ spans_at self.old entity
-            ++ (if is_key entity (entity_of key.now) then span ∷ [] else [])) }
+        ensures kept { OnOk result (self.new.first ≡ None → is_span span ≡ true
+            → AreInTurn (spans_at self.old (entity_of key.now)) → (entity : TableKey)
+            → MatchBool (is_key entity (entity_of key.now))
+            (HasOneMore (spans_at self.old entity) span (spans_at self.new entity))
+            (spans_at self.new entity ≡ spans_at self.old entity)) }
         ensures err { OnlyMemory result }
     {
         let entity = key.entity(alloc)?;
-        let mut spans = self.spans.remove(&entity).unwrap_or(Vec::new(alloc));
-        if span.overlaps_any(spans.as_slice()) {
+        let mut spans = self.spans.remove(&entity).unwrap_or(ApartSpans::new(alloc));
+        if !spans.add(span)? {
             self.first = Some(key.copy()?);
             return Ok(());
         }
-        spans.push(span)?;
         self.spans.insert(entity, spans)?;
         Ok(())
     }
 
     /// Returns the key of the first row that overlaps an earlier one of its entity.
     pub(crate) fn into_first(self) -> Option<Key>
-        ensures { (period : Option TablePeriod) (rows : State) → HasSpans period rows self
-            → result ≡ overlap_from period [] rows }
+        ensures { (period : Option TablePeriod) (rows : State) → AreProper period rows
+            → HasSpans period rows self → result ≡ overlap_from period [] rows }
     {
         let Overlaps { spans: _, first } = self;
         first

@@ -116,11 +116,11 @@ fn load_rest<R: Read>(
 ///
 /// The file is read as a stream: of at most 1,000 rows the values are kept, and of all others the
 /// bytes of their keys. Of a table with a period of application time the spans of all rows are kept
-/// too, by entity, up to the first row that overlaps an earlier one of its entity; it is compared
-/// with those alone, so n rows of one entity are n * n / 2 pairs. After a key that repeats, or a
-/// span with no start below its end, nothing more is kept. Of the record that is read at most 17 fields
-/// are kept, and of a field at most 1,021 bytes, or 21 more than the longest name of a column where
-/// that has over 1,000.
+/// too, by entity and by their starts, up to the first row that overlaps an earlier one of its
+/// entity; so a row is compared with one of those alone. After a key that repeats, or a span with no
+/// start below its end, nothing more is kept. Of the record that is read at most 17 fields are kept,
+/// and of a field at most 1,021 bytes, or 21 more than the longest name of a column where that has
+/// over 1,000.
 ///
 /// `BadRow` as `load_rows` has it, as soon as the record was read. At the end of the file, in this
 /// order: `BadPeriod` where the span of any row has no start below its end; `DuplicateKey` with the

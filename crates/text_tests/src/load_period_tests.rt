@@ -63,7 +63,7 @@ fn load(rt: &impl Abort, alloc: Global, bytes: &[u8]) -> Answer {
 }
 
 /// Records, and what a load of them answers.
-static FILES: [(&str, Answer); 15] = [
+static FILES: [(&str, Answer); 20] = [
     ("", Answer::Rows(0)),
     ("1,0,5,1\n1,5,9,1\n1,-3,0,1\n", Answer::Rows(3)),
     ("1,0,5,1\n2,0,5,1\n3,4,9,1\n", Answer::Rows(3)),
@@ -74,6 +74,24 @@ static FILES: [(&str, Answer); 15] = [
     ("1,0,5,1\n2,5,6,1\n1,4,9,1\n", Answer::Overlap(1, 4)),
     ("1,0,9,1\n1,3,4,1\n", Answer::Overlap(1, 3)),
     ("1,3,4,1\n1,0,9,1\n", Answer::Overlap(1, 0)),
+    // behind spans that start earlier, before spans that start later, between them and over them
+    ("1,0,2,1\n1,9,12,1\n1,4,9,1\n1,2,4,1\n", Answer::Rows(4)),
+    (
+        "1,0,2,1\n1,9,12,1\n1,4,9,1\n1,1,3,1\n",
+        Answer::Overlap(1, 1),
+    ),
+    (
+        "1,9,12,1\n1,0,2,1\n1,4,6,1\n1,3,5,1\n",
+        Answer::Overlap(1, 3),
+    ),
+    (
+        "1,9,12,1\n1,0,2,1\n1,4,6,1\n1,3,20,1\n",
+        Answer::Overlap(1, 3),
+    ),
+    (
+        "1,9,12,1\n1,0,2,1\n1,4,6,1\n1,8,10,1\n",
+        Answer::Overlap(1, 8),
+    ),
     (
         "1,0,5,1\n2,0,5,1\n2,4,6,1\n1,4,6,1\n",
         Answer::Overlap(2, 4),
