@@ -1,5 +1,6 @@
 -- A row's overlaps, as they are looked for.
-use Rattle.std.proofs.Common.{◌≡◌, ℕ, ◌+◌, ◌-◌, ◌<◌, ◌≤◌, Bool, true, false, cond, ◌&&◌, ◌||◌, List, [], ◌∷◌, ◌++◌, Option, Some, None, refl, sym, ap, ◌∙◌, arith, map, filter, length, take, drop, get_or, if◌then◌else◌, suc, append_assoc}
+use Rattle.std.proofs.Common.{◌≡◌, ℕ, ◌+◌, ◌<◌, ◌≤◌, Bool, true, false, cond, ◌&&◌, ◌||◌, List, [], ◌∷◌, ◌++◌, Option, Some, None, refl, sym, ap, subst, ◌∙◌, arith, map, filter, length, take, drop, get_or, if◌then◌else◌, suc, append_assoc}
+use Rattle.std.specs.Global.{Vec}
 use Rattle.std.specs.List.{AllByRecursion, list_any}
 use Rattle.std.proofs.lemmas.List.{drop_all, get_or-map, map_push, take-map}
 use Rattle.std.proofs.lemmas.List.Folds.{list_any-append}
@@ -24,6 +25,7 @@ use Rattle.searchrange.proofs.EntityRanges.{entity_width}
 use Rattle.tsbtree.specs.View.{TreeState}
 use Rattle.staging.specs.Own.{Reads, rows_seen}
 use Rattle.staging.specs.Staged.{keyed_rows, AreSpansOf}
+use Rattle.staging.proofs.StagedEntries.{same_key}
 use Rattle.staging.proofs.ViewBridge.{own_key}
 use Rattle.staging.proofs.StagedAnswered.{all_seen}
 
@@ -117,7 +119,7 @@ module _ (table : Table) (p : Period) (m : State) (rows : List Row) (i : ℕ) (r
   overlap_step seen earlier b seen_is earlier_is either =
       step_by b (list_any-append (clash_by (Some p) (keyed table row)) m (map (keyed table) (take i rows)) ∙ (λ j. sym seen_is j || sym earlier_is j) ∙ either)
 
--- the same by the spans of the row's entity and by the earlier rows, where the rows have their keys
+-- the same where the rows have their keys
 module _ (table : Table) (p : Period) (m : State) (keys : List Key) (rows : List Row) (are : keys ≡ map (key_of table) rows) (i : ℕ) (key : Key) (row : Row) (lt : i < length rows) (key_is : key ≡ get_or keys i key) (row_is : row ≡ get_or rows i row) where
   its_key : key ≡ key_of table row
   its_key =
@@ -126,14 +128,13 @@ module _ (table : Table) (p : Period) (m : State) (keys : List Key) (rows : List
       ∙ get_or-map (key_of table) rows i row key lt
       ∙ ap (key_of table) (sym row_is)
 
-  pub overlap_by : (spans : List Span) (seen earlier b : Bool) → AreSpansOf p (entity_of (get_or keys i key)) m spans
-      → seen ≡ list_any (overlap (span_of p row)) spans
+  pub overlap_by : (seen earlier b : Bool) → seen ≡ list_any (clash_by (Some p) (key, row)) m
       → earlier ≡ list_any (clash_by (Some p) (key, row)) (keyed_rows (take i keys) (take i rows))
       → (seen || earlier) ≡ b
       → overlap_at table p m rows i ≡ (if b then Some key else overlap_at table p m rows (i + 1))
-  overlap_by spans seen earlier b near seen_by earlier_by either =
+  overlap_by seen earlier b seen_by earlier_by either =
       overlap_step table p m rows i row lt row_is seen earlier b
-      (seen_by ∙ near (span_of p row) ∙ (λ j. list_any (λ e. is_key (entity_of ((sym key_is ∙ its_key) j)) (entity_of e.0) && overlap (span_of p row) (span_of p e.1)) m))
+      (seen_by ∙ (λ j. list_any (clash_by (Some p) (its_key j, row)) m))
       (earlier_by ∙ (λ j. list_any (clash_by (Some p) (its_key j, row)) (earlier_is table keys rows i are j)))
       either
       ∙ (λ j. if b then Some (sym its_key j) else overlap_at table p m rows (i + 1))
@@ -180,5 +181,25 @@ either_first a b is = ap (λ a. a || b) is
 pub either_second : (a b : Bool) → a ≡ false → (a || b) ≡ b
 either_second a b is = ap (λ a. a || b) is
 
-pub before_next : (i : ℕ) → (i + 1) - 1 ≡ i
-before_next i = omega arith
+-- ---- what was read
+
+-- what the spans of the row's entity say of the row
+pub seen_by : (p : Period) (m : State) (key : Key) (row : Row) (entity : Key) (spans all : List Span) (span : Span) (seen : Bool) → seen ≡ list_any (overlap span) all → all ≡ spans → span ≡ span_of p row → entity ≡ entity_of key
+    → AreSpansOf p entity m spans → seen ≡ list_any (clash_by (Some p) (key, row)) m
+seen_by p m key row entity spans all span seen is are span_is entity_is own =
+    is
+    ∙ ap (list_any (overlap span)) are
+    ∙ own span
+    ∙ (λ j. list_any (λ e. is_key (entity_is j) (entity_of e.0) && overlap (span_is j) (span_of p e.1)) m)
+
+-- the spans of one more entity are kept
+pub read_more : (p : Period) (m : State) (entity : Key) (spans : Vec Span) (before after : Key → Option (Vec Span)) → ((q : Key) → after q ≡ cond (is_key entity q) (Some spans) (before q)) → AreSpansOf p entity m spans.items
+    → ((q : Key) (s : Vec Span) → before q ≡ Some s → AreSpansOf p q m s.items) → (q : Key) (s : Vec Span) → after q ≡ Some s → AreSpansOf p q m s.items
+read_more p m entity spans before after put own others q s at = by (is_key entity q) refl
+  where
+    by : (b : Bool) → is_key entity q ≡ b → AreSpansOf p q m s.items
+    by true is =
+        let both : ◌≡◌ {A = Option (Vec Span)} (Some spans) (Some s) = sym (put q ∙ ap (λ b. cond b (Some spans) (before q)) is) ∙ at in
+        let same : spans ≡ s = cc both in
+        subst (λ k. AreSpansOf p k m s.items) (same_key entity q is) (subst (λ (v : Vec Span). AreSpansOf p entity m v.items) same own)
+    by false is = others q s (sym (put q ∙ ap (λ b. cond b (Some spans) (before q)) is) ∙ at)

@@ -2,7 +2,8 @@
 use Rattle.std.specs.Prelude.{◌≡◌, ℕ, ◌≤◌, List, [], ◌∷◌, ◌++◌, ◌||◌, ◌&&◌, Bool, false, Option, Some, None, Result, Ok, Err, nat_lt, if◌then◌else◌, length, map, filter, is_some, All}
 use Rattle.std.specs.List.{cons_option, list_any, filter_map}
 use Rattle.std.specs.Option.{option_map}
-use Rattle.std.specs.BTreeMap.{insert_entry, is_at}
+use Rattle.std.specs.BTreeMap.{BTreeMap, get, insert_entry, is_at}
+use Rattle.std.specs.Global.{Vec}
 use Rattle.std.specs.Ordering.{is_le}
 use Rattle.std.specs.Map.{keys_of, lookup, set_value, remove_entry}
 use Rattle.std.specs.List.Sorted.{IsStrictlySortedBy}
@@ -136,6 +137,12 @@ AreSpansOf p entity m spans =
     (span : Span)
     → list_any (overlap span) spans
     ≡ list_any (λ e. is_key entity (entity_of e.0) && overlap span (span_of p e.1)) m
+
+-- what is kept of each entity are the spans of its rows
+abbrev pub AreRead : Period → State → BTreeMap Key (Vec Span) → Type 0
+AreRead p m read =
+    (entity : Key) (spans : Vec Span)
+    → get key_cmp read entity ≡ Some spans → AreSpansOf p entity m spans.items
 
 -- where a row's key fits its table, or is short, so do and are all keys of changes with more of them
 pub record KeepsKeys (table : Table) (key : Key) (old new : Net) : Type 0 where

@@ -1,7 +1,6 @@
 //! INSERT into a table with a period of application time: no two rows of an entity overlap.
-ghost use Rattle.std.specs.Prelude.{◌≡◌, ◌<◌, ◌≤◌, ◌-◌, All, IfOk, Some, get_or, length, map};
+ghost use Rattle.std.specs.Prelude.{◌≡◌, All, IfOk, OnOk, Some, length, map};
 ghost use Rattle.std.specs.List.{list_any};
-ghost use Rattle.values.specs.declared.key.Key.{Key as TableKey};
 ghost use Rattle.values.specs.Tables.{IsTable};
 ghost use Rattle.values.specs.Memory.{OnlyMemory};
 ghost use Rattle.values.specs.KeyReading.{IsKeyOf};
@@ -9,11 +8,12 @@ ghost use Rattle.values.specs.Period.{span_of, overlap};
 ghost use Rattle.values.specs.Entity.{clash_by, entity_of};
 ghost use Rattle.values.specs.Writes.{key_of, overlapping};
 ghost use Rattle.staging.specs.Own.{WhenRead, rows_seen};
-ghost use Rattle.staging.specs.Staged.{keyed_rows, AreSpansOf};
+ghost use Rattle.staging.specs.Staged.{keyed_rows, AreRead, AreSpansOf};
 
 use crate::staged::Staged;
 use searchrange::{Search, entity_keys};
 use std::alloc::{AllocError, Global};
+use std::collections::BTreeMap;
 use tsbtree::View;
 use values::{FittingKeys, Key, Mem, Period, Row, Span, Table};
 
@@ -38,11 +38,10 @@ impl Staged {
         let Some(period) = &table.period else {
             return Ok(None);
         };
-        let mut spans = Vec::new(self.alloc);
+        let mut read = BTreeMap::new(self.alloc);
         for (i, key) in keys.iter().enumerate() {
-            spans = self.spans_at(view, table, period, keys, i, spans)?;
             let row = &rows[i];
-            let seen = period.span(row).overlaps_any(&spans);
+            let seen = self.overlaps_seen(view, table, period, key, row, &mut read)?;
             let earlier = overlaps_earlier(
                 period,
                 key,
@@ -57,34 +56,38 @@ impl Staged {
         Ok(None)
     }
 
-    /// Returns the spans of the rows that the transaction sees of the entity of a key, by its place:
-    /// those of the key before it where both are of one entity.
-    fn spans_at(
+    /// Tells whether the period of a row overlaps that of a row of its entity which the transaction
+    /// sees. What is read of an entity is kept.
+    fn overlaps_seen(
         &self,
         view: &View,
         table: &Table,
         period: &Period,
-        keys: &[Key],
-        place: usize,
-        before: Vec<Span>,
-    ) -> Mem<Vec<Span>>
+        key: &Key,
+        row: &Row,
+        read: &mut BTreeMap<Key, Vec<Span>>,
+    ) -> Mem<bool>
         requires good { IsTable table.now.number table.now }
-        requires own { All (IsKeyOf table.now) keys.now }
+        requires own { IsKeyOf table.now key.now }
         requires has { table.now.period ≡ Some period.now }
-        requires within { place < length keys.now }
-        ensures ok { IfOk result (λ spans. WhenRead table.now view.now self.now (λ schema m.
-            (d : TableKey)
-            → (1 ≤ place → AreSpansOf period.now (entity_of (get_or keys.now (place - 1) d))
-            (rows_seen m self.now) before.items)
-            → AreSpansOf period.now (entity_of (get_or keys.now place d)) (rows_seen m self.now)
-            spans.items)) }
+        ensures seen { IfOk result (λ seen. WhenRead table.now view.now self.now (λ schema m.
+            AreRead period.now (rows_seen m self.now) read.old
+            → seen ≡ list_any (clash_by (Some period.now) (key.now, row.now))
+            (rows_seen m self.now))) }
+        ensures kept { OnOk result (WhenRead table.now view.now self.now (λ schema m.
+            AreRead period.now (rows_seen m self.now) read.old
+            → AreRead period.now (rows_seen m self.now) read.new)) }
         ensures err { OnlyMemory result }
     {
-        let key = &keys[place];
-        if place > 0 && key.is_of_entity(&keys[place - 1]) {
-            return Ok(before);
+        let span = period.span(row);
+        let entity = key.entity(self.alloc)?;
+        if let Some(spans) = read.get(&entity) {
+            return Ok(span.overlaps_any(spans));
         }
-        self.spans_seen(view, table, period, key)
+        let spans = self.spans_seen(view, table, period, key)?;
+        let seen = span.overlaps_any(&spans);
+        read.insert(entity, spans)?;
+        Ok(seen)
     }
 
     /// Returns the spans of the rows of a key's entity that the transaction sees.

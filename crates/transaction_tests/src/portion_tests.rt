@@ -203,6 +203,33 @@ fn rows_that_touch_and_rows_of_other_entities_are_taken(rt: HostRuntime) {
 }
 
 #[test]
+fn rows_of_two_entities_in_turn_are_each_compared_with_their_own(rt: HostRuntime) {
+    let in_turn = [
+        (7, 100, 110, 6),
+        (8, 100, 110, 6),
+        (7, 110, 120, 6),
+        (8, 110, 120, 6),
+    ];
+    assert!(rt; answer(&rt, rt.alloc(), &in_turn) == Ok(4));
+    let refused = overlap(&rt, rt.alloc(), &[7, 90]);
+    assert!(rt;
+        answer(
+            &rt,
+            rt.alloc(),
+            &[(7, 100, 110, 6), (9, 0, 5, 6), (7, 90, 100, 6)]
+        ) == refused
+    );
+    let refused = overlap(&rt, rt.alloc(), &[9, 4]);
+    assert!(rt;
+        answer(
+            &rt,
+            rt.alloc(),
+            &[(9, 0, 5, 6), (7, 100, 110, 6), (9, 4, 9, 6)]
+        ) == refused
+    );
+}
+
+#[test]
 fn an_earlier_row_of_the_statement_counts(rt: HostRuntime) {
     let refused = overlap(&rt, rt.alloc(), &[9, 5]);
     assert!(rt; answer(&rt, rt.alloc(), &[(9, 0, 10, 6), (9, 5, 20, 6)]) == refused);

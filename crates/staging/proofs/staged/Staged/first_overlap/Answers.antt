@@ -1,12 +1,11 @@
-use Rattle.std.proofs.Common.{◌≡◌, ◌≤◌, ◌<◌, ◌||◌, true, false, Some, length, get_or, arith, sym, ap, subst, ◌∙◌}
+use Rattle.std.proofs.Common.{◌≡◌, ◌≤◌, ◌<◌, ◌||◌, true, false, Some, length, arith, sym, ap, ◌∙◌}
 use Rattle.std.proofs.lemmas.List.{length-map}
 use Rattle.std.specs.List.{list_any}
-use Rattle.values.specs.Entity.{clash_by, entity_of}
-use Rattle.values.specs.Period.{overlap}
+use Rattle.values.specs.Entity.{clash_by}
 use Rattle.values.specs.Writes.{key_of}
 use Rattle.staging.specs.Own.{rows_seen}
-use Rattle.staging.specs.Staged.{keyed_rows, AreSpansOf}
-use Rattle.staging.proofs.OverlapSeen.{overlap_by, overlap_end, no_overlaps, either_first, either_second, before_next}
+use Rattle.staging.specs.Staged.{keyed_rows}
+use Rattle.staging.proofs.OverlapSeen.{overlap_by, overlap_end, no_overlaps, either_first, either_second}
 use Rattle.staging.proofs.staged.Staged.first_overlap.Goals.{then-seen-via-then-seen, then-seen-via-else-seen+then-earlier}
 use Rattle.staging.proofs.staged.Staged.first_overlap.Goals as goal
 
@@ -16,7 +15,7 @@ returns-in_default-clause-ok c = λ schema m reads. sym (no_overlaps c.args.tabl
 pub returns-then-seen-clause-ok : goal.returns-then-seen-clause-ok
 returns-then-seen-clause-ok c = λ schema m reads.
     let key = c.index-keys-i.result in
-    let seen = c.overlaps_any-seen.result in
+    let seen = c.in_ok-seen.seen in
     let earlier = c.overlaps_earlier-earlier.result in
     let row = c.index-rows-i.result in
     let same : length c.args.keys.now ≡ length c.args.rows.now = ap length c.requires.keys ∙ length-map c.args.rows.now (key_of c.args.table.now) in
@@ -27,8 +26,7 @@ returns-then-seen-clause-ok c = λ schema m reads.
     ] in
     ap Some c.in_ok-clone.ensures.cases
     ∙ sym (overlap_by c.args.table.now c.in-Some.period (rows_seen m c.args.self.now) c.args.keys.now c.args.rows.now c.requires.keys c.loop-i.i key row there c.index-keys-i.is c.index-rows-i.is
-    c.in_ok-spans.spans.items seen earlier true (c.in_ok-spans.ensures.ok schema m reads key (c.loop-i.invariant.spans schema m reads key))
-    (c.overlaps_any-seen.ensures ∙ (λ j. list_any (overlap (c.span.ensures j)) (c.deref.ensures.value j)))
+    seen earlier true (c.in_ok-seen.ensures.seen schema m reads (c.loop-i.invariant.read schema m reads))
     (c.overlaps_earlier-earlier.ensures ∙ (λ j. list_any (clash_by (Some c.in-Some.period) (key, row)) (keyed_rows (c.split_at.ensures.front j) (c.split_at-in-loop-i.ensures.front j))))
     either)
     ∙ c.loop-i.invariant.found schema m reads
@@ -37,21 +35,18 @@ pub loop-i-preserved : goal.loop-i-preserved
 loop-i-preserved c =
     let key = c.index-keys-i.result in
     let row = c.index-rows-i.result in
-    let seen = c.overlaps_any-seen.result in
+    let seen = c.in_ok-seen.seen in
     let earlier = c.overlaps_earlier-earlier.result in
     let same : length c.args.keys.now ≡ length c.args.rows.now = ap length c.requires.keys ∙ length-map c.args.rows.now (key_of c.args.table.now) in
     let there : c.loop-i.i < length c.args.rows.now = omega (arith, c.loop-i-test.true, same) in
     record {
       found = λ schema m reads.
           sym (overlap_by c.args.table.now c.in-Some.period (rows_seen m c.args.self.now) c.args.keys.now c.args.rows.now c.requires.keys c.loop-i.i key row there c.index-keys-i.is c.index-rows-i.is
-          c.in_ok-spans.spans.items seen earlier false (c.in_ok-spans.ensures.ok schema m reads key (c.loop-i.invariant.spans schema m reads key))
-          (c.overlaps_any-seen.ensures ∙ (λ j. list_any (overlap (c.span.ensures j)) (c.deref.ensures.value j)))
+          seen earlier false (c.in_ok-seen.ensures.seen schema m reads (c.loop-i.invariant.read schema m reads))
           (c.overlaps_earlier-earlier.ensures ∙ (λ j. list_any (clash_by (Some c.in-Some.period) (key, row)) (keyed_rows (c.split_at.ensures.front j) (c.split_at-in-loop-i.ensures.front j))))
           (either_second seen earlier c.if-seen.false ∙ c.if-earlier.false))
           ∙ c.loop-i.invariant.found schema m reads;
-      spans = λ schema m reads d some.
-          subst (λ i. AreSpansOf c.in-Some.period (entity_of (get_or c.args.keys.now i d)) (rows_seen m c.args.self.now) c.in_ok-spans.spans.items) (sym (before_next c.loop-i.i))
-          (c.in_ok-spans.ensures.ok schema m reads d (c.loop-i.invariant.spans schema m reads d));
+      read = λ schema m reads. c.in_ok-seen.ensures.kept schema m reads (c.loop-i.invariant.read schema m reads);
     }
 
 pub returns-clause-ok : goal.returns-clause-ok

@@ -1,9 +1,7 @@
-use Rattle.std.proofs.Common.{◌≡◌, ◌≤◌, ◌-◌, get_or}
-use Rattle.values.specs.declared.key.Key.{Key}
-use Rattle.values.specs.Entity.{entity_of}
+use Rattle.std.proofs.Common.{◌≡◌}
 use Rattle.values.specs.Writes.{overlapping}
 use Rattle.staging.specs.Own.{WhenRead, rows_seen}
-use Rattle.staging.specs.Staged.{AreSpansOf}
+use Rattle.staging.specs.Staged.{AreRead}
 use Rattle.staging.proofs.OverlapSeen.{overlap_at}
 use Rattle.staging.proofs.staged.Staged.first_overlap.Given as goal
 
@@ -11,6 +9,5 @@ abbrev pub invariant-loop-i : goal.invariant-loop-i
 invariant-loop-i l = record {
   found : WhenRead l.table l.view l.self (λ schema m.
       overlap_at l.table l.period (rows_seen m l.self) l.rows l.i ≡ overlapping l.table l.rows (rows_seen m l.self));
-  spans : WhenRead l.table l.view l.self (λ schema m.
-      (d : Key) → 1 ≤ l.i → AreSpansOf l.period (entity_of (get_or l.keys (l.i - 1) d)) (rows_seen m l.self) l.spans.items);
+  read : WhenRead l.table l.view l.self (λ schema m. AreRead l.period (rows_seen m l.self) l.read);
 }
