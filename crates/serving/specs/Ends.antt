@@ -1,10 +1,21 @@
 -- How a served session ended.
-use Rattle.std.specs.Prelude.{◌≡◌, ℕ, List, ◌++◌, Bool, Option}
+use Rattle.std.specs.Prelude.{◌≡◌, ℕ, List, [], ◌++◌, Bool, Option}
 use Rattle.std.specs.Io.KnownBytes.{Consumes, IsAtEnd}
 use Rattle.lines.specs.Partial.{Partial}
 use Rattle.lines.specs.Lines.{lines_of}
 use Rattle.sessions.specs.SessionState.{SessionState}
 use Rattle.serving.specs.Account.{AccountState, Writes, WritesPrefix}
+use Rattle.serving.specs.Progress.{Given}
+
+-- nothing was read, and nothing was written
+pub record HasNotBegun (unread left w w' : Option (List ℕ)) : Type 0 where
+  pub reads_nothing : left ≡ unread
+  pub writes_nothing : w' ≡ w
+
+-- and no receipt was taken
+pub record IsUnserved (given : List Given) (unread left w w' : Option (List ℕ)) : Type 0 where
+  pub takes_nothing : given ≡ []
+  pub has_not_begun : HasNotBegun unread left w w'
 
 -- by which readings of the clock may be given
 module _ (may_give : ℕ → Bool) where

@@ -4,9 +4,8 @@ ghost use Rattle.steps.specs.declared.step.Step.TheVariants.{Commit, Rollback};
 ghost use Rattle.serving.specs.Serving.{IsStepped};
 
 use crate::answer::{Answer, Sent};
-use crate::readings::Readings;
 use growlog::StoreName;
-use sessions::{LockedStore, Session};
+use sessions::{LockedStore, Readings, Session};
 use std::sync::Wait;
 use steps::Reply;
 use values::Refusal;
@@ -25,7 +24,7 @@ pub(crate) fn take_commit<J: StoreName, R: Wait, C: Readings>(
     if session.start().is_none() {
         return Answer::reply(Reply::Refused(Refusal::NoTransaction));
     }
-    match store.commit_lent(rt, session, readings.reading()) {
+    match store.commit_lent(rt, session, readings) {
         Ok(receipt) => Answer::with_receipt(receipt, Sent::Ending),
         Err(refusal) => Answer::refusal(refusal),
     }

@@ -7,7 +7,6 @@ mod begin;
 mod commit;
 mod migrate;
 mod read;
-mod readings;
 mod serve;
 mod serve_line;
 mod served_session;
@@ -16,6 +15,6 @@ mod split;
 mod step;
 mod write;
 
-pub use readings::Readings;
 pub use serve::serve_session;
 pub use served_session::{End, Served};
+pub use sessions::Readings;

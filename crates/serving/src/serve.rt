@@ -4,18 +4,17 @@ ghost use Rattle.std.specs.Io.KnownBytes.{Keeps};
 ghost use Rattle.lines.specs.Partial.{Fits};
 ghost use Rattle.lines.specs.Lines.{lines_from};
 ghost use Rattle.serving.specs.Account.{Breaks, Feeds, IsBroken, Writes};
-ghost use Rattle.serving.specs.Ends.{Ends, EndsInPart};
+ghost use Rattle.serving.specs.Ends.{Ends, EndsInPart, HasNotBegun, IsUnserved};
 ghost use Rattle.serving.specs.ServedSession.{IsServed, IsServedInPart};
 ghost use Rattle.serving.specs.Progress.{after};
 
 use crate::account::Account;
-use crate::readings::Readings;
 use crate::serve_line::serve_line;
 use crate::served_session::{End, Served};
 use crate::service::Service;
 use growlog::StoreName;
 use lines::{CHUNK, LineBuffer, MOST_READS, line_length};
-use sessions::{Gate, LockedStore, Session};
+use sessions::{Gate, LockedStore, Readings, Session};
 use std::alloc::Global;
 use std::io::{Read, Write};
 use std::sync::Wait;
@@ -25,7 +24,8 @@ use std::sync::Wait;
 /// the read and a rollback. An open transaction is rolled back at the end.
 ///
 /// At `Closed` all was read and answered. At another end the replies, of which the last may be
-/// there in part, are those of the first lines. At every end no transaction is open, and the
+/// there in part, are those of the first lines. At `Memory` nothing was read, written or taken. At
+/// every end no transaction is open, and the
 /// session has the number of the last receipt, which is among those that are returned.
 pub fn serve_session<J: StoreName, R: Wait, I: Read, W: Write, C: Readings, G: Gate>(
     rt: &R,
@@ -49,6 +49,10 @@ pub fn serve_session<J: StoreName, R: Wait, I: Read, W: Write, C: Readings, G: G
         → IsServedInPart C.may_give session.old.schema session.old.number
         (map (λ r. record { number = r.number; entry = r.entry }) result.receipts.items)
         (after session.old.receipt None) session.new.receipt
+        (I.remaining reader.old) (I.remaining reader.new)
+        (W.contents writer.old) (W.contents writer.new) }
+    ensures unserved { result.end ≡ End.Memory → IsUnserved
+        (map (λ r. record { number = r.number; entry = r.entry }) result.receipts.items)
         (I.remaining reader.old) (I.remaining reader.new)
         (W.contents writer.old) (W.contents writer.new) }
     ensures ended { session.new.transaction ≡ None }
@@ -84,6 +88,9 @@ fn serve<J: StoreName, R: Wait, I: Read, W: Write, C: Readings, G: Gate>(
         (W.contents writer.old) (W.contents writer.new) }
     ensures in_part { result ≢ End.Closed → EndsInPart C.may_give
         session.old session.new account.old account.new (I.remaining reader.old) (I.remaining reader.new)
+        (W.contents writer.old) (W.contents writer.new) }
+    ensures unserved { result ≡ End.Memory → account.new.given ≡ account.old.given
+        × HasNotBegun (I.remaining reader.old) (I.remaining reader.new)
         (W.contents writer.old) (W.contents writer.new) }
 {
     let Ok(mut line) = LineBuffer::new(service.alloc) else {
@@ -134,6 +141,7 @@ fn feed<J: StoreName, R: Wait, C: Readings, G: Gate, W: Write>(
     ensures err { OnErr result (Breaks C.may_give line.old bytes.now session.old session.new
         account.old account.new (W.contents writer.old) (W.contents writer.new)) }
     ensures why { IfErr result (λ e. e ≢ End.Closed) }
+    ensures begun { IfErr result (λ e. e ≢ End.Memory) }
     ensures tables { session.new.schema ≡ session.old.schema }
     ensures fits { OnOk result (Fits line.new) }
 {
@@ -165,6 +173,7 @@ fn take_line<J: StoreName, R: Wait, C: Readings, G: Gate, W: Write>(
     ensures err { OnErr result (Breaks C.may_give line.old bytes.now session.old session.new
         account.old account.new (W.contents writer.old) (W.contents writer.new)) }
     ensures why { IfErr result (λ e. e ≢ End.Closed) }
+    ensures begun { IfErr result (λ e. e ≢ End.Memory) }
     ensures tables { session.new.schema ≡ session.old.schema }
     ensures fits { OnOk result (Fits line.new) }
     ensures within { IfOk result (λ n. n ≤ length bytes.now) }
@@ -200,6 +209,7 @@ fn finish<J: StoreName, R: Wait, C: Readings, G: Gate, W: Write>(
     ensures err { OnErr result (IsBroken C.may_give (lines_from line.now []) session.old session.new
         account.old account.new (W.contents writer.old) (W.contents writer.new)) }
     ensures why { IfErr result (λ e. e ≢ End.Closed) }
+    ensures begun { IfErr result (λ e. e ≢ End.Memory) }
 {
     if !line.has_byte() {
         return Ok(());
@@ -214,6 +224,7 @@ fn finish<J: StoreName, R: Wait, C: Readings, G: Gate, W: Write>(
 fn flush<W: Write>(writer: &mut W) -> Result<(), End>
     ensures kept { Keeps (W.contents writer.old) (W.contents writer.new) }
     ensures why { IfErr result (λ e. e ≢ End.Closed) }
+    ensures begun { IfErr result (λ e. e ≢ End.Memory) }
 {
     if writer.flush().is_err() {
         return Err(End::Write);

@@ -7,14 +7,13 @@ ghost use Rattle.serving.specs.Serving.{reply_of, text_of};
 
 use crate::account::Account;
 use crate::answer::Answer;
-use crate::readings::Readings;
 use crate::served_session::End;
 use crate::service::Service;
 use crate::step::answer_step;
 use crate::write::refused_write;
 use growlog::StoreName;
 use lines::LineBuffer;
-use sessions::{Gate, Place, Session, pass_gate};
+use sessions::{Gate, Place, Readings, Session, pass_gate};
 use statement::{Line, read_served};
 use std::alloc::Global;
 use std::io::Write;
@@ -38,6 +37,7 @@ pub(crate) fn serve_line<J: StoreName, R: Wait, C: Readings, G: Gate, W: Write>(
     ensures err { OnErr result (IsBroken C.may_give (line.now ∷ []) session.old session.new
         account.old account.new (W.contents writer.old) (W.contents writer.new)) }
     ensures why { IfErr result (λ e. e ≢ End.Closed) }
+    ensures begun { IfErr result (λ e. e ≢ End.Memory) }
 {
     match read(service.alloc, session, line) {
         Ok(Line::Nothing) => Ok(()),
@@ -72,6 +72,7 @@ fn serve_step<J: StoreName, R: Wait, C: Readings, G: Gate, W: Write>(
     ensures err { OnErr result (IsBrokenStep C.may_give step.now session.old session.new
         account.old account.new (W.contents writer.old) (W.contents writer.new)) }
     ensures why { IfErr result (λ e. e ≢ End.Closed) }
+    ensures begun { IfErr result (λ e. e ≢ End.Memory) }
 {
     if is_query(step) {
         pass(service, session, Place::Read)?;
@@ -91,7 +92,8 @@ fn pass<J: StoreName, R: Wait, G: Gate>(
     session: &Session,
     place: Place,
 ) -> Result<(), End>
-    ensures { IfErr result (λ e. e ≢ End.Closed) }
+    ensures why { IfErr result (λ e. e ≢ End.Closed) }
+    ensures begun { IfErr result (λ e. e ≢ End.Memory) }
 {
     match pass_gate(service.gate, service.rt, session.number(), place) {
         Ok(()) => Ok(()),
@@ -118,6 +120,7 @@ fn tell<J: StoreName, W: Write>(
     ensures wrote { Prints (W.contents writer.old) (W.contents writer.new) result
         (text_of (reply_of answer)) }
     ensures why { IfErr result (λ e. e ≢ End.Closed) }
+    ensures begun { IfErr result (λ e. e ≢ End.Memory) }
 {
     let wrote = answer.print(writer);
     account.keep(answer);

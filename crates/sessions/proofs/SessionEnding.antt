@@ -1,5 +1,6 @@
 -- A session after a commit.
 use Rattle.std.proofs.Common.{◌≡◌, ℕ, Option, Some, None, sym, ap, ◌∙◌, subst}
+use Rattle.std.specs.Prelude.{Result, Ok, Err, IfOk}
 use Rattle.values.specs.Tables.{Schema}
 use Rattle.values.specs.Log.{Changes, Net, last, changes}
 use Rattle.values.specs.Period.{periods_of}
@@ -11,8 +12,12 @@ use Rattle.book.specs.journal.declared.entry.Entry.{Entry}
 use Rattle.book.specs.journal.Entries.{Entries, is_open, log}
 use Rattle.book.specs.Book.{BookState, commit_entry}
 use Rattle.sessions.specs.SessionState.{SessionTransactionState, SessionState, MayBeOpen}
-use Rattle.sessions.specs.Store.{IsCommitAt, IsCommitted, is_open_at}
+use Rattle.sessions.specs.Store.{IsNetOf, is_open_at}
 use Rattle.sessions.proofs.SessionWriting.{state}
+
+pub if_ok : {A E : Type 0} (r : Result A E) (P Q : A → Type 0) → ((x : A) → P x → Q x) → IfOk r P → IfOk r Q
+if_ok (Ok x) P Q f p = f x p
+if_ok (Err e) P Q f p = tt
 
 module _ (schema : Schema) (o : Option SessionTransactionState) (t : SessionTransactionState) (runs : MayBeOpen schema o) (is : o ≡ Some t) where
   abbrev ran : MayBeOpen schema (Some t)
@@ -24,18 +29,11 @@ module _ (schema : Schema) (o : Option SessionTransactionState) (t : SessionTran
   pub open_at : (number receipt : ℕ) (j : Entries) (before : SessionState) → state number schema receipt o ≡ before → is_open_at j before ≡ is_open j number t.begun
   open_at number receipt j before seen = ap (is_open_at j) (sym seen) ∙ ap (λ (p : Option SessionTransactionState). is_open_at j (state number schema receipt p)) is
 
-  pub committed : (number receipt reading n : ℕ) (book : BookState) (before after : SessionState) (e : Entry) (net : Net) → state number schema receipt o ≡ before
-      → ((schema : Schema) (m : Changes) → Holds schema t.view m → AreKeysIn schema t.writes → net ≡ net_over m t.writes)
-      → IsCommitAt book before after net reading n e → IsCommitted before after reading n e
-  committed number receipt reading n book before after e net seen net_is =
-      subst (λ s. IsCommitAt book s after net reading n e → IsCommitted s after reading n e) seen (λ made.
-      let same : made.ran ≡ t = ap (λ (p : Option SessionTransactionState). elim p [ None ↦ t | Some r ↦ r ]) (sym made.was_open ∙ is) in
-      record {
-        ran = t;
-        was_open = is;
-        net = net;
-        end = outcome (periods_of schema) (changes (log schema book.entries)) (last (log schema book.entries)) t.begun.start net reading;
-        entry_is = made.entry_is ∙ ap (λ (r : SessionTransactionState). commit_entry schema book number r.begun net reading) same;
-        net_is = λ m held. net_is schema m held ran.1.keys;
-        session_is = made.session_is;
-      })
+  pub net_of_session : (number receipt : ℕ) (s : SessionState) (net : Net) → state number schema receipt o ≡ s
+      → ((schema : Schema) (m : Changes) → Holds schema t.view m → AreKeysIn schema t.writes → net ≡ net_over m t.writes) → IsNetOf s net
+  net_of_session number receipt s net seen net_is =
+      subst (λ s. IsNetOf s net) seen (record { ran = t; was_open = is; net_is = λ m held. net_is schema m held ran.1.keys })
+
+  pub keys_of_session : (number receipt : ℕ) (s : SessionState) (net : Net) → state number schema receipt o ≡ s
+      → ((schema : Schema) → AreKeysIn schema t.writes → AreKeysIn schema net) → AreKeysIn s.schema net
+  keys_of_session number receipt s net seen keys = keys_of_net s.schema net keys (ap (λ (s : SessionState). s.schema) seen)

@@ -40,6 +40,12 @@ pub record IsBegun (old new : SessionState) (number : ℕ) (e : Entry) : Type 0 
 abbrev pub is_open_at : Entries → SessionState → Bool
 is_open_at j s = elim s.transaction [ None ↦ false | Some t ↦ is_open j s.number t.begun ]
 
+-- a session has a transaction open, and this is its net change over what its view shows
+pub record IsNetOf (s : SessionState) (net : Net) : Type 0 where
+  pub ran : SessionTransactionState
+  pub was_open : s.transaction ≡ Some ran
+  pub net_is : (m : Changes) → Holds s.schema ran.view m → net ≡ net_over m ran.writes
+
 -- the entry is that of a commit at the book of what the session has open, and the transaction has ended
 pub record IsCommitAt (book : BookState) (old new : SessionState) (net : Net) (reading number : ℕ)
     (e : Entry) : Type 0 where
@@ -67,6 +73,11 @@ pub record IsCommitted (old new : SessionState) (reading number : ℕ) (e : Entr
     receipt = number;
     transaction = None;
   }
+
+-- the same by some reading that may be given
+abbrev pub IsCommittedBy : (ℕ → Bool) → (old new : SessionState) → ℕ → Entry → Type 0
+IsCommittedBy may_give old new number e =
+    (reading : ℕ) × ((may_give reading ≡ true) × IsCommitted old new reading number e)
 
 -- the entry holds what was asked for
 pub record IsSplitOf (cut : Cut) (e : Entry) : Type 0 where

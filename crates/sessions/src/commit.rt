@@ -1,5 +1,5 @@
 //! The end of a session's transaction, in the book that was locked for it.
-ghost use Rattle.std.specs.Prelude.{◌≡◌, Err, IfOk, OnErr, false, true};
+ghost use Rattle.std.specs.Prelude.{◌≡◌, Err, IfOk, IsSome, None, OnErr, false, true};
 ghost use Rattle.values.specs.Events.{AreKeysIn};
 ghost use Rattle.values.specs.Log.{Changes};
 ghost use Rattle.values.specs.Memory.{OnlyMemory};
@@ -7,7 +7,7 @@ ghost use Rattle.values.specs.Tables.{Schema as Tables};
 ghost use Rattle.book.specs.staging.Own.{net_over};
 ghost use Rattle.book.specs.staging.View.{Holds};
 ghost use Rattle.book.specs.Book.{Adds, OnlyRoom};
-ghost use Rattle.sessions.specs.Store.{IsCommitAt, is_open_at};
+ghost use Rattle.sessions.specs.Store.{IsCommitAt, IsNetOf, is_open_at};
 
 use crate::session::{Session, SessionTransaction};
 use book::{Book, KeyedNet, Net, OpenTransaction, Receipt};
@@ -37,6 +37,21 @@ impl<J: StoreName> Ended<J> {
 }
 
 impl Session {
+    /// Returns the net changes of the open transaction, twice, once with the bytes of their keys.
+    /// `NoTransaction` where none is open.
+    pub(crate) fn nets(&self) -> Result<(Net, KeyedNet), Refusal>
+        ensures net { IfOk result (λ nets. IsNetOf self.now nets.0) }
+        ensures keys { IfOk result (λ nets. AreKeysIn self.now.schema nets.0) }
+        ensures twice { IfOk result (λ nets. nets.1 ≡ nets.0) }
+        ensures none { self.now.transaction ≡ None → result ≡ Err Refusal.NoTransaction }
+        ensures why { IsSome self.now.transaction → OnlyMemory result }
+    {
+        match &self.transaction {
+            None => Err(Refusal::NoTransaction),
+            Some(own) => nets(self.alloc, &own.transaction),
+        }
+    }
+
     /// Ends the open transaction at a book of the same tables, by this reading of the clock: the
     /// step of `LockedStore::commit` that runs under the lock. Its net changes are handed in twice,
     /// once with the bytes of their keys. `NoTransaction` where none is open, or none at this book,
@@ -75,7 +90,7 @@ impl Session {
 }
 
 /// Returns the net changes of a transaction, twice, once with the bytes of their keys.
-pub(crate) fn nets(alloc: Global, transaction: &OpenTransaction) -> Mem<(Net, KeyedNet)>
+fn nets(alloc: Global, transaction: &OpenTransaction) -> Mem<(Net, KeyedNet)>
     ensures ok { IfOk result (λ nets. (schema : Tables) (m : Changes)
         → Holds schema transaction.now.view m → AreKeysIn schema transaction.now.writes
         → nets.0 ≡ net_over m transaction.now.writes) }

@@ -4,9 +4,9 @@ ghost use Rattle.values.specs.Memory.{OnlyMemory};
 ghost use Rattle.steps.specs.Misfit.{max_session};
 ghost use Rattle.book.specs.journal.Entries.{entry_at, numbers};
 ghost use Rattle.book.specs.Book.{IsBook, OnlyRoom};
-ghost use Rattle.sessions.specs.Store.{IsBegun, IsCommitted, IsInstallOf, IsSplitOf, OnlyRoomOrNone};
+ghost use Rattle.sessions.specs.Store.{IsBegun, IsCommitted, IsCommittedBy, IsInstallOf, IsSplitOf, OnlyRoomOrNone};
 
-use crate::commit::nets;
+use crate::readings::Readings;
 use crate::session::Session;
 use book::{Book, Closed, Cut, JournalGone, PackedNode, Receipt, SharedEntry};
 use growlog::{NewLog, StoreName};
@@ -145,32 +145,36 @@ impl<J: StoreName> LockedStore<J> {
         if !self.has_tables_of(session) {
             return Err(Refusal::NoTable);
         }
-        self.commit_lent(rt, session, reading)
+        let (net, changes) = session.nets()?;
+        let ended = session.commit_at(&mut *self.locked(rt), net, changes, reading)?;
+        Ok(ended.into_receipt())
     }
 
     /// Ends a transaction like `commit`, of a session that is known to be of the store's tables, as
-    /// one that `session` has made: no tables are compared. `NoTransaction` where none is open, or
-    /// none at this store, `JournalFull` where there is no room for one more entry. After a refusal
-    /// nothing has changed, and the transaction is still open.
-    pub fn commit_lent<R: Wait>(
+    /// one that `session` has made: no tables are compared. The reading is taken under the lock, so
+    /// it is not before that of any time at which an earlier call on the store returned, where the
+    /// clock does not run back. `NoTransaction` where none is open, or none at this store,
+    /// `JournalFull` where there is no room for one more entry. After a refusal nothing has changed,
+    /// and the transaction is still open.
+    pub fn commit_lent<R: Wait, C: Readings>(
         &self,
         rt: &R,
         session: &mut Session,
-        reading: Instant,
+        readings: &mut C,
     ) -> Result<Receipt<J>, Refusal>
         requires { session.old.schema ≡ J.schema }
         ensures committed { IfOk result (λ r.
-            IsCommitted session.old session.new reading r.number r.entry) }
+            IsCommittedBy C.may_give session.old session.new r.number r.entry) }
         ensures none { session.old.transaction ≡ None → result ≡ Err Refusal.NoTransaction }
         ensures why { IsSome session.old.transaction → OnlyRoomOrNone result }
         ensures refused { OnErr result (session.new ≡ session.old) }
     {
-        let Some(own) = &session.transaction else {
-            return Err(Refusal::NoTransaction);
-        };
-        let (net, changes) = nets(session.alloc, &own.transaction)?;
-        let ended = session.commit_at(&mut *self.locked(rt), net, changes, reading)?;
-        Ok(ended.into_receipt())
+        let (net, changes) = session.nets()?;
+        let mut book = self.locked(rt);
+        let reading = readings.reading();
+        let ended = session.commit_at(&mut *book, net, changes, reading);
+        drop(book);
+        Ok(ended?.into_receipt())
     }
 
     /// Splits the current data node of a key, where its cut lies inside the node and is no instant

@@ -13,3 +13,9 @@ returns-clause-number g c = ap (λ s. s.number) c.rollback.ensures.ok ∙ same_n
 
 pub returns-clause-same_tables : goal.returns-clause-same_tables
 returns-clause-same_tables g c = ap (λ s. s.schema) c.rollback.ensures.ok ∙ same_tables g.C.Readings.may_give c.args.session.now c.serve-end.new.session c.new-account.result c.serve-end.new.account c.serve-end.result (g.I.Read.remaining c.args.reader.now) (g.I.Read.remaining c.serve-end.new.reader) (g.W.Write.contents c.args.writer.now) (g.W.Write.contents c.serve-end.new.writer) c.serve-end.ensures.closed c.serve-end.ensures.in_part
+
+pub returns-clause-unserved : goal.returns-clause-unserved
+returns-clause-unserved g c = λ e. record {
+  takes_nothing = c.into_receipts.ensures ∙ (c.serve-end.ensures.unserved e).0 ∙ c.new-account.ensures;
+  has_not_begun = (c.serve-end.ensures.unserved e).1;
+}

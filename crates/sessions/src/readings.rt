@@ -3,7 +3,8 @@ ghost use Rattle.std.specs.Prelude.{◌≡◌, true};
 
 use values::Instant;
 
-/// Readings of the clock. `may_give` says which there may be.
+/// Readings of the clock. `may_give` says which there may be. A reading is taken with the store's
+/// lock held, so it should take no time, and it must not ask the store.
 pub trait Readings {
     ghost use Rattle.std.specs.Prelude.{ℕ, Bool};
 
