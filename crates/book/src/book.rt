@@ -12,7 +12,7 @@ use validation::{Engine, Tree};
 use values::{Mem, Refusal};
 
 /// The entries that a journal may hold.
-const MOST_ENTRIES: usize = 1_000_000;
+pub const MOST_ENTRIES: usize = 1_000_000;
 
 /// What was committed, and the journal of all that led to it. Contracts see the engine, and the entries, the newest
 /// first.

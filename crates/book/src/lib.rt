@@ -10,7 +10,7 @@ mod outcomes;
 mod split;
 
 pub use begin::Opening;
-pub use book::Book;
+pub use book::{Book, MOST_ENTRIES};
 pub use closing::Closed;
 pub use journal::{Begun, Entry, JournalGone, Receipt, SharedEntry};
 pub use transaction::{BlockCache, OpenTransaction, listing_of};

@@ -16,7 +16,7 @@ use crossbeam_channel::{Receiver, Sender};
 use growlog::StoreName;
 use runs::served_runs_are_histories;
 use serving::{End, Served, serve_session};
-use sessions::{Closed, Gate, LockedStore, Receipt, Unclosed};
+use sessions::{Closed, Gate, LockedStore, MOST_ENTRIES, Receipt, Unclosed};
 use statement::print_refusal;
 use std::alloc::{AllocError, Global};
 use std::io::{BufWriter, Write};
@@ -38,9 +38,6 @@ pub enum ListenFault {
     /// not rise, or two sessions have one number.
     NotClosed,
 }
-
-/// The most entries that a journal may have, and so the most receipts of a store.
-const MOST_RECEIPTS: usize = 1_000_000;
 
 /// Takes `sessions` connections, and serves the n-th as session n, from 1, in a thread of its own.
 /// Once the last one is taken, nobody listens any more. When all have ended, the store is closed
@@ -78,11 +75,12 @@ where
 {
     served_runs_are_histories();
     let mut receipts = before;
-    // All room for receipts is made before a session runs. Nobody touches what is not used of it.
-    if receipts.reserve(MOST_RECEIPTS).is_err() {
+    // A store has one receipt for each entry of its journal, and the room for all of them is made before
+    // a session runs. Nobody touches what is not used of it.
+    if receipts.reserve(MOST_ENTRIES).is_err() {
         return give_up(store, receipts, ListenFault::Memory);
     }
-    let Ok(pile) = Pile::with_room(alloc, MOST_RECEIPTS) else {
+    let Ok(pile) = Pile::with_room(alloc, MOST_ENTRIES) else {
         return give_up(store, receipts, ListenFault::Memory);
     };
     let pile = Mutex::new(pile);

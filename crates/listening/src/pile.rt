@@ -9,6 +9,7 @@ use sessions::Receipt;
 use std::alloc::{AllocError, Global};
 use std::marker::Model;
 use std::sync::{Mutex, Wait};
+use steps::MAX_SESSION;
 
 /// Whose receipts are handed over.
 #[derive(Clone, Copy, Debug, PartialEq, Eq)]
@@ -18,9 +19,6 @@ pub(crate) enum Origin {
     /// Those of a round beside the sessions.
     Service,
 }
-
-/// The most sessions of a store.
-const MOST_SESSIONS: usize = 64;
 
 /// The receipts that sessions and rounds have handed over, and whether they can be those of one run:
 /// each session handed over once, and its receipts rise. Where they can, its type keeps that they
@@ -55,7 +53,7 @@ impl<J: StoreName> Pile<J> {
     pub(crate) fn with_room(alloc: Global, receipts: usize) -> Result<Pile<J>, AllocError>
         ensures { IfOk result (λ pile. pile ≡ record { given = []; sessions = []; is_run = true }) }
     {
-        let sessions = Vec::with_capacity(alloc, MOST_SESSIONS)?;
+        let sessions = Vec::with_capacity(alloc, usize::from(MAX_SESSION))?;
         Ok(Pile {
             receipts: Vec::with_capacity(alloc, receipts)?,
             sessions,
