@@ -61,7 +61,6 @@ module _ (schema : Schema) where
 
   is_part : (number : ℕ) (own : List Given) (served : IsServedAs schema number own) → nat_lt 0 number ≡ true → rises_from 0 own ≡ true → IsPart schema (part_of number own served)
   is_part number own served some rises = record {
-    may_give = served.may_give;
     some = grind (arith, nat_tests, some);
     in_range = served.in_range;
     serves = served.serves;

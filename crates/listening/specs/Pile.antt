@@ -6,19 +6,18 @@ use Rattle.steps.specs.Misfit.{max_session}
 use Rattle.lines.specs.Partial.{Partial}
 use Rattle.serving.specs.Progress.{Given, Progress, after}
 use Rattle.serving.specs.ServedSession.{Serves, Told}
-use Rattle.runs.specs.Run.{AreApart, IsOfService, IsPart, Part}
+use Rattle.runs.specs.Run.{AreApart, IsOfService, IsPart, Part, is_reading}
 use Rattle.listening.specs.declared.pile.Origin.{Origin}
 use Rattle.listening.specs.declared.pile.Origin.TheVariants.{Session, Service}
 
 -- some lines of the session with the number were served, and took these receipts
 pub record IsServedAs (schema : Schema) (number : ℕ) (given : List Given) : Type 0 where
   pub in_range : number ≤ max_session
-  pub may_give : ℕ → Bool
   pub lines : List Partial
   pub told : List Told
   pub text : List ℕ
   pub later : Progress
-  pub serves : Serves may_give schema number lines told (after 0 None) given text later
+  pub serves : Serves is_reading schema number lines told (after 0 None) given text later
 
 abbrev pub IsOf : Schema → Origin → List Given → Type 0
 IsOf schema (Session number) given = IsServedAs schema number given

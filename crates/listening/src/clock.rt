@@ -1,9 +1,10 @@
 //! The runtime's clock as readings for commits.
-ghost use Rattle.std.specs.Prelude.{◌≤◌, nat_le};
+ghost use Rattle.std.specs.Prelude.{◌≡◌, min};
+ghost use Rattle.core.specs.Duration.{as_nanos};
 ghost use Rattle.values.specs.Commits.{max_instant};
 
 use serving::Readings;
-use std::time::{Clock, SystemTime};
+use std::time::{Clock, Duration};
 use values::{Instant, MAX_INSTANT};
 
 /// The runtime's clock in microseconds since 1970, at most the greatest instant. Before 1970, and
@@ -14,23 +15,23 @@ pub struct Microseconds<'a, R: Clock> {
 }
 
 impl<R: Clock> Readings for Microseconds<'_, R> {
-    ghost may_give = { λ t. nat_le t max_instant };
+    ghost use Rattle.runs.specs.Run.{is_reading};
+
+    ghost may_give = { is_reading };
 
     fn reading(&mut self) -> Instant {
-        since_1970(self.rt)
+        match self.rt.since_1970() {
+            Ok(since) => microseconds(since),
+            Err(_) => 0,
+        }
     }
 }
 
-fn since_1970<R: Clock>(rt: &R) -> Instant
-    ensures { result ≤ max_instant }
+/// Returns a time since 1970 in whole microseconds, or the greatest instant where that is less.
+fn microseconds(since: Duration) -> Instant
+    ensures { result ≡ min (as_nanos since / 1_000) max_instant }
 {
-    let Ok(now) = SystemTime::now(rt) else {
-        return 0;
-    };
-    match now.duration_since(SystemTime::UNIX_EPOCH) {
-        Ok(since) => u64::try_from(since.as_micros())
-            .unwrap_or(MAX_INSTANT)
-            .min(MAX_INSTANT),
-        Err(_) => 0,
-    }
+    u64::try_from(since.as_micros())
+        .unwrap_or(MAX_INSTANT)
+        .min(MAX_INSTANT)
 }

@@ -13,8 +13,8 @@ use Rattle.serving.specs.journal.Entries.{Entries, entry_at, numbers, log as jou
 use Rattle.serving.specs.book.Book.{BookState}
 use Rattle.serving.specs.Progress.{Given, after}
 use Rattle.runs.specs.Event.{Event, AreRight, history_after, of_part, receipt_of, receipts_of, with_step}
-use Rattle.runs.specs.OneHistory.{OneHistory, ServedRunsAreHistories, TellsLoaded, IsServiceStep, service_part}
-use Rattle.runs.specs.Run.{AreApart, IsPart, IsRun, Part, all_given}
+use Rattle.runs.specs.OneHistory.{OneHistory, ServedRunsAreHistories, TellsLoaded, IsServiceEvent, service_part}
+use Rattle.runs.specs.Run.{AreApart, IsPart, IsRun, Part, all_given, is_reading}
 use Rattle.runs.specs.Tells.{Tells}
 use Rattle.runs.proofs.RunAlong.{Chain, RightAll, after_all, run}
 use Rattle.runs.proofs.OneHistoryBeside.{World, Beside, Held, May, Moves, Right, add, with_entry}
@@ -99,7 +99,7 @@ module _ (schema : Schema) where
 
   session : (p : Part) → IsPart schema p → Session p
   session p is =
-      let go = lines_go is.may_give schema p.number is.in_range 0 p.lines p.told (after 0 None) p.later p.given p.text is.serves in
+      let go = lines_go is_reading schema p.number is.in_range 0 p.lines p.told (after 0 None) p.later p.given p.text is.serves in
       record {
         events = go.events;
         tells = go.tells;
@@ -265,7 +265,7 @@ module _ (schema : Schema) where
       log_is = log_is;
       loaded = subst (TellsLoaded table rows) (sym (of_all 0 ∙ ap (in_turn number_of) each.0 ∙ climbing load.events load.climbs)) load.tells;
       sent = (tells parts served service_piece each.1).0;
-      service = subst (AllByRecursion (λ e. IsServiceStep e.step)) (sym (of_all service_part ∙ ap (in_turn number_of) (tells parts served service_piece each.1).1)) (service_tells service);
+      service = subst (AllByRecursion IsServiceEvent) (sym (of_all service_part ∙ ap (in_turn number_of) (tells parts served service_piece each.1).1)) (service_tells service);
       no_other = λ i some inside apart. of_all i ∙ ap (in_turn number_of) (none_of schema i all are (turned 0 i some, not_of i parts served service_piece (turned service_part i inside) apart));
     }
 

@@ -21,7 +21,7 @@ use Rattle.serving.specs.journal.Legal.{IsLegal}
 use Rattle.serving.specs.sessions.SessionState.{write_by}
 use Rattle.serving.specs.Progress.{Given, ServedTransaction, after, with_own}
 use Rattle.runs.specs.Event.{Event, receipts_of}
-use Rattle.runs.specs.OneHistory.{IsServiceStep, TellsLoaded, service_part}
+use Rattle.runs.specs.OneHistory.{IsServiceEvent, TellsLoaded, service_part, service_step}
 use Rattle.runs.specs.Run.{IsLoad, IsLoaded, IsOfService}
 use Rattle.runs.proofs.RunAlong.{Chain}
 use Rattle.runs.proofs.OneHistoryBeside.{Held, Moves}
@@ -163,12 +163,6 @@ load_events schema j table (row ∷ rows) given legal stand l =
 
 -- ---- the service
 
-abbrev service_step : Entry → Option (Step × Reply)
-service_step (Installs rect block done) = Some (Migrate, Done)
-service_step (Begins session earlier view) = None
-service_step (Commits session begin net reading end) = None
-service_step (Splits cut done) = None
-
 abbrev pub service_event : Given → Event
 service_event g = record { part = service_part; number = g.number; entry = Some g.entry; step = service_step g.entry }
 
@@ -201,19 +195,13 @@ module _ (schema : Schema) where
   pub service_goes : (service : List Given) → AllByRecursion (λ g. IsOfService g.entry) service → Chain (Moves schema) None (in_turn number_of (service_events service)) None
   service_goes service are = chained (in_turn number_of (service_events service)) (in_turn_each number_of (λ e. Moves schema e None None) (service_events service) (all_move service are))
 
-steps_by : (e : Entry) → IsServiceStep (service_step e)
-steps_by (Begins session earlier view) = tt
-steps_by (Installs rect block done) = refl
-steps_by (Commits session begin net reading end) = tt
-steps_by (Splits cut done) = tt
+all_events : (service : List Given) → Each number_of IsServiceEvent (service_events service)
+all_events [] = tt
+all_events (g ∷ service) = ((g.entry, (refl, refl)), all_events service)
 
-all_step : (service : List Given) → Each number_of (λ e. IsServiceStep e.step) (service_events service)
-all_step [] = tt
-all_step (g ∷ service) = (steps_by g.entry, all_step service)
-
-same_all : (xs : List Event) → Each number_of (λ e. IsServiceStep e.step) xs → AllByRecursion (λ e. IsServiceStep e.step) xs
+same_all : (xs : List Event) → Each number_of IsServiceEvent xs → AllByRecursion IsServiceEvent xs
 same_all [] each = tt
 same_all (x ∷ xs) each = (each.0, same_all xs each.1)
 
-pub service_tells : (service : List Given) → AllByRecursion (λ e. IsServiceStep e.step) (in_turn number_of (service_events service))
-service_tells service = same_all (in_turn number_of (service_events service)) (in_turn_each number_of (λ e. IsServiceStep e.step) (service_events service) (all_step service))
+pub service_tells : (service : List Given) → AllByRecursion IsServiceEvent (in_turn number_of (service_events service))
+service_tells service = same_all (in_turn number_of (service_events service)) (in_turn_each number_of IsServiceEvent (service_events service) (all_events service))

@@ -9,6 +9,8 @@ use Rattle.steps.specs.declared.step.Reply.{Reply}
 use Rattle.steps.specs.declared.step.Reply.TheVariants.{Begun, Committed, Done, Inserted}
 use Rattle.steps.specs.Misfit.{max_session}
 use Rattle.histories.specs.History.{log}
+use Rattle.serving.specs.journal.declared.entry.Entry.{Entry}
+use Rattle.serving.specs.journal.declared.entry.Entry.TheVariants.{Begin as Begins, Commit as Commits, Split as Splits, Install as Installs}
 use Rattle.serving.specs.journal.Entries.{numbers, log as journal_log}
 use Rattle.serving.specs.book.Book.{BookState}
 use Rattle.serving.specs.Progress.{Given}
@@ -33,10 +35,16 @@ TellsLoaded table (row ∷ rows) events = TellsLoad table (row ∷ rows) events
 abbrev pub service_part : ℕ
 service_part = max_session + 1
 
--- an event of the service: an entry with no step, or with a MIGRATE that is done
-abbrev pub IsServiceStep : Option (Step × Reply) → Type 0
-IsServiceStep None = Unit {0}
-IsServiceStep (Some s) = s ≡ (Migrate, Done)
+-- the step that an entry of the service is: an install is a MIGRATE that is done, and a begin is none
+abbrev pub service_step : Entry → Option (Step × Reply)
+service_step (Installs rect block done) = Some (Migrate, Done)
+service_step (Begins session earlier view) = None
+service_step (Commits session begin net reading end) = None
+service_step (Splits cut done) = None
+
+-- an event of the service: an entry with its step
+abbrev pub IsServiceEvent : Event → Type 0
+IsServiceEvent e = (entry : Entry) × ((e.entry ≡ Some entry) × (e.step ≡ service_step entry))
 
 -- the events are the journal's entries in their order, and between them the steps that took none;
 -- each reply is the history's where its step stands; what was committed is the history's; and of
@@ -51,7 +59,7 @@ pub record OneHistory (schema : Schema) (b : BookState) (table : ℕ) (rows : Li
   pub loaded : TellsLoaded table rows (of_part 0 events)
   pub sent : AllByRecursion
       (λ p. Tells schema p.number 0 p.lines p.told p.given (of_part p.number events) p.text) parts
-  pub service : AllByRecursion (λ e. IsServiceStep e.step) (of_part service_part events)
+  pub service : AllByRecursion IsServiceEvent (of_part service_part events)
   pub no_other : (i : ℕ) → i ≢ 0 → i ≢ service_part → AllByRecursion (λ p. p.number ≢ i) parts
       → of_part i events ≡ []
 

@@ -1,6 +1,7 @@
 -- A closed store and all of its receipts: of rows that were loaded, of sessions, and of the service.
-use Rattle.std.specs.Prelude.{◌≡◌, ◌≢◌, ℕ, ◌<◌, ◌≤◌, List, [], ◌∷◌, ◌++◌, Bool, Some, None, Ok, length, map, IsPermutation}
+use Rattle.std.specs.Prelude.{◌≡◌, ◌≢◌, ℕ, ◌<◌, ◌≤◌, List, [], ◌∷◌, ◌++◌, Bool, Some, None, Ok, length, map, nat_le, IsPermutation}
 use Rattle.std.specs.List.{AllByRecursion, flat_map}
+use Rattle.values.specs.Commits.{max_instant}
 use Rattle.values.specs.Log.{Changes, Net, Row}
 use Rattle.values.specs.Tables.{Schema}
 use Rattle.serving.specs.tsbtree.View.{TreeState}
@@ -61,11 +62,14 @@ abbrev pub Rises : ℕ → List Given → Type 0
 Rises last [] = Unit {0}
 Rises last (g ∷ given) = (last < g.number) × Rises g.number given
 
+-- what the clock reads for a commit: no more than the greatest instant
+abbrev pub is_reading : ℕ → Bool
+is_reading t = nat_le t max_instant
+
 pub record IsPart (schema : Schema) (p : Part) : Type 0 where
-  pub may_give : ℕ → Bool
   pub some : 1 ≤ p.number
   pub in_range : p.number ≤ max_session
-  pub serves : Serves may_give schema p.number p.lines p.told (after 0 None) p.given p.text p.later
+  pub serves : Serves is_reading schema p.number p.lines p.told (after 0 None) p.given p.text p.later
   pub rises : Rises 0 p.given
 
 -- no two have one number
