@@ -1,5 +1,6 @@
 mod ConnectionPrefixes
 mod ConnectionRun
+mod GuardedGiving
 mod LoadingCalls
 mod MigrationService
 mod PileCrossing

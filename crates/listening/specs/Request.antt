@@ -1,5 +1,5 @@
--- Texts that begin as a request of HTTP does.
-use Rattle.std.specs.Prelude.{ℕ, List, Bool, ◌==◌, ◌||◌, codes}
+-- Texts that begin as a request of HTTP or a handshake of TLS does.
+use Rattle.std.specs.Prelude.{ℕ, List, [], ◌∷◌, Bool, ◌==◌, ◌||◌, codes}
 use Rattle.std.specs.List.{starts_with}
 
 -- the bytes begin with a word
@@ -14,3 +14,10 @@ is_request bytes =
     || begins bytes (codes "OPTIONS ") || begins bytes (codes "CONNECT ")
     || begins bytes (codes "TRACE ") || begins bytes (codes "PATCH ")
     || begins bytes (codes "DELETE /")
+
+-- the first byte of a record of TLS that begins a handshake
+abbrev pub is_handshake : List ℕ → Bool
+is_handshake bytes = begins bytes (22 ∷ [])
+
+abbrev pub is_foreign : List ℕ → Bool
+is_foreign bytes = is_handshake bytes || is_request bytes

@@ -1,8 +1,8 @@
-//! A reader that fails at an HTTP request.
-ghost use Rattle.std.specs.Prelude.{◌≡◌, ◌++◌, [], IfOk, None, OnOk, false, take, true};
+//! A reader that fails at an HTTP request, and at the beginning of a TLS handshake.
+ghost use Rattle.std.specs.Prelude.{◌≡◌, ◌<◌, ◌++◌, [], IfOk, OnOk, false, length, take, true};
 ghost use Rattle.std.specs.Io.{ReadsAtMost};
-ghost use Rattle.std.specs.Io.KnownBytes.{ReadConsumes};
-ghost use Rattle.listening.specs.Request.{is_request};
+ghost use Rattle.std.specs.Io.KnownBytes.{ReadConsumes, prepend_known};
+ghost use Rattle.listening.specs.Request.{is_foreign, is_request};
 
 use arrayvec::ArrayVec;
 use std::io;
@@ -10,6 +10,10 @@ use std::io::{ErrorKind, Read};
 
 /// The bytes of the longest text with which a request begins.
 const LONGEST: usize = 8;
+
+/// The first byte of a TLS record that begins a handshake (RFC 8446, section 5.1). No line that is a
+/// statement begins with it.
+const HANDSHAKE: u8 = 0x16;
 
 /// Tells whether bytes begin as an HTTP request does: with a method and a blank, or with
 /// `DELETE /`, since a statement may begin with DELETE and a blank.
@@ -27,13 +31,25 @@ fn is_request(bytes: &[u8]) -> bool
         || bytes.starts_with(b"DELETE /")
 }
 
-/// A reader that fails, from then on, once the first bytes that it has read begin as an HTTP
-/// request does. A browser sends what a web page has it send behind such a beginning, so no line of
-/// it is taken. The beginning has no line feed, so nothing is answered before it is seen whole.
+/// Tells whether bytes begin as an HTTP request or as a TLS handshake does.
+fn is_foreign(bytes: &[u8]) -> bool
+    ensures { result ≡ is_foreign bytes.now }
+{
+    bytes.starts_with(&[HANDSHAKE]) || is_request(bytes)
+}
+
+/// A reader that fails, from then on, where its first bytes begin as an HTTP request or a TLS
+/// handshake does. A browser sends what a web page has it send behind such a beginning, so no line of
+/// it is taken. The beginning has no line feed, so nothing is answered before it is seen whole. All
+/// other bytes are given as they come.
 #[derive(Drop)]
 pub(crate) struct Guarded<I: Read> {
     reader: I,
+    /// The first bytes.
     head: ArrayVec<u8, LONGEST>,
+    /// Those of them that were not given, since with them the head begins so.
+    held: ArrayVec<u8, LONGEST>,
+    pub ghost plain: { held.items ≡ [] → is_foreign head.items ≡ false },
 }
 
 impl<I: Read> Guarded<I> {
@@ -41,42 +57,60 @@ impl<I: Read> Guarded<I> {
     pub(crate) fn new(reader: I) -> Guarded<I>
         ensures reader { result.reader ≡ reader }
         ensures head { result.head.items ≡ [] }
+        ensures held { result.held.items ≡ [] }
     {
         Guarded {
             reader,
             head: ArrayVec::new(),
+            held: ArrayVec::new(),
         }
     }
 
-    /// Keeps the first bytes.
-    fn see(&mut self, bytes: &[u8])
-        ensures head { self.new.head.items ≡ take LONGEST (self.old.head.items ++ bytes.now) }
-        ensures reader { self.new.reader ≡ self.old.reader }
+    /// Reads first bytes, as far as the head has room for them, and gives them unless the head is
+    /// then that of a request or of a handshake: `InvalidData`.
+    fn read_head(&mut self, buf: &mut [u8]) -> io::Result<usize>
+        requires none { self.old.held.items ≡ [] }
+        requires room { length self.old.head.items < LONGEST }
+        ensures bound { ReadsAtMost result buf.new }
+        ensures bytes { ReadConsumes (prepend_known self.old.held.items (I.remaining self.old.reader))
+            (prepend_known self.new.held.items (I.remaining self.new.reader)) result buf.new }
+        ensures head { IfOk result (λ n.
+            self.new.head.items ≡ take LONGEST (self.old.head.items ++ take n buf.new)) }
+        ensures plain { OnOk result (is_foreign self.new.head.items ≡ false) }
     {
-        let room = self.head.remaining_capacity().min(bytes.len());
-        let _ = self.head.try_extend_from_slice(bytes.split_at(room).0);
+        let room = self.head.remaining_capacity().min(buf.len());
+        let n = self.reader.read(buf.split_at_mut(room).0)?;
+        let bytes = buf.split_at(n).0;
+        let _ = self.head.try_extend_from_slice(bytes);
+        if is_foreign(self.head.as_slice()) {
+            let _ = self.held.try_extend_from_slice(bytes);
+            return Err(io::Error::from(ErrorKind::InvalidData));
+        }
+        Ok(n)
     }
 }
 
 impl<I: Read> Read for Guarded<I> {
-    /// Reads as the reader does. `InvalidData` where the first bytes are those of a request.
+    ghost remaining = { λ g. prepend_known g.held.items (I.remaining g.reader) };
+
+    /// Reads as the reader does. `InvalidData` where the first bytes are those of a request or of a
+    /// handshake.
     fn read(&mut self, buf: &mut [u8]) -> io::Result<usize>
         ensures bound { ReadsAtMost result buf.new }
-        ensures bytes { ReadConsumes None None result buf.new }
+        ensures bytes { ReadConsumes (prepend_known self.old.held.items (I.remaining self.old.reader))
+            (prepend_known self.new.held.items (I.remaining self.new.reader)) result buf.new }
         ensures head { IfOk result (λ n.
             self.new.head.items ≡ take LONGEST (self.old.head.items ++ take n buf.new)) }
-        ensures plain { OnOk result (is_request self.new.head.items ≡ false) }
-        ensures refused { is_request self.old.head.items ≡ true
+        ensures plain { OnOk result (is_foreign self.new.head.items ≡ false) }
+        ensures refused { is_foreign self.old.head.items ≡ true
             → OnOk result ⊥ × (self.new ≡ self.old) }
     {
-        if is_request(self.head.as_slice()) {
+        if !self.held.is_empty() {
             return Err(io::Error::from(ErrorKind::InvalidData));
         }
-        let n = self.reader.read(buf)?;
-        self.see(buf.split_at(n).0);
-        if is_request(self.head.as_slice()) {
-            return Err(io::Error::from(ErrorKind::InvalidData));
+        if self.head.is_full() {
+            return self.reader.read(buf);
         }
-        Ok(n)
+        self.read_head(buf)
     }
 }
