@@ -148,6 +148,41 @@ fn transactions_of_other_entities_both_commit(rt: HostRuntime) {
     assert!(rt; done == Ok(Some(201)));
 }
 
+/// The net change of a transaction that inserts tariffs of the entities 6 and 7, two of each.
+fn net_of_two(rt: &impl Abort, alloc: Global, view: &View) -> KeyedNet {
+    let mut rows = Vec::new(alloc);
+    for parts in &[
+        [6, 300, 310, 5],
+        [6, 400, 410, 5],
+        [7, 300, 310, 5],
+        [7, 400, 410, 5],
+    ] {
+        let row = Row::new(numbers(rt, alloc, parts)).expect(rt, "four values are few");
+        rows.push(row).expect(rt, "there is memory");
+    }
+    let schema = schema(rt, alloc);
+    let write = fit_write(&schema, 1, Write::Insert(1, &rows)).expect(rt, "it fits");
+    let mut staged = nothing_staged(rt, alloc);
+    assert!(rt; staged.write(view, write) == Ok(4));
+    staged.net(view).expect(rt, "there is memory")
+}
+
+#[test]
+fn a_later_entity_of_a_transaction_conflicts(rt: HostRuntime) {
+    let mut engine = with_one(&rt, rt.alloc());
+    let view = begin(&rt, &engine);
+    let done = insert(&rt, rt.alloc(), &mut engine, &view, 7, 100, 200);
+    assert!(rt; done == Ok(Some(200)));
+    let net = net_of_two(&rt, rt.alloc(), &view);
+    let refused = engine.commit(&schema(&rt, rt.alloc()), view.last(), net, 900);
+    let unit = key(&rt, rt.alloc(), &[7]);
+    assert!(rt; refused == Err(Refusal::Conflict(unit, 200)));
+    let now = begin(&rt, &engine);
+    let net = net_of_two(&rt, rt.alloc(), &now);
+    let done = engine.commit(&schema(&rt, rt.alloc()), now.last(), net, 900);
+    assert!(rt; done == Ok(Some(900)));
+}
+
 #[test]
 fn a_conflict_has_the_latest_instant_of_its_entity(rt: HostRuntime) {
     let mut engine = with_one(&rt, rt.alloc());

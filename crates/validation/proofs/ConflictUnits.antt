@@ -1,6 +1,6 @@
 -- What events say of the unit of a key is what changes say.
 use Rattle.std.proofs.Common.{◌≡◌, ℕ, ◌<◌, Bool, true, false, List, [], ◌∷◌, Option, Some, None, refl, sym, ap, subst, ◌∙◌, arith, Result, Ok, Err, max, ◌+◌, nat_lt, zero, suc, length, drop, get_or}
-use Rattle.std.specs.Prelude.{◌==◌, ◌&&◌, if◌then◌else◌}
+use Rattle.std.specs.Prelude.{◌==◌, ◌&&◌, is_some, if◌then◌else◌}
 use Rattle.std.specs.Option.{option_map}
 use Rattle.std.specs.List.{slice_get}
 use Rattle.std.specs.Map.{keys_of}
@@ -132,6 +132,27 @@ ends_by periods m latest start (c ∷ net) reading some = by (conflicts periods 
     ]) (end_by latest reading (slice_get xs 0))
     by [] = refl
     by (x ∷ xs) = refl
+
+-- ---- a change of the entity of the one before
+
+-- what is looked up of a key depends on its unit alone
+conflict_of_unit : (periods : Periods) (m : Changes) (start : ℕ) (k l : Key) → unit_of periods k ≡ unit_of periods l → conflict_of periods m start k ≡ conflict_of periods m start l
+conflict_of_unit periods m start k l same = ap (λ unit. option_map (λ i. (unit, i)) (unit_changed_since periods m start unit)) same
+
+-- keys of one entity have one unit, in a table with a period
+one_unit : (periods : Periods) (k l : Key) → (is_some (periods k.table) && is_key (entity_of k) (entity_of l)) ≡ true → unit_of periods k ≡ unit_of periods l
+one_unit periods k l one = by (periods k.table) refl one
+  where
+    by : (o : Option Period) → periods k.table ≡ o → (is_some o && is_key (entity_of k) (entity_of l)) ≡ true → unit_of periods k ≡ unit_of periods l
+    by None at one = cc
+    by (Some p) at one =
+        let same : entity_of k ≡ entity_of l = one_key (entity_of k) (entity_of l) one in
+        ap (λ o. unit_by o k) at
+        ∙ same
+        ∙ sym (ap (λ o. unit_by o l) (ap periods (sym (ap (λ (e : Key). e.table) same)) ∙ at))
+
+pub none_behind : (periods : Periods) (m : Changes) (start : ℕ) (k l : Key) → conflict_of periods m start k ≡ None → (is_some (periods k.table) && is_key (entity_of k) (entity_of l)) ≡ true → None ≡ conflict_of periods m start l
+none_behind periods m start k l none one = sym none ∙ conflict_of_unit periods m start k l (one_unit periods k l one)
 
 -- ---- one net change after another
 

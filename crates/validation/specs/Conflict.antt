@@ -20,6 +20,11 @@ abbrev pub conflict_of : Periods → Changes → ℕ → Key → Option (Key × 
 conflict_of periods m start key =
     option_map (λ i. (unit_of periods key, i)) (unit_changed_since periods m start (unit_of periods key))
 
+-- the unit of a key, if there is one, was not changed above start
+abbrev pub HasNoConflict : Periods → Changes → ℕ → Option Key → Type 0
+HasNoConflict periods m start key =
+    (k : Key) → key ≡ Some k → conflict_of periods m start k ≡ None
+
 -- a key's entity, with the latest instant of an event in the range of its keys
 pub record IsOfEntity (table : Table) (es : List Event) (start : ℕ) (key : Key)
     (found : Option (Key × ℕ)) : Type 0 where

@@ -1,17 +1,19 @@
 //! The first conflict of a transaction: by entity, of a table with a period of application time,
 //! and else by key.
-ghost use Rattle.std.specs.Prelude.{◌≡◌, IfOk};
+ghost use Rattle.std.specs.Prelude.{◌≡◌, ◌&&◌, IfOk, is_some, option_copied};
 ghost use Rattle.std.specs.List.{slice_get};
 ghost use Rattle.std.specs.Option.{option_map};
 ghost use Rattle.values.specs.Commits.{conflicts};
+ghost use Rattle.values.specs.Entity.{entity_of};
 ghost use Rattle.values.specs.Events.{AreKeysIn, IsKeyIn, event_since};
 ghost use Rattle.values.specs.KeyEncoding.{bytes_of_key};
 ghost use Rattle.values.specs.Log.{Changes};
 ghost use Rattle.values.specs.Memory.{OnlyMemory};
+ghost use Rattle.values.specs.Order.{is_key};
 ghost use Rattle.values.specs.Period.{periods_of};
 ghost use Rattle.staging.specs.tsbtree.View.{events};
 ghost use Rattle.staging.specs.View.{Holds};
-ghost use Rattle.validation.specs.Conflict.{IsOfEntity, conflict_of};
+ghost use Rattle.validation.specs.Conflict.{HasNoConflict, IsOfEntity, conflict_of};
 
 use searchrange::entity_range;
 use staging::{KeyedChange, KeyedNet, View};
@@ -36,12 +38,48 @@ pub(crate) fn first_conflict(
     if view.last() <= start {
         return Ok(None);
     }
+    let mut before = None;
     for change in net.changes() {
-        if let Some(conflict) = conflict_of(alloc, schema, view, start, change)? {
+        if let Some(conflict) = conflict_behind(alloc, schema, view, start, before, change)? {
             return Ok(Some(conflict));
         }
+        before = Some(change.key());
     }
     Ok(None)
+}
+
+/// The unit of a changed key, where it was changed since, with the latest instant. Changes of one
+/// entity stand side by side, and it is looked up at the first of them: `before` is the key of the
+/// change before this one, which has no conflict.
+fn conflict_behind(
+    alloc: Global,
+    schema: &Schema,
+    view: &View,
+    start: Instant,
+    before: Option<&Key>,
+    change: &KeyedChange,
+) -> Mem<Option<(Key, Instant)>>
+    ensures ok { IfOk result (λ found. (m : Changes)
+        → Holds schema.now view.now m → IsKeyIn schema.now change.now.0
+        → HasNoConflict (periods_of schema.now) m start (option_copied before.entry)
+        → found ≡ conflict_of (periods_of schema.now) m start change.now.0) }
+    ensures err { OnlyMemory result }
+{
+    match before {
+        Some(before) if is_one_entity(schema, before, change.key()) => Ok(None),
+        _ => conflict_of(alloc, schema, view, start, change),
+    }
+}
+
+/// Tells whether two keys are of one entity, in a table with a period.
+fn is_one_entity(schema: &Schema, key: &Key, other: &Key) -> bool
+    ensures { result ≡ (is_some (periods_of schema.now key.now.table)
+        && is_key (entity_of key.now) (entity_of other.now)) }
+{
+    match schema.table_at(key.table) {
+        Some(table) => table.period.is_some() && key.is_of_entity(other),
+        None => false,
+    }
 }
 
 /// The unit of a changed key, where it was changed since, with the latest instant.
