@@ -1,6 +1,6 @@
 //! The runtime's clock as readings for commits.
-ghost use Rattle.std.specs.Prelude.{◌≡◌, min};
-ghost use Rattle.core.specs.Duration.{as_nanos};
+ghost use Rattle.std.specs.Prelude.{◌≡◌, ◌/◌, min};
+ghost use Rattle.std.specs.Duration.{as_nanos};
 ghost use Rattle.values.specs.Commits.{max_instant};
 
 use serving::Readings;
