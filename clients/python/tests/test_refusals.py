@@ -21,15 +21,15 @@ class Refusals(unittest.TestCase):
                 ("E7 conflict (1001, 'fire') at 5", tsvd.ConflictError, "key", (1001, "fire")),
                 ("E7 conflict ('x at 7') at 5", tsvd.ConflictError, "instant", 5),
                 ("E14 overlap (1)", tsvd.IntegrityError, "key", (1,)),
-                ("E10 memory", tsvd.OperationalError, "number", 10)]:
+                ("E10 memory", tsvd.OperationalError, "number", 10), ("E17 anything", tsvd.DatabaseError, "number", 17)]:
             fault = refusal_error(head, "a line")
             self.assertIs(type(fault), kind)
             self.assertEqual((getattr(fault, name), fault.reply, fault.line), (value, head, "a line"))
             self.assertIn(head, str(fault))
 
     def test_other_replies_are_no_refusals(self):
-        self.assertEqual([number_of(head) for head in ("E17 x", "E0 x", "ok", "E1", "rows 1")], [None] * 5)
-        for head in ("E17 x", "E7 conflict", "E1 syntax at x"):
+        self.assertEqual([number_of(head) for head in ("ok", "E", "Ex", "e1 x", "rows 1", "E1x")], [None] * 6)
+        for head in ("ok", "E7 conflict", "E1 syntax at x", "E1", "E6 duplicate key"):
             with self.assertRaises(InterfaceError):
                 refusal_error(head, "")
 

@@ -7,7 +7,7 @@ from typing import List
 
 from .errors import Error
 from .layout import visible, width_of
-from .refusals import REFUSALS
+from .refusals import refusal_of
 from .schema import Schema
 
 TABLE = re.compile(r"\b(?:INTO|UPDATE|FROM|KEY|TIME)\s+(\w+)", re.I)
@@ -21,7 +21,7 @@ def caret_lines(line: str, byte: int) -> List[str]:
 
 def cause_lines(number: int) -> List[str]:
     """Returns the cause and the cure of a refusal."""
-    refusal = REFUSALS[number]
+    refusal = refusal_of(number)
     return [f"  cause: {refusal.cause}", f"  cure:  {refusal.cure}"]
 
 

@@ -9,6 +9,7 @@ from typing import Any, List, Optional, Union
 
 from .errors import DisconnectError, InterfaceError, OperationalError
 from .lines import checked
+from .replies import is_reply
 
 HOST = "127.0.0.1"
 PAUSE = 0.05
@@ -40,7 +41,7 @@ class Session:
     """Represents one connection, which is one session of the server.
 
     A line is sent only if it has exactly one reply, and only after the previous reply was read
-    completely. If reading is interrupted, the session takes no more lines.
+    completely. If reading is interrupted, or a reply has an unknown form, the session ends.
     """
 
     def __init__(self, port: int, wait: float = 5.0, timeout: Optional[float] = None) -> None:
@@ -72,11 +73,14 @@ class Session:
             try:
                 self.socket.sendall(data + b"\n")
                 reply = self.read_reply()
+                self.is_open = True
             except OSError as fault:
                 raise self.disconnected(str(fault), data) from fault
             except EOFError:
                 raise self.disconnected("the server ended the session", data) from None
-            self.is_open = True
+            finally:
+                if not self.is_open:
+                    self.close()
             return reply
 
     def disconnected(self, why: str, line: bytes) -> DisconnectError:
@@ -88,10 +92,10 @@ class Session:
     def read_reply(self) -> List[str]:
         """Reads the lines of one reply."""
         head = self.read_line()
-        count = head[len("rows "):] if head.startswith("rows ") else "0"
-        if not count.isdecimal():
-            raise InterfaceError(f"invalid reply: {head!r}")
-        return [head] + [self.read_line() for _ in range(int(count))]
+        if not is_reply(head):
+            raise InterfaceError(f"not a reply of tsvd, so the session is ended: {head!r}")
+        count = int(head[len("rows "):]) if head.startswith("rows ") else 0
+        return [head] + [self.read_line() for _ in range(count)]
 
     def read_line(self) -> str:
         """Reads up to a line feed; no other character ends a line."""

@@ -2,11 +2,11 @@
 
 from __future__ import annotations
 
-import re
 from typing import Dict, NamedTuple, Optional, Type
 
-from .errors import (ConflictError, DataError, Error, IntegrityError, InterfaceError, OperationalError,
-                     ProgrammingError)
+from .errors import (ConflictError, DatabaseError, DataError, Error, IntegrityError, InterfaceError,
+                     OperationalError, ProgrammingError)
+from .replies import REFUSAL
 from .rows import read_values
 
 
@@ -45,14 +45,18 @@ REFUSALS: Dict[int, Refusal] = {
     16: Refusal(OperationalError, "transactions are open", "end them first"),
 }
 
-FORM = re.compile(r"E(\d+) (.*)", re.S)
+UNKNOWN = Refusal(DatabaseError, "this client does not know the refusal", "see the pages of the server's version")
 
 
 def number_of(head: str) -> Optional[int]:
-    """Returns the number of the refusal in a reply, or None."""
-    found = FORM.fullmatch(head)
-    number = int(found.group(1)) if found else 0
-    return number if number in REFUSALS else None
+    """Returns the number of the refusal in a reply, known or not, or None for another reply."""
+    found = REFUSAL.fullmatch(head)
+    return int(found.group(1)) if found else None
+
+
+def refusal_of(number: int) -> Refusal:
+    """Returns the description of the refusals of a number."""
+    return REFUSALS.get(number, UNKNOWN)
 
 
 def refusal_error(head: str, line: str) -> Error:
@@ -76,7 +80,7 @@ def conflict(head: str) -> ConflictError:
 
 def plain_error(number: int, head: str) -> Error:
     """Makes the exception for any other refusal."""
-    kind, cause, cure = REFUSALS[number]
+    kind, cause, cure = refusal_of(number)
     fault = kind(f"{head}: {cause}; {cure}")
     if number == 1:
         fault.byte = int(head.split()[-1])
