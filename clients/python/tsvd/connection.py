@@ -6,9 +6,10 @@ from typing import Any, Callable, List, Optional, Sequence, Type, TypeVar, Union
 
 from . import errors
 from .cursor import Cursor
-from .errors import ConflictError, ProgrammingError
+from .errors import ConflictError, InterfaceError, ProgrammingError
 from .protocol import Session
 from .refusals import number_of, refusal_error
+from .replies import answers
 from .schema import Schema, schema_of
 
 Answer = TypeVar("Answer")
@@ -31,14 +32,31 @@ class Connection:
     ProgrammingError = errors.ProgrammingError
     NotSupportedError = errors.NotSupportedError
 
-    def __init__(self, session: Session, schema: Union[None, str, Schema] = None) -> None:
+    def __init__(self, session: Session, schema: Union[None, str, Schema] = None, autocommit: bool = False) -> None:
         self.session = session
         self.schema = schema_of(schema)
         self.in_transaction = False
         self.snapshot: Optional[int] = None
         self.last_commit: Optional[int] = None
+        self.commits_alone = autocommit
+
+    @property
+    def autocommit(self) -> bool:
+        """Whether each statement outside a transaction is one by itself."""
+        return self.commits_alone
+
+    @autocommit.setter
+    def autocommit(self, alone: bool) -> None:
+        """Changes the mode; an open transaction has to be ended first."""
+        if self.in_transaction and alone != self.commits_alone:
+            raise ProgrammingError("a transaction is open; commit() or rollback() before autocommit is changed")
+        self.commits_alone = alone
 
     def __enter__(self) -> "Connection":
+        """Begins a transaction where `autocommit` is set; else the first statement does."""
+        self.check_open()
+        if self.autocommit and not self.in_transaction:
+            self.begin()
         return self
 
     def __exit__(self, kind: Optional[Type[BaseException]], *_: Any) -> None:
@@ -50,12 +68,24 @@ class Connection:
             if self.session.is_open:
                 self.rollback()
 
+    def check_open(self) -> None:
+        """Raises where the connection was closed or its session has ended."""
+        if not self.session.is_open:
+            raise InterfaceError("the connection is closed, or its session has ended; connect again")
+
     def ask(self, line: str) -> List[str]:
         """Sends a line and returns the lines of its reply, or raises the refusal."""
-        reply = self.session.ask(line)
+        self.check_open()
+        try:
+            reply = self.session.ask(line)
+        finally:
+            self.in_transaction = self.in_transaction and self.session.is_open
         self.note(reply[0])
         if number_of(reply[0]) is not None:
             raise refusal_error(reply[0], line)
+        if not answers(line, reply[0]):
+            self.close()
+            raise InterfaceError(f"not the reply to {line!r}, so the session is ended: {reply[0]!r}")
         return reply
 
     def note(self, head: str) -> None:
@@ -77,6 +107,7 @@ class Connection:
 
     def commit(self) -> Optional[int]:
         """Commits and returns the commit instant, or None if nothing changed or no transaction is open."""
+        self.check_open()
         if not self.in_transaction:
             return None
         word = self.ask("COMMIT")[0].split()[1]
@@ -84,6 +115,7 @@ class Connection:
 
     def rollback(self) -> None:
         """Rolls back the open transaction, if there is one."""
+        self.check_open()
         if self.in_transaction:
             self.ask("ROLLBACK")
 
@@ -111,6 +143,7 @@ class Connection:
 
     def cursor(self) -> Cursor:
         """Makes a cursor over this session."""
+        self.check_open()
         return Cursor(self)
 
     def execute(self, statement: str, values: Sequence[Any] = ()) -> Cursor:
@@ -124,12 +157,12 @@ class Connection:
 
 
 def connect(port: int, schema: Union[None, str, Schema] = None, wait: float = 5.0,
-            timeout: Optional[float] = None) -> Connection:
+            timeout: Optional[float] = None, autocommit: bool = False) -> Connection:
     """Opens a session with the server at a port of this machine.
 
     `schema` is the text of the server's schema file; None means the sample table. If nothing
     listens at the port yet, tries again for `wait` seconds. A reply that takes longer than
-    `timeout` seconds ends the session.
+    `timeout` seconds ends the session. With `autocommit` each statement is a transaction by itself.
     """
     tables = schema_of(schema)
-    return Connection(Session(port, wait, timeout), tables)
+    return Connection(Session(port, wait, timeout), tables, autocommit)

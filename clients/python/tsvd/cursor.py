@@ -6,7 +6,9 @@ import re
 from typing import TYPE_CHECKING, Any, Iterable, Iterator, List, NamedTuple, Optional, Sequence, Tuple
 
 from .errors import InterfaceError, ProgrammingError, Value
+from .lines import checked_text
 from .literals import bind
+from .replies import first_word
 from .rows import read_row
 from .schema import Schema, Table
 
@@ -16,8 +18,8 @@ if TYPE_CHECKING:
 Row = Tuple[Value, ...]
 Description = Tuple[str, Optional[str], None, None, None, None, Optional[bool]]
 
-WORD = re.compile(r"[A-Za-z_]\w*")
 WRITES = ("INSERT", "UPDATE", "DELETE")
+STATEMENTS = (*WRITES, "SELECT")
 COUNTED = ("inserted", "updated", "deleted")
 QUERY = re.compile(r"\s*SELECT\s*\*\s*FROM\s+(\w+)(?:\s+FOR\s+SYSTEM_TIME\s+(\w+))?", re.I)
 
@@ -27,12 +29,6 @@ class Query(NamedTuple):
 
     table: str
     has_periods: bool
-
-
-def first_word(line: str) -> str:
-    """Returns the first word of a statement, in capitals."""
-    found = WORD.match(line)
-    return found.group().upper() if found else ""
 
 
 def query_of(line: str) -> Query:
@@ -106,13 +102,25 @@ class Cursor:
     def execute(self, statement: str, values: Sequence[Any] = ()) -> "Cursor":
         """Executes a statement, with a value for each question mark.
 
-        A statement that writes begins a transaction if none is open. Line ends outside texts
-        count as blanks.
+        A statement that reads or writes begins a transaction if none is open; with the connection's
+        `autocommit` it is one by itself. Line ends outside texts count as blanks.
         """
-        line = bind(statement, values)
-        if self.is_open and first_word(line) in WRITES and not self.connection.in_transaction:
+        line = checked_text(bind(statement, values))
+        self.check_open()
+        word = first_word(line)
+        if self.connection.in_transaction or word not in STATEMENTS:
+            return self.ask(line)
+        if not self.connection.autocommit:
             self.connection.begin()
+        elif word in WRITES:
+            return self.ask_alone(line)
         return self.ask(line)
+
+    def ask_alone(self, line: str) -> "Cursor":
+        """Sends a line that writes as a transaction by itself."""
+        self.connection.begin()
+        with self.connection:
+            return self.ask(line)
 
     def ask(self, line: str) -> "Cursor":
         """Sends a line as it is, without beginning a transaction, and keeps its reply."""
@@ -136,10 +144,15 @@ class Cursor:
         self.rowcount = total
         return self
 
-    def reset(self) -> None:
-        """Clears the result of the last statement."""
+    def check_open(self) -> None:
+        """Raises where the cursor or its connection is closed."""
         if not self.is_open:
             raise InterfaceError("the cursor is closed")
+        self.connection.check_open()
+
+    def reset(self) -> None:
+        """Clears the result of the last statement."""
+        self.check_open()
         self.description, self.rowcount, self.reply, self.rows, self.next = None, -1, "", None, 0
         self.has_periods = False
 

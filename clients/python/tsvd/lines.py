@@ -38,3 +38,9 @@ def checked(line: Union[str, bytes]) -> bytes:
     if not has_reply(data):
         raise ProgrammingError("a blank line or a comment has no reply")
     return data
+
+
+def checked_text(line: str) -> str:
+    """Returns a line as it is, or raises if it does not have exactly one reply."""
+    checked(line)
+    return line
