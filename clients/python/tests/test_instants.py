@@ -4,7 +4,8 @@ import time
 import unittest
 
 from tsvd.errors import DataError
-from tsvd.instants import date_text, instant_of, moment_of, read_instant, replace_dates
+from tsvd.instants import date_text, instant_of, moment_of, read_instant, system_instant
+from tsvd.literals import replace_dates
 
 
 class Instants(unittest.TestCase):
@@ -51,6 +52,14 @@ class Instants(unittest.TestCase):
     def test_dates_in_texts_stay(self):
         self.assertEqual(replace_dates("SELECT * FROM t FOR SYSTEM_TIME AS OF 2026-04-01 WHERE d = '2026-04-01'"),
                          "SELECT * FROM t FOR SYSTEM_TIME AS OF 1775019600000000 WHERE d = '2026-04-01'")
-        self.assertEqual(replace_dates("BETWEEN 2026-04-01T00:00Z AND 2026-04-01 01:00+01:00;"),
-                         "BETWEEN 1775001600000000 AND 1775001600000000;")
+        self.assertEqual(replace_dates("select*from t for system_time BETWEEN 2026-04-01T00:00Z AND 2026-04-01 01:00+01:00;"),
+                         "select*from t for system_time BETWEEN 1775001600000000 AND 1775001600000000;")
         self.assertEqual(replace_dates("(a2026-04-01, 12026-04-01)"), "(a2026-04-01, 12026-04-01)")
+        self.assertEqual(replace_dates("SPLIT: TIME emp (1) AT 2026-04-01"), "SPLIT: TIME emp (1) AT 1775019600000000")
+        self.assertEqual(replace_dates("clock: 2026-04-01"), "clock: 1775019600000000")
+
+    def test_system_time_does_not_begin_before_1970(self):
+        for moment in (datetime.date(1969, 12, 31), datetime.datetime(1969, 12, 31, 18, 59, 59, 999999)):
+            with self.assertRaisesRegex(DataError, "before 1970"):
+                system_instant(moment)
+        self.assertEqual(system_instant(datetime.datetime(1969, 12, 31, 19)), 0)

@@ -1,6 +1,9 @@
 import datetime
+import decimal
 import enum
+import fractions
 import unittest
+import uuid
 
 from tsvd.errors import DataError, ProgrammingError
 from tsvd.literals import bind, literal
@@ -10,23 +13,55 @@ class Number(enum.IntEnum):
     SEVEN = 7
 
 
+class Index:
+    """A whole number of a kind of its own."""
+
+    def __index__(self):
+        return 41
+
+
 class Literals(unittest.TestCase):
     def test_values_are_literals_of_the_grammar(self):
-        moment = datetime.datetime(2026, 4, 1, tzinfo=datetime.timezone.utc)
         for value, written in [
                 (None, "NULL"), (True, "TRUE"), (False, "FALSE"), (0, "0"), (-5, "-5"), (Number.SEVEN, "7"),
                 (2 ** 63 - 1, "9223372036854775807"), (-2 ** 63, "-9223372036854775808"), ("", "''"),
                 ("O'Hara", "'O''Hara'"), ("'", "''''"), ("a\u2028b\x85", "'a\u2028b\x85'"),
-                (moment, "1775001600000000")]:
+                (Index(), "41")]:
             self.assertEqual(literal(value), written)
 
     def test_what_has_no_literal_is_refused(self):
-        for value in (2 ** 63, -2 ** 63 - 1, "a\nb", "a\rb"):
+        for value in (2 ** 63, -2 ** 63 - 1, "a\nb", "a\rb", [1], object()):
             with self.assertRaises(DataError):
                 literal(value)
-        for value in (1.5, b"a", [1], object()):
-            with self.assertRaises(ProgrammingError):
+
+    def test_a_refusal_says_what_to_give_instead(self):
+        for value, cure in [
+                (decimal.Decimal("1.50"), "smallest unit"), (1.5, "whole numbers"), (2.0, "int.value"),
+                (fractions.Fraction(1, 2), "whole numbers"), (1j, "whole numbers"), (float("nan"), "give None"),
+                (uuid.UUID(int=1), "str.value"), (b"a", "value.decode"), (datetime.time(1), "isoformat"),
+                (datetime.timedelta(1), "value.days"), (datetime.date(2026, 4, 1), "question mark")]:
+            with self.assertRaisesRegex(DataError, cure):
                 literal(value)
+
+    def test_values_of_numpy_and_pandas(self):
+        try:
+            import numpy
+            import pandas
+        except ImportError:
+            self.skipTest("numpy and pandas are not installed")
+        for value, written in [(numpy.int64(-5), "-5"), (numpy.uint8(255), "255"), (numpy.bool_(True), "TRUE"),
+                               (numpy.bool_(False), "FALSE"), (numpy.str_("a'b"), "'a''b'")]:
+            self.assertEqual(literal(value), written)
+        for value, cure in [(numpy.float64(1.5), "whole numbers"), (numpy.float32(2), "whole numbers"), (numpy.nan, "give None"),
+                            (pandas.NA, "give None"), (pandas.NaT, "give None"), (numpy.uint64(2 ** 63), "64 bits"),
+                            (numpy.datetime64("2026-04-01"), "no literal")]:
+            with self.assertRaisesRegex(DataError, cure):
+                literal(value)
+        day = pandas.Timestamp("2026-04-01", tz="UTC")
+        self.assertEqual(bind("SELECT * FROM emp FOR SYSTEM_TIME AS OF ?", [day]),
+                         "SELECT * FROM emp FOR SYSTEM_TIME AS OF 1775001600000000")
+        with self.assertRaisesRegex(DataError, "nanoseconds"):
+            bind("SELECT * FROM emp FOR SYSTEM_TIME AS OF ?", [day + pandas.Timedelta(1, "ns")])
 
 
 class Binding(unittest.TestCase):

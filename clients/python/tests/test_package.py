@@ -40,5 +40,6 @@ class Package(unittest.TestCase):
                 elif isinstance(node, ast.ImportFrom) and node.level == 0:
                     names.add(node.module)
         self.assertLessEqual(names, {
-            "__future__", "argparse", "bisect", "atexit", "csv", "datetime", "html", "itertools", "json", "os", "pathlib", "re",
-            "readline", "shutil", "socket", "subprocess", "sys", "threading", "time", "typing", "unicodedata"})
+            "__future__", "argparse", "atexit", "bisect", "csv", "datetime", "decimal", "html", "itertools", "json", "numbers",
+            "operator", "os", "pathlib", "re", "readline", "shutil", "socket", "subprocess", "sys", "threading", "time",
+            "typing", "unicodedata", "uuid"})

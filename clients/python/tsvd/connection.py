@@ -2,10 +2,11 @@
 
 from __future__ import annotations
 
-from typing import Any, Callable, List, Optional, Sequence, Type, TypeVar, Union
+from typing import Any, Callable, List, Mapping, Optional, Sequence, Type, TypeVar, Union
 
 from . import errors
 from .cursor import Cursor
+from .days import Days
 from .errors import ConflictError, InterfaceError, ProgrammingError
 from .protocol import Session
 from .refusals import number_of, refusal_error
@@ -32,9 +33,12 @@ class Connection:
     ProgrammingError = errors.ProgrammingError
     NotSupportedError = errors.NotSupportedError
 
-    def __init__(self, session: Session, schema: Union[None, str, Schema] = None, autocommit: bool = False) -> None:
+    def __init__(self, session: Session, schema: Union[None, str, Schema] = None, autocommit: bool = False,
+                 days: Optional[Mapping[str, str]] = None, datetimes: bool = False) -> None:
         self.session = session
         self.schema = schema_of(schema)
+        self.days = Days(days, self.schema)
+        self.datetimes = datetimes
         self.in_transaction = False
         self.snapshot: Optional[int] = None
         self.last_commit: Optional[int] = None
@@ -157,12 +161,17 @@ class Connection:
 
 
 def connect(port: int, schema: Union[None, str, Schema] = None, wait: float = 5.0,
-            timeout: Optional[float] = None, autocommit: bool = False) -> Connection:
+            timeout: Optional[float] = None, autocommit: bool = False, days: Optional[Mapping[str, str]] = None,
+            datetimes: bool = False) -> Connection:
     """Opens a session with the server at a port of this machine.
 
     `schema` is the text of the server's schema file; None means the sample table. If nothing
     listens at the port yet, tries again for `wait` seconds. A reply that takes longer than
     `timeout` seconds ends the session. With `autocommit` each statement is a transaction by itself.
+    `days` says how columns hold dates: {'table.column': form}, or {'table': form} for its period of
+    application time, with a form of 'yyyymmdd', 'yyyy-mm-dd' and 'microseconds'. With `datetimes` the
+    periods of FROM .. TO and BETWEEN .. AND are datetimes in UTC instead of microseconds since 1970.
     """
     tables = schema_of(schema)
-    return Connection(Session(port, wait, timeout), tables, autocommit)
+    Days(days, tables)
+    return Connection(Session(port, wait, timeout), tables, autocommit, days, datetimes)

@@ -5,6 +5,7 @@ from __future__ import annotations
 import re
 from typing import TYPE_CHECKING, Any, Iterable, Iterator, List, NamedTuple, Optional, Sequence, Tuple
 
+from .days import BOUND, Field, Reads
 from .errors import InterfaceError, ProgrammingError, Value
 from .lines import checked_text
 from .literals import bind
@@ -15,7 +16,7 @@ from .schema import Schema, Table
 if TYPE_CHECKING:
     from .connection import Connection
 
-Row = Tuple[Value, ...]
+Row = Tuple[Field, ...]
 Description = Tuple[str, Optional[str], None, None, None, None, Optional[bool]]
 
 WRITES = ("INSERT", "UPDATE", "DELETE")
@@ -64,12 +65,19 @@ def describe(schema: Schema, query: Query, width: int) -> List[Description]:
     return columns
 
 
-def typed_row(text: str, has_periods: bool) -> Row:
+def typed_row(text: str, has_periods: bool) -> Tuple[Value, ...]:
     """Reads a row. A period adds two values, its start and its end; None means `forever`."""
     values, period = read_row(text)
     if (period is not None) != has_periods:
         raise InterfaceError(f"not a row of this query: {text!r}")
     return values + period if period is not None else values
+
+
+def dated_rows(rows: Sequence[Tuple[Value, ...]], readers: Sequence[Optional[Reads]]) -> List[Row]:
+    """Returns rows with dates in the columns that have readers."""
+    if not any(readers):
+        return list(rows)
+    return [tuple(reads.read(value) if reads else value for reads, value in zip(readers, row)) for row in rows]
 
 
 class Cursor:
@@ -105,7 +113,7 @@ class Cursor:
         A statement that reads or writes begins a transaction if none is open; with the connection's
         `autocommit` it is one by itself. Line ends outside texts count as blanks.
         """
-        line = checked_text(bind(statement, values))
+        line = checked_text(bind(statement, values, self.connection.days))
         self.check_open()
         word = first_word(line)
         if self.connection.in_transaction or word not in STATEMENTS:
@@ -159,10 +167,20 @@ class Cursor:
     def take_rows(self, query: Query, texts: List[str]) -> None:
         """Keeps the rows of a reply as typed values."""
         rows = [typed_row(text, query.has_periods) for text in texts]
-        self.description = describe(self.connection.schema, query, len(rows[0]) if rows else 0)
-        if rows and len(self.description) != len(rows[0]):
+        description = describe(self.connection.schema, query, len(rows[0]) if rows else 0)
+        if rows and len(description) != len(rows[0]):
             raise InterfaceError(f"rows of {query.table} have {len(rows[0])} values; the schema is not the server's")
-        self.rows, self.rowcount, self.has_periods = rows, len(rows), query.has_periods
+        readers = self.readers(query, len(description))
+        self.description = [named(entry[0], reads.code if reads else entry[1], entry[6])
+                            for entry, reads in zip(description, readers)]
+        self.rows, self.rowcount, self.has_periods = dated_rows(rows, readers), len(rows), query.has_periods
+
+    def readers(self, query: Query, width: int) -> List[Optional[Reads]]:
+        """Returns for each column of rows what makes dates of its values, None where it holds none."""
+        table = self.connection.schema.table(query.table)
+        bounds: List[Optional[Reads]] = [BOUND if self.connection.datetimes else None] * 2 if query.has_periods else []
+        columns = self.connection.days.readers(table) if table else [None] * (width - len(bounds))
+        return columns + bounds
 
     def held(self) -> List[Row]:
         """Returns all rows of the last SELECT."""

@@ -7,7 +7,6 @@ import re
 from typing import Optional
 
 from .errors import DataError
-from .texts import map_outside_texts
 
 EPOCH = datetime.datetime(1970, 1, 1, tzinfo=datetime.timezone.utc)
 MICROSECOND = datetime.timedelta(microseconds=1)
@@ -20,13 +19,33 @@ DATE = re.compile(
     r"(?:[ T](\d\d):(\d\d)(?::(\d\d)(?:\.(\d{1,6}))?)?(Z|[+-]\d\d:?\d\d)?)?(?![\w.:-])")
 
 
+def plain_moment(moment: datetime.datetime) -> datetime.datetime:
+    """Returns a datetime of the standard library for one of pandas, or raises if it is more exact."""
+    if getattr(moment, "nanosecond", 0):
+        raise DataError(f"{moment} has nanoseconds, and instants have microseconds; round it first")
+    convert = getattr(moment, "to_pydatetime", None)
+    plain: datetime.datetime = convert() if convert else moment
+    return plain
+
+
 def instant_of(moment: datetime.date) -> int:
     """Returns the instant of a date or datetime; local time unless it has a zone."""
     if not isinstance(moment, datetime.datetime):
         moment = datetime.datetime.combine(moment, datetime.time())
-    if moment.tzinfo is None:
-        moment = moment.astimezone()
-    return (moment - EPOCH) // MICROSECOND
+    moment = plain_moment(moment)
+    try:
+        zoned = moment.astimezone() if moment.tzinfo is None else moment
+    except (ValueError, OverflowError, OSError):
+        raise DataError(f"{moment} has no local time on this machine; give it a zone") from None
+    return (zoned - EPOCH) // MICROSECOND
+
+
+def system_instant(moment: datetime.date) -> int:
+    """Returns the instant of a date that stands for system time, which does not begin before 1970."""
+    instant = instant_of(moment)
+    if instant < 0:
+        raise DataError(f"{moment} is before 1970, where system time begins")
+    return instant
 
 
 def moment_of(instant: int) -> datetime.datetime:
@@ -57,31 +76,26 @@ def zone_of(text: Optional[str]) -> Optional[datetime.timezone]:
     return datetime.timezone(-offset if text[0] == "-" else offset)
 
 
-def instant_of_match(found: "re.Match[str]") -> str:
-    """Returns the instant of a match of DATE, as digits."""
+def read_moment(text: str) -> datetime.date:
+    """Reads a date such as 2026-04-01, or a datetime such as 2026-04-01T09:30+02:00."""
+    found = DATE.fullmatch(text)
+    if not found:
+        raise DataError(f"not a date: {text}")
     *numbers, part, zone = found.groups()
     year, month, day, hour, minute, second = (int(number or 0) for number in numbers)
     try:
-        moment = datetime.datetime(year, month, day, hour, minute, second, int((part or "0").ljust(6, "0")),
-                                   zone_of(zone))
-        instant = instant_of(moment)
-    except (ValueError, OverflowError, OSError):
-        raise DataError(f"invalid date {found.group()}") from None
-    if instant < 0:
-        raise DataError(f"{found.group()} is before 1970")
-    return str(instant)
+        if found.group(4) is None:
+            return datetime.date(year, month, day)
+        return datetime.datetime(year, month, day, hour, minute, second, int((part or "0").ljust(6, "0")),
+                                 zone_of(zone))
+    except (ValueError, OverflowError):
+        raise DataError(f"invalid date {text}") from None
 
 
 def read_instant(text: str) -> int:
     """Reads an instant written as digits or as a date."""
     if re.fullmatch(r"[0-9]+", text):
         return int(text)
-    found = DATE.fullmatch(text)
-    if not found:
+    if not DATE.fullmatch(text):
         raise DataError(f"neither an instant nor a date: {text}")
-    return int(instant_of_match(found))
-
-
-def replace_dates(line: str) -> str:
-    """Replaces dates outside texts by their instants."""
-    return map_outside_texts(lambda part: DATE.sub(instant_of_match, part), line)
+    return system_instant(read_moment(text))

@@ -2,10 +2,11 @@
 
 from __future__ import annotations
 
+import datetime
 import unicodedata
 from typing import Iterator, List, Sequence
 
-from .errors import Value
+from .days import Field
 from .instants import date_text
 
 
@@ -20,16 +21,18 @@ def width_of(text: str) -> int:
                for char in text)
 
 
-def cell(value: Value) -> str:
-    """Returns the text of a cell."""
+def cell(value: Field) -> str:
+    """Returns the text of a cell; a date is in ISO form."""
     if value is None:
         return "NULL"
+    if isinstance(value, datetime.date):
+        return value.isoformat()
     if isinstance(value, bool):
         return "true" if value else "false"
     return visible(value) if isinstance(value, str) else str(value)
 
 
-def instant_cell(instant: Value, with_dates: bool) -> str:
+def instant_cell(instant: Field, with_dates: bool) -> str:
     """Returns the text of a bound of a period: `forever`, a date or a number."""
     if not isinstance(instant, int):
         return "forever"
@@ -42,18 +45,18 @@ def padded(text: str, width: int, to_the_right: bool) -> str:
     return blanks + text if to_the_right else text + blanks
 
 
-def is_number(value: Value) -> bool:
+def is_number(value: Field) -> bool:
     """Returns whether a value is a whole number."""
     return isinstance(value, int) and not isinstance(value, bool)
 
 
-def right_columns(width: int, rows: Sequence[Sequence[Value]]) -> List[bool]:
+def right_columns(width: int, rows: Sequence[Sequence[Field]]) -> List[bool]:
     """Returns for each column whether it is aligned to the right, as numbers are."""
     return [any(is_number(row[place]) for row in rows)
             and all(is_number(row[place]) or row[place] is None for row in rows) for place in range(width)]
 
 
-def cells_of(row: Sequence[Value], periods: bool, with_dates: bool) -> List[str]:
+def cells_of(row: Sequence[Field], periods: bool, with_dates: bool) -> List[str]:
     """Returns the cells of a row; with a period, the last two are instants."""
     if not periods:
         return [cell(value) for value in row]
@@ -65,7 +68,7 @@ def counted(number: int) -> str:
     return f"({number} row)" if number == 1 else f"({number} rows)"
 
 
-def table_lines(names: Sequence[str], rows: Sequence[Sequence[Value]], periods: bool,
+def table_lines(names: Sequence[str], rows: Sequence[Sequence[Field]], periods: bool,
                 with_dates: bool) -> Iterator[str]:
     """Yields the lines of a table: column names, a rule, the rows and their number."""
     written = [cells_of(row, periods, with_dates) for row in rows]

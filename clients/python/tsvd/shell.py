@@ -6,16 +6,19 @@ import argparse
 import os
 import pathlib
 import sys
-from typing import Callable, Iterable, Iterator, List, Optional, Sequence, Tuple
+from typing import Callable, Dict, Iterable, Iterator, List, Optional, Sequence, Tuple
 
 from .connection import Connection, connect
 from .cursor import Cursor, Row
+from .days import Days, read_days
 from .errors import Error
 from .explain import fault_lines
-from .instants import date_text, replace_dates
+from .instants import date_text
 from .layout import table_lines, visible
 from .lines import encoded, has_reply
+from .literals import replace_dates
 from .program import Server
+from .schema import schema_of
 from .shell_commands import is_command, run_command
 
 MOST_LINES = 1000
@@ -69,7 +72,7 @@ class Shell:
             if is_command(line):
                 return run_command(self, line)
             if has_reply(encoded(line)):
-                self.show(self.cursor().ask(replace_dates(line)))
+                self.show(self.cursor().ask(replace_dates(line, self.connection.days)))
         except Error as fault:
             self.print_lines(fault_lines(fault, self.connection.schema))
         return self.connection.session.is_open
@@ -177,11 +180,13 @@ def option_of(options: Sequence[str], name: str) -> Optional[str]:
     return None
 
 
-def own_server(options: Sequence[str]) -> int:
+def own_server(options: Sequence[str], days: Dict[str, str]) -> int:
     """Starts a server, runs a shell over it, and prints the server's output."""
+    schema = schema_text(option_of(options, "--schema"))
+    Days(days, schema_of(schema))
     with Server(options) as server:
         print("".join(server.before), end="", flush=True)
-        status = run_shell(connect(server.port, schema_text(option_of(options, "--schema"))))
+        status = run_shell(connect(server.port, schema, days=days))
         print(server.end(), end="")
         return status or server.process.returncode
 
@@ -195,14 +200,17 @@ def split_words(words: Sequence[str]) -> Tuple[List[str], Optional[List[str]]]:
 
 
 def main(words: Sequence[str]) -> int:
-    """Runs `shell PORT [--schema FILE]` or `shell -- OPTIONS`."""
+    """Runs `shell PORT [--schema FILE] [--days NAME=FORM]` or `shell [--days NAME=FORM] -- OPTIONS`."""
     own, options = split_words(words)
-    parser = argparse.ArgumentParser(prog="python3 -m tsvd shell", usage="%(prog)s PORT [--schema FILE] | -- OPTIONS")
+    parser = argparse.ArgumentParser(prog="python3 -m tsvd shell", usage="%(prog)s [--days NAME=FORM] "
+                                     "(PORT [--schema FILE] | -- OPTIONS)")
     parser.add_argument("port", type=int, nargs="?", help="the port of a running server")
     parser.add_argument("--schema", help="the schema file of the server")
+    parser.add_argument("--days", action="append", metavar="NAME=FORM", help="how a table or a column holds dates, "
+                        "such as tariff=yyyymmdd or emp.since=yyyy-mm-dd")
     given = parser.parse_args(own)
     if (given.port is None) == (options is None):
         parser.error("give a port, or -- and the options of a new server")
     if options is not None:
-        return own_server(options)
-    return run_shell(connect(given.port, schema_text(given.schema)))
+        return own_server(options, read_days(given.days))
+    return run_shell(connect(given.port, schema_text(given.schema), days=read_days(given.days)))

@@ -6,11 +6,13 @@ import re
 from typing import TYPE_CHECKING, Callable, Dict, Iterator, List
 
 from .cursor import Cursor, Row
+from .days import Days
 from .errors import ProgrammingError
 from .explain import cause_lines
-from .instants import date_text, read_instant
+from .instants import DATE, date_text, read_instant, read_moment
 from .limits import GREATEST_INSTANT
-from .literals import text_literal
+from .literals import literal, text_literal
+from .meanings import Meaning
 from .refusals import REFUSALS
 from .schema import Column, Table
 
@@ -27,7 +29,8 @@ Type a statement on one line, such as  SELECT * FROM emp FOR SYSTEM_TIME AS OF 2
   \\dates on|off   shows instants as dates or numbers
   \\at DATE        converts a date to an instant, or an instant to a date
   \\q              quits, like Ctrl-D; an open transaction is dropped
-In a statement, a date such as 2026-04-01 or 2026-04-01T09:30 is replaced by its instant, in local time."""
+Behind FOR SYSTEM_TIME, a date such as 2026-04-01 or 2026-04-01T09:30 is an instant, in local time; elsewhere
+it is what --days says of its column, such as --days tariff=yyyymmdd, or it is refused."""
 
 
 def type_text(column: Column) -> str:
@@ -66,8 +69,10 @@ def key_parts(text: str) -> List[str]:
     return KEY_PART.findall(text)
 
 
-def key_literal(column: Column, part: str) -> str:
+def key_literal(days: Days, table: Table, column: Column, part: str) -> str:
     """Returns the literal of a key value; a text may be given without quotes."""
+    if DATE.fullmatch(part) and (column.type != "TEXT" or days.form(table.name, column.name)):
+        return literal(days.value_of(read_moment(part), Meaning(False, table.name, column.name)))
     return text_literal(part) if column.type == "TEXT" and not part.startswith("'") else part
 
 
@@ -78,7 +83,9 @@ def show_history(shell: "Shell", words: str) -> None:
     columns = table.key_columns()
     if not 0 < len(parts) <= len(columns):
         raise ProgrammingError(f"\\history {name} needs the key: {', '.join(table.key)}")
-    where = " AND ".join(f"{column.name} = {key_literal(column, part)}" for column, part in zip(columns, parts))
+    days = shell.connection.days
+    where = " AND ".join(f"{column.name} = {key_literal(days, table, column, part)}"
+                         for column, part in zip(columns, parts))
     form = f"FOR SYSTEM_TIME BETWEEN 0 AND {GREATEST_INSTANT}"
     shell.show(shell.cursor().ask(f"SELECT * FROM {table.name} {form} WHERE {where}"))
 

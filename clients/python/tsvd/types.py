@@ -22,7 +22,7 @@ class TypeObject:
 STRING = TypeObject("TEXT")
 NUMBER = TypeObject("INT", "BOOLEAN")
 BINARY = TypeObject()
-DATETIME = TypeObject()
+DATETIME = TypeObject("DATE", "TIMESTAMP")
 ROWID = TypeObject()
 
 Date = datetime.date
