@@ -5,10 +5,13 @@ from __future__ import annotations
 import re
 from typing import TYPE_CHECKING, Any, Iterable, Iterator, List, NamedTuple, Optional, Sequence, Tuple
 
+from .catalogue import tables_named
 from .days import BOUND, Field, Reads
-from .errors import InterfaceError, ProgrammingError, Value
+from .errors import Error, InterfaceError, NotSupportedError, ProgrammingError, Value
+from .inserts import lines_of, lines_of_one, parts, row_start
+from .limits import MOST_WRITTEN
 from .lines import checked_text
-from .literals import bind
+from .literals import Statement, bind
 from .replies import first_word
 from .rows import read_row
 from .schema import Schema, Table
@@ -21,6 +24,7 @@ Description = Tuple[str, Optional[str], None, None, None, None, Optional[bool]]
 
 WRITES = ("INSERT", "UPDATE", "DELETE")
 STATEMENTS = (*WRITES, "SELECT")
+DECLARATIONS = ("CREATE", "DROP")
 COUNTED = ("inserted", "updated", "deleted")
 QUERY = re.compile(r"\s*SELECT\s*\*\s*FROM\s+(\w+)(?:\s+FOR\s+SYSTEM_TIME\s+(\w+))?", re.I)
 
@@ -113,9 +117,14 @@ class Cursor:
         A statement that reads or writes begins a transaction if none is open; with the connection's
         `autocommit` it is one by itself. Line ends outside texts count as blanks.
         """
+        found = tables_named(self.connection.schema, statement, values)
+        if found is not None:
+            return self.hold(found)
         line = checked_text(bind(statement, values, self.connection.days))
         self.check_open()
         word = first_word(line)
+        if word in DECLARATIONS:
+            raise NotSupportedError(f"no {word} here: a server's tables are those of its --schema FILE")
         if self.connection.in_transaction or word not in STATEMENTS:
             return self.ask(line)
         if not self.connection.autocommit:
@@ -142,14 +151,53 @@ class Cursor:
         return self
 
     def executemany(self, statement: str, many: Iterable[Sequence[Any]]) -> "Cursor":
-        """Executes a statement that writes once for each sequence of values."""
+        """Executes a statement that writes once for each sequence of values.
+
+        Rows of an INSERT are sent in as few lines as they fit into, in one transaction of at most 1,000
+        rows. Nothing is sent if a value is refused. With the connection's `autocommit` any number of rows
+        is inserted, in transactions of 1,000 rows; at a refusal `rows` of the exception, and `rowcount`,
+        say how many are committed.
+        """
+        self.reset()
+        prepared = Statement(statement, self.connection.days)
+        if first_word(prepared.text) not in WRITES:
+            raise ProgrammingError("executemany takes INSERT, UPDATE and DELETE")
+        if self.connection.in_transaction or not self.connection.autocommit:
+            return self.write(lines_of_one(prepared, many))
+        return self.write_parts(prepared, many)
+
+    def write(self, lines: Sequence[str]) -> "Cursor":
+        """Sends lines that write in the open transaction, or in one that they begin."""
+        if lines and not self.connection.in_transaction:
+            self.connection.begin()
         total = 0
-        for values in many:
-            self.execute(statement, values)
-            if self.rows is not None:
-                raise ProgrammingError("a SELECT is executed once")
-            total += max(0, self.rowcount)
+        for line in lines:
+            self.ask(line)
+            total += self.rowcount
         self.rowcount = total
+        return self
+
+    def write_parts(self, statement: Statement, many: Iterable[Sequence[Any]]) -> "Cursor":
+        """Sends rows of an INSERT in transactions of 1,000 rows, or any other statement in one of its own each time."""
+        total = 0
+        try:
+            for part in parts(many, MOST_WRITTEN if row_start(statement) is not None else 1):
+                lines = lines_of(statement, part)
+                with self.connection:
+                    self.write(lines)
+                total += self.rowcount
+        except Error as fault:
+            fault.rows = total
+            raise
+        finally:
+            self.rowcount = total
+        return self
+
+    def hold(self, rows: List[Tuple[str]]) -> "Cursor":
+        """Keeps rows that no server was asked for."""
+        self.reset()
+        self.description = [named("name", "TEXT", False)]
+        self.rows, self.rowcount = list(rows), len(rows)
         return self
 
     def check_open(self) -> None:

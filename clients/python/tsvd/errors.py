@@ -17,7 +17,8 @@ class Error(Exception):
 
     `number` is the number of the refusal, 1 to 16, or None for a fault of the client; `reply` is
     the text of the refusal and `line` the line that was sent. E1 sets `byte`, E3 `column`, E6, E7
-    and E14 `key`, and E7 `instant`.
+    and E14 `key`, and E7 `instant`. `rows` is the number of rows that were committed before the
+    refusal, by an `executemany` with `autocommit`.
     """
 
     number: Optional[int] = None
@@ -27,6 +28,7 @@ class Error(Exception):
     column: Optional[int] = None
     key: Optional[Key] = None
     instant: Optional[int] = None
+    rows: Optional[int] = None
 
 
 class InterfaceError(Error):
@@ -58,7 +60,7 @@ class ProgrammingError(DatabaseError):
 
 
 class NotSupportedError(DatabaseError):
-    """Exists for PEP 249; never raised."""
+    """Covers statements that a served store does not have, such as CREATE TABLE."""
 
 
 class ConflictError(OperationalError):

@@ -102,9 +102,9 @@ class Statement:
     """Holds a statement with question marks, to be bound to values once or many times."""
 
     def __init__(self, text: str, days: Days = NO_DAYS) -> None:
-        self.text = plain_names(text)
         self.days = days
-        self.head, *self.pieces = places(self.text)
+        self.head, *self.pieces = places(plain_names(text).strip(" \t\r\n"))
+        self.text = "?".join([self.head, *self.pieces])
         self.known: List[Meaning] = []
 
     def check(self, values: Any) -> None:
