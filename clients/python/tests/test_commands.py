@@ -1,14 +1,21 @@
+import contextlib
+import io
 import os
+import pathlib
+import socket
 import subprocess
 import sys
+import threading
 import unittest
+from unittest import mock
 
 import tsvd
 from tests.served import LONGEST, Files, needs_program, run
+from tsvd import processes
 from tsvd.errors import OperationalError
 from tsvd.program import Server
 from tsvd.side_by_side import side_by_side
-from tsvd.stop import WAS_LEFT, use_session, use_sessions
+from tsvd.stop import WAS_LEFT, stop, use_session, use_sessions
 
 SCRIPT = b"-- a comment\nclock: 5\n1: BEGIN\r\n\n1: SELECT * FROM emp\n1: x"
 
@@ -37,15 +44,67 @@ class Pairs(Files):
 
 @needs_program
 class Stops(unittest.TestCase):
+    def stopping(self, server, *words):
+        """Starts the command, and returns its process."""
+        process = subprocess.Popen([sys.executable, "-m", "tsvd", "stop", str(server.port), *words], encoding="utf-8",
+                                   stdout=subprocess.PIPE, stderr=subprocess.PIPE)
+        self.addCleanup(process.communicate)
+        return process
+
     def test_sessions_that_are_left_are_used_up(self):
-        with Server(sessions=3) as server:
+        with Server(["--export", "emp"], sessions=3) as server:
             with tsvd.Session(server.port) as session:
                 session.ask("BEGIN")
+                session.ask("INSERT INTO emp VALUES (1, 'Ann')")
+                session.ask("COMMIT")
             out, err, status = run("stop", str(server.port))
-            self.assertEqual((out, err, status), ("the server is ending; unused sessions: 2\n", "", 0))
-            self.assertEqual((server.end(LONGEST), server.process.returncode), ("closed 1\n", 0))
+            self.assertEqual((out, err, status), ("the server has ended; unused sessions: 2\n", "", 0))
+            server.process.terminate()
+            self.assertRegex(server.end(LONGEST), "closed 2\nno,name,sys_start,sys_end\n1,Ann,[0-9]+,forever\n")
+            self.assertEqual(server.process.returncode, 0)
             with self.assertRaises(OperationalError):
                 use_sessions(server.port)
+            out, err, status = run("stop", str(server.port))
+            self.assertEqual((out, status), ("", 1))
+            self.assertIn("nothing listens", err)
+
+    @unittest.skipUnless(sys.platform == "linux", "other systems do not show who has a connection")
+    def test_an_idle_client_is_named_and_waited_for(self):
+        with Server(sessions=3) as server:
+            session = tsvd.Session(server.port)
+            port = session.socket.getsockname()[1]
+            out, err, status = run("stop", str(server.port), "--timeout", "1")
+            self.assertEqual(status, 3)
+            whose = f"1 session: process {os.getpid()}, "
+            for told in (out, err):
+                self.assertIn(whose, told)
+                self.assertIn(f"(from port {port})", told)
+            self.assertIn("has not ended; unused sessions: 2; it is kept by", out)
+            self.assertIsNone(server.process.poll())
+            waiting = self.stopping(server)
+            self.assertIn(whose, waiting.stderr.readline())
+            self.assertIsNone(waiting.poll())
+            self.assertEqual(session.ask("BEGIN"), ["begun 0"])
+            session.close()
+            self.assertEqual(waiting.communicate(timeout=LONGEST)[0], "the server has ended; unused sessions: 0\n")
+            self.assertEqual((waiting.returncode, server.end(LONGEST)), (0, "closed 1\n"))
+
+    def test_without_waiting_the_server_is_left_to_end(self):
+        with Server(sessions=2) as server:
+            with tsvd.Session(server.port) as session:
+                out, err, status = run("stop", str(server.port), "--no-wait")
+                self.assertEqual((out, err, status), ("the server is ending; unused sessions: 1\n", "", 0))
+                self.assertIsNone(server.process.poll())
+                self.assertEqual(session.ask("BEGIN"), ["begun 0"])
+            self.assertEqual(server.end(LONGEST), "closed 1\n")
+
+    def test_where_processes_cannot_be_seen_that_is_said(self):
+        with Server(sessions=2) as server, mock.patch.object(processes, "PROC", pathlib.Path("/nowhere")):
+            told = io.StringIO()
+            with contextlib.redirect_stdout(told):
+                self.assertEqual(stop(server.port, LONGEST, None), 4)
+            self.assertIn("unused sessions: 2; whether the server has ended cannot be seen", told.getvalue())
+            self.assertEqual(server.end(LONGEST), "closed 0\n")
 
     def test_a_server_whose_sessions_are_taken_is_not_said_to_have_ended(self):
         with Server(sessions=2) as server:
@@ -56,6 +115,20 @@ class Stops(unittest.TestCase):
                     use_sessions(server.port, 0.2)
                 self.assertEqual(session.ask("ROLLBACK"), ["rolled back"])
             self.assertEqual(server.end(LONGEST), "closed 1\n")
+
+    def test_a_program_that_is_not_tsvd_is_not_waited_for(self):
+        with socket.create_server(("127.0.0.1", 0)) as listener:
+            def answer():
+                connection, _ = listener.accept()
+                connection.sendall(b"220 hello\r\n")
+                connection.close()
+
+            thread = threading.Thread(target=answer)
+            thread.start()
+            out, err, status = run("stop", str(listener.getsockname()[1]))
+            thread.join(LONGEST)
+        self.assertEqual((out, status), ("", 1))
+        self.assertIn("is not tsvd: it sends first", err)
 
 
 @needs_program
