@@ -6,13 +6,14 @@ import argparse
 import bisect
 import pathlib
 import re
-from typing import Dict, Iterator, List, NamedTuple, Optional, Sequence, Set, Tuple
+import sys
+from typing import Dict, Iterator, List, NamedTuple, Optional, Sequence, Set, TextIO, Tuple
 
 from .csv_records import Record, read_records
 from .errors import Key, ProgrammingError, Value
 from .limits import GREATEST_INTEGER, LEAST_INTEGER, LONGEST_KEY_TEXT, LONGEST_TEXT, MOST_WRITTEN
 from .literals import literal
-from .schema import Column, Period, Schema, Table, schema_of
+from .schema import Column, Period, Schema, Table, schema_file
 
 DIGITS = re.compile(rb"-?[0-9]+")
 TRUTHS = {b"true": True, b"false": False}
@@ -36,10 +37,11 @@ class CsvFault(NamedTuple):
 
 
 class Checked(NamedTuple):
-    """Holds the number of rows of a file, and its faults."""
+    """Holds the number of rows of a file, its faults, and the values of the rows without one."""
 
     rows: int
     faults: List[CsvFault]
+    values: List[List[Value]]
 
 
 class Refused(Exception):
@@ -203,12 +205,13 @@ class Spans:
             spans.insert(at, (start, end, record.number))
 
 
-def check_rows(table: Table, records: Sequence[Record], places: Dict[int, int]) -> List[CsvFault]:
-    """Returns the faults of the records after the header, in the order in which a load reports them."""
+def check_rows(table: Table, records: Sequence[Record], places: Dict[int, int], most: Optional[int]) -> Checked:
+    """Checks the records after the header; faults are in the order in which a load reports them."""
     faults: List[CsvFault] = []
     empty: List[CsvFault] = []
     doubles: List[CsvFault] = []
     overlaps: List[CsvFault] = []
+    values: List[List[Value]] = []
     seen: Dict[Key, int] = {}
     spans = Spans(table, table.period) if table.period else None
     width = len(records[0].fields)
@@ -220,22 +223,23 @@ def check_rows(table: Table, records: Sequence[Record], places: Dict[int, int]) 
             empty += spans.bad(record, row)
             overlaps += spans.overlap(record, row)
         doubles += duplicate(table, record, row, seen)
+        values.append(row)
     many = len(records) - 1
-    if many > MOST_WRITTEN:
-        overlaps.append(CsvFault(None, None, f"the file has {many} rows; a load takes at most {MOST_WRITTEN}",
-                                 "E9 too many writes"))
-    return faults + empty + doubles + overlaps
+    if most is not None and many > most:
+        overlaps.append(CsvFault(None, None, f"the file has {many} rows; a load takes at most {most}: "
+                                 "python3 -m tsvd load takes any number, in parts", "E9 too many writes"))
+    return Checked(many, faults + empty + doubles + overlaps, values)
 
 
-def check_csv(table: Table, data: bytes) -> Checked:
-    """Checks the bytes of a file as a load of a table reads them."""
+def check_csv(table: Table, data: bytes, most: Optional[int] = MOST_WRITTEN) -> Checked:
+    """Checks the bytes of a file as a load of a table reads them; `most` is the greatest number of rows."""
     records = list(read_records(data))
     if not records:
-        return Checked(0, [bad_row(None, None, "the file has no header", 0)])
+        return Checked(0, [bad_row(None, None, "the file has no header", 0)], [])
     places, faults = header_places(table, records[0])
     if faults:
-        return Checked(len(records) - 1, faults)
-    return Checked(len(records) - 1, check_rows(table, records, places))
+        return Checked(len(records) - 1, faults, [])
+    return check_rows(table, records, places, most)
 
 
 def chosen_table(schema: Schema, name: Optional[str]) -> Table:
@@ -251,16 +255,16 @@ def chosen_table(schema: Schema, name: Optional[str]) -> Table:
     return table
 
 
-def report(path: str, checked: Checked) -> int:
+def report(path: str, checked: Checked, stream: TextIO) -> int:
     """Prints the result and returns the exit status, 1 if a load would be refused."""
     for fault in checked.faults[:MOST_SHOWN]:
-        print(f"{path}: {fault.text()}")
+        print(f"{path}: {fault.text()}", file=stream)
     if len(checked.faults) > MOST_SHOWN:
-        print(f"{path}: and {len(checked.faults) - MOST_SHOWN} more faults")
+        print(f"{path}: and {len(checked.faults) - MOST_SHOWN} more faults", file=stream)
     if checked.faults:
-        print(f"a load fails with: load: {checked.faults[0].reply}")
+        print(f"a load fails with: load: {checked.faults[0].reply}", file=stream)
         return 1
-    print(f"{path}: {checked.rows} row{'' if checked.rows == 1 else 's'}, ready to load")
+    print(f"{path}: {checked.rows} row{'' if checked.rows == 1 else 's'}, ready to load", file=stream)
     return 0
 
 
@@ -271,6 +275,5 @@ def main(words: Sequence[str]) -> int:
     parser.add_argument("--schema", help="the schema file; without it the sample table emp (no, name)")
     parser.add_argument("--table", help="the table, if the schema has several")
     given = parser.parse_args(words)
-    text = pathlib.Path(given.schema).read_text(encoding="utf-8") if given.schema else None
-    table = chosen_table(schema_of(text), given.table)
-    return report(given.file, check_csv(table, pathlib.Path(given.file).read_bytes()))
+    table = chosen_table(schema_file(given.schema), given.table)
+    return report(given.file, check_csv(table, pathlib.Path(given.file).read_bytes()), sys.stdout)

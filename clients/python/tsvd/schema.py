@@ -6,6 +6,7 @@ does not know, so that later grammars can be read too.
 
 from __future__ import annotations
 
+import pathlib
 import re
 from typing import Dict, List, NamedTuple, Optional, Sequence, Tuple, Union
 
@@ -179,3 +180,8 @@ def schema_of(schema: Union[None, str, Schema]) -> Schema:
     if isinstance(schema, Schema):
         return schema
     return read_schema(SAMPLE_TEXT if schema is None else schema)
+
+
+def schema_file(path: Optional[str]) -> Schema:
+    """Reads a schema file, or returns the sample schema for None."""
+    return schema_of(pathlib.Path(path).read_text(encoding="utf-8") if path else None)
