@@ -66,6 +66,14 @@ def date_text(instant: int) -> Optional[str]:
         return None
 
 
+def iso_text(instant: int) -> str:
+    """Returns an instant as a date in ISO form in local time, or its digits if it is after the year 9999."""
+    try:
+        return moment_of(instant).astimezone().isoformat("T", "microseconds")
+    except (DataError, OverflowError, ValueError, OSError):
+        return str(instant)
+
+
 def zone_of(text: Optional[str]) -> Optional[datetime.timezone]:
     """Returns the zone of `Z` or `+01:00`, or None for local time."""
     if text is None:

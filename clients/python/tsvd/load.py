@@ -13,6 +13,7 @@ from .errors import Error, ProgrammingError, Value
 from .inserts import parts
 from .instants import read_instant
 from .limits import MOST_WRITTEN
+from .output import write_lines
 from .row_lines import insert_lines
 from .schema import Schema, Table, schema_file
 
@@ -83,13 +84,6 @@ def script_lines(table: Table, rows: Rows, at: int) -> Iterator[str]:
         yield f"{SESSION}COMMIT"
 
 
-def write_script(lines: Iterator[str]) -> None:
-    """Writes the lines of a script to standard output."""
-    for line in lines:
-        sys.stdout.buffer.write(line.encode("utf-8") + b"\n")
-    sys.stdout.buffer.flush()
-
-
 def main(words: Sequence[str]) -> int:
     """Runs `load FILE [--table T] [--schema FILE] [--port PORT | --at DATE]`; without a port it writes a script."""
     parser = argparse.ArgumentParser(prog="python3 -m tsvd load", epilog="Without --port a script is written to "
@@ -109,5 +103,5 @@ def main(words: Sequence[str]) -> int:
         return report(given.file, checked, sys.stderr)
     if given.port is not None:
         return load_served(given.port, schema, table, checked.values)
-    write_script(script_lines(table, checked.values, read_instant(given.at) if given.at else 0))
+    write_lines(script_lines(table, checked.values, read_instant(given.at) if given.at else 0))
     return 0
