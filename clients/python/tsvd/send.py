@@ -8,6 +8,7 @@ from typing import BinaryIO, Iterator, Sequence
 
 from .limits import LONGEST_LINE
 from .lines import has_reply
+from .output import write_lines
 from .protocol import Session
 
 TOO_LONG = "E12 line too long"
@@ -23,17 +24,15 @@ def replies(session: Session, lines: BinaryIO) -> Iterator[str]:
             yield from session.ask(body)
 
 
-def send(port: int, lines: BinaryIO, out: BinaryIO) -> None:
+def send(port: int, lines: BinaryIO) -> None:
     """Sends lines and writes each reply as it arrives."""
     with Session(port) as session:
-        for reply in replies(session, lines):
-            out.write(reply.encode("utf-8") + b"\n")
-            out.flush()
+        write_lines(replies(session, lines))
 
 
 def main(words: Sequence[str]) -> int:
     """Runs `send PORT`."""
     parser = argparse.ArgumentParser(prog="python3 -m tsvd send", usage="%(prog)s PORT < STATEMENTS")
     parser.add_argument("port", type=int)
-    send(parser.parse_args(words).port, sys.stdin.buffer, sys.stdout.buffer)
+    send(parser.parse_args(words).port, sys.stdin.buffer)
     return 0

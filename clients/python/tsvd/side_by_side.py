@@ -5,10 +5,10 @@ from __future__ import annotations
 import argparse
 import pathlib
 import subprocess
-import sys
 from typing import Iterator, List, Sequence, Tuple
 
 from .lines import has_reply
+from .output import write_lines
 from .program import program_path
 
 WIDEST = 100
@@ -42,7 +42,7 @@ def columns(pairs: Sequence[Tuple[str, List[str]]]) -> Iterator[str]:
     width = max([len(line) for line, reply in pairs if reply and len(line) <= WIDEST] or [0])
     for line, reply in pairs:
         first = reply[0] if reply else ""
-        yield f"{line:{width}}  {first}".rstrip()
+        yield f"{line.ljust(width)}  {first}".rstrip()
         for row in reply[1:]:
             yield " " * (width + 2) + row
 
@@ -72,7 +72,5 @@ def main(words: Sequence[str]) -> int:
                          stdout=subprocess.PIPE, check=False)
     loads = any(word.split("=")[0] == "--load" for word in options)
     output = ran.stdout.decode("utf-8", "replace")
-    for line in side_by_side(pathlib.Path(given.script).read_bytes(), output, loads):
-        sys.stdout.buffer.write(line.encode("utf-8") + b"\n")
-    sys.stdout.flush()
+    write_lines(side_by_side(pathlib.Path(given.script).read_bytes(), output, loads))
     return ran.returncode
