@@ -5,12 +5,13 @@ from __future__ import annotations
 import sys
 from typing import Callable, Dict, List, Sequence
 
-from . import csv_check, extract, load, send, shell, side_by_side, stop, timeline
+from . import backup, csv_check, extract, load, replay, send, shell, side_by_side, stop, timeline
 from .errors import Error
 
 COMMANDS: Dict[str, Callable[[Sequence[str]], int]] = {
     "shell": shell.main, "send": send.main, "timeline": timeline.main, "side-by-side": side_by_side.main,
     "check-csv": csv_check.main, "load": load.main, "extract": extract.main,
+    "backup": backup.main, "replay": replay.main,
     "stop": stop.main,
 }
 USAGE = """usage: python3 -m tsvd COMMAND
@@ -22,6 +23,8 @@ USAGE = """usage: python3 -m tsvd COMMAND
   check-csv FILE                  reports the records and fields that a load would refuse, and why
   load FILE                       loads a CSV file of any length into a server, or makes a script of it
   extract PORT TABLE              writes what was on record as of a date, as CSV or JSON
+  backup PORT                     writes all versions of all tables as a script that leaves the same history
+  replay TABLE=FILE               makes such a script of CSV files with periods, also those of other systems
   stop PORT                       ends a server by using up its remaining sessions, and waits for its end
 
 COMMAND --help says more."""

@@ -2,10 +2,15 @@
 
 from __future__ import annotations
 
+import re
 from typing import Iterator, List, NamedTuple, Tuple
 
 BYTE_ORDER_MARK = b"\xef\xbb\xbf"
-ENDS = b",\r\n"
+END = re.compile(rb"[,\r\n]")
+
+
+class Quoted(bytes):
+    """Holds the contents of a field that was in quotes."""
 
 
 class Record(NamedTuple):
@@ -30,15 +35,20 @@ def quoted_end(data: bytes, at: int) -> Tuple[bytes, int]:
         at = quote + 2
 
 
+def field_end(data: bytes, at: int) -> int:
+    """Returns the offset of the next comma or line end outside quotes."""
+    found = END.search(data, at)
+    return found.start() if found else len(data)
+
+
 def read_field(data: bytes, at: int) -> Tuple[bytes, int]:
     """Returns the field at an offset, and the offset of its end."""
-    inside = b""
     if data.startswith(b'"', at):
         inside, at = quoted_end(data, at + 1)
-    end = at
-    while end < len(data) and data[end] not in ENDS:
-        end += 1
-    return inside + data[at:end], end
+        end = field_end(data, at)
+        return Quoted(inside + data[at:end]), end
+    end = field_end(data, at)
+    return data[at:end], end
 
 
 def read_fields(data: bytes, at: int) -> Tuple[Tuple[bytes, ...], int]:

@@ -7,12 +7,10 @@ import re
 from typing import Optional
 
 from .errors import DataError
+from .limits import LEAST_DATE
 
 EPOCH = datetime.datetime(1970, 1, 1, tzinfo=datetime.timezone.utc)
 MICROSECOND = datetime.timedelta(microseconds=1)
-
-# Instants before this one, in 1973, are shown as numbers: the instant 1 of a load, for example.
-LEAST_DATE = 10 ** 14
 
 DATE = re.compile(
     r"(?<![\w.-])(\d{4})-(\d\d)-(\d\d)"

@@ -8,3 +8,6 @@ MOST_SESSIONS = 64
 LEAST_INTEGER = -(2 ** 63)
 GREATEST_INTEGER = 2 ** 63 - 1
 GREATEST_INSTANT = 999_999_999_999_999_999
+
+# Instants before this one, in 1973, are shown as numbers: the instant 1 of a load, for example.
+LEAST_DATE = 10 ** 14
