@@ -5,6 +5,7 @@ import pathlib
 import socket
 import subprocess
 import sys
+import tempfile
 import threading
 import unittest
 from unittest import mock
@@ -31,6 +32,9 @@ class Pairs(Files):
     def test_a_script_whose_replies_end_early_is_shown(self):
         self.assertEqual(list(side_by_side(b"1: BEGIN\n1: COMMIT\n", "begun 0\n", False)),
                          ["1: BEGIN  begun 0", "1: COMMIT"])
+
+    def test_a_script_without_a_reply_is_shown(self):
+        self.assertEqual(list(side_by_side(b"-- a comment\n\n", "", False)), ["-- a comment", ""])
 
     @needs_program
     def test_the_program_is_run(self):
@@ -156,6 +160,18 @@ class Words(unittest.TestCase):
         out, err, status = run("--help")
         self.assertEqual((out[:6], err, status), ("usage:", "", 0))
         self.assertEqual(run("stop", "x")[2], 2)
+
+    def test_files_that_are_not_there_or_not_utf_8_are_told(self):
+        with tempfile.TemporaryDirectory() as folder:
+            path = os.path.join(folder, "bytes")
+            with open(path, "wb") as file:
+                file.write(b"no,s,e\n\xff,1,2\n")
+            for words in (("timeline", path), ("timeline", path + "x"), ("check-csv", path, "--schema", path),
+                          ("load", path, "--schema", path), ("extract", "1", "emp", "--as-of", "1", "--schema", path),
+                          ("side-by-side", path + "x")):
+                out, err, status = run(*words)
+                self.assertEqual((out, status), ("", 1), words)
+                self.assertRegex(err, rf"\A{words[0]}: .+\n\Z")
 
     def test_a_program_that_is_not_there_is_told(self):
         ran = subprocess.run([sys.executable, "-m", "tsvd", "shell", "--"], stdin=subprocess.DEVNULL, check=False,

@@ -28,6 +28,10 @@ class Exports(unittest.TestCase):
     def test_a_header_alone_is_an_export(self):
         self.assertEqual(read_export("closed 1\nno,name,sys_start,sys_end\n").versions, [])
 
+    def test_a_text_may_have_any_character_but_a_line_end(self):
+        export = read_export('no,name,s,e\n1,a\x00b,1,5\n1,"\x00, ""\u2028\x85",5,forever\n')
+        self.assertEqual([version.fields[1] for version in export.versions], ["a\x00b", '\x00, "\u2028\x85'])
+
     def test_other_texts_are_no_exports(self):
         for text in ("", "ok\n", "1,2,3,4\n", "a,b\n1,2\n"):
             with self.assertRaises(DataError):

@@ -14,6 +14,7 @@ COMMANDS: Dict[str, Callable[[Sequence[str]], int]] = {
     "backup": backup.main, "replay": replay.main,
     "stop": stop.main,
 }
+INTERRUPTED = 130
 USAGE = """usage: python3 -m tsvd COMMAND
 
   shell PORT | shell -- OPTIONS   runs statements at a prompt, with tables and dates
@@ -39,9 +40,12 @@ def main(words: List[str]) -> int:
         return 0 if asked else 2
     try:
         return command(words[1:])
-    except (Error, OSError) as fault:
+    except (Error, OSError, UnicodeDecodeError) as fault:
         print(f"{words[0]}: {fault}", file=sys.stderr)
         return 1
+    except KeyboardInterrupt:
+        print(f"{words[0]}: interrupted", file=sys.stderr)
+        return INTERRUPTED
 
 
 if __name__ == "__main__":

@@ -2,11 +2,11 @@
 
 from __future__ import annotations
 
-import csv
 import itertools
 import re
 from typing import Dict, Iterator, List, NamedTuple, Optional, Sequence, Tuple, Union
 
+from .csv_records import read_fields
 from .errors import DataError
 
 MOST_KEY_COLUMNS = 4
@@ -33,7 +33,10 @@ class Export(NamedTuple):
 
 def fields_of(line: str) -> List[str]:
     """Splits a line into fields; no field of an export contains a line end."""
-    return next(csv.reader([line]), [])
+    if '"' not in line:
+        return line.split(",")
+    fields, _ = read_fields(line.encode("utf-8"), 0)
+    return [field.decode("utf-8") for field in fields]
 
 
 def is_version(fields: Sequence[str], width: int) -> bool:

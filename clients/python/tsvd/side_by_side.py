@@ -68,9 +68,10 @@ def main(words: Sequence[str]) -> int:
     parser.add_argument("script", help="a file of lines")
     given, options = parser.parse_known_args(words)
     options = [word for word in options if word != "--"]
+    script = pathlib.Path(given.script).read_bytes()
     ran = subprocess.run([program_path(), "--script", given.script, *options], stdin=subprocess.DEVNULL,
                          stdout=subprocess.PIPE, check=False)
     loads = any(word.split("=")[0] == "--load" for word in options)
     output = ran.stdout.decode("utf-8", "replace")
-    write_lines(side_by_side(pathlib.Path(given.script).read_bytes(), output, loads))
+    write_lines(side_by_side(script, output, loads))
     return ran.returncode
