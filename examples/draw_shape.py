@@ -147,11 +147,13 @@ def draw(nodes):
 
 PAGE = """<!DOCTYPE html>
 <html lang="en"><head><meta charset="utf-8"><title>How a tree grows</title>
+<meta name="viewport" content="width=device-width, initial-scale=1">
 <!-- made by examples/draw_shape.py -->
 <style>
-body { font-family: sans-serif; max-width: 820px; margin: 1em auto; color: #222222 }
-input { width: 100% } button { font-size: 1em; padding: 0.2em 0.9em } .new rect { stroke: #c0301a; stroke-width: 2 }
-#what { min-height: 2.6em } svg { max-width: 100%; height: auto }
+:root { color-scheme: light dark }
+body { font-family: sans-serif; max-width: 820px; margin: 1em auto; padding: 0 0.8em; color: CanvasText; background: Canvas }
+input { width: 100%; margin: 0 } button { font-size: 1em; padding: 0.2em 0.9em } .new rect { stroke: #c0301a; stroke-width: 2 }
+#what { min-height: 2.6em } #picture { overflow-x: auto } svg { width: 100%; min-width: 640px; height: auto }
 </style></head><body>
 <h1>How a tree grows</h1>
 <p>A node that gets its 65th event or reference is split: by time while few of them would stay current, and else by key.
@@ -159,8 +161,10 @@ Each step is a commit that split a node, or a migration that packed one; what is
 the last commit, and a current node has no end. The left and right arrow keys step too.</p>
 <p><button id="back">Previous</button> <button id="on">Next</button> <span id="place"></span></p>
 <input id="step" type="range" min="0" value="0" aria-label="step">
-<p id="what"></p>
+<p id="what" aria-live="polite"></p>
+<div id="picture" tabindex="0" role="img" aria-label="the tree">
 PICTURE
+</div>
 <script>
 "use strict";
 const steps = STEPS, slider = document.getElementById("step"), nodes = [...document.querySelectorAll("g[data-from]")];
@@ -178,11 +182,11 @@ function show(step) {
     const text = node.querySelector("text");
     if (there && text) text.textContent = countAt(node, step);
   }
-  const [line, instant, x, words] = steps[step], now = document.getElementById("now");
+  const [line, commits, x, words] = steps[step], now = document.getElementById("now");
   now.setAttribute("x1", x);
   now.setAttribute("x2", x);
   document.getElementById("place").textContent =
-    `step ${step + 1} of ${steps.length}: line ${line} of the script, ${instant} commits`;
+    `step ${step + 1} of ${steps.length}: line ${line} of the script, ${commits} commit${commits === 1 ? "" : "s"}`;
   document.getElementById("what").textContent = words;
 }
 function move(by) { show(Math.min(steps.length - 1, Math.max(0, Number(slider.value) + by))); }

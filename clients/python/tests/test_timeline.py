@@ -5,7 +5,7 @@ import unittest
 from tests.served import SCHEMA, Files, run
 from tsvd.errors import DataError
 from tsvd.export import guess_key, places_of, read_export
-from tsvd.timeline import page, page_data
+from tsvd.timeline import Shape, page, page_data
 
 EXPORT = '''ok
 rows 1
@@ -55,7 +55,7 @@ class Exports(unittest.TestCase):
 
 class Pages(Files):
     def test_versions_have_the_places_of_their_instants(self):
-        data = page_data(read_export(EXPORT), (0,), False)
+        data = page_data(read_export(EXPORT), Shape((0,)))
         self.assertEqual([stop for stop, _ in data["stops"]], ["1", "150", "200", "300"])
         self.assertEqual([(row["key"], [version[1:] for version in row["versions"]]) for row in data["rows"]],
                          [("1", [[0, 2], [2, -1]]), ("2", [[0, 1], [3, -1]])])
@@ -64,7 +64,7 @@ class Pages(Files):
     def test_above_100_keys_only_what_changed_is_shown_at_first(self):
         for keys, changed in ((100, False), (101, True)):
             rows = "".join(f"{key},1,forever\n" for key in range(keys))
-            self.assertEqual(page_data(read_export("no,s,e\n" + rows), (0,), True)["changed"], changed)
+            self.assertEqual(page_data(read_export("no,s,e\n" + rows), Shape((0,), True))["changed"], changed)
 
     def test_the_page_needs_no_network_and_no_field_leaves_its_data(self):
         made = page(read_export(EXPORT), title="a <b> & c")
