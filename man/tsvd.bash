@@ -1,10 +1,32 @@
-# Completion of tsvd's words for bash.
+# Completion of tsvd's words for bash, which takes `=` for a word of its own: `--load emp=st` is four words, and `--schema=st` three.
 _tsvd() {
-    local word=${COMP_WORDS[COMP_CWORD]} before=${COMP_WORDS[COMP_CWORD - 1]}
+    local word=${COMP_WORDS[COMP_CWORD]} before=${COMP_WORDS[COMP_CWORD - 1]} at=$COMP_CWORD
+    if [[ $word == '=' ]]; then
+        word='' before='='
+    elif [[ $before == '=' ]]; then
+        at=$((COMP_CWORD - 1))
+    fi
+    if [[ $word == ?*=* ]]; then
+        # where `=` was taken out of COMP_WORDBREAKS
+        case "$before $word" in
+        '--load '* | *' --load='?*=* | *' --schema='* | *' --script='*)
+            mapfile -t COMPREPLY < <(compgen -f -P "${word%=*}=" -- "${word##*=}") ;;
+        *) COMPREPLY=() ;;
+        esac
+        return
+    fi
+    if [[ $before == '=' ]]; then
+        # --schema=FILE and --script=FILE, --load TABLE=FILE and --load=TABLE=FILE
+        case " ${COMP_WORDS[at - 1]} ${COMP_WORDS[at - 2]} ${COMP_WORDS[at - 3]} " in
+        ' --schema '* | ' --script '* | *' --load '*) mapfile -t COMPREPLY < <(compgen -f -- "$word") ;;
+        *) COMPREPLY=() ;;
+        esac
+        [[ ${COMP_WORDS[at - 1]} != --load ]] || COMPREPLY=()
+        return
+    fi
     case $before in
     --schema | --script) mapfile -t COMPREPLY < <(compgen -f -- "$word") ;;
-    --listen | --sessions | --export) COMPREPLY=() ;;
-    --load) [[ $word == *=* ]] && mapfile -t COMPREPLY < <(compgen -f -P "${word%%=*}=" -- "${word#*=}") ;;
+    --listen | --sessions | --export | --load) COMPREPLY=() ;;
     *) mapfile -t COMPREPLY < <(compgen -W "--schema --script --listen --sessions --load --export --help --version" -- "$word") ;;
     esac
 }

@@ -16,7 +16,8 @@ def functions(tree):
 class Package(unittest.TestCase):
     def test_the_version_stands_once_for_all(self):
         project = (PACKAGE.parent / "pyproject.toml").read_text()
-        self.assertIn(f'version = "{tsvd.__version__}"', project)
+        self.assertIn('dynamic = ["version"]', project)
+        self.assertNotIn(tsvd.__version__, project)
         self.assertTrue((PACKAGE / "py.typed").is_file())
 
     def test_modules_are_of_python_3_8(self):
