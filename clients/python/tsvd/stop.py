@@ -69,12 +69,13 @@ def wait_for(server: Process, port: int, timeout: Optional[float]) -> bool:
     told: List[Client] = []
     while not has_ended(server):
         waited = time.monotonic() - start
-        if timeout is not None and waited >= timeout:
-            return False
-        clients = clients_of(port) if waited >= QUIET else []
+        is_late = timeout is not None and waited >= timeout
+        clients = clients_of(port) if is_late or waited >= QUIET else []
         if clients and clients != told:
             print(f"stop: waiting for {sessions_text(clients)}", file=sys.stderr, flush=True)
             told = clients
+        if is_late:
+            return False
         time.sleep(PAUSE)
     return True
 
