@@ -130,7 +130,7 @@ class Connection:
         after `tries` attempts. Any other exception rolls back.
         """
         if self.in_transaction:
-            raise ProgrammingError("a transaction is open already")
+            raise ProgrammingError("a transaction is open already, perhaps by a SELECT; commit() or rollback() first")
         for left in reversed(range(max(1, tries))):
             try:
                 return self.attempt(work)
