@@ -1,6 +1,8 @@
+import os
 import pathlib
 import re
 import unittest
+from unittest import mock
 
 import tests
 from tests.browser import Browser, needs_browser
@@ -27,6 +29,12 @@ LUMINANCE = """(() => {
 
 
 class Made(Files):
+    def setUp(self):
+        super().setUp()
+        patched = mock.patch.dict(os.environ, TZ="UTC")
+        patched.start()
+        self.addCleanup(patched.stop)
+
     def page(self, export=EXPORT, *words):
         """Makes the page of an export, and returns its path."""
         file = self.file("history.csv", export)
@@ -64,7 +72,10 @@ class Shown(Made):
     @classmethod
     def setUpClass(cls):
         super().setUpClass()
-        cls.browser = Browser()
+        try:
+            cls.browser = Browser()
+        except AssertionError as why:
+            raise unittest.SkipTest(f"{why}, so pages are not looked at") from None
         cls.addClassCleanup(cls.browser.__exit__)
 
     def show(self, path, **words):
@@ -158,6 +169,13 @@ class Shown(Made):
         self.assertEqual(made, 1503)
         self.assertEqual(value("document.querySelectorAll('.version.shown').length"), 500)
         self.assertEqual(value("document.querySelector('#table td:nth-child(2)').textContent"), "a")
+
+    def test_more_entities_than_are_drawn_are_told(self):
+        rows = "".join(f"c{n},1,2,3,,5,forever\n" for n in range(101))
+        value = self.show(self.page(EXPORT.split("\n")[0] + "\n" + rows, "--schema", self.file("t.schema", TARIFFS)))
+        value("document.getElementById('only').click()")
+        self.assertEqual(value("document.querySelectorAll('#strips .line').length"), 100)
+        self.assertEqual(value("document.getElementById('fewer').textContent"), "The first 100 of 101 are shown.")
 
     def test_an_empty_table_is_a_page_without_faults(self):
         value = self.show(self.page("no,name,s,e\n"))
