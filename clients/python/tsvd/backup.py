@@ -34,7 +34,8 @@ def read_histories(connection: Connection) -> Tuple[int, List[History]]:
 
 def backup_lines(last: int, histories: Sequence[History]) -> Iterator[str]:
     """Yields the script, below a comment with its tables."""
-    counts = ", ".join(f"{history.table.name} ({len(history.versions)} versions)" for history in histories)
+    counts = ", ".join(f"{history.table.name} ({len(history.versions)} version{'s' * (len(history.versions) != 1)})"
+                       for history in histories)
     yield f"-- backup at the last commit instant {last}: {counts}"
     yield from script_lines(histories)
 
