@@ -154,7 +154,7 @@ class Cursor:
         """Executes a statement that writes once for each sequence of values.
 
         Rows of an INSERT are sent in as few lines as they fit into, in one transaction of at most 1,000
-        rows. Nothing is sent if a value is refused. With the connection's `autocommit` any number of rows
+        rows. Nothing of it is sent if a value is refused. With the connection's `autocommit` any number of rows
         is inserted, in transactions of 1,000 rows; at a refusal `rows` of the exception, and `rowcount`,
         say how many are committed.
         """
