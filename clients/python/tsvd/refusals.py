@@ -38,7 +38,7 @@ REFUSALS: Dict[int, Refusal] = {
     11: Refusal(ProgrammingError, "no such session", "use a session from 1 to 64"),
     12: Refusal(DataError, "the line has over 8,192 bytes", "split it into several statements"),
     13: Refusal(OperationalError, "the journal is full, with 1,000,000 entries",
-                "restart the server: --export the tables, then --load the current rows"),
+                "end the run, which writes its --export, and load the current rows into the next; an open transaction still reads"),
     14: Refusal(IntegrityError, "the period overlaps another of the same entity",
                 "change the overlapping part with FOR PORTION OF"),
     15: Refusal(DataError, "the start of a period is not before its end", "correct the start or the end"),
