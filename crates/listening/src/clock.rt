@@ -21,14 +21,14 @@ impl<R: Clock> Readings for Microseconds<'_, R> {
 
     fn reading(&mut self) -> Instant {
         match self.rt.since_1970() {
-            Ok(since) => microseconds(since),
+            Ok(since) => whole_microseconds(since),
             Err(_) => 0,
         }
     }
 }
 
 /// Returns a time since 1970 in whole microseconds, or the greatest instant where that is less.
-fn microseconds(since: Duration) -> Instant
+fn whole_microseconds(since: Duration) -> Instant
     ensures { result ≡ min (as_nanos since / 1_000) max_instant }
 {
     u64::try_from(since.as_micros())
