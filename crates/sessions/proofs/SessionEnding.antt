@@ -1,16 +1,12 @@
 -- A session after a commit.
-use Rattle.std.proofs.Common.{◌≡◌, ℕ, Option, Some, None, sym, ap, ◌∙◌, subst}
+use Rattle.std.proofs.Common.{◌≡◌, ℕ, Option, Some, sym, ap, ◌∙◌, subst}
 use Rattle.std.specs.Prelude.{Result, Ok, Err, IfOk}
 use Rattle.values.specs.Tables.{Schema}
-use Rattle.values.specs.Log.{Changes, Net, last, changes}
-use Rattle.values.specs.Period.{periods_of}
-use Rattle.values.specs.Commits.{outcome}
+use Rattle.values.specs.Log.{Changes, Net}
 use Rattle.values.specs.Events.{AreKeysIn}
 use Rattle.book.specs.staging.View.{Holds}
 use Rattle.book.specs.staging.Own.{net_over}
-use Rattle.book.specs.journal.declared.entry.Entry.{Entry}
-use Rattle.book.specs.journal.Entries.{Entries, is_open, log}
-use Rattle.book.specs.Book.{BookState, commit_entry}
+use Rattle.book.specs.journal.Entries.{Entries, is_open}
 use Rattle.sessions.specs.SessionState.{SessionTransactionState, SessionState, MayBeOpen}
 use Rattle.sessions.specs.Store.{IsNetOf, is_open_at}
 use Rattle.sessions.proofs.SessionWriting.{state}

@@ -1,5 +1,4 @@
-use Rattle.std.proofs.Common.{rules, ◌≡◌, ◌++◌, [], ℕ, ◌+◌, ◌<◌, ◌≤◌, length, ap, arith, length-append}
-use Rattle.std.proofs.lemmas.List.{length-take}
+use Rattle.std.proofs.Common.{◌+◌, ◌≤◌, length, ap, arith, length-append}
 use Rattle.listening.proofs.GuardedGiving.{gives_front, none_new}
 use Rattle.listening.proofs.guarded.Guarded.read_head.Goals as goal
 
