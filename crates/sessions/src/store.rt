@@ -151,9 +151,9 @@ impl<J: StoreName> LockedStore<J> {
     }
 
     /// Ends a transaction like `commit`, of a session that is known to be of the store's tables, as
-    /// one that `session` has made: no tables are compared. The reading is taken under the lock, so
-    /// it is not before that of any time at which an earlier call on the store returned, where the
-    /// clock does not run back. `NoTransaction` where none is open, or none at this store,
+    /// one that `session` has made: no tables are compared. The reading is taken under the lock:
+    /// where the clock does not run back, it is no earlier than the clock was when any earlier call on
+    /// the store returned. `NoTransaction` where none is open, or none at this store,
     /// `JournalFull` where there is no room for one more entry. After a refusal nothing has changed,
     /// and the transaction is still open.
     pub fn commit_lent<R: Wait, C: Readings>(
