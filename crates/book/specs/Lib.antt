@@ -1,6 +1,7 @@
 pub mod Book
 pub mod Ending
 pub mod Outcomes
+pub mod Refusal
 pub use Rattle.journal.specs as journal
 pub use Rattle.transaction.specs as transaction
 pub use Rattle.validation.specs as validation

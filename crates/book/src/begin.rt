@@ -1,16 +1,18 @@
 //! A transaction begins.
 ghost use Rattle.std.specs.Prelude.{◌≡◌, ◌<◌, [], Err, IfOk, OnErr, length};
 ghost use Rattle.values.specs.Memory.{OnlyMemory};
+ghost use Rattle.values.specs.declared.refusal.Refusal.TheVariants.{JournalFull};
 ghost use Rattle.journal.specs.declared.entry.Entry.TheVariants.{Begin};
 ghost use Rattle.book.specs.Book.{Adds, IsBook, OnlyRoom, begin_entry, begun_now, most_entries};
 
-use crate::book::{Book, make_room, twice};
+use crate::book::{Book, twice};
+use crate::refusal::{BookRefusal, make_room};
 use growlog::StoreName;
 use journal::{Begun, Entry, Receipt, SharedEntry};
 use std::alloc::Global;
 use transaction::OpenTransaction;
 use validation::Engine;
-use values::{Mem, Refusal};
+use values::Mem;
 
 /// A transaction that begins: what its session keeps of the begin, the begin's receipt, and the transaction.
 pub struct Opening<J: StoreName> {
@@ -23,7 +25,7 @@ impl<J: StoreName> Book<J> {
     /// Begins a transaction of a session, which sees all that was committed. The entry names an earlier one of the session,
     /// by its number, if that is one, or else 0. `JournalFull` where there is no room for one more entry. After a refusal
     /// nothing has changed.
-    pub fn begin(&mut self, session: u8, earlier: u64) -> Result<Opening<J>, Refusal>
+    pub fn begin(&mut self, session: u8, earlier: u64) -> Result<Opening<J>, BookRefusal>
         ensures entry { IfOk result (λ o.
             o.receipt.entry ≡ begin_entry self.old session earlier) }
         ensures adds { IfOk result (λ o. Adds o.receipt.entry o.receipt.number self.old self.new) }
@@ -34,7 +36,7 @@ impl<J: StoreName> Book<J> {
         ensures engine { self.new.engine ≡ self.old.engine }
         ensures book { IsBook J.schema self.new }
         ensures full { length self.old.entries ≡ most_entries
-            → result ≡ Err Refusal.JournalFull }
+            → result ≡ Err JournalFull }
         ensures room { length self.old.entries < most_entries → OnlyMemory result }
         ensures why { OnlyRoom result }
         ensures refused { OnErr result (self.new ≡ self.old) }

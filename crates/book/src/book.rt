@@ -1,18 +1,15 @@
 //! What was committed and the journal, in step.
-ghost use Rattle.std.specs.Prelude.{◌≡◌, ◌<◌, [], Err, IfOk, OnOk, length};
+ghost use Rattle.std.specs.Prelude.{◌≡◌, [], IfOk, length};
 ghost use Rattle.values.specs.Memory.{OnlyMemory};
 ghost use Rattle.validation.specs.tsbtree.View.{IsEmpty};
-ghost use Rattle.book.specs.Book.{IsBook, OnlyRoom, most_entries};
+ghost use Rattle.book.specs.Book.{IsBook};
 
 use growlog::{NewLog, StoreName};
 use journal::{Entry, Journal, SharedEntry};
 use std::alloc::Global;
 use std::marker::Model;
 use validation::{Engine, Tree};
-use values::{Mem, Refusal};
-
-/// The entries that a journal may hold.
-pub const MOST_ENTRIES: usize = 1_000_000;
+use values::Mem;
 
 /// What was committed, and the journal of all that led to it. Contracts see the engine, and the entries, the newest
 /// first.
@@ -65,22 +62,6 @@ impl<J: StoreName> Book<J> {
     {
         self.journal.len()
     }
-}
-
-/// Makes room for one more entry. `JournalFull` where there is no room. Where it is refused the entries are what they
-/// were.
-pub(crate) fn make_room<J: StoreName>(journal: &mut Journal<J>) -> Result<(), Refusal>
-    ensures ok { OnOk result (0 < journal.new.room) }
-    ensures few { OnOk result (length journal.old.entries < most_entries) }
-    ensures same { journal.new.entries ≡ journal.old.entries }
-    ensures full { length journal.old.entries ≡ most_entries → result ≡ Err Refusal.JournalFull }
-    ensures room { length journal.old.entries < most_entries → OnlyMemory result }
-    ensures why { OnlyRoom result }
-{
-    if journal.len() >= MOST_ENTRIES {
-        return Err(Refusal::JournalFull);
-    }
-    journal.reserve()
 }
 
 /// An entry, of which the journal keeps one share and the receipt the other.

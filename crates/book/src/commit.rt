@@ -2,12 +2,14 @@
 ghost use Rattle.std.specs.Prelude.{◌≡◌, ◌<◌, Err, IfOk, IfSome, OnErr, OnOk, false, length, true};
 ghost use Rattle.values.specs.Events.{AreKeysIn};
 ghost use Rattle.values.specs.Memory.{OnlyMemory};
+ghost use Rattle.values.specs.declared.refusal.Refusal.TheVariants.{JournalFull, NoTransaction};
 ghost use Rattle.validation.specs.treenodes.History.{KeepsHistory};
 ghost use Rattle.journal.specs.Entries.{is_open};
 ghost use Rattle.book.specs.Book.{Adds, IsBook, OnlyRoom, commit_entry, most_entries};
 ghost use Rattle.book.specs.Ending.{IsEnd, IsWritten, MayBeWritten, instant_of, ran_out};
 
-use crate::book::{Book, make_room, twice};
+use crate::book::{Book, twice};
+use crate::refusal::{BookRefusal, find_open, make_room};
 use growlog::StoreName;
 use journal::{Begun, Entry, Receipt};
 use validation::{Engine, KeyedNet, Net};
@@ -27,7 +29,7 @@ impl<J: StoreName> Book<J> {
         net: Net,
         changes: KeyedNet,
         reading: Instant,
-    ) -> Result<Receipt<J>, Refusal>
+    ) -> Result<Receipt<J>, BookRefusal>
         requires tables { schema.now ≡ J.schema }
         requires keys { AreKeysIn J.schema net }
         requires twice { changes ≡ net }
@@ -37,17 +39,15 @@ impl<J: StoreName> Book<J> {
         ensures history { KeepsHistory self.old.engine.nodes self.new.engine.nodes }
         ensures book { IsBook J.schema self.new }
         ensures none { is_open self.old.entries session begun.now ≡ false
-            → result ≡ Err Refusal.NoTransaction }
+            → result ≡ Err NoTransaction }
         ensures full { is_open self.old.entries session begun.now ≡ true
-            → length self.old.entries ≡ most_entries → result ≡ Err Refusal.JournalFull }
+            → length self.old.entries ≡ most_entries → result ≡ Err JournalFull }
         ensures room { is_open self.old.entries session begun.now ≡ true
             → length self.old.entries < most_entries → OnlyMemory result }
         ensures why { is_open self.old.entries session begun.now ≡ true → OnlyRoom result }
         ensures refused { OnErr result (self.new ≡ self.old) }
     {
-        if !self.journal.is_open(session, begun) {
-            return Err(Refusal::NoTransaction);
-        }
+        find_open(&self.journal, session, begun)?;
         make_room(&mut self.journal)?;
         let end = ending(&self.engine, schema, begun.start(), &changes, reading)?;
         let instant = instant_of(&end);

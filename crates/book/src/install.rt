@@ -1,25 +1,27 @@
 //! An install of a packed node, which changes nothing that was committed.
 ghost use Rattle.std.specs.Prelude.{◌≡◌, ◌<◌, Bool, Err, IfOk, OnErr, length};
 ghost use Rattle.values.specs.Memory.{OnlyMemory};
+ghost use Rattle.values.specs.declared.refusal.Refusal.TheVariants.{JournalFull};
 ghost use Rattle.validation.specs.treenodes.History.{KeepsPast};
 ghost use Rattle.validation.specs.tsbtree.Growth.{HoldsSame};
 ghost use Rattle.journal.specs.declared.entry.Entry.TheVariants.{Install};
 ghost use Rattle.book.specs.Book.{Adds, IsBook, IsInstallEntry, OnlyRoom, most_entries};
 ghost use Rattle.book.specs.Outcomes.{entry_of};
 
-use crate::book::{Book, make_room, twice};
+use crate::book::{Book, twice};
 use crate::outcomes::{Outcomes, note};
+use crate::refusal::{BookRefusal, make_room};
 use growlog::StoreName;
 use journal::{Entry, Receipt, SharedEntry};
 use std::alloc::Global;
 use validation::PackedNode;
-use values::{Mem, Refusal};
+use values::Mem;
 
 impl<J: StoreName> Book<J> {
     /// Puts a block in the place of its node, where that is in the tree unpacked: whether it was is in the entry, beside the
     /// node's rectangle and the block's bytes. `JournalFull` where there is no room for one more entry. After a refusal
     /// nothing has changed.
-    pub fn install(&mut self, packed: PackedNode) -> Result<Receipt<J>, Refusal>
+    pub fn install(&mut self, packed: PackedNode) -> Result<Receipt<J>, BookRefusal>
         ensures entry { IfOk result (λ r.
             IsInstallEntry packed self.old.engine self.new.engine r.entry) }
         ensures adds { IfOk result (λ r. Adds r.entry r.number self.old self.new) }
@@ -27,7 +29,7 @@ impl<J: StoreName> Book<J> {
         ensures past { KeepsPast self.old.engine.nodes self.new.engine.nodes }
         ensures book { IsBook J.schema self.new }
         ensures full { length self.old.entries ≡ most_entries
-            → result ≡ Err Refusal.JournalFull }
+            → result ≡ Err JournalFull }
         ensures room { length self.old.entries < most_entries → OnlyMemory result }
         ensures why { OnlyRoom result }
         ensures refused { OnErr result (self.new ≡ self.old) }

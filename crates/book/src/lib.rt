@@ -7,11 +7,13 @@ mod closing;
 mod commit;
 mod install;
 mod outcomes;
+mod refusal;
 mod split;
 
 pub use begin::Opening;
-pub use book::{Book, MOST_ENTRIES};
+pub use book::Book;
 pub use closing::Closed;
 pub use journal::{Begun, Entry, JournalGone, Receipt, SharedEntry};
+pub use refusal::{BookRefusal, MOST_ENTRIES};
 pub use transaction::{BlockCache, OpenTransaction, listing_of};
 pub use validation::{Cut, Job, KeyedNet, Net, PackedNode, View, find_job, pack_job};

@@ -1,25 +1,27 @@
 //! A split of a node, which changes nothing that was committed.
 ghost use Rattle.std.specs.Prelude.{◌≡◌, ◌<◌, Bool, Err, IfOk, OnErr, length};
 ghost use Rattle.values.specs.Memory.{OnlyMemory};
+ghost use Rattle.values.specs.declared.refusal.Refusal.TheVariants.{JournalFull};
 ghost use Rattle.validation.specs.treenodes.History.{KeepsHistory};
 ghost use Rattle.validation.specs.tsbtree.Growth.{HoldsSame};
 ghost use Rattle.journal.specs.declared.entry.Entry.TheVariants.{Split};
 ghost use Rattle.book.specs.Book.{Adds, IsBook, IsSplitEntry, OnlyRoom, most_entries};
 ghost use Rattle.book.specs.Outcomes.{entry_of};
 
-use crate::book::{Book, make_room, twice};
+use crate::book::{Book, twice};
 use crate::outcomes::{Outcomes, note};
+use crate::refusal::{BookRefusal, make_room};
 use growlog::StoreName;
 use journal::{Entry, Receipt, SharedEntry};
 use std::alloc::Global;
 use validation::Cut;
-use values::{Mem, Refusal};
+use values::Mem;
 
 impl<J: StoreName> Book<J> {
     /// Splits the current data node of a key, where its cut lies inside the node and is no instant after the last commit:
     /// whether it did is in the entry. `JournalFull` where there is no room for one more entry. After a refusal nothing has
     /// changed.
-    pub fn split(&mut self, cut: Cut) -> Result<Receipt<J>, Refusal>
+    pub fn split(&mut self, cut: Cut) -> Result<Receipt<J>, BookRefusal>
         ensures entry { IfOk result (λ r.
             IsSplitEntry cut self.old.engine self.new.engine r.entry) }
         ensures adds { IfOk result (λ r. Adds r.entry r.number self.old self.new) }
@@ -27,7 +29,7 @@ impl<J: StoreName> Book<J> {
         ensures history { KeepsHistory self.old.engine.nodes self.new.engine.nodes }
         ensures book { IsBook J.schema self.new }
         ensures full { length self.old.entries ≡ most_entries
-            → result ≡ Err Refusal.JournalFull }
+            → result ≡ Err JournalFull }
         ensures room { length self.old.entries < most_entries → OnlyMemory result }
         ensures why { OnlyRoom result }
         ensures refused { OnErr result (self.new ≡ self.old) }

@@ -1,21 +1,22 @@
 -- A closed store and all receipts, as a run and its one history.
-use Rattle.std.proofs.Common.{◌≡◌, ℕ, ◌≤◌, List, [], ◌∷◌, ◌++◌, Bool, true, ◌&&◌, Some, length, nat_le, refl, sym, ap, subst, ◌∙◌, arith, map, IsPermutation}
+use Rattle.std.proofs.Common.{◌≡◌, ℕ, ◌≤◌, List, [], ◌∷◌, ◌++◌, Bool, true, false, ◌&&◌, Some, length, nat_le, refl, sym, ap, subst, ◌∙◌, arith, map, IsPermutation}
 use Rattle.std.proofs.lemmas.Bool.Decides.{nat_tests}
 use Rattle.std.proofs.lemmas.List.{map-append}
 use Rattle.std.proofs.lemmas.List.Elements.{All-map, recursion_from_All}
 use Rattle.std.proofs.lemmas.Simd.{map-map}
 use Rattle.std.proofs.lemmas.List.Sorted.{All-permutation, IsPermutation-append_right, IsPermutation-map, IsPermutation-sym, IsPermutation-trans}
-use Rattle.std.specs.Prelude.{All}
+use Rattle.std.specs.Prelude.{All, IfOk, OnOk, Result, Ok, Err}
 use Rattle.std.specs.List.{AllByRecursion, flat_map, list_all}
 use Rattle.values.specs.Log.{Row}
 use Rattle.values.specs.Tables.{Schema}
 use Rattle.sessions.specs.journal.Entries.{entry_at, numbers}
-use Rattle.sessions.specs.book.Book.{BookState, IsBook}
+use Rattle.sessions.specs.book.Book.{BookState, IsBook, most_entries}
 use Rattle.serving.specs.Progress.{Given}
+use Rattle.serving.specs.ServedSession.{Told}
 use Rattle.runs.specs.OneHistory.{ServedRunsAreHistories}
 use Rattle.runs.specs.Run.{IsLoaded, IsRun, Part}
-use Rattle.listening.specs.Pile.{AreOfRun}
-use Rattle.listening.specs.Connection.{IsOneRun}
+use Rattle.listening.specs.Pile.{AreKnown, AreOfRun}
+use Rattle.listening.specs.Connection.{IsOneRun, IsRefusedRightly}
 use Rattle.listening.proofs.PileParts.{both}
 
 -- what stands of all receipts stands of those of the parts
@@ -37,8 +38,25 @@ upto most (p ∷ parts) e =
     let first : nat_le p.number most ≡ true = h.0 in
     (grind (arith, nat_tests, first), upto most parts h.1)
 
-module _ (law : ServedRunsAreHistories) (schema : Schema) (b : BookState) (most table : ℕ) (rows : List Row) (before given : List Given) (sessions : List ℕ) where
-  is_run : IsBook schema b → IsLoaded schema table rows before → (run : AreOfRun schema sessions given) → All (λ g. entry_at b.entries g.number ≡ Some g.entry) (before ++ given)
+-- what lines were refused for by the book, of a journal that is full where that is noted
+of_told : (has_full : Bool) (b : BookState) → (has_full ≡ true → length b.entries ≡ most_entries) → (told : List Told) → AreKnown has_full told → AllByRecursion (IsRefusedRightly b) told
+of_told has_full b full [] all = tt
+of_told has_full b full (t ∷ told) all = (record { full = λ e. full (all.0.full e); is_open = λ e. cc_of (all.0.not_open e) }, of_told has_full b full told all.1)
+  where
+    cc_of : false ≡ true → ⊥
+    cc_of e = cc
+
+rightly : (has_full : Bool) (b : BookState) → (has_full ≡ true → length b.entries ≡ most_entries) → (parts : List Part) → AllByRecursion (λ p. AreKnown has_full p.told) parts → AllByRecursion (λ p. AllByRecursion (IsRefusedRightly b) p.told) parts
+rightly has_full b full [] all = tt
+rightly has_full b full (p ∷ parts) all = (of_told has_full b full p.told all.0, rightly has_full b full parts all.1)
+
+-- a closed store that is handed on
+pub confirmed : {A E : Type 0} (r : Result A E) (a : A) (F : Type 0) (P : A → Type 0) → IfOk r (λ x. x ≡ a) → OnOk r F → (F → P a) → IfOk r P
+confirmed (Ok x) a F P same full is = subst P (sym same) (is full)
+confirmed (Err e) a F P same full is = tt
+
+module _ (law : ServedRunsAreHistories) (schema : Schema) (b : BookState) (most table : ℕ) (rows : List Row) (before given : List Given) (sessions : List ℕ) (has_full : Bool) where
+  is_run : IsBook schema b → IsLoaded schema table rows before → (run : AreOfRun schema sessions has_full given) → All (λ g. entry_at b.entries g.number ≡ Some g.entry) (before ++ given)
       → IsPermutation (map (λ g. g.number) (before ++ given)) (numbers (length b.entries)) → IsRun schema b table rows before run.parts run.service
   is_run book loaded run stand all = record {
     is_book = book;
@@ -50,24 +68,25 @@ module _ (law : ServedRunsAreHistories) (schema : Schema) (b : BookState) (most 
     once = once before given (flat_map (λ p. p.given) run.parts ++ run.service) (numbers (length b.entries)) run.given_are all;
   }
 
-  one_run : IsBook schema b → IsLoaded schema table rows before → AreOfRun schema sessions given → list_all (λ n. nat_le n most) sessions ≡ true → All (λ g. entry_at b.entries g.number ≡ Some g.entry) (before ++ given)
+  one_run : IsBook schema b → IsLoaded schema table rows before → AreOfRun schema sessions has_full given → (has_full ≡ true → length b.entries ≡ most_entries) → list_all (λ n. nat_le n most) sessions ≡ true → All (λ g. entry_at b.entries g.number ≡ Some g.entry) (before ++ given)
       → IsPermutation (map (λ g. g.number) (before ++ given)) (numbers (length b.entries)) → IsOneRun schema most table rows b
-  one_run book loaded run few stand all =
+  one_run book loaded run full few stand all =
       let found = law schema b table rows before run.parts run.service (is_run book loaded run stand all) in
       record {
         parts = run.parts;
         are_parts = run.are_parts;
         numbered = upto most run.parts (ap (λ ns. list_all (λ n. nat_le n most) ns) run.numbers_are ∙ few);
         apart = run.apart;
+        refused = rightly has_full b full run.parts run.known;
         events = found.0;
         history = found.1;
       }
 
   -- from the receipts that closed the store: those of before, and those that were handed over
   pub of_receipts : {R : Type 0} (f : R → Given) (all first later : List R) → all ≡ first ++ later → before ≡ map f first → given ≡ map f later
-      → IsBook schema b → IsLoaded schema table rows before → AreOfRun schema sessions given → list_all (λ n. nat_le n most) sessions ≡ true → All (λ r. entry_at b.entries (f r).number ≡ Some (f r).entry) all
+      → IsBook schema b → IsLoaded schema table rows before → AreOfRun schema sessions has_full given → (has_full ≡ true → length b.entries ≡ most_entries) → list_all (λ n. nat_le n most) sessions ≡ true → All (λ r. entry_at b.entries (f r).number ≡ Some (f r).entry) all
       → IsPermutation (map (λ r. (f r).number) all) (numbers (length b.entries)) → IsOneRun schema most table rows b
-  of_receipts f all first later are first_are later_are book loaded run few stand once =
+  of_receipts f all first later are first_are later_are book loaded run full few stand once =
       let parts : map f all ≡ before ++ given = ap (map f) are ∙ map-append f first later ∙ (λ k. sym first_are k ++ sym later_are k) in
-      one_run book loaded run few (subst (All (λ g. entry_at b.entries g.number ≡ Some g.entry)) parts (All-map (λ g. entry_at b.entries g.number ≡ Some g.entry) f all stand))
+      one_run book loaded run full few (subst (All (λ g. entry_at b.entries g.number ≡ Some g.entry)) parts (All-map (λ g. entry_at b.entries g.number ≡ Some g.entry) f all stand))
       (subst (λ gs. IsPermutation (map (λ g. g.number) gs) (numbers (length b.entries))) parts (subst (λ ns. IsPermutation ns (numbers (length b.entries))) (sym (map-map (λ (g : Given). g.number) f all)) once))

@@ -1,8 +1,8 @@
 //! Connections, each served in a thread of its own.
-ghost use Rattle.std.specs.Prelude.{◌≡◌, ℕ, All, IfOk, List, Some, map};
+ghost use Rattle.std.specs.Prelude.{◌≡◌, ℕ, All, IfOk, List, OnOk, Some, length, map, true};
 ghost use Rattle.values.specs.Log.{Row};
 ghost use Rattle.sessions.specs.journal.Entries.{entry_at};
-ghost use Rattle.sessions.specs.book.Book.{IsBook};
+ghost use Rattle.sessions.specs.book.Book.{IsBook, most_entries};
 ghost use Rattle.serving.specs.Progress.{Given};
 ghost use Rattle.runs.specs.Run.{IsLoaded};
 ghost use Rattle.listening.specs.Connection.{IsOneRun};
@@ -35,7 +35,8 @@ pub enum ListenFault {
     /// Memory ran out before the first connection was taken.
     Memory,
     /// The receipts are not those of the store's entries, one for each; or those of a session do
-    /// not rise, or two sessions have one number.
+    /// not rise, or two sessions have one number; or a line was refused for a full journal that is not
+    /// full, or the end of an open transaction as one that is not.
     NotClosed,
 }
 
@@ -45,8 +46,9 @@ pub enum ListenFault {
 ///
 /// The closed store is a book (`IsBook`), and the receipts of what was done before are of its
 /// entries. Where those are a load's, there is one history (`IsOneRun`): its entries are the store's
-/// in their order, and each session was sent its replies at the places of its lines. Which bytes a
-/// socket had is not known: of a session it is said of some lines.
+/// in their order, and each session was sent its replies at the places of its lines; `E13` was among them
+/// only if the journal has all entries that it may have. Which bytes a socket had is not known: of a
+/// session it is said of some lines.
 ///
 /// A session that ends in a fault is not a fault here: its receipts count, and the others go on.
 /// Nor is a connection that cannot be served, as there is no memory, no thread or no descriptor for
@@ -85,7 +87,7 @@ where
     };
     let pile = Mutex::new(pile);
     let served = serve_connections(rt, alloc, listener, sessions, &store, gate, &pile);
-    let (mut others, is_run) = pile.into_inner().into_receipts(sessions);
+    let (mut others, is_run, has_full) = pile.into_inner().into_receipts(sessions);
     if served.is_err() || receipts.append(&mut others).is_err() {
         let gone = store.give_up(receipts);
         gone.end(others);
@@ -96,9 +98,21 @@ where
         return give_up(store, receipts, ListenFault::NotClosed);
     }
     match store.close(receipts) {
-        Ok(closed) => Ok(closed),
+        Ok(closed) => confirm(closed, has_full),
         Err(Unclosed { store, receipts }) => give_up(store, receipts, ListenFault::NotClosed),
     }
+}
+
+/// Returns a closed store. Where a line was refused since the journal is full, the journal is to be
+/// full.
+fn confirm(closed: Closed, has_full: bool) -> Result<Closed, ListenFault>
+    ensures same { IfOk result (λ c. c ≡ closed) }
+    ensures full { OnOk result (has_full ≡ true → length closed.entries ≡ most_entries) }
+{
+    if has_full && closed.entries() != MOST_ENTRIES {
+        return Err(ListenFault::NotClosed);
+    }
+    Ok(closed)
 }
 
 /// Gives up a store, and its receipts with it, for a fault.
@@ -184,7 +198,11 @@ fn serve_stream<J: StoreName, R: Clock + Wait, G: Gate>(
     let mut reader = Guarded::new(stream);
     let mut readings = Microseconds { rt };
     let gate = WakingGate::new(gate, calls);
-    let Served { receipts, end } = serve_session(
+    let Served {
+        receipts,
+        refused,
+        end,
+    } = serve_session(
         rt,
         alloc,
         &mut reader,
@@ -198,5 +216,10 @@ fn serve_stream<J: StoreName, R: Clock + Wait, G: Gate>(
         let _ = print_refusal(&mut writer, &Refusal::Memory);
         let _ = writer.flush();
     }
-    hand_over(rt, pile, Origin::Session(number), receipts);
+    let origin = Origin::Session {
+        number,
+        has_full: refused.has_full(),
+        has_not_open: refused.has_not_open(),
+    };
+    hand_over(rt, pile, origin, receipts);
 }

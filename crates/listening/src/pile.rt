@@ -1,8 +1,8 @@
 //! What sessions and rounds hand over.
-ghost use Rattle.std.specs.Prelude.{◌≡◌, ◌++◌, ◌&&◌, ◌<◌, [], Bool, IfOk, List, OnErr, OnOk, length, map, nat_le, true, vec_capacity};
+ghost use Rattle.std.specs.Prelude.{◌≡◌, ◌++◌, ◌&&◌, ◌||◌, ◌<◌, [], Bool, IfOk, List, OnErr, OnOk, false, length, map, nat_le, true, vec_capacity};
 ghost use Rattle.std.specs.List.{list_all};
 ghost use Rattle.serving.specs.Progress.{Given};
-ghost use Rattle.listening.specs.Pile.{AreOfRun, IsOf, counted, goes_on, rises_from};
+ghost use Rattle.listening.specs.Pile.{AreOfRun, IsOf, counted, goes_on, has_full_of, rises_from};
 
 use growlog::StoreName;
 use sessions::Receipt;
@@ -14,19 +14,28 @@ use steps::MAX_SESSION;
 /// Whose receipts are handed over.
 #[derive(Clone, Copy, Debug, PartialEq, Eq)]
 pub(crate) enum Origin {
-    /// Those of the session with a number, which hands over once.
-    Session(u8),
+    /// Those of the session with a number, which hands over once; whether a line of it was refused by
+    /// the store's book since the journal is full, and whether the end of a transaction was since it is
+    /// not open there.
+    Session {
+        number: u8,
+        has_full: bool,
+        has_not_open: bool,
+    },
     /// Those of a round beside the sessions.
     Service,
 }
 
 /// The receipts that sessions and rounds have handed over, and whether they can be those of one run:
-/// each session handed over once, and its receipts rise. Where they can, its type keeps that they
-/// are the receipts of lines of sessions with these numbers, and of the service.
+/// each session handed over once, its receipts rise, and no transaction that it had open was refused
+/// as one that is not. Where they can, its type keeps that they are the receipts of lines of sessions
+/// with these numbers, and of the service, and that a line was refused for a full journal only if that
+/// is noted.
 pub(crate) struct Pile<J: StoreName> {
     receipts: Vec<Receipt<J>>,
     sessions: Vec<u8>,
     is_run: bool,
+    has_full: bool,
 }
 
 impl<J: StoreName> Model for Pile<J> {
@@ -39,25 +48,29 @@ impl<J: StoreName> Model for Pile<J> {
       given = map (λ r. record { number = r.number; entry = r.entry }) p.receipts.items;
       sessions = p.sessions.items;
       is_run = p.is_run;
+      has_full = p.has_full;
     } };
 
     ghost invariant = { λ p. IsPile J.schema record {
       given = map (λ r. record { number = r.number; entry = r.entry }) p.receipts.items;
       sessions = p.sessions.items;
       is_run = p.is_run;
+      has_full = p.has_full;
     } };
 }
 
 impl<J: StoreName> Pile<J> {
     /// Makes an empty pile with room for some receipts.
     pub(crate) fn with_room(alloc: Global, receipts: usize) -> Result<Pile<J>, AllocError>
-        ensures { IfOk result (λ pile. pile ≡ record { given = []; sessions = []; is_run = true }) }
+        ensures { IfOk result (λ pile. pile
+            ≡ record { given = []; sessions = []; is_run = true; has_full = false }) }
     {
         let sessions = Vec::with_capacity(alloc, usize::from(MAX_SESSION))?;
         Ok(Pile {
             receipts: Vec::with_capacity(alloc, receipts)?,
             sessions,
             is_run: true,
+            has_full: false,
         })
     }
 
@@ -75,6 +88,8 @@ impl<J: StoreName> Pile<J> {
         ensures run { OnOk result (self.new.is_run ≡ (self.old.is_run
             && goes_on self.old.sessions origin
             (map (λ r. record { number = r.number; entry = r.entry }) receipts.old.items))) }
+        ensures full { OnOk result
+            (self.new.has_full ≡ (self.old.has_full || has_full_of origin)) }
         ensures moved { OnOk result (receipts.new.items ≡ []) }
         ensures err { OnErr result (self.new ≡ self.old) }
         ensures kept { OnErr result (receipts.new.items ≡ receipts.old.items) }
@@ -84,37 +99,50 @@ impl<J: StoreName> Pile<J> {
         self.receipts.append(receipts)?;
         count(&mut self.sessions, origin);
         self.is_run &= goes_on;
+        self.has_full |= has_full(origin);
         Ok(())
     }
 
     /// Tells whether receipts can be those of one run with those that were handed over: a session is
-    /// another one than those before, and its receipts rise.
+    /// another one than those before, its receipts rise, and its transactions were open where they
+    /// ended.
     fn goes_on(&self, origin: Origin, receipts: &[Receipt<J>]) -> bool
         ensures { result ≡ goes_on self.now.sessions origin
             (map (λ r. record { number = r.number; entry = r.entry }) receipts.now) }
     {
         match origin {
-            Origin::Session(number) => {
-                number > 0 && !self.sessions.contains(&number) && are_rising(receipts)
+            Origin::Session {
+                number,
+                has_full: _,
+                has_not_open,
+            } => {
+                number > 0
+                    && !self.sessions.contains(&number)
+                    && !has_not_open
+                    && are_rising(receipts)
             }
             Origin::Service => true,
         }
     }
 
-    /// Returns the receipts, and whether they are those of one run, of sessions with numbers up to
-    /// this one.
-    pub(crate) fn into_receipts(self, most: u8) -> (Vec<Receipt<J>>, bool)
+    /// Returns the receipts, whether they are those of one run, of sessions with numbers up to this
+    /// one, and whether a line was refused since the journal is full.
+    pub(crate) fn into_receipts(self, most: u8) -> (Vec<Receipt<J>>, bool, bool)
         ensures given { map (λ r. record { number = r.number; entry = r.entry }) result.0.items
             ≡ self.given }
         ensures run { result.1 ≡ (self.is_run && list_all (λ n. nat_le n most) self.sessions) }
-        ensures parts { self.is_run ≡ true → AreOfRun J.schema self.sessions self.given }
+        ensures full { result.2 ≡ self.has_full }
+        ensures parts { self.is_run ≡ true
+            → AreOfRun J.schema self.sessions self.has_full self.given }
     {
         let Pile {
             receipts,
             sessions,
             is_run,
+            has_full,
         } = self;
-        (receipts, is_run && are_upto(sessions.as_slice(), most))
+        let is_run = is_run && are_upto(sessions.as_slice(), most);
+        (receipts, is_run, has_full)
     }
 }
 
@@ -123,8 +151,18 @@ fn count(sessions: &mut Vec<u8>, origin: Origin)
     requires { length sessions.old.items < vec_capacity sessions.old }
     ensures { sessions.new.items ≡ counted sessions.old.items origin }
 {
-    if let Origin::Session(number) = origin {
+    if let Origin::Session { number, .. } = origin {
         sessions.push_reserved(number);
+    }
+}
+
+/// Tells whether a line was refused since the journal is full.
+fn has_full(origin: Origin) -> bool
+    ensures { result ≡ has_full_of origin }
+{
+    match origin {
+        Origin::Session { has_full, .. } => has_full,
+        Origin::Service => false,
     }
 }
 

@@ -1,5 +1,5 @@
 //! The calls of a store, with the causes that its refusals are.
-ghost use Rattle.std.specs.Prelude.{◌≡◌, ◌≢◌, Err, IfErr, IfOk, IsErrAnd, None, Ok, OnErr};
+ghost use Rattle.std.specs.Prelude.{◌≡◌, ◌≢◌, Err, IfErr, IfOk, None, OnErr};
 ghost use Rattle.migrator.specs.Fault.{IsCauseOf, IsNoRoom};
 ghost use Rattle.sessions.specs.Store.{IsBegun, IsInstallOf};
 
@@ -27,7 +27,10 @@ pub(crate) fn begin_at<J: StoreName, R: Wait>(
     ensures own { session.old.schema ≡ J.schema → IfErr result IsNoRoom }
     ensures refused { OnErr result (session.new ≡ session.old) }
 {
-    with_cause(store.begin(rt, session))
+    match store.begin(rt, session) {
+        Ok(receipt) => Ok(receipt),
+        Err(refusal) => Err(cause_of(&Refusal::from(refusal))),
+    }
 }
 
 /// Installs a packed node, like the store.
@@ -39,20 +42,19 @@ pub(crate) fn install_at<J: StoreName, R: Wait>(
     ensures install { IfOk result (λ r. IsInstallOf packed r.entry) }
     ensures why { IfErr result IsNoRoom }
 {
-    with_cause(store.install(rt, packed))
+    match store.install(rt, packed) {
+        Ok(receipt) => Ok(receipt),
+        Err(refusal) => Err(cause_of(&Refusal::from(refusal))),
+    }
 }
 
-/// Returns what a store answered: a refusal as the cause that it is.
-fn with_cause<T>(answer: Result<T, Refusal>) -> Result<T, Cause>
-    ensures ok { IfOk answer (λ value. result ≡ Ok value) }
-    ensures err { IfErr answer (λ refusal. IsErrAnd result (IsCauseOf refusal)) }
+/// Returns the cause that a store's refusal is.
+fn cause_of(refusal: &Refusal) -> Cause
+    ensures { IsCauseOf refusal.now result }
 {
-    match answer {
-        Ok(value) => Ok(value),
-        Err(refusal) => Err(match refusal {
-            Refusal::Memory => Cause::Memory,
-            Refusal::JournalFull => Cause::Full(Filled(())),
-            _ => Cause::Worker,
-        }),
+    match refusal {
+        Refusal::Memory => Cause::Memory,
+        Refusal::JournalFull => Cause::Full(Filled(())),
+        _ => Cause::Worker,
     }
 }

@@ -4,6 +4,7 @@ pub mod MigrateIdle
 pub mod ProgressAsking
 pub mod StepOpening
 pub mod AnswerRefusing
+pub mod BookRefusalsKnown
 pub mod ServeStarting
 pub mod ServeLineTelling
 pub mod WriteSteps

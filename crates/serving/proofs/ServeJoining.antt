@@ -8,7 +8,9 @@ use Rattle.lines.specs.Partial.{Partial}
 use Rattle.sessions.specs.SessionState.{SessionState}
 use Rattle.serving.specs.Progress.{Given, Progress}
 use Rattle.serving.specs.ServedSession.{Told, IsAnswered, Serves}
+use Rattle.serving.specs.BookRefusals.{GoesOn}
 use Rattle.serving.specs.Account.{AccountState, Served, Writes, WritesPrefix, LeavesAll}
+use Rattle.serving.proofs.BookRefusalsKnown.{goes_refl, goes_trans, known_join, known_on}
 
 module _ (may_give : ℕ → Bool) (schema : Schema) (i : ℕ) where
   pub serves_one : (l : Partial) (t : Told) (p q : Progress) (g : List Given) (o : List ℕ) → IsAnswered may_give schema i l t p g o q → Serves may_give schema i (l ∷ []) (t ∷ []) p g o q
@@ -51,11 +53,13 @@ module _ (may_give : ℕ → Bool) (schema : Schema) (i : ℕ) where
       )
 
 module _ (may_give : ℕ → Bool) where
-  pub served_none : (s : SessionState) (a b : AccountState) → b.given ≡ a.given → Served may_give [] [] s s a b
-  served_none s a b given = record {
+  pub served_none : (s : SessionState) (a b : AccountState) → b.given ≡ a.given → b.refused ≡ a.refused → Served may_give [] [] s s a b
+  served_none s a b given refused = record {
     told = [];
     given = [];
     given_is = given ∙ sym (append-nil a.given);
+    known = tt;
+    goes_on = subst (GoesOn a.refused) (sym refused) (goes_refl a.refused);
     schema_is = refl;
     number_is = refl;
     steps = λ p at. (p, (at, (refl, (refl, refl))));
@@ -66,6 +70,8 @@ module _ (may_give : ℕ → Bool) where
     told = f.told ++ s.told;
     given = f.given ++ s.given;
     given_is = s.given_is ∙ ap (λ k. k ++ s.given) f.given_is ∙ append_assoc a.given f.given s.given;
+    known = known_join c.refused f.told s.told (known_on b.refused c.refused f.told s.goes_on f.known) s.known;
+    goes_on = goes_trans a.refused b.refused c.refused f.goes_on s.goes_on;
     schema_is = s.schema_is ∙ f.schema_is;
     number_is = s.number_is ∙ f.number_is;
     steps = λ p at.
@@ -81,7 +87,7 @@ module _ (may_give : ℕ → Bool) where
   }
 
   pub writes_none : (s : SessionState) (a : AccountState) (w : Option (List ℕ)) → Writes may_give [] s s a a w w
-  writes_none s a w = record { out = []; wrote = Appends-nil w; served = served_none s a a refl }
+  writes_none s a w = record { out = []; wrote = Appends-nil w; served = served_none s a a refl refl }
 
   pub writes_join : (ls ms : List Partial) (old mid new : SessionState) (a b c : AccountState) (w v u : Option (List ℕ)) → Writes may_give ls old mid a b w v → Writes may_give ms mid new b c v u → Writes may_give (ls ++ ms) old new a c w u
   writes_join ls ms old mid new a b c w v u f s = record { out = f.out ++ s.out; wrote = Appends-trans w v u f.out s.out f.wrote s.wrote; served = served_join ls ms f.out s.out old mid new a b c f.served s.served }
@@ -100,5 +106,5 @@ module _ (may_give : ℕ → Bool) where
   left_front old new a b w v f = record {
     out = [];
     wrote = record { out = []; left = []; wrote = Appends-kept w w v [] (Appends-nil w) f.wrote; front = refl };
-    served = subst (λ s. Served may_give [] [] old s a b) (sym f.session_is) (served_none old a b f.given_is);
+    served = subst (λ s. Served may_give [] [] old s a b) (sym f.session_is) (served_none old a b f.given_is f.refused_is);
   }

@@ -1,9 +1,11 @@
 -- A served session from its start to its end.
 use Rattle.std.proofs.Common.{◌≡◌, ◌≢◌, ◌⊎◌, ℕ, List, [], ◌++◌, Bool, Option, None, inl, inr, refl, sym, ap, ◌∙◌, subst}
+use Rattle.std.specs.List.{AllByRecursion}
 use Rattle.lines.specs.Partial.{Partial}
 use Rattle.sessions.specs.SessionState.{SessionTransactionState, SessionState}
 use Rattle.serving.specs.declared.served_session.End.{End}
 use Rattle.serving.specs.declared.served_session.End.TheVariants.{Closed, Read, Write, Gate, Memory}
+use Rattle.serving.specs.BookRefusals.{BookRefusalsState, IsKnown}
 use Rattle.serving.specs.Progress.{Given, Progress, after}
 use Rattle.serving.specs.ServedSession.{Serves, IsServed, IsServedInPart}
 use Rattle.serving.specs.Serving.{IsAt, IsOpenAs}
@@ -24,15 +26,15 @@ module _ (may_give : ℕ → Bool) (old new : SessionState) (a b : AccountState)
         ),
       )
 
-  pub served : (receipt : ℕ) → receipt ≡ new.receipt → (r t w v : Option (List ℕ)) → Ends may_give old new a b r t w v → IsServed may_give old.schema old.number given (after old.receipt None) receipt r t w v
-  served receipt is r t w v e =
+  pub served : (receipt : ℕ) → receipt ≡ new.receipt → (refused : BookRefusalsState) → refused ≡ b.refused → (r t w v : Option (List ℕ)) → Ends may_give old new a b r t w v → IsServed may_give old.schema old.number given (after old.receipt None) receipt refused r t w v
+  served receipt is refused kinds r t w v e =
       let d = serves _ e.writes.out e.writes.served in
-      record { told = e.writes.served.told; text = e.text; took = e.took; ended_there = e.ended_there; out = e.writes.out; wrote = e.writes.wrote; later = d.0; last = is ∙ sym d.1.0.receipt_is; serves = d.1.1 }
+      record { told = e.writes.served.told; known = subst (λ k. AllByRecursion (λ t. IsKnown k t.refused) e.writes.served.told) (sym kinds) e.writes.served.known; text = e.text; took = e.took; ended_there = e.ended_there; out = e.writes.out; wrote = e.writes.wrote; later = d.0; last = is ∙ sym d.1.0.receipt_is; serves = d.1.1 }
 
-  pub served_in_part : (receipt : ℕ) → receipt ≡ new.receipt → (r t w v : Option (List ℕ)) → EndsInPart may_give old new a b r t w v → IsServedInPart may_give old.schema old.number given (after old.receipt None) receipt r t w v
-  served_in_part receipt is r t w v e =
+  pub served_in_part : (receipt : ℕ) → receipt ≡ new.receipt → (refused : BookRefusalsState) → refused ≡ b.refused → (r t w v : Option (List ℕ)) → EndsInPart may_give old new a b r t w v → IsServedInPart may_give old.schema old.number given (after old.receipt None) receipt refused r t w v
+  served_in_part receipt is refused kinds r t w v e =
       let d = serves e.lines e.writes.out e.writes.served in
-      record { told = e.writes.served.told; text = e.text; took = e.took; lines = e.lines; rest = e.rest; are_first = e.are_first; out = e.writes.out; wrote = e.writes.wrote; later = d.0; last = is ∙ sym d.1.0.receipt_is; serves = d.1.1 }
+      record { told = e.writes.served.told; known = subst (λ k. AllByRecursion (λ t. IsKnown k t.refused) e.writes.served.told) (sym kinds) e.writes.served.known; text = e.text; took = e.took; lines = e.lines; rest = e.rest; are_first = e.are_first; out = e.writes.out; wrote = e.writes.wrote; later = d.0; last = is ∙ sym d.1.0.receipt_is; serves = d.1.1 }
 
 -- a session ends as closed, or otherwise
 closed_or_other : (e : End) → (e ≡ Closed) ⊎ (e ≢ Closed)

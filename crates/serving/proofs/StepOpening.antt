@@ -22,13 +22,15 @@ use Rattle.steps.specs.declared.step.Reply.TheVariants.{Begun, Shown, RolledBack
 use Rattle.steps.specs.Misfit.{misfit}
 use Rattle.sessions.specs.journal.declared.entry.Entry.{Entry}
 use Rattle.sessions.specs.journal.declared.entry.Entry.TheVariants.{Commit as Commits}
+use Rattle.sessions.specs.declared.refusal.StoreRefusal.TheVariants.{Session}
 use Rattle.sessions.specs.SessionState.{SessionTransactionState, SessionState, IsSelect, TakesNoMemory, select_in, start_of, with_transaction}
 use Rattle.sessions.specs.Store.{IsBegun, IsCommitted, begun_with}
 use Rattle.serving.specs.declared.answer.Sent.{Sent}
 use Rattle.serving.specs.declared.answer.Sent.TheVariants.{Reply as Says, Ending, Refused as Denies}
 use Rattle.serving.specs.Progress.{Given, ServedTransaction, Progress, after, unwritten, listed, query, IsBegin, Replies, TakesBegin}
-use Rattle.serving.specs.Serving.{IsAt, IsOpened, IsOpenAs, IsReplied, IsSentFor, IsStepped, ending_in, reply_by, sent_listing, sent_refusal}
+use Rattle.serving.specs.Serving.{IsAt, IsByBook, IsOpened, IsOpenAs, IsReplied, IsSentFor, IsStepped, ending_in, reply_by, sent_listing, sent_refusal}
 use Rattle.serving.proofs.AnswerRefusing.{memory_or_reply}
+use Rattle.serving.proofs.BookRefusalsKnown.{listing_by_book}
 use Rattle.serving.proofs.ProgressAsking.{fits_of, never, nothing_of, or_right}
 
 pub none_open : (schema : Schema) (t : Option SessionTransactionState) (o : Option ServedTransaction) → t ≡ None → IsOpenAs schema t o → o ≡ None
@@ -105,6 +107,7 @@ module _ (old new : SessionState) (n : ℕ) (e : Entry) (b : IsBegun old new n e
     schema_is = ap (λ s. s.schema) b.session_is;
     number_is = ap (λ s. s.number) b.session_is;
     alone = never (not (is_some old.transaction)) (ap (λ t. not (is_some t)) none);
+    by_book = λ r f. cc;
     steps = λ p at. (
       after n (Some (unwritten n shown)),
       (begun_at, by_none _ _ p.transaction (none_open old.schema old.transaction p.transaction none at.open_is) (begun instant (is ∙ ap (λ s. unwrap_or (start_of s) 0) b.session_is) p at)),
@@ -119,6 +122,7 @@ commit_stepped may_give old new reading n e b may = record {
   schema_is = ap (λ s. s.schema) b.session_is;
   number_is = ap (λ s. s.number) b.session_is;
   alone = never (is_some old.transaction) (ap is_some b.was_open);
+  by_book = λ r f. cc;
   steps = λ p at.
       let o = some_open old.schema old.transaction b.ran p.transaction b.was_open at.open_is in (
         after n None,
@@ -150,6 +154,7 @@ rollback_stepped may_give old new reply is left = record {
   schema_is = ap (λ s. s.schema) left;
   number_is = ap (λ s. s.number) left;
   alone = λ e. refl;
+  by_book = λ r f. cc;
   steps = λ p at. (after p.receipt None, (subst (λ s. IsAt s (after p.receipt None)) (sym left) (record { receipt_is = at.receipt_is; open_is = tt }), by p old.transaction p.transaction refl is at.open_is));
 }
   where
@@ -176,6 +181,7 @@ column_refused may_give s j number name of = record {
   schema_is = refl;
   number_is = refl;
   alone = λ e. refl;
+  by_book = λ r f. cc;
   steps = λ p at. (p, (at, record { takes = refl; reply_is = refl; left = refl }));
 }
 
@@ -221,7 +227,7 @@ module _ (number : ℕ) (schema : Schema) (receipt : ℕ) (t : SessionTransactio
 
   -- it is sent, or memory ran out
   pub sent_query : (listing : Result Listing Refusal) → IsSelect s form keys listing
-      → ((listing ≡ Err Memory) × (sent_listing listing ≡ Denies Memory)) ⊎ (sent_listing listing ≡ Says (query schema number o.changes o.own form keys))
+      → ((listing ≡ Err Memory) × (sent_listing listing ≡ Denies (Session Memory))) ⊎ (sent_listing listing ≡ Says (query schema number o.changes o.own form keys))
   sent_query (Ok listing) select = inr (ap (λ r. Says (said r)) (select o.changes is.held (λ e. cc)) ∙ ap Says said_is)
   sent_query (Err refusal) select = by (memory_or_reply refusal)
     where
@@ -233,7 +239,7 @@ module _ (number : ℕ) (schema : Schema) (receipt : ℕ) (t : SessionTransactio
       memory_of e = ap refusal_in e
 
       by : (refusal ≡ Memory) ⊎ ((refusal ≢ Memory) × (sent_refusal refusal ≡ Says (Refused refusal)))
-          → (◌≡◌ {A = Result Listing Refusal} (Err refusal) (Err Memory) × (sent_refusal refusal ≡ Denies Memory)) ⊎ (sent_refusal refusal ≡ Says (query schema number o.changes o.own form keys))
+          → (◌≡◌ {A = Result Listing Refusal} (Err refusal) (Err Memory) × (sent_refusal refusal ≡ Denies (Session Memory))) ⊎ (sent_refusal refusal ≡ Says (query schema number o.changes o.own form keys))
       by (inl e) = inl (ap (λ x. Err x) e, ap sent_refusal e)
       by (inr f) = inr (f.1 ∙ ap (λ r. Says (said r)) (select o.changes is.held (λ e. f.0 (memory_of e))) ∙ ap Says said_is)
 
@@ -244,12 +250,13 @@ query_stepped may_give s form keys sent ran there so = record {
   schema_is = refl;
   number_is = refl;
   alone = λ e. refl;
+  by_book = subst IsByBook (sym so.1.1.1) (listing_by_book so.0);
   steps = λ p at.
       let o = some_open s.schema s.transaction ran p.transaction there at.open_is in
       (p, (at, by p o (sent_query s.number s.schema s.receipt ran o.one o.opened form keys so.0 (subst (λ (x : Option SessionTransactionState). IsSelect (record { number = s.number; schema = s.schema; receipt = s.receipt; transaction = x }) form keys so.0) there so.1.0))));
 }
   where
-    by : (p : Progress) (o : Open s.schema ran p.transaction) → ((so.0 ≡ Err Memory) × (sent_listing so.0 ≡ Denies Memory)) ⊎ (sent_listing so.0 ≡ Says (query s.schema s.number (o.one).changes (o.one).own form keys))
+    by : (p : Progress) (o : Open s.schema ran p.transaction) → ((so.0 ≡ Err Memory) × (sent_listing so.0 ≡ Denies (Session Memory))) ⊎ (sent_listing so.0 ≡ Says (query s.schema s.number (o.one).changes (o.one).own form keys))
         → IsReplied may_give s.schema s.number (Select s.number form keys) p [] (reply_by None sent) p
     by p o (inl e) = subst (λ x. IsReplied may_give s.schema s.number (Select s.number form keys) p [] (reply_by None x) p) (sym (so.1.1.1 ∙ e.1)) (record {
       may = or_right (not (is_some p.transaction)) _ (fits_of (misfit s.schema (Select s.number form keys)) (is_none s.transaction) (λ unfit. so.1.1.0 unfit e.0));
@@ -265,6 +272,7 @@ alone_stepped may_give old between new n e form keys sent b none so left = recor
   schema_is = ap (λ s. s.schema) left ∙ ap (λ s. s.schema) b.session_is;
   number_is = ap (λ s. s.number) left ∙ ap (λ s. s.number) b.session_is;
   alone = never (not (is_some old.transaction)) (ap (λ t. not (is_some t)) none);
+  by_book = subst IsByBook (sym so.1.1.1) (listing_by_book so.0);
   steps = λ p at. (
     after n None,
     (
@@ -281,7 +289,7 @@ alone_stepped may_give old between new n e form keys sent b none so left = recor
     unfit : TakesNoMemory (record { number = old.number; schema = old.schema; receipt = n; transaction = Some (begun_with n b.earlier b.view) }) (misfit old.schema (Select old.number form keys)) so.0
     unfit = subst (λ s. TakesNoMemory s (misfit s.schema (Select s.number form keys)) so.0) b.session_is so.1.1.0
 
-    by : (p : Progress) → IsAt old p → p.transaction ≡ None → ((so.0 ≡ Err Memory) × (sent_listing so.0 ≡ Denies Memory)) ⊎ (sent_listing so.0 ≡ Says (query old.schema old.number m (own m []) form keys))
+    by : (p : Progress) → IsAt old p → p.transaction ≡ None → ((so.0 ≡ Err Memory) × (sent_listing so.0 ≡ Denies (Session Memory))) ⊎ (sent_listing so.0 ≡ Says (query old.schema old.number m (own m []) form keys))
         → IsReplied may_give old.schema old.number (Select old.number form keys) p (given_as n e ∷ []) (reply_by (Some (given_as n e)) sent) (after n None)
     by p at is (inl f) = subst (λ x. IsReplied may_give old.schema old.number (Select old.number form keys) p (given_as n e ∷ []) (reply_by (Some (given_as n e)) x) (after n None)) (sym (so.1.1.1 ∙ f.1))
         (is, (nothing_of (misfit old.schema (Select old.number form keys)) false (λ u. unfit u f.0), record { receipt = given_as n e; changes = m; view = b.view; takes = refl; begins = begins old between n e b p at; refusal_is = refl; left = refl }))

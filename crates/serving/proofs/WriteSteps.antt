@@ -21,8 +21,9 @@ use Rattle.sessions.specs.SessionState.{SessionTransactionState, SessionState, I
 use Rattle.serving.specs.declared.answer.Sent.{Sent}
 use Rattle.serving.specs.declared.answer.Sent.TheVariants.{Reply as Says}
 use Rattle.serving.specs.Progress.{Given, ServedTransaction, Progress, after, own_of, with_own, may_run_out, Takes, TakesWrite}
-use Rattle.serving.specs.Serving.{IsAt, IsOpenAs, IsReplied, IsStepped, reply_by, sent_refusal}
+use Rattle.serving.specs.Serving.{IsAt, IsByBook, IsOpenAs, IsReplied, IsStepped, reply_by, sent_refusal}
 use Rattle.serving.proofs.AnswerRefusing.{memory_or_reply}
+use Rattle.serving.proofs.BookRefusalsKnown.{refusal_by_book}
 use Rattle.serving.proofs.ProgressAsking.{nothing_of, open_of, open_same}
 
 -- what is sent for a write
@@ -69,8 +70,12 @@ module _ (may_give : ℕ → Bool) (number : ℕ) (schema : Schema) (receipt : �
 
   stepped : (t : Option SessionTransactionState) (w : Net) (result : Result ℕ Refusal) → Writes → MayRunOut → IsWrite step (state t) (state (option_map (with_writes w) t)) result
       → TakesNoMemory (state t) (misfit schema step) result → OnErr result (state (option_map (with_writes w) t) ≡ state t) → IsStepped may_give step (state t) (state (option_map (with_writes w) t)) (record { given = None; install = None; sent = sent_for step result })
-  stepped t w result takes may writes unfit refused = record { schema_is = refl; number_is = refl; alone = λ e. refl; steps = λ p at. by result writes unfit refused p at }
+  stepped t w result takes may writes unfit refused = record { schema_is = refl; number_is = refl; alone = λ e. refl; by_book = by_book result; steps = λ p at. by result writes unfit refused p at }
     where
+      by_book : (r : Result ℕ Refusal) → IsByBook (sent_for step r)
+      by_book (Ok count) = λ x f. cc
+      by_book (Err refusal) = refusal_by_book refusal
+
       new : SessionState
       new = state (option_map (with_writes w) t)
 

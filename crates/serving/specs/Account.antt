@@ -1,18 +1,21 @@
 -- What is kept of the lines of a served session, and what serving some of them did.
 use Rattle.std.specs.Prelude.{◌≡◌, ◌⊎◌, ℕ, ◌<◌, List, [], ◌++◌, Bool, Option}
 use Rattle.std.specs.Io.KnownBytes.{Appends, Keeps}
+use Rattle.std.specs.List.{AllByRecursion}
 use Rattle.statement.specs.Writer.{AppendsPrefix}
 use Rattle.lines.specs.Partial.{Partial}
 use Rattle.lines.specs.Lines.{EndsLines, lines_from}
 use Rattle.sessions.specs.SessionState.{SessionState}
+use Rattle.serving.specs.BookRefusals.{BookRefusalsState, GoesOn, IsKnown}
 use Rattle.serving.specs.Progress.{Given, Progress}
 use Rattle.serving.specs.ServedSession.{Told, Serves}
 use Rattle.serving.specs.Serving.{AnswerState, IsAt, given_of}
 
--- the receipts that the lines took, and for how many more there is room
+-- the receipts that the lines took, for how many more there is room, and what the book refused lines for
 pub record AccountState : Type 0 where
   pub given : List Given
   pub room : ℕ
+  pub refused : BookRefusalsState
 
 -- an answer has no receipt, or there is room for two
 abbrev pub HasRoomFor : AnswerState → AccountState → Type 0
@@ -23,6 +26,7 @@ pub record LeavesAll (old new : SessionState) (a b : AccountState) (w w' : Optio
   where
     pub session_is : new ≡ old
     pub given_is : b.given ≡ a.given
+    pub refused_is : b.refused ≡ a.refused
     pub wrote : Keeps w w'
 
 -- by which readings of the clock may be given
@@ -33,6 +37,8 @@ module _ (may_give : ℕ → Bool) where
     pub told : List Told
     pub given : List Given
     pub given_is : b.given ≡ a.given ++ given
+    pub known : AllByRecursion (λ t. IsKnown b.refused t.refused) told
+    pub goes_on : GoesOn a.refused b.refused
     pub schema_is : new.schema ≡ old.schema
     pub number_is : new.number ≡ old.number
     pub steps : (p : Progress) → IsAt old p

@@ -1,4 +1,5 @@
 pub mod Account
+pub mod BookRefusals
 pub mod Line
 pub mod Ends
 pub mod Serving

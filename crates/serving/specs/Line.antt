@@ -11,7 +11,7 @@ use Rattle.statement.specs.Writer.{AppendsPrefix}
 use Rattle.lines.specs.Partial.{Partial}
 use Rattle.sessions.specs.SessionState.{SessionState}
 use Rattle.serving.specs.ServedSession.{said, reading_takes}
-use Rattle.serving.specs.Serving.{AnswerState, IsStepped, given_of, reply_of, text_of}
+use Rattle.serving.specs.Serving.{AnswerState, IsStepped, given_of, kept_of, reply_of, text_of}
 use Rattle.serving.specs.Account.{AccountState, LeavesAll}
 
 -- this was read of a line: memory may have run out where reading it takes some
@@ -20,9 +20,10 @@ pub record IsRead (schema : Schema) (i : ℕ) (line : Partial)
   pub unless : UnlessMemory r (said schema i line)
   pub memory : r ≡ Err Memory → reading_takes schema i line ≡ true
 
--- an answer's receipts were put behind those of the lines before
-abbrev pub IsReported : AnswerState → AccountState → AccountState → Type 0
-IsReported answer a b = b.given ≡ a.given ++ given_of answer
+-- an answer's receipts were put behind those of the lines before, and what the book refused it for is kept
+pub record IsReported (answer : AnswerState) (a b : AccountState) : Type 0 where
+  pub given_is : b.given ≡ a.given ++ given_of answer
+  pub refused_is : b.refused ≡ kept_of a.refused answer.sent
 
 -- by which readings of the clock may be given
 module _ (may_give : ℕ → Bool) where

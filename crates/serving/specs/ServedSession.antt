@@ -1,6 +1,7 @@
 -- What a client is sent, by the lines that it sends, what is kept of each, and its receipts.
 use Rattle.std.specs.Prelude.{◌≡◌, ℕ, List, [], ◌∷◌, ◌++◌, ◌⊎◌, Bool, true, false, Option, Some, None, Result, Ok, Err, length}
 use Rattle.std.specs.Io.KnownBytes.{Appends, Consumes, IsAtEnd}
+use Rattle.std.specs.List.{AllByRecursion}
 use Rattle.values.specs.declared.refusal.Refusal.{Refusal}
 use Rattle.values.specs.declared.refusal.Refusal.TheVariants.{LineTooLong, Memory}
 use Rattle.values.specs.Tables.{Schema}
@@ -13,6 +14,7 @@ use Rattle.statement.specs.Print.{refusal_text, reply_text}
 use Rattle.statement.specs.Writer.{AppendsPrefix}
 use Rattle.lines.specs.Partial.{Partial}
 use Rattle.lines.specs.Lines.{lines_of}
+use Rattle.serving.specs.BookRefusals.{BookRefusalsState, IsKnown}
 use Rattle.serving.specs.Progress.{Given, Progress, Takes, IsRefusedStep}
 
 -- what is told of a line: how many receipts it took, and what it was refused for where that was memory, a full journal, or a transaction that is not open at the store
@@ -92,10 +94,12 @@ module _ (may_give : ℕ → Bool) (schema : Schema) (i : ℕ) where
   Serves [] (t ∷ told) p given out p' = ⊥
   Serves (line ∷ lines) [] p given out p' = ⊥
 
-  -- a text was read to its end, what follows for its lines was written, and this is the number of the last receipt
-  pub record IsServed (given : List Given) (p : Progress) (receipt : ℕ)
+  -- a text was read to its end, what follows for its lines was written, this is the number of the last receipt, and
+  -- these are what the book refused lines for
+  pub record IsServed (given : List Given) (p : Progress) (receipt : ℕ) (refused : BookRefusalsState)
       (unread left old new : Option (List ℕ)) : Type 0 where
     pub told : List Told
+    pub known : AllByRecursion (λ t. IsKnown refused t.refused) told
     pub text : List ℕ
     pub took : Consumes unread left text
     pub ended_there : IsAtEnd left
@@ -105,10 +109,12 @@ module _ (may_give : ℕ → Bool) (schema : Schema) (i : ℕ) where
     pub last : receipt ≡ later.receipt
     pub serves : Serves (lines_of text) told p given out later
 
-  -- a text was read, of what follows for its first lines a prefix was written, and this is the number of their last receipt
-  pub record IsServedInPart (given : List Given) (p : Progress) (receipt : ℕ)
+  -- a text was read, of what follows for its first lines a prefix was written, this is the number of their last
+  -- receipt, and these are what the book refused them for
+  pub record IsServedInPart (given : List Given) (p : Progress) (receipt : ℕ) (refused : BookRefusalsState)
       (unread left old new : Option (List ℕ)) : Type 0 where
     pub told : List Told
+    pub known : AllByRecursion (λ t. IsKnown refused t.refused) told
     pub text : List ℕ
     pub took : Consumes unread left text
     pub lines : List Partial

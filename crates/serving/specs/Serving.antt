@@ -21,9 +21,13 @@ use Rattle.steps.specs.Reply.{commit_reply}
 use Rattle.statement.specs.Print.{refusal_text, reply_text}
 use Rattle.sessions.specs.journal.declared.entry.Entry.{Entry}
 use Rattle.sessions.specs.journal.declared.entry.Entry.TheVariants.{Begin, Commit, Split, Install}
+use Rattle.sessions.specs.declared.refusal.StoreRefusal.{StoreRefusal}
+use Rattle.sessions.specs.declared.refusal.StoreRefusal.TheVariants.{Session, Book}
+use Rattle.sessions.specs.Refusal.{refusal_of}
 use Rattle.sessions.specs.SessionState.{IsSelect, TakesNoMemory, SessionTransactionState, SessionState}
 use Rattle.serving.specs.declared.answer.Sent.{Sent}
 use Rattle.serving.specs.declared.answer.Sent.TheVariants.{Reply as Replies, Ending, Refused as Refuses}
+use Rattle.serving.specs.BookRefusals.{BookRefusalsState, with_refusal}
 use Rattle.serving.specs.Progress.{Given, IsServiceBegin, ServedTransaction, PacksFirst, Progress, Takes, IsRefusedStep, asks_store}
 
 -- how a step was answered: with the receipts that it took
@@ -61,15 +65,26 @@ ending_of (Some g) = ending_in g.entry
 abbrev pub reply_by : Option Given → Sent → Result Reply Refusal
 reply_by given (Replies reply) = Ok reply
 reply_by given Ending = Ok (ending_of given)
-reply_by given (Refuses refusal) = Err refusal
+reply_by given (Refuses refusal) = Err (refusal_of refusal)
 
 abbrev pub reply_of : AnswerState → Result Reply Refusal
 reply_of a = reply_by a.given a.sent
 
 abbrev pub refused_of : Sent → Option Refusal
-refused_of (Refuses refusal) = Some refusal
+refused_of (Refuses refusal) = Some (refusal_of refusal)
 refused_of (Replies reply) = None
 refused_of Ending = None
+
+-- what the book refused lines for, with an answer more
+abbrev pub kept_of : BookRefusalsState → Sent → BookRefusalsState
+kept_of r (Refuses (Book refusal)) = with_refusal r refusal
+kept_of r (Refuses (Session refusal)) = r
+kept_of r (Replies reply) = r
+kept_of r Ending = r
+
+-- what is refused, and not by the book, is refused for memory
+abbrev pub IsByBook : Sent → Type 0
+IsByBook sent = (refusal : Refusal) → sent ≡ Refuses (Session refusal) → refusal ≡ Memory
 
 abbrev pub text_of : Result Reply Refusal → List ℕ
 text_of (Ok reply) = reply_text reply
@@ -77,7 +92,7 @@ text_of (Err refusal) = refusal_text refusal
 
 -- what is sent for a refusal: memory that ran out is no reply
 abbrev pub sent_refusal : Refusal → Sent
-sent_refusal Memory = Refuses Memory
+sent_refusal Memory = Refuses (Session Memory)
 sent_refusal refusal = Replies (Refused refusal)
 
 abbrev pub sent_listing : Result Listing Refusal → Sent
@@ -118,12 +133,14 @@ module _ (may_give : ℕ → Bool) where
   IsReplied schema i step p given (Ok reply) p' = Takes may_give schema i step p given reply p'
   IsReplied schema i step p given (Err refusal) p' = IsRefusedStep schema i step p given refusal p'
 
-  -- what an answer to a step makes of a session, whatever it has come to; one that does not ask the store takes no receipt
+  -- what an answer to a step makes of a session, whatever it has come to; one that does not ask the store takes no
+  -- receipt, and only the book refuses it, or memory that ran out
   pub record IsStepped (step : Step) (old new : SessionState) (a : AnswerState) : Type 0 where
     pub schema_is : new.schema ≡ old.schema
     pub number_is : new.number ≡ old.number
     pub alone : asks_store old.schema old.number step (is_some old.transaction) ≡ false
         → given_of a ≡ []
+    pub by_book : IsByBook a.sent
     pub steps : (p : Progress) → IsAt old p
         → (p' : Progress)
         × (IsAt new p' × IsReplied old.schema old.number step p (given_of a) (reply_of a) p')
@@ -138,6 +155,10 @@ IsCutBy cut (Some g) (Err refusal) = ⊥
 -- there was no room
 abbrev pub IsNoRoom : Refusal → Type 0
 IsNoRoom refusal = (refusal ≡ JournalFull) ⊎ (refusal ≡ Memory)
+
+-- and the book says so, or memory ran out before it was asked
+abbrev pub IsRefusedForRoom : StoreRefusal → Type 0
+IsRefusedForRoom e = (e ≡ Book JournalFull) ⊎ ((e ≡ Book Memory) ⊎ (e ≡ Session Memory))
 
 abbrev pub MigrateEnds : TreeState → List Given → Result Reply Refusal → Type 0
 MigrateEnds view packed (Ok reply) = (reply ≡ Done) × PacksFirst view packed
@@ -162,8 +183,8 @@ IsMigrated schema [] (Ok reply) = ⊥
 IsMigrated schema (receipt ∷ packed) reply = Migrated schema receipt packed reply
 
 -- what a begin shows was packed, or there was no room for it; where the entry is no begin nothing is said
-abbrev pub IsPackedOf : {A : Type 0} → (A → Given) → Entry → Result (Option A) Refusal → Type 0
+abbrev pub IsPackedOf : {A : Type 0} → (A → Given) → Entry → Result (Option A) StoreRefusal → Type 0
 IsPackedOf f (Begin session earlier view) (Ok install) =
     PacksFirst view (given_list (option_map f install))
-IsPackedOf f (Begin session earlier view) (Err refusal) = IsNoRoom refusal
+IsPackedOf f (Begin session earlier view) (Err refusal) = IsRefusedForRoom refusal
 IsPackedOf f e r = Unit {0}

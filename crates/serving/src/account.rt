@@ -1,18 +1,21 @@
-//! The receipts that the lines of a served session took.
+//! The receipts that the lines of a served session took, and what the store refused them for.
 ghost use Rattle.std.specs.Prelude.{◌≡◌, ◌<◌, ◌++◌, [], OnOk};
 ghost use Rattle.values.specs.Memory.{OnlyMemory};
+ghost use Rattle.serving.specs.BookRefusals.{none_refused};
 
-use crate::answer::Answer;
+use crate::answer::{Answer, Sent};
+use crate::book_refusals::BookRefusals;
 use growlog::StoreName;
-use sessions::Receipt;
+use sessions::{Receipt, StoreRefusal};
 use std::alloc::Global;
 use std::marker::Model;
 use values::Mem;
 
-/// The receipts that the lines took so far. Contracts see them, and for how many more there is
-/// room.
+/// The receipts that the lines took so far, and what the store's book refused lines for. Contracts see
+/// them, and for how many more receipts there is room.
 pub(crate) struct Account<J: StoreName> {
     receipts: Vec<Receipt<J>>,
+    refused: BookRefusals,
 }
 
 impl<J: StoreName> Model for Account<J> {
@@ -24,20 +27,23 @@ impl<J: StoreName> Model for Account<J> {
     ghost view = { λ a. record {
       given = map (λ r. record { number = r.number; entry = r.entry }) a.receipts.items;
       room = vec_capacity a.receipts - vec_len a.receipts;
+      refused = a.refused;
     } };
 }
 
 impl<J: StoreName> Account<J> {
     ghost use Rattle.std.specs.Prelude.{map};
     ghost use Rattle.serving.specs.Account.{HasRoomFor};
-    ghost use Rattle.serving.specs.Serving.{given_of};
+    ghost use Rattle.serving.specs.Serving.{given_of, kept_of};
 
     /// Makes an account of no lines.
     pub(crate) fn new(alloc: Global) -> Account<J>
-        ensures { result.given ≡ [] }
+        ensures given { result.given ≡ [] }
+        ensures refused { result.refused ≡ none_refused }
     {
         Account {
             receipts: Vec::new(alloc),
+            refused: BookRefusals::new(),
         }
     }
 
@@ -45,21 +51,23 @@ impl<J: StoreName> Account<J> {
     pub(crate) fn reserve(&mut self) -> Mem<()>
         ensures ok { OnOk result (1 < self.new.room) }
         ensures given { self.new.given ≡ self.old.given }
+        ensures refused { self.new.refused ≡ self.old.refused }
         ensures memory { OnlyMemory result }
     {
         self.receipts.reserve(2)?;
         Ok(())
     }
 
-    /// Keeps the receipts of an answer, for which there is room.
+    /// Keeps the receipts of an answer, for which there is room, and what the book refused it for.
     pub(crate) fn keep(&mut self, answer: Answer<J>)
         requires { HasRoomFor answer self.old }
-        ensures { self.new.given ≡ self.old.given ++ given_of answer }
+        ensures given { self.new.given ≡ self.old.given ++ given_of answer }
+        ensures refused { self.new.refused ≡ kept_of self.old.refused answer.sent }
     {
         let Answer {
             receipt,
             install,
-            sent: _,
+            sent,
         } = answer;
         match receipt {
             Some(receipt) => self.receipts.push_reserved(receipt),
@@ -69,14 +77,19 @@ impl<J: StoreName> Account<J> {
             Some(install) => self.receipts.push_reserved(install),
             None => {}
         }
+        match sent {
+            Sent::Refused(StoreRefusal::Book(refusal)) => self.refused.keep(refusal),
+            _ => {}
+        }
     }
 
-    /// Returns the receipts, in order.
-    pub(crate) fn into_receipts(self) -> Vec<Receipt<J>>
-        ensures { map (λ r. record { number = r.number; entry = r.entry }) result.items
+    /// Returns the receipts, in order, and what the book refused lines for.
+    pub(crate) fn into_parts(self) -> (Vec<Receipt<J>>, BookRefusals)
+        ensures given { map (λ r. record { number = r.number; entry = r.entry }) result.0.items
             ≡ self.given }
+        ensures refused { result.1 ≡ self.refused }
     {
-        let Account { receipts } = self;
-        receipts
+        let Account { receipts, refused } = self;
+        (receipts, refused)
     }
 }

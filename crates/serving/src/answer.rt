@@ -1,12 +1,13 @@
 //! What is sent for a step.
 ghost use Rattle.std.specs.Prelude.{◌≡◌};
 ghost use Rattle.statement.specs.Writer.{Prints};
-ghost use Rattle.statement.specs.Print.{reply_text};
+ghost use Rattle.statement.specs.Print.{refusal_text, reply_text};
 ghost use Rattle.steps.specs.Reply.{commit_reply};
+ghost use Rattle.sessions.specs.Refusal.{refusal_of};
 ghost use Rattle.serving.specs.Serving.{ending_in};
 
 use growlog::StoreName;
-use sessions::{Entry, Receipt};
+use sessions::{Entry, Receipt, StoreRefusal};
 use statement::{WriteFault, print_refusal, print_reply};
 use std::io::Write;
 use std::marker::Model;
@@ -20,7 +21,7 @@ pub(crate) enum Sent {
     /// How the commit ended whose receipt was taken.
     Ending,
     /// Why it was refused, where it is as if it had not been asked.
-    Refused(Refusal),
+    Refused(StoreRefusal),
 }
 
 /// How a step was answered, with the receipts that it took: that of a call of the store, if it made
@@ -60,7 +61,7 @@ impl<J: StoreName> Answer<J> {
     }
 
     /// Makes a refusal with no receipt.
-    pub(crate) fn refusal(refusal: Refusal) -> Answer<J>
+    pub(crate) fn refusal(refusal: StoreRefusal) -> Answer<J>
         ensures { result ≡ record { given = None; install = None; sent = Sent.Refused refusal } }
     {
         Answer {
@@ -92,12 +93,23 @@ impl<J: StoreName> Answer<J> {
     {
         match &self.sent {
             Sent::Reply(reply) => print_reply(writer, reply),
-            Sent::Refused(refusal) => print_refusal(writer, refusal),
+            Sent::Refused(refusal) => print_refused(writer, refusal),
             Sent::Ending => match &self.receipt {
                 Some(receipt) => print_ending(writer, receipt.entry.entry()),
                 None => print_reply(writer, &Reply::Done),
             },
         }
+    }
+}
+
+/// Writes why a step was refused.
+fn print_refused<W: Write>(writer: &mut W, refused: &StoreRefusal) -> Result<(), WriteFault>
+    ensures { Prints (W.contents writer.old) (W.contents writer.new) result
+        (refusal_text (refusal_of refused.now)) }
+{
+    match refused {
+        StoreRefusal::Session(refusal) => print_refusal(writer, refusal),
+        StoreRefusal::Book(refusal) => print_refusal(writer, refusal.refusal()),
     }
 }
 

@@ -4,6 +4,7 @@
 mod account;
 mod answer;
 mod begin;
+mod book_refusals;
 mod commit;
 mod migrate;
 mod read;
@@ -15,6 +16,7 @@ mod split;
 mod step;
 mod write;
 
+pub use book_refusals::BookRefusals;
 pub use serve::serve_session;
 pub use served_session::{End, Served};
 pub use sessions::Readings;

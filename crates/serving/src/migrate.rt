@@ -1,15 +1,14 @@
 //! MIGRATE.
 ghost use Rattle.std.specs.Prelude.{◌≡◌, ℕ, Bool, IfErr, IfOk};
 ghost use Rattle.steps.specs.declared.step.Step.TheVariants.{Migrate};
-ghost use Rattle.serving.specs.Serving.{HasServiceBegun, IsMigrated, IsNoRoom, IsPackedOf, IsStepped, given_of, reply_of};
+ghost use Rattle.serving.specs.Serving.{HasServiceBegun, IsByBook, IsMigrated, IsPackedOf, IsRefusedForRoom, IsStepped, given_of, reply_of};
 
 use crate::answer::{Answer, Sent};
 use growlog::StoreName;
-use sessions::{Entry, LockedStore, Receipt, Session, find_job, pack_job};
+use sessions::{Entry, LockedStore, Receipt, Session, StoreRefusal, find_job, pack_job};
 use std::alloc::Global;
 use std::sync::Wait;
 use steps::Reply;
-use values::Refusal;
 
 /// Packs the first data node of history that a begin of the service's own session shows unpacked,
 /// if there is one. The session that asks is not changed.
@@ -27,7 +26,8 @@ pub(crate) fn take_migrate<J: StoreName, R: Wait>(
 
 /// Begins for the service, and packs what its begin shows.
 fn migrate<J: StoreName, R: Wait>(rt: &R, alloc: Global, store: &LockedStore<J>) -> Answer<J>
-    ensures { IsMigrated J.schema (given_of result) (reply_of result) }
+    ensures migrated { IsMigrated J.schema (given_of result) (reply_of result) }
+    ensures by_book { IsByBook result.sent }
 {
     let receipt = match begin_service(rt, alloc, store) {
         Ok(receipt) => receipt,
@@ -48,10 +48,10 @@ fn begin_service<J: StoreName, R: Wait>(
     rt: &R,
     alloc: Global,
     store: &LockedStore<J>,
-) -> Result<Receipt<J>, Refusal>
+) -> Result<Receipt<J>, StoreRefusal>
     ensures ok { IfOk result (λ r.
         HasServiceBegun J.schema (record { number = r.number; entry = r.entry })) }
-    ensures err { IfErr result IsNoRoom }
+    ensures err { IfErr result IsRefusedForRoom }
 {
     let mut service = store.session(alloc, 0)?;
     store.begin_lent(rt, &mut service)
@@ -64,7 +64,7 @@ fn pack_first<J: StoreName, R: Wait>(
     alloc: Global,
     store: &LockedStore<J>,
     receipt: &Receipt<J>,
-) -> Result<Option<Receipt<J>>, Refusal>
+) -> Result<Option<Receipt<J>>, StoreRefusal>
     ensures { IsPackedOf (λ r. record { number = r.number; entry = r.entry })
         receipt.now.entry result }
 {

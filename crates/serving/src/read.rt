@@ -6,7 +6,7 @@ ghost use Rattle.serving.specs.Serving.{IsSentFor, IsStepped, sent_listing};
 
 use crate::answer::{Answer, Sent};
 use growlog::StoreName;
-use sessions::{LockedStore, Session};
+use sessions::{LockedStore, Session, StoreRefusal};
 use std::sync::Wait;
 use steps::{Listing, Reply};
 use values::{Form, Keys, Refusal};
@@ -56,7 +56,7 @@ fn sent_listing(listing: Result<Listing, Refusal>) -> Sent
 {
     match listing {
         Ok(listing) => Sent::Reply(Reply::Shown(listing)),
-        Err(Refusal::Memory) => Sent::Refused(Refusal::Memory),
+        Err(Refusal::Memory) => Sent::Refused(StoreRefusal::Session(Refusal::Memory)),
         Err(other) => Sent::Reply(Reply::Refused(other)),
     }
 }

@@ -25,8 +25,11 @@ use std::sync::Wait;
 ///
 /// At `Closed` all was read and answered. At another end the replies, of which the last may be
 /// there in part, are those of the first lines. At `Memory` nothing was read, written or taken. At
-/// every end no transaction is open, and the
-/// session has the number of the last receipt, which is among those that are returned.
+/// every end no transaction is open, and the session has the number of the last receipt, which is among
+/// those that are returned.
+///
+/// A line is answered `E13 journal full`, or `E4 no transaction` to a COMMIT with a transaction open,
+/// only where the store's book refused it so: that refusal is among those that are returned.
 pub fn serve_session<J: StoreName, R: Wait, I: Read, W: Write, C: Readings, G: Gate>(
     rt: &R,
     alloc: Global,
@@ -42,13 +45,13 @@ pub fn serve_session<J: StoreName, R: Wait, I: Read, W: Write, C: Readings, G: G
     ensures closed { result.end ≡ End.Closed
         → IsServed C.may_give session.old.schema session.old.number
         (map (λ r. record { number = r.number; entry = r.entry }) result.receipts.items)
-        (after session.old.receipt None) session.new.receipt
+        (after session.old.receipt None) session.new.receipt result.refused
         (I.remaining reader.old) (I.remaining reader.new)
         (W.contents writer.old) (W.contents writer.new) }
     ensures in_part { result.end ≢ End.Closed
         → IsServedInPart C.may_give session.old.schema session.old.number
         (map (λ r. record { number = r.number; entry = r.entry }) result.receipts.items)
-        (after session.old.receipt None) session.new.receipt
+        (after session.old.receipt None) session.new.receipt result.refused
         (I.remaining reader.old) (I.remaining reader.new)
         (W.contents writer.old) (W.contents writer.new) }
     ensures unserved { result.end ≡ End.Memory → IsUnserved
@@ -68,8 +71,10 @@ pub fn serve_session<J: StoreName, R: Wait, I: Read, W: Write, C: Readings, G: G
     };
     let end = serve(&service, reader, writer, readings, session, &mut account);
     let _ = session.rollback();
+    let (receipts, refused) = account.into_parts();
     Served {
-        receipts: account.into_receipts(),
+        receipts,
+        refused,
         end,
     }
 }

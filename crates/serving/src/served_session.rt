@@ -1,4 +1,5 @@
 //! The outcome of a served session.
+use crate::book_refusals::BookRefusals;
 use growlog::StoreName;
 use sessions::{GaveUp, Receipt};
 
@@ -17,9 +18,10 @@ pub enum End {
     Memory,
 }
 
-/// A served session: the receipts that its lines took, in order, and why it ended. Whoever has it
-/// hands the receipts on.
+/// A served session: the receipts that its lines took, in order, what the store's book refused lines
+/// for, and why it ended. Whoever has it hands the receipts on.
 pub struct Served<J: StoreName> {
     pub receipts: Vec<Receipt<J>>,
+    pub refused: BookRefusals,
     pub end: End,
 }

@@ -1,11 +1,11 @@
 //! SPLIT.
 ghost use Rattle.std.specs.Prelude.{◌≡◌, ℕ, Bool, None};
 ghost use Rattle.steps.specs.declared.step.Step.TheVariants.{SplitKey, SplitTime};
-ghost use Rattle.serving.specs.Serving.{IsCutBy, IsStepped, reply_of};
+ghost use Rattle.serving.specs.Serving.{IsByBook, IsCutBy, IsStepped, reply_of};
 
 use crate::answer::{Answer, Sent};
 use growlog::StoreName;
-use sessions::{Cut, LockedStore, Session};
+use sessions::{Cut, LockedStore, Session, StoreRefusal};
 use std::alloc::Global;
 use std::sync::Wait;
 use steps::{Reply, key_misfit};
@@ -27,7 +27,7 @@ pub(crate) fn take_key_split<J: StoreName, R: Wait>(
     }
     match fitting_key_bytes(alloc, session.schema(), key) {
         Ok(bytes) => split(rt, store, Cut::Key(bytes)),
-        Err(refusal) => Answer::refusal(refusal),
+        Err(refusal) => Answer::refusal(StoreRefusal::from(refusal)),
     }
 }
 
@@ -48,13 +48,14 @@ pub(crate) fn take_time_split<J: StoreName, R: Wait>(
     }
     match fitting_key_bytes(alloc, session.schema(), key) {
         Ok(bytes) => split(rt, store, Cut::Time(bytes, instant)),
-        Err(refusal) => Answer::refusal(refusal),
+        Err(refusal) => Answer::refusal(StoreRefusal::from(refusal)),
     }
 }
 
 fn split<J: StoreName, R: Wait>(rt: &R, store: &LockedStore<J>, cut: Cut) -> Answer<J>
     ensures given { IsCutBy cut result.given (reply_of result) }
     ensures alone { result.install ≡ None }
+    ensures by_book { IsByBook result.sent }
 {
     match store.split(rt, cut) {
         Ok(receipt) => Answer::with_receipt(receipt, Sent::Reply(Reply::Done)),

@@ -14,7 +14,7 @@ use crate::service::Service;
 use crate::split::{take_key_split, take_time_split};
 use crate::write::take_write;
 use growlog::StoreName;
-use sessions::{Gate, LockedStore, Readings, Session};
+use sessions::{Gate, LockedStore, Readings, Session, StoreRefusal};
 use std::alloc::Global;
 use std::sync::Wait;
 use steps::{Reply, Step, key_misfit};
@@ -32,10 +32,11 @@ pub(crate) fn answer_step<J: StoreName, R: Wait, C: Readings, G: Gate>(
     requires { session.old.schema ≡ J.schema }
     ensures stepped { IsStepped C.may_give step.now session.old session.new result }
     ensures given { account.new.given ≡ account.old.given }
+    ensures refused { account.new.refused ≡ account.old.refused }
     ensures room { HasRoomFor result account.new }
 {
     if asks_store(session, step) && account.reserve().is_err() {
-        return Answer::refusal(Refusal::Memory);
+        return Answer::refusal(StoreRefusal::Session(Refusal::Memory));
     }
     take_step(
         service.rt,

@@ -5,7 +5,7 @@ ghost use Rattle.serving.specs.Serving.{IsStepped, sent_refusal};
 
 use crate::answer::Answer;
 use growlog::StoreName;
-use sessions::Session;
+use sessions::{Session, StoreRefusal};
 use steps::Reply;
 use values::{Refusal, Write};
 
@@ -25,7 +25,7 @@ pub(crate) fn refused_write<J: StoreName>(refusal: Refusal) -> Answer<J>
     ensures { result ≡ record { given = None; install = None; sent = sent_refusal refusal } }
 {
     match refusal {
-        Refusal::Memory => Answer::refusal(Refusal::Memory),
+        Refusal::Memory => Answer::refusal(StoreRefusal::Session(Refusal::Memory)),
         other => Answer::reply(Reply::Refused(other)),
     }
 }

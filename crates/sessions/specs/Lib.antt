@@ -1,4 +1,5 @@
 pub mod SessionState
+pub mod Refusal
 pub mod Store
 pub mod OfHistory
 pub mod StoreOfHistory

@@ -1,7 +1,6 @@
 -- What the store's calls do to a session.
-use Rattle.std.specs.Prelude.{◌≡◌, ◌⊎◌, ℕ, [], Option, Some, None, Result, IfErr, Bool, false, true, ◌==◌, ◌||◌}
+use Rattle.std.specs.Prelude.{◌≡◌, ℕ, [], Option, Some, None, Result, Bool, false, true, ◌==◌, ◌||◌}
 use Rattle.values.specs.declared.refusal.Refusal.{Refusal}
-use Rattle.values.specs.declared.refusal.Refusal.TheVariants.{NoTransaction, JournalFull, Memory}
 use Rattle.values.specs.Log.{Changes, Net}
 use Rattle.blocks.specs.PackedNode.{Packed}
 use Rattle.book.specs.tsbtree.View.{TreeState, last}
@@ -88,7 +87,3 @@ pub record IsSplitOf (cut : Cut) (e : Entry) : Type 0 where
 pub record IsInstallOf (packed : Packed) (e : Entry) : Type 0 where
   pub done : Bool
   pub entry_is : e ≡ Install packed.node.rect packed.bytes done
-
--- no refusal but that there is no room, and that the transaction is not open at this store
-abbrev pub OnlyRoomOrNone : {T : Type 0} → Result T Refusal → Type 0
-OnlyRoomOrNone r = IfErr r (λ e. (e ≡ NoTransaction) ⊎ ((e ≡ JournalFull) ⊎ (e ≡ Memory)))

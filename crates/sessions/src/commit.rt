@@ -6,9 +6,13 @@ ghost use Rattle.values.specs.Memory.{OnlyMemory};
 ghost use Rattle.values.specs.Tables.{Schema as Tables};
 ghost use Rattle.book.specs.staging.Own.{net_over};
 ghost use Rattle.book.specs.staging.View.{Holds};
-ghost use Rattle.book.specs.Book.{Adds, OnlyRoom};
+ghost use Rattle.book.specs.Book.{Adds};
+ghost use Rattle.values.specs.declared.refusal.Refusal.TheVariants.{NoTransaction};
+ghost use Rattle.sessions.specs.declared.refusal.StoreRefusal.TheVariants as refused;
+ghost use Rattle.sessions.specs.Refusal.{OnlyBookRoom};
 ghost use Rattle.sessions.specs.Store.{IsCommitAt, IsNetOf, is_open_at};
 
+use crate::refusal::StoreRefusal;
 use crate::session::{Session, SessionTransaction};
 use book::{Book, KeyedNet, Net, OpenTransaction, Receipt};
 use growlog::StoreName;
@@ -43,7 +47,7 @@ impl Session {
         ensures net { IfOk result (λ nets. IsNetOf self.now nets.0) }
         ensures keys { IfOk result (λ nets. AreKeysIn self.now.schema nets.0) }
         ensures twice { IfOk result (λ nets. nets.1 ≡ nets.0) }
-        ensures none { self.now.transaction ≡ None → result ≡ Err Refusal.NoTransaction }
+        ensures none { self.now.transaction ≡ None → result ≡ Err NoTransaction }
         ensures why { IsSome self.now.transaction → OnlyMemory result }
     {
         match &self.transaction {
@@ -63,7 +67,7 @@ impl Session {
         net: Net,
         changes: KeyedNet,
         reading: Instant,
-    ) -> Result<Ended<J>, Refusal>
+    ) -> Result<Ended<J>, StoreRefusal>
         requires tables { self.old.schema ≡ J.schema }
         requires keys { AreKeysIn J.schema net }
         requires twice { changes ≡ net }
@@ -71,14 +75,17 @@ impl Session {
             e.receipt.number e.receipt.entry) }
         ensures adds { IfOk result (λ e.
             Adds e.receipt.entry e.receipt.number book.old book.new) }
-        ensures none { is_open_at book.old.entries self.old ≡ false
-            → result ≡ Err Refusal.NoTransaction }
-        ensures why { is_open_at book.old.entries self.old ≡ true → OnlyRoom result }
+        ensures none { self.old.transaction ≡ None
+            → result ≡ Err (refused.Session NoTransaction) }
+        ensures elsewhere { IsSome self.old.transaction
+            → is_open_at book.old.entries self.old ≡ false
+            → result ≡ Err (refused.Book NoTransaction) }
+        ensures why { is_open_at book.old.entries self.old ≡ true → OnlyBookRoom result }
         ensures book { OnErr result (book.new ≡ book.old) }
         ensures refused { OnErr result (self.new ≡ self.old) }
     {
         let Some(own) = &self.transaction else {
-            return Err(Refusal::NoTransaction);
+            return Err(StoreRefusal::Session(Refusal::NoTransaction));
         };
         let receipt = book.commit(&self.schema, self.number, &own.begun, net, changes, reading)?;
         self.receipt = receipt.number;

@@ -3,10 +3,14 @@ ghost use Rattle.std.specs.Prelude.{◌≡◌, ◌≢◌, ◌<◌, ◌≤◌, �
 ghost use Rattle.values.specs.Memory.{OnlyMemory};
 ghost use Rattle.steps.specs.Misfit.{max_session};
 ghost use Rattle.book.specs.journal.Entries.{entry_at, numbers};
-ghost use Rattle.book.specs.Book.{IsBook, OnlyRoom};
-ghost use Rattle.sessions.specs.Store.{IsBegun, IsCommitted, IsCommittedBy, IsInstallOf, IsSplitOf, OnlyRoomOrNone};
+ghost use Rattle.book.specs.Book.{IsBook};
+ghost use Rattle.values.specs.declared.refusal.Refusal.TheVariants.{InTransaction, NoTable, NoTransaction};
+ghost use Rattle.sessions.specs.declared.refusal.StoreRefusal.TheVariants as refused;
+ghost use Rattle.sessions.specs.Refusal.{OnlyBook, OnlyBookRoom};
+ghost use Rattle.sessions.specs.Store.{IsBegun, IsCommitted, IsCommittedBy, IsInstallOf, IsSplitOf};
 
 use crate::readings::Readings;
+use crate::refusal::StoreRefusal;
 use crate::session::Session;
 use book::{Book, Closed, Cut, JournalGone, PackedNode, Receipt, SharedEntry};
 use growlog::{NewLog, StoreName};
@@ -90,17 +94,17 @@ impl<J: StoreName> LockedStore<J> {
     /// Begins a session's transaction, which sees what its receipt's entry shows. `NoTable` where
     /// the session is of other tables, `InTransaction` where one is open, `JournalFull` where there
     /// is no room for one more entry. After a refusal nothing has changed.
-    pub fn begin<R: Wait>(&self, rt: &R, session: &mut Session) -> Result<Receipt<J>, Refusal>
+    pub fn begin<R: Wait>(&self, rt: &R, session: &mut Session) -> Result<Receipt<J>, StoreRefusal>
         ensures begun { IfOk result (λ r. IsBegun session.old session.new r.number r.entry) }
-        ensures other { session.old.schema ≢ J.schema → result ≡ Err Refusal.NoTable }
+        ensures other { session.old.schema ≢ J.schema → result ≡ Err (refused.Session NoTable) }
         ensures open_before { session.old.schema ≡ J.schema → IsSome session.old.transaction
-            → result ≡ Err Refusal.InTransaction }
+            → result ≡ Err (refused.Session InTransaction) }
         ensures why { session.old.schema ≡ J.schema → session.old.transaction ≡ None
-            → OnlyRoom result }
+            → OnlyBookRoom result }
         ensures refused { OnErr result (session.new ≡ session.old) }
     {
         if !self.has_tables_of(session) {
-            return Err(Refusal::NoTable);
+            return Err(StoreRefusal::Session(Refusal::NoTable));
         }
         self.begin_lent(rt, session)
     }
@@ -108,16 +112,20 @@ impl<J: StoreName> LockedStore<J> {
     /// Begins a transaction like `begin`, of a session that is known to be of the store's tables, as
     /// one that `session` has made: no tables are compared. `InTransaction` where one is open,
     /// `JournalFull` where there is no room for one more entry. After a refusal nothing has changed.
-    pub fn begin_lent<R: Wait>(&self, rt: &R, session: &mut Session) -> Result<Receipt<J>, Refusal>
+    pub fn begin_lent<R: Wait>(
+        &self,
+        rt: &R,
+        session: &mut Session,
+    ) -> Result<Receipt<J>, StoreRefusal>
         requires { session.old.schema ≡ J.schema }
         ensures begun { IfOk result (λ r. IsBegun session.old session.new r.number r.entry) }
         ensures open_before { IsSome session.old.transaction
-            → result ≡ Err Refusal.InTransaction }
-        ensures why { session.old.transaction ≡ None → OnlyRoom result }
+            → result ≡ Err (refused.Session InTransaction) }
+        ensures why { session.old.transaction ≡ None → OnlyBookRoom result }
         ensures refused { OnErr result (session.new ≡ session.old) }
     {
         if session.transaction.is_some() {
-            return Err(Refusal::InTransaction);
+            return Err(StoreRefusal::Session(Refusal::InTransaction));
         }
         let opening = self.locked(rt).begin(session.number, session.receipt)?;
         Ok(session.take(opening))
@@ -132,18 +140,18 @@ impl<J: StoreName> LockedStore<J> {
         rt: &R,
         session: &mut Session,
         reading: Instant,
-    ) -> Result<Receipt<J>, Refusal>
+    ) -> Result<Receipt<J>, StoreRefusal>
         ensures committed { IfOk result (λ r.
             IsCommitted session.old session.new reading r.number r.entry) }
-        ensures other { session.old.schema ≢ J.schema → result ≡ Err Refusal.NoTable }
+        ensures other { session.old.schema ≢ J.schema → result ≡ Err (refused.Session NoTable) }
         ensures none { session.old.schema ≡ J.schema → session.old.transaction ≡ None
-            → result ≡ Err Refusal.NoTransaction }
+            → result ≡ Err (refused.Session NoTransaction) }
         ensures why { session.old.schema ≡ J.schema → IsSome session.old.transaction
-            → OnlyRoomOrNone result }
+            → OnlyBook result }
         ensures refused { OnErr result (session.new ≡ session.old) }
     {
         if !self.has_tables_of(session) {
-            return Err(Refusal::NoTable);
+            return Err(StoreRefusal::Session(Refusal::NoTable));
         }
         let (net, changes) = session.nets()?;
         let ended = session.commit_at(&mut *self.locked(rt), net, changes, reading)?;
@@ -161,12 +169,12 @@ impl<J: StoreName> LockedStore<J> {
         rt: &R,
         session: &mut Session,
         readings: &mut C,
-    ) -> Result<Receipt<J>, Refusal>
+    ) -> Result<Receipt<J>, StoreRefusal>
         requires { session.old.schema ≡ J.schema }
         ensures committed { IfOk result (λ r.
             IsCommittedBy C.may_give session.old session.new r.number r.entry) }
-        ensures none { session.old.transaction ≡ None → result ≡ Err Refusal.NoTransaction }
-        ensures why { IsSome session.old.transaction → OnlyRoomOrNone result }
+        ensures none { session.old.transaction ≡ None → result ≡ Err (refused.Session NoTransaction) }
+        ensures why { IsSome session.old.transaction → OnlyBook result }
         ensures refused { OnErr result (session.new ≡ session.old) }
     {
         let (net, changes) = session.nets()?;
@@ -180,21 +188,23 @@ impl<J: StoreName> LockedStore<J> {
     /// Splits the current data node of a key, where its cut lies inside the node and is no instant
     /// after the last commit: whether it did is in the receipt's entry. `JournalFull` where there
     /// is no room for one more entry. After a refusal nothing has changed.
-    pub fn split<R: Wait>(&self, rt: &R, cut: Cut) -> Result<Receipt<J>, Refusal>
+    pub fn split<R: Wait>(&self, rt: &R, cut: Cut) -> Result<Receipt<J>, StoreRefusal>
         ensures split { IfOk result (λ r. IsSplitOf cut r.entry) }
-        ensures why { OnlyRoom result }
+        ensures why { OnlyBookRoom result }
     {
-        self.locked(rt).split(cut)
+        let receipt = self.locked(rt).split(cut)?;
+        Ok(receipt)
     }
 
     /// Puts a block in the place of its node, where that is in the tree unpacked: whether it was is
     /// in the receipt's entry, beside the node's rectangle and the block's bytes. `JournalFull`
     /// where there is no room for one more entry. After a refusal nothing has changed.
-    pub fn install<R: Wait>(&self, rt: &R, packed: PackedNode) -> Result<Receipt<J>, Refusal>
+    pub fn install<R: Wait>(&self, rt: &R, packed: PackedNode) -> Result<Receipt<J>, StoreRefusal>
         ensures install { IfOk result (λ r. IsInstallOf packed r.entry) }
-        ensures why { OnlyRoom result }
+        ensures why { OnlyBookRoom result }
     {
-        self.locked(rt).install(packed)
+        let receipt = self.locked(rt).install(packed)?;
+        Ok(receipt)
     }
 
     /// Closes the store where the receipts are those of its entries, one for each, in whatever

@@ -1,5 +1,5 @@
 //! Employees, and what a session does and sees of them. The run ends where a call that must succeed does not.
-use sessions::Session;
+use sessions::{Session, StoreRefusal};
 use std::alloc::Global;
 use std::process::Abort;
 use steps::Listing;
@@ -135,4 +135,12 @@ pub(crate) fn count(rt: &impl Abort, alloc: Global, session: &mut Session) -> us
 /// Whether it is the refusal of a call with no transaction open.
 pub(crate) fn is_no_transaction(refusal: Option<Refusal>) -> bool {
     matches!(refusal, Some(Refusal::NoTransaction))
+}
+
+/// Whether a store's book refused a commit, since the transaction is not open there.
+pub(crate) fn is_not_open(refusal: &StoreRefusal) -> bool {
+    match refusal {
+        StoreRefusal::Session(_) => false,
+        StoreRefusal::Book(refusal) => refusal.is_not_open(),
+    }
 }

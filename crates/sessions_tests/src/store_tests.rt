@@ -1,7 +1,7 @@
 //! Sessions beside each other, and a session at a store where it did not begin.
 ghost use Rattle.std.specs.Prelude.{◌≡◌};
 
-use crate::desk::{Desk, count, insert, is_no_transaction};
+use crate::desk::{Desk, count, insert, is_not_open};
 use crate::scene::{Audit, Scene, closed_with, play};
 use crate::step::{begin, commit};
 use growlog::{NewLog, StoreName};
@@ -66,7 +66,7 @@ fn refuses_commit<K: StoreName, R: Abort + Wait>(
         Ok(_receipt) => panic!(rt; "it was committed elsewhere"),
         Err(refusal) => {
             let shown = closed_with(rt, alloc, other, Vec::new(alloc));
-            is_no_transaction(Some(refusal)) && shown == Some((0, 0, 0))
+            is_not_open(&refusal) && shown == Some((0, 0, 0))
         }
     }
 }

@@ -1,4 +1,4 @@
-use Rattle.std.proofs.Common.{append-nil, subst, sym}
+use Rattle.std.proofs.Common.{append-nil, refl, subst, sym}
 use Rattle.statement.specs.declared.line.Line.TheVariants.{Nothing, Clock, Step as Asks}
 use Rattle.serving.specs.ServedSession.{said}
 use Rattle.serving.specs.Line.{IsRead}
@@ -7,11 +7,11 @@ use Rattle.serving.proofs.serve_line.serve_line.Goals as goal
 
 pub returns-in-Ok-Nothing-clause-ok : goal.returns-in-Ok-Nothing-clause-ok
 returns-in-Ok-Nothing-clause-ok g c = nothing_written g.C.Readings.may_give c.args.line.now c.args.session.now c.args.account.now c.args.account.now (g.W.Write.contents c.args.writer.now)
-    (said_of c.read.result c.in-Ok-Nothing.field-0 Nothing (said c.args.session.now.schema c.args.session.now.number c.args.line.now) c.in-Ok-Nothing.is c.in-Ok-Nothing.field-0-is c.read.ensures.unless) (sym (append-nil c.args.account.now.given))
+    (said_of c.read.result c.in-Ok-Nothing.field-0 Nothing (said c.args.session.now.schema c.args.session.now.number c.args.line.now) c.in-Ok-Nothing.is c.in-Ok-Nothing.field-0-is c.read.ensures.unless) (sym (append-nil c.args.account.now.given)) refl
 
 pub returns-in-Ok-Clock-clause-ok : goal.returns-in-Ok-Clock-clause-ok
 returns-in-Ok-Clock-clause-ok g c = clock_written g.C.Readings.may_give c.args.line.now c.args.session.now c.args.account.now c.args.account.now (g.W.Write.contents c.args.writer.now) c.in-Ok-Clock.field-0-0
-    (said_of c.read.result c.in-Ok-Clock.field-0 (Clock c.in-Ok-Clock.field-0-0) (said c.args.session.now.schema c.args.session.now.number c.args.line.now) c.in-Ok-Clock.is c.in-Ok-Clock.field-0-is c.read.ensures.unless) (sym (append-nil c.args.account.now.given))
+    (said_of c.read.result c.in-Ok-Clock.field-0 (Clock c.in-Ok-Clock.field-0-0) (said c.args.session.now.schema c.args.session.now.number c.args.line.now) c.in-Ok-Clock.is c.in-Ok-Clock.field-0-is c.read.ensures.unless) (sym (append-nil c.args.account.now.given)) refl
 
 pub returns-in-Ok-Step-clause-ok : goal.returns-in-Ok-Step-clause-ok
 returns-in-Ok-Step-clause-ok g c = step_written g.C.Readings.may_give c.args.line.now c.args.session.now c.args.account.now c.serve_step.new.account c.serve_step.result c.serve_step.new.session c.in-Ok-Step.step (g.W.Write.contents c.args.writer.now) (g.W.Write.contents c.serve_step.new.writer)
