@@ -69,8 +69,9 @@ pub fn print_refusal<W: Write>(writer: &mut W, refusal: &Refusal) -> Printed
     }
 }
 
-/// Writes a label, a number and the end of the line.
-fn print_numbered<W: Write>(writer: &mut W, label: &[u8], number: u64) -> Printed
+/// Writes a label, a number in decimal and a line feed, and takes no memory. Where the writer
+/// fails, it took a prefix of that text.
+pub fn print_numbered<W: Write>(writer: &mut W, label: &[u8], number: u64) -> Printed
     ensures { Prints (W.contents writer.old) (W.contents writer.new) result
         (numbered label.now number) }
 {
