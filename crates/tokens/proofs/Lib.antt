@@ -8,3 +8,6 @@ pub mod TokenSame
 pub mod WordCases
 pub mod NameLetters
 pub mod WordLetters
+pub mod TokenProduction
+pub mod TokenProductionParts
+pub mod TokenNothingLeft

@@ -141,6 +141,28 @@ module _ (w : Texts) where
       inside bytes (Ok rest) l = wider w (f rest) l.it (h.within rest)
       inside bytes (Err at) l = i.within bytes
 
+  -- what comes after a token, or a refusal at it
+  pub good_token : {B : Type 0} (R : List ℕ → After) (f : List ℕ → Read B) → GoodToken R → Good w f → Good w (λ bytes. elim (R bytes) [ Ok rest ↦ f rest | Err at ↦ Err at ])
+  good_token {B} R f k h = record {
+    within = λ bytes. led bytes (R bytes) (k.leaves bytes);
+    same = λ a c near. same_by R k a c near (λ r. elim r [ Ok rest ↦ f rest | Err at ↦ Err at ]) (λ r. elim r [ Ok rest ↦ f rest | Err at ↦ Err at ]) (led a (R a) (k.leaves a)) (λ m n e _ _. same_behind f h m n e) (λ _ _. record { it = tt });
+  }
+    where
+      led : (bytes : List ℕ) (r : After) → WithinAfter w bytes r → Within w bytes (elim r [ Ok rest ↦ f rest | Err at ↦ Err at ])
+      led bytes (Ok m) l = wider w (f m) l.it (h.within m)
+      led bytes (Err at) l = record { it = l.it }
+
+  -- a token that may be missing
+  pub good_optional : {B : Type 0} (R : List ℕ → After) (f : List ℕ → Read B) → GoodToken R → Good w f → Good w (λ bytes. f (elim (R bytes) [ Ok rest ↦ rest | Err at ↦ bytes ]))
+  good_optional {B} R f k h = record {
+    within = λ bytes. led bytes (R bytes) (k.leaves bytes);
+    same = λ a c near. same_by R k a c near (λ r. f (elim r [ Ok rest ↦ rest | Err at ↦ a ])) (λ r. f (elim r [ Ok rest ↦ rest | Err at ↦ c ])) (led a (R a) (k.leaves a)) (λ m n e _ _. same_behind f h m n e) (λ _ _. h.same a c near);
+  }
+    where
+      led : (bytes : List ℕ) (r : After) → WithinAfter w bytes r → Within w bytes (f (elim r [ Ok rest ↦ rest | Err at ↦ bytes ]))
+      led bytes (Ok m) l = wider w (f m) l.it (h.within m)
+      led bytes (Err at) l = h.within bytes
+
   pub good_peek : {B : Type 0} (R : List ℕ → After) (f g : List ℕ → Read B) → GoodToken R → Good w f → Good w g → Good w (λ bytes. elim (R bytes) [ Ok rest ↦ f bytes | Err at ↦ g bytes ])
   good_peek {B} R f g k h i = record {
     within = λ bytes. inside bytes (R bytes);
