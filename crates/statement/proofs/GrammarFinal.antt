@@ -20,11 +20,10 @@ use Rattle.statement.specs.GoingOn.{FaultsAreFinal}
 use Rattle.statement.proofs.MeaningOfLines.{never_syntax}
 use Rattle.tokens.proofs.PlaceSame.{Good, Same}
 use Rattle.tokens.proofs.TokenSame.{token_agrees}
-use Rattle.statement.proofs.TokenSame.{Tokens, texts, near_front}
-use Rattle.statement.proofs.LineSame.{written_fine, served_fine}
+use Rattle.statement.proofs.TokenSame.{near_front}
+use Rattle.statement.proofs.TokenProduction.{Parting, texts_of}
 use Rattle.statement.proofs.GrammarStopping.{Stops}
-use Rattle.statement.proofs.LineStops.{written_stops, served_stops}
-use Rattle.statement.proofs.LineWhole.{line_whole, served_whole}
+use Rattle.statement.proofs.LineProduction.{written, served, line_whole, served_whole, written_stops, served_stops}
 
 other_byte : (b symbol : ℕ) → (b ≡ symbol → ⊥) → (b == symbol) ≡ false
 other_byte b symbol h = grind (arith, nat_tests)
@@ -33,7 +32,7 @@ other_byte b symbol h = grind (arith, nat_tests)
 module _ (schema : Schema) (Is : Lines) (at : List ℕ → Read Written)
     (whole : (written : Written) (bytes : List ℕ) → Is written bytes → at bytes ≡ Ok (written, []))
     (stops : (bytes : List ℕ) → Stops bytes (at bytes))
-    (fine : (first : ℕ) (rest other : List ℕ) (t : Tokens first rest other) → (first == 45) ≡ false → (first == 39) ≡ false → Good (texts first rest other t) at) where
+    (fine : (s : Parting) → Good (texts_of s) at) where
   abbrev answer : ℕ → List ℕ → Read Written → Result Line Refusal
   answer reading bytes r = answered schema at reading bytes r
 
@@ -52,11 +51,18 @@ module _ (schema : Schema) (Is : Lines) (at : List ℕ → Read Written)
       read : at (before ++ first ∷ t) ≡ Ok (written, [])
       read = whole written (before ++ first ∷ t) line
 
-      both : Tokens first s t
-      both = record { no_blank = p.no_blank; runs = λ f within. token_agrees f within rest other first others p.token q.token }
+      both : Parting
+      both = record {
+        first = first;
+        rest = s;
+        other = t;
+        tokens = record { no_blank = p.no_blank; runs = λ f within. token_agrees f within rest other first others p.token q.token };
+        no_minus = other_byte first 45 p.no_minus;
+        no_quote = other_byte first 39 p.no_quote;
+      }
 
-      same : Same (texts first s t both) (at bytes) (at (before ++ first ∷ t))
-      same = (fine first s t both (other_byte first 45 p.no_minus) (other_byte first 39 p.no_quote)).same _ _ (near_front first s t both before)
+      same : Same (texts_of both) (at bytes) (at (before ++ first ∷ t))
+      same = (fine both).same _ _ (near_front first s t both.tokens before)
 
       number : Result Line Refusal → ℕ
       number (Err (Syntax k)) = k
@@ -65,7 +71,7 @@ module _ (schema : Schema) (Is : Lines) (at : List ℕ → Read Written)
       from_token : (stop : List ℕ) → length stop ≤ length bytes → length bytes - length stop ≡ length before → length stop ≡ suc (length s)
       from_token stop h e = omega (arith, h, e, length-append before (first ∷ s))
 
-      clash : (r u : Read Written) → Same (texts first s t both) r u → u ≡ Ok (written, []) → Stops bytes r → answer reading bytes r ≡ Err (Syntax (length before)) → ⊥
+      clash : (r u : Read Written) → Same (texts_of both) r u → u ≡ Ok (written, []) → Stops bytes r → answer reading bytes r ≡ Err (Syntax (length before)) → ⊥
       clash (Ok x) u w is stop e = never_syntax schema reading x.0 (length before) e
       clash (Err left) (Err c) w is stop e = cc
       clash (Err left) (Ok y) w is stop e =
@@ -79,8 +85,8 @@ module _ (schema : Schema) (Is : Lines) (at : List ℕ → Read Written)
 
 pub script_final : (schema : Schema) → FaultsAreFinal (IsLine schema) (body_says schema)
 unfolding body_says
-script_final schema = final schema (IsLine schema) (written_at schema) (line_whole schema) (written_stops schema) (λ first rest other t no_minus no_quote. written_fine first rest other t no_minus no_quote schema)
+script_final schema = final schema (IsLine schema) (written_at schema) (line_whole schema) (written_stops schema) (written schema).same
 
 pub served_final : (schema : Schema) (session : ℕ) → FaultsAreFinal (IsServedLine schema session) (served_body_says schema session)
 unfolding served_body_says
-served_final schema session = final schema (IsServedLine schema session) (served_at schema session) (served_whole schema session) (served_stops schema session) (λ first rest other t no_minus no_quote. served_fine first rest other t no_minus no_quote schema session)
+served_final schema session = final schema (IsServedLine schema session) (served_at schema session) (served_whole schema session) (served_stops schema session) (served schema session).production.same

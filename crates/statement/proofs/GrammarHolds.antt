@@ -59,8 +59,3 @@ holds_found (Some x) at f h g = g x.0 x.1 h.it
 pub found_weaker : {A : Type 0} {P Q : A → List ℕ → Type 0} (o : Option (A × List ℕ)) → Found o P → ((x : A) (rest : List ℕ) → P x rest → Q x rest) → Found o Q
 found_weaker None h f = record { it = tt }
 found_weaker (Some x) h f = record { it = f x.0 x.1 h.it }
-
-pub holds_read : {A B : Type 0} {P : A → List ℕ → Type 0} {Q : B → List ℕ → Type 0} (r : Read A) (f : A × List ℕ → Read B)
-    → Holds r P → ((x : A) (rest : List ℕ) → P x rest → Holds (f (x, rest)) Q) → Holds (elim r [ Ok x ↦ f x | Err at ↦ Err at ]) Q
-holds_read (Ok x) f h g = g x.0 x.1 h.it
-holds_read (Err at) f h g = record { it = tt }

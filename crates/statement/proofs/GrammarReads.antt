@@ -21,10 +21,8 @@ use Rattle.statement.proofs.GrammarSound.{same_byte}
 use Rattle.std.proofs.lemmas.List.{length-append}
 use Rattle.statement.proofs.GrammarHolds.{Holds, holds_at}
 use Rattle.statement.proofs.GrammarStopping.{Stops, stopped_at}
-use Rattle.statement.proofs.LineStops.{written_stops, served_stops}
 use Rattle.statement.proofs.MeaningOfLines.{never_syntax}
-use Rattle.statement.proofs.LineSound.{written_sound, served_sound}
-use Rattle.statement.proofs.LineWhole.{line_is_something, line_whole, served_is_something, served_whole}
+use Rattle.statement.proofs.LineProduction.{written_stops, served_stops, written_sound, served_sound, line_is_something, line_whole, served_is_something, served_whole}
 
 nothing_found : (bytes at : List ℕ) → Blanks bytes at → is_nothing at ≡ true → IsNothing bytes
 nothing_found bytes [] blanks is = inl blanks

@@ -1,4 +1,4 @@
--- What is read as a literal is one.
+-- What is read as a literal or as an operator is one.
 use Rattle.std.proofs.Common.{◌≡◌, ℕ, ◌<◌, ◌≤◌, ◌-◌, ◌^◌, Bool, true, false, List, [], ◌∷◌, ◌++◌, length, take, drop, Ok, Err, Some, None, pos, neg_ℤ, inl, inr, refl, ap, sym, ◌∙◌, arith}
 use Rattle.std.specs.Prelude.{Option, ◌==◌, nat_lt, if◌then◌else◌, codes}
 use Rattle.std.specs.Option.{option_map}
@@ -9,19 +9,22 @@ use Rattle.std.proofs.lemmas.Str.{IsUtf8-from_is_utf8}
 use Rattle.std.proofs.lemmas.List.{append-nil, append_assoc}
 use Rattle.std.proofs.lemmas.List.Folds.{length-prefix_len}
 use Rattle.std.proofs.lemmas.Bool.Decides.{nat_tests}
+use Rattle.values.specs.declared.query.Operator.{Operator}
+use Rattle.values.specs.declared.query.Operator.TheVariants.{Equal, Below, AtMost, Above, AtLeast}
 use Rattle.values.specs.declared.value.Value.{Value}
 use Rattle.values.specs.declared.value.Value.TheVariants.{Int, Text, Bool as Truth, Null}
 use Rattle.tokens.specs.Token.{Read, ◌>>=◌}
 use Rattle.statement.specs.Token.{next}
 use Rattle.statement.specs.Literal.{digit_count, digits_here, digits_at, begins_with, above_nought, below_nought, number_at, quoted_from, quoted, text_of, text_at, constant_at, begins_number, literal_at}
-use Rattle.statement.specs.Grammar.{◌⋯◌, Blanks, Symbol, Digits, Number, doubled, is_quote, Literal}
+use Rattle.statement.specs.Condition.{or_equal, operator_of, operator_at}
+use Rattle.statement.specs.Grammar.{◌⋯◌, Blanks, Symbol, Digits, Number, doubled, is_quote, Literal, IsOperator}
 use Rattle.tokens.specs.Run.{Ends}
 use Rattle.tokens.proofs.RunRead.{run_of}
 use Rattle.statement.proofs.TokenGaps.{blanks_before, blanks_join}
 use Rattle.statement.proofs.GrammarSound.{symbol_sound, word_sound, same_byte}
 use Rattle.statement.proofs.GrammarHolds.{Holds, Found, found_weaker, holds, holds_then, leaves_then, leaves_either, holds_found, holds_weaker}
 
-some_digits : (bytes : List ℕ) → (digit_count bytes == 0) ≡ false → 0 < length (take (digit_count bytes) bytes)
+pub some_digits : (bytes : List ℕ) → (digit_count bytes == 0) ≡ false → 0 < length (take (digit_count bytes) bytes)
 some_digits bytes is = let e = length-prefix_len is_ascii_digit bytes in grind (arith, nat_tests, e)
 
 not_above : (most n : ℕ) → nat_lt most n ≡ false → n ≤ most
@@ -74,11 +77,11 @@ unfolding number_at
 number_sound bytes = holds_found _ _ (λ x. Ok x) (number_found (next bytes)) (λ n rest is. holds n rest (next bytes, (blanks_before bytes, is)))
 
 -- what the bytes are where the one before them is a quote that may close the text
-abbrev pending : Bool → List ℕ → List ℕ
+abbrev pub pending : Bool → List ℕ → List ℕ
 pending true bytes = 39 ∷ bytes
 pending false bytes = bytes
 
-record QuotedFrom (closed : Bool) (front bytes text rest : List ℕ) : Type 0 where
+pub record QuotedFrom (closed : Bool) (front bytes text rest : List ℕ) : Type 0 where
   pub more : List ℕ
   pub is : text ≡ front ++ more
   pub spelled : pending closed bytes ≡ doubled more ++ 39 ∷ rest
@@ -107,7 +110,7 @@ closed_sound front b bytes true is quote = found_weaker _ quote
     (λ text rest q. record { more = 39 ∷ q.more; is = one_behind front q.more text 39 q.is; spelled = ap (λ (c : ℕ). 39 ∷ c ∷ bytes) (same_byte b 39 is) ∙ ap (λ (l : List ℕ). 39 ∷ 39 ∷ l) q.spelled; ends = q.ends })
 closed_sound front b bytes false is quote = record { it = record { more = []; is = sym (append-nil front); spelled = refl; ends = is } }
 
-quoted_sound : (closed : Bool) (front bytes : List ℕ) → Found (quoted_from closed front bytes) (λ text rest. QuotedFrom closed front bytes text rest)
+pub quoted_sound : (closed : Bool) (front bytes : List ℕ) → Found (quoted_from closed front bytes) (λ text rest. QuotedFrom closed front bytes text rest)
 quoted_sound true front [] = record { it = record { more = []; is = sym (append-nil front); spelled = refl; ends = tt } }
 quoted_sound false front [] = record { it = tt }
 quoted_sound false front (b ∷ bytes) = open_sound front b bytes (b == 39) refl (quoted_sound true front bytes) (quoted_sound false (front ++ b ∷ []) bytes)
@@ -132,7 +135,7 @@ text_found bytes at inside rest text opened blanks q = by_test (is_utf8 text) re
       ),
     )
 
-text_sound : (bytes : List ℕ) → Holds (text_at bytes) (λ value rest. Literal value bytes rest)
+pub text_sound : (bytes : List ℕ) → Holds (text_at bytes) (λ value rest. Literal value bytes rest)
 unfolding text_at
 text_sound bytes = leaves_then _ _ (symbol_sound 39 (next bytes)) (λ inside opened.
     holds_found (quoted inside) _ _ (quoted_sound false [] inside) (λ text rest q. text_found bytes (next bytes) inside rest text opened (blanks_before bytes) q))
@@ -166,3 +169,36 @@ literal_sound bytes = by_tests (begins_with 39 at) (begins_number at)
     by_tests true u = behind (text_sound at)
     by_tests false true = behind (holds_then _ _ (number_sound at) (λ z rest is. holds (Int z) rest is))
     by_tests false false = behind (constant_sound at)
+
+-- ---- operators
+
+or_equal_sound : (strict loose : Operator) (front : ℕ) (bytes at rest : List ℕ) → Blanks bytes at → at ≡ front ∷ rest
+    → ((after : List ℕ) → at ≡ front ∷ after → Ends (λ b. b == 61) after → IsOperator strict bytes after)
+    → ((after : List ℕ) → at ≡ front ∷ 61 ∷ after → IsOperator loose bytes after)
+    → Holds (Ok (or_equal strict loose rest)) (λ operator after. IsOperator operator bytes after)
+or_equal_sound strict loose front bytes at [] blanks is as_strict as_loose = record { it = as_strict [] is tt }
+or_equal_sound strict loose front bytes at (b ∷ rest) blanks is as_strict as_loose = by_test (b == 61) refl
+  where
+    by_test : (t : Bool) → (b == 61) ≡ t → Holds (Ok (if t then (loose, rest) else (strict, b ∷ rest))) (λ operator after. IsOperator operator bytes after)
+    by_test true same = record { it = as_loose rest (is ∙ ap (λ (c : ℕ). front ∷ c ∷ rest) (same_byte b 61 same)) }
+    by_test false same = record { it = as_strict (b ∷ rest) is same }
+
+operator_found : (bytes at : List ℕ) → Blanks bytes at → Holds (operator_of at) (λ operator rest. IsOperator operator bytes rest)
+operator_found bytes [] blanks = record { it = tt }
+operator_found bytes (b ∷ rest) blanks = by_tests (b == 61) (b == 60) (b == 62) refl refl refl
+  where
+    is : (symbol : ℕ) → (b == symbol) ≡ true → b ∷ rest ≡ symbol ∷ rest
+    is symbol same = ap (λ (c : ℕ). c ∷ rest) (same_byte b symbol same)
+
+    by_tests : (t u v : Bool) → (b == 61) ≡ t → (b == 60) ≡ u → (b == 62) ≡ v
+        → Holds (if t then Ok (Equal, rest) else if u then Ok (or_equal Below AtMost rest) else if v then Ok (or_equal Above AtLeast rest) else Err (b ∷ rest)) (λ operator rest. IsOperator operator bytes rest)
+    by_tests true u v equal below above = record { it = (b ∷ rest, (blanks, is 61 equal)) }
+    by_tests false true v equal below above = or_equal_sound Below AtMost 60 bytes (b ∷ rest) rest blanks (is 60 below)
+        (λ after same ends. (b ∷ rest, (blanks, (same, ends)))) (λ after same. (b ∷ rest, (blanks, same)))
+    by_tests false false true equal below above = or_equal_sound Above AtLeast 62 bytes (b ∷ rest) rest blanks (is 62 above)
+        (λ after same ends. (b ∷ rest, (blanks, (same, ends)))) (λ after same. (b ∷ rest, (blanks, same)))
+    by_tests false false false equal below above = record { it = tt }
+
+pub operator_sound : (bytes : List ℕ) → Holds (operator_at bytes) (λ operator rest. IsOperator operator bytes rest)
+unfolding operator_at
+operator_sound bytes = operator_found bytes (next bytes) (blanks_before bytes)

@@ -48,7 +48,7 @@ digit_is_no_other d b below is = grind (arith, nat_tests)
 pub digits_not_blank : {bytes : List ℕ} → FirstDigit bytes → Ends is_blank bytes
 digits_not_blank f = subst (Ends is_blank) (sym f.spelled) (digit_is_no_blank f.first f.digit)
 
-not_none : (n : ℕ) → 0 < n → (n == 0) ≡ false
+pub not_none : (n : ℕ) → 0 < n → (n == 0) ≡ false
 not_none n some = grind (arith, nat_tests)
 
 not_over : (most n : ℕ) → n ≤ most → nat_lt most n ≡ false

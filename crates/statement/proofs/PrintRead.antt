@@ -15,7 +15,7 @@ use Rattle.statement.specs.Grammar.{Blanks, Symbol, Digits, is_quote, Literal, L
 use Rattle.statement.specs.GrammarLaw.{IsPlain, ArePlain, PrintedRowsAreRead}
 use Rattle.statement.proofs.LiteralSound.{literal_behind}
 use Rattle.statement.proofs.LiteralWhole.{no_blanks}
-use Rattle.statement.proofs.StatementWhole.{row_whole}
+use Rattle.statement.proofs.StatementProduction.{row}
 
 -- a byte that ends each value
 record Apart (b : ℕ) : Type 0 where
@@ -92,4 +92,4 @@ row_printed v vs rest plain =
 
 pub printed_rows : PrintedRowsAreRead
 printed_rows [] rest some plain = absurd (omega arith)
-printed_rows (v ∷ vs) rest some plain = row_whole (v ∷ vs) (values_text (v ∷ vs) ++ rest) rest (row_printed v vs rest plain)
+printed_rows (v ∷ vs) rest some plain = row.whole (v ∷ vs) (values_text (v ∷ vs) ++ rest) rest (row_printed v vs rest plain) tt

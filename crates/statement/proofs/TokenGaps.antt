@@ -1,5 +1,5 @@
 -- The blanks before a token.
-use Rattle.std.proofs.Common.{◌≡◌, ℕ, Bool, List, [], ◌∷◌, ◌++◌, take, ap, sym, ◌∙◌}
+use Rattle.std.proofs.Common.{◌≡◌, ℕ, Bool, List, [], ◌∷◌, ◌++◌, take, refl, ap, sym, ◌∙◌}
 use Rattle.std.specs.List.{prefix_len}
 use Rattle.std.proofs.lemmas.List.{append_assoc}
 use Rattle.tokens.specs.Run.{AllBytes, Ends, Run}
@@ -15,6 +15,9 @@ next_ends bytes = rest_ends is_blank bytes
 
 pub next_is : {bytes at : List ℕ} → Blanks bytes at → Ends is_blank at → next bytes ≡ at
 next_is {bytes} {at} b ends = let r : Run is_blank b.blanks bytes at = record { all = b.are_blank; ends = ends; spelled = b.spelled } in run_left is_blank r
+
+pub next_again : (bytes : List ℕ) → next (next bytes) ≡ next bytes
+next_again bytes = next_is (record { blanks = []; are_blank = tt; spelled = refl }) (next_ends bytes)
 
 all_joined : (p : ℕ → Bool) (xs ys : List ℕ) → AllBytes p xs → AllBytes p ys → AllBytes p (xs ++ ys)
 all_joined p [] ys all more = more

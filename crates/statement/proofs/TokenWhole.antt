@@ -11,7 +11,7 @@ use Rattle.tokens.proofs.WordCases.{Refused, same_number, some_written, none_sam
 use Rattle.tokens.specs.Token.{After}
 use Rattle.statement.specs.Token.{is_blank, next, symbol_at}
 use Rattle.tokens.specs.Word.{is_name_byte, word_length}
-use Rattle.statement.specs.Token.{word_at, name_at}
+use Rattle.statement.specs.Token.{word_at, name_at, end_at}
 use Rattle.tokens.specs.Name.{is_name}
 use Rattle.tokens.specs.Run.{AllBytes, Ends, Run}
 use Rattle.statement.specs.Grammar.{Blanks, Symbol, Word, Name}
@@ -63,7 +63,6 @@ symbol_of symbol at = elim at [ [] ↦ Err [] | b ∷ bs ↦ if b == symbol then
 
 pub next_symbol : (symbol : ℕ) → is_blank symbol ≡ false → (bytes rest : List ℕ) → Symbol symbol bytes rest → next bytes ≡ symbol ∷ rest
 next_symbol symbol no_blank bytes rest is =
-    let at = is.0 in
     next_is is.1.0 (subst (Ends is_blank) (sym is.1.1) no_blank) ∙ is.1.1
 
 pub symbol_whole : (symbol : ℕ) → is_blank symbol ≡ false → (bytes rest : List ℕ) → Symbol symbol bytes rest → symbol_at symbol bytes ≡ Ok rest
@@ -137,3 +136,7 @@ symbol_refused_at_word symbol none bytes b = symbol_refused symbol b.first b.oth
     apart : (t : Bool) → (b.first == symbol) ≡ t → t ≡ false
     apart true is = let e : b.first ≡ symbol = same_length b.first symbol is in let f = ap is_name_byte e in let g = b.of_name in cc
     apart false is = refl
+
+pub end_whole : (bytes : List ℕ) → Blanks bytes [] → end_at bytes ≡ Ok []
+unfolding end_at
+end_whole bytes blanks = ap (λ (at : List ℕ). elim at as (λ _. After) [ [] ↦ Ok [] | b ∷ bs ↦ Err (b ∷ bs) ]) (next_is blanks tt)

@@ -1,5 +1,5 @@
 use Rattle.statement.proofs.GrammarFinal as final
-use Rattle.statement.proofs.LineGoing as going
+use Rattle.statement.proofs.GrammarGoing as going
 use Rattle.statement.proofs.grammar_law.faults_are_final.Goals as goal
 
 pub returns-clause-goes_on : goal.returns-clause-goes_on
