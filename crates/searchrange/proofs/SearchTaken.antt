@@ -1,5 +1,7 @@
 -- What a search takes: where each key of its range meets the condition, each is taken.
-use Rattle.std.proofs.Common.{◌≡◌, ℕ, List, Bool, true, false, Option, Some, None, sym, ap, ◌∙◌, if◌then◌else◌}
+use Rattle.std.proofs.Common.{◌≡◌, ℕ, ◌<◌, List, Bool, true, false, Option, Some, None, sym, ap, ◌∙◌, arith, nat_lt, if◌then◌else◌}
+use Rattle.std.proofs.lemmas.Bool.{and_parts}
+use Rattle.std.proofs.lemmas.Bool.Decides.{nat_tests}
 use Rattle.std.specs.Option.{option_map}
 use Rattle.values.specs.Event.{Event}
 use Rattle.values.specs.Log.{Row}
@@ -11,8 +13,15 @@ use Rattle.values.specs.KeyReading.{key_from}
 use Rattle.values.proofs.KeyReads.{key_back}
 use Rattle.keyrange.specs.declared.range.KeyRange.{KeyRange}
 use Rattle.keyrange.specs.Range.{is_key_in}
-use Rattle.searchrange.specs.SearchRange.{TakesAll}
-use Rattle.searchrange.specs.Search.{IsOwnKey, entry_taken, is_taken, key_taken}
+use Rattle.searchrange.specs.SearchRange.{all_narrow, TakesAll}
+use Rattle.searchrange.specs.Search.{IsOwnKey, range_says_all, entry_taken, is_taken, key_taken}
+
+-- no range of table 255 says all
+pub before_255 : (table : Table) (keys : Keys) (b : Bool) → b ≡ range_says_all table keys → b ≡ true → table.number < 255
+before_255 table keys b known is = below table.number (and_parts (nat_lt table.number 255) (all_narrow table keys.comparisons) (sym known ∙ is)).0
+  where
+    below : (n : ℕ) → nat_lt n 255 ≡ true → n < 255
+    below n e = grind (arith, nat_tests)
 
 module _ (table : Table) (keys : Keys) (range : KeyRange) (bytes : List ℕ) (all : TakesAll table keys range) (h : IsOwnKey table range bytes) where
   read : key_from table bytes ≡ Some h.key

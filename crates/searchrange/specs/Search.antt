@@ -1,5 +1,5 @@
 -- What a search condition takes of a table.
-use Rattle.std.specs.Prelude.{◌≡◌, ℕ, ◌<◌, List, Option, Some, None, Bool, true, false, if◌then◌else◌, IfSome}
+use Rattle.std.specs.Prelude.{◌≡◌, ℕ, ◌<◌, ◌&&◌, nat_lt, List, Option, Some, None, Bool, true, false, if◌then◌else◌, IfSome}
 use Rattle.std.specs.Option.{option_map}
 use Rattle.values.specs.declared.key.Key.{Key}
 use Rattle.values.specs.declared.table.Table.{Table}
@@ -13,7 +13,7 @@ use Rattle.values.specs.KeyReading.{IsKeyWith, key_from}
 use Rattle.keyrange.specs.declared.range.KeyRange.{KeyRange}
 use Rattle.keyrange.specs.Range.{is_key_in}
 use Rattle.searchrange.specs.OnlyKey.{only_key, IsOnly}
-use Rattle.searchrange.specs.SearchRange.{search_range, TakesAll}
+use Rattle.searchrange.specs.SearchRange.{search_range, all_narrow, TakesAll}
 
 -- a table, the keys that are asked for, and the range that they leave
 pub record SearchState : Type 0 where
@@ -21,8 +21,13 @@ pub record SearchState : Type 0 where
   pub keys : Keys
   pub range : KeyRange
 
--- what is true of every search, of one besides that has one key, and of one whose condition each key
--- of the range meets; the range of table 255 has no end, so that nothing is said of it
+-- the range says all that the condition does: each comparison is of a column that narrows; not in table
+-- 255, whose range has no end
+abbrev pub range_says_all : Table → Keys → Bool
+range_says_all table keys = nat_lt table.number 255 && all_narrow table keys.comparisons
+
+-- what is true of every search, of one besides that has one key, and of one whose range says all: each
+-- key of the table in it meets the condition
 pub record IsSearch (table : Table) (keys : Keys) (key : Option Key) (is_exact : Bool)
     : Type 0 where
   pub good : IsTable table.number table
@@ -30,7 +35,7 @@ pub record IsSearch (table : Table) (keys : Keys) (key : Option Key) (is_exact :
   pub fits : comparisons_fault table keys.comparisons ≡ None
   pub key_is : key ≡ only_key table keys
   pub only : IfSome key (IsOnly table keys)
-  pub small : is_exact ≡ true → table.number < 255
+  pub known : is_exact ≡ range_says_all table keys
   pub exact : is_exact ≡ true → TakesAll table keys (search_range table keys)
 
 -- the bytes are of a key of the table, in the range
@@ -54,6 +59,13 @@ abbrev pub is_taken : Table → Keys → List ℕ → Bool
 is_taken table keys bytes = elim (key_from table bytes) [
   | None ↦ false
   | Some key ↦ matches table keys key
+]
+
+-- the table's key with the bytes of an event's, where there is one, and the event's row as it is stored
+abbrev pub entry_read : Table → Event → Option (Key × Row)
+entry_read table e = elim (key_from table e.key) [
+  | None ↦ None
+  | Some k ↦ option_map (λ row. (k, row)) e.row
 ]
 
 -- an event's row, as wide as the table, where the condition takes its key

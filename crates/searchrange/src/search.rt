@@ -1,12 +1,13 @@
 //! What a search condition takes of a table: one key, or those keys of a range that meet it.
-ghost use Rattle.std.specs.Prelude.{◌≡◌, IfOk, IfSome, option_copied};
+ghost use Rattle.std.specs.Prelude.{◌≡◌, true, Ok, IfOk, IfSome, option_copied};
 ghost use Rattle.std.specs.Option.{option_map};
 ghost use Rattle.values.specs.Tables.{IsTable, full_row};
 ghost use Rattle.values.specs.KeyEncoding.{IsShortKey};
+ghost use Rattle.values.specs.KeyReading.{key_from};
 ghost use Rattle.values.specs.Memory.{OnlyMemory};
 ghost use Rattle.searchrange.specs.SearchRange.{search_range, range_of_table, Covers, IsWithin};
 ghost use Rattle.searchrange.specs.OnlyKey.{only_key, IsOnly};
-ghost use Rattle.searchrange.specs.Search.{IsInSearch, entry_taken, is_taken, key_taken, row_taken};
+ghost use Rattle.searchrange.specs.Search.{IsInSearch, range_says_all, entry_read, entry_taken, is_taken, key_taken, row_taken};
 
 use crate::narrowing::{is_exact, search_range};
 use crate::only_key::only_key;
@@ -104,9 +105,12 @@ impl<'a> Search<'a> {
     }
 
     /// Returns whether the condition takes a key of the table that is in the range, by its bytes.
+    /// Where the range says all that the condition does, the answer is yes whatever the bytes are,
+    /// and takes no memory.
     pub fn takes(&self, alloc: Global, bytes: &KeyBytes) -> Mem<bool>
         ensures ok { IfOk result (λ b. IsInSearch self.now.table self.now.range bytes.now
             → b ≡ is_taken self.now.table self.now.keys bytes.now) }
+        ensures all { range_says_all self.now.table self.now.keys ≡ true → result ≡ Ok true }
         ensures err { OnlyMemory result }
     {
         if self.is_exact {
@@ -123,6 +127,8 @@ impl<'a> Search<'a> {
     fn key_in(&self, alloc: Global, bytes: &KeyBytes) -> Mem<Option<Key>>
         ensures ok { IfOk result (λ key. IsInSearch self.now.table self.now.range bytes.now
             → key ≡ key_taken self.now.table self.now.keys bytes.now) }
+        ensures all { IfOk result (λ key. range_says_all self.now.table self.now.keys ≡ true
+            → key ≡ key_from self.now.table bytes.now) }
         ensures short { IfOk result (λ key. IfSome key IsShortKey) }
         ensures err { OnlyMemory result }
     {
@@ -143,6 +149,8 @@ impl<'a> Search<'a> {
     pub fn row_in(&self, alloc: Global, event: &SharedEvent) -> Mem<Option<ShownRow>>
         ensures ok { IfOk result (λ row. IsInSearch self.now.table self.now.range event.now.key
             → row ≡ row_taken self.now.table self.now.keys event.now) }
+        ensures all { IfOk result (λ row. range_says_all self.now.table self.now.keys ≡ true
+            → row ≡ option_map (full_row self.now.table) event.now.row) }
         ensures err { OnlyMemory result }
     {
         if self.takes(alloc, event.event().key())? {
@@ -167,9 +175,12 @@ impl<'a> Search<'a> {
     }
 
     /// Reads an event like [`Search::row_in`], and returns the key with the row as it is stored.
+    /// Where the range says all that the condition does, no key is compared.
     pub fn entry_in(&self, alloc: Global, event: &Event) -> Mem<Option<(Key, Row)>>
         ensures ok { IfOk result (λ entry. IsInSearch self.now.table self.now.range event.now.key
             → entry ≡ entry_taken self.now.table self.now.keys event.now) }
+        ensures all { IfOk result (λ entry. range_says_all self.now.table self.now.keys ≡ true
+            → entry ≡ entry_read self.now.table event.now) }
         ensures short { IfOk result (λ entry. IfSome entry (λ e. IsShortKey e.0)) }
         ensures err { OnlyMemory result }
     {
