@@ -1,5 +1,5 @@
 -- That a set of the keys that came before does for their list.
-use Rattle.std.proofs.Common.{◌≡◌, ◌+◌, ◌<◌, suc, subst, arith, get_or, length, Bool, true, false, cond, ◌||◌, List, [], ◌∷◌, ◌++◌, Some, refl, sym, ap, ◌∙◌, if◌then◌else◌}
+use Rattle.std.proofs.Common.{◌≡◌, ℕ, ◌+◌, ◌<◌, zero, suc, subst, arith, get_or, length, Bool, true, false, cond, ◌||◌, List, [], ◌∷◌, ◌++◌, Some, refl, sym, ap, ◌∙◌, if◌then◌else◌}
 use Rattle.std.proofs.lemmas.List.Folds.{list_any-append}
 use Rattle.std.specs.Ordering.{is_eq, match_ordering, ordering_reverse}
 use Rattle.std.specs.declared.cmp.Ordering.{Ordering}
@@ -107,3 +107,13 @@ rising (k ∷ ks) h =
 
     with_first : IsStrictlySortedBy key_cmp ks → IsStrictlySortedBy key_cmp (k ∷ ks)
     with_first sorted = sorted_cons key_cmp k ks (above ks (h 0 k) sorted) sorted
+
+-- and of keys that rise each is below the next
+pub below_next : (ks : List Key) (i : ℕ) (d : Key) → IsStrictlySortedBy key_cmp ks → suc i < length ks → key_cmp (get_or ks i d) (get_or ks (suc i) d) ≡ Less
+below_next [] i d sorted within = absurd (omega arith)
+below_next (k ∷ []) i d sorted within = absurd (omega arith)
+below_next (k ∷ l ∷ ks) zero d sorted within = (sorted_head key_cmp k (l ∷ ks) sorted).0
+below_next (k ∷ l ∷ ks) (suc i) d sorted within = below_next (l ∷ ks) i d (sorted_tail key_cmp k (l ∷ ks) sorted) (lower (suc i) (length (l ∷ ks)) within)
+  where
+    lower : (a b : ℕ) → suc a < suc b → a < b
+    lower a b h = omega arith

@@ -1,5 +1,5 @@
 //! A transaction's own writes.
-ghost use Rattle.std.specs.Prelude.{◌≡◌, ◌≢◌, ◌<◌, ◌≤◌, ◌||◌, [], ◌∷◌, ◌++◌, All, None, IfOk, IfErr, IfSome, IfNone, OnOk, OnErr, Result, Err, true, filter, find, is_some, length, option_copied};
+ghost use Rattle.std.specs.Prelude.{◌≡◌, ◌≢◌, ◌↔◌, IsTrue, ◌<◌, ◌≤◌, ◌||◌, [], ◌∷◌, ◌++◌, All, None, IfOk, IfErr, IfSome, IfNone, OnOk, OnErr, Result, Err, true, filter, find, is_some, length, option_copied};
 ghost use Rattle.std.specs.BTreeMap.{IsOrdered, insert_entry, is_at};
 ghost use Rattle.std.specs.Map.{keys_of, lookup};
 ghost use Rattle.std.specs.List.{filter_map, list_any};
@@ -273,7 +273,7 @@ impl Staged {
 
 /// Tells whether keys strictly rise.
 fn rise(keys: &[Key]) -> bool
-    ensures { result ≡ true → IsStrictlySortedBy key_cmp keys.now }
+    ensures { IsTrue result ↔ IsStrictlySortedBy key_cmp keys.now }
 {
     for i in 1..keys.len() {
         if keys[i - 1].cmp(&keys[i]).is_ge() {
