@@ -57,7 +57,7 @@ pub fn load_into<J: StoreName, R: Wait>(
     };
     match store.begin(rt, &mut session) {
         Ok(begun) => load_begun(rt, store, &mut session, begun, receipts, table, rows),
-        Err(refusal) => unbegun(receipts, refusal),
+        Err(refusal) => unbegun(receipts, Refusal::from(refusal)),
     }
 }
 
@@ -124,7 +124,10 @@ fn commit_begun<J: StoreName, R: Wait>(
     receipts.push_reserved(begun);
     let done = match store.commit(rt, session, 0) {
         Ok(done) => done,
-        Err(refusal) => return Err(Unloaded { refusal, receipts }),
+        Err(refused) => {
+            let refusal = Refusal::from(refused);
+            return Err(Unloaded { refusal, receipts });
+        }
     };
     let ended = commit_instant(done.entry.entry());
     receipts.push_reserved(done);
