@@ -1,5 +1,5 @@
 -- What a load leaves, from what its parts do.
-use Rattle.std.proofs.Common.{◌≡◌, ℕ, List, [], Option, Some, None, refl, ◌∙◌, ap, subst, inl, inr, length}
+use Rattle.std.proofs.Common.{◌≡◌, ℕ, List, [], Option, Some, None, refl, ◌∙◌, ap, subst, sym, inl, inr, length}
 use Rattle.std.specs.Prelude.{Ok}
 use Rattle.std.specs.Io.KnownBytes.{Appends}
 use Rattle.clap.specs.Words.{Text}
@@ -15,7 +15,7 @@ use Rattle.command_line.specs.declared.fault.Fault.TheVariants.{Words, SchemaSyn
 use Rattle.command_line.specs.Options.{name_in}
 use Rattle.interchange.specs.Report.{loaded_text}
 use Rattle.command_line.proofs.LoadRefused.{first_refused}
-use Rattle.command_line.specs.Load.{IsNamed, FileSays, HasNoRows, IsLed, IsUnread, IsUnreported, Unloaded, steps_of}
+use Rattle.command_line.specs.Load.{IsNamed, FileSays, HasNoRows, IsLed, IsUnread, Unloaded, steps_of}
 
 same_text : (schema : Schema) (number : ℕ) (rows : List Row) (count instant : ℕ) → count ≡ length rows → instant ≡ last (log schema (history_of (steps_of number rows)))
     → loaded_text count instant ≡ loaded_text (length rows) (last (log schema (history_of (steps_of number rows))))
@@ -36,26 +36,16 @@ led_with schema text number rows s old new count instant count_is says at taken 
   stands = at;
 }
 
--- rows were taken, and not reported
+-- rows were taken, and the writer failed in their report
 pub unloaded_late : (fault : Fault) (schema : Schema) (text : Text) (number : ℕ) (rows : List Row) (s : SystemState) (old new : Option (List ℕ)) (count instant : ℕ) → count ≡ length rows → FileSays schema text number (Ok rows)
     → Stands schema s (history_of (steps_of number rows)) → first_refusal schema [] (steps_of number rows) ≡ None
-    → ((first : Schema) (h : History) → Stands first s h → instant ≡ last (log first h)) → IsUnreported fault (loaded_text count instant) old new
+    → ((first : Schema) (h : History) → Stands first s h → instant ≡ last (log first h)) → (fault ≡ Write) × AppendsPrefix old new (loaded_text count instant)
     → Unloaded fault schema (Some text) old new
-unloaded_late (Words f) schema text number rows s old new count instant count_is says at taken instant_is untold = absurd untold
-unloaded_late (SchemaSyntax n) schema text number rows s old new count instant count_is says at taken instant_is untold = absurd untold
-unloaded_late (BadTable n) schema text number rows s old new count instant count_is says at taken instant_is untold = absurd untold
-unloaded_late SchemaMemory schema text number rows s old new count instant count_is says at taken instant_is untold = absurd untold
-unloaded_late NoExport schema text number rows s old new count instant count_is says at taken instant_is untold = absurd untold
-unloaded_late (Load refusal) schema text number rows s old new count instant count_is says at taken instant_is untold = absurd untold
-unloaded_late Read schema text number rows s old new count instant count_is says at taken instant_is untold = absurd untold
-unloaded_late Socket schema text number rows s old new count instant count_is says at taken instant_is untold = absurd untold
-unloaded_late NotClosed schema text number rows s old new count instant count_is says at taken instant_is untold = absurd untold
-unloaded_late Memory schema text number rows s old new count instant count_is says at taken instant_is untold = untold
-unloaded_late Write schema text number rows s old new count instant count_is says at taken instant_is untold = record {
+unloaded_late fault schema text number rows s old new count instant count_is says at taken instant_is (is, wrote) = subst (λ f. Unloaded f schema (Some text) old new) (sym is) (record {
   first = history_of (steps_of number rows);
   load = record { number = number; rows = rows; says = says; taken = taken; leaves = refl };
-  wrote = subst (AppendsPrefix old new) (same_text schema number rows count instant count_is (instant_is schema _ at)) untold;
-}
+  wrote = subst (AppendsPrefix old new) (same_text schema number rows count instant count_is (instant_is schema _ at)) wrote;
+})
 
 -- a table's file has no rows
 pub no_rows_of : (fault : Fault) (schema : Schema) (text : Text) (table : Table) → IsNamed schema (name_in text) table → IsUnread fault table → HasNoRows fault schema text

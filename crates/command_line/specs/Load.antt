@@ -126,9 +126,3 @@ IsUntaken Memory schema number rows = Unit {0}
 IsUntaken (Load refusal) schema number rows =
     (refusal ≡ OutOfMemory) ⊎ (first_refusal schema [] (steps_of number rows) ≡ Some refusal)
 IsUntaken fault schema number rows = ⊥
-
--- a report was not written whole
-abbrev pub IsUnreported : Fault → (text : List ℕ) → (old new : Option (List ℕ)) → Type 0
-IsUnreported Memory text old new = Keeps old new
-IsUnreported Write text old new = AppendsPrefix old new text
-IsUnreported fault text old new = ⊥

@@ -7,16 +7,16 @@ ghost use Rattle.values.specs.Tables.{IsTable, Schema};
 ghost use Rattle.values.specs.Log.{last};
 ghost use Rattle.values.specs.declared.refusal.Refusal.{Refusal as Why};
 ghost use Rattle.histories.specs.History.{History, log};
+ghost use Rattle.statement.specs.Writer.{AppendsPrefix};
 ghost use Rattle.interleaving.specs.SystemState.{Stands};
 ghost use Rattle.interchange.specs.Load.{Loads};
 ghost use Rattle.interchange.specs.Report.{loaded_text};
 ghost use Rattle.scripts.specs.First.{history_of, first_refusal};
 ghost use Rattle.command_line.specs.Options.{name_in};
-ghost use Rattle.command_line.specs.Load.{IsLed, IsNamed, FileSays, HasNoRows, IsUnread, IsUntaken, IsUnreported, Unloaded, steps_of};
+ghost use Rattle.command_line.specs.Load.{IsLed, IsNamed, FileSays, HasNoRows, IsUnread, IsUntaken, Unloaded, steps_of};
 
 use crate::fault::{Fault, load_fault};
-use crate::output::print;
-use interchange::{LoadFault, load_from, loaded_line};
+use interchange::{LoadFault, load_from, report_loaded};
 use interleaving::System;
 use listening::TableRows;
 use scripts::lead;
@@ -149,16 +149,16 @@ fn last_instant(system: &System) -> Instant
     system.tree().current().last()
 }
 
-/// Writes how many rows were loaded, and at which instant.
-fn report<O: Write>(alloc: Global, out: &mut O, count: usize, instant: Instant) -> Result<(), Fault>
+/// Writes how many rows were loaded, and at which instant. It takes no memory.
+fn report<O: Write>(out: &mut O, count: usize, instant: Instant) -> Result<(), Fault>
     ensures ok { OnOk result (
         Appends (O.contents out.old) (O.contents out.new) (loaded_text count instant)) }
-    ensures err { IfErr result (λ fault. IsUnreported fault (loaded_text count instant)
-        (O.contents out.old) (O.contents out.new)) }
+    ensures err { IfErr result (λ fault. (fault ≡ Fault.Write) × AppendsPrefix
+        (O.contents out.old) (O.contents out.new) (loaded_text count instant)) }
 {
-    match loaded_line(alloc, count, instant) {
-        Ok(text) => print(out, text.as_slice()),
-        Err(_) => Err(Fault::Memory),
+    match report_loaded(out, count, instant) {
+        Ok(()) => Ok(()),
+        Err(_) => Err(Fault::Write),
     }
 }
 
@@ -187,7 +187,7 @@ fn load_rows_of<O: Write>(
         Ok(system) => system,
         Err(fault) => return Err(fault),
     };
-    match report(alloc, out, count, last_instant(&system)) {
+    match report(out, count, last_instant(&system)) {
         Ok(()) => Ok(system),
         Err(fault) => Err(fault),
     }

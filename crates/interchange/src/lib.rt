@@ -18,6 +18,6 @@ mod version;
 
 pub use field::whole_within;
 pub use load::load_rows;
-pub use report::{loaded_line, numbered_line, print_whole};
+pub use report::{print_whole, report_loaded, report_number};
 pub use stream::{LoadFault, load_from};
 pub use version::{ExportFault, export};

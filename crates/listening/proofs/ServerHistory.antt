@@ -1,15 +1,14 @@
 -- The one history of a server, with the rows that it loaded first.
-use Rattle.std.proofs.Common.{◌≡◌, ◌∙◌, ℕ, List, [], ◌∷◌, Option, Some, None, append-nil, inr, refl, subst, sym}
+use Rattle.std.proofs.Common.{◌≡◌, ◌∙◌, ℕ, List, [], ◌∷◌, Option, Some, None, inr, refl, subst, sym}
 use Rattle.std.specs.Prelude.{Result, Ok, Err, OnOk}
 use Rattle.values.specs.Log.{Row}
 use Rattle.values.specs.Tables.{Schema}
-use Rattle.statement.specs.Writer.{AppendsPrefix}
 use Rattle.sessions.specs.book.Book.{BookState, IsBook}
 use Rattle.serving.specs.Progress.{Given}
 use Rattle.runs.specs.Run.{IsLoaded}
 use Rattle.listening.specs.Connection.{IsOneRun}
 use Rattle.listening.specs.Loading.{IsLoadedAt}
-use Rattle.listening.specs.Server.{EndsAfter, HasFirst, HasListened, HasServed, HasStopped, IsClosedWith, IsOneRunAfter, IsOther, StopsLate}
+use Rattle.listening.specs.Server.{EndsAfter, HasFirst, HasListened, HasServed, HasStopped, IsClosedWith, IsOneRunAfter, StopsLate}
 use Rattle.listening.specs.declared.server.Plan.{Plan}
 use Rattle.listening.specs.declared.server.ServerFault.{ServerFault}
 use Rattle.listening.specs.declared.server.TableRows.{TableRows}
@@ -27,11 +26,6 @@ run_after schema sessions (Some rows) receipts b old new first history =
 pub on_ok : {A E : Type 0} (r : Result A E) (P Q : Type 0) → (P → Q) → OnOk r P → OnOk r Q
 on_ok (Ok x) P Q f p = f p
 on_ok (Err e) P Q f p = tt
-
--- nothing of a text was written
-pub none_written : (w : Option (List ℕ)) (text : List ℕ) → AppendsPrefix w w text
-none_written None text = record { out = []; left = text; wrote = tt; front = refl }
-none_written (Some bytes) text = record { out = []; left = text; wrote = sym (append-nil bytes); front = refl }
 
 -- ---- a server that came to its end, by tables that are the store's
 
@@ -57,18 +51,15 @@ module _ (schema store tables : Schema) (is : schema ≡ store) (copied : tables
     ends = subst (λ s. EndsAfter s plan.export b listening new) copied (ends book);
   }
 
-  pub stopped : (fault : ServerFault) → (IsBook tables b → IsOther fault × StopsLate tables plan.export b listening new) → HasStopped fault schema first plan old new
-  stopped fault ends = inr (
-    (ends book).0,
-    inr (record {
-      receipts = receipts;
-      reported = reported;
-      listening = listening;
-      b = b;
-      loads = subst (λ s. HasFirst s first receipts old reported) (sym is) loads;
-      listens = listens;
-      closed = subst (λ s. IsClosedWith s receipts b) (sym is) closed;
-      history = one_run;
-      stops = subst (λ s. StopsLate s plan.export b listening new) copied (ends book).1;
-    }),
-  )
+  pub stopped : (fault : ServerFault) → (IsBook tables b → StopsLate fault tables plan.export b listening new) → HasStopped fault schema first plan old new
+  stopped fault ends = inr (inr (inr (record {
+    receipts = receipts;
+    reported = reported;
+    listening = listening;
+    b = b;
+    loads = subst (λ s. HasFirst s first receipts old reported) (sym is) loads;
+    listens = listens;
+    closed = subst (λ s. IsClosedWith s receipts b) (sym is) closed;
+    history = one_run;
+    stops = subst (λ s. StopsLate fault s plan.export b listening new) copied (ends book);
+  })))

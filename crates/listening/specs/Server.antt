@@ -17,6 +17,7 @@ use Rattle.sessions.specs.book.Book.{BookState, IsBook}
 use Rattle.serving.specs.Progress.{Given}
 use Rattle.listening.specs.Loading.{IsLoadedAt, IsUnloaded}
 use Rattle.listening.specs.Connection.{IsOneRun}
+use Rattle.listening.specs.declared.connection.ListenFault.TheVariants.{Socket, Memory, NotClosed}
 use Rattle.listening.specs.declared.server.Plan.{Plan}
 use Rattle.listening.specs.declared.server.TableRows.{TableRows}
 use Rattle.listening.specs.declared.server.ServerFault.{ServerFault}
@@ -119,16 +120,25 @@ pub record StopsInReport (schema : Schema) (first : Option TableRows) (old new :
   pub wrote : AppendsPrefix old new (loaded_text (length rows.rows.items) instant)
 
 -- a prefix of the line that tells the port
-abbrev pub StopsListening : (asked : ℕ) → (old new : Option (List ℕ)) → Type 0
-StopsListening asked old new =
+abbrev pub StopsInPort : (asked : ℕ) → (old new : Option (List ℕ)) → Type 0
+StopsInPort asked old new =
     (port : ℕ) × IsPortFor asked port × AppendsPrefix old new (numbered (codes "listening ") port)
 
-pub record StopsAtPort (schema : Schema) (first : Option TableRows) (asked : ℕ)
-    (old new : Option (List ℕ)) : Type 0 where
+-- the writer failed in the line that tells the port; nothing was written where the port cannot be
+-- listened at; and the port was told where sessions were not served to a closed store
+abbrev pub StopsListening : ServerFault → (asked : ℕ) → (old new : Option (List ℕ)) → Type 0
+StopsListening (Load refusal) asked old new = ⊥
+StopsListening Write asked old new = StopsInPort asked old new
+StopsListening (Listen Socket) asked old new = Keeps old new
+StopsListening (Listen Memory) asked old new = HasListened asked old new
+StopsListening (Listen NotClosed) asked old new = HasListened asked old new
+
+pub record StopsAtPort (fault : ServerFault) (schema : Schema) (first : Option TableRows)
+    (asked : ℕ) (old new : Option (List ℕ)) : Type 0 where
   pub receipts : List Given
   pub reported : Option (List ℕ)
   pub loads : HasFirst schema first receipts old reported
-  pub stops : StopsListening asked reported new
+  pub stops : StopsListening fault asked reported new
 
 -- a prefix of the table that is exported
 pub record StopsInExport (schema : Schema) (number : Option ℕ) (b : BookState)
@@ -141,14 +151,20 @@ pub record StopsInExport (schema : Schema) (number : Option ℕ) (b : BookState)
   pub table_is : table_at schema n ≡ Some table
   pub wrote : AppendsPrefix ended new (versions_text schema b table)
 
--- a prefix of the line that tells how many entries there are, or of the table
-abbrev pub StopsLate : Schema → Option ℕ → BookState → (old new : Option (List ℕ)) → Type 0
-StopsLate schema number b old new =
+-- the writer failed in the line that tells how many entries there are, or in the table; memory runs
+-- out in the table alone
+abbrev pub StopsLate : ServerFault → Schema → Option ℕ → BookState → (old new : Option (List ℕ))
+    → Type 0
+StopsLate Write schema number b old new =
     AppendsPrefix old new (numbered (codes "closed ") (length b.entries))
     ⊎ StopsInExport schema number b old new
+StopsLate (Listen Memory) schema number b old new = StopsInExport schema number b old new
+StopsLate (Listen Socket) schema number b old new = ⊥
+StopsLate (Listen NotClosed) schema number b old new = ⊥
+StopsLate (Load refusal) schema number b old new = ⊥
 
-pub record StopsAfter (schema : Schema) (first : Option TableRows) (plan : Plan)
-    (old new : Option (List ℕ)) : Type 0 where
+pub record StopsAfter (fault : ServerFault) (schema : Schema) (first : Option TableRows)
+    (plan : Plan) (old new : Option (List ℕ)) : Type 0 where
   pub receipts : List Given
   pub reported : Option (List ℕ)
   pub listening : Option (List ℕ)
@@ -157,13 +173,11 @@ pub record StopsAfter (schema : Schema) (first : Option TableRows) (plan : Plan)
   pub listens : HasListened plan.port reported listening
   pub closed : IsClosedWith schema receipts b
   pub history : IsOneRunAfter schema plan.sessions first b
-  pub stops : StopsLate schema plan.export b listening new
+  pub stops : StopsLate fault schema plan.export b listening new
 
--- no rows were refused
-abbrev pub IsOther : ServerFault → Type 0
-IsOther (Load refusal) = ⊥
-IsOther Write = Unit {0}
-IsOther (Listen fault) = Unit {0}
+-- why an export stops: the writer failed, or memory ran out
+abbrev pub IsOfExport : ServerFault → Type 0
+IsOfExport fault = (fault ≡ Write) ⊎ (fault ≡ Listen Memory)
 
 -- why rows are not loaded, where there are some
 abbrev pub IsRefusedFirst : Schema → Option TableRows → Refusal → Type 0
@@ -171,21 +185,25 @@ IsRefusedFirst schema None refusal = ⊥
 IsRefusedFirst schema (Some first) refusal =
     (receipts : List Given) × IsUnloaded schema first.number first.rows.items refusal receipts
 
--- nothing was loaded and written, or a prefix of the report
+-- the rows are refused, and nothing was written; or the writer failed in the report
 abbrev pub HasNoFirst : ServerFault → Schema → Option TableRows
     → (old new : Option (List ℕ)) → Type 0
 HasNoFirst (Load refusal) schema first old new = IsRefusedFirst schema first refusal × Keeps old new
 HasNoFirst Write schema first old new = StopsInReport schema first old new
-HasNoFirst (Listen fault) schema first old new = Keeps old new
+HasNoFirst (Listen fault) schema first old new = ⊥
 
-abbrev pub StopsSomewhere : Schema → Option TableRows → Plan
+-- memory ran out before there was a store
+abbrev pub HasNoStore : ServerFault → (old new : Option (List ℕ)) → Type 0
+HasNoStore fault old new = (fault ≡ Listen Memory) × Keeps old new
+
+abbrev pub StopsSomewhere : ServerFault → Schema → Option TableRows → Plan
     → (old new : Option (List ℕ)) → Type 0
-StopsSomewhere schema first plan old new =
-    StopsAtPort schema first plan.port old new ⊎ StopsAfter schema first plan old new
+StopsSomewhere fault schema first plan old new =
+    StopsAtPort fault schema first plan.port old new ⊎ StopsAfter fault schema first plan old new
 
--- where rows were refused, nothing was written
+-- where a server stopped, and what was written until then
 abbrev pub HasStopped : ServerFault → Schema → Option TableRows → Plan
     → (old new : Option (List ℕ)) → Type 0
 HasStopped fault schema first plan old new =
-    HasNoFirst fault schema first old new
-    ⊎ (IsOther fault × StopsSomewhere schema first plan old new)
+    HasNoStore fault old new
+    ⊎ (HasNoFirst fault schema first old new ⊎ StopsSomewhere fault schema first plan old new)

@@ -1,5 +1,5 @@
 //! Connections, each served in a thread of its own.
-ghost use Rattle.std.specs.Prelude.{◌≡◌, ℕ, All, IfOk, List, OnOk, Some, length, map, true};
+ghost use Rattle.std.specs.Prelude.{◌≡◌, ◌≢◌, ℕ, All, IfErr, IfOk, List, OnOk, Some, length, map, true};
 ghost use Rattle.values.specs.Log.{Row};
 ghost use Rattle.sessions.specs.journal.Entries.{entry_at};
 ghost use Rattle.sessions.specs.book.Book.{IsBook, most_entries};
@@ -74,6 +74,7 @@ where
         → IsLoaded J.schema table rows
         (map (λ r. record { number = r.number; entry = r.entry }) before.items)
         → IsOneRun J.schema sessions table rows c) }
+    ensures why { IfErr result (λ fault. fault ≢ ListenFault.Socket) }
 {
     served_runs_are_histories();
     let mut receipts = before;
@@ -107,6 +108,7 @@ where
 /// full.
 fn confirm(closed: Closed, has_full: bool) -> Result<Closed, ListenFault>
     ensures same { IfOk result (λ c. c ≡ closed) }
+    ensures why { IfErr result (λ fault. fault ≢ ListenFault.Socket) }
     ensures full { OnOk result (has_full ≡ true → length closed.entries ≡ most_entries) }
 {
     if has_full && closed.entries() != MOST_ENTRIES {
@@ -121,7 +123,9 @@ fn give_up<J: StoreName>(
     receipts: Vec<Receipt<J>>,
     fault: ListenFault,
 ) -> Result<Closed, ListenFault>
-    ensures { IfOk result (λ _. ⊥) }
+    ensures ok { IfOk result (λ _. ⊥) }
+    ensures why { fault ≢ ListenFault.Socket
+        → IfErr result (λ fault. fault ≢ ListenFault.Socket) }
 {
     let _gone = store.give_up(receipts);
     Err(fault)

@@ -14,14 +14,14 @@ ghost use Rattle.sessions.specs.book.Book.{IsBook};
 ghost use Rattle.serving.specs.Progress.{Given};
 ghost use Rattle.runs.specs.Run.{IsLoaded};
 ghost use Rattle.listening.specs.Connection.{IsOneRun};
-ghost use Rattle.listening.specs.Server.{EndsAfter, HasFirst, HasListened, HasNoFirst, HasReported, HasServed, HasStopped, IsClosedWith, IsExportOf, IsOther, StopsListening, StopsLate, versions_text};
+ghost use Rattle.listening.specs.Server.{EndsAfter, HasFirst, HasListened, HasNoFirst, HasReported, HasServed, HasStopped, IsClosedWith, IsExportOf, IsOfExport, StopsListening, StopsLate, versions_text};
 
 use crate::always_open::AlwaysOpen;
 use crate::connection::{ListenFault, listen};
 use crate::loading::{Loaded, Unloaded, load_into};
 use crate::socket::bind;
 use growlog::{NewLog, StoreName};
-use interchange::{ExportFault, export, loaded_line, numbered_line, print_whole};
+use interchange::{ExportFault, export, report_loaded, report_number};
 use searchrange::Search;
 use sessions::{Closed, LockedStore, Receipt, SharedEntry};
 use std::alloc::Global;
@@ -175,12 +175,7 @@ fn load_and_report<J: StoreName, R: Wait, O: Write>(
             return Err(Stopped { fault, receipts });
         }
     };
-    let Ok(line) = loaded_line(alloc, rows.len(), loaded.instant) else {
-        let fault = OUT_OF_MEMORY;
-        let receipts = receipts_of(loaded);
-        return Err(Stopped { fault, receipts });
-    };
-    match print_whole(out, line.as_slice()) {
+    match report_loaded(out, rows.len(), loaded.instant) {
         Ok(()) => Ok(receipts_of(loaded)),
         Err(_) => {
             let fault = ServerFault::Write;
@@ -201,22 +196,14 @@ fn receipts_of<J: StoreName>(loaded: Loaded<J>) -> Vec<Receipt<J>>
     receipts
 }
 
-/// Writes a label and a number as a line.
-fn report<O: Write>(
-    alloc: Global,
-    out: &mut O,
-    label: &[u8],
-    number: u64,
-) -> Result<(), ServerFault>
+/// Writes a label and a number as a line. It takes no memory.
+fn report<O: Write>(out: &mut O, label: &[u8], number: u64) -> Result<(), ServerFault>
     ensures ok { OnOk result (Appends (O.contents out.old) (O.contents out.new)
         (numbered label.now number)) }
-    ensures err { IfErr result (λ fault. IsOther fault × AppendsPrefix (O.contents out.old)
-        (O.contents out.new) (numbered label.now number)) }
+    ensures err { IfErr result (λ fault. (fault ≡ ServerFault.Write) × AppendsPrefix
+        (O.contents out.old) (O.contents out.new) (numbered label.now number)) }
 {
-    let Ok(line) = numbered_line(alloc, label, number) else {
-        return Err(OUT_OF_MEMORY);
-    };
-    match print_whole(out, line.as_slice()) {
+    match report_number(out, label, number) {
         Ok(()) => Ok(()),
         Err(_) => Err(ServerFault::Write),
     }
@@ -242,14 +229,14 @@ where
         → IsLoaded J.schema table rows
         (map (λ r. record { number = r.number; entry = r.entry }) receipts.items)
         → IsOneRun J.schema plan.sessions table rows closed) }
-    ensures err { IfErr result (λ fault. IsOther fault
-        × StopsListening plan.port (O.contents out.old) (O.contents out.new)) }
+    ensures err { IfErr result (λ fault. StopsListening fault plan.port
+        (O.contents out.old) (O.contents out.new)) }
 {
     let Ok((listener, port)) = bind(rt, plan.port) else {
         let _gone = store.give_up(receipts);
         return Err(ServerFault::Listen(ListenFault::Socket));
     };
-    match report(alloc, out, b"listening ", u64::from(port)) {
+    match report(out, b"listening ", u64::from(port)) {
         Ok(()) => {}
         Err(fault) => {
             let _gone = store.give_up(receipts);
@@ -281,10 +268,10 @@ fn close_with<O: Write>(
     requires { IsExportOf tables.now number }
     ensures ok { OnOk result (IsBook tables.now closed.now
         → EndsAfter tables.now number closed.now (O.contents out.old) (O.contents out.new)) }
-    ensures err { IfErr result (λ fault. IsBook tables.now closed.now → IsOther fault
-        × StopsLate tables.now number closed.now (O.contents out.old) (O.contents out.new)) }
+    ensures err { IfErr result (λ fault. IsBook tables.now closed.now → StopsLate fault
+        tables.now number closed.now (O.contents out.old) (O.contents out.new)) }
 {
-    match report(alloc, out, b"closed ", closed.entries() as u64) {
+    match report(out, b"closed ", closed.entries() as u64) {
         Ok(()) => {}
         Err(fault) => return Err(fault),
     }
@@ -311,7 +298,7 @@ fn export_closed<O: Write>(
         (versions_text schema closed.now table.now)) }
     ensures err { IfErr result (λ fault. (schema : Schema) → IsBook schema closed.now
         → table_at schema table.now.number ≡ Some table.now
-        → IsOther fault × AppendsPrefix (O.contents out.old) (O.contents out.new)
+        → IsOfExport fault × AppendsPrefix (O.contents out.old) (O.contents out.new)
         (versions_text schema closed.now table.now)) }
 {
     let Ok(shown) = versions_of(alloc, closed, table) else {

@@ -1,12 +1,12 @@
-use Rattle.std.proofs.Common.{◌∙◌, List, ap, length, map, refl, subst}
+use Rattle.std.proofs.Common.{List, ap, length, map, refl, subst}
 use Rattle.statement.specs.Writer.{AppendsPrefix}
 use Rattle.interchange.specs.Report.{loaded_text}
 use Rattle.serving.specs.Progress.{Given}
 use Rattle.listening.specs.Loading.{IsLoadedAt}
 use Rattle.listening.proofs.server.load_and_report.Goals as goal
 
-pub returns-clause-err : goal.returns-clause-err
-returns-clause-err g c =
+pub returns-in-Err-report_loaded-clause-err : goal.returns-in-Err-report_loaded-clause-err
+returns-in-Err-report_loaded-clause-err g c =
     let given : List Given = map (λ r. record { number = r.number; entry = r.entry }) c.in-Ok.loaded.receipts.items in
     record {
       rows = c.args.first.now;
@@ -14,7 +14,7 @@ returns-clause-err g c =
       receipts = given;
       instant = c.in-Ok.loaded.instant;
       loaded = subst (λ rows. IsLoadedAt g.J.StoreName.schema c.args.first.now.number rows given c.in-Ok.loaded.instant) c.as_slice-rows.ensures.value c.in-Ok.ensures.ok;
-      wrote = subst (AppendsPrefix (g.O.Write.contents c.args.out.now) (g.O.Write.contents c.print_whole.new.out))
-          (c.as_slice.ensures.value ∙ c.in-Ok-loaded_line.ensures ∙ ap (λ rows. loaded_text (length rows) c.in-Ok.loaded.instant) c.as_slice-rows.ensures.value)
-          c.in-Err-print_whole.ensures;
+      wrote = subst (AppendsPrefix (g.O.Write.contents c.args.out.now) (g.O.Write.contents c.report_loaded.new.out))
+          (ap (λ rows. loaded_text (length rows) c.in-Ok.loaded.instant) c.as_slice-rows.ensures.value)
+          c.in-Err-report_loaded.ensures;
     }

@@ -1,9 +1,8 @@
-use Rattle.std.proofs.Common.{◌∙◌, refl}
+use Rattle.std.proofs.Common.{◌∙◌}
 use Rattle.std.specs.Prelude.{◌≡◌, Some}
 use Rattle.std.proofs.lemmas.List.Elements.{All-map}
 use Rattle.sessions.specs.journal.Entries.{entry_at}
 use Rattle.serving.specs.Progress.{Given}
-use Rattle.listening.proofs.ServerHistory.{none_written}
 use Rattle.listening.proofs.server.serve_to_close.Goals as goal
 
 pub returns-in-Ok-listen-clause-ok : goal.returns-in-Ok-listen-clause-ok
@@ -14,7 +13,3 @@ returns-in-Ok-listen-clause-ok g c = (
     stand = All-map (λ (g : Given). entry_at c.in-Ok-listen.closed.entries g.number ≡ Some g.entry) (λ r. record { number = r.number; entry = r.entry }) c.args.receipts.items c.in-Ok-listen.ensures.stand;
   },
 )
-
--- where the port cannot be listened at, nothing is written
-pub returns-in_default-clause-err : goal.returns-in_default-clause-err
-returns-in_default-clause-err g c = (tt, (c.args.plan.port, (λ some. refl), none_written (g.O.Write.contents c.args.out.now) _))
