@@ -19,7 +19,7 @@ use Rattle.sessions.specs.SessionState.{IsWrite, SessionState, WithWrites, with_
 use Rattle.sessions.specs.Store.{IsBegun, begun_with}
 use Rattle.serving.specs.Progress.{Given}
 use Rattle.serving.proofs.AnswerRefusing.{memory_or_reply}
-use Rattle.listening.specs.Loading.{HasEnded, IsLoadAt, IsLoadedAt, IsRefusedInsert, IsRoom, IsUnended, IsUnloaded, unbegun}
+use Rattle.listening.specs.Loading.{HasEnded, IsCommitAt, IsLoadAt, IsLoadedAt, IsRefusedInsert, IsRoom, IsUnended, IsUnloaded, unbegun}
 
 pub if_err : {A E : Type 0} (r : Result A E) (P Q : E → Type 0) → ((x : E) → P x → Q x) → IfErr r P → IfErr r Q
 if_err (Ok x) P Q f p = tt
@@ -45,8 +45,8 @@ taken_by schema step o o' count None e = (refl, sym (both (ap (λ p. p.0) e) (in
 
 -- the entry of the commit is of the begin, and tells the instant
 commit_entry : (e : Entry) (session begin begin' number reading instant : ℕ) (net net' : Net) (end : Result (Option ℕ) Refusal)
-    → e ≡ Commit 0 begin net 0 end → begin ≡ number → e ≡ Commit session begin' net' reading (Ok (Some instant)) → e ≡ Commit 0 number net 0 (Ok (Some instant))
-commit_entry e session begin begin' number reading instant net net' end is from at = cc
+    → e ≡ Commit 0 begin net 0 end → begin ≡ number → number ≡ 1 → e ≡ Commit session begin' net' reading (Ok (Some instant)) → e ≡ Commit 0 1 net 0 (Ok (Some instant))
+commit_entry e session begin begin' number reading instant net net' end is from first at = cc
 
 -- ---- a session that has begun and then written
 
@@ -58,13 +58,11 @@ module _ (schema : Schema) (table : ℕ) (rows : List Row) (number earlier : ℕ
       → HasEnded (at_with writes) (record { number = number; entry = entry }) receipts instant → IsLoadAt schema table rows receipts instant
   loads_with writes count entry receipts instant begins m held wrote ended = (
     record {
-      begin = number;
       earlier = earlier;
       view = view;
-      end = ended.number;
       net = ended.commits.net;
       instant = instant;
-      given_is = ended.receipts_are ∙ (λ k. record { number = number; entry = begins k } ∷ record { number = ended.number; entry = commits k } ∷ []);
+      given_is = ended.receipts_are ∙ (λ k. record { number = ended.first.0 k; entry = begins k } ∷ record { number = ended.first.1.0 k; entry = commits k } ∷ []);
       shown = m;
       held = held;
       fits = taken.0;
@@ -79,8 +77,11 @@ module _ (schema : Schema) (table : ℕ) (rows : List Row) (number earlier : ℕ
       ran_is : with_writes writes (begun_with number earlier view) ≡ ended.commits.ran
       ran_is = inner ended.commits.was_open
 
-      commits : ended.entry ≡ Commit 0 number ended.commits.net 0 (Ok (Some instant))
-      commits = commit_entry ended.entry ended.at.0 ended.commits.ran.begun.number ended.at.1 number ended.at.3 instant ended.commits.net ended.at.2 ended.commits.end ended.commits.entry_is (sym (ap (λ r. r.begun.number) ran_is)) ended.at.4
+      at : IsCommitAt ended.entry instant
+      at = ended.first.1.1
+
+      commits : ended.entry ≡ Commit 0 1 ended.commits.net 0 (Ok (Some instant))
+      commits = commit_entry ended.entry at.0 ended.commits.ran.begun.number at.1 number at.3 instant ended.commits.net at.2 ended.commits.end ended.commits.entry_is (sym (ap (λ r. r.begun.number) ran_is)) ended.first.0 at.4
 
       taken : (misfit schema (Insert 0 table rows) ≡ None) × (write schema (Insert 0 table rows) (own m []) ≡ (Ok count, own m writes))
       taken = taken_by schema (Insert 0 table rows) (own m []) (own m writes) count (misfit schema (Insert 0 table rows)) (wrote m held (λ e. cc))
@@ -158,6 +159,6 @@ unended_unloaded schema table rows s number entry refusal receipts begun (inr (w
   end = rest.0;
   entry = rest.1;
   why = why;
-  no_instant = rest.2;
+  no_load = rest.2;
   receipts_are = rest.3 ∙ (λ k. record { number = number; entry = begun.entry_is k } ∷ record { number = rest.0; entry = rest.1 } ∷ []);
 }))

@@ -22,21 +22,25 @@ IsCommitAt e instant =
     (session begin : ℕ) × (net : Net) × (reading : ℕ)
     × (e ≡ Commit session begin net reading (Ok (Some instant)))
 
+-- the begin and the commit are the entries 1 and 2, and the commit has an instant
+abbrev pub IsFirstCommit : (begin end : ℕ) → Entry → ℕ → Type 0
+IsFirstCommit begin end entry instant = (begin ≡ 1) × ((end ≡ 2) × IsCommitAt entry instant)
+
 -- session 0 with no transaction yet
 abbrev pub unbegun : Schema → SessionState
 unbegun schema = record { number = 0; schema = schema; receipt = 0; transaction = None }
 
--- a session's transaction was committed at the reading 0, and changed something: the receipts of its begin and of its commit
+-- a session's transaction was committed at the reading 0, and changed something: its begin and its commit are the entries 1 and 2
 pub record HasEnded (old : SessionState) (begun : Given) (receipts : List Given) (instant : ℕ)
     : Type 0 where
   pub new : SessionState
   pub number : ℕ
   pub entry : Entry
   pub commits : IsCommitted old new 0 number entry
-  pub at : IsCommitAt entry instant
+  pub first : IsFirstCommit begun.number number entry instant
   pub receipts_are : receipts ≡ begun ∷ record { number = number; entry = entry } ∷ []
 
--- the two receipts of a transaction of session 0 that inserts the rows, which is committed at the instant
+-- the receipts of the entries 1 and 2, of a transaction of session 0 that inserts the rows, which is committed at the instant
 abbrev pub IsLoadAt : Schema → ℕ → List Row → List Given → ℕ → Type 0
 IsLoadAt schema table rows receipts instant =
     (load : IsLoad schema table rows receipts) × (load.instant ≡ instant)
@@ -78,7 +82,7 @@ pub record IsUncommitted (schema : Schema) (table : ℕ) (rows : List Row) (refu
       ⊎ ((refusal ≡ NoTransaction) ⊎ IsRoom refusal)
   pub receipts_are : receipts ≡ record { number = begin; entry = Begin 0 earlier view } ∷ []
 
--- with the receipts of the begin and of its commit: the commit has no instant
+-- with the receipts of the begin and of its commit: the commit has no instant, or they are not those of the entries 1 and 2
 pub record IsWithoutInstant (refusal : Refusal) (receipts : List Given) : Type 0 where
   pub begin : ℕ
   pub earlier : ℕ
@@ -86,18 +90,18 @@ pub record IsWithoutInstant (refusal : Refusal) (receipts : List Given) : Type 0
   pub end : ℕ
   pub entry : Entry
   pub why : refusal ≡ NoTransaction
-  pub no_instant : (instant : ℕ) → IsCommitAt entry instant → ⊥
+  pub no_load : (instant : ℕ) → IsFirstCommit begin end entry instant → ⊥
   pub receipts_are : receipts ≡
       record { number = begin; entry = Begin 0 earlier view }
       ∷ record { number = end; entry = entry } ∷ []
 
--- a session's transaction was not committed at an instant: the receipt of its begin, and that of its
--- commit where it has one
+-- a session's transaction was not committed at an instant, as the entries 1 and 2: the receipt of its
+-- begin, and that of its commit where it has one
 abbrev pub IsUnended : Given → Refusal → List Given → Type 0
 IsUnended begun refusal receipts =
     (((refusal ≡ NoTransaction) ⊎ IsRoom refusal) × (receipts ≡ begun ∷ []))
     ⊎ ((refusal ≡ NoTransaction)
-    × ((end : ℕ) × (entry : Entry) × ((instant : ℕ) → IsCommitAt entry instant → ⊥)
+    × ((end : ℕ) × (entry : Entry) × ((instant : ℕ) → IsFirstCommit begun.number end entry instant → ⊥)
     × (receipts ≡ begun ∷ record { number = end; entry = entry } ∷ [])))
 
 abbrev pub IsUnloaded : Schema → ℕ → List Row → Refusal → List Given → Type 0

@@ -1,7 +1,7 @@
 //! Rows that a store has before the first connection.
 ghost use Rattle.std.specs.Prelude.{◌≡◌, ◌≤◌, ℕ, [], IfErr, IfOk, IfSome, IsSome, None, map, vec_capacity};
 ghost use Rattle.sessions.specs.Store.{IsBegun};
-ghost use Rattle.listening.specs.Loading.{HasEnded, IsCommitAt, IsLoadAt, IsLoadedAt, IsUnended, IsUnloaded, unbegun};
+ghost use Rattle.listening.specs.Loading.{HasEnded, IsCommitAt, IsFirstCommit, IsLoadAt, IsLoadedAt, IsUnended, IsUnloaded, unbegun};
 
 use growlog::StoreName;
 use sessions::{Entry, LockedStore, Receipt, Session};
@@ -28,8 +28,9 @@ const MOST_RECEIPTS: usize = 2;
 /// reading 0. Without rows there is no transaction.
 ///
 /// It is refused as BEGIN and INSERT are, as COMMIT is if there is no room, and with
-/// `NoTransaction` if the commit has no instant. A refusal comes with the receipts that were taken:
-/// none before the begin, then that of the begin, and with a commit that has no instant both.
+/// `NoTransaction` if the commit has no instant, or where the store is not new: the receipts are those
+/// of its entries 1 and 2. A refusal comes with the receipts that were taken: none before the begin,
+/// then that of the begin, and behind a commit both.
 pub fn load_into<J: StoreName, R: Wait>(
     rt: &R,
     alloc: Global,
@@ -121,6 +122,7 @@ fn commit_begun<J: StoreName, R: Wait>(
         (map (λ r. record { number = r.number; entry = r.entry }) u.receipts.items)) }
 {
     let mut receipts = receipts;
+    let begin = begun.number;
     receipts.push_reserved(begun);
     let done = match store.commit(rt, session, 0) {
         Ok(done) => done,
@@ -129,7 +131,7 @@ fn commit_begun<J: StoreName, R: Wait>(
             return Err(Unloaded { refusal, receipts });
         }
     };
-    let ended = commit_instant(done.entry.entry());
+    let ended = load_instant(begin, done.number, done.entry.entry());
     receipts.push_reserved(done);
     match ended {
         Some(instant) => Ok(Loaded { receipts, instant }),
@@ -138,6 +140,19 @@ fn commit_begun<J: StoreName, R: Wait>(
             receipts,
         }),
     }
+}
+
+/// Returns the instant of a load from the numbers of its receipts and the entry of its commit, if they
+/// are those of the first two entries and the commit has one. A store that was just made gives no
+/// others; a later one would.
+fn load_instant(begin: u64, end: u64, entry: &Entry) -> Option<Instant>
+    ensures some { IfSome result (IsFirstCommit begin end entry.now) }
+    ensures none { result ≡ None → (instant : ℕ) → IsFirstCommit begin end entry.now instant → ⊥ }
+{
+    if begin != 1 || end != 2 {
+        return None;
+    }
+    commit_instant(entry)
 }
 
 /// Returns the instant of a commit from its entry, if it has one.

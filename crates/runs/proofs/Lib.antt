@@ -7,6 +7,7 @@ pub mod OneHistoryOwn
 pub mod OneHistoryPlain
 pub mod OneHistoryWrite
 pub mod RunAlong
+pub mod RunFirst
 pub mod RunInTurn
 pub mod RunJournal
 pub mod RunLegal

@@ -1,9 +1,10 @@
 -- A run whose store closed has one history: the events of all parts, in the order of their receipts.
-use Rattle.std.proofs.Common.{◌≡◌, ◌≢◌, ℕ, ◌≤◌, ◌==◌, false, cond, List, [], ◌∷◌, ◌++◌, Option, Some, None, is_some, refl, sym, ap, subst, ◌∙◌, arith, append-nil, append_assoc, filter, length, map, reverse, IsPermutation}
+use Rattle.std.proofs.Common.{◌≡◌, ◌≢◌, ℕ, ◌≤◌, ◌==◌, Bool, true, false, cond, List, [], ◌∷◌, ◌++◌, Option, Some, None, is_some, refl, sym, ap, subst, ◌∙◌, arith, append-nil, append_assoc, filter, length, map, reverse, IsPermutation}
+use Rattle.std.specs.Prelude.{◌⊎◌}
 use Rattle.std.specs.List.{AllByRecursion, cons_option, flat_map}
 use Rattle.std.specs.Option.{option_map}
 use Rattle.std.proofs.lemmas.Bool.Decides.{nat_tests}
-use Rattle.std.proofs.lemmas.List.Elements.{filter_map-append}
+use Rattle.std.proofs.lemmas.List.Elements.{filter-append, filter_map-append}
 use Rattle.values.specs.Tables.{Schema}
 use Rattle.values.specs.Log.{Row}
 use Rattle.steps.specs.Misfit.{max_session}
@@ -16,10 +17,11 @@ use Rattle.runs.specs.Event.{Event, AreRight, history_after, of_part, receipt_of
 use Rattle.runs.specs.OneHistory.{OneHistory, ServedRunsAreHistories, TellsLoaded, IsServiceEvent, service_part}
 use Rattle.runs.specs.Run.{AreApart, IsPart, IsRun, Part, all_given, is_reading}
 use Rattle.runs.specs.Tells.{Tells}
-use Rattle.runs.proofs.RunAlong.{Chain, RightAll, after_all, run}
+use Rattle.runs.proofs.RunAlong.{Chain, RightAll, after_all, run, same_number}
 use Rattle.runs.proofs.OneHistoryBeside.{World, Beside, Held, May, Moves, Right, add, with_entry}
-use Rattle.runs.proofs.TellsFacts.{Facts, facts, first_of, number_of, numbers_of, took}
-use Rattle.runs.proofs.RunInTurn.{Climbs, Each, filter_in_turn, in_turn, in_turn_already, in_turn_each}
+use Rattle.runs.proofs.TellsFacts.{Facts, facts, number_of, numbers_of, took}
+use Rattle.runs.proofs.RunFirst.{numbered_first}
+use Rattle.runs.proofs.RunInTurn.{Climbs, Each, each_join, each_split, filter_in_turn, in_turn, in_turn_already, in_turn_each}
 use Rattle.runs.proofs.RunJournal.{onto}
 use Rattle.runs.proofs.RunLegal.{all_may_come, entries_in_turn, entries_of, whole_journal}
 use Rattle.runs.proofs.TellsLines.{lines_go}
@@ -27,7 +29,7 @@ use Rattle.runs.proofs.RunLoaded.{LoadEvents, load_events, service_events, servi
 use Rattle.runs.proofs.RunNumbered.{numbered}
 use Rattle.runs.proofs.OneHistoryOthers.{other}
 use Rattle.runs.proofs.OneHistoryOwn.{own}
-use Rattle.runs.proofs.RunPieces.{Apart, IsPiece, Piece, all_events, each_of, goes_of, none_of}
+use Rattle.runs.proofs.RunPieces.{Apart, IsPiece, Piece, all_events, each_of, first_of, goes_of, later_of, mine, none_of, not_mine}
 
 -- ---- receipts of events in turn
 
@@ -170,7 +172,7 @@ module _ (schema : Schema) where
 
   module _ (b : BookState) (table : ℕ) (rows : List Row) (loaded : List Given) (parts : List Part) (service : List Given) (is : IsRun schema b table rows loaded parts service) where
     load : LoadEvents schema table rows loaded
-    load = load_events schema b.entries table rows loaded is.is_book.legal (first_of (λ g. entry_at b.entries g.number ≡ Some g.entry) loaded (flat_map (λ p. p.given) parts ++ service) is.stand) is.is_loaded
+    load = load_events schema table rows loaded is.is_loaded
 
     served : Sessions parts
     served = sessions parts is.are_parts
@@ -181,11 +183,15 @@ module _ (schema : Schema) where
     abbrev service_piece : Piece
     service_piece = record { part = service_part; events = service_events service }
 
-    abbrev all : List Piece
-    all = load_piece ∷ pieces parts served ++ service_piece ∷ []
+    abbrev others : List Piece
+    others = pieces parts served ++ service_piece ∷ []
 
+    abbrev all : List Piece
+    all = load_piece ∷ others
+
+    -- those of the load come first, and then all others in turn
     abbrev events : List Event
-    events = in_turn number_of (all_events all)
+    events = load.events ++ in_turn number_of (all_events others)
 
     are : AllByRecursion (IsPiece schema) all
     are = (
@@ -201,21 +207,63 @@ module _ (schema : Schema) where
         receipts_joined load.events (all_events (pieces parts served ++ service_piece ∷ []))
         ∙ (λ k. load.takes k ++ (all_receipts parts served service_piece ∙ ap (λ gs. flat_map (λ p. p.given) parts ++ gs) (service_takes service)) k)
 
+    -- the events that took a receipt
+    split : filter took (all_events all) ≡ filter took load.events ++ filter took (all_events others)
+    split = filter-append took load.events (all_events others)
+
+    all_numbered : map number_of (in_turn number_of (filter took load.events ++ filter took (all_events others))) ≡ numbers (length b.entries)
+    all_numbered =
+        subst (λ xs. map number_of (in_turn number_of xs) ≡ numbers (length b.entries)) split
+        (numbered number_of (filter took (all_events all)) (length b.entries)
+        (subst (λ ns. IsPermutation ns (numbers (length b.entries))) (sym (ap numbers_of receipts_are) ∙ numbers_same (all_events all)) is.once))
+
+    abbrev OneTwo : List ℕ → Type 0
+    OneTwo ns = (ns ≡ []) ⊎ (ns ≡ 1 ∷ 2 ∷ [])
+
+    load_numbers : OneTwo (map number_of (filter took load.events))
+    load_numbers = subst OneTwo (sym (ap numbers_of load.takes) ∙ numbers_same load.events) load.numbers_are
+
     numbers_are : numbers_of (receipts_of events) ≡ numbers (length b.entries)
     numbers_are =
         numbers_same events
-        ∙ ap (map number_of) (filter_in_turn number_of took (all_events all))
-        ∙ numbered number_of (filter took (all_events all)) (length b.entries)
-        (subst (λ ns. IsPermutation ns (numbers (length b.entries))) (sym (ap numbers_of receipts_are) ∙ numbers_same (all_events all)) is.once)
+        ∙ ap (map number_of) (filter-append took load.events (in_turn number_of (all_events others)) ∙ ap (λ xs. filter took load.events ++ xs) (filter_in_turn number_of took (all_events others)))
+        ∙ numbered_first number_of (filter took load.events) (filter took (all_events others)) (length b.entries) load_numbers all_numbered
 
     stand : AllStand b.entries (receipts_of events)
-    stand = each_stands b.entries events (in_turn_each number_of (EntryStands b.entries) (all_events all) (stand_each b.entries (all_events all) (subst (AllStand b.entries) (sym receipts_are) is.stand)))
+    stand =
+        let each = stand_each b.entries (all_events all) (subst (AllStand b.entries) (sym receipts_are) is.stand) in
+        let parts = each_split number_of (EntryStands b.entries) load.events (all_events others) each in
+        each_stands b.entries events (each_join number_of (EntryStands b.entries) load.events (in_turn number_of (all_events others)) parts.0 (in_turn_each number_of (EntryStands b.entries) (all_events others) parts.1))
 
     entries_are : entries_of (receipts_of events) ≡ reverse b.entries
     entries_are = entries_in_turn b.entries (receipts_of events) numbers_are stand
 
-    of_all : (i : ℕ) → of_part i events ≡ in_turn number_of (of_part i (all_events all))
-    of_all i = filter_in_turn number_of (λ e. e.part == i) (all_events all)
+    parted : (i : ℕ) → of_part i events ≡ of_part i load.events ++ in_turn number_of (of_part i (all_events others))
+    parted i =
+        filter-append (λ e. e.part == i) load.events (in_turn number_of (all_events others))
+        ∙ ap (λ xs. of_part i load.events ++ xs) (filter_in_turn number_of (λ e. e.part == i) (all_events others))
+
+    abbrev InTurn : ℕ → Type 0
+    InTurn i = of_part i events ≡ in_turn number_of (of_part i (all_events all))
+
+    -- the load's, since nothing else is of its part; and those of any other part are in turn
+    of_all : (i : ℕ) → InTurn i
+    of_all i = by (0 == i) refl
+      where
+        by : (b : Bool) → (0 == i) ≡ b → InTurn i
+        by true h = subst InTurn (same_number 0 i h) (
+            parted 0
+            ∙ (λ k. mine 0 load.events load.its k ++ in_turn number_of (none_of schema 0 others are.1 apart.0 k))
+            ∙ append-nil load.events
+            ∙ sym (climbing load.events load.climbs)
+            ∙ ap (in_turn number_of) (sym (first_of schema load_piece others are apart)))
+        by false h =
+            parted i
+            ∙ ap (λ xs. xs ++ in_turn number_of (of_part i (all_events others))) (not_mine i 0 load.events h load.its)
+            ∙ ap (in_turn number_of) (sym (later_of schema i load_piece others are.0 h))
+
+    loaded_is : of_part 0 events ≡ load.events
+    loaded_is = of_all 0 ∙ ap (in_turn number_of) (first_of schema load_piece others are apart) ∙ climbing load.events load.climbs
 
     abbrev start : World
     start = record { entries = []; history = [] }
@@ -263,7 +311,8 @@ module _ (schema : Schema) where
       numbered = numbers_are;
       right = right_all events start ran.0;
       log_is = log_is;
-      loaded = subst (TellsLoaded table rows) (sym (of_all 0 ∙ ap (in_turn number_of) each.0 ∙ climbing load.events load.climbs)) load.tells;
+      loaded = subst (TellsLoaded table rows) (sym loaded_is) load.tells;
+      loaded_first = (in_turn number_of (all_events others), ap (λ xs. xs ++ in_turn number_of (all_events others)) (sym loaded_is));
       sent = (tells parts served service_piece each.1).0;
       service = subst (AllByRecursion IsServiceEvent) (sym (of_all service_part ∙ ap (in_turn number_of) (tells parts served service_piece each.1).1)) (service_tells service);
       no_other = λ i some inside apart. of_all i ∙ ap (in_turn number_of) (none_of schema i all are (turned 0 i some, not_of i parts served service_piece (turned service_part i inside) apart));

@@ -1,11 +1,11 @@
 -- Elements put in order by numbers, and those of one number as they came.
-use Rattle.std.proofs.Common.{◌≡◌, ℕ, ◌+◌, ◌≤◌, List, [], ◌∷◌, Bool, true, false, refl, sym, ap, ◌∙◌, arith, if◌then◌else◌, nat_le, filter, sum_by, cond}
+use Rattle.std.proofs.Common.{◌≡◌, ℕ, ◌+◌, ◌≤◌, List, [], ◌∷◌, ◌++◌, Bool, true, false, refl, sym, ap, ◌∙◌, arith, if◌then◌else◌, nat_le, filter, sum_by, cond}
 use Rattle.std.proofs.lemmas.Bool.Decides.{nat_tests}
 use Rattle.std.proofs.lemmas.List.Sums.{sum_by-cons}
 
 module _ {A : Type 0} (key : A → ℕ) where
   -- before the first whose number is not lower
-  abbrev put : A → List A → List A
+  abbrev pub put : A → List A → List A
   put y [] = y ∷ []
   put y (x ∷ xs) = if nat_le (key y) (key x) then y ∷ x ∷ xs else x ∷ put y xs
 
@@ -35,7 +35,7 @@ module _ {A : Type 0} (key : A → ℕ) where
   in_turn_climbs (x ∷ xs) = put_climbs 0 x (in_turn xs) (omega arith) (in_turn_climbs xs)
 
   -- what is not above all is put in front
-  put_first : (y : A) (xs : List A) → Climbs (key y) xs → put y xs ≡ y ∷ xs
+  pub put_first : (y : A) (xs : List A) → Climbs (key y) xs → put y xs ≡ y ∷ xs
   put_first y [] c = refl
   put_first y (x ∷ xs) c =
       let le : key y ≤ key x = c.0 in
@@ -126,3 +126,11 @@ module _ {A : Type 0} (key : A → ℕ) where
     pub in_turn_each : (xs : List A) → Each xs → Each (in_turn xs)
     in_turn_each [] each = tt
     in_turn_each (x ∷ xs) each = put_each x (in_turn xs) each.0 (in_turn_each xs each.1)
+
+    pub each_split : (xs ys : List A) → Each (xs ++ ys) → Each xs × Each ys
+    each_split [] ys each = (tt, each)
+    each_split (x ∷ xs) ys each = let rest = each_split xs ys each.1 in ((each.0, rest.0), rest.1)
+
+    pub each_join : (xs ys : List A) → Each xs → Each ys → Each (xs ++ ys)
+    each_join [] ys first second = second
+    each_join (x ∷ xs) ys first second = (first.0, each_join xs ys first.1 second)

@@ -127,21 +127,3 @@ module _ (schema : Schema) where
         upward = subst (Upward 0) (sym same) (numbers_upward (length j));
         keys = subst (λ j. AreChangesIn schema (changes (journal_log schema j))) (sym whole) keys;
       })
-
--- ---- a commit stands behind its begin
-
-pub commit_behind : (schema : Schema) (j : Entries) (n session begin : ℕ) (net : Net) (reading : ℕ) (end : Result (Option ℕ) Refusal) → IsLegal schema j → entry_at j n ≡ Some (Commit session begin net reading end) → begin < n
-commit_behind schema [] n session begin net reading end legal at = absurd (cc)
-commit_behind schema (e ∷ j) n session begin net reading end legal at = by (n == length (e ∷ j)) refl at (λ at. commit_behind schema j n session begin net reading end legal.1 at)
-  where
-    here : (e : Entry) → IsLegal schema (e ∷ j) → e ≡ Commit session begin net reading end → IsWithin j begin
-    here e legal is =
-        let may : MayCommit schema j session begin net reading end = (subst (λ e. IsLegal schema (e ∷ j)) is legal).0 in
-        entry_within j begin _ may.begun
-
-    by : (b : Bool) → (n == length (e ∷ j)) ≡ b → (if b then Some e else entry_at j n) ≡ Some (Commit session begin net reading end) → (entry_at j n ≡ Some (Commit session begin net reading end) → begin < n) → begin < n
-    by true is at rest =
-        let within : IsWithin j begin = here e legal (same_some e _ at) in
-        let low : begin ≤ length j = within.upto in
-        grind (arith, nat_tests)
-    by false is at rest = rest at

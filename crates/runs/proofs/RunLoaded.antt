@@ -1,6 +1,7 @@
 -- The events of a load, and of the service.
 use Rattle.std.proofs.Common.{◌≡◌, ℕ, ◌≤◌, ◌<◌, ◌==◌, ◌||◌, inl, inr, Bool, true, false, List, [], ◌∷◌, Option, Some, None, Result, Ok, refl, sym, ap, subst, ◌∙◌, arith, map}
 use Rattle.std.specs.List.{AllByRecursion}
+use Rattle.std.specs.Prelude.{◌⊎◌}
 use Rattle.std.proofs.lemmas.Bool.Decides.{nat_tests}
 use Rattle.values.specs.Tables.{Schema}
 use Rattle.values.specs.Log.{Row}
@@ -16,8 +17,6 @@ use Rattle.steps.specs.Reply.{written_reply}
 use Rattle.values.specs.declared.refusal.Refusal.{Refusal}
 use Rattle.serving.specs.journal.declared.entry.Entry.{Entry}
 use Rattle.serving.specs.journal.declared.entry.Entry.TheVariants.{Begin as Begins, Commit as Commits, Split as Splits, Install as Installs}
-use Rattle.serving.specs.journal.Entries.{Entries, entry_at}
-use Rattle.serving.specs.journal.Legal.{IsLegal}
 use Rattle.serving.specs.sessions.SessionState.{write_by}
 use Rattle.serving.specs.Progress.{Given, ServedTransaction, after, with_own}
 use Rattle.runs.specs.Event.{Event, receipts_of}
@@ -25,9 +24,8 @@ use Rattle.runs.specs.OneHistory.{IsServiceEvent, TellsLoaded, service_part, ser
 use Rattle.runs.specs.Run.{IsLoad, IsLoaded, IsOfService}
 use Rattle.runs.proofs.RunAlong.{Chain}
 use Rattle.runs.proofs.OneHistoryBeside.{Held, Moves}
-use Rattle.runs.proofs.TellsFacts.{number_of}
+use Rattle.runs.proofs.TellsFacts.{number_of, numbers_of}
 use Rattle.runs.proofs.RunInTurn.{Climbs, Each, in_turn, in_turn_each}
-use Rattle.runs.proofs.RunLegal.{commit_behind}
 
 -- ---- a load
 
@@ -38,6 +36,7 @@ pub record LoadEvents (schema : Schema) (table : ℕ) (rows : List Row) (given :
   pub takes : receipts_of events ≡ given
   pub goes : Chain (Moves schema) None events None
   pub tells : TellsLoaded table rows events
+  pub numbers_are : (numbers_of given ≡ []) ⊎ (numbers_of given ≡ 1 ∷ 2 ∷ [])
 
 named : (n : ℕ) → ((n == 0) || (n == n)) ≡ true
 named n = by (n == 0) (let h : (n == n) ≡ true = grind (arith, nat_tests) in h)
@@ -51,22 +50,22 @@ module _ (schema : Schema) (table : ℕ) (row : Row) (more : List Row) (given : 
   step = Insert 0 table (row ∷ more)
 
   abbrev first : Given
-  first = record { number = l.begin; entry = Begins 0 l.earlier l.view }
+  first = record { number = 1; entry = Begins 0 l.earlier l.view }
 
   abbrev second : Given
-  second = record { number = l.end; entry = Commits 0 l.begin l.net 0 (Ok (Some l.instant)) }
+  second = record { number = 2; entry = Commits 0 1 l.net 0 (Ok (Some l.instant)) }
 
   abbrev begun : ServedTransaction
-  begun = record { begin = l.begin; changes = l.shown; own = own l.shown [] }
+  begun = record { begin = 1; changes = l.shown; own = own l.shown [] }
 
   abbrev written : ServedTransaction
-  written = record { begin = l.begin; changes = l.shown; own = own l.shown l.writes }
+  written = record { begin = 1; changes = l.shown; own = own l.shown l.writes }
 
   abbrev events : List Event
   events =
-      record { part = 0; number = l.begin; entry = Some first.entry; step = Some (Begin 0, Begun (view_last l.view)) }
-      ∷ record { part = 0; number = l.begin; entry = None; step = Some (step, Inserted l.count) }
-      ∷ record { part = 0; number = l.end; entry = Some second.entry; step = Some (Commit 0 0, Committed (Some l.instant)) } ∷ []
+      record { part = 0; number = 1; entry = Some first.entry; step = Some (Begin 0, Begun (view_last l.view)) }
+      ∷ record { part = 0; number = 1; entry = None; step = Some (step, Inserted l.count) }
+      ∷ record { part = 0; number = 2; entry = Some second.entry; step = Some (Commit 0 0, Committed (Some l.instant)) } ∷ []
 
   answered : write_by schema step (misfit schema step) (Some (own l.shown [])) ≡ (Ok l.count, Some (own l.shown l.writes))
   answered = (λ k. write_by schema step (l.fits k) (Some (own l.shown []))) ∙ ap (λ (x : Result ℕ Refusal × Own). (x.0, Some x.1)) l.inserted
@@ -87,7 +86,7 @@ module _ (schema : Schema) (table : ℕ) (row : Row) (more : List Row) (given : 
         its = refl;
         read = refl;
         receipt = l.earlier;
-        next = l.begin;
+        next = 1;
         takes = record {
           receipt = first;
           changes = l.shown;
@@ -106,12 +105,12 @@ module _ (schema : Schema) (table : ℕ) (row : Row) (more : List Row) (given : 
             in_range = small;
             its = refl;
             read = tt;
-            receipt = l.begin;
-            next = l.begin;
+            receipt = 1;
+            next = 1;
             takes = record {
               takes = refl;
               reply_is = sym (ap (λ (x : Result ℕ Refusal × Option Own). written_reply step x.0) answered);
-              left = sym (ap (λ (x : Result ℕ Refusal × Option Own). after l.begin (with_own (Some begun) x.1)) answered);
+              left = sym (ap (λ (x : Result ℕ Refusal × Option Own). after 1 (with_own (Some begun) x.1)) answered);
             };
           }),
           (
@@ -122,15 +121,15 @@ module _ (schema : Schema) (table : ℕ) (row : Row) (more : List Row) (given : 
                 in_range = small;
                 its = refl;
                 read = refl;
-                receipt = l.begin;
-                next = l.end;
+                receipt = 1;
+                next = 2;
                 takes = record {
                   receipt = second;
                   reading = 0;
                   end = Ok (Some l.instant);
                   may = refl;
                   takes = refl;
-                  entry_is = ap (λ net. Commits 0 l.begin net 0 (Ok (Some l.instant))) l.net_is;
+                  entry_is = ap (λ net. Commits 0 1 net 0 (Ok (Some l.instant))) l.net_is;
                   reply_is = refl;
                   left = refl;
                 };
@@ -143,23 +142,20 @@ module _ (schema : Schema) (table : ℕ) (row : Row) (more : List Row) (given : 
     ),
   )
 
-  made : l.begin ≤ l.end → LoadEvents schema table (row ∷ more) given
-  made behind = record {
+  pub made : LoadEvents schema table (row ∷ more) given
+  made = record {
     events = events;
     its = (refl, (refl, (refl, tt)));
-    climbs = (omega arith, (omega arith, (behind, tt)));
+    climbs = (omega arith, (omega arith, (omega arith, tt)));
     takes = sym l.given_is;
     goes = goes;
     tells = record { begun = view_last l.view; count = l.count; instant = l.instant; steps = refl };
+    numbers_are = inr (ap numbers_of l.given_is);
   }
 
-pub load_events : (schema : Schema) (j : Entries) (table : ℕ) (rows : List Row) (given : List Given) → IsLegal schema j → AllByRecursion (λ g. entry_at j g.number ≡ Some g.entry) given → IsLoaded schema table rows given
-    → LoadEvents schema table rows given
-load_events schema j table [] given legal stand none = record { events = []; its = tt; climbs = tt; takes = sym none; goes = refl; tells = refl }
-load_events schema j table (row ∷ rows) given legal stand l =
-    let stands = subst (AllByRecursion (λ g. entry_at j g.number ≡ Some g.entry)) l.given_is stand in
-    let behind : l.begin < l.end = commit_behind schema j l.end 0 l.begin l.net 0 (Ok (Some l.instant)) legal stands.1.0 in
-    made schema table row rows given l (omega (arith, behind))
+pub load_events : (schema : Schema) (table : ℕ) (rows : List Row) (given : List Given) → IsLoaded schema table rows given → LoadEvents schema table rows given
+load_events schema table [] given none = record { events = []; its = tt; climbs = tt; takes = sym none; goes = refl; tells = refl; numbers_are = inl (ap numbers_of none) }
+load_events schema table (row ∷ rows) given l = made schema table row rows given l
 
 -- ---- the service
 

@@ -28,14 +28,14 @@ pub record IsPiece (schema : Schema) (p : Piece) : Type 0 where
   pub end : Held
   pub goes : Chain (Moves schema) None (in_turn number_of p.events) end
 
-mine : (i : ℕ) (xs : List Event) → AllByRecursion (λ e. e.part ≡ i) xs → of_part i xs ≡ xs
+pub mine : (i : ℕ) (xs : List Event) → AllByRecursion (λ e. e.part ≡ i) xs → of_part i xs ≡ xs
 mine i [] its = refl
 mine i (x ∷ xs) its =
     let is : x.part ≡ i = its.0 in
     let h : (x.part == i) ≡ true = grind (arith, nat_tests) in
     (λ k. cond (h k) (x ∷ of_part i xs) (of_part i xs)) ∙ ap (λ zs. x ∷ zs) (mine i xs its.1)
 
-not_mine : (i j : ℕ) (xs : List Event) → (j == i) ≡ false → AllByRecursion (λ e. e.part ≡ j) xs → of_part i xs ≡ []
+pub not_mine : (i j : ℕ) (xs : List Event) → (j == i) ≡ false → AllByRecursion (λ e. e.part ≡ j) xs → of_part i xs ≡ []
 not_mine i j [] other its = refl
 not_mine i j (x ∷ xs) other its =
     (λ k. cond ((ap (λ n. n == i) its.0 ∙ other) k) (x ∷ of_part i xs) (of_part i xs)) ∙ not_mine i j xs other its.1
@@ -50,14 +50,14 @@ module _ (schema : Schema) where
       filter-append (λ e. e.part == i) p.events (all_events pieces)
       ∙ (λ k. not_mine i p.part p.events apart.0 are.0.its k ++ none_of i pieces are.1 apart.1 k)
 
-  first_of : (p : Piece) (pieces : List Piece) → AllByRecursion (IsPiece schema) (p ∷ pieces) → Apart (p ∷ pieces) → of_part p.part (p.events ++ all_events pieces) ≡ p.events
+  pub first_of : (p : Piece) (pieces : List Piece) → AllByRecursion (IsPiece schema) (p ∷ pieces) → Apart (p ∷ pieces) → of_part p.part (p.events ++ all_events pieces) ≡ p.events
   first_of p pieces are apart =
       filter-append (λ e. e.part == p.part) p.events (all_events pieces)
       ∙ (λ k. mine p.part p.events are.0.its k ++ none_of p.part pieces are.1 apart.0 k)
       ∙ append-nil p.events
 
   -- of the events of a part that is not the first
-  later_of : (i : ℕ) (p : Piece) (pieces : List Piece) → IsPiece schema p → (p.part == i) ≡ false → of_part i (p.events ++ all_events pieces) ≡ of_part i (all_events pieces)
+  pub later_of : (i : ℕ) (p : Piece) (pieces : List Piece) → IsPiece schema p → (p.part == i) ≡ false → of_part i (p.events ++ all_events pieces) ≡ of_part i (all_events pieces)
   later_of i p pieces is other =
       filter-append (λ e. e.part == i) p.events (all_events pieces)
       ∙ ap (λ xs. xs ++ of_part i (all_events pieces)) (not_mine i p.part p.events other is.its)

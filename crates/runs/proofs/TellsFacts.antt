@@ -58,10 +58,6 @@ rises_later : (last : ℕ) (own more : List Given) → Rises last (own ++ more) 
 rises_later last [] more r = r
 rises_later last (g ∷ own) more r = rises_later g.number own more r.1
 
-pub first_of : {A : Type 0} (P : A → Type 0) (xs ys : List A) → AllByRecursion P (xs ++ ys) → AllByRecursion P xs
-first_of P [] ys all = tt
-first_of P (x ∷ xs) ys all = (all.0, first_of P xs ys all.1)
-
 pub rest_of : {A : Type 0} (P : A → Type 0) (xs ys : List A) → AllByRecursion P (xs ++ ys) → AllByRecursion P ys
 rest_of P [] ys all = all
 rest_of P (x ∷ xs) ys all = rest_of P xs ys all.1

@@ -1,5 +1,5 @@
 -- One history of a whole run.
-use Rattle.std.specs.Prelude.{◌≡◌, ◌≢◌, ℕ, ◌+◌, List, [], ◌∷◌, Option, Some, None, length, map, reverse}
+use Rattle.std.specs.Prelude.{◌≡◌, ◌≢◌, ℕ, ◌+◌, List, [], ◌∷◌, ◌++◌, Option, Some, None, length, map, reverse}
 use Rattle.std.specs.List.{AllByRecursion}
 use Rattle.values.specs.Log.{Row}
 use Rattle.values.specs.Tables.{Schema}
@@ -47,9 +47,9 @@ abbrev pub IsServiceEvent : Event → Type 0
 IsServiceEvent e = (entry : Entry) × ((e.entry ≡ Some entry) × (e.step ≡ service_step entry))
 
 -- the events are the journal's entries in their order, and between them the steps that took none;
--- each reply is the history's where its step stands; what was committed is the history's; and of
--- each session they are those of its lines, in order, by which it was sent its text. There are no
--- others but those of the load and of the service.
+-- each reply is the history's where its step stands; what was committed is the history's; those of
+-- the load come first; and of each session they are those of its lines, in order, by which it was
+-- sent its text. There are no others but those of the service.
 pub record OneHistory (schema : Schema) (b : BookState) (table : ℕ) (rows : List Row)
     (parts : List Part) (events : List Event) : Type 0 where
   pub entries_are : map (λ g. g.entry) (receipts_of events) ≡ reverse b.entries
@@ -57,6 +57,7 @@ pub record OneHistory (schema : Schema) (b : BookState) (table : ℕ) (rows : Li
   pub right : AreRight schema [] events
   pub log_is : journal_log schema b.entries ≡ log schema (history_after [] events)
   pub loaded : TellsLoaded table rows (of_part 0 events)
+  pub loaded_first : (later : List Event) × (events ≡ of_part 0 events ++ later)
   pub sent : AllByRecursion
       (λ p. Tells schema p.number 0 p.lines p.told p.given (of_part p.number events) p.text) parts
   pub service : AllByRecursion IsServiceEvent (of_part service_part events)

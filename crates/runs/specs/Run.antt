@@ -20,18 +20,16 @@ use Rattle.serving.specs.ServedSession.{Serves, Told}
 
 -- ---- rows that were loaded
 
--- the two receipts of a transaction of session 0, which is committed at the reading 0: its begin
--- shows these changes, and the INSERT of the rows over them is taken
+-- the receipts of the entries 1 and 2 are those of a transaction of session 0, which is committed at
+-- the reading 0: its begin shows these changes, and the INSERT of the rows over them is taken
 pub record IsLoad (schema : Schema) (table : ℕ) (rows : List Row) (given : List Given) : Type 0 where
-  pub begin : ℕ
   pub earlier : ℕ
   pub view : TreeState
-  pub end : ℕ
   pub net : Net
   pub instant : ℕ
   pub given_is : given ≡
-      record { number = begin; entry = Begin 0 earlier view }
-      ∷ record { number = end; entry = Commit 0 begin net 0 (Ok (Some instant)) } ∷ []
+      record { number = 1; entry = Begin 0 earlier view }
+      ∷ record { number = 2; entry = Commit 0 1 net 0 (Ok (Some instant)) } ∷ []
   pub shown : Changes
   pub held : Holds schema view shown
   pub fits : misfit schema (Insert 0 table rows) ≡ None
