@@ -1,6 +1,7 @@
+mod ClientServed
 mod ConnectionPrefixes
 mod ConnectionRun
-mod GuardedGiving
+mod HeadShown
 mod LoadingCalls
 mod MigrationService
 mod PileCrossing

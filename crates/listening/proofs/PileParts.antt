@@ -77,13 +77,13 @@ noted_still noted full (p ∷ parts) all = (known_on _ _ p.told (record { full =
 
 module _ (schema : Schema) where
   abbrev part_of : (number : ℕ) (refused : BookRefusalsState) (own : List Given) → IsServedAs schema number refused own → Part
-  part_of number refused own served = record { number = number; lines = served.lines; told = served.told; given = own; text = served.text; later = served.later }
+  part_of number refused own served = record { number = number; lines = served.taken.lines; told = served.taken.told; given = own; text = served.taken.text; later = served.taken.later }
 
   is_part : (number : ℕ) (refused : BookRefusalsState) (own : List Given) (served : IsServedAs schema number refused own) → nat_lt 0 number ≡ true → rises_from 0 own ≡ true → IsPart schema (part_of number refused own served)
   is_part number refused own served some rises = record {
     some = grind (arith, nat_tests, some);
     in_range = served.in_range;
-    serves = served.serves;
+    serves = served.taken.serves;
     rises = rises_by 0 own rises;
   }
 
@@ -102,7 +102,7 @@ module _ (schema : Schema) where
         are_parts = all_and (IsPart schema) run.parts (part ∷ []) run.are_parts (is_part number _ own served tests.0 its.1, tt);
         apart = apart_from run.parts part run.apart (none_of run.parts number (ap (λ ns. not (list_any (λ n. n == number) ns)) run.numbers_are ∙ others.0));
         known = all_and (λ p. AreKnown (noted || full) p.told) run.parts (part ∷ []) (noted_still noted full run.parts run.known)
-            (known_on _ _ served.told (record { full = λ e. or_true noted full e; not_open = λ e. absurd (open_still not_open e its.0) }) served.known, tt);
+            (known_on _ _ served.taken.told (record { full = λ e. or_true noted full e; not_open = λ e. absurd (open_still not_open e its.0) }) served.taken.known, tt);
         numbers_are = map_push (λ p. p.number) run.parts part ∙ ap (λ ns. ns ++ number ∷ []) run.numbers_are;
         serviced = run.serviced;
         given_are = subst (λ gs. IsPermutation (given ++ own) (gs ++ run.service)) (sym flat) (moved given (flat_map (λ p. p.given) run.parts) run.service own run.given_are);

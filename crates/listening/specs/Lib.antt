@@ -1,3 +1,4 @@
+pub mod Client
 pub mod Connection
 pub mod Loading
 pub mod Pile

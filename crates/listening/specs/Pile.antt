@@ -1,13 +1,13 @@
 -- What sessions and rounds hand over: the receipts of one run.
-use Rattle.std.specs.Prelude.{◌≡◌, ◌≤◌, ℕ, List, [], ◌∷◌, ◌++◌, Bool, true, false, None, not, ◌&&◌, ◌==◌, nat_lt, nat_le, map, IsPermutation}
+use Rattle.std.specs.Prelude.{◌≡◌, ◌≤◌, ℕ, List, [], ◌∷◌, ◌++◌, Bool, true, false, not, ◌&&◌, ◌==◌, nat_lt, nat_le, map, IsPermutation}
 use Rattle.std.specs.List.{AllByRecursion, flat_map, list_any}
 use Rattle.values.specs.Tables.{Schema}
 use Rattle.steps.specs.Misfit.{max_session}
-use Rattle.lines.specs.Partial.{Partial}
-use Rattle.serving.specs.Progress.{Given, Progress, after}
 use Rattle.serving.specs.BookRefusals.{BookRefusalsState, IsKnown}
-use Rattle.serving.specs.ServedSession.{Serves, Told}
+use Rattle.serving.specs.Progress.{Given}
+use Rattle.serving.specs.ServedSession.{Told}
 use Rattle.runs.specs.Run.{AreApart, IsOfService, IsPart, Part, is_reading}
+use Rattle.listening.specs.Client.{HasTaken}
 use Rattle.listening.specs.declared.pile.Origin.{Origin}
 use Rattle.listening.specs.declared.pile.Origin.TheVariants.{Session, Service}
 
@@ -16,12 +16,7 @@ use Rattle.listening.specs.declared.pile.Origin.TheVariants.{Session, Service}
 pub record IsServedAs (schema : Schema) (number : ℕ) (refused : BookRefusalsState) (given : List Given)
     : Type 0 where
   pub in_range : number ≤ max_session
-  pub lines : List Partial
-  pub told : List Told
-  pub known : AllByRecursion (λ t. IsKnown refused t.refused) told
-  pub text : List ℕ
-  pub later : Progress
-  pub serves : Serves is_reading schema number lines told (after 0 None) given text later
+  pub taken : HasTaken is_reading schema number refused given
 
 abbrev pub IsOf : Schema → Origin → List Given → Type 0
 IsOf schema (Session number has_full has_not_open) given =

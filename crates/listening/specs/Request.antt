@@ -21,3 +21,17 @@ is_handshake bytes = begins bytes (22 ∷ [])
 
 abbrev pub is_foreign : List ℕ → Bool
 is_foreign bytes = is_handshake bytes || is_request bytes
+
+-- the bytes are the first ones of a word, or all of it
+abbrev pub begin : List ℕ → List ℕ → Bool
+begin bytes word = begins word bytes
+
+-- with more bytes behind them they may begin so
+abbrev pub may_become : List ℕ → Bool
+may_become bytes =
+    begin bytes (22 ∷ [])
+    || begin bytes (codes "GET ") || begin bytes (codes "HEAD ")
+    || begin bytes (codes "POST ") || begin bytes (codes "PUT ")
+    || begin bytes (codes "OPTIONS ") || begin bytes (codes "CONNECT ")
+    || begin bytes (codes "TRACE ") || begin bytes (codes "PATCH ")
+    || begin bytes (codes "DELETE /")

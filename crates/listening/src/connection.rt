@@ -8,24 +8,23 @@ ghost use Rattle.runs.specs.Run.{IsLoaded};
 ghost use Rattle.listening.specs.Connection.{IsOneRun};
 
 use crate::acceptor::{Acceptor, refuse};
+use crate::client::serve_client;
 use crate::clock::Microseconds;
-use crate::guarded::Guarded;
 use crate::migration::{Call, WakingGate, run_rounds};
 use crate::pile::{Origin, Pile, hand_over};
 use crossbeam_channel::{Receiver, Sender};
 use growlog::StoreName;
 use runs::served_runs_are_histories;
-use serving::{End, Served, serve_session};
+use serving::Served;
 use sessions::{Closed, Gate, LockedStore, MOST_ENTRIES, Receipt, Unclosed};
-use statement::print_refusal;
 use std::alloc::{AllocError, Global};
-use std::io::{BufWriter, Write};
+use std::io::BufWriter;
 use std::net::{Net, OpenStream, TcpListener, TcpStream};
 use std::sync::{Mutex, Wait};
 use std::thread;
 use std::thread::Threads;
 use std::time::Clock;
-use values::Refusal;
+use steps::MAX_SESSION;
 
 /// Why sessions were not served to a closed store.
 #[derive(Clone, Copy, Debug, PartialEq, Eq)]
@@ -178,8 +177,8 @@ where
     })
 }
 
-/// Serves a connection, and hands over the receipts that its session took. Where memory runs out
-/// before a line is taken, that is answered.
+/// Serves a connection, and hands over the receipts that its session took. One that has no session's
+/// number, or for which there is no memory, is refused.
 fn serve_stream<J: StoreName, R: Clock + Wait, G: Gate>(
     rt: &R,
     alloc: Global,
@@ -190,36 +189,37 @@ fn serve_stream<J: StoreName, R: Clock + Wait, G: Gate>(
     number: u8,
     pile: &Mutex<Pile<J>>,
 ) {
-    let Ok(mut session) = store.session(alloc, number) else {
+    if number > MAX_SESSION {
         return refuse(stream);
-    };
+    }
     // A reply is sent at once, whether or not what was sent before has arrived. Where that cannot
     // be set, it is sent all the same.
     let _ = stream.set_nodelay(true);
     let Ok(mut writer) = BufWriter::new(alloc, stream) else {
         return refuse(stream);
     };
-    let mut reader = Guarded::new(stream);
-    let mut readings = Microseconds { rt };
     let gate = WakingGate::new(gate, calls);
-    let Served {
-        receipts,
-        refused,
-        end,
-    } = serve_session(
+    let mut readings = Microseconds { rt };
+    let served = serve_client(
         rt,
         alloc,
-        &mut reader,
-        &mut writer,
-        &mut session,
         store,
         &gate,
         &mut readings,
+        number,
+        stream,
+        &mut writer,
     );
-    if end == End::Memory {
-        let _ = print_refusal(&mut writer, &Refusal::Memory);
-        let _ = writer.flush();
-    }
+    let Ok(
+        Served {
+            receipts,
+            refused,
+            end: _,
+        },
+    ) = served
+    else {
+        return;
+    };
     let origin = Origin::Session {
         number,
         has_full: refused.has_full(),

@@ -3,9 +3,10 @@
 
 mod acceptor;
 mod always_open;
+mod client;
 mod clock;
 mod connection;
-mod guarded;
+mod head;
 mod loading;
 mod migration;
 mod pile;
