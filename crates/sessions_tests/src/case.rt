@@ -225,6 +225,7 @@ fn serve_visit<J: StoreName, R: Abort + Wait>(
     };
     let Served {
         receipts: taken,
+        refused: _,
         end,
     } = serve(rt, alloc, store, visit, &mut reader, &mut writer);
     let is_sent = writer.taken.as_slice() == visit.replies.as_bytes();
