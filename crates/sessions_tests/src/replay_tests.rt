@@ -211,11 +211,7 @@ fn serve_lines<J: StoreName, R: Abort + Wait>(
         flushes: 10_000,
     };
     let mut ticks = Ticks { next: 10 };
-    let Served {
-        receipts,
-        refused: _,
-        end,
-    } = serve_session(
+    let Served { receipts, end, .. } = serve_session(
         rt,
         alloc,
         &mut reader,
