@@ -6,7 +6,7 @@ use crate::scene::closed_with;
 use crate::step::keep;
 use growlog::{NewLog, StoreName};
 use scripts::run_script;
-use serving::{Served, serve_session};
+use serving::{End, Served, serve_session};
 use sessions::{Entry, Gate, LockedStore, Place, Receipt, SharedEntry};
 use std::alloc::Global;
 use std::marker::Brand;
@@ -190,6 +190,16 @@ fn text_of(rt: &impl Abort, alloc: Global) -> Vec<u8> {
     text
 }
 
+/// The receipts of a served session, and why it ended.
+fn parts_of<J: StoreName>(served: Served<J>) -> (Vec<Receipt<J>>, End) {
+    let Served {
+        receipts,
+        refused: _,
+        end,
+    } = served;
+    (receipts, end)
+}
+
 /// Serves a session its lines, and hands over what it was sent and its receipts.
 fn serve_lines<J: StoreName, R: Abort + Wait>(
     rt: &R,
@@ -211,7 +221,7 @@ fn serve_lines<J: StoreName, R: Abort + Wait>(
         flushes: 10_000,
     };
     let mut ticks = Ticks { next: 10 };
-    let Served { receipts, end, .. } = serve_session(
+    let served = serve_session(
         rt,
         alloc,
         &mut reader,
@@ -221,6 +231,7 @@ fn serve_lines<J: StoreName, R: Abort + Wait>(
         &Open,
         &mut ticks,
     );
+    let (receipts, end) = parts_of(served);
     assert!(rt; kind_of(end) == Ended::Closed);
     let mut answered = answered_by(
         rt,
