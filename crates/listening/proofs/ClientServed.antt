@@ -30,6 +30,11 @@ not_foreign P (Some bytes) f head same other = λ is. absurd (none (sym is ∙ s
     none : true ≡ false → ⊥
     none e = cc e
 
+-- what follows where a text is refused
+pub turned_away : {P Q : Type 0} (known : Option (List ℕ)) (f : List ℕ → Bool) → IfSome known (λ bytes. f bytes ≡ true → P) → (P → Q) → IfSome known (λ bytes. f bytes ≡ true → Q)
+turned_away None f away then = tt
+turned_away (Some bytes) f away then = λ is. then (away is)
+
 module _ (may_give : ℕ → Bool) (schema : Schema) (number : ℕ) (refused : BookRefusalsState) where
   -- a session to which nothing has happened
   abbrev fresh : SessionState

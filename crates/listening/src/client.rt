@@ -31,7 +31,7 @@ pub(crate) enum Unserved {
 
 /// Serves a client as a session with a number, unless it begins as an HTTP request or a TLS
 /// handshake does. A browser sends what a web page has it send behind such a beginning, so no line
-/// of it is taken, and nothing is answered.
+/// of it is taken, and nothing is sent, whether memory runs out or not.
 ///
 /// Where the session ended as `Closed` all was read and answered; at another end the replies, of
 /// which the last may be there in part, are those of the first lines. `Memory` if memory ran out
@@ -60,8 +60,8 @@ pub(crate) fn serve_client<J: StoreName, R: Wait, I: Read + Drop, W: Write, C: R
         (map (λ r. record { number = r.number; entry = r.entry }) s.receipts.items)) }
     ensures unserved { IfErr result (λ why.
         IsUnserved why (W.contents writer.old) (W.contents writer.new)) }
-    ensures foreign { IfSome (I.remaining reader)
-        (λ bytes. is_foreign bytes ≡ true → IfOk result (λ _. ⊥)) }
+    ensures foreign { IfSome (I.remaining reader) (λ bytes. is_foreign bytes ≡ true
+        → IfOk result (λ _. ⊥) × Keeps (W.contents writer.old) (W.contents writer.new)) }
 {
     match serve_lines(rt, alloc, store, gate, readings, number, reader, writer) {
         Ok(served) => Ok(served),
@@ -81,7 +81,8 @@ fn answer_memory<W: Write>(writer: &mut W)
     let _ = writer.flush();
 }
 
-/// Serves the lines of a client, whose first bytes are looked at. At an error nothing was written.
+/// Serves the lines of a client, whose first bytes are looked at before anything else is done. At an
+/// error nothing was written.
 fn serve_lines<J: StoreName, R: Wait, I: Read + Drop, W: Write, C: Readings, G: Gate>(
     rt: &R,
     alloc: Global,
@@ -102,12 +103,9 @@ fn serve_lines<J: StoreName, R: Wait, I: Read + Drop, W: Write, C: Readings, G: 
         (I.remaining reader) (W.contents writer.old) (W.contents writer.new)) }
     ensures unserved { IfErr result (λ why.
         Keeps (W.contents writer.old) (W.contents writer.new)) }
-    ensures foreign { IfSome (I.remaining reader)
-        (λ bytes. is_foreign bytes ≡ true → IfOk result (λ _. ⊥)) }
+    ensures foreign { IfSome (I.remaining reader) (λ bytes. is_foreign bytes ≡ true
+        → IfOk result (λ _. ⊥) × IfErr result (λ why. why ≢ Unserved.Memory)) }
 {
-    let Ok(mut session) = store.session(alloc, number) else {
-        return Err(Unserved::Memory);
-    };
     let mut reader = reader;
     let Ok(head) = read_head(&mut reader) else {
         return Err(Unserved::Read);
@@ -115,6 +113,9 @@ fn serve_lines<J: StoreName, R: Wait, I: Read + Drop, W: Write, C: Readings, G: 
     if is_foreign(head.as_slice()) {
         return Err(Unserved::Foreign);
     }
+    let Ok(mut session) = store.session(alloc, number) else {
+        return Err(Unserved::Memory);
+    };
     let mut whole = head.as_slice().chain(reader);
     let served = serve_session(
         rt,

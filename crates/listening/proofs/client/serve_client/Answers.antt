@@ -1,0 +1,16 @@
+use Rattle.std.proofs.Common.{subst}
+use Rattle.std.specs.Prelude.{◌≢◌, IfErr, IfOk}
+use Rattle.listening.specs.declared.client.Unserved.TheVariants.{Memory}
+use Rattle.listening.specs.Request.{is_foreign}
+use Rattle.listening.proofs.ClientServed.{turned_away}
+use Rattle.listening.proofs.client.serve_client.Goals as goal
+
+pub returns-in-Ok-clause-foreign : goal.returns-in-Ok-clause-foreign
+returns-in-Ok-clause-foreign g c =
+    turned_away (g.I.Read.remaining c.args.reader) is_foreign c.serve_lines.ensures.foreign
+    (λ away. absurd (subst (λ r. IfOk r (λ _. ⊥)) c.in-Ok.is away.0))
+
+pub returns-in-Err-Memory-clause-foreign : goal.returns-in-Err-Memory-clause-foreign
+returns-in-Err-Memory-clause-foreign g c =
+    turned_away (g.I.Read.remaining c.args.reader) is_foreign c.serve_lines.ensures.foreign
+    (λ away. absurd (subst (λ r. IfErr r (λ why. why ≢ Memory)) c.in-Err-Memory.is away.1 c.in-Err-Memory.field-0-is))
