@@ -10,8 +10,9 @@ ghost use Rattle.listening.specs.Connection.{IsOneRun};
 use crate::acceptor::{Acceptor, refuse};
 use crate::client::serve_client;
 use crate::clock::Microseconds;
-use crate::migration::{Call, WakingGate, run_rounds};
+use crate::migration::run_rounds;
 use crate::pile::{Origin, Pile, hand_over};
+use crate::round_trigger::{Call, CountingGate, RoundTrigger};
 use crossbeam_channel::{Receiver, Sender};
 use growlog::StoreName;
 use runs::served_runs_are_histories;
@@ -198,7 +199,7 @@ fn serve_stream<J: StoreName, R: Clock + Wait, G: Gate>(
     let Ok(mut writer) = BufWriter::new(alloc, stream) else {
         return refuse(stream);
     };
-    let gate = WakingGate::new(gate, calls);
+    let gate = CountingGate::new(gate, RoundTrigger::new(calls));
     let mut readings = Microseconds { rt };
     let served = serve_client(
         rt,

@@ -10,6 +10,7 @@ mod head;
 mod loading;
 mod migration;
 mod pile;
+mod round_trigger;
 mod server;
 mod socket;
 

@@ -5,63 +5,17 @@ ghost use Rattle.serving.specs.Progress.{Given};
 ghost use Rattle.runs.specs.Run.{IsOfService};
 
 use crate::pile::{Origin, Pile, hand_over};
-use crossbeam_channel::{Receiver, Sender};
+use crate::round_trigger::Call;
+use crossbeam_channel::Receiver;
 use growlog::StoreName;
 use migrator::{MigrateFault, run_migrator};
-use sessions::{Gate, LockedStore, Place, Receipt, Session};
+use sessions::{Gate, LockedStore, Receipt, Session};
 use std::alloc::Global;
-use std::cell::Cell;
 use std::sync::{Mutex, Wait};
 use std::thread::Threads;
 
-/// The commits of a session after which a round is called for.
-const COMMITS: u8 = 16;
-
 /// The workers of a round.
 const WORKERS: u8 = 2;
-
-/// A call for a round.
-#[derive(Clone, Copy)]
-pub(crate) struct Call;
-
-/// A session's way through the gate, which calls for a round after each 16th commit of the session.
-#[derive(Drop)]
-pub(crate) struct WakingGate<'a, G: Gate> {
-    gate: &'a G,
-    calls: Sender<Call, Global>,
-    commits: Cell<u8>,
-}
-
-impl<'a, G: Gate> WakingGate<'a, G> {
-    /// Makes a session's way through a gate, which has counted no commit.
-    pub(crate) fn new(gate: &'a G, calls: Sender<Call, Global>) -> WakingGate<'a, G> {
-        WakingGate {
-            gate,
-            calls,
-            commits: Cell::new(0),
-        }
-    }
-
-    /// Counts a commit. If a call is out of memory there is no round, which no reply shows.
-    fn count<R: Wait>(&self, rt: &R) {
-        let commits = self.commits.get().saturating_add(1);
-        if commits < COMMITS {
-            self.commits.set(commits);
-            return;
-        }
-        self.commits.set(0);
-        let _ = self.calls.send(rt, Call);
-    }
-}
-
-impl<G: Gate> Gate for WakingGate<'_, G> {
-    fn pass<R: Wait>(&self, rt: &R, who: u8, place: Place) -> bool {
-        if place == Place::Committed {
-            self.count(rt);
-        }
-        self.gate.pass(rt, who, place)
-    }
-}
 
 /// Runs a round for each call, until there can be no more, and hands over the receipts of each.
 /// Where there is no memory for a session there are no rounds.
