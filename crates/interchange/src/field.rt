@@ -40,7 +40,7 @@ fn misfit_of(of: ColumnType) -> Value
 {
     match of {
         ColumnType::Boolean => Value::Int(0),
-        _ => Value::Bool(false),
+        ColumnType::Int | ColumnType::Text | ColumnType::Varchar(_) => Value::Bool(false),
     }
 }
 

@@ -43,15 +43,20 @@ fn fits_text(most: usize, text: &str) -> bool
 fn fits_type(most: usize, of: ColumnType, value: &Value) -> bool
     ensures { result ≡ fits_type most of value.now }
 {
-    match (of, value) {
-        (ColumnType::Int, Value::Int(_)) => true,
-        (ColumnType::Text, Value::Text(text)) => fits_text(most, text.text()),
-        (ColumnType::Varchar(characters), Value::Text(text)) => {
-            fits_text(most, text.text())
-                && character_count(text.text().as_bytes()) <= characters as usize
-        }
-        (ColumnType::Boolean, Value::Bool(_)) => true,
-        _ => false,
+    match of {
+        ColumnType::Int => matches!(value, Value::Int(_)),
+        ColumnType::Boolean => matches!(value, Value::Bool(_)),
+        ColumnType::Text => match value {
+            Value::Text(text) => fits_text(most, text.text()),
+            _ => false,
+        },
+        ColumnType::Varchar(characters) => match value {
+            Value::Text(text) => {
+                fits_text(most, text.text())
+                    && character_count(text.text().as_bytes()) <= characters as usize
+            }
+            _ => false,
+        },
     }
 }
 
@@ -79,7 +84,9 @@ fn can_compare(of: ColumnType, value: &Value) -> bool
 {
     match of {
         ColumnType::Varchar(_) => fits_type(LONGEST_KEY_TEXT, ColumnType::Text, value),
-        _ => fits_type(LONGEST_KEY_TEXT, of, value),
+        ColumnType::Int | ColumnType::Text | ColumnType::Boolean => {
+            fits_type(LONGEST_KEY_TEXT, of, value)
+        }
     }
 }
 
