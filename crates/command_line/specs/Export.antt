@@ -6,7 +6,7 @@ use Rattle.values.specs.Commits.{max_instant}
 use Rattle.values.specs.declared.table.Table.{Table}
 use Rattle.values.specs.declared.query.Shown.{Shown}
 use Rattle.values.specs.declared.query.Form.TheVariants.{Between}
-use Rattle.values.specs.Names.{table_number}
+use Rattle.values.specs.TableNumber.{table_number}
 use Rattle.values.specs.Tables.{Schema, table_at}
 use Rattle.steps.specs.declared.step.Step.{Step}
 use Rattle.steps.specs.declared.step.Step.TheVariants.{Select}

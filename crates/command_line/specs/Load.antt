@@ -6,8 +6,9 @@ use Rattle.values.specs.declared.table.Table.{Table}
 use Rattle.values.specs.declared.refusal.Refusal.{Refusal}
 use Rattle.values.specs.declared.refusal.Refusal.TheVariants.{NoTable, Memory as OutOfMemory}
 use Rattle.values.specs.Log.{Row, last}
-use Rattle.values.specs.Names.{table_number}
-use Rattle.values.specs.Tables.{Schema, IsTable, table_at}
+use Rattle.values.specs.TableNumber.{table_number}
+use Rattle.values.specs.Tables.{Schema, table_at}
+use Rattle.values.specs.TableRules.{IsTable}
 use Rattle.steps.specs.declared.step.Step.{Step}
 use Rattle.steps.specs.declared.step.Step.TheVariants.{Begin, Insert, Commit}
 use Rattle.histories.specs.History.{History, log}

@@ -2,8 +2,9 @@
 ghost use Rattle.std.specs.Prelude.{◌≡◌, IfOk, IfErr, IfSome, None, Some, Ok, Err, OnOk, [], length, option_map, List, ℕ};
 ghost use Rattle.std.specs.Io.KnownBytes.{Appends};
 ghost use Rattle.clap.specs.Words.{Text};
-ghost use Rattle.values.specs.Names.{table_number};
-ghost use Rattle.values.specs.Tables.{IsTable, Schema};
+ghost use Rattle.values.specs.TableNumber.{table_number};
+ghost use Rattle.values.specs.Tables.{Schema};
+ghost use Rattle.values.specs.TableRules.{IsTable};
 ghost use Rattle.values.specs.Log.{last};
 ghost use Rattle.values.specs.declared.refusal.Refusal.{Refusal as Why};
 ghost use Rattle.histories.specs.History.{History, log};

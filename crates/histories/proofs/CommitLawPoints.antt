@@ -9,7 +9,8 @@ use Rattle.values.specs.declared.table.Table.{Table}
 use Rattle.values.specs.Entity.{entity_of, unit_by, unit_of}
 use Rattle.values.specs.Log.{Row, State, last, row_at}
 use Rattle.values.specs.Order.{is_key, key_cmp}
-use Rattle.values.specs.Period.{Periods, is_time_of, periods_of, span_of}
+use Rattle.values.specs.Period.{Periods, periods_of, span_of}
+use Rattle.values.specs.Times.{is_time_of}
 use Rattle.values.specs.Tables.{Schema, full_row, table_at}
 use Rattle.values.proofs.LogMaps.{lookup-find, same_map}
 use Rattle.values.proofs.LogStates.{state_matches}

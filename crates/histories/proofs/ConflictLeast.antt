@@ -11,7 +11,8 @@ use Rattle.values.proofs.OrderTotal.{key_cmp-IsAntisymmetric}
 use Rattle.values.specs.declared.key.Key.{Key}
 use Rattle.values.specs.declared.refusal.Refusal.{Refusal}
 use Rattle.values.specs.declared.refusal.Refusal.TheVariants.{Conflict, ClockEnd, NoSession, NoTransaction}
-use Rattle.values.specs.Commits.{max_instant, unit_changed_since, conflicts, outcome}
+use Rattle.values.specs.Commits.{max_instant, unit_changed_since, outcome}
+use Rattle.values.specs.ChangedSince.{conflicts}
 use Rattle.values.specs.Each.{Each}
 use Rattle.values.specs.Entity.{unit_of}
 use Rattle.values.specs.Log.{Changes, Log, Net, State, changes, last, state}

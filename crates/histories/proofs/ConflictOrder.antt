@@ -20,7 +20,8 @@ use Rattle.values.specs.Log.{Net, Row, State, row_at, state}
 use Rattle.values.specs.Order.{key_cmp, is_key}
 use Rattle.values.specs.Period.{Periods, periods_of}
 use Rattle.values.specs.Portion.{portion_in, portion_keys, change_portion, change_portion_in, taken}
-use Rattle.values.specs.Tables.{Schema, table_at, AreTables, value_at}
+use Rattle.values.specs.Tables.{Schema, table_at, value_at}
+use Rattle.values.specs.TableRules.{AreTables}
 use Rattle.values.specs.Writes.{Own, Written, most_written, add_keys, net_of, write_keys, key_of, insert_into, insert_rows, insert_refusal, update_in, delete_from, matching_keys, update_rows, delete_rows}
 use Rattle.values.proofs.LogStates.{state_matches}
 use Rattle.values.proofs.OrderTotal.{key_cmp_total}

@@ -12,7 +12,8 @@ use Rattle.histories.specs.History.{History, reply, replies}
 use Rattle.histories.specs.World.{World}
 use Rattle.histories.specs.Stands.{Stands}
 use Rattle.steps.specs.Reply.{is_memory, is_out_of_memory}
-use Rattle.histories.specs.Memory.{takes_no_memory, takes_no_memory_after}
+use Rattle.histories.specs.Memory.{takes_no_memory_after}
+use Rattle.histories.specs.WorldMemory.{takes_no_memory}
 use Rattle.histories.specs.Due.{AllAnswered, due, is_out_where_taken, OutWhereTaken}
 use Rattle.histories.proofs.Memory.{memory_is_taken_alike}
 

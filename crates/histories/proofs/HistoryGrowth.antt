@@ -9,7 +9,8 @@ use Rattle.values.specs.Log.{Log, Net, Changes, last, changes}
 use Rattle.values.specs.Law.{IsLog, shown_rows}
 use Rattle.values.specs.declared.query.Form.TheVariants.{AsOf}
 use Rattle.values.specs.Period.{Periods, periods_of}
-use Rattle.values.specs.Commits.{conflicts, outcome, log_after, after, max_instant}
+use Rattle.values.specs.Commits.{outcome, log_after, after, max_instant}
+use Rattle.values.specs.ChangedSince.{conflicts}
 use Rattle.values.proofs.LawAsOf.{as_of_stays}
 use Rattle.values.proofs.LogPush.{Rises-push}
 use Rattle.steps.specs.declared.step.Step.{Step}

@@ -12,7 +12,7 @@ use Rattle.values.proofs.LogMaps.{same_map}
 use Rattle.values.proofs.LogStates.{state_matches, row_at-set_row, sorted_set_row, Upto-net}
 use Rattle.values.proofs.LogLatest as last
 use Rattle.values.proofs.LogLatest.{Upto, Upto-more}
-use Rattle.values.specs.Log.{rows_after}
+use Rattle.values.specs.RowsAfter.{rows_after}
 use Rattle.values.specs.Events.{later}
 use Rattle.histories.specs.Turn.{last_until, was_there}
 

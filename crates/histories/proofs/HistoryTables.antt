@@ -7,7 +7,8 @@ use Rattle.values.specs.declared.table.Column.{Column}
 use Rattle.values.specs.declared.table.Table.{Table}
 use Rattle.values.specs.Tables.{Schema, table_at}
 use Rattle.values.specs.Period.{periods_of}
-use Rattle.values.specs.Columns.{new_column, with_column, table_with, add_column, IsWidenedTo}
+use Rattle.values.specs.Columns.{new_column, with_column, table_with, add_column}
+use Rattle.values.specs.WiderTable.{IsWidenedTo}
 use Rattle.steps.specs.declared.step.Step.{Step}
 use Rattle.steps.specs.declared.step.Step.TheVariants.{Begin, Insert, Update, Delete, UpdatePortion, DeletePortion, Select, Commit, Rollback, AddColumn, SplitKey, SplitTime, Migrate}
 use Rattle.steps.specs.Idle.{is_idle}

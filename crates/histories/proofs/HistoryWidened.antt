@@ -9,7 +9,7 @@ use Rattle.values.specs.declared.query.Keys.{Keys}
 use Rattle.values.specs.declared.query.Comparison.{Comparison}
 use Rattle.values.specs.declared.refusal.Refusal.TheVariants.{NoTable, NoSession}
 use Rattle.values.specs.Tables.{Schema, table_at, column_at, is_key_column, full_row}
-use Rattle.values.specs.Columns.{IsWidenedTo}
+use Rattle.values.specs.WiderTable.{IsWidenedTo}
 use Rattle.values.specs.Faults.{bad_row}
 use Rattle.values.specs.Fit.{can_compare, comparison_fault, comparisons_fault}
 use Rattle.values.specs.Log.{Log, changes, upto}

@@ -5,7 +5,8 @@ use Rattle.std.proofs.lemmas.Bool.Decides.{nat_tests}
 use Rattle.values.specs.declared.key.Key.{Key}
 use Rattle.values.specs.declared.key.Transaction.{Transaction}
 use Rattle.values.specs.declared.refusal.Refusal.{Refusal}
-use Rattle.values.specs.Tables.{Schema, table_at, AreTables}
+use Rattle.values.specs.Tables.{Schema, table_at}
+use Rattle.values.specs.TableRules.{AreTables}
 use Rattle.values.specs.Log.{State, Net, Log, apply_net, replay, state, last, changes}
 use Rattle.values.specs.Law.{IsLog}
 use Rattle.values.specs.Period.{Periods, periods_of}

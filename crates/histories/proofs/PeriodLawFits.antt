@@ -16,7 +16,8 @@ use Rattle.values.specs.Log.{Row}
 use Rattle.values.specs.Each.{Each}
 use Rattle.values.specs.Faults.{bad_row}
 use Rattle.values.specs.Fit.{fits_value, first_fault, row_fault, rows_fault, set_fault, sets_fault, comparisons_fault, update_fault, first_of}
-use Rattle.values.specs.Tables.{column_at, is_fixed_column, ends_period, but_last, HasPeriod}
+use Rattle.values.specs.Tables.{column_at, is_fixed_column, ends_period, but_last}
+use Rattle.values.specs.TableRules.{HasPeriod}
 use Rattle.values.specs.Period.{span_of, is_span}
 use Rattle.values.specs.Write.{has_bad_span, span_refusal, rows_refusal, portion_refusal}
 use Rattle.steps.proofs.MisfitKeys.{no_fault}

@@ -19,7 +19,8 @@ use Rattle.values.specs.Entity.{entity_of}
 use Rattle.values.specs.Fit.{comparisons_fault, update_fault}
 use Rattle.values.specs.Log.{Log, Row, State}
 use Rattle.values.specs.Order.{key_cmp, is_key}
-use Rattle.values.specs.Period.{periods_of, is_span, span_of, is_time_of, common, before, behind, with_span}
+use Rattle.values.specs.Period.{periods_of, is_span, span_of, common, before, behind, with_span}
+use Rattle.values.specs.Times.{is_time_of}
 use Rattle.values.specs.Portion.{with_start, portion_in, portion_keys, change_portion, change_portion_in, taken, not_taken, is_taken, all_left, all_pieces, pieces, piece, piece_of, changed}
 use Rattle.values.specs.Tables.{Schema, table_at, full_row}
 use Rattle.values.specs.Versions.{matches}

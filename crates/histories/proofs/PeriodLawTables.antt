@@ -11,8 +11,10 @@ use Rattle.values.specs.declared.refusal.Refusal.{Refusal}
 use Rattle.values.specs.declared.refusal.Refusal.TheVariants.{NoSession, NoTable}
 use Rattle.values.specs.Log.{State, Row}
 use Rattle.values.specs.Faults.{bad_row}
-use Rattle.values.specs.Columns.{is_name_of, is_good_type, new_column, addition_fault, IsWidenedTo}
-use Rattle.values.specs.Tables.{Schema, table_at, value_at, widest, IsTable, AreTables}
+use Rattle.values.specs.Columns.{is_name_of, is_good_type, new_column, addition_fault}
+use Rattle.values.specs.WiderTable.{IsWidenedTo}
+use Rattle.values.specs.Tables.{Schema, table_at, value_at, widest}
+use Rattle.values.specs.TableRules.{IsTable, AreTables}
 use Rattle.values.specs.Writes.{key_of}
 use Rattle.values.specs.Period.{Periods, periods_of}
 use Rattle.values.proofs.ColumnsTables.{added_are_tables}

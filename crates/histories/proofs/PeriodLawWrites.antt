@@ -6,7 +6,8 @@ use Rattle.values.specs.declared.refusal.Refusal.TheVariants.{NoTable}
 use Rattle.values.specs.Each.{Each}
 use Rattle.values.specs.Faults.{bad_row}
 use Rattle.values.specs.Fit.{comparisons_fault, update_fault}
-use Rattle.values.specs.Tables.{Schema, table_at, AreTables}
+use Rattle.values.specs.Tables.{Schema, table_at}
+use Rattle.values.specs.TableRules.{AreTables}
 use Rattle.values.specs.Period.{periods_of}
 use Rattle.values.specs.Write.{rows_refusal, portion_refusal}
 use Rattle.values.specs.Writes.{Own, Written, insert_into, update_in, delete_from}

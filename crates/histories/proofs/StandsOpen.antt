@@ -18,7 +18,7 @@ use Rattle.histories.specs.History.{History, schema_after, log, log_at_begin, ow
 use Rattle.steps.specs.Write.{is_write_of}
 use Rattle.histories.specs.World.{OpenTransaction, World}
 use Rattle.histories.specs.Stands.{Stands, open_in, open_from, open_at}
-use Rattle.values.specs.Log.{rows_after}
+use Rattle.values.specs.RowsAfter.{rows_after}
 use Rattle.histories.specs.Turn.{put, Turn, begin_turn, opened_now}
 
 no_writes_step : (e b w r : Bool) (o : Option Log) (now : Log) (xs ys : List Step) → (o ≡ None → ys ≡ [])

@@ -14,7 +14,8 @@ use Rattle.values.specs.Faults.{bad_row}
 use Rattle.values.specs.Fit.{key_fault, comparisons_fault, update_fault, rows_fault, first_of}
 use Rattle.values.specs.Write.{has_bad_span, span_refusal, rows_refusal, portion_refusal}
 use Rattle.values.specs.Period.{Periods, periods_of, is_span}
-use Rattle.values.specs.Commits.{conflicts, outcome, max_instant}
+use Rattle.values.specs.Commits.{outcome, max_instant}
+use Rattle.values.specs.ChangedSince.{conflicts}
 use Rattle.steps.specs.declared.step.Step.{Step}
 use Rattle.steps.specs.declared.step.Step.TheVariants.{Begin, Insert, Update, Delete, UpdatePortion, DeletePortion, Select, Commit, Rollback, AddColumn, SplitKey, SplitTime, Migrate}
 use Rattle.steps.specs.declared.step.Reply.{Reply}

@@ -2,7 +2,7 @@
 use Rattle.std.proofs.Common.{◌≡◌, ℕ, refl}
 use Rattle.values.specs.declared.write.Write.{Write}
 use Rattle.values.specs.declared.write.Write.TheVariants.{Insert, Update, Delete, UpdatePortion, DeletePortion}
-use Rattle.steps.specs.Write.{step_of}
+use Rattle.steps.specs.StepOf.{step_of}
 use Rattle.histories.specs.Turn.{turn_in, write_turn}
 use Rattle.histories.specs.World.{World}
 

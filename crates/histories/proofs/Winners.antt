@@ -19,7 +19,8 @@ use Rattle.values.specs.Each.{Each}
 use Rattle.values.specs.Log.{Log, Net, Row, Changes, last, changes, add_net, add_all, point_cmp}
 use Rattle.values.specs.Period.{Periods, periods_of}
 use Rattle.values.specs.Entity.{unit_of}
-use Rattle.values.specs.Commits.{latest_of, unit_changed_since, conflicts, outcome, log_after, after, max_instant}
+use Rattle.values.specs.Commits.{latest_of, unit_changed_since, outcome, log_after, after, max_instant}
+use Rattle.values.specs.ChangedSince.{conflicts}
 use Rattle.values.proofs.OrderTotal.{key_cmp_total, point_cmp-IsAntisymmetric}
 use Rattle.rows.proofs.SchemaPlaces.{Apart, apart_push, apart_no_two, each_to}
 use Rattle.steps.specs.declared.step.Step.TheVariants.{Begin, Insert, Update, Delete, UpdatePortion, DeletePortion, Select, Commit, Rollback, AddColumn, SplitKey, SplitTime, Migrate}

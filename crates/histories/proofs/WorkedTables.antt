@@ -6,7 +6,8 @@ use Rattle.std.proofs.lemmas.List.Elements.{All-nil, All-cons}
 use Rattle.values.specs.declared.period.Period.{Period}
 use Rattle.values.specs.declared.table.Column.{Column}
 use Rattle.values.specs.declared.table.Table.{Table}
-use Rattle.values.specs.Tables.{AreTables, IsTable, IsColumnOf, HasInstants, HasPeriod, IsOutside, column_at}
+use Rattle.values.specs.Tables.{column_at}
+use Rattle.values.specs.TableRules.{AreTables, IsTable, IsColumnOf, HasInstants, HasPeriod, IsOutside}
 use Rattle.histories.specs.WorkedPeriods.{policies, plain, both}
 
 abbrev valid : Period

@@ -6,7 +6,8 @@ use Rattle.values.specs.declared.key.Key.{Key}
 use Rattle.values.specs.declared.key.Transaction.{Transaction}
 use Rattle.values.specs.declared.refusal.Refusal.TheVariants.{Conflict}
 use Rattle.values.specs.Order.{key_cmp}
-use Rattle.values.specs.Tables.{Schema, AreTables}
+use Rattle.values.specs.Tables.{Schema}
+use Rattle.values.specs.TableRules.{AreTables}
 use Rattle.values.specs.Log.{Log, Net}
 use Rattle.values.specs.Period.{Periods, periods_of}
 use Rattle.values.specs.Entity.{unit_of}

@@ -6,7 +6,7 @@ use Rattle.values.specs.declared.query.Form.TheVariants.{AsOf}
 use Rattle.values.specs.declared.query.Keys.{Keys}
 use Rattle.values.specs.declared.refusal.Refusal.{Refusal}
 use Rattle.values.specs.Tables.{Schema, table_at, full_row}
-use Rattle.values.specs.Columns.{IsWidenedTo}
+use Rattle.values.specs.WiderTable.{IsWidenedTo}
 use Rattle.values.specs.Period.{periods_of}
 use Rattle.rows.specs.GoodTable.{NoTwo}
 use Rattle.values.specs.declared.table.Table.{Table}

@@ -5,11 +5,12 @@ pub mod History
 pub mod Law
 pub mod Maintenance
 pub mod Memory
+pub mod PeriodLaw
 pub mod Stands
 pub mod Turn
 pub mod TurnLaw
 pub mod Winners
 pub mod Worked
-pub mod World
-pub mod PeriodLaw
 pub mod WorkedPeriods
+pub mod World
+pub mod WorldMemory

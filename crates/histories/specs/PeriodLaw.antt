@@ -6,7 +6,8 @@ use Rattle.values.specs.declared.period.Span.{Span}
 use Rattle.values.specs.declared.query.Keys.{Keys}
 use Rattle.values.specs.declared.query.Set.{Set}
 use Rattle.values.specs.declared.table.Table.{Table}
-use Rattle.values.specs.Tables.{Schema, table_at, AreTables}
+use Rattle.values.specs.Tables.{Schema, table_at}
+use Rattle.values.specs.TableRules.{AreTables}
 use Rattle.values.specs.Log.{state}
 use Rattle.values.specs.Period.{periods_of}
 use Rattle.values.specs.Portion.{taken}

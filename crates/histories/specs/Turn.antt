@@ -9,7 +9,8 @@ use Rattle.values.specs.declared.query.Shown.{Shown as Version}
 use Rattle.values.specs.declared.refusal.Refusal.{Refusal}
 use Rattle.values.specs.declared.refusal.Refusal.TheVariants.{NoTable, NoTransaction, InTransaction, TransactionsOpen}
 use Rattle.values.specs.Order.{is_key}
-use Rattle.values.specs.Log.{Changes, Net, Row, row_at, add_net, rows_after}
+use Rattle.values.specs.Log.{Changes, Net, Row, row_at, add_net}
+use Rattle.values.specs.RowsAfter.{rows_after}
 use Rattle.values.specs.Law.{changes_upto}
 use Rattle.values.specs.Events.{later}
 use Rattle.values.specs.Tables.{Schema, table_at}

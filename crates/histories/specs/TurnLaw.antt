@@ -3,7 +3,8 @@ use Rattle.std.specs.Prelude.{◌≡◌, ◌∷◌}
 use Rattle.values.specs.Tables.{Schema}
 use Rattle.steps.specs.declared.step.Step.{Step}
 use Rattle.histories.specs.History.{History, reply}
-use Rattle.histories.specs.Memory.{takes_no_memory, takes_no_memory_after}
+use Rattle.histories.specs.Memory.{takes_no_memory_after}
+use Rattle.histories.specs.WorldMemory.{takes_no_memory}
 use Rattle.histories.specs.World.{World}
 use Rattle.histories.specs.Stands.{Stands}
 use Rattle.histories.specs.Turn.{turn}

@@ -14,7 +14,8 @@ use Rattle.values.specs.declared.refusal.Refusal.TheVariants.{BadRow, NoTransact
 use Rattle.values.specs.declared.table.ColumnType.TheVariants.{Int as IsInt, Text as IsText}
 use Rattle.values.specs.declared.table.Table.{Table}
 use Rattle.values.specs.declared.key.Key.{Key}
-use Rattle.values.specs.Tables.{Schema, AreTables}
+use Rattle.values.specs.Tables.{Schema}
+use Rattle.values.specs.TableRules.{AreTables}
 use Rattle.values.specs.Log.{Row}
 use Rattle.steps.specs.declared.step.Step.{Step}
 use Rattle.steps.specs.declared.step.Step.TheVariants.{Begin, Insert, Update, Delete, UpdatePortion, DeletePortion, Select, Commit, Rollback, AddColumn}

@@ -4,7 +4,7 @@ ghost use Rattle.values.specs.declared.key.Key.{Key as TableKey};
 ghost use Rattle.values.specs.Fit.{row_fault};
 ghost use Rattle.values.specs.Log.{Row as Values};
 ghost use Rattle.values.specs.Memory.{OnlyMemory};
-ghost use Rattle.values.specs.Tables.{IsTable};
+ghost use Rattle.values.specs.TableRules.{IsTable};
 ghost use Rattle.values.specs.Write.{has_bad_span};
 ghost use Rattle.values.specs.Writes.{add_keys, most_written};
 ghost use Rattle.interchange.specs.Insertion.{AreKeyed, HasCome, HasKeys};

@@ -11,7 +11,8 @@ ghost use Rattle.values.specs.KeyReading.{IsKeyOf};
 ghost use Rattle.values.specs.Fit.{row_fault};
 ghost use Rattle.values.specs.Memory.{OnlyMemory};
 ghost use Rattle.values.specs.Order.{is_key};
-ghost use Rattle.values.specs.Tables.{IsTable, value_at};
+ghost use Rattle.values.specs.Tables.{value_at};
+ghost use Rattle.values.specs.TableRules.{IsTable};
 ghost use Rattle.values.specs.Writes.{add_keys, key_of};
 ghost use Rattle.interchange.specs.Insertion.{HasKeys, bytes_in};
 

@@ -2,7 +2,7 @@
 ghost use Rattle.std.specs.Prelude.{◌≡◌, ◌++◌, ◌∷◌, ℕ, [], Err, IfErr, IfOk, List, None, Ok, OnOk};
 ghost use Rattle.csv.specs.Records.{fields_of};
 ghost use Rattle.csv.specs.declared.parser.State.{State};
-ghost use Rattle.values.specs.Tables.{IsTable};
+ghost use Rattle.values.specs.TableRules.{IsTable};
 ghost use Rattle.interchange.specs.KeptField.{kept_fields};
 ghost use Rattle.interchange.specs.Load.{Record};
 ghost use Rattle.interchange.specs.Loading.{HasRecords, HasRows, IsAllRead, IsReadTo, IsRefusedAt, IsWhyOf, IsWholeOf};

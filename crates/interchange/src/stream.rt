@@ -2,7 +2,7 @@
 ghost use Rattle.std.specs.Prelude.{◌≡◌, ◌<◌, ℕ, Err, IfErr, IfOk, List, Ok, length};
 ghost use Rattle.std.specs.Io.KnownBytes.{Consumes, IsAtEnd};
 ghost use Rattle.csv.specs.Reading.{is_bom, strip_bom};
-ghost use Rattle.values.specs.Tables.{IsTable};
+ghost use Rattle.values.specs.TableRules.{IsTable};
 ghost use Rattle.interchange.specs.Loading.{IsReadTo, IsWholeOf};
 ghost use Rattle.interchange.specs.Stream.{IsEndedBy, IsLoadAfter, IsLoadOf, IsOfReading, IsUnloaded, IsUnloadedAfter};
 

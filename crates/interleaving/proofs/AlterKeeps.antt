@@ -28,7 +28,7 @@ use Rattle.steps.specs.declared.step.Step.TheVariants.{AddColumn}
 use Rattle.steps.specs.declared.step.Reply.{Reply}
 use Rattle.steps.specs.declared.step.Reply.TheVariants.{Altered, Refused}
 use Rattle.steps.proofs.MisfitKeys.{no_fault}
-use Rattle.histories.specs.Memory.{takes_no_memory}
+use Rattle.histories.specs.WorldMemory.{takes_no_memory}
 use Rattle.histories.specs.Stands.{is_open_at}
 use Rattle.histories.specs.Turn.{Turn, alter_turn, with_schema}
 use Rattle.histories.specs.World.{World}

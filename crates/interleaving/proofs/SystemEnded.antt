@@ -14,7 +14,8 @@ use Rattle.values.specs.declared.refusal.Refusal.{Refusal}
 use Rattle.values.specs.declared.refusal.Refusal.TheVariants.{NoTransaction, Memory}
 use Rattle.values.specs.Order.{is_key}
 use Rattle.values.specs.Tables.{Schema}
-use Rattle.values.specs.Log.{Changes, Net, Row, point_cmp, row_at, add_net, rows_after}
+use Rattle.values.specs.Log.{Changes, Net, Row, point_cmp, row_at, add_net}
+use Rattle.values.specs.RowsAfter.{rows_after}
 use Rattle.values.specs.Law.{changes_upto}
 use Rattle.values.specs.Period.{periods_of}
 use Rattle.values.specs.Commits.{outcome}

@@ -6,7 +6,8 @@ use Rattle.values.specs.declared.query.Form.{Form}
 use Rattle.values.specs.declared.query.Form.TheVariants.{Plain, AsOf, FromTo, Between}
 use Rattle.values.specs.declared.query.Keys.{Keys}
 use Rattle.values.specs.declared.refusal.Refusal.TheVariants.{NoTable}
-use Rattle.values.specs.Tables.{Schema, IsTable, table_at}
+use Rattle.values.specs.Tables.{Schema, table_at}
+use Rattle.values.specs.TableRules.{IsTable}
 use Rattle.values.specs.Log.{Changes}
 use Rattle.values.specs.Law.{changes_upto}
 use Rattle.values.specs.Versions.{answer}

@@ -6,9 +6,10 @@ use Rattle.values.specs.declared.table.Table.{Table}
 use Rattle.values.specs.declared.write.Write.{Write}
 use Rattle.values.specs.declared.refusal.Refusal.{Refusal}
 use Rattle.values.specs.declared.refusal.Refusal.TheVariants.{NoTable, NoTransaction, Memory}
-use Rattle.values.specs.Tables.{Schema, IsTable, table_at}
+use Rattle.values.specs.Tables.{Schema, table_at}
+use Rattle.values.specs.TableRules.{IsTable}
 use Rattle.values.specs.Log.{Changes, Net}
-use Rattle.values.specs.Write.{table_of, write_to}
+use Rattle.values.specs.Fitting.{table_of, write_to}
 use Rattle.values.specs.Writes.{Own, Written}
 use Rattle.tsbtree.specs.View.{TreeState, events}
 use Rattle.staging.specs.Own.{own, Reads, WhenRead}
@@ -22,7 +23,7 @@ use Rattle.histories.specs.World.{OpenTransaction, World}
 use Rattle.histories.specs.Stands.{open_at}
 use Rattle.histories.specs.Turn.{Turn, put, own_in, with_own, turn_in}
 use Rattle.steps.specs.Reply.{is_out_of_memory}
-use Rattle.steps.specs.Write.{step_of}
+use Rattle.steps.specs.StepOf.{step_of}
 use Rattle.histories.proofs.TurnWritten.{turn_is}
 use Rattle.steps.proofs.WriteStep.{write_is}
 use Rattle.interleaving.specs.SystemState.{changes_in, open_of, world_of, IsOpenIn, IsOpen, IsSystem}

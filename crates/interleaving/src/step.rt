@@ -7,7 +7,7 @@ ghost use Rattle.interleaving.specs.AlterStep.{IsAlterStep};
 ghost use Rattle.interleaving.specs.TreeStep.{IsTreeStep};
 ghost use Rattle.interleaving.specs.SystemState.{world};
 ghost use Rattle.steps.specs.Reply.{is_out_of_memory};
-ghost use Rattle.histories.specs.Memory.{takes_no_memory};
+ghost use Rattle.histories.specs.WorldMemory.{takes_no_memory};
 
 use crate::system::System;
 use steps::{Reply, Step};

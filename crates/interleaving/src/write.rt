@@ -4,7 +4,7 @@ ghost use Rattle.steps.specs.Misfit.{misfit};
 ghost use Rattle.steps.specs.Reply.{is_out_of_memory};
 ghost use Rattle.histories.specs.Stands.{is_open_at};
 ghost use Rattle.histories.specs.Turn.{turn_in};
-ghost use Rattle.steps.specs.Write.{step_of};
+ghost use Rattle.steps.specs.StepOf.{step_of};
 ghost use Rattle.interleaving.specs.StepLeaves.{leaves_all};
 ghost use Rattle.interleaving.specs.SystemState.{world};
 

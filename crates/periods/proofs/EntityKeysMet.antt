@@ -17,7 +17,8 @@ use Rattle.values.specs.OrderLaw.{value_cmp_total}
 use Rattle.values.specs.Order.{is_key}
 use Rattle.values.specs.Entity.{entity_of}
 use Rattle.values.specs.Versions.{holds, compares, matches}
-use Rattle.values.specs.Tables.{but_last, IsDistinct}
+use Rattle.values.specs.Tables.{but_last}
+use Rattle.values.specs.TableRules.{IsDistinct}
 use Rattle.periods.specs.EntityKeys.{equalities, entity_keys, EntityKeysAreItsKeys}
 
 -- ---- the place of a column

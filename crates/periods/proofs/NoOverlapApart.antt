@@ -12,7 +12,8 @@ use Rattle.values.specs.Order.{key_cmp, is_key}
 use Rattle.values.specs.Log.{State, Row}
 use Rattle.values.proofs.OrderTotal.{key_cmp_total, key_cmp-IsAntisymmetric}
 use Rattle.values.specs.Period.{Periods, span_of, overlap}
-use Rattle.values.specs.Entity.{entity_of, clash, clash_by}
+use Rattle.values.specs.Entity.{entity_of, clash_by}
+use Rattle.values.specs.Clash.{clash}
 use Rattle.periods.specs.NoOverlap.{NoOverlap}
 use Rattle.periods.proofs.NoOverlapSpans.{overlap_turned}
 

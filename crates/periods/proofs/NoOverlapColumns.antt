@@ -12,7 +12,8 @@ use Rattle.values.specs.declared.value.Value.TheVariants.{Int, Null}
 use Rattle.values.specs.declared.table.Table.{Table}
 use Rattle.values.specs.declared.query.Set.{Set}
 use Rattle.values.specs.Log.{Row}
-use Rattle.values.specs.Tables.{value_at, but_last, IsOutside, HasPeriod}
+use Rattle.values.specs.Tables.{value_at, but_last}
+use Rattle.values.specs.TableRules.{IsOutside, HasPeriod}
 use Rattle.values.specs.Each.{Each}
 use Rattle.values.specs.Writes.{key_of, set_all}
 use Rattle.values.specs.Period.{span_of, with_span, int_of}

@@ -20,7 +20,8 @@ use Rattle.values.proofs.OrderTotal.{key_cmp_total, first, second}
 use Rattle.values.proofs.LogStates.{row_at-set_row, sorted_set_row, state_matches}
 use Rattle.values.proofs.LogLatest.{latest, later}
 use Rattle.values.specs.Period.{Periods, span_of, overlap}
-use Rattle.values.specs.Entity.{entity_of, unit_of, unit_by, clash, clash_by}
+use Rattle.values.specs.Entity.{entity_of, unit_of, unit_by, clash_by}
+use Rattle.values.specs.Clash.{clash}
 use Rattle.periods.specs.NoOverlap.{NoOverlap}
 use Rattle.periods.proofs.NoOverlapApart.{one_key, is_key_turned, clash_turned, or_first, or_second, or_none}
 

@@ -18,10 +18,12 @@ use Rattle.values.specs.Log.{State, Row}
 use Rattle.values.specs.Versions.{matches}
 use Rattle.values.specs.Writes.{key_of, insert_all, full_rows, keyed}
 use Rattle.values.proofs.OrderTotal.{key_cmp-IsAntisymmetric}
-use Rattle.values.specs.Period.{Periods, span_of, is_span, overlap, lies_in, common, before, behind, with_span}
-use Rattle.values.specs.Entity.{entity_of, clash, clash_by}
+use Rattle.values.specs.Period.{Periods, span_of, is_span, overlap, common, before, behind, with_span}
+use Rattle.values.specs.Times.{lies_in}
+use Rattle.values.specs.Entity.{entity_of, clash_by}
+use Rattle.values.specs.Clash.{clash}
 use Rattle.values.specs.Portion.{changed, is_taken, taken, not_taken}
-use Rattle.values.specs.Tables.{HasPeriod}
+use Rattle.values.specs.TableRules.{HasPeriod}
 use Rattle.values.specs.Each.{Each}
 use Rattle.periods.specs.NoOverlap.{NoOverlap, Tables, IsSettable, IsKeyed, IsKeyedIn, AreKeyed}
 use Rattle.periods.proofs.NoOverlapKeyed.{piece, piece_of, pieces, all_pieces, all_left, change_portion}

@@ -14,7 +14,8 @@ use Rattle.values.specs.Writes.{key_of, keyed, full_rows, insert_all}
 use Rattle.values.specs.Period.{Periods, span_of, is_span, common, before, behind, with_span}
 use Rattle.values.specs.Portion as by_key
 use Rattle.values.specs.Portion.{changed, taken, not_taken, with_start}
-use Rattle.values.specs.Tables.{value_at, but_last, HasPeriod}
+use Rattle.values.specs.Tables.{value_at, but_last}
+use Rattle.values.specs.TableRules.{HasPeriod}
 use Rattle.values.specs.Each.{Each}
 use Rattle.periods.specs.NoOverlap.{NoOverlap, Tables, AreKeyed}
 use Rattle.periods.proofs.NoOverlapColumns.{but_last_map, entity_with_span, start_with_span}

@@ -3,7 +3,8 @@ use Rattle.std.proofs.Common.{◌≡◌, Bool, true, false, ◌&&◌, refl, arit
 use Rattle.std.proofs.lemmas.Int.{ints, clamps}
 use Rattle.std.specs.Int.{int_min, int_max}
 use Rattle.values.specs.declared.period.Span.{Span}
-use Rattle.values.specs.Period.{is_span, overlap, lies_in, common, before, behind}
+use Rattle.values.specs.Period.{is_span, overlap, common, before, behind}
+use Rattle.values.specs.Times.{lies_in}
 
 and_turned : (a b : Bool) → (a && b) ≡ (b && a)
 and_turned true true = refl

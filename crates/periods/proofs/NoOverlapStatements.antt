@@ -15,11 +15,13 @@ use Rattle.values.specs.Order.{key_cmp}
 use Rattle.values.specs.Log.{State, Row}
 use Rattle.values.specs.Versions.{matches}
 use Rattle.values.specs.Fit.{first_of}
-use Rattle.values.specs.Tables.{HasPeriod, full_row}
+use Rattle.values.specs.Tables.{full_row}
+use Rattle.values.specs.TableRules.{HasPeriod}
 use Rattle.values.specs.Each.{Each}
 use Rattle.values.specs.Writes.{Own, Written, most_written, key_of, keyed, set_all, insert_rows, update_rows, delete_rows, write_keys, add_keys, duplicate, overlap_from, overlapping, matching_keys, insert_into, update_in, delete_from}
 use Rattle.values.specs.Period.{Periods, is_span, span_of}
-use Rattle.values.specs.Entity.{clash, clash_by}
+use Rattle.values.specs.Entity.{clash_by}
+use Rattle.values.specs.Clash.{clash}
 use Rattle.values.specs.Portion.{change_portion, change_portion_in, portion_keys, portion_in, taken}
 use Rattle.periods.specs.NoOverlap.{NoOverlap, Tables, IsSettable, SetsKeep, IsKeyed, IsKeyedIn, AreKeyed}
 use Rattle.periods.proofs.NoOverlapApart.{IsAlike, or_first, or_second, or_none, none_inserted, apart_inserted, apart_kept, apart_changed}

@@ -21,11 +21,14 @@ use Rattle.values.specs.declared.value.Value.{Value}
 use Rattle.values.specs.declared.value.Value.TheVariants.{Int, Null}
 use Rattle.values.specs.Order.{key_cmp, is_key}
 use Rattle.values.specs.Log.{State, Row}
-use Rattle.values.specs.Tables.{value_at, full_row, but_last, HasPeriod}
+use Rattle.values.specs.Tables.{value_at, full_row, but_last}
+use Rattle.values.specs.TableRules.{HasPeriod}
 use Rattle.values.specs.Each.{Each}
 use Rattle.values.specs.Writes.{key_of, set_all, insert_all, full_rows, keyed}
-use Rattle.values.specs.Period.{Periods, int_of, span_of, is_span, is_time_of, common, before, behind, with_span}
-use Rattle.values.specs.Entity.{entity_of, clash}
+use Rattle.values.specs.Period.{Periods, int_of, span_of, is_span, common, before, behind, with_span}
+use Rattle.values.specs.Times.{is_time_of}
+use Rattle.values.specs.Entity.{entity_of}
+use Rattle.values.specs.Clash.{clash}
 use Rattle.values.specs.Portion.{changed, is_taken, taken, not_taken}
 use Rattle.periods.specs.NoOverlap.{NoOverlap, Tables, SetsKeep, IsKeyed, IsKeyedIn, AreKeyed}
 use Rattle.periods.specs.Point.{outside, is_row_then, row_then, point, point_after, PortionChangesPoints}

@@ -12,7 +12,8 @@ use Rattle.values.specs.declared.value.Value.{Value}
 use Rattle.values.specs.declared.key.Key.{Key}
 use Rattle.values.specs.Order.{value_cmp, key_cmp, is_key}
 use Rattle.values.specs.Log.{Changes, point_cmp}
-use Rattle.values.specs.Commits.{changed_since, or_else, latest_of, unit_changed_since}
+use Rattle.values.specs.Commits.{latest_of, unit_changed_since}
+use Rattle.values.specs.ChangedSince.{changed_since, or_else}
 use Rattle.values.proofs.OrderTotal.{first, second, below}
 use Rattle.values.specs.Period.{Periods}
 use Rattle.values.specs.Entity.{entity_of, unit_by, unit_of}

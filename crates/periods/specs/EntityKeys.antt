@@ -7,7 +7,7 @@ use Rattle.values.specs.declared.query.Operator.TheVariants.{Equal}
 use Rattle.values.specs.declared.query.Comparison.{Comparison}
 use Rattle.values.specs.declared.query.Keys.{Keys}
 use Rattle.values.specs.Order.{is_key}
-use Rattle.values.specs.Tables.{IsDistinct}
+use Rattle.values.specs.TableRules.{IsDistinct}
 use Rattle.values.specs.Versions.{matches}
 use Rattle.values.specs.Entity.{entity_of}
 

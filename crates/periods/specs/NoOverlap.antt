@@ -8,8 +8,8 @@ use Rattle.values.specs.declared.query.Set.{Set}
 use Rattle.values.specs.Log.{State, Row}
 use Rattle.values.specs.Writes.{key_of}
 use Rattle.values.specs.Period.{Periods, span_of, is_span}
-use Rattle.values.specs.Entity.{clash}
-use Rattle.values.specs.Tables.{IsOutside, HasPeriod}
+use Rattle.values.specs.Clash.{clash}
+use Rattle.values.specs.TableRules.{IsOutside, HasPeriod}
 use Rattle.values.specs.Each.{Each}
 
 -- no row clashes with one behind it

@@ -10,10 +10,12 @@ use Rattle.values.specs.declared.query.Set.{Set}
 use Rattle.values.specs.declared.value.Value.TheVariants.{Null}
 use Rattle.values.specs.Order.{is_key}
 use Rattle.values.specs.Log.{State, Row}
-use Rattle.values.specs.Period.{Periods, span_of, is_span, is_time_of}
+use Rattle.values.specs.Period.{Periods, span_of, is_span}
+use Rattle.values.specs.Times.{is_time_of}
 use Rattle.values.specs.Entity.{entity_of}
 use Rattle.values.specs.Portion.{change_portion, is_taken, changed}
-use Rattle.values.specs.Tables.{HasPeriod, full_row}
+use Rattle.values.specs.Tables.{full_row}
+use Rattle.values.specs.TableRules.{HasPeriod}
 use Rattle.periods.specs.NoOverlap.{Tables, NoOverlap, SetsKeep, AreKeyed}
 
 -- the row without its period

@@ -5,7 +5,8 @@ use Rattle.std.specs.declared.cmp.Ordering.TheVariants.{Less, Greater}
 use Rattle.values.specs.declared.key.Key.{Key}
 use Rattle.values.specs.Order.{key_cmp}
 use Rattle.values.specs.Log.{Changes, point_cmp}
-use Rattle.values.specs.Commits.{changed_since, unit_changed_since}
+use Rattle.values.specs.Commits.{unit_changed_since}
+use Rattle.values.specs.ChangedSince.{changed_since}
 use Rattle.values.specs.Period.{Periods}
 use Rattle.values.specs.Entity.{unit_of}
 

@@ -15,7 +15,8 @@ use Rattle.values.specs.declared.period.Period.{Period as TablePeriod}
 use Rattle.values.specs.declared.table.Table.{Table}
 use Rattle.values.specs.Each.{Each}
 use Rattle.values.specs.Names.{same_name}
-use Rattle.values.specs.Tables.{but_last, column_at, HasInstants, IsColumnOf, IsDistinct, IsOutside, HasPeriod, IsTable, AreTables}
+use Rattle.values.specs.Tables.{but_last, column_at}
+use Rattle.values.specs.TableRules.{HasInstants, IsColumnOf, IsDistinct, IsOutside, HasPeriod, IsTable, AreTables}
 use Rattle.values.proofs.TablesButLast.{but_last-push}
 use Rattle.rows.specs.declared.declaration.ApplicationPeriod.{ApplicationPeriod}
 use Rattle.rows.specs.declared.declaration.KeyClause.{KeyClause}

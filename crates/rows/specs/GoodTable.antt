@@ -11,7 +11,8 @@ use Rattle.values.specs.declared.table.Column.{Column}
 use Rattle.values.specs.declared.table.Table.{Table}
 use Rattle.values.specs.Each.{Each}
 use Rattle.values.specs.Fit.{longest_text}
-use Rattle.values.specs.Tables.{most_digits, most_key_columns, most_tables, widest}
+use Rattle.values.specs.Tables.{widest}
+use Rattle.values.specs.TableRules.{most_digits, most_key_columns, most_tables}
 use Rattle.rows.specs.declared.declaration.Mark.TheVariants.{NotNull, PrimaryKey}
 use Rattle.rows.specs.declared.declaration.Side.{Side}
 use Rattle.rows.specs.declared.declaration.Side.TheVariants.{Start, End}

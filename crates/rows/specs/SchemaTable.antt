@@ -8,7 +8,8 @@ use Rattle.values.specs.declared.period.Period.{Period as TablePeriod}
 use Rattle.values.specs.declared.table.Column.{Column}
 use Rattle.values.specs.declared.table.Table.{Table}
 use Rattle.values.specs.Fit.{longest_text}
-use Rattle.values.specs.Tables.{Schema, but_last, most_digits, most_key_columns, most_tables, widest}
+use Rattle.values.specs.Tables.{Schema, but_last, widest}
+use Rattle.values.specs.TableRules.{most_digits, most_key_columns, most_tables}
 use Rattle.rows.specs.declared.declaration.Mark.{Mark}
 use Rattle.rows.specs.declared.declaration.Mark.TheVariants.{NotNull, PrimaryKey}
 use Rattle.rows.specs.declared.declaration.Side.{Side}

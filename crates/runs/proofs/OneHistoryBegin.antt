@@ -9,7 +9,8 @@ use Rattle.values.specs.declared.table.Table.{Table}
 use Rattle.values.specs.declared.refusal.Refusal.{Refusal}
 use Rattle.values.specs.declared.refusal.Refusal.TheVariants.{InTransaction, NoTable, NoTransaction}
 use Rattle.values.specs.Tables.{Schema, table_at}
-use Rattle.values.specs.Log.{Log, Changes, State, last, upto, changes, rows_after}
+use Rattle.values.specs.Log.{Log, Changes, State, last, upto, changes}
+use Rattle.values.specs.RowsAfter.{rows_after}
 use Rattle.values.specs.Writes.{Own}
 use Rattle.values.specs.Versions.{answer}
 use Rattle.values.proofs.LogPush.{upto_all}

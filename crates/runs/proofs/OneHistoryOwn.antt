@@ -5,7 +5,7 @@ use Rattle.values.specs.declared.query.Form.{Form}
 use Rattle.values.specs.declared.query.Keys.{Keys}
 use Rattle.values.specs.declared.refusal.Refusal.{Refusal}
 use Rattle.values.specs.Tables.{Schema}
-use Rattle.values.specs.Log.{rows_after}
+use Rattle.values.specs.RowsAfter.{rows_after}
 use Rattle.values.specs.Writes.{net_of}
 use Rattle.values.specs.KeyEncoding.{bytes_of_key}
 use Rattle.serving.specs.staging.Own.{own as own_over}

@@ -4,7 +4,8 @@ use Rattle.std.specs.Option.{option_map}
 use Rattle.values.specs.declared.refusal.Refusal.{Refusal}
 use Rattle.values.specs.declared.refusal.Refusal.TheVariants.{NoTransaction}
 use Rattle.values.specs.Tables.{Schema}
-use Rattle.values.specs.Log.{Net, last, state, changes, rows_after}
+use Rattle.values.specs.Log.{Net, last, state, changes}
+use Rattle.values.specs.RowsAfter.{rows_after}
 use Rattle.values.specs.Period.{periods_of}
 use Rattle.values.specs.Commits.{outcome, after}
 use Rattle.values.specs.Writes.{Own, net_of}

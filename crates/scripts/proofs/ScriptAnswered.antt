@@ -12,7 +12,8 @@ use Rattle.steps.specs.declared.step.Reply.TheVariants.{Refused}
 use Rattle.steps.specs.Misfit.{misfit}
 use Rattle.histories.specs.History.{History, reply}
 use Rattle.steps.specs.Reply.{is_memory, is_out_of_memory}
-use Rattle.histories.specs.Memory.{takes_no_memory, takes_no_memory_after}
+use Rattle.histories.specs.Memory.{takes_no_memory_after}
+use Rattle.histories.specs.WorldMemory.{takes_no_memory}
 use Rattle.interleaving.specs.StepLeaves.{leaves_all}
 use Rattle.interleaving.specs.SystemState.{world, Stands}
 use Rattle.histories.proofs.Memory.{memory_is_taken_alike}

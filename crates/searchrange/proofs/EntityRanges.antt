@@ -13,7 +13,8 @@ use Rattle.values.specs.declared.table.Table.{Table}
 use Rattle.values.specs.declared.query.Operator.TheVariants.{Equal as Equals}
 use Rattle.values.specs.declared.query.Comparison.{Comparison}
 use Rattle.values.specs.declared.query.Keys.{Keys}
-use Rattle.values.specs.Tables.{column_at, is_key_column, but_last, IsDistinct, HasPeriod, IsTable}
+use Rattle.values.specs.Tables.{column_at, is_key_column, but_last}
+use Rattle.values.specs.TableRules.{IsDistinct, HasPeriod, IsTable}
 use Rattle.values.specs.Fit.{fits_type, fits_value, fits_text, part_fault, parts_fault, key_fault, can_compare, comparison_fault, comparisons_fault, longest_key_text}
 use Rattle.values.specs.Versions.{matches}
 use Rattle.values.specs.KeyEncoding.{bytes_of_key}

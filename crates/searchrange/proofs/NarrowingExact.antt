@@ -16,7 +16,7 @@ use Rattle.values.specs.declared.query.Operator.TheVariants.{Equal as IsEqual, B
 use Rattle.values.specs.declared.query.Comparison.{Comparison}
 use Rattle.values.specs.declared.query.Keys.{Keys}
 use Rattle.values.specs.Order.{value_cmp}
-use Rattle.values.specs.Tables.{IsTable}
+use Rattle.values.specs.TableRules.{IsTable}
 use Rattle.values.specs.Fit.{parts_fault, part_fault, comparison_fault, comparisons_fault}
 use Rattle.values.specs.KeyEncoding.{part_bytes, bytes_of_key}
 use Rattle.values.specs.KeyEncodingLaw.{IsStorable}

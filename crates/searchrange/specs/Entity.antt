@@ -4,7 +4,7 @@ use Rattle.values.specs.declared.period.Period.{Period}
 use Rattle.values.specs.declared.key.Key.{Key}
 use Rattle.values.specs.declared.table.Table.{Table}
 use Rattle.values.specs.Order.{is_key}
-use Rattle.values.specs.Tables.{IsTable}
+use Rattle.values.specs.TableRules.{IsTable}
 use Rattle.values.specs.Entity.{entity_of}
 use Rattle.values.specs.KeyEncoding.{bytes_of_key}
 use Rattle.values.specs.KeyReading.{IsKeyOf}

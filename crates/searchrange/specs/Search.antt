@@ -7,7 +7,8 @@ use Rattle.values.specs.declared.query.Keys.{Keys}
 use Rattle.values.specs.Event.{Event}
 use Rattle.values.specs.Log.{Row}
 use Rattle.values.specs.Fit.{comparisons_fault}
-use Rattle.values.specs.Tables.{IsTable, full_row}
+use Rattle.values.specs.Tables.{full_row}
+use Rattle.values.specs.TableRules.{IsTable}
 use Rattle.values.specs.Versions.{matches}
 use Rattle.values.specs.KeyReading.{IsKeyWith, key_from}
 use Rattle.keyrange.specs.declared.range.KeyRange.{KeyRange}

@@ -1,6 +1,6 @@
 //! Comparisons on the leading key columns narrow the range of a table's keys; see README.md.
 ghost use Rattle.std.specs.Prelude.{◌≡◌, IfOk, All, Option, option_copied, position, ◌==◌, [], ◌∷◌, Some, None, true};
-ghost use Rattle.values.specs.Tables.{IsTable};
+ghost use Rattle.values.specs.TableRules.{IsTable};
 ghost use Rattle.values.specs.Fit.{comparisons_fault};
 ghost use Rattle.values.specs.KeyEncodingLaw.{IsStorable};
 ghost use Rattle.values.specs.Memory.{OnlyMemory};

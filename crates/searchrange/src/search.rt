@@ -1,7 +1,8 @@
 //! What a search condition takes of a table: one key, or those keys of a range that meet it.
 ghost use Rattle.std.specs.Prelude.{◌≡◌, true, Ok, IfOk, IfSome, option_copied};
 ghost use Rattle.std.specs.Option.{option_map};
-ghost use Rattle.values.specs.Tables.{IsTable, full_row};
+ghost use Rattle.values.specs.Tables.{full_row};
+ghost use Rattle.values.specs.TableRules.{IsTable};
 ghost use Rattle.values.specs.KeyEncoding.{IsShortKey};
 ghost use Rattle.values.specs.KeyReading.{key_from};
 ghost use Rattle.values.specs.Memory.{OnlyMemory};

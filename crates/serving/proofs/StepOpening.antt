@@ -9,7 +9,8 @@ use Rattle.values.specs.declared.refusal.Refusal.{Refusal}
 use Rattle.values.specs.declared.refusal.Refusal.TheVariants.{NoTransaction, NoTable, TransactionsOpen, Memory}
 use Rattle.values.specs.declared.table.Table.{Table}
 use Rattle.values.specs.Tables.{Schema, table_at}
-use Rattle.values.specs.Log.{Changes, Net, rows_after}
+use Rattle.values.specs.Log.{Changes, Net}
+use Rattle.values.specs.RowsAfter.{rows_after}
 use Rattle.values.specs.Writes.{Own, net_of}
 use Rattle.sessions.specs.tsbtree.View.{last}
 use Rattle.sessions.specs.staging.Own.{own}

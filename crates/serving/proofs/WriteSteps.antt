@@ -15,7 +15,7 @@ use Rattle.steps.specs.declared.step.Step.{Step}
 use Rattle.steps.specs.declared.step.Reply.{Reply}
 use Rattle.steps.specs.declared.step.Reply.TheVariants.{Refused}
 use Rattle.steps.specs.Misfit.{misfit}
-use Rattle.steps.specs.Write.{step_of}
+use Rattle.steps.specs.StepOf.{step_of}
 use Rattle.steps.specs.Reply.{write_count, written_reply}
 use Rattle.sessions.specs.SessionState.{SessionTransactionState, SessionState, IsWrite, TakesNoMemory, WithWrites, write_by, with_writes}
 use Rattle.serving.specs.declared.answer.Sent.{Sent}

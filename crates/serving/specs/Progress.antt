@@ -10,7 +10,8 @@ use Rattle.values.specs.declared.refusal.Refusal.{Refusal}
 use Rattle.values.specs.declared.refusal.Refusal.TheVariants.{NoTable, NoTransaction, TransactionsOpen, InTransaction, JournalFull, Memory}
 use Rattle.values.specs.Tables.{Schema, table_at}
 use Rattle.values.specs.KeyEncoding.{bytes_of_key}
-use Rattle.values.specs.Log.{Changes, rows_after}
+use Rattle.values.specs.Log.{Changes}
+use Rattle.values.specs.RowsAfter.{rows_after}
 use Rattle.values.specs.Versions.{answer}
 use Rattle.values.specs.Writes.{Own, net_of}
 use Rattle.datanode.specs.Node.{Node}

@@ -1,6 +1,6 @@
 //! INSERT, UPDATE and DELETE.
 ghost use Rattle.std.specs.Prelude.{◌≡◌, ℕ, Bool, None};
-ghost use Rattle.steps.specs.Write.{step_of};
+ghost use Rattle.steps.specs.StepOf.{step_of};
 ghost use Rattle.serving.specs.Serving.{IsStepped, sent_refusal};
 
 use crate::answer::Answer;

@@ -20,7 +20,8 @@ use Rattle.values.specs.Versions.{holds, matches}
 use Rattle.values.specs.declared.refusal.Refusal.{Refusal}
 use Rattle.values.specs.declared.refusal.Refusal.TheVariants.{NoTable, NoTransaction}
 use Rattle.values.specs.Order.{key_cmp, is_key}
-use Rattle.values.specs.Log.{State, Row, row_at, rows_after}
+use Rattle.values.specs.Log.{State, Row, row_at}
+use Rattle.values.specs.RowsAfter.{rows_after}
 use Rattle.values.proofs.OrderTotal.{key_cmp_total, key_cmp-IsAntisymmetric}
 use Rattle.values.proofs.LogMaps.{same_map}
 use Rattle.book.specs.staging.Own.{rows_seen}

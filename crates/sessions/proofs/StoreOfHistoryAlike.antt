@@ -5,7 +5,8 @@ use Rattle.std.specs.Option.{option_map}
 use Rattle.std.proofs.lemmas.Bool.Decides.{nat_tests}
 use Rattle.values.specs.declared.refusal.Refusal.TheVariants.{InTransaction, NoTransaction}
 use Rattle.values.specs.Tables.{Schema}
-use Rattle.values.specs.Log.{Log, Net, replay, rows_after, last, state, upto, changes}
+use Rattle.values.specs.Log.{Log, Net, replay, last, state, upto, changes}
+use Rattle.values.specs.RowsAfter.{rows_after}
 use Rattle.values.specs.Period.{periods_of}
 use Rattle.values.specs.Commits.{outcome, after}
 use Rattle.values.specs.Law.{IsLog}

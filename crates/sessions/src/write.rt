@@ -1,7 +1,7 @@
 //! INSERT, UPDATE and DELETE: the open transaction keeps them, and nobody else sees them.
 ghost use Rattle.std.specs.Prelude.{◌≡◌, OnErr};
 ghost use Rattle.steps.specs.Misfit.{misfit};
-ghost use Rattle.steps.specs.Write.{step_of};
+ghost use Rattle.steps.specs.StepOf.{step_of};
 ghost use Rattle.sessions.specs.SessionState.{IsWrite, TakesNoMemory, WithWrites};
 
 use crate::session::Session;

@@ -11,7 +11,8 @@ use Rattle.values.specs.declared.key.Key.{Key}
 use Rattle.values.specs.declared.table.Table.{Table}
 use Rattle.values.specs.Order.{is_key}
 use Rattle.values.specs.Log.{State, Row, Net, Changes}
-use Rattle.values.specs.Tables.{Schema, table_at, IsTable, HasPeriod}
+use Rattle.values.specs.Tables.{Schema, table_at}
+use Rattle.values.specs.TableRules.{IsTable, HasPeriod}
 use Rattle.values.specs.Versions.{matches}
 use Rattle.values.specs.Period.{span_of, overlap}
 use Rattle.values.specs.Entity.{entity_of, clash_by}

@@ -17,7 +17,8 @@ use Rattle.values.specs.declared.query.Keys.{Keys}
 use Rattle.values.specs.declared.query.Set.{Set}
 use Rattle.values.specs.declared.refusal.Refusal.{Refusal}
 use Rattle.values.specs.Order.{key_cmp}
-use Rattle.values.specs.Log.{State, Net, Row, Changes, apply_net, set_row, row_at, rows_after}
+use Rattle.values.specs.Log.{State, Net, Row, Changes, apply_net, set_row, row_at}
+use Rattle.values.specs.RowsAfter.{rows_after}
 use Rattle.values.specs.Tables.{Schema, table_at, full_row}
 use Rattle.values.specs.KeyEncoding.{IsShortKey}
 use Rattle.values.specs.KeyReading.{IsKeyOf}

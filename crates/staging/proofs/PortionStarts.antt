@@ -10,7 +10,8 @@ use Rattle.values.specs.declared.table.ColumnType.{ColumnType}
 use Rattle.values.specs.declared.table.Column.{Column}
 use Rattle.values.specs.declared.table.Table.{Table}
 use Rattle.values.specs.declared.key.Key.{Key}
-use Rattle.values.specs.Tables.{column_at, but_last, HasPeriod}
+use Rattle.values.specs.Tables.{column_at, but_last}
+use Rattle.values.specs.TableRules.{HasPeriod}
 use Rattle.values.specs.Fit.{fits_type, fits_value, part_fault, parts_fault}
 use Rattle.values.specs.KeyEncoding.{IsShort, IsShortKey}
 use Rattle.values.specs.KeyReading.{IsKeyOf}

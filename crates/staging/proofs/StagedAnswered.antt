@@ -15,8 +15,10 @@ use Rattle.values.specs.declared.query.Set.{Set}
 use Rattle.values.specs.declared.refusal.Refusal.{Refusal}
 use Rattle.values.specs.declared.refusal.Refusal.TheVariants.{DuplicateKey, Overlap}
 use Rattle.values.specs.Order.{key_cmp, is_key}
-use Rattle.values.specs.Log.{State, Net, Row, Changes, row_at, set_row, apply_net, rows_after}
-use Rattle.values.specs.Tables.{Schema, IsTable, full_row}
+use Rattle.values.specs.Log.{State, Net, Row, Changes, row_at, set_row, apply_net}
+use Rattle.values.specs.RowsAfter.{rows_after}
+use Rattle.values.specs.Tables.{Schema, full_row}
+use Rattle.values.specs.TableRules.{IsTable}
 use Rattle.std.specs.Option.{option_map}
 use Rattle.values.specs.Fit.{rows_fault, row_fault, key_fault, first_of}
 use Rattle.values.specs.Writes.{Own, Written, write_keys, key_of, insert_into, update_in, delete_from, insert_rows, duplicate, overlapping, duplicate_from, matching_keys, set_all, full_rows}

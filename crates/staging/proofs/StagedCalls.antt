@@ -17,7 +17,8 @@ use Rattle.values.specs.declared.query.Keys.{Keys}
 use Rattle.values.specs.declared.refusal.Refusal.{Refusal}
 use Rattle.values.specs.declared.refusal.Refusal.TheVariants.{TooManyWrites}
 use Rattle.values.specs.Order.{key_cmp}
-use Rattle.values.specs.Log.{State, Net, Row, Changes, apply_net, row_at, rows_after}
+use Rattle.values.specs.Log.{State, Net, Row, Changes, apply_net, row_at}
+use Rattle.values.specs.RowsAfter.{rows_after}
 use Rattle.values.specs.Tables.{Schema, table_at}
 use Rattle.values.specs.Writes.{Written, write_keys, most_written, add_keys}
 use Rattle.values.specs.Versions.{matches}

@@ -13,7 +13,8 @@ use Rattle.std.specs.declared.cmp.Ordering.TheVariants.{Less, Equal, Greater}
 use Rattle.values.specs.declared.key.Key.{Key}
 use Rattle.values.specs.declared.table.Table.{Table}
 use Rattle.values.specs.declared.query.Keys.{Keys}
-use Rattle.values.specs.Log.{Changes, Net, Row, State, row_at, rows_after}
+use Rattle.values.specs.Log.{Changes, Net, Row, State, row_at}
+use Rattle.values.specs.RowsAfter.{rows_after}
 use Rattle.values.specs.Order.{key_cmp, is_key}
 use Rattle.values.specs.Tables.{Schema, table_at}
 use Rattle.values.specs.Versions.{holds, matches}

@@ -16,7 +16,8 @@ use Rattle.values.specs.Event.{Event}
 use Rattle.values.specs.declared.table.Table.{Table}
 use Rattle.values.specs.declared.query.Keys.{Keys}
 use Rattle.values.specs.Order.{key_cmp, is_key}
-use Rattle.values.specs.Log.{State, Row, Changes, row_at, rows_after}
+use Rattle.values.specs.Log.{State, Row, Changes, row_at}
+use Rattle.values.specs.RowsAfter.{rows_after}
 use Rattle.values.specs.Tables.{Schema, table_at}
 use Rattle.values.specs.Writes.{insert_all}
 use Rattle.values.specs.Versions.{matches, holds}

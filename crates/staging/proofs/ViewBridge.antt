@@ -19,7 +19,8 @@ use Rattle.values.specs.declared.key.Point.{Point}
 use Rattle.values.specs.Event.{Event}
 use Rattle.values.specs.declared.table.Table.{Table}
 use Rattle.values.specs.Order.{key_cmp, is_key}
-use Rattle.values.specs.Log.{State, Net, Row, Changes, row_at, apply_net, rows_after}
+use Rattle.values.specs.Log.{State, Net, Row, Changes, row_at, apply_net}
+use Rattle.values.specs.RowsAfter.{rows_after}
 use Rattle.values.specs.Tables.{Schema, table_at}
 use Rattle.values.specs.KeyEncoding.{bytes_of_key}
 use Rattle.values.specs.KeyEncodingLaw.{IsStorable, AreKeyParts}

@@ -4,7 +4,8 @@ use Rattle.values.specs.declared.table.Table.{Table}
 use Rattle.values.specs.declared.refusal.Refusal.{Refusal}
 use Rattle.values.specs.declared.refusal.Refusal.TheVariants.{Memory}
 use Rattle.values.specs.Tables.{Schema, table_at}
-use Rattle.values.specs.Log.{Changes, State, Net, apply_net, rows_after}
+use Rattle.values.specs.Log.{Changes, State, Net, apply_net}
+use Rattle.values.specs.RowsAfter.{rows_after}
 use Rattle.values.specs.Writes.{Own, Written, net_of}
 use Rattle.values.specs.Events.{AreKeysIn}
 use Rattle.tsbtree.specs.View.{TreeState}

@@ -1,6 +1,6 @@
 //! INSERT.
 ghost use Rattle.std.specs.Prelude.{◌≡◌, All, None, IfOk, OnErr, length, map};
-ghost use Rattle.values.specs.Tables.{IsTable};
+ghost use Rattle.values.specs.TableRules.{IsTable};
 ghost use Rattle.values.specs.Fit.{rows_fault};
 ghost use Rattle.values.specs.Memory.{OnlyMemory};
 ghost use Rattle.values.specs.KeyReading.{IsKeyOf};

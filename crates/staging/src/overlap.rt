@@ -1,7 +1,7 @@
 //! INSERT into a table with a period of application time: no two rows of an entity overlap.
 ghost use Rattle.std.specs.Prelude.{◌≡◌, All, IfOk, OnOk, Some, length, map};
 ghost use Rattle.std.specs.List.{list_any};
-ghost use Rattle.values.specs.Tables.{IsTable};
+ghost use Rattle.values.specs.TableRules.{IsTable};
 ghost use Rattle.values.specs.Memory.{OnlyMemory};
 ghost use Rattle.values.specs.KeyReading.{IsKeyOf};
 ghost use Rattle.values.specs.Period.{span_of, overlap};

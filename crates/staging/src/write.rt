@@ -1,6 +1,6 @@
 //! INSERT, UPDATE and DELETE over what a transaction sees.
 ghost use Rattle.std.specs.Prelude.{◌≡◌, OnErr};
-ghost use Rattle.values.specs.Write.{write_to};
+ghost use Rattle.values.specs.Fitting.{write_to};
 ghost use Rattle.values.specs.Events.{AreKeysIn};
 ghost use Rattle.staging.specs.Own.{WhenRead, IsAnswered, own};
 

@@ -8,7 +8,8 @@ use Rattle.values.specs.declared.query.Keys.{Keys}
 use Rattle.values.specs.declared.query.Operator.{Operator}
 use Rattle.values.specs.declared.query.Operator.TheVariants.{Equal, Below, AtMost, Above, AtLeast}
 use Rattle.values.specs.declared.query.Set.{Set}
-use Rattle.values.specs.Names.{table_number, column_number}
+use Rattle.values.specs.Names.{column_number}
+use Rattle.values.specs.TableNumber.{table_number}
 use Rattle.values.specs.Tables.{table_at}
 use Rattle.tokens.specs.Token.{Read, ◌>>=◌}
 use Rattle.statement.specs.Token.{next, symbol_at, word_at, name_at}

@@ -6,7 +6,8 @@ use Rattle.values.specs.declared.key.Key.{Key}
 use Rattle.values.specs.declared.refusal.Refusal.{Refusal}
 use Rattle.values.specs.declared.refusal.Refusal.TheVariants.{NoTable}
 use Rattle.values.specs.Tables.{Schema, table_at}
-use Rattle.values.specs.Fit.{key_fault, IsKeyIn}
+use Rattle.values.specs.Fit.{key_fault}
+use Rattle.values.specs.KeyFit.{IsKeyIn}
 use Rattle.values.specs.Faults.{bad_row}
 use Rattle.steps.specs.Misfit.{key_misfit}
 

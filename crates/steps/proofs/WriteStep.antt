@@ -3,10 +3,11 @@ use Rattle.std.proofs.Common.{◌≡◌, ℕ, refl}
 use Rattle.values.specs.declared.write.Write.{Write}
 use Rattle.values.specs.declared.write.Write.TheVariants.{Insert, Update, Delete, UpdatePortion, DeletePortion}
 use Rattle.values.specs.Tables.{Schema}
-use Rattle.values.specs.Write.{table_of, write_refusal, write_to}
+use Rattle.values.specs.Fitting.{table_of, write_refusal, write_to}
 use Rattle.values.specs.Writes.{Own}
 use Rattle.steps.specs.Misfit.{misfit, misfit_of}
-use Rattle.steps.specs.Write.{step_of, write, write_table}
+use Rattle.steps.specs.Write.{write, write_table}
+use Rattle.steps.specs.StepOf.{step_of}
 
 pub misfit_is : (schema : Schema) (i : ℕ) (w : Write) → misfit schema (step_of i w) ≡ misfit_of schema i (table_of w) (λ table. write_refusal table w)
 misfit_is schema i (Insert number rows) = refl

@@ -3,10 +3,11 @@ ghost use Rattle.std.specs.Prelude.{◌≡◌, ◌≢◌, ℕ, Option, IfOk, IfE
 ghost use Rattle.values.specs.declared.table.Table.{Table};
 ghost use Rattle.values.specs.Columns.{addition_fault};
 ghost use Rattle.values.specs.Faults.{bad_row};
-ghost use Rattle.values.specs.Tables.{table_at, IsTable};
-ghost use Rattle.values.specs.Write.{table_of};
+ghost use Rattle.values.specs.Tables.{table_at};
+ghost use Rattle.values.specs.TableRules.{IsTable};
+ghost use Rattle.values.specs.Fitting.{table_of};
 ghost use Rattle.steps.specs.Misfit.{misfit, misfit_of, key_misfit, no_session, keys_refusal};
-ghost use Rattle.steps.specs.Write.{step_of};
+ghost use Rattle.steps.specs.StepOf.{step_of};
 
 use crate::step::{MAX_SESSION, Step};
 use values::{ColumnType, FittingKeys, FittingWrite, Key, Keys, Refusal, Schema, Table, Write};

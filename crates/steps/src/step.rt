@@ -1,7 +1,7 @@
 //! What is asked of a store, and what it replies.
 ghost use Rattle.std.specs.Prelude.{◌≡◌, ℕ};
 ghost use Rattle.steps.specs.Reply.{write_count};
-ghost use Rattle.steps.specs.Write.{step_of};
+ghost use Rattle.steps.specs.StepOf.{step_of};
 
 use values::{
     Chars, ColumnType, Form, Instant, Key, Keys, Refusal, Rows, Sequence, Sets, ShownRow,

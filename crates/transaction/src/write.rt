@@ -1,6 +1,6 @@
 //! INSERT, UPDATE and DELETE.
 ghost use Rattle.std.specs.Prelude.{◌≡◌, OnErr};
-ghost use Rattle.values.specs.Write.{write_to};
+ghost use Rattle.values.specs.Fitting.{write_to};
 ghost use Rattle.values.specs.Events.{AreKeysIn};
 ghost use Rattle.systime_query.specs.staging.Own.{WhenRead, IsAnswered, own};
 

@@ -6,7 +6,8 @@ use Rattle.std.proofs.lemmas.List.Elements.{All-nil, All-cons, recursion_from_Al
 use Rattle.values.specs.declared.period.Period.{Period}
 use Rattle.values.specs.declared.table.Column.{Column}
 use Rattle.values.specs.declared.table.Table.{Table}
-use Rattle.values.specs.Tables.{IsTable, IsColumnOf, HasInstants, column_at, HasPeriod, IsOutside, IsDistinct, but_last}
+use Rattle.values.specs.Tables.{column_at, but_last}
+use Rattle.values.specs.TableRules.{IsTable, IsColumnOf, HasInstants, HasPeriod, IsOutside, IsDistinct}
 
 distinct_two : (before after : List ℕ) (n : ℕ) → 1 ∷ 2 ∷ [] ≡ before ++ n ∷ after → list_any (λ c. c == n) before ≡ false
 distinct_two [] after n e = refl

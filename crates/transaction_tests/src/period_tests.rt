@@ -1,6 +1,6 @@
 //! Transactions of a table with a period of application time: conflicts are by entity.
 ghost use Rattle.std.specs.Prelude.{IfOk};
-ghost use Rattle.values.specs.Tables.{HasInstants, IsTable};
+ghost use Rattle.values.specs.TableRules.{HasInstants, IsTable};
 
 use crate::sample::nothing_staged;
 use crate::validation_tests::{begin, empty_engine};

@@ -11,7 +11,8 @@ use Rattle.values.specs.Tables.{Schema}
 use Rattle.values.specs.Entity.{unit_of}
 use Rattle.values.specs.Period.{Periods}
 use Rattle.values.specs.Log.{Changes, Net}
-use Rattle.values.specs.Commits.{latest_of, changed_among, unit_changed_since, conflicts, LookUp, conflicts_by, by_unit}
+use Rattle.values.specs.Commits.{latest_of, changed_among, unit_changed_since, LookUp, conflicts_by, by_unit}
+use Rattle.values.specs.ChangedSince.{conflicts}
 use Rattle.values.specs.Events.{events_of, event_of}
 use Rattle.staging.specs.tsbtree.View.{TreeState, events}
 use Rattle.staging.specs.View.{Holds}

@@ -13,11 +13,13 @@ use Rattle.values.specs.declared.table.Table.{Table}
 use Rattle.values.specs.declared.refusal.Refusal.{Refusal}
 use Rattle.values.specs.declared.refusal.Refusal.TheVariants.{Conflict, ClockEnd}
 use Rattle.values.specs.Order.{is_key}
-use Rattle.values.specs.Tables.{Schema, table_at, IsTable}
+use Rattle.values.specs.Tables.{Schema, table_at}
+use Rattle.values.specs.TableRules.{IsTable}
 use Rattle.values.specs.Period.{Periods, periods_of}
 use Rattle.values.specs.Entity.{entity_of, unit_by, unit_of}
 use Rattle.values.specs.Log.{Changes, Net, Row, point_cmp}
-use Rattle.values.specs.Commits.{latest_of, unit_changed_since, conflicts, outcome, max_instant}
+use Rattle.values.specs.Commits.{latest_of, unit_changed_since, outcome, max_instant}
+use Rattle.values.specs.ChangedSince.{conflicts}
 use Rattle.values.specs.KeyEncoding.{bytes_of_key}
 use Rattle.values.specs.KeyReading.{IsKeyOf}
 use Rattle.values.specs.Events.{events_of, event_since, IsKeyOfAny, IsKeyIn, AreKeysIn, AreChangesIn}

@@ -3,7 +3,7 @@
 ghost use Rattle.std.specs.Prelude.{◌≡◌, ◌&&◌, IfOk, is_some, option_copied};
 ghost use Rattle.std.specs.List.{slice_get};
 ghost use Rattle.std.specs.Option.{option_map};
-ghost use Rattle.values.specs.Commits.{conflicts};
+ghost use Rattle.values.specs.ChangedSince.{conflicts};
 ghost use Rattle.values.specs.Entity.{entity_of};
 ghost use Rattle.values.specs.Events.{AreKeysIn, IsKeyIn, event_since};
 ghost use Rattle.values.specs.KeyEncoding.{bytes_of_key};

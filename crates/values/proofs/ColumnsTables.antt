@@ -9,7 +9,8 @@ use Rattle.std.proofs.lemmas.List.Elements.{All-head, All-tail, All-cons, All-ni
 use Rattle.values.specs.declared.period.Period.{Period}
 use Rattle.values.specs.declared.table.Column.{Column}
 use Rattle.values.specs.declared.table.Table.{Table}
-use Rattle.values.specs.Tables.{Schema, table_at, widest, column_at, IsColumnOf, HasInstants, HasPeriod, IsTable, AreTables}
+use Rattle.values.specs.Tables.{Schema, table_at, widest, column_at}
+use Rattle.values.specs.TableRules.{IsColumnOf, HasInstants, HasPeriod, IsTable, AreTables}
 use Rattle.values.specs.Columns.{with_column, table_with, add_column}
 
 longer : (c : Column) (t : Table) → length (with_column c t).columns ≡ length t.columns + 1

@@ -5,7 +5,7 @@ use Rattle.values.specs.declared.value.Value.TheVariants.{Null}
 use Rattle.values.specs.declared.table.Table.{Table}
 use Rattle.values.specs.Log.{Row}
 use Rattle.values.specs.Tables.{widened, full_row}
-use Rattle.values.specs.Columns.{IsWidenedTo}
+use Rattle.values.specs.WiderTable.{IsWidenedTo}
 
 -- a row that is widened twice is as wide as the second time says
 pub widened_twice : (m n : ℕ) (row : Row) → m ≤ n → widened n (widened m row) ≡ widened n row

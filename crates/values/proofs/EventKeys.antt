@@ -16,7 +16,7 @@ use Rattle.values.specs.declared.value.Value.TheVariants.{Int, Text, Bool as Tru
 use Rattle.values.specs.Tables.{Schema, table_at}
 use Rattle.values.specs.Order.{key_cmp, is_key}
 use Rattle.values.specs.Log.{Changes, Net, Row, point_cmp, add_net}
-use Rattle.values.specs.Commits.{changed_since, or_else}
+use Rattle.values.specs.ChangedSince.{changed_since, or_else}
 use Rattle.values.specs.KeyEncoding.{bytes_of_key}
 use Rattle.values.specs.KeyEncodingLaw.{AreKeyParts, IsStorable}
 use Rattle.values.specs.KeyReading.{IsKeyOf}

@@ -8,7 +8,7 @@ use Rattle.values.specs.Log.{Log, State, Row, Changes, add_all, changes, replay,
 use Rattle.values.specs.Versions.{Version, next_change, version_of, versions, ends_after, selects, matches, shown_version}
 use Rattle.values.specs.Law.{Rises, rows_by, StateIsAsOf, StateIsCurrent, AsOfShowsState, AsOfStays, AsOfIsWidened}
 use Rattle.values.specs.declared.query.Keys.{Keys}
-use Rattle.values.specs.Columns.{IsWidenedTo}
+use Rattle.values.specs.WiderTable.{IsWidenedTo}
 use Rattle.values.proofs.ColumnsWiden.{full_twice}
 use Rattle.values.specs.declared.table.Table.{Table}
 use Rattle.values.specs.Tables.{full_row}

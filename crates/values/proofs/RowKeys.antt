@@ -12,7 +12,8 @@ use Rattle.values.specs.declared.table.Column.{Column}
 use Rattle.values.specs.declared.table.Table.{Table}
 use Rattle.values.specs.declared.key.Key.{Key}
 use Rattle.values.specs.Log.{Row}
-use Rattle.values.specs.Tables.{value_at, column_at, is_key_column, IsColumnOf, IsTable}
+use Rattle.values.specs.Tables.{value_at, column_at, is_key_column}
+use Rattle.values.specs.TableRules.{IsColumnOf, IsTable}
 use Rattle.values.specs.Fit.{fits_value, first_fault, row_fault, part_fault, parts_fault, key_fault}
 use Rattle.values.specs.KeyEncoding.{IsShortKey}
 use Rattle.values.specs.RowEncoding.{IsHeld}

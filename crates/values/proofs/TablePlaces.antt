@@ -6,7 +6,8 @@ use Rattle.std.specs.Borrow.{Bor}
 use Rattle.std.proofs.lemmas.Option.{slice_get_read}
 use Rattle.std.proofs.lemmas.Bool.Decides.{nat_tests}
 use Rattle.values.specs.declared.table.Table.{Table}
-use Rattle.values.specs.Tables.{table_at, IsTable, AreTables, IsNumberIn}
+use Rattle.values.specs.Tables.{table_at}
+use Rattle.values.specs.TableRules.{IsTable, AreTables, IsNumberIn}
 
 at_place : (ts : List Table) (n i : ℕ) → AreTables n ts → IfSome (slice_get ts i) (IsTable (n + i))
 at_place [] n i h = tt

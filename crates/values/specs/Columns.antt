@@ -1,5 +1,5 @@
 -- Columns that are added to tables.
-use Rattle.std.specs.Prelude.{◌≡◌, ℕ, List, [], ◌∷◌, ◌++◌, ◌-◌, ◌||◌, ◌&&◌, not, Bool, true, false, Option, Some, None, is_some, length, nat_le, nat_lt, slice_set, if◌then◌else◌}
+use Rattle.std.specs.Prelude.{ℕ, List, [], ◌∷◌, ◌++◌, ◌-◌, ◌||◌, ◌&&◌, not, Bool, true, false, Option, Some, None, is_some, length, nat_le, nat_lt, slice_set, if◌then◌else◌}
 use Rattle.values.specs.declared.table.ColumnType.{ColumnType}
 use Rattle.values.specs.declared.table.ColumnType.TheVariants.{Varchar}
 use Rattle.values.specs.declared.table.Column.{Column}
@@ -56,11 +56,3 @@ add_column number column schema =
       | None ↦ None
       | Some table ↦ Some (with_column column table)
     ])
-
--- the later table is the earlier one, with more columns behind its own or with none
-pub record IsWidenedTo (earlier later : Table) : Type 0 where
-  pub number_is : later.number ≡ earlier.number
-  pub key_is : later.key ≡ earlier.key
-  pub period_is : later.period ≡ earlier.period
-  pub more : List Column
-  pub columns_are : later.columns ≡ earlier.columns ++ more

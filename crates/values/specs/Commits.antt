@@ -11,17 +11,6 @@ use Rattle.values.specs.Entity.{unit_of}
 abbrev pub max_instant : ℕ
 max_instant = 999999999999999999
 
-abbrev pub or_else : Option ℕ → Option ℕ → Option ℕ
-or_else (Some a) b = Some a
-or_else None b = b
-
--- the latest instant above start at which the key was changed: changes of a key are in order, so it is the last
-abbrev pub changed_since : Changes → ℕ → Key → Option ℕ
-changed_since [] start key = None
-changed_since (c ∷ cs) start key =
-    or_else (changed_since cs start key)
-    (if is_key key c.0.key && nat_lt start c.0.instant then Some c.0.instant else None)
-
 -- what tells of a key the latest instant at which it was changed since a transaction's start, if it was
 abbrev pub LookUp : Type 0
 LookUp = Key → Option ℕ
@@ -65,11 +54,6 @@ unit_changed_since periods m start unit =
 -- net changes, each by its unit
 abbrev pub by_unit : Periods → Net → Net
 by_unit periods net = map (λ c. (unit_of periods c.0, c.1)) net
-
--- the units of the net changes that were changed since, each with the latest instant, by key
-abbrev pub conflicts : Periods → Changes → ℕ → Net → List (Key × ℕ)
-conflicts periods m start net =
-    conflicts_by (unit_changed_since periods m start) (by_unit periods net)
 
 -- how a transaction ends, by the changes that were committed and the last instant: of a table with
 -- a period conflicts are by entity, of another by key

@@ -23,6 +23,3 @@ unit_of periods k = unit_by (periods k.table) k
 abbrev pub clash_by : Option Period → (Key × Row) → (Key × Row) → Bool
 clash_by None d e = false
 clash_by (Some p) d e = is_key (entity_of d.0) (entity_of e.0) && overlap (span_of p d.1) (span_of p e.1)
-
-abbrev pub clash : Periods → (Key × Row) → (Key × Row) → Bool
-clash periods d e = clash_by (periods d.0.table) d e

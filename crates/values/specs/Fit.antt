@@ -1,5 +1,5 @@
 -- Whether rows, comparisons and new values fit a table, and which column a refusal names: from 1, or 0 for a width or a name.
-use Rattle.std.specs.Prelude.{◌≡◌, ℕ, List, [], ◌∷◌, ◌++◌, ◌+◌, Option, Some, None, Bool, true, false, nat_le, nat_lt, ◌||◌, ◌&&◌, not, if◌then◌else◌, length, ◌==◌, count_by, IsSomeAnd}
+use Rattle.std.specs.Prelude.{ℕ, List, [], ◌∷◌, ◌++◌, ◌+◌, Option, Some, None, Bool, true, false, nat_le, nat_lt, ◌||◌, ◌&&◌, not, if◌then◌else◌, length, ◌==◌, count_by}
 use Rattle.std.specs.List.{list_any}
 use Rattle.values.specs.declared.value.Value.{Value}
 use Rattle.values.specs.declared.value.Value.TheVariants.{Int, Text, Bool as Truth, Null}
@@ -7,11 +7,10 @@ use Rattle.values.specs.declared.table.ColumnType.{ColumnType}
 use Rattle.values.specs.declared.table.ColumnType.TheVariants.{Int as IsInt, Text as IsText, Varchar as IsVarchar, Boolean as IsBoolean}
 use Rattle.values.specs.declared.table.Column.{Column}
 use Rattle.values.specs.declared.table.Table.{Table}
-use Rattle.values.specs.declared.key.Key.{Key}
 use Rattle.values.specs.declared.query.Comparison.{Comparison}
 use Rattle.values.specs.declared.query.Keys.{Keys}
 use Rattle.values.specs.declared.query.Set.{Set}
-use Rattle.values.specs.Tables.{Schema, table_at, column_at, is_key_column, is_fixed_column}
+use Rattle.values.specs.Tables.{column_at, is_key_column, is_fixed_column}
 use Rattle.values.specs.Log.{Row}
 
 abbrev pub is_line_break : ℕ → Bool
@@ -91,11 +90,6 @@ parts_fault table _ _ = None
 abbrev pub key_fault : Table → List Value → Option ℕ
 key_fault table parts =
     if length table.key == length parts then parts_fault table table.key parts else Some 0
-
--- the key has a table of the schema, and fits it
-abbrev pub IsKeyIn : Schema → Key → Type 0
-IsKeyIn schema key =
-    IsSomeAnd (table_at schema key.table) (λ table. key_fault table key.parts ≡ None)
 
 -- a value that a column can be compared with, however long its own texts are
 abbrev pub can_compare : ColumnType → Value → Bool

@@ -6,7 +6,7 @@ use Rattle.values.specs.declared.value.Value.{Value}
 use Rattle.values.specs.declared.value.Value.TheVariants.{Int, Text, Bool as Truth, Null}
 use Rattle.values.specs.declared.key.Key.{Key}
 use Rattle.values.specs.Fit.{longest_key_text}
-use Rattle.values.specs.Tables.{most_key_columns}
+use Rattle.values.specs.TableRules.{most_key_columns}
 
 -- the place of a whole number among those of 64 bits, from 0: the number plus 2^63
 abbrev pub ordinal_of : ℤ → ℕ

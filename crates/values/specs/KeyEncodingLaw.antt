@@ -10,7 +10,7 @@ use Rattle.values.specs.declared.table.Table.{Table}
 use Rattle.values.specs.declared.key.Key.{Key}
 use Rattle.values.specs.Order.{key_cmp}
 use Rattle.values.specs.Fit.{key_fault}
-use Rattle.values.specs.Tables.{most_key_columns}
+use Rattle.values.specs.TableRules.{most_key_columns}
 use Rattle.values.specs.KeyEncoding.{bytes_of_key, IsShortKey}
 
 -- a whole number has 64 bits, as each that a program holds

@@ -3,7 +3,7 @@ use Rattle.std.specs.Prelude.{◌≡◌, ℕ, Some, None, All}
 use Rattle.values.specs.declared.table.Table.{Table}
 use Rattle.values.specs.declared.key.Key.{Key}
 use Rattle.values.specs.Log.{Row}
-use Rattle.values.specs.Tables.{IsTable}
+use Rattle.values.specs.TableRules.{IsTable}
 use Rattle.values.specs.Fit.{row_fault}
 use Rattle.values.specs.Writes.{key_of}
 use Rattle.values.specs.RowEncoding.{IsHeld}

@@ -6,7 +6,7 @@ use Rattle.values.specs.declared.query.Keys.{Keys}
 use Rattle.values.specs.declared.table.Table.{Table}
 use Rattle.values.specs.Log.{Log, State, Changes, Row, last, upto, state, changes}
 use Rattle.values.specs.Tables.{full_row}
-use Rattle.values.specs.Columns.{IsWidenedTo}
+use Rattle.values.specs.WiderTable.{IsWidenedTo}
 use Rattle.values.specs.Period.{Periods}
 use Rattle.values.specs.Commits.{after}
 use Rattle.values.specs.Versions.{versions, selects, matches, answer}

@@ -1,4 +1,6 @@
+pub mod ChangedSince
 pub mod Chars
+pub mod Clash
 pub mod Columns
 pub mod Commits
 pub mod Each
@@ -9,8 +11,10 @@ pub mod EventOrder
 pub mod Events
 pub mod Faults
 pub mod Fit
+pub mod Fitting
 pub mod KeyEncoding
 pub mod KeyEncodingLaw
+pub mod KeyFit
 pub mod KeyLaw
 pub mod KeyReading
 pub mod Law
@@ -24,9 +28,14 @@ pub mod Portion
 pub mod RowEncoding
 pub mod RowLaw
 pub mod RowReading
+pub mod RowsAfter
 pub mod Sample
 pub mod ShownRow
+pub mod TableNumber
+pub mod TableRules
 pub mod Tables
+pub mod Times
 pub mod Versions
+pub mod WiderTable
 pub mod Write
 pub mod Writes

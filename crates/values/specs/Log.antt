@@ -77,8 +77,3 @@ add_all m (t ∷ log) = add_all (add_net t.instant m t.net) log
 
 abbrev pub changes : Log → Changes
 changes log = add_all [] log
-
--- rows with changes made in turn: those of a key stand in the order of their instants
-abbrev pub rows_after : State → Changes → State
-rows_after m [] = m
-rows_after m (c ∷ cs) = rows_after (set_row c.0.key c.1 m) cs

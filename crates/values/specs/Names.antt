@@ -1,20 +1,13 @@
 -- Names of tables and columns, which are compared without regard to case.
-use Rattle.std.specs.Prelude.{ℕ, List, Bool, false, Option, Some, None, find}
+use Rattle.std.specs.Prelude.{ℕ, List, Bool, false, Option, Some, None}
 use Rattle.std.specs.List.{position_from}
-use Rattle.std.specs.Option.{option_map}
 use Rattle.std.specs.Str.{str_eq_ignore_ascii_case}
 use Rattle.values.specs.declared.period.Period.{Period}
 use Rattle.values.specs.declared.table.Table.{Table}
-use Rattle.values.specs.Tables.{Schema}
 
 -- the same letters, in any case
 abbrev pub same_name : List ℕ → List ℕ → Bool
 same_name x y = str_eq_ignore_ascii_case x y
-
--- the number of the first table with the name
-abbrev pub table_number : Schema → List ℕ → Option ℕ
-table_number schema name =
-    option_map (λ t. t.number) (find (λ t. same_name t.name name) schema.tables)
 
 -- the number of the first column with the name, from 1
 abbrev pub column_number : Table → List ℕ → Option ℕ

@@ -1,5 +1,5 @@
 -- Application time: the spans of rows, which a table's period names by two of its columns.
-use Rattle.std.specs.Prelude.{ℕ, ◌-◌, ℤ, pos, Bool, ◌&&◌, Option, slice_set, int_lt, int_le}
+use Rattle.std.specs.Prelude.{ℕ, ◌-◌, ℤ, pos, Bool, ◌&&◌, Option, slice_set, int_lt}
 use Rattle.std.specs.Int.{int_min, int_max}
 use Rattle.std.specs.Option.{option_and_then}
 use Rattle.values.specs.declared.period.Period.{Period}
@@ -31,14 +31,6 @@ is_span s = int_lt s.from s.to
 -- each starts before the other ends
 abbrev pub overlap : Span → Span → Bool
 overlap s t = int_lt s.from t.to && int_lt t.from s.to
-
--- the point of time is in the span
-abbrev pub is_time_of : Span → ℤ → Bool
-is_time_of s time = int_le s.from time && int_lt time s.to
-
--- the first span lies in the second
-abbrev pub lies_in : Span → Span → Bool
-lies_in s t = int_le t.from s.from && int_le s.to t.to
 
 -- what both have
 abbrev pub common : Span → Span → Span

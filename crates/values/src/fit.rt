@@ -4,7 +4,7 @@ ghost use Rattle.std.specs.List.{list_any};
 ghost use Rattle.values.specs.Columns.{is_name_of, is_good_type, addition_fault};
 ghost use Rattle.values.specs.Tables.{column_at, is_key_column, is_fixed_column, ends_period};
 ghost use Rattle.values.specs.Fit.{is_line_break, continues, character_count, text_limit, fits_text, fits_type, fits_value, row_fault, first_fault, rows_fault, key_fault, part_fault, parts_fault, can_compare, comparison_fault, comparisons_fault, set_fault, sets_fault};
-ghost use Rattle.values.specs.Faults.{no_fault};
+ghost use Rattle.values.specs.Fitting.{no_fault};
 ghost use Rattle.values.specs.Names.{same_name, names_period};
 
 use crate::query::{ColumnNumber, Comparison, Set};

@@ -1,9 +1,9 @@
 //! Statements that fit their table: each is checked once, and its type keeps that it fits.
 ghost use Rattle.std.specs.Prelude.{◌≡◌, ℕ, Option, None, Some, IfOk, IfErr};
-ghost use Rattle.values.specs.Tables.{IsTable};
-ghost use Rattle.values.specs.Faults.{no_fault, unless_refused};
+ghost use Rattle.values.specs.TableRules.{IsTable};
+ghost use Rattle.values.specs.Fitting.{no_fault, unless_refused, table_of, write_refusal};
 ghost use Rattle.values.specs.Fit.{comparisons_fault, update_fault};
-ghost use Rattle.values.specs.Write.{table_of, write_refusal, portion_refusal, rows_refusal, has_bad_span};
+ghost use Rattle.values.specs.Write.{portion_refusal, rows_refusal, has_bad_span};
 
 use crate::period::{Period, Span};
 use crate::query::{Keys, Set};

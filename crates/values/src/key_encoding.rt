@@ -1,7 +1,7 @@
 //! The bytes of keys, in the order of keys.
 ghost use Rattle.std.specs.Prelude.{◌≡◌, ℤ, ◌++◌, ◌∷◌, [], IfOk, OnOk, Option, Some, None, if◌then◌else◌, nat_le, length, ◌<◌};
 ghost use Rattle.values.specs.KeyEncoding.{ordinal_of, text_bytes, part_bytes, bytes_of_key, IsShortKey, longest_key};
-ghost use Rattle.values.specs.Fit.{IsKeyIn};
+ghost use Rattle.values.specs.KeyFit.{IsKeyIn};
 ghost use Rattle.values.specs.Memory.{OnlyMemory};
 
 use crate::key::Key;

@@ -2,9 +2,10 @@
 ghost use Rattle.std.specs.Prelude.{◌≡◌, ◌<◌, length, IfErr, IfOk, IfSome, OnErr, OnOk, option_copied};
 ghost use Rattle.values.specs.Columns.{add_column};
 ghost use Rattle.values.specs.Memory.{OnlyMemory};
-ghost use Rattle.values.specs.Names.{table_number};
+ghost use Rattle.values.specs.TableNumber.{table_number};
 ghost use Rattle.values.specs.Sample.{sample};
-ghost use Rattle.values.specs.Tables.{table_at, widest, IsTable, IsNumberIn, AreTables};
+ghost use Rattle.values.specs.Tables.{table_at, widest};
+ghost use Rattle.values.specs.TableRules.{IsTable, IsNumberIn, AreTables};
 
 use crate::refusal::Mem;
 use crate::table::{Column, Table, same_name};
@@ -19,7 +20,8 @@ pub struct Schema {
 }
 
 impl Model for Schema {
-    ghost use Rattle.values.specs.Tables.{Schema as Tables, AreTables};
+    ghost use Rattle.values.specs.Tables.{Schema as Tables};
+    ghost use Rattle.values.specs.TableRules.{AreTables};
 
     ghost Value = { Tables };
 

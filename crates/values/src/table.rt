@@ -1,7 +1,9 @@
 //! Tables and their columns.
 ghost use Rattle.std.specs.Prelude.{◌≡◌, IfOk, IfSome, All, option_copied};
-ghost use Rattle.values.specs.Tables.{table_at, value_at, IsTable, IsNumberIn, AreTables};
-ghost use Rattle.values.specs.Names.{same_name, table_number, column_number};
+ghost use Rattle.values.specs.Tables.{table_at, value_at};
+ghost use Rattle.values.specs.TableRules.{IsTable, IsNumberIn, AreTables};
+ghost use Rattle.values.specs.Names.{same_name, column_number};
+ghost use Rattle.values.specs.TableNumber.{table_number};
 ghost use Rattle.values.specs.Writes.{key_of};
 ghost use Rattle.values.specs.RowEncoding.{IsHeld};
 ghost use Rattle.values.specs.Memory.{OnlyMemory};

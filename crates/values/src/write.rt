@@ -1,6 +1,6 @@
 //! What an INSERT, an UPDATE or a DELETE writes.
 ghost use Rattle.std.specs.Prelude.{◌≡◌};
-ghost use Rattle.values.specs.Write.{table_of};
+ghost use Rattle.values.specs.Fitting.{table_of};
 
 use crate::period::Span;
 use crate::query::{Keys, Set};

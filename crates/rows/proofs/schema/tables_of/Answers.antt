@@ -1,6 +1,6 @@
 use Rattle.std.proofs.Common.{◌≡◌, Some, subst, sym, arith}
 use Rattle.std.proofs.lemmas.Grind.{common_steps}
-use Rattle.values.specs.Tables.{AreTables}
+use Rattle.values.specs.TableRules.{AreTables}
 use Rattle.rows.specs.SchemaTable.{next_table}
 use Rattle.rows.proofs.SchemaTablesMade.{with_next}
 use Rattle.rows.proofs.schema.tables_of.Goals as goal

@@ -1,5 +1,5 @@
 use Rattle.std.proofs.Common.{◌≡◌, [], drop}
-use Rattle.values.specs.Tables.{AreTables}
+use Rattle.values.specs.TableRules.{AreTables}
 use Rattle.rows.specs.SchemaTable.{tables_from}
 use Rattle.rows.proofs.schema.tables_of.Given as goal
 

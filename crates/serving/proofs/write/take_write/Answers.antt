@@ -1,5 +1,5 @@
 use Rattle.std.proofs.Common.{Ok, Err}
-use Rattle.steps.specs.Write.{step_of}
+use Rattle.steps.specs.StepOf.{step_of}
 use Rattle.serving.proofs.WriteSteps.{may_write, takes_write, write_stepped}
 use Rattle.serving.proofs.write.take_write.Goals as goal
 

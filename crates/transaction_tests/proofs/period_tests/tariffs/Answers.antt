@@ -1,6 +1,6 @@
 use Rattle.std.proofs.Common.{rules, ◌≡◌, [], ◌∷◌, length, refl, All, sym, subst}
 use Rattle.std.proofs.lemmas.List.Elements.{All-nil, All-cons}
-use Rattle.values.specs.Tables.{HasInstants}
+use Rattle.values.specs.TableRules.{HasInstants}
 use Rattle.transaction_tests.proofs.PeriodTestsTable.{good}
 use Rattle.transaction_tests.proofs.period_tests.tariffs.Goals as goal
 

@@ -1,7 +1,8 @@
 use Rattle.std.proofs.Common.{rules, ◌≡◌, IfOk, Some, None, subst}
 use Rattle.std.proofs.lemmas.Result.{IfOk-weaker}
 use Rattle.std.specs.Option.{option_map}
-use Rattle.values.specs.Tables.{table_at, IsTable}
+use Rattle.values.specs.Tables.{table_at}
+use Rattle.values.specs.TableRules.{IsTable}
 use Rattle.values.specs.Events.{IsKeyIn, event_since}
 use Rattle.values.specs.KeyEncoding.{bytes_of_key}
 use Rattle.values.specs.Log.{Changes}

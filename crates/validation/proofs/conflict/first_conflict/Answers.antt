@@ -1,6 +1,6 @@
 use Rattle.std.proofs.Common.{rules, ◌≡◌, ◌<◌, ◌≤◌, ◌+◌, suc, Some, None, sym, ap, ◌∙◌, arith, length, get_or, drop}
 use Rattle.std.specs.List.{slice_get}
-use Rattle.values.specs.Commits.{conflicts}
+use Rattle.values.specs.ChangedSince.{conflicts}
 use Rattle.values.specs.Period.{periods_of}
 use Rattle.validation.specs.Conflict.{conflict_of}
 use Rattle.validation.proofs.ConflictNone.{none_since}

@@ -1,6 +1,6 @@
 use Rattle.std.proofs.Common.{◌≡◌, drop, option_copied}
 use Rattle.std.specs.List.{slice_get}
-use Rattle.values.specs.Commits.{conflicts}
+use Rattle.values.specs.ChangedSince.{conflicts}
 use Rattle.values.specs.Events.{AreKeysIn}
 use Rattle.values.specs.Log.{Changes}
 use Rattle.values.specs.Period.{periods_of}

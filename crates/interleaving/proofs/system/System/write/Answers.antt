@@ -1,9 +1,10 @@
 use Rattle.std.proofs.Common.{◌≤◌, ap, ◌∙◌, sym, subst}
-use Rattle.values.specs.Tables.{IsTable, table_at}
-use Rattle.values.specs.Write.{table_of}
+use Rattle.values.specs.Tables.{table_at}
+use Rattle.values.specs.TableRules.{IsTable}
+use Rattle.values.specs.Fitting.{table_of}
 use Rattle.steps.specs.Reply.{written_reply}
 use Rattle.steps.specs.Misfit.{max_session}
-use Rattle.steps.specs.Write.{step_of}
+use Rattle.steps.specs.StepOf.{step_of}
 use Rattle.histories.proofs.HistoryIdle.{fits_table}
 use Rattle.histories.proofs.TurnWritten.{turn_is}
 use Rattle.steps.proofs.WriteStep.{misfit_is}

@@ -1,6 +1,6 @@
 use Rattle.std.proofs.Common.{sym, ap, ◌∙◌, Some}
 use Rattle.values.specs.Tables.{table_at}
-use Rattle.values.specs.Write.{table_of}
+use Rattle.values.specs.Fitting.{table_of}
 use Rattle.sessions.specs.SessionState.{SessionTransactionState}
 use Rattle.sessions.proofs.SessionWriting.{same_writes, with_new, written_is}
 use Rattle.sessions.proofs.session.Session.write.Goals as goal

@@ -2,7 +2,8 @@ use Rattle.std.proofs.Common.{rules, ◌≡◌, [], ap, filter, filter_map, subs
 use Rattle.std.proofs.lemmas.Result.{IfOk-weaker}
 use Rattle.std.specs.List.Sorted.{IsStrictlySortedBy}
 use Rattle.std.specs.Map.{keys_of}
-use Rattle.values.specs.Log.{Net, apply_net, rows_after}
+use Rattle.values.specs.Log.{Net, apply_net}
+use Rattle.values.specs.RowsAfter.{rows_after}
 use Rattle.values.specs.Order.{key_cmp}
 use Rattle.values.specs.Versions.{matches}
 use Rattle.keyrange.specs.Range.{is_key_in}

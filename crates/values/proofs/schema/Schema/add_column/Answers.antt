@@ -1,5 +1,6 @@
 use Rattle.std.proofs.Common.{◌≡◌, ◌<◌, length, IfSome, refl, sym, subst, arith, ap, ◌∙◌}
-use Rattle.values.specs.Tables.{table_at, widest, AreTables}
+use Rattle.values.specs.Tables.{table_at, widest}
+use Rattle.values.specs.TableRules.{AreTables}
 use Rattle.values.specs.Columns.{add_column}
 use Rattle.values.proofs.ColumnsTables.{added_are_tables, added_in_place, added_nowhere}
 use Rattle.values.proofs.schema.Schema.add_column.Goals as goal

@@ -1,6 +1,7 @@
 use Rattle.std.proofs.Common.{List, subst, sym}
 use Rattle.values.specs.declared.table.Table.{Table}
-use Rattle.values.specs.Tables.{Schema, IsNumberIn, AreTables}
+use Rattle.values.specs.Tables.{Schema}
+use Rattle.values.specs.TableRules.{IsNumberIn, AreTables}
 use Rattle.values.proofs.TablePlaces.{is_known}
 use Rattle.values.proofs.schema.Schema.table.Goals as goal
 

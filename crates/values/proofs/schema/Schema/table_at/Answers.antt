@@ -1,6 +1,6 @@
 use Rattle.std.proofs.Common.{List, subst, sym}
 use Rattle.values.specs.declared.table.Table.{Table}
-use Rattle.values.specs.Tables.{AreTables}
+use Rattle.values.specs.TableRules.{AreTables}
 use Rattle.values.proofs.TablePlaces.{is_at_place}
 use Rattle.values.proofs.schema.Schema.table_at.Goals as goal
 
