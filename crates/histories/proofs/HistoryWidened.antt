@@ -11,7 +11,7 @@ use Rattle.values.specs.declared.refusal.Refusal.TheVariants.{NoTable, NoSession
 use Rattle.values.specs.Tables.{Schema, table_at, column_at, is_key_column, full_row}
 use Rattle.values.specs.WiderTable.{IsWidenedTo}
 use Rattle.values.specs.Faults.{bad_row}
-use Rattle.values.specs.Fit.{can_compare, comparison_fault, comparisons_fault}
+use Rattle.values.specs.Fit.{can_compare, comparison_fault, comparisons_fault, first_of}
 use Rattle.values.specs.Log.{Log, changes, upto}
 use Rattle.values.specs.Law.{IsLog, shown_rows}
 use Rattle.values.proofs.LawAsOf.{as_of_shows_state, as_of_is_widened}
@@ -70,10 +70,10 @@ comparisons_stay : (table wider : Table) (cs : List Comparison) → IsWidenedTo 
 comparisons_stay table wider [] grows is = refl
 comparisons_stay table wider (c ∷ cs) grows is = by (comparison_fault table c) refl is (comparisons_stay table wider cs grows)
   where
-    by : (o : Option ℕ) → comparison_fault table c ≡ o → ◌≡◌ {A = Option ℕ} (elim o [ Some n ↦ Some n | None ↦ comparisons_fault table cs ]) None
+    by : (o : Option ℕ) → comparison_fault table c ≡ o → ◌≡◌ {A = Option ℕ} (first_of o (comparisons_fault table cs)) None
         → (comparisons_fault table cs ≡ None → comparisons_fault wider cs ≡ None) → comparisons_fault wider (c ∷ cs) ≡ None
     by None at is rest =
-        ap (λ (o : Option ℕ). let r : Option ℕ = elim o [ Some n ↦ Some n | None ↦ comparisons_fault wider cs ] in r) (comparison_stays table wider c grows at) ∙ rest is
+        ap (λ (o : Option ℕ). let r : Option ℕ = first_of o (comparisons_fault wider cs) in r) (comparison_stays table wider c grows at) ∙ rest is
     by (Some n) at is rest = cc
 
 -- ---- the replies

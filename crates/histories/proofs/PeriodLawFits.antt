@@ -46,7 +46,7 @@ row_width table row e = by (length table.columns == length row) refl e
     by true same e = grind (arith, nat_tests)
     by false same e = cc
 
-both_none : (a b : Option ℕ) → ◌≡◌ {A = Option ℕ} (elim a [ Some n ↦ Some n | None ↦ b ]) None → (a ≡ None) × (b ≡ None)
+both_none : (a b : Option ℕ) → ◌≡◌ {A = Option ℕ} (first_of a b) None → (a ≡ None) × (b ≡ None)
 both_none None b e = (refl, e)
 both_none (Some n) b e = cc
 

@@ -128,11 +128,11 @@ bad_last (Some p) rows row = list_any-append (λ row. not (is_span (span_of p ro
 
 -- rows that fit, and one more that does
 pub fit_more : (table : Table) (rows : List Row) (row : Row) → rows_fault table rows ≡ None → row_fault table row ≡ None → rows_fault table (rows ++ row ∷ []) ≡ None
-fit_more table [] row none fits = ap (λ found. elim found [ Some n ↦ Some n | None ↦ None ]) fits
+fit_more table [] row none fits = ap (λ found. first_of found None) fits
 fit_more table (x ∷ rows) row none fits = by (row_fault table x) none (λ h. fit_more table rows row h fits)
   where
-    by : (found : Option ℕ) → ◌≡◌ {A = Option ℕ} (elim found [ Some n ↦ Some n | None ↦ rows_fault table rows ]) None → (rows_fault table rows ≡ None → rows_fault table (rows ++ row ∷ []) ≡ None)
-        → ◌≡◌ {A = Option ℕ} (elim found [ Some n ↦ Some n | None ↦ rows_fault table (rows ++ row ∷ []) ]) None
+    by : (found : Option ℕ) → ◌≡◌ {A = Option ℕ} (first_of found (rows_fault table rows)) None → (rows_fault table rows ≡ None → rows_fault table (rows ++ row ∷ []) ≡ None)
+        → ◌≡◌ {A = Option ℕ} (first_of found (rows_fault table (rows ++ row ∷ []))) None
     by (Some n) none more = cc none
     by None none more = more none
 

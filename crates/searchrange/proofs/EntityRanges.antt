@@ -15,7 +15,7 @@ use Rattle.values.specs.declared.query.Comparison.{Comparison}
 use Rattle.values.specs.declared.query.Keys.{Keys}
 use Rattle.values.specs.Tables.{column_at, is_key_column, but_last}
 use Rattle.values.specs.TableRules.{IsDistinct, HasPeriod, IsTable}
-use Rattle.values.specs.Fit.{fits_type, fits_value, fits_text, part_fault, parts_fault, key_fault, can_compare, comparison_fault, comparisons_fault, longest_key_text}
+use Rattle.values.specs.Fit.{fits_type, fits_value, fits_text, part_fault, parts_fault, key_fault, can_compare, comparison_fault, comparisons_fault, longest_key_text, first_of}
 use Rattle.values.specs.Versions.{matches}
 use Rattle.values.specs.KeyEncoding.{bytes_of_key}
 use Rattle.keyrange.specs.Range.{is_key_in}
@@ -106,7 +106,7 @@ good_one table n v fits own = by (column_at table n) fits
 fault_first : (table : Table) (n : ℕ) (ns : List ℕ) (v : Value) (vs : List Value) → parts_fault table (n ∷ ns) (v ∷ vs) ≡ None → (part_fault table n v ≡ None) × (parts_fault table ns vs ≡ None)
 fault_first table n ns v vs e = by (part_fault table n v) e
   where
-    by : (o : Option ℕ) → ◌≡◌ {A = Option ℕ} (elim o [ Some column ↦ Some column | None ↦ parts_fault table ns vs ]) None → (o ≡ None) × (parts_fault table ns vs ≡ None)
+    by : (o : Option ℕ) → ◌≡◌ {A = Option ℕ} (first_of o (parts_fault table ns vs)) None → (o ≡ None) × (parts_fault table ns vs ≡ None)
     by None e = (refl, e)
     by (Some c) e = cc
 
@@ -116,7 +116,7 @@ all_good table (n ∷ ns) [] fits own = refl
 all_good table (n ∷ ns) (v ∷ []) fits own = refl
 all_good table (n ∷ ns) (v ∷ w ∷ vs) fits own =
     let here = fault_first table n ns v (w ∷ vs) fits in
-    ap (λ o. elim o as (λ _. Option ℕ) [ Some x ↦ Some x | None ↦ comparisons_fault table (equalities ns (but_last (w ∷ vs))) ]) (good_one table n v here.0 (and_first (is_key_column table n) _ own))
+    ap (λ o. first_of o (comparisons_fault table (equalities ns (but_last (w ∷ vs))))) (good_one table n v here.0 (and_first (is_key_column table n) _ own))
     ∙ all_good table ns (w ∷ vs) here.1 (second_of (is_key_column table n) _ own)
   where
     second_of : (a b : Bool) → (a && b) ≡ true → b ≡ true

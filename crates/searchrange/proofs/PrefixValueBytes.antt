@@ -16,7 +16,7 @@ use Rattle.values.specs.declared.table.ColumnType.TheVariants.{Int as IsInt, Tex
 use Rattle.values.specs.declared.table.Table.{Table}
 use Rattle.values.specs.declared.key.Key.{Key}
 use Rattle.values.specs.Order.{value_cmp}
-use Rattle.values.specs.Fit.{fits_type, fits_text, is_line_break, fits_value, can_compare, character_count, key_fault}
+use Rattle.values.specs.Fit.{fits_type, fits_text, is_line_break, fits_value, can_compare, character_count, key_fault, first_of}
 use Rattle.values.specs.RowEncoding.{IsHeld}
 use Rattle.values.specs.KeyEncoding.{text_bytes, part_bytes, bytes_of_key, IsShort}
 use Rattle.values.specs.KeyEncodingLaw.{IsStorable, AreKeyParts}
@@ -49,7 +49,7 @@ fits_one (IsVarchar n) Null e = e
 fits_one IsBoolean Null e = e
 
 no_fault : (of : ColumnType) (v : Value) → fits_type 200 of v ≡ true → key_fault (one_table of) (v ∷ []) ≡ None
-no_fault of v e = ap (λ t. elim (if t then None else Some 1) [ Some column ↦ Some column | None ↦ None ]) (fits_one of v e)
+no_fault of v e = ap (λ t. first_of (if t then None else Some 1) None) (fits_one of v e)
 
 then_none : (o : Ordering) → ordering_then o Equal ≡ o
 then_none Less = refl

@@ -12,7 +12,7 @@ use Rattle.values.specs.declared.table.Table.{Table}
 use Rattle.values.specs.declared.key.Key.{Key}
 use Rattle.values.specs.Tables.{column_at, but_last}
 use Rattle.values.specs.TableRules.{HasPeriod}
-use Rattle.values.specs.Fit.{fits_type, fits_value, part_fault, parts_fault}
+use Rattle.values.specs.Fit.{fits_type, fits_value, part_fault, parts_fault, first_of}
 use Rattle.values.specs.KeyEncoding.{IsShort, IsShortKey}
 use Rattle.values.specs.KeyReading.{IsKeyOf}
 use Rattle.values.specs.RowEncoding.{IsHeld}
@@ -63,13 +63,13 @@ module _ (table : Table) (p : Period) (has : HasPeriod table p) (start : ℤ) wh
   last_fits : (ns : List ℕ) (vs : List Value) → length (ns ++ p.from ∷ []) ≡ length vs → parts_fault table (ns ++ p.from ∷ []) vs ≡ None → parts_fault table (ns ++ p.from ∷ []) (but_last vs ++ Int start ∷ []) ≡ None
   last_fits [] [] same fits = absurd (omega arith)
   last_fits [] (v ∷ []) same fits =
-      ap (λ (o : Option ℕ). elim o [ Some column ↦ Some column | None ↦ None ]) (start_fits v (first_none (part_fault table p.from v) None fits).0)
+      ap (λ (o : Option ℕ). first_of o None) (start_fits v (first_none (part_fault table p.from v) None fits).0)
   last_fits [] (v ∷ w ∷ vs) same fits = absurd (omega arith)
   last_fits (n ∷ ns) [] same fits = absurd (omega arith)
   last_fits (n ∷ ns) (v ∷ []) same fits = absurd (omega (arith, length-append ns (p.from ∷ [])))
   last_fits (n ∷ ns) (v ∷ w ∷ vs) same fits =
       let both : (part_fault table n v ≡ None) × (parts_fault table (ns ++ p.from ∷ []) (w ∷ vs) ≡ None) = first_none (part_fault table n v) (parts_fault table (ns ++ p.from ∷ []) (w ∷ vs)) fits in
-      ap (λ (o : Option ℕ). elim o [ Some column ↦ Some column | None ↦ parts_fault table (ns ++ p.from ∷ []) (but_last (w ∷ vs) ++ Int start ∷ []) ]) both.0
+      ap (λ (o : Option ℕ). first_of o (parts_fault table (ns ++ p.from ∷ []) (but_last (w ∷ vs) ++ Int start ∷ []))) both.0
       ∙ last_fits ns (w ∷ vs) (omega arith) both.1
 
   pub start_own : (k : Key) → IsKeyOf table k → IsHeld (Int start) → IsKeyOf table (with_start k start)

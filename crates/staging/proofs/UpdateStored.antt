@@ -10,7 +10,7 @@ use Rattle.values.specs.declared.table.Table.{Table}
 use Rattle.values.specs.declared.query.Set.{Set}
 use Rattle.values.specs.Log.{Row}
 use Rattle.values.specs.Tables.{column_at, is_fixed_column}
-use Rattle.values.specs.Fit.{fits_value, set_fault, sets_fault}
+use Rattle.values.specs.Fit.{fits_value, set_fault, sets_fault, first_of}
 use Rattle.values.specs.Writes.{set_all}
 use Rattle.values.specs.RowEncoding.{IsStored, IsStoredRow}
 use Rattle.staging.specs.Staged.{SetsOneOf}
@@ -72,7 +72,7 @@ fitting_stored : (table : Table) (earlier sets : List Set) → sets_fault table 
 fitting_stored table earlier [] e = tt
 fitting_stored table earlier (s ∷ sets) e = by (set_fault table earlier s) refl e (fitting_stored table (earlier ++ s ∷ []) sets)
   where
-    by : (o : Option ℕ) → set_fault table earlier s ≡ o → ◌≡◌ {A = Option ℕ} (elim o [ Some n ↦ Some n | None ↦ sets_fault table (earlier ++ s ∷ []) sets ]) None
+    by : (o : Option ℕ) → set_fault table earlier s ≡ o → ◌≡◌ {A = Option ℕ} (first_of o (sets_fault table (earlier ++ s ∷ []) sets)) None
         → (sets_fault table (earlier ++ s ∷ []) sets ≡ None → AllByRecursion (λ s. IsStored s.value) sets) → AllByRecursion (λ s. IsStored s.value) (s ∷ sets)
     by (Some n) at e rest = cc
     by None at e rest = (one_stored table earlier s at, rest e)
@@ -110,7 +110,7 @@ fitting_within : (table : Table) (earlier sets : List Set) → sets_fault table 
 fitting_within table earlier [] e = tt
 fitting_within table earlier (s ∷ sets) e = by (set_fault table earlier s) refl e (fitting_within table (earlier ++ s ∷ []) sets)
   where
-    by : (o : Option ℕ) → set_fault table earlier s ≡ o → ◌≡◌ {A = Option ℕ} (elim o [ Some n ↦ Some n | None ↦ sets_fault table (earlier ++ s ∷ []) sets ]) None
+    by : (o : Option ℕ) → set_fault table earlier s ≡ o → ◌≡◌ {A = Option ℕ} (first_of o (sets_fault table (earlier ++ s ∷ []) sets)) None
         → (sets_fault table (earlier ++ s ∷ []) sets ≡ None → AllByRecursion (SetsOneOf (length table.columns)) sets) → AllByRecursion (SetsOneOf (length table.columns)) (s ∷ sets)
     by (Some n) at e rest = cc
     by None at e rest = (one_within table earlier s at, rest e)

@@ -8,7 +8,7 @@ use Rattle.values.specs.declared.table.Column.{Column}
 use Rattle.values.specs.declared.table.Table.{Table}
 use Rattle.values.specs.declared.key.Key.{Key}
 use Rattle.values.specs.Tables.{Schema, table_at, column_at}
-use Rattle.values.specs.Fit.{fits_value, part_fault, parts_fault}
+use Rattle.values.specs.Fit.{fits_value, part_fault, parts_fault, first_of}
 use Rattle.values.specs.KeyReading.{IsKeyOf}
 use Rattle.values.specs.Events.{IsKeyOfAny, IsKeyIn}
 use Rattle.values.specs.Columns.{with_column, table_with, add_column}
@@ -38,9 +38,9 @@ parts_stay c t [] vs is = refl
 parts_stay c t (n ∷ ns) [] is = refl
 parts_stay c t (n ∷ ns) (v ∷ vs) is = by (part_fault t n v) refl is (parts_stay c t ns vs)
   where
-    by : (o : Option ℕ) → part_fault t n v ≡ o → ◌≡◌ {A = Option ℕ} (elim o [ Some column ↦ Some column | None ↦ parts_fault t ns vs ]) None
+    by : (o : Option ℕ) → part_fault t n v ≡ o → ◌≡◌ {A = Option ℕ} (first_of o (parts_fault t ns vs)) None
         → (parts_fault t ns vs ≡ None → parts_fault (with_column c t) ns vs ≡ None) → parts_fault (with_column c t) (n ∷ ns) (v ∷ vs) ≡ None
-    by None at is more = ap (λ (o : Option ℕ). let r : Option ℕ = elim o [ Some column ↦ Some column | None ↦ parts_fault (with_column c t) ns vs ] in r) (part_stays c t n v at) ∙ more is
+    by None at is more = ap (λ (o : Option ℕ). let r : Option ℕ = first_of o (parts_fault (with_column c t) ns vs) in r) (part_stays c t n v at) ∙ more is
     by (Some k) at is more = cc
 
 -- a key of a table stays one of it

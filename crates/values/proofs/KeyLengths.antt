@@ -13,7 +13,7 @@ use Rattle.values.specs.declared.table.ColumnType.{ColumnType}
 use Rattle.values.specs.declared.table.ColumnType.TheVariants.{Int as IsInt, Text as IsText, Varchar as IsVarchar, Boolean as IsBoolean}
 use Rattle.values.specs.declared.key.Key.{Key}
 use Rattle.values.specs.Tables.{column_at}
-use Rattle.values.specs.Fit.{fits_type, fits_text, fits_value, part_fault, parts_fault, key_fault, character_count}
+use Rattle.values.specs.Fit.{fits_type, fits_text, fits_value, part_fault, parts_fault, key_fault, character_count, first_of}
 use Rattle.values.specs.KeyEncoding.{text_bytes, part_bytes, bytes_of_key, IsShort, IsShortKey}
 
 one_more : (b : ℕ) (z : Bool) (bs : List ℕ) (n : ℕ) → length (text_bytes bs) ≤ 2 * n + 2 → length (if z then 0 ∷ 255 ∷ text_bytes bs else b ∷ text_bytes bs) ≤ 2 * (n + 1) + 2
@@ -86,7 +86,7 @@ part_fits table n v e = found (column_at table n) refl e
     found (Some c) at h = record { column = c; found = at; typed = value_typed c v (tested c n v (fits_value true c v) refl h) }
 
 -- no fault of the first and the others is none of either
-pub first_none : (o p : Option ℕ) → ◌≡◌ {A = Option ℕ} (elim o [ Some n ↦ Some n | None ↦ p ]) None → (o ≡ None) × (p ≡ None)
+pub first_none : (o p : Option ℕ) → ◌≡◌ {A = Option ℕ} (first_of o p) None → (o ≡ None) × (p ≡ None)
 first_none None p e = (refl, e)
 first_none (Some n) p e = cc
 

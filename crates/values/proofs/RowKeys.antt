@@ -14,7 +14,7 @@ use Rattle.values.specs.declared.key.Key.{Key}
 use Rattle.values.specs.Log.{Row}
 use Rattle.values.specs.Tables.{value_at, column_at, is_key_column}
 use Rattle.values.specs.TableRules.{IsColumnOf, IsTable}
-use Rattle.values.specs.Fit.{fits_value, first_fault, row_fault, part_fault, parts_fault, key_fault}
+use Rattle.values.specs.Fit.{fits_value, first_fault, row_fault, part_fault, parts_fault, key_fault, first_of}
 use Rattle.values.specs.KeyEncoding.{IsShortKey}
 use Rattle.values.specs.RowEncoding.{IsHeld}
 use Rattle.values.specs.KeyReading.{IsKeyOf}
@@ -78,7 +78,7 @@ part_at table row n fits own in_key =
 parts_at : (table : Table) (row : Row) (ns : List ℕ) → FitsRow table row → All (IsColumnOf table) ns → All (λ n. is_key_column table n ≡ true) ns → parts_fault table ns (map (value_at row) ns) ≡ None
 parts_at table row [] fits own in_key = refl
 parts_at table row (n ∷ ns) fits own in_key =
-    ap (λ (o : Option ℕ). elim o [ Some column ↦ Some column | None ↦ parts_fault table ns (map (value_at row) ns) ])
+    ap (λ (o : Option ℕ). first_of o (parts_fault table ns (map (value_at row) ns)))
     (part_at table row n fits (All-head (IsColumnOf table) n ns own) (All-head (λ n. is_key_column table n ≡ true) n ns in_key))
     ∙ parts_at table row ns fits (All-tail (IsColumnOf table) n ns own) (All-tail (λ n. is_key_column table n ≡ true) n ns in_key)
 

@@ -63,13 +63,15 @@ abbrev pub row_fault : Table → Row → Option ℕ
 row_fault table row =
     if length table.columns == length row then first_fault table 1 table.columns row else Some 0
 
+-- one fault or refusal, or where there is none the next
+abbrev pub first_of : {A : Type 0} → Option A → Option A → Option A
+first_of (Some n) other = Some n
+first_of None other = other
+
 -- the first fault of rows in turn
 abbrev pub rows_fault : Table → List Row → Option ℕ
 rows_fault table [] = None
-rows_fault table (row ∷ rows) = elim (row_fault table row) [
-  | Some n ↦ Some n
-  | None ↦ rows_fault table rows
-]
+rows_fault table (row ∷ rows) = first_of (row_fault table row) (rows_fault table rows)
 
 -- the key column where its value does not fit
 abbrev pub part_fault : Table → ℕ → Value → Option ℕ
@@ -80,10 +82,7 @@ part_fault table n v = elim (column_at table n) [
 
 -- the first of them; the values stand in the key's order
 abbrev pub parts_fault : Table → List ℕ → List Value → Option ℕ
-parts_fault table (n ∷ ns) (v ∷ vs) = elim (part_fault table n v) [
-  | Some column ↦ Some column
-  | None ↦ parts_fault table ns vs
-]
+parts_fault table (n ∷ ns) (v ∷ vs) = first_of (part_fault table n v) (parts_fault table ns vs)
 parts_fault table _ _ = None
 
 -- the width of a key comes first
@@ -104,12 +103,10 @@ comparison_fault table c = elim (column_at table c.column) [
       else Some c.column
 ]
 
+-- the first fault of comparisons in turn
 abbrev pub comparisons_fault : Table → List Comparison → Option ℕ
 comparisons_fault table [] = None
-comparisons_fault table (c ∷ cs) = elim (comparison_fault table c) [
-  | Some n ↦ Some n
-  | None ↦ comparisons_fault table cs
-]
+comparisons_fault table (c ∷ cs) = first_of (comparison_fault table c) (comparisons_fault table cs)
 
 -- the name comes before the value: no column, or one that an earlier entry sets, is a fault of the name
 abbrev pub set_fault : Table → List Set → Set → Option ℕ
@@ -125,15 +122,8 @@ set_fault table earlier s = elim (column_at table s.column) [
 -- the first fault of what an UPDATE sets, after these entries
 abbrev pub sets_fault : Table → List Set → List Set → Option ℕ
 sets_fault table earlier [] = None
-sets_fault table earlier (s ∷ sets) = elim (set_fault table earlier s) [
-  | Some n ↦ Some n
-  | None ↦ sets_fault table (earlier ++ s ∷ []) sets
-]
-
--- one fault or refusal, or where there is none the next
-abbrev pub first_of : {A : Type 0} → Option A → Option A → Option A
-first_of (Some n) other = Some n
-first_of None other = other
+sets_fault table earlier (s ∷ sets) =
+    first_of (set_fault table earlier s) (sets_fault table (earlier ++ s ∷ []) sets)
 
 -- the first fault of an UPDATE: new values come before comparisons
 abbrev pub update_fault : Table → Keys → List Set → Option ℕ
