@@ -7,8 +7,9 @@ use Rattle.values.specs.declared.table.Column.{Column}
 use Rattle.values.specs.declared.table.Table.{Table}
 use Rattle.values.specs.Tables.{Schema, table_at}
 use Rattle.values.specs.Period.{periods_of}
-use Rattle.values.specs.Columns.{new_column, with_column, table_with, add_column}
+use Rattle.values.specs.Columns.{new_column, with_column, add_column}
 use Rattle.values.specs.WiderTable.{IsWidenedTo}
+use Rattle.values.proofs.ColumnsTables.{added_by}
 use Rattle.steps.specs.declared.step.Step.{Step}
 use Rattle.steps.specs.declared.step.Step.TheVariants.{Begin, Insert, Update, Delete, UpdatePortion, DeletePortion, Select, Commit, Rollback, AddColumn, SplitKey, SplitTime, Migrate}
 use Rattle.steps.specs.Idle.{is_idle}
@@ -56,7 +57,7 @@ at_place false ts i x is = (refl, is)
 added : (now : Schema) (number : ℕ) (c : Column) (k : ℕ) (x : Table) → table_at now k ≡ Some x → Grows (table_at (add_column number c now) k) x
 added now number c k x at = by (table_at now number) refl
   where
-    by : (o : Option Table) → table_at now number ≡ o → Grows (table_at (table_with now number (elim o [ None ↦ None | Some t ↦ Some (with_column c t) ])) k) x
+    by : (o : Option Table) → table_at now number ≡ o → Grows (table_at (added_by now number c o) k) x
     by None is = stays (table_at now k) x at
     by (Some t) is =
         let there = at_place (k == 0) now.tables (k - 1) x at in
@@ -110,7 +111,7 @@ period_added now number c k = by (table_at now number) refl
     here true t at = refl
     here false t at = period_in_place now.tables (number - 1) (k - 1) c t at
 
-    by : (o : Option Table) → table_at now number ≡ o → periods_of (table_with now number (elim o [ None ↦ None | Some t ↦ Some (with_column c t) ])) k ≡ periods_of now k
+    by : (o : Option Table) → table_at now number ≡ o → periods_of (added_by now number c o) k ≡ periods_of now k
     by None is = refl
     by (Some t) is = here (k == 0) t (at_place (number == 0) now.tables (number - 1) t is).1
 

@@ -11,7 +11,8 @@ use Rattle.values.specs.Tables.{Schema, table_at, column_at}
 use Rattle.values.specs.Fit.{fits_value, part_fault, parts_fault, first_of}
 use Rattle.values.specs.KeyReading.{IsKeyOf}
 use Rattle.values.specs.Events.{IsKeyOfAny, IsKeyIn}
-use Rattle.values.specs.Columns.{with_column, table_with, add_column}
+use Rattle.values.specs.Columns.{with_column, add_column}
+use Rattle.values.proofs.ColumnsTables.{added_by}
 
 -- a column that the table had it has
 got_more : {A : Type 0} (xs : List A) (y x : A) (i : ℕ) → slice_get xs i ≡ Some x → slice_get (xs ++ y ∷ []) i ≡ Some x
@@ -87,6 +88,6 @@ key_in_more schema number c k h = by (table_at schema number) refl
     there false false t now zero_is same at is h =
         subst (λ o. IsKeyOfAny o k) (sym (set_other schema.tables (number - 1) (k.table - 1) (with_column c t) same ∙ is)) h
 
-    by : (o : Option Table) → table_at schema number ≡ o → IsKeyIn (table_with schema number (elim o [ None ↦ None | Some t ↦ Some (with_column c t) ])) k
+    by : (o : Option Table) → table_at schema number ≡ o → IsKeyIn (added_by schema number c o) k
     by None at = h
     by (Some t) at = there (k.table == 0) (number - 1 == k.table - 1) t (table_at schema k.table) refl refl at refl h

@@ -11,7 +11,7 @@ use Rattle.values.specs.declared.table.Column.{Column}
 use Rattle.values.specs.declared.table.Table.{Table}
 use Rattle.values.specs.Tables.{Schema, table_at, widest, column_at}
 use Rattle.values.specs.TableRules.{IsColumnOf, HasInstants, HasPeriod, IsTable, AreTables}
-use Rattle.values.specs.Columns.{with_column, table_with, add_column}
+use Rattle.values.specs.Columns.{with_column, add_column}
 
 longer : (c : Column) (t : Table) → length (with_column c t).columns ≡ length t.columns + 1
 longer c t = length-append t.columns (c ∷ [])
@@ -73,11 +73,15 @@ found schema number t at = by (number == 0) at
     by true is = cc
     by false is = is
 
+-- the tables with a column more at a number, by the table there
+abbrev pub added_by : Schema → ℕ → Column → Option Table → Schema
+added_by schema number c o = elim o [ None ↦ schema | Some t ↦ record { tables = slice_set schema.tables (number - 1) (with_column c t) } ]
+
 -- the tables of a schema that gets a column are tables of one
 pub added_are_tables : (schema : Schema) (number : ℕ) (c : Column) → IfSome (table_at schema number) (λ t. length t.columns < widest) → AreTables 1 schema.tables → AreTables 1 (add_column number c schema).tables
 added_are_tables schema number c room h = by (table_at schema number) refl room
   where
-    by : (o : Option Table) → table_at schema number ≡ o → IfSome o (λ t. length t.columns < widest) → AreTables 1 (table_with schema number (elim o [ None ↦ None | Some t ↦ Some (with_column c t) ])).tables
+    by : (o : Option Table) → table_at schema number ≡ o → IfSome o (λ t. length t.columns < widest) → AreTables 1 (added_by schema number c o).tables
     by None at room = h
     by (Some t) at room = tables_stay 1 (number - 1) schema.tables c t (found schema number t at) room h
 
@@ -87,16 +91,16 @@ pub added_in_place : (ts : List Table) (number : ℕ) (c : Column) (t : Table) (
 added_in_place ts number c t after some lt is after_is = by (number == 0) refl (slice_get_read ts (length ts) (number - 1) t refl lt is)
   where
     by : (b : Bool) → (number == 0) ≡ b → slice_get ts (number - 1) ≡ Some t
-        → slice_set ts (number - 1) (record t { columns = after }) ≡ (table_with (record { tables = ts }) number (elim (if b then None else slice_get ts (number - 1)) [ None ↦ None | Some t ↦ Some (with_column c t) ])).tables
+        → slice_set ts (number - 1) (record t { columns = after }) ≡ (added_by (record { tables = ts }) number c (if b then None else slice_get ts (number - 1))).tables
     by true e at = let never : ⊥ = some (grind (arith, nat_tests)) in absurd never
     by false e at =
         ap (λ columns. slice_set ts (number - 1) (record t { columns = columns })) after_is
-        ∙ sym (ap (λ (o : Option Table). (table_with (record { tables = ts }) number (elim o [ None ↦ None | Some t ↦ Some (with_column c t) ])).tables) at)
+        ∙ sym (ap (λ (o : Option Table). (added_by (record { tables = ts }) number c o).tables) at)
 
 -- a schema without a table of the number stays
 pub added_nowhere : (ts : List Table) (number : ℕ) (c : Column) → ¬ (number - 1 < length ts) → ts ≡ (add_column number c (record { tables = ts })).tables
 added_nowhere ts number c past = by (number == 0) (slice_get_past ts (number - 1) (omega (arith, past)))
   where
-    by : (b : Bool) → slice_get ts (number - 1) ≡ None → ts ≡ (table_with (record { tables = ts }) number (elim (if b then None else slice_get ts (number - 1)) [ None ↦ None | Some t ↦ Some (with_column c t) ])).tables
+    by : (b : Bool) → slice_get ts (number - 1) ≡ None → ts ≡ (added_by (record { tables = ts }) number c (if b then None else slice_get ts (number - 1))).tables
     by true at = refl
-    by false at = sym (ap (λ (o : Option Table). (table_with (record { tables = ts }) number (elim o [ None ↦ None | Some t ↦ Some (with_column c t) ])).tables) at)
+    by false at = sym (ap (λ (o : Option Table). (added_by (record { tables = ts }) number c o).tables) at)

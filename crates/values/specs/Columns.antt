@@ -34,25 +34,12 @@ new_column name of = record { name = name; of = of; not_null = false }
 
 -- the table with one column more, its last
 abbrev pub with_column : Column → Table → Table
-with_column column table = record {
-  number = table.number;
-  name = table.name;
-  columns = table.columns ++ column ∷ [];
-  key = table.key;
-  row_start = table.row_start;
-  row_end = table.row_end;
-  period = table.period;
-}
-
-abbrev pub table_with : Schema → ℕ → Option Table → Schema
-table_with schema number None = schema
-table_with schema number (Some table) =
-    record { tables = slice_set schema.tables (number - 1) table }
+with_column column table = record table { columns = table.columns ++ column ∷ [] }
 
 -- the tables, of which the one of the number has one column more
 abbrev pub add_column : ℕ → Column → Schema → Schema
-add_column number column schema =
-    table_with schema number (elim (table_at schema number) [
-      | None ↦ None
-      | Some table ↦ Some (with_column column table)
-    ])
+add_column number column schema = elim (table_at schema number) [
+  | None ↦ schema
+  | Some table ↦
+      record { tables = slice_set schema.tables (number - 1) (with_column column table) }
+]
