@@ -19,7 +19,7 @@ use Rattle.values.specs.Entity.{unit_by, unit_of}
 use Rattle.values.specs.Log.{Net, Row, State, row_at, state}
 use Rattle.values.specs.Order.{key_cmp, is_key}
 use Rattle.values.specs.Period.{Periods, periods_of}
-use Rattle.values.specs.Portion.{portion_in, portion_keys, change_portion, change_portion_in, taken}
+use Rattle.values.specs.Portion.{portion_in, portion_keys, change_portion, taken}
 use Rattle.values.specs.Tables.{Schema, table_at, value_at}
 use Rattle.values.specs.TableRules.{AreTables}
 use Rattle.values.specs.Writes.{Own, Written, most_written, add_keys, net_of, write_keys, key_of, insert_into, insert_rows, insert_refusal, update_in, delete_from, matching_keys, update_rows, delete_rows}
@@ -103,7 +103,7 @@ insert_ordered table rows o ordered = by (insert_refusal table rows o.rows)
 portion_ordered : (table : Table) (keys : Keys) (cut : Span) (sets : Option (List Set)) (o : Own) → IsOrdered o → IsOrdered (portion_in table keys cut sets o).1
 portion_ordered table keys cut sets o ordered = by table.period
   where
-    by : (q : Option Period) → IsOrdered (elim q as (λ _. Written) [ None ↦ (Ok 0, o) | Some p ↦ change_portion_in table p keys cut sets o ]).1
+    by : (q : Option Period) → IsOrdered (elim q as (λ _. Written) [ None ↦ (Ok 0, o) | Some p ↦ write_keys (portion_keys table p keys cut sets o.rows) (length (taken table p keys cut o.rows)) (change_portion table p keys cut sets o.rows) o ]).1
     by None = ordered
     by (Some p) =
         keys_ordered (portion_keys table p keys cut sets o.rows) (length (taken table p keys cut o.rows)) (change_portion table p keys cut sets o.rows) o

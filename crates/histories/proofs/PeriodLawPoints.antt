@@ -6,6 +6,7 @@ use Rattle.std.specs.Ordering.{match_ordering, is_eq}
 use Rattle.std.specs.declared.cmp.Ordering.{Ordering}
 use Rattle.std.specs.declared.cmp.Ordering.TheVariants.{Less, Equal, Greater}
 use Rattle.std.specs.BTreeMap.{insert_entry}
+use Rattle.std.specs.List.{flat_map}
 use Rattle.values.specs.declared.key.Key.{Key}
 use Rattle.values.specs.declared.period.Period.{Period}
 use Rattle.values.specs.declared.period.Span.{Span}
@@ -21,7 +22,7 @@ use Rattle.values.specs.Log.{Log, Row, State}
 use Rattle.values.specs.Order.{key_cmp, is_key}
 use Rattle.values.specs.Period.{periods_of, is_span, span_of, common, before, behind, with_span}
 use Rattle.values.specs.Times.{is_time_of}
-use Rattle.values.specs.Portion.{with_start, portion_in, portion_keys, change_portion, change_portion_in, taken, not_taken, is_taken, all_left, all_pieces, pieces, piece, piece_of, changed}
+use Rattle.values.specs.Portion.{with_start, portion_in, portion_keys, change_portion, taken, not_taken, is_taken, all_left, pieces, piece, changed}
 use Rattle.values.specs.Tables.{Schema, table_at, full_row}
 use Rattle.values.specs.Versions.{matches}
 use Rattle.values.specs.Write.{portion_refusal}
@@ -150,11 +151,11 @@ portion_so now i count keys cut sets o table p found is done =
     let rest = written_so (portion_keys table p keys cut sets o.rows) count (length (taken table p keys cut o.rows)) (change_portion table p keys cut sets o.rows) o (sym (ap (λ (w : Written). w.0) all) ∙ done) in
     (ap (λ (w : Written). w.1.rows) all ∙ rest.0, rest.1)
   where
-    all : write now (portion_step i keys cut sets) o ≡ change_portion_in table p keys cut sets o
+    all : write now (portion_step i keys cut sets) o ≡ write_keys (portion_keys table p keys cut sets o.rows) (length (taken table p keys cut o.rows)) (change_portion table p keys cut sets o.rows) o
     all =
         portion_write now i keys cut sets o
         ∙ ap (λ (t : Option Table). let w : Written = elim t [ None ↦ (Err NoTable, o) | Some table ↦ portion_in table keys cut sets o ] in w) found
-        ∙ ap (λ (q : Option Period). let w : Written = elim q [ None ↦ (Ok 0, o) | Some p ↦ change_portion_in table p keys cut sets o ] in w) is
+        ∙ ap (λ (q : Option Period). let w : Written = elim q [ None ↦ (Ok 0, o) | Some p ↦ write_keys (portion_keys table p keys cut sets o.rows) (length (taken table p keys cut o.rows)) (change_portion table p keys cut sets o.rows) o ] in w) is
 
 -- the rows that the session sees once its portion is answered
 seen_so : (first : Schema) (h : History) (i count : ℕ) (keys : Keys) (cut : Span) (sets : Option (List Set)) → IsAnswered first h (portion_step i keys cut sets) count
@@ -229,14 +230,18 @@ piece_own p number k row s is = by (is_span s)
     by true = (is, tt)
     by false = tt
 
+-- what is new of a row, and nothing where it is gone
+abbrev piece_of : Period → Key → Option Row → Span → State
+piece_of p k new s = elim new [ None ↦ [] | Some row ↦ piece p k row s ]
+
 new_own : (p : Period) (number : ℕ) (k : Key) (row : Option Row) (s : Span) → k.table ≡ number → Each (Own_of number) (piece_of p k row s)
 new_own p number k None s is = tt
 new_own p number k (Some row) s is = piece_own p number k row s is
 
-all_own : (table : Table) (p : Period) (number : ℕ) (cut : Span) (sets : Option (List Set)) (es : State) → Each (Own_of number) es → Each (Own_of number) (all_pieces p cut sets (full_rows table es))
+all_own : (table : Table) (p : Period) (number : ℕ) (cut : Span) (sets : Option (List Set)) (es : State) → Each (Own_of number) es → Each (Own_of number) (flat_map (pieces p cut sets) (full_rows table es))
 all_own table p number cut sets [] own = tt
 all_own table p number cut sets (e ∷ es) own =
-    each-append (Own_of number) (pieces p cut sets (full e)) (all_pieces p cut sets (full_rows table es))
+    each-append (Own_of number) (pieces p cut sets (full e)) (flat_map (pieces p cut sets) (full_rows table es))
     (each-append (Own_of number) (piece p e.0 (full e).1 (before (span_of p (full e).1) cut)) (piece_of p e.0 (changed sets (full e).1) (common (span_of p (full e).1) cut) ++ piece p e.0 (full e).1 (behind (span_of p (full e).1) cut))
     (piece_own p number e.0 (full e).1 (before (span_of p (full e).1) cut) own.0)
     (each-append (Own_of number) (piece_of p e.0 (changed sets (full e).1) (common (span_of p (full e).1) cut)) (piece p e.0 (full e).1 (behind (span_of p (full e).1) cut))
@@ -277,7 +282,7 @@ portion_stays : (now : Schema) (i count : ℕ) (keys : Keys) (cut : Span) (sets 
 portion_stays now i count keys cut sets o test misses =
     ap (λ (w : Written). find test w.1.rows) (portion_write now i keys cut sets o) ∙ in_table (table_at now keys.table)
   where
-    in_period : (table : Table) (q : Option Period) → find test (elim q as (λ _. Written) [ None ↦ (Ok 0, o) | Some p ↦ change_portion_in table p keys cut sets o ]).1.rows ≡ find test o.rows
+    in_period : (table : Table) (q : Option Period) → find test (elim q as (λ _. Written) [ None ↦ (Ok 0, o) | Some p ↦ write_keys (portion_keys table p keys cut sets o.rows) (length (taken table p keys cut o.rows)) (change_portion table p keys cut sets o.rows) o ]).1.rows ≡ find test o.rows
     in_period table None = refl
     in_period table (Some p) = by (nat_lt most_written (length (add_keys (portion_keys table p keys cut sets o.rows) o.written)))
       where

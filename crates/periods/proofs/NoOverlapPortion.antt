@@ -1,6 +1,7 @@
 -- A portion of rows that have their own keys leaves what it leaves by these; so no two of them overlap.
 use Rattle.std.proofs.Common.{◌≡◌, ℕ, ◌≤◌, Bool, true, false, List, [], ◌∷◌, ◌++◌, Option, Some, None, refl, sym, ap, subst, ◌∙◌, map, length, if◌then◌else◌}
 use Rattle.std.proofs.lemmas.List.{map-append}
+use Rattle.std.specs.List.{flat_map}
 use Rattle.values.specs.declared.period.Period.{Period}
 use Rattle.values.specs.declared.period.Span.{Span}
 use Rattle.values.specs.declared.value.Value.{Value}
@@ -54,7 +55,7 @@ module _ (tables : Tables) (periods : Periods) (table : Table) (p : Period) (is_
   New : Key × Row → Option Row → Type 0
   New e new = own.IsNewOf tables periods table p is_table at has cut good sets keeps e new
 
-  same_new : (e : Key × Row) (new : Option Row) (s : Span) → Hit e → New e new → by_key.piece_of p e.0 new s ≡ piece_of table p new s
+  same_new : (e : Key × Row) (new : Option Row) (s : Span) → Hit e → New e new → (elim new as (λ _. State) [ None ↦ [] | Some row ↦ by_key.piece p e.0 row s ]) ≡ piece_of table p new s
   unfolding Hit New
   same_new e None s hit is = refl
   same_new e (Some row) s hit is = same_piece table p s row e.0 has (subst (λ n. p.from ≤ n) (sym is.width) hit.is_keyed.start_within) (hit.is_keyed.key_is ∙ sym is.same)
@@ -66,7 +67,7 @@ module _ (tables : Tables) (periods : Periods) (table : Table) (p : Period) (is_
       ++ (same_new e (changed sets e.1) (common (span_of p e.1) cut) hit (own.new_is tables periods table p is_table at has cut good sets keeps e sets keeps) i
       ++ same_piece table p (behind (span_of p e.1) cut) e.1 e.0 has hit.is_keyed.start_within hit.is_keyed.key_is i)
 
-  same_all : (es : State) → Each Hit es → by_key.all_pieces p cut sets es ≡ all_pieces table p cut sets es
+  same_all : (es : State) → Each Hit es → flat_map (by_key.pieces p cut sets) es ≡ all_pieces table p cut sets es
   same_all [] hits = refl
   same_all (e ∷ es) hits = λ i. same_pieces e hits.0 i ++ same_all es hits.1 i
 

@@ -22,7 +22,7 @@ use Rattle.values.specs.Writes.{Own, Written, most_written, key_of, keyed, set_a
 use Rattle.values.specs.Period.{Periods, is_span, span_of}
 use Rattle.values.specs.Entity.{clash_by}
 use Rattle.values.specs.Clash.{clash}
-use Rattle.values.specs.Portion.{change_portion, change_portion_in, portion_keys, portion_in, taken}
+use Rattle.values.specs.Portion.{change_portion, portion_keys, portion_in, taken}
 use Rattle.periods.specs.NoOverlap.{NoOverlap, Tables, IsSettable, SetsKeep, IsKeyed, IsKeyedIn, AreKeyed}
 use Rattle.periods.proofs.NoOverlapApart.{IsAlike, or_first, or_second, or_none, none_inserted, apart_inserted, apart_kept, apart_changed}
 use Rattle.periods.proofs.NoOverlapColumns.{key_set_all, span_set_all, width_set_all}
@@ -170,7 +170,7 @@ module _ (tables : Tables) (periods : Periods) (table : Table) (is : IsOneOf tab
     pub portion_sound : (cut : Span) (sets : Option (List Set)) (o : Own) → ForSome table.period (λ p. (is_span cut ≡ true) × SetsKeep table p sets) → IsSound tables periods o.rows → IsSound tables periods (portion_in table keys cut sets o).1.rows
     portion_sound cut sets o fits sound = by table.period refl
       where
-        by : (q : Option Period) → table.period ≡ q → IsSound tables periods (elim q as (λ _. Written) [ None ↦ (Ok 0, o) | Some p ↦ change_portion_in table p keys cut sets o ]).1.rows
+        by : (q : Option Period) → table.period ≡ q → IsSound tables periods (elim q as (λ _. Written) [ None ↦ (Ok 0, o) | Some p ↦ write_keys (portion_keys table p keys cut sets o.rows) (length (taken table p keys cut o.rows)) (change_portion table p keys cut sets o.rows) o ]).1.rows
         by None at = sound
         by (Some p) at =
             let good = fits p at in

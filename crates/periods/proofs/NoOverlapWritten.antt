@@ -21,7 +21,7 @@ use Rattle.values.specs.Tables.{full_row}
 use Rattle.values.specs.Fit.{first_of}
 use Rattle.values.specs.Versions.{matches}
 use Rattle.values.specs.Writes.{Own, Written, most_written, key_of, set_all, insert_all, insert_rows, update_rows, delete_rows, write_keys, add_keys, duplicate, overlapping, matching_keys, insert_into, update_in, delete_from}
-use Rattle.values.specs.Portion.{change_portion, change_portion_in, portion_in, portion_keys, taken, not_taken, is_taken, all_left}
+use Rattle.values.specs.Portion.{change_portion, portion_in, portion_keys, taken, not_taken, is_taken, all_left}
 use Rattle.values.proofs.OrderTotal.{key_cmp_total, key_cmp-IsAntisymmetric}
 use Rattle.values.proofs.LogMaps.{lookup-insert_entry}
 use Rattle.periods.proofs.NoOverlapApart.{or_first, or_second, or_none}
@@ -141,7 +141,7 @@ delete_after table keys o =
 pub portion_after : (table : Table) (keys : Keys) (cut : Span) (sets : Option (List Set)) (o : Own) → IsAfter o (portion_in table keys cut sets o).1
 portion_after table keys cut sets o = by table.period
   where
-    by : (q : Option Period) → IsAfter o (elim q as (λ _. Written) [ None ↦ (Ok 0, o) | Some p ↦ change_portion_in table p keys cut sets o ]).1
+    by : (q : Option Period) → IsAfter o (elim q as (λ _. Written) [ None ↦ (Ok 0, o) | Some p ↦ write_keys (portion_keys table p keys cut sets o.rows) (length (taken table p keys cut o.rows)) (change_portion table p keys cut sets o.rows) o ]).1
     by None = same_after o
     by (Some p) =
         written_after (portion_keys table p keys cut sets o.rows) _ (change_portion table p keys cut sets o.rows) o

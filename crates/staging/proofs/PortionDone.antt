@@ -8,7 +8,7 @@ use Rattle.std.proofs.lemmas.List.Elements.{All-from_recursion, recursion_from_A
 use Rattle.std.specs.BTreeMap.{insert_entry}
 use Rattle.std.specs.Map.{keys_of}
 use Rattle.std.specs.FinMap.{is_sorted}
-use Rattle.std.specs.List.{AllByRecursion}
+use Rattle.std.specs.List.{AllByRecursion, flat_map}
 use Rattle.values.specs.declared.period.Period.{Period}
 use Rattle.values.specs.declared.period.Span.{Span}
 use Rattle.values.specs.declared.key.Key.{Key}
@@ -27,7 +27,7 @@ use Rattle.tsbtree.specs.View.{TreeState}
 use Rattle.values.specs.Versions.{matches}
 use Rattle.values.specs.Period.{span_of, overlap}
 use Rattle.values.specs.Writes.{Written, write_keys, insert_all, full_rows}
-use Rattle.values.specs.Portion.{is_taken, taken, not_taken, pieces, all_pieces, all_left, change_portion, change_portion_in, portion_in, portion_keys}
+use Rattle.values.specs.Portion.{is_taken, taken, not_taken, pieces, all_left, change_portion, portion_in, portion_keys}
 use Rattle.staging.specs.Own.{Reads, rows_seen, own}
 use Rattle.staging.specs.Staged.{put_all, put_answer, deletions, puts, overlap_rows}
 use Rattle.staging.proofs.StagedEntries.{sorted_apply, apply-deletions}
@@ -110,13 +110,13 @@ keys_put (e ∷ m) = ap (λ l. e.0 ∷ l) (keys_put m)
 
 -- what a portion answers and leaves
 pub portion_done : (table : Table) (p : Period) (keys : Keys) (cut : Span) (sets : Option (List Set)) (m : Changes) (w new : Net) (r : Result ℕ Refusal) (cs : Net) (count : ℕ) (found es : State)
-    → table.period ≡ Some p → found ≡ filter (λ e. matches table keys e.0) (rows_seen m w) → es ≡ full_rows table (overlap_rows p cut found) → cs ≡ deletions es ++ puts (all_pieces p cut sets es) → count ≡ length es
+    → table.period ≡ Some p → found ≡ filter (λ e. matches table keys e.0) (rows_seen m w) → es ≡ full_rows table (overlap_rows p cut found) → cs ≡ deletions es ++ puts (flat_map (pieces p cut sets) es) → count ≡ length es
     → T (is_sorted key_cmp w) → r ≡ put_answer count cs w → OnOk r (new ≡ put_all cs w) → OnErr r (new ≡ w)
     → ◌≡◌ {A = Written} (r, own m new) (portion_in table keys cut sets (own m w))
 portion_done table p keys cut sets m w new r cs count found es has found_is es_is is counted sorted answer ok err =
     put_is m cs count w new r sorted answer ok err
     ∙ (λ i. write_keys (written i) (number i) (left i) (own m w))
-    ∙ sym (ap (λ (o : Option Period). elim o [ None ↦ (Ok 0, own m w) | Some p ↦ change_portion_in table p keys cut sets (own m w) ]) has)
+    ∙ sym (ap (λ (o : Option Period). elim o [ None ↦ (Ok 0, own m w) | Some p ↦ write_keys (portion_keys table p keys cut sets (own m w).rows) (length (taken table p keys cut (own m w).rows)) (change_portion table p keys cut sets (own m w).rows) (own m w) ]) has)
   where
     s : State
     s = rows_seen m w
@@ -128,7 +128,7 @@ portion_done table p keys cut sets m w new r cs count found es has found_is es_i
     es_are = es_is ∙ ap (full_rows table) (ap (overlap_rows p cut) found_is ∙ taken_is table p keys cut s)
 
     cs_are : cs ≡ deletions hits ++ puts (all_left table p keys cut sets s)
-    cs_are = is ∙ ap (λ es. deletions es ++ puts (all_pieces p cut sets es)) es_are ∙ ap (λ l. l ++ puts (all_left table p keys cut sets s)) (deletions_full table hits)
+    cs_are = is ∙ ap (λ es. deletions es ++ puts (flat_map (pieces p cut sets) es)) es_are ∙ ap (λ l. l ++ puts (all_left table p keys cut sets s)) (deletions_full table hits)
 
     written : keys_of cs ≡ portion_keys table p keys cut sets s
     written = ap keys_of cs_are ∙ keys_append (deletions hits) (puts (all_left table p keys cut sets s)) ∙ (λ i. keys_deleted hits i ++ keys_put (all_left table p keys cut sets s) i)
@@ -145,24 +145,24 @@ portion_done table p keys cut sets m w new r cs count found es has found_is es_i
 
 -- ---- the changes of one row more
 
-pieces_more : (p : Period) (cut : Span) (sets : Option (List Set)) (es : State) (e : Key × Row) → all_pieces p cut sets (es ++ e ∷ []) ≡ all_pieces p cut sets es ++ pieces p cut sets e
+pieces_more : (p : Period) (cut : Span) (sets : Option (List Set)) (es : State) (e : Key × Row) → flat_map (pieces p cut sets) (es ++ e ∷ []) ≡ flat_map (pieces p cut sets) es ++ pieces p cut sets e
 pieces_more p cut sets [] e = append-nil (pieces p cut sets e)
 pieces_more p cut sets (d ∷ es) e =
-    ap (λ l. pieces p cut sets d ++ l) (pieces_more p cut sets es e) ∙ sym (append_assoc (pieces p cut sets d) (all_pieces p cut sets es) (pieces p cut sets e))
+    ap (λ l. pieces p cut sets d ++ l) (pieces_more p cut sets es e) ∙ sym (append_assoc (pieces p cut sets d) (flat_map (pieces p cut sets) es) (pieces p cut sets e))
 
 puts_append : (a b : State) → puts (a ++ b) ≡ puts a ++ puts b
 puts_append [] b = refl
 puts_append (e ∷ a) b = ap (λ l. (e.0, Some e.1) ∷ l) (puts_append a b)
 
 pub left_more : (p : Period) (cut : Span) (sets : Option (List Set)) (es : State) (i : ℕ) (e : Key × Row) (front old new : Net) → i < length es → e ≡ get_or es i e
-    → old ≡ front ++ puts (all_pieces p cut sets (take i es)) → new ≡ old ++ puts (pieces p cut sets e) → new ≡ front ++ puts (all_pieces p cut sets (take (i + 1) es))
+    → old ≡ front ++ puts (flat_map (pieces p cut sets) (take i es)) → new ≡ old ++ puts (pieces p cut sets e) → new ≡ front ++ puts (flat_map (pieces p cut sets) (take (i + 1) es))
 left_more p cut sets es i e front old new lt at were are =
     are
     ∙ ap (λ l. l ++ puts (pieces p cut sets e)) were
-    ∙ append_assoc front (puts (all_pieces p cut sets (take i es))) (puts (pieces p cut sets e))
+    ∙ append_assoc front (puts (flat_map (pieces p cut sets) (take i es))) (puts (pieces p cut sets e))
     ∙ ap (λ l. front ++ l)
-    (sym (puts_append (all_pieces p cut sets (take i es)) (pieces p cut sets e))
-    ∙ ap puts (sym (pieces_more p cut sets (take i es) e) ∙ ap (all_pieces p cut sets) (sym (taken_more es i e lt at))))
+    (sym (puts_append (flat_map (pieces p cut sets) (take i es)) (pieces p cut sets e))
+    ∙ ap puts (sym (pieces_more p cut sets (take i es) e) ∙ ap (flat_map (pieces p cut sets)) (sym (taken_more es i e lt at))))
 
 -- ---- the keys of what is taken
 

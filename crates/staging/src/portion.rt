@@ -1,11 +1,12 @@
 //! UPDATE and DELETE for a portion of application time.
 ghost use Rattle.std.specs.Prelude.{◌≡◌, ◌≤◌, ◌++◌, [], All, IfOk, None, OnErr, OnOk, length};
 ghost use Rattle.std.specs.Option.{ForSome, option_map};
+ghost use Rattle.std.specs.List.{flat_map};
 ghost use Rattle.values.specs.Memory.{OnlyMemory};
 ghost use Rattle.values.specs.Fit.{sets_fault};
 ghost use Rattle.values.specs.Period.{with_span};
 ghost use Rattle.values.specs.Writes.{full_rows};
-ghost use Rattle.values.specs.Portion.{piece, pieces, all_pieces, portion_in};
+ghost use Rattle.values.specs.Portion.{piece, pieces, portion_in};
 ghost use Rattle.values.specs.Tables.{widest};
 ghost use Rattle.values.specs.TableRules.{HasPeriod};
 ghost use Rattle.values.specs.Events.{AreKeysIn};
@@ -91,8 +92,8 @@ impl Portion<'_> {
     fn changes(&self, alloc: Global, taken: &[(Key, Row)]) -> Mem<Vec<(Key, Option<Row>)>>
         requires { All (λ e. length self.now.table.now.columns ≤ length e.1) taken.now }
         ensures ok { IfOk result (λ v. v.items ≡ deletions taken.now
-            ++ puts (all_pieces self.now.period.now self.now.span
-            (option_map (λ s. s.now) self.now.sets) taken.now)) }
+            ++ puts (flat_map (pieces self.now.period.now self.now.span
+            (option_map (λ s. s.now) self.now.sets)) taken.now)) }
         ensures keys { IfOk result (λ v. KeepsAllKeys self.now.table.now taken.now v.items) }
         ensures err { OnlyMemory result }
     {

@@ -14,7 +14,7 @@ use Rattle.values.specs.Tables.{Schema, table_at}
 use Rattle.values.specs.Log.{State, Row}
 use Rattle.values.specs.Fit.{first_of}
 use Rattle.values.specs.Writes.{Own, Written, most_written, write_keys, insert_into, overlapping, update_in, delete_from, key_of, duplicate, insert_rows, update_rows, delete_rows, matching_keys, add_keys}
-use Rattle.values.specs.Portion.{portion_in, change_portion_in, change_portion, portion_keys, taken}
+use Rattle.values.specs.Portion.{portion_in, change_portion, portion_keys, taken}
 use Rattle.steps.specs.declared.step.Step.{Step}
 use Rattle.steps.specs.declared.step.Step.TheVariants.{Begin, Insert, Update, Delete, UpdatePortion, DeletePortion, Select, Commit, Rollback, AddColumn, SplitKey, SplitTime, Migrate}
 use Rattle.steps.specs.Write.{write}
@@ -56,7 +56,7 @@ delete_is keys o table = writing_is (matching_keys table keys o.rows) (length (m
 portion_is : (keys : Keys) (cut : Span) (sets : Option (List Set)) (o : Own) (table : Table) → IsWritten o (portion_in table keys cut sets o)
 portion_is keys cut sets o table = by table.period
   where
-    by : (p : Option Period) → IsWritten o (elim p [ None ↦ (Ok 0, o) | Some p ↦ change_portion_in table p keys cut sets o ])
+    by : (p : Option Period) → IsWritten o (elim p [ None ↦ (Ok 0, o) | Some p ↦ write_keys (portion_keys table p keys cut sets o.rows) (length (taken table p keys cut o.rows)) (change_portion table p keys cut sets o.rows) o ])
     by None = record { leaves = λ e. refl; answered = refl }
     by (Some p) = writing_is (portion_keys table p keys cut sets o.rows) (length (taken table p keys cut o.rows)) (change_portion table p keys cut sets o.rows) o
 

@@ -27,16 +27,12 @@ abbrev pub changed : Option (List Set) → Row → Option Row
 changed None row = None
 changed (Some sets) row = Some (set_all sets row)
 
-abbrev pub piece_of : Period → Key → Option Row → Span → State
-piece_of p k None s = []
-piece_of p k (Some row) s = piece p k row s
-
 -- what is left of a row that a portion takes: the old values before the portion, the new ones in it,
 -- the old ones behind it
 abbrev pub pieces : Period → Span → Option (List Set) → (Key × Row) → State
 pieces p cut sets e =
     piece p e.0 e.1 (before (span_of p e.1) cut)
-    ++ (piece_of p e.0 (changed sets e.1) (common (span_of p e.1) cut)
+    ++ (elim (changed sets e.1) [ None ↦ [] | Some row ↦ piece p e.0 row (common (span_of p e.1) cut) ]
     ++ piece p e.0 e.1 (behind (span_of p e.1) cut))
 
 -- the row's key meets the comparisons, and its span overlaps the portion
@@ -49,14 +45,11 @@ taken table p keys cut m = filter (is_taken table p keys cut) m
 abbrev pub not_taken : Table → Period → Keys → Span → State → State
 not_taken table p keys cut m = filter (λ e. not (is_taken table p keys cut e)) m
 
-abbrev pub all_pieces : Period → Span → Option (List Set) → State → State
-all_pieces p cut sets es = flat_map (pieces p cut sets) es
-
 -- what is left of all rows that it takes; those that were stored before columns were added get NULL
 -- in them first
 abbrev pub all_left : Table → Period → Keys → Span → Option (List Set) → State → State
 all_left table p keys cut sets m =
-    all_pieces p cut sets (full_rows table (taken table p keys cut m))
+    flat_map (pieces p cut sets) (full_rows table (taken table p keys cut m))
 
 -- the rows once a portion was changed
 abbrev pub change_portion : Table → Period → Keys → Span → Option (List Set) → State → State
@@ -68,15 +61,12 @@ abbrev pub portion_keys : Table → Period → Keys → Span → Option (List Se
 portion_keys table p keys cut sets m =
     map (λ e. e.0) (taken table p keys cut m) ++ map (λ e. e.0) (all_left table p keys cut sets m)
 
--- an UPDATE or a DELETE of a portion; it answers the number of rows taken
-abbrev pub change_portion_in : Table → Period → Keys → Span → Option (List Set) → Own → Written
-change_portion_in table p keys cut sets o =
-    write_keys (portion_keys table p keys cut sets o.rows) (length (taken table p keys cut o.rows))
-    (change_portion table p keys cut sets o.rows) o
-
--- in a table without a period there is nothing to take
+-- an UPDATE or a DELETE of a portion; it answers the number of rows taken, and in a table without a
+-- period there is nothing to take
 abbrev pub portion_in : Table → Keys → Span → Option (List Set) → Own → Written
 portion_in table keys cut sets o = elim table.period [
   | None ↦ (Ok 0, o)
-  | Some p ↦ change_portion_in table p keys cut sets o
+  | Some p ↦
+      write_keys (portion_keys table p keys cut sets o.rows) (length (taken table p keys cut o.rows))
+      (change_portion table p keys cut sets o.rows) o
 ]

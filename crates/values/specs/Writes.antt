@@ -33,10 +33,13 @@ full_rows table m = map (λ e. (e.0, full_row table e.1)) m
 abbrev pub keyed : Table → Row → Key × Row
 keyed table row = (key_of table row, row)
 
+-- rows with their keys, inserted in turn
+abbrev pub insert_all : State → State → State
+insert_all m [] = m
+insert_all m (e ∷ es) = insert_all (insert_entry key_cmp m e.0 e.1) es
+
 abbrev pub insert_rows : Table → List Row → State → State
-insert_rows table [] m = m
-insert_rows table (row ∷ rows) m =
-    insert_rows table rows (insert_entry key_cmp m (key_of table row) row)
+insert_rows table rows m = insert_all m (map (keyed table) rows)
 
 -- the first of the keys that m has, or that is among the earlier ones
 abbrev pub duplicate_from : State → List Key → List Key → Option Key
@@ -84,11 +87,6 @@ abbrev pub net_of : State → State → List Key → Net
 net_of before now keys =
     filter (λ c. is_some c.1 || is_some (row_at before c.0)) (map (λ k. (k, row_at now k)) keys)
 
--- rows with their keys, inserted in turn
-abbrev pub insert_all : State → State → State
-insert_all m [] = m
-insert_all m (e ∷ es) = insert_all (insert_entry key_cmp m e.0 e.1) es
-
 -- ---- what INSERT, UPDATE and DELETE do to an open transaction
 
 -- the rows that a transaction sees, and the keys that it wrote
@@ -119,12 +117,13 @@ insert_into table rows o = elim (insert_refusal table rows o.rows) [
   | None ↦ write_keys (map (key_of table) rows) (length rows) (insert_rows table rows o.rows) o
 ]
 
+-- a write of the keys that the comparisons meet, which leaves these rows
+abbrev pub write_matching : Table → Keys → State → Own → Written
+write_matching table keys rows o =
+    let met = matching_keys table keys o.rows in write_keys met (length met) rows o
+
 abbrev pub update_in : Table → Keys → List Set → Own → Written
-update_in table keys sets o =
-    write_keys (matching_keys table keys o.rows) (length (matching_keys table keys o.rows))
-    (update_rows table keys sets o.rows) o
+update_in table keys sets o = write_matching table keys (update_rows table keys sets o.rows) o
 
 abbrev pub delete_from : Table → Keys → Own → Written
-delete_from table keys o =
-    write_keys (matching_keys table keys o.rows) (length (matching_keys table keys o.rows))
-    (delete_rows table keys o.rows) o
+delete_from table keys o = write_matching table keys (delete_rows table keys o.rows) o

@@ -1,11 +1,12 @@
 use Rattle.std.proofs.Common.{◌≡◌, ◌≤◌, ◌++◌, length, filter, All, sym, ap, subst, ◌∙◌}
 use Rattle.std.specs.Option.{option_map}
 use Rattle.std.proofs.lemmas.List.Elements.{All-weaker}
+use Rattle.std.specs.List.{flat_map}
 use Rattle.values.specs.KeyEncoding.{IsShortKey}
 use Rattle.values.specs.KeyReading.{IsKeyOf}
 use Rattle.values.specs.Events.{IsKeyIn}
 use Rattle.values.specs.Versions.{matches}
-use Rattle.values.specs.Portion.{all_pieces}
+use Rattle.values.specs.Portion.{pieces}
 use Rattle.staging.specs.Own.{rows_seen}
 use Rattle.staging.specs.Staged.{deletions, puts, overlap_rows}
 use Rattle.staging.proofs.StagedEntries.{sorted_from}
@@ -40,7 +41,7 @@ returns-clause-answers c = λ schema m reads ok.
     portion_done table p keys c.args.span sets m w c.put.new.self c.put.result c.in_ok-changes.changes.items c.len.result c.in_ok-found.found.items es c.in-Some.is
     (found_by c.args.view.now w c.in_ok-found.found.items c.in_ok-search.search.table table c.in_ok-search.search.keys keys c.in_ok-search.ensures.table c.in_ok-search.ensures.keys c.in_ok-found.ensures.ok schema m reads)
     c.in_ok-taken.ensures.ok
-    (c.in_ok-changes.ensures.ok ∙ ap (λ es. deletions es ++ puts (all_pieces p c.args.span sets es)) c.deref.ensures.value)
+    (c.in_ok-changes.ensures.ok ∙ ap (λ es. deletions es ++ puts (flat_map (pieces p c.args.span sets) es)) c.deref.ensures.value)
     (c.len.ensures ∙ sym c.deref.ensures.len ∙ ap length c.deref.ensures.value)
     (sorted_from w c.put.ensures.ordered) (c.put.ensures.answer ok) c.put.ensures.ok c.put.ensures.err
 
