@@ -6,7 +6,7 @@ use Rattle.std.specs.FinMap.Entries.{find-where_key}
 use Rattle.values.specs.declared.key.Key.{Key}
 use Rattle.values.specs.declared.period.Period.{Period}
 use Rattle.values.specs.declared.table.Table.{Table}
-use Rattle.values.specs.Entity.{entity_of, unit_by, unit_of}
+use Rattle.values.specs.Entity.{entity_of, unit_of}
 use Rattle.values.specs.Log.{Row, State, last, row_at}
 use Rattle.values.specs.Order.{is_key, key_cmp}
 use Rattle.values.specs.Period.{Periods, periods_of, span_of}
@@ -75,7 +75,7 @@ committed_sorted first h = (state_matches (log first h) (last (log first h)) (lo
 
 -- in a table with a period the unit of a key is its entity
 entity_is : (first : Schema) (h : History) (table : Table) (p : Period) (entity k : Key) → table_at (schema_after first h) entity.table ≡ Some table → table.period ≡ Some p → entity_of k ≡ entity → entity ≡ unit_of (periods_of first) k
-entity_is first h table p entity k found is own = sym own ∙ sym (ap (λ (q : Option Period). unit_by q k) has)
+entity_is first h table p entity k found is own = sym own ∙ sym (ap (λ (q : Option Period). elim q as (λ _. Key) [ None ↦ k | Some _ ↦ entity_of k ]) has)
   where
     has : periods_of first k.table ≡ Some p
     has =

@@ -1,5 +1,7 @@
 -- A refused COMMIT names the least unit in conflict.
 use Rattle.std.proofs.Common.{◌≡◌, ◌≢◌, ℕ, ◌<◌, Bool, true, false, List, [], ◌∷◌, Option, Some, None, refl, sym, ap, subst, ◌∙◌, arith, nat_lt, ◌≤◌, max, ◌⊎◌, inl, inr}
+use Rattle.std.specs.List.{cons_option}
+use Rattle.std.specs.Option.{option_map}
 use Rattle.std.specs.Prelude.{◌+◌, if◌then◌else◌, Contains, Result, Ok, Err}
 use Rattle.std.proofs.lemmas.List.Elements.{All-contains, All-nil}
 use Rattle.std.proofs.lemmas.Bool.{false≢true}
@@ -62,7 +64,7 @@ module _ (periods : Periods) (m : Changes) (start : ℕ) where
       by (unit_changed_since periods m start (unit_of periods c.0)) refl e (λ rest. first_found In net u t others rise.1 own.1 rest)
     where
       by : (o : Option ℕ) → unit_changed_since periods m start (unit_of periods c.0) ≡ o
-          → ◌≡◌ {A = List (Key × ℕ)} (elim o [ None ↦ conflicts periods m start net | Some instant ↦ (unit_of periods c.0, instant) ∷ conflicts periods m start net ]) ((u, t) ∷ others)
+          → ◌≡◌ {A = List (Key × ℕ)} (cons_option (option_map (λ (instant : ℕ). (unit_of periods c.0, instant)) o) (conflicts periods m start net)) ((u, t) ∷ others)
           → (conflicts periods m start net ≡ (u, t) ∷ others → IsFirst In net u t) → IsFirst In (c ∷ net) u t
       by None is e rest =
           let found = rest e in

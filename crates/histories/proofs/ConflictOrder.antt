@@ -15,7 +15,7 @@ use Rattle.values.specs.declared.refusal.Refusal.{Refusal}
 use Rattle.values.specs.declared.refusal.Refusal.TheVariants.{NoTable, TooManyWrites}
 use Rattle.values.specs.declared.table.Table.{Table}
 use Rattle.values.specs.Each.{Each}
-use Rattle.values.specs.Entity.{unit_by, unit_of}
+use Rattle.values.specs.Entity.{entity_of, unit_of}
 use Rattle.values.specs.Log.{Net, Row, State, row_at, state}
 use Rattle.values.specs.Order.{key_cmp, is_key}
 use Rattle.values.specs.Period.{Periods, periods_of}
@@ -198,7 +198,7 @@ module _ (periods : Periods) (width : ℕ → ℕ) where
   in_order : (k l : Key) → IsWide k → IsWide l → key_cmp k l ≡ Less → key_cmp (unit_of periods l) (unit_of periods k) ≢ Less
   in_order k l wide_k wide_l less = by (periods k.table) (periods l.table) refl refl
     where
-      keys : (p q : Option Period) → p ≡ None → q ≡ None → key_cmp (unit_by q l) (unit_by p k) ≢ Less
+      keys : (p q : Option Period) → p ≡ None → q ≡ None → key_cmp (elim q as (λ _. Key) [ None ↦ l | Some _ ↦ entity_of l ]) (elim p as (λ _. Key) [ None ↦ k | Some _ ↦ entity_of k ]) ≢ Less
       keys None None is_k is_l below = let no : Greater ≡ Less = sym (turned k l less) ∙ below in cc
       keys (Some p) q is_k is_l below = cc
       keys None (Some q) is_k is_l below = cc

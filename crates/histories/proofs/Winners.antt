@@ -1,5 +1,7 @@
 -- The first committer wins: what was committed since a transaction began has none of its units, so none of its keys.
 use Rattle.std.proofs.Common.{◌≡◌, ℕ, ◌<◌, Bool, true, false, List, [], ◌∷◌, ◌++◌, Option, Some, None, refl, sym, ap, subst, ◌∙◌, arith, map}
+use Rattle.std.specs.List.{cons_option}
+use Rattle.std.specs.Option.{option_map}
 use Rattle.std.specs.Prelude.{Result, Ok, Err, if◌then◌else◌, nat_lt, max, ◌+◌, ◌&&◌, ◌||◌, is_some, All, Contains}
 use Rattle.std.proofs.lemmas.Bool.Decides.{nat_tests}
 use Rattle.std.proofs.lemmas.Bool.{false≢true}
@@ -158,7 +160,7 @@ module _ (periods : Periods) where
   won_none m start (c ∷ net) e = by (unit_changed_since periods m start (unit_of periods c.0)) (won_none m start net) refl e
     where
       by : (o : Option ℕ) → (conflicts periods m start net ≡ [] → All (IsFree m start) (keys_of net)) → unit_changed_since periods m start (unit_of periods c.0) ≡ o
-          → ◌≡◌ {A = List (Key × ℕ)} (elim o [ None ↦ conflicts periods m start net | Some instant ↦ (unit_of periods c.0, instant) ∷ conflicts periods m start net ]) [] → All (IsFree m start) (keys_of (c ∷ net))
+          → ◌≡◌ {A = List (Key × ℕ)} (cons_option (option_map (λ (instant : ℕ). (unit_of periods c.0, instant)) o) (conflicts periods m start net)) [] → All (IsFree m start) (keys_of (c ∷ net))
       by None others is e = All-cons (IsFree m start) c.0 (keys_of net) (sym (touched_is m start (unit_of periods c.0)) ∙ ap is_some is) (others e)
       by (Some instant) others is e = cc
 

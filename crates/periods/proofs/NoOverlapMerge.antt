@@ -2,8 +2,8 @@
 use Rattle.std.proofs.Common.{◌≡◌, ℕ, ◌≤◌, Bool, true, false, cond, ◌&&◌, ◌||◌, T, List, [], ◌∷◌, Option, Some, None, is_some, refl, sym, ap, ◌∙◌, arith, nat_le, nat_lt, ◌⊎◌, inl, inr}
 use Rattle.std.specs.Prelude.{if◌then◌else◌}
 use Rattle.std.proofs.lemmas.Bool.Decides.{nat_tests}
-use Rattle.std.specs.Option.{option_flatten}
-use Rattle.std.specs.List.{list_any}
+use Rattle.std.specs.Option.{option_flatten, option_map}
+use Rattle.std.specs.List.{list_any, cons_option}
 use Rattle.std.specs.Ordering.{is_eq, is_lt, ordering_reverse}
 use Rattle.std.specs.declared.cmp.Ordering.{Ordering}
 use Rattle.std.specs.declared.cmp.Ordering.TheVariants.{Less, Equal, Greater}
@@ -20,7 +20,7 @@ use Rattle.values.proofs.OrderTotal.{key_cmp_total, first, second}
 use Rattle.values.proofs.LogStates.{row_at-set_row, sorted_set_row, state_matches}
 use Rattle.values.proofs.LogLatest.{latest, later}
 use Rattle.values.specs.Period.{Periods, span_of, overlap}
-use Rattle.values.specs.Entity.{entity_of, unit_of, unit_by, clash_by}
+use Rattle.values.specs.Entity.{entity_of, unit_of, clash_by}
 use Rattle.values.specs.Clash.{clash}
 use Rattle.periods.specs.NoOverlap.{NoOverlap}
 use Rattle.periods.proofs.NoOverlapApart.{one_key, is_key_turned, clash_turned, or_first, or_second, or_none}
@@ -173,7 +173,7 @@ net_gives seen mine written q others = by (net_says seen mine written q) (list_a
 unit_at : (periods : Periods) (p : Period) (k l : Key) → periods k.table ≡ Some p → is_key (entity_of k) (entity_of l) ≡ true → unit_of periods k ≡ unit_of periods l
 unit_at periods p k l at is =
     let same : entity_of k ≡ entity_of l = one_key (entity_of k) (entity_of l) is in
-    ap (λ o. unit_by o k) at ∙ same ∙ sym (ap (λ o. unit_by o l) (ap periods (sym (ap (λ (k : Key). k.table) same)) ∙ at))
+    ap (λ (o : Option Period). elim o as (λ _. Key) [ None ↦ k | Some _ ↦ entity_of k ]) at ∙ same ∙ sym (ap (λ (o : Option Period). elim o as (λ _. Key) [ None ↦ l | Some _ ↦ entity_of l ]) (ap periods (sym (ap (λ (k : Key). k.table) same)) ∙ at))
 
 -- a unit of the net changes has now what the transaction saw
 abbrev pub IsFresh : Periods → State → State → Net → Type 0
@@ -233,7 +233,7 @@ no_conflict periods changed (c ∷ net) u none says = by (changed (unit_of perio
     here None true is says free rest = ap (λ k. changed (unit_of periods k)) (one_key u c.0 is) ∙ free
     here None false is says free rest = cc
 
-    by : (o : Option ℕ) → changed (unit_of periods c.0) ≡ o → ◌≡◌ {A = List (Key × ℕ)} (elim o [ None ↦ conflicts_by changed (by_unit periods net) | Some instant ↦ (unit_of periods c.0, instant) ∷ conflicts_by changed (by_unit periods net) ]) [] → (conflicts_by changed (by_unit periods net) ≡ [] → is_some (net_last net u) ≡ true → changed (unit_of periods u) ≡ None) → changed (unit_of periods u) ≡ None
+    by : (o : Option ℕ) → changed (unit_of periods c.0) ≡ o → ◌≡◌ {A = List (Key × ℕ)} (cons_option (option_map (λ (instant : ℕ). (unit_of periods c.0, instant)) o) (conflicts_by changed (by_unit periods net))) [] → (conflicts_by changed (by_unit periods net) ≡ [] → is_some (net_last net u) ≡ true → changed (unit_of periods u) ≡ None) → changed (unit_of periods u) ≡ None
     by None is none rest = here (net_last net u) (is_key u c.0) refl says is (rest none)
     by (Some instant) is none rest = cc
 

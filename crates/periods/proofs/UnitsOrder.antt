@@ -16,7 +16,7 @@ use Rattle.values.specs.Commits.{latest_of, unit_changed_since}
 use Rattle.values.specs.ChangedSince.{changed_since, or_else}
 use Rattle.values.proofs.OrderTotal.{first, second, below}
 use Rattle.values.specs.Period.{Periods}
-use Rattle.values.specs.Entity.{entity_of, unit_by, unit_of}
+use Rattle.values.specs.Entity.{entity_of, unit_of}
 use Rattle.values.specs.Tables.{but_last}
 use Rattle.periods.specs.Units.{UnitsAreInOrder, OtherTablesStay}
 use Rattle.periods.proofs.NoOverlapApart.{one_key}
@@ -44,7 +44,7 @@ lists_in_order (x ∷ w ∷ xs) (y ∷ z ∷ ys) same less g = by (value_cmp x y
 pub units_in_order : UnitsAreInOrder
 units_in_order periods k l wide less g = by (nat_cmp k.table l.table) refl less
   where
-    unit_is : (o p : Option Period) → o ≡ p → (nat_cmp k.table l.table ≡ Equal) → slice_cmp value_cmp k.parts l.parts ≡ Less → key_cmp (unit_by o k) (unit_by p l) ≢ Greater
+    unit_is : (o p : Option Period) → o ≡ p → (nat_cmp k.table l.table ≡ Equal) → slice_cmp value_cmp k.parts l.parts ≡ Less → key_cmp (elim o as (λ _. Key) [ None ↦ k | Some _ ↦ entity_of k ]) (elim p as (λ _. Key) [ None ↦ l | Some _ ↦ entity_of l ]) ≢ Greater
     unit_is None None same tie less g = cc
     unit_is None (Some q) same tie less g = cc
     unit_is (Some p) None same tie less g = cc
@@ -52,7 +52,7 @@ units_in_order periods k l wide less g = by (nat_cmp k.table l.table) refl less
         lists_in_order k.parts l.parts (wide (nat_cmp-IsAntisymmetric k.table l.table tie)) less
         (sym (ap (λ o. ordering_then o (slice_cmp value_cmp (but_last k.parts) (but_last l.parts))) tie) ∙ g)
 
-    low : (o p : Option Period) → nat_cmp k.table l.table ≡ Less → key_cmp (unit_by o k) (unit_by p l) ≡ Less
+    low : (o p : Option Period) → nat_cmp k.table l.table ≡ Less → key_cmp (elim o as (λ _. Key) [ None ↦ k | Some _ ↦ entity_of k ]) (elim p as (λ _. Key) [ None ↦ l | Some _ ↦ entity_of l ]) ≡ Less
     low None None e = ap (λ o. ordering_then o (slice_cmp value_cmp k.parts l.parts)) e
     low None (Some q) e = ap (λ o. ordering_then o (slice_cmp value_cmp k.parts (but_last l.parts))) e
     low (Some p) None e = ap (λ o. ordering_then o (slice_cmp value_cmp (but_last k.parts) l.parts)) e
@@ -68,7 +68,7 @@ units_in_order periods k l wide less g = by (nat_cmp k.table l.table) refl less
 
 module _ (periods : Periods) (start : ℕ) (k : Key) (none : periods k.table ≡ None) where
   key_of_unit : unit_of periods k ≡ k
-  key_of_unit = ap (λ o. unit_by o k) none
+  key_of_unit = ap (λ (o : Option Period). elim o as (λ _. Key) [ None ↦ k | Some _ ↦ entity_of k ]) none
 
   -- the unit of another key is this key where that is the key
   same_test : (l : Key) → is_key (unit_of periods k) (unit_of periods l) ≡ is_key k l
@@ -84,7 +84,7 @@ module _ (periods : Periods) (start : ℕ) (k : Key) (none : periods k.table ≡
           absurd_at : (p : Period) (u : Key) → periods u.table ≡ Some p → k.table ≡ u.table → ⊥
           absurd_at p u at same = let both : ◌≡◌ {A = Option Period} None (Some p) = sym none ∙ ap periods same ∙ at in cc
 
-      by : (o : Option Period) → periods l.table ≡ o → is_key k (unit_by o l) ≡ is_key k l
+      by : (o : Option Period) → periods l.table ≡ o → is_key k (elim o as (λ _. Key) [ None ↦ l | Some _ ↦ entity_of l ]) ≡ is_key k l
       by None at = refl
       by (Some p) at = differ p (entity_of l) at ∙ sym (differ p l at)
 

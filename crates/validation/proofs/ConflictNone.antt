@@ -1,7 +1,8 @@
 -- Where nothing was committed since the start, no unit was changed since, so nothing conflicts.
-use Rattle.std.proofs.Common.{◌≡◌, ℕ, ◌≤◌, Bool, true, false, List, [], ◌∷◌, Option, Some, None, refl, sym, ap, subst, ◌∙◌, arith, All}
+use Rattle.std.proofs.Common.{◌≡◌, ℕ, ◌≤◌, Bool, true, false, [], ◌∷◌, Option, Some, None, refl, sym, ap, subst, ◌∙◌, arith, All}
+use Rattle.std.specs.Option.{option_map}
 use Rattle.std.specs.Prelude.{nat_lt, ◌&&◌, if◌then◌else◌}
-use Rattle.std.specs.List.{slice_get}
+use Rattle.std.specs.List.{slice_get, cons_option}
 use Rattle.std.proofs.lemmas.Bool.Decides.{nat_tests}
 use Rattle.std.proofs.lemmas.List.Elements.{All-head, All-tail}
 use Rattle.values.specs.declared.key.Key.{Key}
@@ -39,7 +40,7 @@ none_among test last start before (c ∷ cs) upto =
 none_by : (changed : LookUp) → ((k : Key) → changed k ≡ None) → (net : Net) → conflicts_by changed net ≡ []
 none_by changed never [] = refl
 none_by changed never (c ∷ net) =
-    ap (λ o. elim o as (λ _. List (Key × ℕ)) [ None ↦ conflicts_by changed net | Some instant ↦ (c.0, instant) ∷ conflicts_by changed net ]) (never c.0)
+    ap (λ o. cons_option (option_map (λ (instant : ℕ). (c.0, instant)) o) (conflicts_by changed net)) (never c.0)
     ∙ none_by changed never net
 
 -- the events end by the last instant, which is no later than the start

@@ -2,7 +2,7 @@
 use Rattle.std.proofs.Common.{◌≡◌, ℕ, ◌<◌, Bool, true, false, List, [], ◌∷◌, Option, Some, None, refl, sym, ap, subst, ◌∙◌, arith, Result, Ok, Err, max, ◌+◌, nat_lt, zero, suc, length, drop, get_or}
 use Rattle.std.specs.Prelude.{◌==◌, ◌&&◌, is_some, if◌then◌else◌}
 use Rattle.std.specs.Option.{option_map}
-use Rattle.std.specs.List.{slice_get}
+use Rattle.std.specs.List.{slice_get, cons_option}
 use Rattle.std.specs.Map.{keys_of}
 use Rattle.std.proofs.lemmas.Bool.Decides.{nat_tests}
 use Rattle.std.proofs.lemmas.List.Elements.{All-head, All-tail}
@@ -16,7 +16,7 @@ use Rattle.values.specs.Order.{is_key}
 use Rattle.values.specs.Tables.{Schema, table_at}
 use Rattle.values.specs.TableRules.{IsTable}
 use Rattle.values.specs.Period.{Periods, periods_of}
-use Rattle.values.specs.Entity.{entity_of, unit_by, unit_of}
+use Rattle.values.specs.Entity.{entity_of, unit_of}
 use Rattle.values.specs.Log.{Changes, Net, Row, point_cmp}
 use Rattle.values.specs.Commits.{latest_of, unit_changed_since, outcome, max_instant}
 use Rattle.values.specs.ChangedSince.{conflicts}
@@ -40,7 +40,7 @@ off : (b : Bool) → (b ≡ true → ⊥) → b ≡ false
 off true never = absurd (never refl)
 off false never = refl
 
-table_of_unit : (o : Option Period) (k : Key) → (unit_by o k).table ≡ k.table
+table_of_unit : (o : Option Period) (k : Key) → (elim o as (λ _. Key) [ None ↦ k | Some _ ↦ entity_of k ]).table ≡ k.table
 table_of_unit None k = refl
 table_of_unit (Some p) k = refl
 
@@ -59,12 +59,12 @@ module _ (schema : Schema) (table : Table) (p : Period) (key : Key) (range : Key
   period_at k same = ap periods same ∙ ap (λ (o : Option Table). elim o as (λ _. Option Period) [ None ↦ None | Some t ↦ t.period ]) at ∙ has
 
   unit_is : unit_of periods key ≡ entity_of key
-  unit_is = ap (λ o. unit_by o key) (period_at key refl)
+  unit_is = ap (λ (o : Option Period). elim o as (λ _. Key) [ None ↦ key | Some _ ↦ entity_of key ]) (period_at key refl)
 
   here : (k : Key) → k.table ≡ key.table → IsKeyIn schema k → is_key_in range (bytes_of_key k) ≡ is_key (unit_of periods key) (unit_of periods k)
   here k same own_k =
       of (subst (λ n. IsTable n table) (sym good.numbered) good) p has (key_of_table (table_at schema key.table) table key at own) k (key_of_table (table_at schema k.table) table k (ap (table_at schema) same ∙ at) own_k)
-      ∙ (λ i. is_key (sym unit_is i) (sym (ap (λ o. unit_by o k) (period_at k same)) i))
+      ∙ (λ i. is_key (sym unit_is i) (sym (ap (λ (o : Option Period). elim o as (λ _. Key) [ None ↦ k | Some _ ↦ entity_of k ]) (period_at k same)) i))
 
   elsewhere : (k : Key) → (k.table ≡ key.table → ⊥) → is_key_in range (bytes_of_key k) ≡ is_key (unit_of periods key) (unit_of periods k)
   elsewhere k other =
@@ -105,7 +105,7 @@ of_key schema view start key found none is m held own =
     is
     ∙ ap (λ es. option_map (λ n. (key, n)) (event_since es start (bytes_of_key key))) held.events_are
     ∙ ap (option_map (λ n. (key, n))) (since_is schema m start key own held.keys)
-    ∙ (λ i. option_map (λ n. (sym (ap (λ o. unit_by o key) none) i, n)) (sym (other_tables_stay (periods_of schema) m start key (sorted_from point_cmp m held.in_order) none) i))
+    ∙ (λ i. option_map (λ n. (sym (ap (λ (o : Option Period). elim o as (λ _. Key) [ None ↦ key | Some _ ↦ entity_of key ]) none) i, n)) (sym (other_tables_stay (periods_of schema) m start key (sorted_from point_cmp m held.in_order) none) i))
 
 pub none_without : (schema : Schema) (key : Key) → table_at schema key.table ≡ None → periods_of schema key.table ≡ None
 none_without schema key is = no_period schema key None is refl
@@ -119,7 +119,7 @@ pub first_of : (periods : Periods) (m : Changes) (start : ℕ) (c : Key × Optio
     → slice_get (conflicts periods m start (c ∷ net)) 0 ≡ elim (conflict_of periods m start c.0) [ Some x ↦ Some x | None ↦ slice_get (conflicts periods m start net) 0 ]
 first_of periods m start c net = by (unit_changed_since periods m start (unit_of periods c.0))
   where
-    by : (o : Option ℕ) → ◌≡◌ {A = Option (Key × ℕ)} (slice_get (elim o as (λ _. List (Key × ℕ)) [ None ↦ conflicts periods m start net | Some instant ↦ (unit_of periods c.0, instant) ∷ conflicts periods m start net ]) 0)
+    by : (o : Option ℕ) → ◌≡◌ {A = Option (Key × ℕ)} (slice_get (cons_option (option_map (λ (instant : ℕ). (unit_of periods c.0, instant)) o) (conflicts periods m start net)) 0)
         (elim (option_map (λ i. (unit_of periods c.0, i)) o) [ Some x ↦ Some x | None ↦ slice_get (conflicts periods m start net) 0 ])
     by None = refl
     by (Some i) = refl
@@ -149,9 +149,9 @@ one_unit periods k l one = by (periods k.table) refl one
     by None at one = cc
     by (Some p) at one =
         let same : entity_of k ≡ entity_of l = one_key (entity_of k) (entity_of l) one in
-        ap (λ o. unit_by o k) at
+        ap (λ (o : Option Period). elim o as (λ _. Key) [ None ↦ k | Some _ ↦ entity_of k ]) at
         ∙ same
-        ∙ sym (ap (λ o. unit_by o l) (ap periods (sym (ap (λ (e : Key). e.table) same)) ∙ at))
+        ∙ sym (ap (λ (o : Option Period). elim o as (λ _. Key) [ None ↦ l | Some _ ↦ entity_of l ]) (ap periods (sym (ap (λ (e : Key). e.table) same)) ∙ at))
 
 pub none_behind : (periods : Periods) (m : Changes) (start : ℕ) (k l : Key) → conflict_of periods m start k ≡ None → (is_some (periods k.table) && is_key (entity_of k) (entity_of l)) ≡ true → None ≡ conflict_of periods m start l
 none_behind periods m start k l none one = sym none ∙ conflict_of_unit periods m start k l (one_unit periods k l one)

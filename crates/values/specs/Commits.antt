@@ -1,5 +1,6 @@
 -- How a transaction ends: the first committer wins.
-use Rattle.std.specs.Prelude.{ℕ, List, [], ◌∷◌, ◌++◌, ◌+◌, Option, Some, None, Result, Ok, Err, nat_lt, max, map, Bool, ◌&&◌, if◌then◌else◌}
+use Rattle.std.specs.Prelude.{ℕ, List, [], ◌∷◌, ◌++◌, ◌+◌, Option, Some, None, Result, Ok, Err, nat_lt, max, map, filter_map, Bool, ◌&&◌, if◌then◌else◌}
+use Rattle.std.specs.Option.{option_map}
 use Rattle.values.specs.declared.key.Key.{Key}
 use Rattle.values.specs.declared.refusal.Refusal.{Refusal}
 use Rattle.values.specs.declared.refusal.Refusal.TheVariants.{Conflict, ClockEnd}
@@ -17,11 +18,8 @@ LookUp = Key → Option ℕ
 
 -- the keys of the net changes that were changed since, each with the latest instant, by key
 abbrev pub conflicts_by : LookUp → Net → List (Key × ℕ)
-conflicts_by changed [] = []
-conflicts_by changed (change ∷ net) = elim (changed change.0) [
-  | None ↦ conflicts_by changed net
-  | Some instant ↦ (change.0, instant) ∷ conflicts_by changed net
-]
+conflicts_by changed net =
+    filter_map (λ c. option_map (λ instant. (c.0, instant)) (changed c.0)) net
 
 -- how a transaction ends, by what was changed since its start and the last instant
 abbrev pub outcome_by : LookUp → ℕ → Net → ℕ → Result (Option ℕ) Refusal

@@ -12,12 +12,8 @@ abbrev pub entity_of : Key → Key
 entity_of k = record { table = k.table; parts = but_last k.parts }
 
 -- what conflicts are looked for by: the entity where the table has a period, else the key
-abbrev pub unit_by : Option Period → Key → Key
-unit_by None k = k
-unit_by (Some p) k = entity_of k
-
 abbrev pub unit_of : Periods → Key → Key
-unit_of periods k = unit_by (periods k.table) k
+unit_of periods k = elim (periods k.table) [ None ↦ k | Some p ↦ entity_of k ]
 
 -- two rows of one entity, whose spans overlap
 abbrev pub clash_by : Option Period → (Key × Row) → (Key × Row) → Bool
