@@ -11,7 +11,7 @@ use Rattle.steps.specs.declared.step.Reply.TheVariants.{Begun, Inserted, Updated
 use Rattle.histories.specs.History.{History, reply, replies}
 use Rattle.histories.specs.World.{World}
 use Rattle.histories.specs.Stands.{Stands}
-use Rattle.steps.specs.Reply.{is_memory, is_out_of_memory}
+use Rattle.steps.specs.Reply.{is_out_of_memory}
 use Rattle.histories.specs.Memory.{takes_no_memory_after}
 use Rattle.histories.specs.WorldMemory.{takes_no_memory}
 use Rattle.histories.specs.Due.{AllAnswered, due, is_out_where_taken, OutWhereTaken}
@@ -28,7 +28,7 @@ pub ran_none : (schema : Schema) (steps rest : List Step) (w : World) (done : Li
 ran_none schema steps rest w done stands none all =
     subst (λ d. Ran schema steps w d rest) (sym none) (subst (λ r. Ran schema steps w [] r) (sym all) (record { history = []; stands = stands; to_come = λ given. refl; taken = λ given. refl }))
 
-pub is_memory_so : (refusal : Refusal) → is_memory refusal ≡ true → refusal ≡ Memory
+pub is_memory_so : (refusal : Refusal) → is_out_of_memory (Refused refusal) ≡ true → refusal ≡ Memory
 is_memory_so Memory e = refl
 is_memory_so (Syntax n) e = cc
 is_memory_so NoTable e = cc

@@ -24,7 +24,7 @@ use Rattle.steps.specs.Misfit.{max_session, keys_refusal, key_misfit, misfit}
 use Rattle.histories.specs.History.{History, schema_after, reply, reply_in}
 use Rattle.steps.specs.Idle.{is_idle}
 use Rattle.steps.specs.Write.{write}
-use Rattle.steps.specs.Reply.{written_reply, is_memory, is_out_of_memory}
+use Rattle.steps.specs.Reply.{written_reply, is_out_of_memory}
 use Rattle.values.specs.declared.table.ColumnType.{ColumnType}
 use Rattle.values.specs.Columns.{new_column, add_column, addition_fault}
 use Rattle.histories.proofs.StandsAltered.{alter_answers}
@@ -57,7 +57,7 @@ answers_in first w h Migrate fits stands = (refl, idle_stands first w h Migrate 
 
 abbrev names_memory_in : Option Refusal → Bool
 names_memory_in None = false
-names_memory_in (Some refusal) = is_memory refusal
+names_memory_in (Some refusal) = is_out_of_memory (Refused refusal)
 
 session_is_other : (b : Bool) → names_memory_in (if b then Some NoSession else None) ≡ false
 session_is_other true = refl

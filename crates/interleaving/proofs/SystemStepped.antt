@@ -12,7 +12,7 @@ use Rattle.histories.specs.History.{History, reply}
 use Rattle.histories.specs.World.{World}
 use Rattle.histories.specs.Turn.{Turn, turn_in}
 use Rattle.histories.specs.Stands.{Stands}
-use Rattle.steps.specs.Reply.{is_memory, is_out_of_memory}
+use Rattle.steps.specs.Reply.{is_out_of_memory}
 use Rattle.histories.proofs.TurnReplies.{Stepped, stepped, fitting_turn}
 use Rattle.treenodes.specs.Node.{TreeNode}
 use Rattle.treenodes.specs.History.{KeepsHistory, KeepsPast}
@@ -20,7 +20,7 @@ use Rattle.treenodes.proofs.HistoryKept.{keeps_same}
 use Rattle.tsbtree.specs.View.{TreeState}
 use Rattle.interleaving.specs.StepLeaves.{leaves_all, LeavesHistory}
 
-only_want : (refusal : Refusal) → is_memory refusal ≡ true → refusal ≡ Memory
+only_want : (refusal : Refusal) → is_out_of_memory (Refused refusal) ≡ true → refusal ≡ Memory
 only_want Memory h = refl
 only_want refusal h = cc
 

@@ -11,7 +11,7 @@ use Rattle.steps.specs.declared.step.Reply.{Reply}
 use Rattle.steps.specs.declared.step.Reply.TheVariants.{Refused}
 use Rattle.steps.specs.Misfit.{misfit}
 use Rattle.histories.specs.History.{History, reply}
-use Rattle.steps.specs.Reply.{is_memory, is_out_of_memory}
+use Rattle.steps.specs.Reply.{is_out_of_memory}
 use Rattle.histories.specs.Memory.{takes_no_memory_after}
 use Rattle.histories.specs.WorldMemory.{takes_no_memory}
 use Rattle.interleaving.specs.StepLeaves.{leaves_all}
@@ -39,8 +39,8 @@ prints_err a b (Ok done) text p f = tt
 prints_err a b (Err fault) text p f = f p
 
 -- a refusal but for memory is the one that was due
-other : (refusal : Refusal) → is_memory refusal ≡ false → refusal ≢ Memory
-other refusal e is = cc (sym e ∙ ap is_memory is)
+other : (refusal : Refusal) → is_out_of_memory (Refused refusal) ≡ false → refusal ≢ Memory
+other refusal e is = cc (sym e ∙ ap (λ (refusal : Refusal). is_out_of_memory (Refused refusal)) is)
 
 unless : (r : Refusal) (due : Result Line Refusal) → r ≢ Memory → UnlessMemory (Err r) due → due ≡ Err r
 unless Memory due other e = absurd (other refl)
@@ -167,9 +167,9 @@ step_broken a b s s' schema p step r so at e wrote = by (is_out_of_memory r) ref
 
 pub refused_broken : (a b : Option (List ℕ)) (s : Script) (schema : Schema) (p : Progress) (refusal : Refusal) → IsAt s schema p → IsRead (Err refusal) s
     → AppendsPrefix a b (refusal_text refusal) → Broken a b schema p s.line
-refused_broken a b s schema p refusal at is wrote = by (is_memory refusal) refl
+refused_broken a b s schema p refusal at is wrote = by (is_out_of_memory (Refused refusal)) refl
   where
-    by : (out : Bool) → is_memory refusal ≡ out → Broken a b schema p s.line
+    by : (out : Bool) → is_out_of_memory (Refused refusal) ≡ out → Broken a b schema p s.line
     by true e =
         let out = is_memory_so refusal e in
         out_broken a b schema p s.line (read_risky s schema p at (subst (λ r. IsRead (Err r) s) out is)) (subst (λ r. AppendsPrefix a b (refusal_text r)) out wrote)
@@ -177,9 +177,9 @@ refused_broken a b s schema p refusal at is wrote = by (is_memory refusal) refl
 
 pub refused_answered : (a b : Option (List ℕ)) (s : Script) (schema : Schema) (p : Progress) (refusal : Refusal) → IsAt s schema p → IsRead (Err refusal) s
     → Appends a b (refusal_text refusal) → Answered a b s schema p s.line
-refused_answered a b s schema p refusal at is wrote = by (is_memory refusal) refl
+refused_answered a b s schema p refusal at is wrote = by (is_out_of_memory (Refused refusal)) refl
   where
-    by : (out : Bool) → is_memory refusal ≡ out → Answered a b s schema p s.line
+    by : (out : Bool) → is_out_of_memory (Refused refusal) ≡ out → Answered a b s schema p s.line
     by true e =
         let out = is_memory_so refusal e in
         out_answered a b s schema p s.line (read_risky s schema p at (subst (λ r. IsRead (Err r) s) out is)) (subst (λ r. Appends a b (refusal_text r)) out wrote) at

@@ -18,7 +18,8 @@ use Rattle.values.specs.Portion.{portion_in, change_portion, portion_keys, taken
 use Rattle.steps.specs.declared.step.Step.{Step}
 use Rattle.steps.specs.declared.step.Step.TheVariants.{Begin, Insert, Update, Delete, UpdatePortion, DeletePortion, Select, Commit, Rollback, AddColumn, SplitKey, SplitTime, Migrate}
 use Rattle.steps.specs.Write.{write}
-use Rattle.steps.specs.Reply.{is_memory}
+use Rattle.steps.specs.declared.step.Reply.TheVariants.{Refused}
+use Rattle.steps.specs.Reply.{is_out_of_memory}
 
 abbrev pub is_err : Result ℕ Refusal → Bool
 is_err (Ok count) = false
@@ -26,7 +27,7 @@ is_err (Err refusal) = true
 
 abbrev pub names_memory : {A : Type 0} → Result A Refusal → Bool
 names_memory (Ok x) = false
-names_memory (Err refusal) = is_memory refusal
+names_memory (Err refusal) = is_out_of_memory (Refused refusal)
 
 pub record IsWritten (o : Own) (done : Written) : Type 0 where
   pub leaves : is_err done.0 ≡ true → done.1 ≡ o

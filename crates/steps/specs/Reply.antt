@@ -5,12 +5,12 @@ use Rattle.values.specs.declared.refusal.Refusal.TheVariants.{Memory}
 use Rattle.values.specs.Tables.{Schema}
 use Rattle.values.specs.Writes.{Own}
 use Rattle.steps.specs.declared.step.Step.{Step}
-use Rattle.steps.specs.declared.step.Step.TheVariants.{Begin, Insert, Update, Delete, UpdatePortion, DeletePortion, Select, Commit, Rollback, AddColumn, SplitKey, SplitTime, Migrate}
+use Rattle.steps.specs.declared.step.Step.TheVariants.{Begin, Insert, Update, Delete, UpdatePortion, DeletePortion, Commit, Rollback, AddColumn}
 use Rattle.steps.specs.declared.step.Reply.{Reply}
 use Rattle.steps.specs.declared.step.Reply.TheVariants.{Inserted, Updated, Deleted, Committed, Done, Refused}
 use Rattle.steps.specs.Idle.{is_idle}
 use Rattle.steps.specs.Misfit.{misfit}
-use Rattle.steps.specs.Write.{write}
+use Rattle.steps.specs.Write.{write, writer}
 
 abbrev pub write_count : Step → ℕ → Reply
 write_count (Insert i number rows) count = Inserted count
@@ -39,27 +39,15 @@ abbrev pub is_refused : Reply → Bool
 is_refused (Refused _) = true
 is_refused _ = false
 
-abbrev pub is_memory : Refusal → Bool
-is_memory Memory = true
-is_memory _ = false
-
 abbrev pub is_out_of_memory : Reply → Bool
-is_out_of_memory (Refused refusal) = is_memory refusal
+is_out_of_memory (Refused Memory) = true
 is_out_of_memory _ = false
 
 -- of a step that fits, by which sessions have a transaction open: BEGIN with one open, a write or
 -- COMMIT with none, ROLLBACK, and ALTER where any session has one open
 abbrev pub takes_no_memory_by : (ℕ → Bool) → Step → Bool
 takes_no_memory_by has_open (Begin i) = has_open i
-takes_no_memory_by has_open (Insert i number rows) = not (has_open i)
-takes_no_memory_by has_open (Update i keys sets) = not (has_open i)
-takes_no_memory_by has_open (Delete i keys) = not (has_open i)
-takes_no_memory_by has_open (UpdatePortion i keys cut sets) = not (has_open i)
-takes_no_memory_by has_open (DeletePortion i keys cut) = not (has_open i)
-takes_no_memory_by has_open (Select i form keys) = false
 takes_no_memory_by has_open (Commit i reading) = not (has_open i)
 takes_no_memory_by has_open (Rollback i) = true
 takes_no_memory_by has_open (AddColumn i number name of) = not (is_idle has_open)
-takes_no_memory_by has_open (SplitKey key) = false
-takes_no_memory_by has_open (SplitTime key instant) = false
-takes_no_memory_by has_open Migrate = false
+takes_no_memory_by has_open step = elim (writer step) [ Some i ↦ not (has_open i) | None ↦ false ]
