@@ -4,8 +4,8 @@ use Rattle.std.specs.Prelude.{◌&&◌, Bool, true, false, Option, Some, None, i
 use Rattle.std.specs.Option.{option_map}
 use Rattle.values.specs.Tables.{Schema}
 use Rattle.values.specs.Log.{Log}
-use Rattle.histories.specs.History.{History, ends, begins, before_open, log, log_at_begin}
-use Rattle.histories.specs.Law.{OpensAtItsBegin}
+use Rattle.histories.specs.History.{History, ends, begins, log, log_at_begin}
+use Rattle.histories.specs.Law.{before_open, OpensAtItsBegin}
 
 step_same : (e b : Bool) (now : Log) (h : History) (f : History → Log) (o : Option Log) (g : Option History) → f h ≡ now → o ≡ option_map f g
     → ◌≡◌ {A = Option Log} (if e then None else if b && is_none o then Some now else o) (option_map f (if e then None else if b then elim g [ Some g ↦ Some g | None ↦ Some h ] else g))

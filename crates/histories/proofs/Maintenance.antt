@@ -1,6 +1,6 @@
 -- Steps of maintenance change no reply to another step, and nothing of what is committed.
-use Rattle.std.proofs.Common.{◌≡◌, ℕ, Bool, true, false, Option, List, [], ◌∷◌, ◌++◌, Some, None, refl, ap}
-use Rattle.std.specs.Prelude.{if◌then◌else◌, ◌&&◌, is_none, is_some}
+use Rattle.std.proofs.Common.{◌≡◌, ℕ, true, List, [], ◌∷◌, ◌++◌, Some, None, refl, ap}
+use Rattle.std.specs.Prelude.{if◌then◌else◌, ◌&&◌, ◌||◌, not, is_none}
 use Rattle.values.specs.declared.table.Table.{Table}
 use Rattle.values.specs.declared.query.Form.{Form}
 use Rattle.values.specs.declared.query.Form.TheVariants.{Plain, AsOf, FromTo, Between}
@@ -16,7 +16,7 @@ use Rattle.steps.specs.declared.step.Step.TheVariants.{Begin, Insert, Update, De
 use Rattle.steps.specs.declared.step.Listing.TheVariants.{Rows, Periods}
 use Rattle.steps.specs.declared.step.Reply.TheVariants.{Begun, RolledBack, Altered, Refused, Shown as Shows}
 use Rattle.steps.specs.Misfit.{misfit}
-use Rattle.histories.specs.History.{History, schema_after, schema_by, has_open, before_open, log, log_at_begin, own, own_of, mine_of, snap_of, net_change_of, is_kept, ends, begins, listing, reply, reply_in, replies}
+use Rattle.histories.specs.History.{History, schema_after, schema_by, has_open, log, log_at_begin, own, own_of, mine_of, snap_of, net_change_of, is_kept, ends, begins, listing, reply, reply_in, replies}
 use Rattle.steps.specs.Idle.{is_idle}
 use Rattle.steps.specs.Reply.{commit_reply, write_reply}
 use Rattle.steps.specs.Listing.{rows_taken, rows_of}
@@ -31,15 +31,6 @@ module _ (schema : Schema) where
     same_own : (i : ℕ) → own schema h i ≡ own schema g i
     same_tables : schema_after schema h ≡ schema_after schema g
     same_open : (i : ℕ) → has_open h i ≡ has_open g i
-
-  open_step : (e b : Bool) (o p : Option History) (h g : History) → is_some o ≡ is_some p
-      → ◌≡◌ {A = Bool} (is_some (if e then None else if b then elim o [ Some x ↦ Some x | None ↦ Some h ] else o)) (is_some (if e then None else if b then elim p [ Some x ↦ Some x | None ↦ Some g ] else p))
-  open_step true b o p h g same = refl
-  open_step false true None None h g same = refl
-  open_step false true None (Some y) h g same = refl
-  open_step false true (Some x) None h g same = refl
-  open_step false true (Some x) (Some y) h g same = refl
-  open_step false false o p h g same = same
 
   log_more : (h g : History) (step : Step) → AreAlike h g → log schema (step ∷ h) ≡ log schema (step ∷ g)
   log_more h g (Commit i reading) alike =
@@ -66,7 +57,7 @@ module _ (schema : Schema) where
     same_opened = λ i k. if ends i step then None else if begins i step && is_none (alike.same_opened i k) then Some (alike.same_log k) else alike.same_opened i k;
     same_own = λ i k. if ends i step then [] else if is_kept (alike.same_tables k) step i (alike.same_log k) (alike.same_opened i k) (alike.same_own i k) then alike.same_own i k ++ step ∷ [] else alike.same_own i k;
     same_tables = λ k. schema_by (alike.same_tables k) (is_idle (λ i. alike.same_open i k)) step;
-    same_open = λ i. open_step (ends i step) (begins i step) (before_open i h) (before_open i g) h g (alike.same_open i);
+    same_open = λ i k. not (ends i step) && (begins i step || alike.same_open i k);
   }
 
   -- a step that changes nothing is left out

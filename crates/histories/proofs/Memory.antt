@@ -1,6 +1,7 @@
 -- Which steps take no memory is one thing by the system and by the history.
-use Rattle.std.proofs.Common.{◌≡◌, ℕ, zero, suc, ◌≤◌, Bool, List, Option, Some, None, refl, ap, ◌∙◌, arith}
+use Rattle.std.proofs.Common.{◌≡◌, ℕ, zero, suc, ◌+◌, ◌≤◌, ◌<◌, Bool, List, Option, Some, None, refl, ap, ◌∙◌, arith}
 use Rattle.std.specs.Prelude.{◌||◌, ◌&&◌, is_some, not}
+use Rattle.std.specs.List.{list_all, range_with_len}
 use Rattle.values.specs.declared.refusal.Refusal.{Refusal}
 use Rattle.values.specs.Tables.{Schema}
 use Rattle.values.specs.Log.{Log}
@@ -8,7 +9,6 @@ use Rattle.steps.specs.declared.step.Step.{Step}
 use Rattle.steps.specs.declared.step.Step.TheVariants.{Begin, Insert, Update, Delete, UpdatePortion, DeletePortion, Select, Commit, Rollback, AddColumn, SplitKey, SplitTime, Migrate}
 use Rattle.steps.specs.Misfit.{max_session, misfit}
 use Rattle.histories.specs.History.{History, schema_after, log, log_at_begin, own}
-use Rattle.steps.specs.Idle.{is_idle_to}
 use Rattle.steps.specs.Reply.{takes_no_memory_by}
 use Rattle.histories.specs.TurnLaw.{MemoryIsTakenAlike}
 use Rattle.histories.specs.World.{World}
@@ -22,10 +22,14 @@ open_alike schema now (Some before) writes = refl
 pub is_open : (first : Schema) (w : World) (h : History) (i : ℕ) → i ≤ max_session → Stands first w h → is_some (open_at w i) ≡ is_some (log_at_begin first h i)
 is_open first w h i small stands = ap is_some (stands.sessions_are i small) ∙ open_alike (schema_after first h) (log first h) (log_at_begin first h i) (own first h i)
 
--- what holds of each session up to one
-pub idle_alike : (n : ℕ) (f g : ℕ → Bool) → ((j : ℕ) → j ≤ n → f j ≡ g j) → is_idle_to n f ≡ is_idle_to n g
-idle_alike zero f g same = ap not (same 0 (omega arith))
-idle_alike (suc n) f g same = λ k. not (same (suc n) (omega arith) k) && idle_alike n f g (λ j small. same j (omega arith)) k
+-- what holds of each session from one on
+all_alike : (a n : ℕ) (f g : ℕ → Bool) → ((j : ℕ) → j < a + n → f j ≡ g j) → list_all (λ i. not (f i)) (range_with_len a n) ≡ list_all (λ i. not (g i)) (range_with_len a n)
+all_alike a zero f g same = refl
+all_alike a (suc n) f g same = λ k. not (same a (omega arith) k) && all_alike (a + 1) n f g (λ j small. same j (omega (arith, small))) k
+
+-- and of each up to one
+pub idle_alike : (n : ℕ) (f g : ℕ → Bool) → ((j : ℕ) → j ≤ n → f j ≡ g j) → list_all (λ i. not (f i)) (range_with_len 0 (n + 1)) ≡ list_all (λ i. not (g i)) (range_with_len 0 (n + 1))
+idle_alike n f g same = all_alike 0 (n + 1) f g (λ j small. same j (omega (arith, small)))
 
 fitting_alike : (first : Schema) (w : World) (h : History) (step : Step) → misfit (schema_after first h) step ≡ None → Stands first w h
     → takes_no_memory_by (λ i. is_some (open_at w i)) step ≡ takes_no_memory_by (λ i. is_some (log_at_begin first h i)) step

@@ -1,8 +1,8 @@
 -- A column is added by the system where it is by the history.
-use Rattle.std.proofs.Common.{◌≡◌, ℕ, zero, suc, ◌≤◌, Bool, true, false, List, ◌∷◌, Option, Some, None, refl, sym, ap, subst, ◌∙◌, arith}
-use Rattle.std.specs.Prelude.{if◌then◌else◌, ◌&&◌, is_some, is_none, not, nat_le}
+use Rattle.std.proofs.Common.{◌≡◌, ℕ, zero, suc, ◌+◌, ◌≤◌, ◌<◌, Bool, true, false, List, [], ◌∷◌, Option, Some, None, refl, sym, ap, subst, ◌∙◌, arith}
+use Rattle.std.specs.Prelude.{if◌then◌else◌, ◌&&◌, ◌||◌, ◌==◌, is_some, is_none, not}
 use Rattle.std.proofs.lemmas.Bool.Decides.{nat_tests}
-use Rattle.std.specs.Option.{option_map}
+use Rattle.std.specs.List.{list_all, range_with_len}
 use Rattle.std.proofs.lemmas.Bool.{and_parts}
 use Rattle.values.specs.declared.table.ColumnType.{ColumnType}
 use Rattle.values.specs.Tables.{Schema}
@@ -12,23 +12,25 @@ use Rattle.steps.specs.declared.step.Step.TheVariants.{AddColumn}
 use Rattle.steps.specs.declared.step.Reply.TheVariants.{Altered, Refused}
 use Rattle.values.specs.Columns.{new_column, add_column}
 use Rattle.steps.specs.Misfit.{max_session, misfit}
-use Rattle.steps.specs.Idle.{is_idle, is_idle_to}
-use Rattle.histories.specs.History.{History, before_open, has_open, schema_after, log, log_at_begin, own, reply_in}
+use Rattle.steps.specs.Idle.{is_idle}
+use Rattle.histories.specs.History.{History, ends, begins, has_open, schema_after, log, log_at_begin, own, reply_in}
 use Rattle.histories.specs.World.{World}
 use Rattle.histories.specs.Stands.{Stands, open_from, is_open_at}
 use Rattle.histories.specs.Turn.{Turn, with_schema, alter_turn}
-use Rattle.histories.proofs.HistoryOpens.{opens_at_its_begin}
 use Rattle.histories.proofs.HistoryIdle.{idle_stands}
 use Rattle.histories.proofs.Memory.{idle_alike, is_open}
 
 -- ---- none is open by the one and by the other
 
-mapped : (f : History → Log) (o : Option History) → is_some (option_map f o) ≡ is_some o
-mapped f None = refl
-mapped f (Some g) = refl
+opened : (e b o : Bool) (now : Log) (begun : Option Log) → is_some begun ≡ o → is_some (if e then None else if b && is_none begun then Some now else begun) ≡ (not e && (b || o))
+opened true b o now begun is = refl
+opened false true o now None is = refl
+opened false true o now (Some before) is = refl
+opened false false o now begun is = is
 
 pub begun_alike : (first : Schema) (h : History) (i : ℕ) → is_some (log_at_begin first h i) ≡ has_open h i
-begun_alike first h i = ap is_some (opens_at_its_begin first h i) ∙ mapped (log first) (before_open i h)
+begun_alike first [] i = refl
+begun_alike first (step ∷ h) i = opened (ends i step) (begins i step) (has_open h i) (log first h) (log_at_begin first h i) (begun_alike first h i)
 
 idle_is : (first : Schema) (w : World) (h : History) → Stands first w h → is_idle (is_open_at w) ≡ is_idle (has_open h)
 idle_is first w h stands = idle_alike max_session (is_open_at w) (has_open h) (λ j small. is_open first w h j small stands ∙ begun_alike first h j)
@@ -37,16 +39,18 @@ negated : (b : Bool) → not b ≡ true → b ≡ false
 negated true e = cc
 negated false e = refl
 
-pub each_closed : (n : ℕ) (f : ℕ → Bool) → is_idle_to n f ≡ true → (j : ℕ) → j ≤ n → f j ≡ false
-each_closed zero f e j small = let is : j ≡ 0 = omega (arith, small) in ap f is ∙ negated (f 0) e
-each_closed (suc n) f e j small = let parts = and_parts (not (f (suc n))) (is_idle_to n f) e in at_end (nat_le j n) j refl small (each_closed n f parts.1 j) (negated (f (suc n)) parts.0)
+all_closed : (a n : ℕ) (f : ℕ → Bool) → list_all (λ i. not (f i)) (range_with_len a n) ≡ true → (j : ℕ) → a ≤ j → j < a + n → f j ≡ false
+all_closed a zero f e j low high = absurd (omega (arith, low, high))
+all_closed a (suc n) f e j low high =
+    let parts = and_parts (not (f a)) (list_all (λ i. not (f i)) (range_with_len (a + 1) n)) e in
+    by (j == a) refl (negated (f a) parts.0) (all_closed (a + 1) n f parts.1 j)
   where
-    beyond : (j : ℕ) → nat_le j n ≡ false → j ≤ suc n → j ≡ suc n
-    beyond j e small = grind (arith, nat_tests)
+    by : (b : Bool) → (j == a) ≡ b → f a ≡ false → (a + 1 ≤ j → j < a + 1 + n → f j ≡ false) → f j ≡ false
+    by true e at beyond = let is : j ≡ a = grind (arith, nat_tests) in ap f is ∙ at
+    by false e at beyond = beyond (grind (arith, nat_tests)) (omega (arith, high))
 
-    at_end : (b : Bool) (j : ℕ) → nat_le j n ≡ b → j ≤ suc n → (j ≤ n → f j ≡ false) → f (suc n) ≡ false → f j ≡ false
-    at_end true j e small below at = below (grind (arith, nat_tests))
-    at_end false j e small below at = let is : j ≡ suc n = beyond j e small in ap f is ∙ at
+pub each_closed : (n : ℕ) (f : ℕ → Bool) → list_all (λ i. not (f i)) (range_with_len 0 (n + 1)) ≡ true → (j : ℕ) → j ≤ n → f j ≡ false
+each_closed n f e j small = all_closed 0 (n + 1) f e j (omega arith) (omega (arith, small))
 
 pub none_of : (o : Option Log) → is_some o ≡ false → o ≡ None
 none_of None e = refl

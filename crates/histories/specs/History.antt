@@ -1,5 +1,5 @@
 -- What a list of steps comes to, and the reply to each.
-use Rattle.std.specs.Prelude.{ℕ, List, [], ◌∷◌, ◌++◌, ◌&&◌, Option, Some, None, Bool, false, is_some, is_none, if◌then◌else◌, not, nat_le, ◌==◌}
+use Rattle.std.specs.Prelude.{ℕ, List, [], ◌∷◌, ◌++◌, ◌&&◌, ◌||◌, Option, Some, None, Bool, false, is_some, is_none, if◌then◌else◌, not, nat_le, ◌==◌}
 use Rattle.values.specs.declared.key.Key.{Key}
 use Rattle.values.specs.declared.table.Table.{Table}
 use Rattle.values.specs.declared.query.Form.{Form}
@@ -40,17 +40,10 @@ abbrev pub begins : ℕ → Step → Bool
 begins i (Begin j) = (i == j) && nat_le i max_session
 begins i step = false
 
--- the steps before the session's first BEGIN after its last end, or none where none is open
-abbrev pub before_open : ℕ → History → Option History
-before_open i [] = None
-before_open i (step ∷ h) =
-    if ends i step then None
-    else if begins i step then elim (before_open i h) [ Some g ↦ Some g | None ↦ Some h ]
-    else before_open i h
-
--- which sessions have a transaction open
+-- which sessions have a transaction open: they have had a BEGIN since their last end
 abbrev pub has_open : History → ℕ → Bool
-has_open h i = is_some (before_open i h)
+has_open [] i = false
+has_open (step ∷ h) i = not (ends i step) && (begins i step || has_open h i)
 
 -- the tables after a step, by those before it: a step that adds a column, and fits, adds it where
 -- no session has a transaction open

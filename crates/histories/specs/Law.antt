@@ -1,5 +1,5 @@
 -- What the definitions amount to.
-use Rattle.std.specs.Prelude.{◌≡◌, ℕ, ◌≤◌, ◌∷◌, ◌++◌, List, Some, map}
+use Rattle.std.specs.Prelude.{◌≡◌, ℕ, ◌≤◌, [], ◌∷◌, ◌++◌, List, Option, Some, None, if◌then◌else◌, map}
 use Rattle.std.specs.Option.{option_map}
 use Rattle.values.specs.declared.query.Form.{Form}
 use Rattle.values.specs.declared.query.Form.TheVariants.{AsOf}
@@ -22,8 +22,16 @@ use Rattle.steps.specs.Write.{writer}
 use Rattle.histories.specs.Due.{AllAnswered, due}
 use Rattle.histories.specs.Maintenance.{without_maintenance, with_maintenance}
 use Rattle.steps.specs.Misfit.{max_session}
-use Rattle.histories.specs.History.{History, schema_after, before_open, log, log_at_begin, mine, net, own, snap, listing, reply, replies}
+use Rattle.histories.specs.History.{History, schema_after, ends, begins, log, log_at_begin, mine, net, own, snap, listing, reply, replies}
 use Rattle.histories.specs.Winners.{winners, AreConcurrent, ShareAUnit}
+
+-- the steps before the session's first BEGIN after its last end, or none where none is open
+abbrev pub before_open : ℕ → History → Option History
+before_open i [] = None
+before_open i (step ∷ h) =
+    if ends i step then None
+    else if begins i step then elim (before_open i h) [ Some g ↦ Some g | None ↦ Some h ]
+    else before_open i h
 
 -- a session's open transaction began at the log of the steps before its BEGIN
 abbrev pub OpensAtItsBegin : Schema → Type 0

@@ -1,11 +1,8 @@
 -- That no session has a transaction open, by a test of each.
-use Rattle.std.specs.Prelude.{ℕ, Bool, ◌&&◌, not, zero, suc}
+use Rattle.std.specs.Prelude.{ℕ, Bool, not, ◌+◌}
+use Rattle.std.specs.List.{list_all, range_with_len}
 use Rattle.steps.specs.Misfit.{max_session}
 
--- none up to this one has
-abbrev pub is_idle_to : ℕ → (ℕ → Bool) → Bool
-is_idle_to zero has_open = not (has_open 0)
-is_idle_to (suc i) has_open = not (has_open (suc i)) && is_idle_to i has_open
-
+-- none of the sessions, from 0 on, has
 abbrev pub is_idle : (ℕ → Bool) → Bool
-is_idle has_open = is_idle_to max_session has_open
+is_idle has_open = list_all (λ i. not (has_open i)) (range_with_len 0 (max_session + 1))
