@@ -25,14 +25,14 @@ use Rattle.steps.specs.Reply.{commit_reply}
 use Rattle.periods.proofs.NoOverlapApart.{one_key}
 use Rattle.periods.proofs.NoOverlapMerge.{IsFresh, IsOver, fresh_units, itself, net_last, touched_is, untouched_is}
 use Rattle.histories.specs.CommitLaw.{committed, CommitsAtItsInstant, IsCommittedAt, OthersCommitNothing, TouchedRowsAreSeen, Touches, UntouchedRowsStay}
-use Rattle.histories.specs.History.{History, log, log_at_begin, mine, net, own, reply_in, schema_after, snap, snap_of, written_keys}
+use Rattle.histories.specs.History.{History, log, log_at_begin, mine, net, own, reply_in, schema_after, snap, snap_of}
 use Rattle.histories.proofs.ConflictFound.{all_of, each_itself}
 use Rattle.histories.proofs.ConflictLeast.{beyond, end_now, replies_so}
 use Rattle.histories.proofs.HistoryGrowth.{log_rises, outcome_above}
 use Rattle.histories.proofs.HistoryIdle.{none_open}
 use Rattle.histories.proofs.HistoryPast.{snap_below}
 use Rattle.histories.proofs.HistoryTables.{periods_stay}
-use Rattle.histories.proofs.PeriodLawApart.{state_push}
+use Rattle.histories.proofs.PeriodLawApart.{state_push, written_keys}
 use Rattle.histories.proofs.PeriodLawWrites.{writes_after}
 use Rattle.histories.proofs.Winners.{none_found}
 use Rattle.histories.proofs.WorldGrowth.{last_push}

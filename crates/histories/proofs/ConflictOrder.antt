@@ -32,10 +32,11 @@ use Rattle.steps.specs.Write.{write}
 use Rattle.periods.specs.NoOverlap.{IsKeyedIn, AreKeyed}
 use Rattle.periods.proofs.NoOverlapApart.{one_key}
 use Rattle.periods.proofs.UnitsOrder.{units_in_order}
-use Rattle.histories.specs.History.{History, schema_after, log, log_at_begin, own, own_of, rewrite_all, snap, mine, net, written_keys}
+use Rattle.histories.specs.History.{History, schema_after, log, log_at_begin, own, own_of, rewrite_all, snap, mine, net}
 use Rattle.histories.proofs.HistoryGrowth.{log_rises}
 use Rattle.histories.proofs.HistorySorted.{Sorted, sorted_deleted, sorted_inserted, sorted_portion, sorted_updated}
 use Rattle.histories.proofs.PeriodLawApart as apart
+use Rattle.histories.proofs.PeriodLawApart.{written_keys}
 
 -- ---- the order of keys
 

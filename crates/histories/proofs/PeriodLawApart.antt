@@ -18,7 +18,7 @@ use Rattle.periods.specs.NoOverlap.{IsKeyedIn}
 use Rattle.periods.proofs.NoOverlapMerge.{IsOver, commit_apart}
 use Rattle.periods.proofs.NoOverlapNets.{each_net, new_of_net}
 use Rattle.periods.proofs.NoOverlapStatements.{IsSound}
-use Rattle.histories.specs.History.{History, schema_after, log, log_at_begin, own, snap, snap_of, mine, written_keys, net}
+use Rattle.histories.specs.History.{History, schema_after, log, log_at_begin, own, own_of, snap, snap_of, mine, net}
 use Rattle.histories.specs.PeriodLaw.{NeverOverlap, OwnNeverOverlap}
 use Rattle.histories.proofs.HistoryGrowth.{outcome_above, log_rises}
 use Rattle.histories.proofs.HistoryOwn.{own_fits}
@@ -46,6 +46,10 @@ state_push log t s rises above within =
 decided : {P : Type 0} (b : Bool) (i t : ℕ) → nat_le i t ≡ b → (i ≤ t → P) → (t < i → P) → P
 decided true i t e from_then before = from_then (grind (arith, nat_tests))
 decided false i t e from_then before = before (grind (arith, nat_tests))
+
+-- the keys that a session's transaction wrote
+abbrev pub written_keys : Schema → History → ℕ → List Key
+written_keys first h i = (own_of (schema_after first h) (log first h) (log_at_begin first h i) (own first h i)).written
 
 module _ (first : Schema) (good : AreTables 1 first.tables) where
   abbrev Sound : State → Type 0

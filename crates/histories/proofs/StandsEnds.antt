@@ -18,7 +18,7 @@ use Rattle.steps.specs.declared.step.Step.{Step}
 use Rattle.steps.specs.declared.step.Step.TheVariants.{Commit, Rollback}
 use Rattle.steps.specs.declared.step.Reply.{Reply}
 use Rattle.steps.specs.declared.step.Reply.TheVariants.{Refused, RolledBack}
-use Rattle.histories.specs.History.{History, schema_after, log, log_at_begin, own, reply_in, net, net_change_of, snap, snap_of, mine_of, written_of}
+use Rattle.histories.specs.History.{History, schema_after, log, log_at_begin, own, own_of, reply_in, net, net_change_of, snap, snap_of, mine_of}
 use Rattle.steps.specs.Reply.{commit_reply}
 use Rattle.histories.specs.World.{OpenTransaction, World}
 use Rattle.histories.specs.Stands.{Stands, open_in, open_from, open_at}
@@ -119,10 +119,10 @@ commit_by_end first w h i reading net (Err refusal) small stands is_log = (
 
 -- the net changes by the code and by the history
 net_same : (first : Schema) (w : World) (h : History) (before : Log) (own : List Step) → Stands first w h
-    → net_in w.changes (record { start = last before; rows = mine_of (schema_after first h) (log first h) (Some before) own; written = written_of (schema_after first h) (log first h) (Some before) own })
+    → net_in w.changes (record { start = last before; rows = mine_of (schema_after first h) (log first h) (Some before) own; written = (own_of (schema_after first h) (log first h) (Some before) own).written })
     ≡ net_change_of (schema_after first h) (log first h) (Some before) own
 net_same first w h before own stands =
-    λ i. filter (λ c. is_some c.1 || there c.0 i) (map (λ k. (k, row_at (mine_of (schema_after first h) (log first h) (Some before) own) k)) (written_of (schema_after first h) (log first h) (Some before) own))
+    λ i. filter (λ c. is_some c.1 || there c.0 i) (map (λ k. (k, row_at (mine_of (schema_after first h) (log first h) (Some before) own) k)) (own_of (schema_after first h) (log first h) (Some before) own).written)
   where
     there : (k : Key) → was_there w.changes (last before) k ≡ is_some (row_at (state (log first h) (last before)) k)
     there k = ap (λ m. was_there m (last before) k) stands.changes_are ∙ was_there_is (log first h) (last before) k (log_rises first h)

@@ -1,6 +1,5 @@
 -- What a list of steps comes to, and the reply to each.
 use Rattle.std.specs.Prelude.{ℕ, List, [], ◌∷◌, ◌++◌, ◌&&◌, ◌||◌, Option, Some, None, Bool, false, is_some, is_none, if◌then◌else◌, not, nat_le, ◌==◌}
-use Rattle.values.specs.declared.key.Key.{Key}
 use Rattle.values.specs.declared.table.Table.{Table}
 use Rattle.values.specs.declared.query.Form.{Form}
 use Rattle.values.specs.declared.query.Form.TheVariants.{Plain, AsOf, FromTo, Between}
@@ -15,7 +14,7 @@ use Rattle.values.specs.Period.{periods_of}
 use Rattle.values.specs.Commits.{outcome, after}
 use Rattle.values.specs.Writes.{Own, net_of}
 use Rattle.steps.specs.declared.step.Step.{Step}
-use Rattle.steps.specs.declared.step.Step.TheVariants.{Begin, Select, Commit, Rollback, AddColumn, SplitKey, SplitTime, Migrate}
+use Rattle.steps.specs.declared.step.Step.TheVariants.{Begin, Select, Commit, Rollback, AddColumn}
 use Rattle.steps.specs.declared.step.Listing.{Listing}
 use Rattle.steps.specs.declared.step.Listing.TheVariants.{Rows, Periods}
 use Rattle.steps.specs.declared.step.Reply.{Reply}
@@ -80,14 +79,10 @@ module _ (schema : Schema) where
   abbrev pub mine_of : Log → Option Log → List Step → State
   mine_of now log_at_begin own = (own_of now log_at_begin own).rows
 
-  -- in order
-  abbrev pub written_of : Log → Option Log → List Step → List Key
-  written_of now log_at_begin own = (own_of now log_at_begin own).written
-
   abbrev pub net_change_of : Log → Option Log → List Step → Net
   net_change_of now log_at_begin own =
       net_of (seen_of now log_at_begin)
-      (mine_of now log_at_begin own) (written_of now log_at_begin own)
+      (own_of now log_at_begin own).rows (own_of now log_at_begin own).written
 
   -- a write that is the session's and is not refused, with one open
   abbrev pub is_kept : Step → ℕ → Log → Option Log → List Step → Bool
@@ -125,21 +120,14 @@ module _ (first : Schema) where
         then own h i ++ step ∷ []
         else own h i
 
-  -- the tables now
-  abbrev pub schema : History → Schema
-  schema h = schema_after first h
-
   abbrev pub snap : History → ℕ → ℕ
   snap h i = snap_of (log h) (log_at_begin h i)
 
   abbrev pub mine : History → ℕ → State
-  mine h i = mine_of (schema h) (log h) (log_at_begin h i) (own h i)
-
-  abbrev pub written_keys : History → ℕ → List Key
-  written_keys h i = written_of (schema h) (log h) (log_at_begin h i) (own h i)
+  mine h i = mine_of (schema_after first h) (log h) (log_at_begin h i) (own h i)
 
   abbrev pub net : History → ℕ → Net
-  net h i = net_change_of (schema h) (log h) (log_at_begin h i) (own h i)
+  net h i = net_change_of (schema_after first h) (log h) (log_at_begin h i) (own h i)
 
   -- what a query of a table shows of what was committed when the session's transaction began
   abbrev pub answer_in : History → ℕ → Form → Table → Keys → List Shown
@@ -161,13 +149,13 @@ module _ (first : Schema) where
     | Some before ↦ Refused InTransaction
     | None ↦ Begun (last (log h))
   ]
-  reply_in h (Select i form keys) = elim (table_at (schema h) keys.table) [
+  reply_in h (Select i form keys) = elim (table_at (schema_after first h) keys.table) [
     | None ↦ Refused NoTable
     | Some table ↦ Shows (listing h i form table keys)
   ]
   reply_in h (Commit i reading) = elim (log_at_begin h i) [
     | Some before ↦
-        commit_reply (outcome (periods_of (schema h)) (changes (log h)) (last (log h)) (snap h i) (net h i) reading)
+        commit_reply (outcome (periods_of (schema_after first h)) (changes (log h)) (last (log h)) (snap h i) (net h i) reading)
     | None ↦ Refused NoTransaction
   ]
   reply_in h (Rollback i) = elim (log_at_begin h i) [
@@ -176,20 +164,17 @@ module _ (first : Schema) where
   ]
   reply_in h (AddColumn i number name of) =
       if is_idle (has_open h) then Altered else Refused TransactionsOpen
-  reply_in h (SplitKey key) = Done
-  reply_in h (SplitTime key instant) = Done
-  reply_in h Migrate = Done
   reply_in h step = elim (writer step) [
     | None ↦ Done
     | Some i ↦ elim (log_at_begin h i) [
       | None ↦ Refused NoTransaction
       | Some before ↦
-          write_reply (schema h) step (own_of (schema h) (log h) (log_at_begin h i) (own h i))
+          write_reply (schema_after first h) step (own_of (schema_after first h) (log h) (log_at_begin h i) (own h i))
     ]
   ]
 
   abbrev pub reply : History → Step → Reply
-  reply h step = elim (misfit (schema h) step) [
+  reply h step = elim (misfit (schema_after first h) step) [
     | Some refusal ↦ Refused refusal
     | None ↦ reply_in h step
   ]

@@ -4,7 +4,7 @@ use Rattle.values.specs.Tables.{Schema}
 use Rattle.values.specs.Log.{Log, last, changes}
 use Rattle.steps.specs.declared.step.Step.{Step}
 use Rattle.steps.specs.Misfit.{max_session}
-use Rattle.histories.specs.History.{History, schema_after, log, log_at_begin, own, mine_of, written_of}
+use Rattle.histories.specs.History.{History, schema_after, log, log_at_begin, own, own_of, mine_of}
 use Rattle.histories.specs.World.{OpenTransaction, World}
 
 -- by the log now, the log at its BEGIN, where one is open, and its writes so far
@@ -13,7 +13,7 @@ open_from schema now None own = None
 open_from schema now (Some before) own = Some (record {
   start = last before;
   rows = mine_of schema now (Some before) own;
-  written = written_of schema now (Some before) own;
+  written = (own_of schema now (Some before) own).written;
 })
 
 -- the session's open transaction, as the history has it
