@@ -1,5 +1,6 @@
 //! Tests of `sessions`, `serving`, `migrator` and `listening` by their public calls: sessions and rounds
-//! round one store, and clients over sockets.
+//! round one store, and clients over sockets; and of `statement`, `scripts`, `interchange` and
+//! `command_line` what no run of the program shows.
 #![tactic(auto)]
 
 #[cfg(test)]
@@ -11,17 +12,31 @@ mod client;
 #[cfg(test)]
 mod closing_tests;
 #[cfg(test)]
+mod cut;
+#[cfg(test)]
 mod desk;
 #[cfg(test)]
 mod end_tests;
 #[cfg(test)]
+mod export_tests;
+#[cfg(test)]
 mod few_tests;
+#[cfg(test)]
+mod first_tests;
 #[cfg(test)]
 mod install_tests;
 #[cfg(test)]
 mod line_tests;
 #[cfg(test)]
+mod load_from_tests;
+#[cfg(test)]
+mod load_rows_tests;
+#[cfg(test)]
 mod log_tests;
+#[cfg(test)]
+mod program_tests;
+#[cfg(test)]
+mod read_line_tests;
 #[cfg(test)]
 mod replay_tests;
 #[cfg(test)]
@@ -41,8 +56,12 @@ mod step;
 #[cfg(test)]
 mod store_tests;
 #[cfg(test)]
+mod stream_tests;
+#[cfg(test)]
 mod thread_tests;
 #[cfg(test)]
 mod wanted;
+#[cfg(test)]
+mod word_tests;
 #[cfg(test)]
 mod worker_gate;

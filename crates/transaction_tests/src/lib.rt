@@ -5,6 +5,8 @@
 #[cfg(test)]
 mod commitclock_tests;
 #[cfg(test)]
+mod engine;
+#[cfg(test)]
 mod interleaving_tests;
 #[cfg(test)]
 mod open_transaction_tests;
@@ -13,12 +15,8 @@ mod packed_tests;
 #[cfg(test)]
 mod period_tests;
 #[cfg(test)]
-mod portion_tests;
-#[cfg(test)]
 mod sample;
 #[cfg(test)]
 mod staging_tests;
 #[cfg(test)]
 mod systime_query_tests;
-#[cfg(test)]
-mod validation_tests;

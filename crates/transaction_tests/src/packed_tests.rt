@@ -1,7 +1,7 @@
 //! Nodes of history are found, packed and installed.
 
+use crate::engine::{begin, empty_engine, instant_of, is_split};
 use crate::sample::{by, schema};
-use crate::validation_tests::{begin, empty_engine, instant_of, is_split};
 use std::alloc::Global;
 use std::process::Abort;
 use steps::{Listing, fit_keys};

@@ -1,9 +1,10 @@
-//! Transactions of a table with a period of application time: conflicts are by entity.
+//! A table with a period of application time: its spans and fixed columns, and a conflict by entity where its rows are in
+//! several nodes.
 ghost use Rattle.std.specs.Prelude.{IfOk};
 ghost use Rattle.values.specs.TableRules.{HasInstants, IsTable};
 
+use crate::engine::{begin, empty_engine};
 use crate::sample::nothing_staged;
-use crate::validation_tests::{begin, empty_engine};
 use staging::KeyedNet;
 use std::alloc::Global;
 use std::process::Abort;
@@ -52,12 +53,12 @@ fn tariffs(alloc: Global) -> Mem<Table>
 }
 
 /// The table of tariffs, alone.
-pub(crate) fn schema(rt: &impl Abort, alloc: Global) -> Schema {
+fn schema(rt: &impl Abort, alloc: Global) -> Schema {
     let table = tariffs(alloc).expect(rt, "there is memory");
     Schema::new(vec![in alloc; table].expect(rt, "there is memory"))
 }
 
-pub(crate) fn numbers(rt: &impl Abort, alloc: Global, numbers: &[i64]) -> Vec<Value> {
+fn numbers(rt: &impl Abort, alloc: Global, numbers: &[i64]) -> Vec<Value> {
     let mut values = Vec::new(alloc);
     for number in numbers {
         values
@@ -72,7 +73,7 @@ fn tariff(rt: &impl Abort, alloc: Global, id: i64, from: i64, to: i64) -> Vec<Ro
     vec![in alloc; row].expect(rt, "there is memory")
 }
 
-pub(crate) fn key(rt: &impl Abort, alloc: Global, parts: &[i64]) -> Key {
+fn key(rt: &impl Abort, alloc: Global, parts: &[i64]) -> Key {
     Key {
         table: 1,
         parts: Values::new(numbers(rt, alloc, parts)),
@@ -128,73 +129,6 @@ fn with_one(rt: &impl Abort, alloc: Global) -> Engine {
     engine
 }
 
-#[test]
-fn two_transactions_of_one_entity_conflict(rt: HostRuntime) {
-    let mut engine = with_one(&rt, rt.alloc());
-    let view = begin(&rt, &engine);
-    let done = insert(&rt, rt.alloc(), &mut engine, &view, 7, 100, 200);
-    assert!(rt; done == Ok(Some(200)));
-    assert!(rt; conflicts(&rt, rt.alloc(), &mut engine, &view, 7, 200, 200));
-    assert!(rt; engine.last() == 200);
-}
-
-#[test]
-fn transactions_of_other_entities_both_commit(rt: HostRuntime) {
-    let mut engine = with_one(&rt, rt.alloc());
-    let view = begin(&rt, &engine);
-    let done = insert(&rt, rt.alloc(), &mut engine, &view, 7, 100, 200);
-    assert!(rt; done == Ok(Some(200)));
-    let done = insert(&rt, rt.alloc(), &mut engine, &view, 8, 100, 150);
-    assert!(rt; done == Ok(Some(201)));
-}
-
-/// The net change of a transaction that inserts tariffs of the entities 6 and 7, two of each.
-fn net_of_two(rt: &impl Abort, alloc: Global, view: &View) -> KeyedNet {
-    let mut rows = Vec::new(alloc);
-    for parts in &[
-        [6, 300, 310, 5],
-        [6, 400, 410, 5],
-        [7, 300, 310, 5],
-        [7, 400, 410, 5],
-    ] {
-        let row = Row::new(numbers(rt, alloc, parts)).expect(rt, "four values are few");
-        rows.push(row).expect(rt, "there is memory");
-    }
-    let schema = schema(rt, alloc);
-    let write = fit_write(&schema, 1, Write::Insert(1, &rows)).expect(rt, "it fits");
-    let mut staged = nothing_staged(rt, alloc);
-    assert!(rt; staged.write(view, write) == Ok(4));
-    staged.net(view).expect(rt, "there is memory")
-}
-
-#[test]
-fn a_later_entity_of_a_transaction_conflicts(rt: HostRuntime) {
-    let mut engine = with_one(&rt, rt.alloc());
-    let view = begin(&rt, &engine);
-    let done = insert(&rt, rt.alloc(), &mut engine, &view, 7, 100, 200);
-    assert!(rt; done == Ok(Some(200)));
-    let net = net_of_two(&rt, rt.alloc(), &view);
-    let refused = engine.commit(&schema(&rt, rt.alloc()), view.last(), net, 900);
-    let unit = key(&rt, rt.alloc(), &[7]);
-    assert!(rt; refused == Err(Refusal::Conflict(unit, 200)));
-    let now = begin(&rt, &engine);
-    let net = net_of_two(&rt, rt.alloc(), &now);
-    let done = engine.commit(&schema(&rt, rt.alloc()), now.last(), net, 900);
-    assert!(rt; done == Ok(Some(900)));
-}
-
-#[test]
-fn a_conflict_has_the_latest_instant_of_its_entity(rt: HostRuntime) {
-    let mut engine = with_one(&rt, rt.alloc());
-    let view = begin(&rt, &engine);
-    let later = insert(&rt, rt.alloc(), &mut engine, &view, 7, 300, 200);
-    assert!(rt; later == Ok(Some(200)));
-    let now = begin(&rt, &engine);
-    let earlier = insert(&rt, rt.alloc(), &mut engine, &now, 7, 50, 300);
-    assert!(rt; earlier == Ok(Some(300)));
-    assert!(rt; conflicts(&rt, rt.alloc(), &mut engine, &view, 7, 500, 300));
-}
-
 /// Commits a deletion of the tariff of the entity 7 from an instant on.
 fn delete(rt: &impl Abort, alloc: Global, engine: &mut Engine, from: i64, reading: Instant) {
     let comparison = Comparison {
@@ -248,7 +182,7 @@ fn a_conflict_is_found_in_an_entity_that_was_split(rt: HostRuntime) {
     assert!(rt; conflicts(&rt, rt.alloc(), &mut engine, &view, 7, 500, 300));
 }
 
-pub(crate) fn span(from: i64, to: i64) -> Span {
+fn span(from: i64, to: i64) -> Span {
     Span { from, to }
 }
 
@@ -274,7 +208,7 @@ fn a_row_has_the_span_of_its_period(rt: HostRuntime) {
 }
 
 /// What an UPDATE sets where it sets one column.
-pub(crate) fn setting(rt: &impl Abort, alloc: Global, column: usize) -> Vec<Set> {
+fn setting(rt: &impl Abort, alloc: Global, column: usize) -> Vec<Set> {
     let set = Set {
         column,
         value: Value::Int(1),

@@ -178,7 +178,7 @@ pub(crate) fn two_parents(rt: &impl Abort, alloc: Global) -> Tree {
 }
 
 /// 45 keys are inserted, and changed in turn.
-pub(crate) fn many_keys(rt: &impl Abort, alloc: Global) -> Tree {
+fn many_keys(rt: &impl Abort, alloc: Global) -> Tree {
     let mut tree = new_tree(rt, alloc);
     for number in 1..46u8 {
         put(rt, alloc, &mut tree, u64::from(number), number, 1);

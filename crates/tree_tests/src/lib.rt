@@ -1,5 +1,5 @@
 //! Tests of crates of the tree by their public calls, a file for each crate, and several for `blocks`
-//! and `tsbtree`.
+//! and `tsbtree`; and of `values`, `tokens` and `rows`: keys, rows, events and texts as bytes, and tokens.
 #![tactic(auto)]
 
 #[cfg(test)]
@@ -11,15 +11,23 @@ mod bytes_tests;
 #[cfg(test)]
 mod cache_tests;
 #[cfg(test)]
+mod chars_tests;
+#[cfg(test)]
 mod damage_tests;
 #[cfg(test)]
 mod datanode_tests;
+#[cfg(test)]
+mod event_tests;
 #[cfg(test)]
 mod eventlist_tests;
 #[cfg(test)]
 mod growth;
 #[cfg(test)]
 mod indexnode_tests;
+#[cfg(test)]
+mod key_sample;
+#[cfg(test)]
+mod key_tests;
 #[cfg(test)]
 mod keyrange_tests;
 #[cfg(test)]
@@ -37,17 +45,21 @@ mod range_change_tests;
 #[cfg(test)]
 mod read_tests;
 #[cfg(test)]
+mod row_tests;
+#[cfg(test)]
 mod sample;
+#[cfg(test)]
+mod schema_tests;
 #[cfg(test)]
 mod search_tests;
 #[cfg(test)]
 mod searchrange_tests;
 #[cfg(test)]
-mod shape_tests;
-#[cfg(test)]
 mod slots_tests;
 #[cfg(test)]
 mod timesplit_tests;
+#[cfg(test)]
+mod token_tests;
 #[cfg(test)]
 mod tree;
 #[cfg(test)]

@@ -25,7 +25,7 @@ pub(crate) fn begins_with(shape: &Shape, lines: &[Line]) -> bool {
 }
 
 /// Whether a shape shows a node so at a place, and not packed.
-pub(crate) fn is_line(shape: &Shape, place: usize, line: Line) -> bool {
+fn is_line(shape: &Shape, place: usize, line: Line) -> bool {
     is_shown(shape, place, line, false)
 }
 

@@ -48,19 +48,6 @@ fn changes_are_found_over_a_split(rt: HostRuntime) {
     }
 }
 
-/// How many rows stand at an instant, over a split.
-fn standing(rt: &impl Abort, alloc: Global, at: Instant) -> usize {
-    let tree = few_changes_split(rt, alloc, &[150]);
-    answers_of(rt, alloc, tree, 1, at).4
-}
-
-#[test]
-fn rows_are_listed_over_a_split(rt: HostRuntime) {
-    for (at, rows) in [(99, 0), (100, 2), (199, 2), (200, 1)] {
-        assert!(rt; standing(&rt, rt.alloc(), at) == rows, "at {at}");
-    }
-}
-
 /// How many events of a key are in a window, over a split.
 fn in_window(rt: &impl Abort, alloc: Global, number: u8, first: Instant, last: Instant) -> usize {
     let tree = few_changes_split(rt, alloc, &[150]);
