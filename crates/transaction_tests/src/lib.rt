@@ -17,6 +17,4 @@ mod period_tests;
 #[cfg(test)]
 mod sample;
 #[cfg(test)]
-mod staging_tests;
-#[cfg(test)]
 mod systime_query_tests;

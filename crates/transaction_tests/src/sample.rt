@@ -5,9 +5,7 @@ use std::alloc::Global;
 use std::process::Abort;
 use steps::fit_write;
 use tsbtree::{Tree, View};
-use values::{
-    Chars, Comparison, Instant, Key, Keys, Mem, Operator, Row, Schema, Set, Value, Values, Write,
-};
+use values::{Chars, Comparison, Instant, Keys, Mem, Operator, Row, Schema, Set, Value, Write};
 
 /// The table of employees, alone.
 pub(crate) fn schema(rt: &impl Abort, alloc: Global) -> Schema {
@@ -33,7 +31,7 @@ fn text(rt: &impl Abort, alloc: Global, name: &str) -> Value {
     Value::Text(Chars::copy_of(alloc, name).expect(rt, "the name is short"))
 }
 
-pub(crate) fn employee(rt: &impl Abort, alloc: Global, number: i64, name: &str) -> Row {
+fn employee(rt: &impl Abort, alloc: Global, number: i64, name: &str) -> Row {
     let values = vec![in alloc; Value::Int(number), text(rt, alloc, name)];
     Row::new(values.expect(rt, "there is memory")).expect(rt, "two values are few")
 }
@@ -41,34 +39,6 @@ pub(crate) fn employee(rt: &impl Abort, alloc: Global, number: i64, name: &str) 
 pub(crate) fn one_row(rt: &impl Abort, alloc: Global, number: i64, name: &str) -> Vec<Row> {
     let rows = vec![in alloc; employee(rt, alloc, number, name)];
     rows.expect(rt, "there is memory")
-}
-
-/// Employees with these numbers.
-pub(crate) fn employees(rt: &impl Abort, alloc: Global, numbers: &[i64]) -> Vec<Row> {
-    let mut rows = Vec::new(alloc);
-    for number in numbers {
-        let row = employee(rt, alloc, *number, "n");
-        rows.push(row).expect(rt, "there is memory");
-    }
-    rows
-}
-
-/// So many employees, from 0 on.
-pub(crate) fn many(rt: &impl Abort, alloc: Global, count: i64) -> Vec<Row> {
-    let mut rows = Vec::new(alloc);
-    for number in 0..count {
-        let row = employee(rt, alloc, number, "n");
-        rows.push(row).expect(rt, "there is memory");
-    }
-    rows
-}
-
-pub(crate) fn key(rt: &impl Abort, alloc: Global, number: i64) -> Key {
-    let parts = vec![in alloc; Value::Int(number)];
-    Key {
-        table: 1,
-        parts: Values::new(parts.expect(rt, "there is memory")),
-    }
 }
 
 /// The keys that compare so with a number.
@@ -118,14 +88,7 @@ pub(crate) fn commit(rt: &impl Abort, alloc: Global, tree: &mut Tree, at: Instan
 }
 
 /// Inserts an employee in a transaction of its own, and commits it.
-pub(crate) fn hire(
-    rt: &impl Abort,
-    alloc: Global,
-    tree: &mut Tree,
-    at: Instant,
-    number: i64,
-    name: &str,
-) {
+fn hire(rt: &impl Abort, alloc: Global, tree: &mut Tree, at: Instant, number: i64, name: &str) {
     let net = insertion(rt, alloc, tree.current(), number, name);
     commit(rt, alloc, tree, at, net);
 }
