@@ -8,9 +8,9 @@ closed None = refl
 closed (Some x) = refl
 
 -- the numbers from the next one on
-shifted : (test : ℕ → Bool) (a n : ℕ) → list_all test (range_with_len (suc a) n) ≡ list_all (λ i. test (suc i)) (range_with_len a n)
-shifted test a zero = refl
-shifted test a (suc n) = ap (λ b. test (suc a) && b) (shifted test (a + 1) n)
+shifted : (test : ℕ → Bool) (a b n : ℕ) → b ≡ suc a → list_all test (range_with_len b n) ≡ list_all (λ i. test (suc i)) (range_with_len a n)
+shifted test a b zero is = refl
+shifted test a b (suc n) is = λ k. test (is k) && shifted test (a + 1) (b + 1) n (omega (arith, is)) k
 
 each_none : {A : Type 0} (xs : List (Option A)) (n : ℕ) → length xs ≡ n → list_all is_none xs ≡ list_all (λ i. not (is_some (get_or xs i None))) (range_with_len 0 n)
 each_none [] zero wide = refl
@@ -18,7 +18,7 @@ each_none [] (suc n) wide = absurd (omega (arith, wide))
 each_none (x ∷ xs) zero wide = absurd (omega (arith, wide))
 each_none (x ∷ xs) (suc n) wide =
     (λ k. closed x k && each_none xs n (omega (arith, wide)) k)
-    ∙ ap (λ b. not (is_some x) && b) (sym (shifted (λ i. not (is_some (get_or (x ∷ xs) i None))) 0 n))
+    ∙ ap (λ b. not (is_some x) && b) (sym (shifted (λ i. not (is_some (get_or (x ∷ xs) i None))) 0 1 n (omega arith)))
 
 pub all_none : {A : Type 0} (xs : List (Option A)) (n : ℕ) → length xs ≡ suc n → list_all is_none xs ≡ list_all (λ i. not (is_some (get_or xs i None))) (range_with_len 0 (n + 1))
 all_none xs n wide = each_none xs (n + 1) (omega (arith, wide))
