@@ -9,14 +9,15 @@ use Rattle.std.specs.Prelude.{All, IfOk, OnOk, Result, Ok, Err}
 use Rattle.std.specs.List.{AllByRecursion, flat_map, list_all}
 use Rattle.values.specs.Log.{Row}
 use Rattle.values.specs.Tables.{Schema}
+use Rattle.steps.specs.Misfit.{max_session}
 use Rattle.sessions.specs.journal.Entries.{entry_at, numbers}
 use Rattle.sessions.specs.book.Book.{BookState, IsBook, most_entries}
 use Rattle.serving.specs.Progress.{Given}
 use Rattle.serving.specs.ServedSession.{Told}
-use Rattle.runs.specs.OneHistory.{ServedRunsAreHistories}
-use Rattle.runs.specs.Run.{IsLoaded, IsRun, Part}
+use Rattle.runs.specs.OneHistory.{Dialogue, ServedRunsAreHistories, dialogue_of}
+use Rattle.runs.specs.Run.{AreApart, IsLoaded, IsPart, IsRefusedRightly, IsRun, Part}
 use Rattle.listening.specs.Pile.{AreKnown, AreOfRun}
-use Rattle.listening.specs.Connection.{IsOneRun, IsRefusedRightly}
+use Rattle.listening.specs.Connection.{IsOneRun, IsServedRun}
 use Rattle.listening.proofs.PileParts.{both}
 
 -- what stands of all receipts stands of those of the parts
@@ -38,6 +39,12 @@ upto most (p ∷ parts) e =
     let first : nat_le p.number most ≡ true = h.0 in
     (grind (arith, nat_tests, first), upto most parts h.1)
 
+-- each has a session's number
+numbered : (schema : Schema) (most : ℕ) (parts : List Part) → AllByRecursion (λ p. p.number ≤ most) parts → AllByRecursion (IsPart schema) parts
+    → AllByRecursion (λ d. (1 ≤ d.number) × ((d.number ≤ most) × (d.number ≤ max_session))) (map dialogue_of parts)
+numbered schema most [] few are = tt
+numbered schema most (p ∷ parts) few are = ((are.0.some, (few.0, are.0.in_range)), numbered schema most parts few.1 are.1)
+
 -- what lines were refused for by the book, of a journal that is full where that is noted
 of_told : (has_full : Bool) (b : BookState) → (has_full ≡ true → length b.entries ≡ most_entries) → (told : List Told) → AreKnown has_full told → AllByRecursion (IsRefusedRightly b) told
 of_told has_full b full [] all = tt
@@ -55,38 +62,53 @@ pub confirmed : {A E : Type 0} (r : Result A E) (a : A) (F : Type 0) (P : A → 
 confirmed (Ok x) a F P same full is = subst P (sym same) (is full)
 confirmed (Err e) a F P same full is = tt
 
-module _ (law : ServedRunsAreHistories) (schema : Schema) (b : BookState) (most table : ℕ) (rows : List Row) (before given : List Given) (sessions : List ℕ) (has_full : Bool) where
-  is_run : IsBook schema b → IsLoaded schema table rows before → (run : AreOfRun schema sessions has_full given) → All (λ g. entry_at b.entries g.number ≡ Some g.entry) (before ++ given)
+module _ (schema : Schema) (b : BookState) (most table : ℕ) (rows : List Row) (before given : List Given) (sessions : List ℕ) (has_full : Bool) where
+  is_run : IsBook schema b → IsLoaded schema table rows before → (run : AreOfRun schema sessions has_full given) → (has_full ≡ true → length b.entries ≡ most_entries) → All (λ g. entry_at b.entries g.number ≡ Some g.entry) (before ++ given)
       → IsPermutation (map (λ g. g.number) (before ++ given)) (numbers (length b.entries)) → IsRun schema b table rows before run.parts run.service
-  is_run book loaded run stand all = record {
+  is_run book loaded run full stand all = record {
     is_book = book;
     is_loaded = loaded;
     are_parts = run.are_parts;
+    refused = rightly has_full b full run.parts run.known;
     apart = run.apart;
     serviced = run.serviced;
     stand = stands (λ g. entry_at b.entries g.number ≡ Some g.entry) before given (flat_map (λ p. p.given) run.parts ++ run.service) run.given_are stand;
     once = once before given (flat_map (λ p. p.given) run.parts ++ run.service) (numbers (length b.entries)) run.given_are all;
   }
 
-  one_run : IsBook schema b → IsLoaded schema table rows before → AreOfRun schema sessions has_full given → (has_full ≡ true → length b.entries ≡ most_entries) → list_all (λ n. nat_le n most) sessions ≡ true → All (λ g. entry_at b.entries g.number ≡ Some g.entry) (before ++ given)
-      → IsPermutation (map (λ g. g.number) (before ++ given)) (numbers (length b.entries)) → IsOneRun schema most table rows b
-  one_run book loaded run full few stand all =
-      let found = law schema b table rows before run.parts run.service (is_run book loaded run stand all) in
-      record {
-        parts = run.parts;
-        are_parts = run.are_parts;
-        numbered = upto most run.parts (ap (λ ns. list_all (λ n. nat_le n most) ns) run.numbers_are ∙ few);
-        apart = run.apart;
-        refused = rightly has_full b full run.parts run.known;
-        events = found.0;
-        history = found.1;
-      }
+  served_run : IsBook schema b → IsLoaded schema table rows before → AreOfRun schema sessions has_full given → (has_full ≡ true → length b.entries ≡ most_entries) → list_all (λ n. nat_le n most) sessions ≡ true → All (λ g. entry_at b.entries g.number ≡ Some g.entry) (before ++ given)
+      → IsPermutation (map (λ g. g.number) (before ++ given)) (numbers (length b.entries)) → IsServedRun schema most table rows before b
+  served_run book loaded run full few stand all = record {
+    parts = run.parts;
+    service = run.service;
+    numbered = upto most run.parts (ap (λ ns. list_all (λ n. nat_le n most) ns) run.numbers_are ∙ few);
+    is_run = is_run book loaded run full stand all;
+  }
 
   -- from the receipts that closed the store: those of before, and those that were handed over
   pub of_receipts : {R : Type 0} (f : R → Given) (all first later : List R) → all ≡ first ++ later → before ≡ map f first → given ≡ map f later
       → IsBook schema b → IsLoaded schema table rows before → AreOfRun schema sessions has_full given → (has_full ≡ true → length b.entries ≡ most_entries) → list_all (λ n. nat_le n most) sessions ≡ true → All (λ r. entry_at b.entries (f r).number ≡ Some (f r).entry) all
-      → IsPermutation (map (λ r. (f r).number) all) (numbers (length b.entries)) → IsOneRun schema most table rows b
+      → IsPermutation (map (λ r. (f r).number) all) (numbers (length b.entries)) → IsServedRun schema most table rows before b
   of_receipts f all first later are first_are later_are book loaded run full few stand once =
       let parts : map f all ≡ before ++ given = ap (map f) are ∙ map-append f first later ∙ (λ k. sym first_are k ++ sym later_are k) in
-      one_run book loaded run full few (subst (All (λ g. entry_at b.entries g.number ≡ Some g.entry)) parts (All-map (λ g. entry_at b.entries g.number ≡ Some g.entry) f all stand))
+      served_run book loaded run full few (subst (All (λ g. entry_at b.entries g.number ≡ Some g.entry)) parts (All-map (λ g. entry_at b.entries g.number ≡ Some g.entry) f all stand))
       (subst (λ gs. IsPermutation (map (λ g. g.number) gs) (numbers (length b.entries))) parts (subst (λ ns. IsPermutation ns (numbers (length b.entries))) (sym (map-map (λ (g : Given). g.number) f all)) once))
+
+-- ---- its one history
+
+module _ (law : ServedRunsAreHistories) (schema : Schema) (most : ℕ) (before : List Given) where
+  one_run : (b : BookState) (table : ℕ) (rows : List Row) → IsServedRun schema most table rows before b → IsOneRun schema most table rows b
+  one_run b table rows run =
+      let found = law schema b table rows before run.parts run.service run.is_run in
+      record {
+        dialogues = map dialogue_of run.parts;
+        numbered = numbered schema most run.parts run.numbered run.is_run.are_parts;
+        apart = subst AreApart (sym (map-map (λ (d : Dialogue). d.number) dialogue_of run.parts)) run.is_run.apart;
+        events = found.0;
+        history = found.1;
+      }
+
+  pub each_one : {E : Type 0} (r : Result BookState E) → IfOk r (λ b. (table : ℕ) (rows : List Row) → IsLoaded schema table rows before → IsServedRun schema most table rows before b)
+      → IfOk r (λ b. (table : ℕ) (rows : List Row) → IsLoaded schema table rows before → IsOneRun schema most table rows b)
+  each_one (Ok b) runs = λ table rows loaded. one_run b table rows (runs table rows loaded)
+  each_one (Err e) runs = tt

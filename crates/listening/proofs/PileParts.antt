@@ -42,18 +42,18 @@ rises_by last (g ∷ given) e =
     let first : nat_lt last g.number ≡ true = h.0 in
     (grind (arith, nat_tests, first), rises_by g.number given h.1)
 
-none_of : (parts : List Part) (number : ℕ) → not (list_any (λ n. n == number) (map (λ p. p.number) parts)) ≡ true → AllByRecursion (λ q. q.number ≢ number) parts
+none_of : (numbers : List ℕ) (number : ℕ) → not (list_any (λ n. n == number) numbers) ≡ true → AllByRecursion (λ n. n ≢ number) numbers
 none_of [] number e = tt
-none_of (p ∷ parts) number e = by (p.number == number) refl e (none_of parts number)
+none_of (m ∷ numbers) number e = by (m == number) refl e (none_of numbers number)
   where
-    by : (b : Bool) → (p.number == number) ≡ b → not (b || list_any (λ n. n == number) (map (λ p. p.number) parts)) ≡ true
-        → (not (list_any (λ n. n == number) (map (λ p. p.number) parts)) ≡ true → AllByRecursion (λ q. q.number ≢ number) parts) → AllByRecursion (λ q. q.number ≢ number) (p ∷ parts)
+    by : (b : Bool) → (m == number) ≡ b → not (b || list_any (λ n. n == number) numbers) ≡ true
+        → (not (list_any (λ n. n == number) numbers) ≡ true → AllByRecursion (λ n. n ≢ number) numbers) → AllByRecursion (λ n. n ≢ number) (m ∷ numbers)
     by true is e rest = absurd (cc e)
     by false is e rest = ((λ same. grind (arith, nat_tests, is, same)), rest e)
 
-apart_from : (parts : List Part) (p : Part) → AreApart parts → AllByRecursion (λ q. q.number ≢ p.number) parts → AreApart (parts ++ p ∷ [])
-apart_from [] p apart others = (tt, tt)
-apart_from (q ∷ parts) p apart others = (all_and (λ r. r.number ≢ q.number) parts (p ∷ []) apart.0 ((λ e. others.0 (sym e)), tt), apart_from parts p apart.1 others.1)
+apart_from : (numbers : List ℕ) (number : ℕ) → AreApart numbers → AllByRecursion (λ n. n ≢ number) numbers → AreApart (numbers ++ number ∷ [])
+apart_from [] number apart others = (tt, tt)
+apart_from (m ∷ numbers) number apart others = (all_and (λ n. n ≢ m) numbers (number ∷ []) apart.0 ((λ e. others.0 (sym e)), tt), apart_from numbers number apart.1 others.1)
 
 -- ---- what the book refused
 
@@ -100,7 +100,8 @@ module _ (schema : Schema) where
         parts = run.parts ++ part ∷ [];
         service = run.service;
         are_parts = all_and (IsPart schema) run.parts (part ∷ []) run.are_parts (is_part number _ own served tests.0 its.1, tt);
-        apart = apart_from run.parts part run.apart (none_of run.parts number (ap (λ ns. not (list_any (λ n. n == number) ns)) run.numbers_are ∙ others.0));
+        apart = subst AreApart (sym (map_push (λ p. p.number) run.parts part))
+            (apart_from (map (λ p. p.number) run.parts) number run.apart (none_of (map (λ p. p.number) run.parts) number (ap (λ ns. not (list_any (λ n. n == number) ns)) run.numbers_are ∙ others.0)));
         known = all_and (λ p. AreKnown (noted || full) p.told) run.parts (part ∷ []) (noted_still noted full run.parts run.known)
             (known_on _ _ served.taken.told (record { full = λ e. or_true noted full e; not_open = λ e. absurd (open_still not_open e its.0) }) served.taken.known, tt);
         numbers_are = map_push (λ p. p.number) run.parts part ∙ ap (λ ns. ns ++ number ∷ []) run.numbers_are;

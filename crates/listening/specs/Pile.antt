@@ -56,7 +56,7 @@ pub record AreOfRun (schema : Schema) (sessions : List ℕ) (has_full : Bool) (g
   pub parts : List Part
   pub service : List Given
   pub are_parts : AllByRecursion (IsPart schema) parts
-  pub apart : AreApart parts
+  pub apart : AreApart (map (λ p. p.number) parts)
   pub known : AllByRecursion (λ p. AreKnown has_full p.told) parts
   pub numbers_are : map (λ p. p.number) parts ≡ sessions
   pub serviced : AllByRecursion (λ g. IsOfService g.entry) service

@@ -5,7 +5,7 @@ ghost use Rattle.sessions.specs.journal.Entries.{entry_at};
 ghost use Rattle.sessions.specs.book.Book.{IsBook, most_entries};
 ghost use Rattle.serving.specs.Progress.{Given};
 ghost use Rattle.runs.specs.Run.{IsLoaded};
-ghost use Rattle.listening.specs.Connection.{IsOneRun};
+ghost use Rattle.listening.specs.Connection.{IsOneRun, IsServedRun};
 
 use crate::acceptor::{Acceptor, refuse};
 use crate::client::serve_client;
@@ -46,9 +46,10 @@ pub enum ListenFault {
 ///
 /// The closed store is a book (`IsBook`), and the receipts of what was done before are of its
 /// entries. Where those are a load's, there is one history (`IsOneRun`): its entries are the store's
-/// in their order, and each session was sent its replies at the places of its lines; `E13` was among them
-/// only if the journal has all entries that it may have. Which bytes a socket had is not known: of a
-/// session it is said of some lines.
+/// in their order, and each session was sent its replies at the places of its lines; `E10` was among them
+/// only for lines that take memory, and `E13` only if the journal has all entries that it may have. How
+/// each session was served, receipt by receipt, `IsServedRun` says besides. Which bytes a socket had is
+/// not known: of a session it is said of some lines.
 ///
 /// A session that ends in a fault is not a fault here: its receipts count, and the others go on.
 /// Nor is a connection that cannot be served, as there is no memory, no thread or no descriptor for
@@ -74,6 +75,11 @@ where
         → IsLoaded J.schema table rows
         (map (λ r. record { number = r.number; entry = r.entry }) before.items)
         → IsOneRun J.schema sessions table rows c) }
+    ensures run { IfOk result (λ c. (table : ℕ) (rows : List Row)
+        → IsLoaded J.schema table rows
+        (map (λ r. record { number = r.number; entry = r.entry }) before.items)
+        → IsServedRun J.schema sessions table rows
+        (map (λ r. record { number = r.number; entry = r.entry }) before.items) c) }
     ensures why { IfErr result (λ fault. fault ≢ ListenFault.Socket) }
 {
     served_runs_are_histories();

@@ -14,7 +14,11 @@ pub mod RunLegal
 pub mod RunLoaded
 pub mod RunNumbered
 pub mod RunPieces
+pub mod TellsEvents
 pub mod TellsFacts
 pub mod TellsLines
+pub mod TellsOpen
+pub mod TellsSaid
 pub mod TellsSteps
+pub mod WorkedRefused
 pub mod WorkedTwice

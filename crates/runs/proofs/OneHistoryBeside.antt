@@ -17,7 +17,8 @@ use Rattle.serving.specs.journal.Entries.{Entries, entry_at, log as journal_log}
 use Rattle.serving.specs.journal.Legal.{MayFollow}
 use Rattle.serving.specs.sessions.OfHistory.{own_at, seen_at}
 use Rattle.serving.specs.Progress.{Given, ServedTransaction, Takes, after}
-use Rattle.runs.specs.Event.{Event, IsRight, read_by, with_step}
+use Rattle.runs.specs.Event.{Event, IsRight, with_step}
+use Rattle.runs.proofs.TellsEvents.{read_by}
 
 -- the entries and the steps so far, the newest first
 pub record World : Type 0 where

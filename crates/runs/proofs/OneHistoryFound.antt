@@ -14,12 +14,12 @@ use Rattle.serving.specs.journal.Entries.{Entries, entry_at, numbers, log as jou
 use Rattle.serving.specs.book.Book.{BookState}
 use Rattle.serving.specs.Progress.{Given, after}
 use Rattle.runs.specs.Event.{Event, AreRight, history_after, of_part, receipt_of, receipts_of, with_step}
-use Rattle.runs.specs.OneHistory.{OneHistory, ServedRunsAreHistories, TellsLoaded, IsServiceEvent, service_part}
-use Rattle.runs.specs.Run.{AreApart, IsPart, IsRun, Part, all_given, is_reading}
+use Rattle.runs.specs.OneHistory.{OneHistory, ServedRunsAreHistories, TellsLoaded, IsServiceEvent, dialogue_of, service_part}
+use Rattle.runs.specs.Run.{AreApart, IsPart, IsRefusedRightly, IsRun, Part, all_given}
 use Rattle.runs.specs.Tells.{Tells}
 use Rattle.runs.proofs.RunAlong.{Chain, RightAll, after_all, run, same_number}
 use Rattle.runs.proofs.OneHistoryBeside.{World, Beside, Held, May, Moves, Right, add, with_entry}
-use Rattle.runs.proofs.TellsFacts.{Facts, facts, number_of, numbers_of, took}
+use Rattle.runs.proofs.TellsFacts.{Facts, number_of, numbers_of, took}
 use Rattle.runs.proofs.RunFirst.{numbered_first}
 use Rattle.runs.proofs.RunInTurn.{Climbs, Each, each_join, each_split, filter_in_turn, in_turn, in_turn_already, in_turn_each}
 use Rattle.runs.proofs.RunJournal.{onto}
@@ -72,7 +72,7 @@ each_stands j (x ∷ xs) each = by x.entry each.0 (each_stands j xs each.1)
 
 -- ---- what is reached
 
-module _ (schema : Schema) where
+module _ (schema : Schema) (b : BookState) where
   abbrev After : World → List Event → World
   After = after_all (λ (e : Event). e.part) add (Moves schema) (May schema) (Right schema) (Beside schema)
 
@@ -93,19 +93,19 @@ module _ (schema : Schema) where
 
   record Session (p : Part) : Type 0 where
     events : List Event
-    tells : Tells schema p.number 0 p.lines p.told p.given events p.text
+    tells : Tells schema b p.number [] p.lines events p.text
     known : Facts p.number 0 p.given events
     goes : Chain (Moves schema) None events p.later.transaction
     some : 1 ≤ p.number
     small : p.number ≤ max_session
 
-  session : (p : Part) → IsPart schema p → Session p
-  session p is =
-      let go = lines_go is_reading schema p.number is.in_range 0 p.lines p.told (after 0 None) p.later p.given p.text is.serves in
+  session : (p : Part) → IsPart schema p → AllByRecursion (IsRefusedRightly b) p.told → Session p
+  session p is refused =
+      let go = lines_go schema b p.number is.in_range [] 0 p.lines p.told (after 0 None) p.later p.given p.text refused refl is.serves in
       record {
         events = go.events;
         tells = go.tells;
-        known = facts schema p.number 0 p.lines p.told p.given go.events p.text go.tells is.rises;
+        known = go.known is.rises;
         goes = go.goes;
         some = is.some;
         small = is.in_range;
@@ -118,9 +118,9 @@ module _ (schema : Schema) where
   Sessions [] = Unit {0}
   Sessions (p ∷ parts) = Session p × Sessions parts
 
-  sessions : (parts : List Part) → AllByRecursion (IsPart schema) parts → Sessions parts
-  sessions [] are = tt
-  sessions (p ∷ parts) are = (session p are.0, sessions parts are.1)
+  sessions : (parts : List Part) → AllByRecursion (IsPart schema) parts → AllByRecursion (λ p. AllByRecursion (IsRefusedRightly b) p.told) parts → Sessions parts
+  sessions [] are refused = tt
+  sessions (p ∷ parts) are refused = (session p are.0 refused.0, sessions parts are.1 refused.1)
 
   abbrev pieces : (parts : List Part) → Sessions parts → List Piece
   pieces [] s = []
@@ -139,14 +139,14 @@ module _ (schema : Schema) where
   differ : (a b : ℕ) → a ≢ b → (a == b) ≡ false
   differ a b other = grind (arith, nat_tests, other)
 
-  all_differ : (p : Part) (parts : List Part) (s : Sessions parts) (last : Piece) → AllByRecursion (λ q. q.number ≢ p.number) parts → (last.part == p.number) ≡ false → AllByRecursion (λ q. (q.part == p.number) ≡ false) (pieces parts s ++ last ∷ [])
+  all_differ : (p : Part) (parts : List Part) (s : Sessions parts) (last : Piece) → AllByRecursion (λ n. n ≢ p.number) (map (λ q. q.number) parts) → (last.part == p.number) ≡ false → AllByRecursion (λ q. (q.part == p.number) ≡ false) (pieces parts s ++ last ∷ [])
   all_differ p [] s last apart other = (other, tt)
   all_differ p (q ∷ parts) s last apart other = (differ q.number p.number apart.0, all_differ p parts s.1 last apart.1 other)
 
   behind_all : (n : ℕ) → n ≤ max_session → (service_part == n) ≡ false
   behind_all n small = grind (arith, nat_tests)
 
-  are_apart : (parts : List Part) (s : Sessions parts) (last : Piece) → last.part ≡ service_part → AreApart parts → Apart (pieces parts s ++ last ∷ [])
+  are_apart : (parts : List Part) (s : Sessions parts) (last : Piece) → last.part ≡ service_part → AreApart (map (λ p. p.number) parts) → Apart (pieces parts s ++ last ∷ [])
   are_apart [] s last is apart = (tt, tt)
   are_apart (p ∷ parts) s last is apart =
       (all_differ p parts s.1 last apart.0 (ap (λ n. n == p.number) is ∙ behind_all p.number s.0.small), are_apart parts s.1 last is apart.1)
@@ -170,12 +170,12 @@ module _ (schema : Schema) where
 
   -- ---- the whole
 
-  module _ (b : BookState) (table : ℕ) (rows : List Row) (loaded : List Given) (parts : List Part) (service : List Given) (is : IsRun schema b table rows loaded parts service) where
+  module _ (table : ℕ) (rows : List Row) (loaded : List Given) (parts : List Part) (service : List Given) (is : IsRun schema b table rows loaded parts service) where
     load : LoadEvents schema table rows loaded
     load = load_events schema table rows loaded is.is_loaded
 
     served : Sessions parts
-    served = sessions parts is.are_parts
+    served = sessions parts is.are_parts is.refused
 
     abbrev load_piece : Piece
     load_piece = record { part = 0; events = load.events }
@@ -291,21 +291,21 @@ module _ (schema : Schema) where
     each = each_of schema all are apart
 
     tells : (parts : List Part) (s : Sessions parts) (last : Piece) → AllByRecursion (λ p. of_part p.part (all_events all) ≡ p.events) (pieces parts s ++ last ∷ [])
-        → AllByRecursion (λ p. Tells schema p.number 0 p.lines p.told p.given (of_part p.number events) p.text) parts × (of_part last.part (all_events all) ≡ last.events)
+        → AllByRecursion (λ d. Tells schema b d.number [] d.lines (of_part d.number events) d.text) (map dialogue_of parts) × (of_part last.part (all_events all) ≡ last.events)
     tells [] s last each = (tt, each.0)
     tells (p ∷ parts) s last each =
         let rest = tells parts s.1 last each.1 in
         let same : of_part p.number events ≡ s.0.events = of_all p.number ∙ ap (in_turn number_of) each.0 ∙ climbing s.0.events s.0.known.climbs in
-        ((subst (λ xs. Tells schema p.number 0 p.lines p.told p.given xs p.text) (sym same) s.0.tells, rest.0), rest.1)
+        ((subst (λ xs. Tells schema b p.number [] p.lines xs p.text) (sym same) s.0.tells, rest.0), rest.1)
 
-    not_of : (i : ℕ) (parts : List Part) (s : Sessions parts) (last : Piece) → (last.part == i) ≡ false → AllByRecursion (λ p. p.number ≢ i) parts → AllByRecursion (λ q. (q.part == i) ≡ false) (pieces parts s ++ last ∷ [])
+    not_of : (i : ℕ) (parts : List Part) (s : Sessions parts) (last : Piece) → (last.part == i) ≡ false → AllByRecursion (λ d. d.number ≢ i) (map dialogue_of parts) → AllByRecursion (λ q. (q.part == i) ≡ false) (pieces parts s ++ last ∷ [])
     not_of i [] s last other apart = (other, tt)
     not_of i (p ∷ parts) s last other apart = (differ p.number i apart.0, not_of i parts s.1 last other apart.1)
 
     turned : (a b : ℕ) → b ≢ a → (a == b) ≡ false
     turned a b other = differ a b (λ e. other (sym e))
 
-    one : OneHistory schema b table rows parts events
+    one : OneHistory schema b table rows (map dialogue_of parts) events
     one = record {
       entries_are = entries_are;
       numbered = numbers_are;
@@ -314,7 +314,7 @@ module _ (schema : Schema) where
       loaded = subst (TellsLoaded table rows) (sym loaded_is) load.tells;
       loaded_first = (in_turn number_of (all_events others), ap (λ xs. xs ++ in_turn number_of (all_events others)) (sym loaded_is));
       sent = (tells parts served service_piece each.1).0;
-      service = subst (AllByRecursion IsServiceEvent) (sym (of_all service_part ∙ ap (in_turn number_of) (tells parts served service_piece each.1).1)) (service_tells service);
+      service = subst (AllByRecursion IsServiceEvent) (sym (of_all service_part ∙ ap (in_turn number_of) (tells parts served service_piece each.1).1)) (service_tells service is.serviced);
       no_other = λ i some inside apart. of_all i ∙ ap (in_turn number_of) (none_of schema i all are (turned 0 i some, not_of i parts served service_piece (turned service_part i inside) apart));
     }
 

@@ -21,7 +21,8 @@ use Rattle.histories.specs.History.{History, reply, reply_in, schema_after}
 use Rattle.serving.specs.journal.declared.entry.Entry.{Entry}
 use Rattle.serving.specs.journal.declared.entry.Entry.TheVariants.{Commit as Commits}
 use Rattle.serving.specs.Progress.{Given, Progress, Replies, ServedTransaction, Takes, TakesBegin, TakesCommit, TakesQuery, TakesSplit, TakesWrite, after, takes_split}
-use Rattle.runs.specs.Event.{Event, IsRight, read_by, with_step}
+use Rattle.runs.specs.Event.{Event, IsRight, with_step}
+use Rattle.runs.proofs.TellsEvents.{read_by}
 use Rattle.runs.proofs.OneHistoryBeside.{World, Beside, Held, IsIdle, IsOwnStep, IsRead, May, MayBy, Moves, MovesBy, Packs, Right, add, given_by, with_entry}
 use Rattle.runs.proofs.OneHistoryBegin.{IsStill, beside_idle, beside_still, begin_refused, begins_right, rollback_refused, rollback_right, select_alone, select_open}
 use Rattle.runs.proofs.OneHistoryWrite.{commit_refused, commit_right, write_right}

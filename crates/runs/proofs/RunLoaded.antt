@@ -20,7 +20,7 @@ use Rattle.serving.specs.journal.declared.entry.Entry.TheVariants.{Begin as Begi
 use Rattle.serving.specs.sessions.SessionState.{write_by}
 use Rattle.serving.specs.Progress.{Given, ServedTransaction, after, with_own}
 use Rattle.runs.specs.Event.{Event, receipts_of}
-use Rattle.runs.specs.OneHistory.{IsServiceEvent, TellsLoaded, service_part, service_step}
+use Rattle.runs.specs.OneHistory.{IsServiceEvent, TellsLoaded, service_part}
 use Rattle.runs.specs.Run.{IsLoad, IsLoaded, IsOfService}
 use Rattle.runs.proofs.RunAlong.{Chain}
 use Rattle.runs.proofs.OneHistoryBeside.{Held, Moves}
@@ -159,6 +159,13 @@ load_events schema table (row ∷ rows) given l = made schema table row rows giv
 
 -- ---- the service
 
+-- an install is a MIGRATE that is done, and a begin is none
+abbrev service_step : Entry → Option (Step × Reply)
+service_step (Installs rect block done) = Some (Migrate, Done)
+service_step (Begins session earlier view) = None
+service_step (Commits session begin net reading end) = None
+service_step (Splits cut done) = None
+
 abbrev pub service_event : Given → Event
 service_event g = record { part = service_part; number = g.number; entry = Some g.entry; step = service_step g.entry }
 
@@ -191,13 +198,19 @@ module _ (schema : Schema) where
   pub service_goes : (service : List Given) → AllByRecursion (λ g. IsOfService g.entry) service → Chain (Moves schema) None (in_turn number_of (service_events service)) None
   service_goes service are = chained (in_turn number_of (service_events service)) (in_turn_each number_of (λ e. Moves schema e None None) (service_events service) (all_move service are))
 
-all_events : (service : List Given) → Each number_of IsServiceEvent (service_events service)
-all_events [] = tt
-all_events (g ∷ service) = ((g.entry, (refl, refl)), all_events service)
+is_event : (number : ℕ) (e : Entry) → IsOfService e → IsServiceEvent (record { part = service_part; number = number; entry = Some e; step = service_step e })
+is_event number (Begins session earlier view) is = inl (earlier, view, ap (λ i. Some (Begins i earlier view)) is, refl)
+is_event number (Installs rect block done) is = inr refl
+is_event number (Commits session begin net reading end) is = absurd is
+is_event number (Splits cut done) is = absurd is
+
+all_events : (service : List Given) → AllByRecursion (λ g. IsOfService g.entry) service → Each number_of IsServiceEvent (service_events service)
+all_events [] are = tt
+all_events (g ∷ service) are = (is_event g.number g.entry are.0, all_events service are.1)
 
 same_all : (xs : List Event) → Each number_of IsServiceEvent xs → AllByRecursion IsServiceEvent xs
 same_all [] each = tt
 same_all (x ∷ xs) each = (each.0, same_all xs each.1)
 
-pub service_tells : (service : List Given) → AllByRecursion IsServiceEvent (in_turn number_of (service_events service))
-service_tells service = same_all (in_turn number_of (service_events service)) (in_turn_each number_of IsServiceEvent (service_events service) (all_events service))
+pub service_tells : (service : List Given) → AllByRecursion (λ g. IsOfService g.entry) service → AllByRecursion IsServiceEvent (in_turn number_of (service_events service))
+service_tells service are = same_all (in_turn number_of (service_events service)) (in_turn_each number_of IsServiceEvent (service_events service) (all_events service are))

@@ -1,15 +1,12 @@
 -- The events of a part: whose they are, in which order, and with which receipts.
-use Rattle.std.proofs.Common.{◌≡◌, ℕ, ◌<◌, Bool, List, [], ◌∷◌, ◌++◌, Option, Some, None, is_some, refl, sym, ap, subst, ◌∙◌, arith, map}
+use Rattle.std.proofs.Common.{◌≡◌, ℕ, ◌<◌, Bool, List, [], ◌∷◌, ◌++◌, Option, Some, None, is_some, refl, ap, ◌∙◌, arith, map}
 use Rattle.std.specs.List.{AllByRecursion}
-use Rattle.values.specs.Tables.{Schema}
 use Rattle.steps.specs.declared.step.Step.{Step}
 use Rattle.steps.specs.declared.step.Reply.{Reply}
-use Rattle.lines.specs.Partial.{Partial}
 use Rattle.serving.specs.Progress.{Given}
-use Rattle.serving.specs.ServedSession.{Told}
-use Rattle.runs.specs.Event.{Event, events_of, last_of, receipts_of, taking_all}
+use Rattle.runs.specs.Event.{Event, receipts_of}
 use Rattle.runs.specs.Run.{Rises}
-use Rattle.runs.specs.Tells.{Tells}
+use Rattle.runs.proofs.TellsEvents.{events_of, last_of, taking_all}
 use Rattle.runs.proofs.RunInTurn.{Climbs}
 
 abbrev pub number_of : Event → ℕ
@@ -72,21 +69,17 @@ pub record Facts (i last : ℕ) (given : List Given) (events : List Event) : Typ
   pub climbs : Climbs number_of last events
   pub takes : receipts_of events ≡ given
 
-pub facts : (schema : Schema) (i last : ℕ) (lines : List Partial) (told : List Told) (given : List Given) (events : List Event) (text : List ℕ) → Tells schema i last lines told given events text → Rises last given → Facts i last given events
-facts schema i last [] [] given events text (given_is, events_is, text_is) rises = record {
-  its = subst (AllByRecursion (λ e. e.part ≡ i)) (sym events_is) tt;
-  climbs = subst (Climbs number_of last) (sym events_is) tt;
-  takes = ap receipts_of events_is ∙ sym given_is;
-}
-facts schema i last (line_now ∷ lines) (t ∷ told) given events text (own, more, now, later, sent, rest, given_is, events_is, text_is, tells, then) rises =
-    let all : Rises last (own ++ more) = subst (Rises last) given_is rises in
-    let first : Before i last (last_of last own) own (events_of i last tells.step own) = line i last tells.step own (rises_first last own more all) in
-    let after : Facts i (last_of last own) more later = facts schema i (last_of last own) lines told more later rest then (rises_later last own more all) in
-    let are : events ≡ events_of i last tells.step own ++ later = events_is ∙ ap (λ now. now ++ later) tells.events_are in
+pub nothing : (i last : ℕ) → Facts i last [] []
+nothing i last = record { its = tt; climbs = tt; takes = refl }
+
+-- the events of a line, and of the lines behind it
+pub line_then : (i last : ℕ) (step : Option (Step × Reply)) (own more : List Given) (later : List Event) → Rises last (own ++ more) → (Rises (last_of last own) more → Facts i (last_of last own) more later)
+    → Facts i last (own ++ more) (events_of i last step own ++ later)
+line_then i last step own more later rises then =
+    let first : Before i last (last_of last own) own (events_of i last step own) = line i last step own (rises_first last own more rises) in
+    let after : Facts i (last_of last own) more later = then (rises_later last own more rises) in
     record {
-      its = subst (AllByRecursion (λ e. e.part ≡ i)) (sym are) (first.its later after.its);
-      climbs = subst (Climbs number_of last) (sym are) (first.climb later after.climbs);
-      takes = ap receipts_of are ∙ first.take later ∙ ap (λ gs. own ++ gs) after.takes ∙ sym given_is;
+      its = first.its later after.its;
+      climbs = first.climb later after.climbs;
+      takes = first.take later ∙ ap (λ gs. own ++ gs) after.takes;
     }
-facts schema i last [] (t ∷ told) given events text tells rises = absurd tells
-facts schema i last (line_now ∷ lines) [] given events text tells rises = absurd tells

@@ -1,6 +1,8 @@
 -- The events of a session's lines: how the session moves by them, and what it was told.
-use Rattle.std.proofs.Common.{◌≡◌, ℕ, ◌≤◌, ◌⊎◌, inl, inr, Bool, List, [], ◌∷◌, ◌++◌, Option, Some, None, Result, Ok, Err, refl, sym, ap, subst, ◌∙◌}
+use Rattle.std.proofs.Common.{◌≡◌, ℕ, ◌≤◌, ◌⊎◌, inl, inr, Bool, true, List, [], ◌∷◌, ◌++◌, Option, Some, None, Result, Ok, Err, length, refl, sym, ap, subst, ◌∙◌}
+use Rattle.std.specs.List.{AllByRecursion}
 use Rattle.values.specs.declared.refusal.Refusal.{Refusal}
+use Rattle.values.specs.declared.refusal.Refusal.TheVariants.{JournalFull, Memory, NoTransaction}
 use Rattle.values.specs.declared.key.Key.{Key}
 use Rattle.values.specs.Tables.{Schema}
 use Rattle.values.specs.KeyEncoding.{bytes_of_key}
@@ -12,17 +14,25 @@ use Rattle.steps.specs.declared.step.Step.TheVariants.{Begin, Insert, Update, De
 use Rattle.steps.specs.declared.step.Reply.{Reply}
 use Rattle.steps.specs.declared.step.Reply.TheVariants.{Refused}
 use Rattle.steps.specs.Misfit.{max_session, key_misfit}
+use Rattle.histories.specs.History.{History, has_open}
 use Rattle.statement.specs.declared.line.Line.{Line}
 use Rattle.statement.specs.declared.line.Line.TheVariants.{Nothing, Clock, Step as Asks}
+use Rattle.statement.specs.Print.{refusal_text}
 use Rattle.lines.specs.Partial.{Partial}
 use Rattle.serving.specs.journal.declared.entry.Entry.{Entry}
 use Rattle.serving.specs.journal.declared.entry.Entry.TheVariants.{Begin as Begins, Commit as Commits, Split as Splits, Install as Installs}
+use Rattle.serving.specs.book.Book.{BookState, most_entries}
 use Rattle.serving.specs.Progress.{Given, IsRefusedStep, PacksFirst, Progress, Replies, Takes, TakesMigrate, TakesSplit, after, takes_split}
-use Rattle.serving.specs.ServedSession.{Answers, IsKept, IsRefusedLine, Serves, Told, said}
-use Rattle.runs.specs.Event.{Event, events_of, last_of, read_by, with_reading}
-use Rattle.runs.specs.Tells.{Says, Tells}
+use Rattle.serving.specs.ServedSession.{Answers, IsKept, IsRefusedLine, IsUnread, Serves, Told, reading_takes, said}
+use Rattle.runs.specs.Event.{Event, history_after}
+use Rattle.runs.specs.Run.{IsRefusedRightly, Rises, is_reading}
+use Rattle.runs.specs.Tells.{Says, Tells, with_reading}
+use Rattle.runs.proofs.TellsEvents.{events_of, last_of, read_by}
 use Rattle.runs.proofs.RunAlong.{Chain, chain_append}
 use Rattle.runs.proofs.OneHistoryBeside.{Held, IsIdle, IsOwnStep, Moves}
+use Rattle.runs.proofs.TellsFacts.{Facts, line_then, nothing}
+use Rattle.runs.proofs.TellsOpen.{Opens, none_opens, open_in, own_moves, refused_stays, step_opens}
+use Rattle.runs.proofs.TellsSaid.{answered, refused}
 use Rattle.runs.proofs.TellsSteps.{IsServedStep, served_step}
 
 -- ---- a step by the reading of its entry
@@ -48,28 +58,28 @@ module _ (may_give : ℕ → Bool) (schema : Schema) (i : ℕ) (p : Progress) (g
   as_read (SplitTime key instant) r its did = record { its = its; takes = did; again = refl }
   as_read Migrate r its did = absurd its
 
-module _ (may_give : ℕ → Bool) (schema : Schema) (i : ℕ) (small : i ≤ max_session) where
+module _ (schema : Schema) (b : BookState) (i : ℕ) (small : i ≤ max_session) where
   abbrev Goes : Held → List Event → Held → Type 0
   Goes = Chain (Moves schema)
 
   -- ---- one event
 
-  silent_goes : (last : ℕ) (step : Step) (reply : Reply) (receipt next : ℕ) (t t' : Held) → IsOwnStep i step → Takes may_give schema i step (after receipt t) [] reply (after next t')
+  silent_goes : (last : ℕ) (step : Step) (reply : Reply) (receipt next : ℕ) (t t' : Held) → IsOwnStep i step → Takes is_reading schema i step (after receipt t) [] reply (after next t')
       → Goes t (events_of i last (Some (step, reply)) []) t'
   silent_goes last step reply receipt next t t' its did =
-      (t', (inl (record { may_give = may_give; in_range = small; its = its; read = tt; receipt = receipt; next = next; takes = did }), refl))
+      (t', (inl (record { may_give = is_reading; in_range = small; its = its; read = tt; receipt = receipt; next = next; takes = did }), refl))
 
-  taking_goes : (last number : ℕ) (e : Entry) (step : Step) (reply : Reply) (receipt next : ℕ) (t t' : Held) → IsOwnStep i step → Takes may_give schema i step (after receipt t) (record { number = number; entry = e } ∷ []) reply (after next t')
+  taking_goes : (last number : ℕ) (e : Entry) (step : Step) (reply : Reply) (receipt next : ℕ) (t t' : Held) → IsOwnStep i step → Takes is_reading schema i step (after receipt t) (record { number = number; entry = e } ∷ []) reply (after next t')
       → Goes t (events_of i last (Some (step, reply)) (record { number = number; entry = e } ∷ [])) t'
   taking_goes last number (Commits session begin net reading end) step reply receipt next t t' its did =
-      let by = as_read may_give schema i (after receipt t) (record { number = number; entry = Commits session begin net reading end } ∷ []) reply (after next t') step reading its did in
-      (t', (inl (record { may_give = may_give; in_range = small; its = by.its; read = by.again; receipt = receipt; next = next; takes = by.takes }), refl))
+      let by = as_read is_reading schema i (after receipt t) (record { number = number; entry = Commits session begin net reading end } ∷ []) reply (after next t') step reading its did in
+      (t', (inl (record { may_give = is_reading; in_range = small; its = by.its; read = by.again; receipt = receipt; next = next; takes = by.takes }), refl))
   taking_goes last number (Begins session earlier view) step reply receipt next t t' its did =
-      (t', (inl (record { may_give = may_give; in_range = small; its = its; read = refl; receipt = receipt; next = next; takes = did }), refl))
+      (t', (inl (record { may_give = is_reading; in_range = small; its = its; read = refl; receipt = receipt; next = next; takes = did }), refl))
   taking_goes last number (Splits cut done) step reply receipt next t t' its did =
-      (t', (inl (record { may_give = may_give; in_range = small; its = its; read = refl; receipt = receipt; next = next; takes = did }), refl))
+      (t', (inl (record { may_give = is_reading; in_range = small; its = its; read = refl; receipt = receipt; next = next; takes = did }), refl))
   taking_goes last number (Installs rect block done) step reply receipt next t t' its did =
-      (t', (inl (record { may_give = may_give; in_range = small; its = its; read = refl; receipt = receipt; next = next; takes = did }), refl))
+      (t', (inl (record { may_give = is_reading; in_range = small; its = its; read = refl; receipt = receipt; next = next; takes = did }), refl))
 
   -- ---- a step takes at most one receipt
 
@@ -89,7 +99,7 @@ module _ (may_give : ℕ → Bool) (schema : Schema) (i : ℕ) (small : i ≤ ma
       by (Some refusal) did = inl did.takes
       by None did = inr (did.receipt, did.takes)
 
-  few : (step : Step) (receipt next : ℕ) (t t' : Held) (given : List Given) (reply : Reply) → IsOwnStep i step → Takes may_give schema i step (after receipt t) given reply (after next t') → Few given
+  few : (step : Step) (receipt next : ℕ) (t t' : Held) (given : List Given) (reply : Reply) → IsOwnStep i step → Takes is_reading schema i step (after receipt t) given reply (after next t') → Few given
   few (Begin j) receipt next None t' given reply its did = inr (did.receipt, did.takes)
   few (Begin j) receipt next (Some t) t' given reply its did = inl did.takes
   few (Insert j table rows) receipt next t t' given reply its did = inl did.takes
@@ -108,17 +118,17 @@ module _ (may_give : ℕ → Bool) (schema : Schema) (i : ℕ) (small : i ≤ ma
   few (SplitTime key instant) receipt next t t' given reply its did = split_few key (TimeCut (bytes_of_key key) instant) (after receipt t) (after next t') given reply did
   few Migrate receipt next t t' given reply its did = absurd its
 
-  own_goes : (last : ℕ) (step : Step) (reply : Reply) (p p' : Progress) (given : List Given) → IsOwnStep i step → Takes may_give schema i step p given reply p'
+  own_goes : (last : ℕ) (step : Step) (reply : Reply) (p p' : Progress) (given : List Given) → IsOwnStep i step → Takes is_reading schema i step p given reply p'
       → Goes p.transaction (events_of i last (Some (step, reply)) given) p'.transaction
   own_goes last step reply p p' given its did = by (few step p.receipt p'.receipt p.transaction p'.transaction given reply its did)
     where
       by : Few given → Goes p.transaction (events_of i last (Some (step, reply)) given) p'.transaction
       by (inl none) =
           subst (λ given. Goes p.transaction (events_of i last (Some (step, reply)) given) p'.transaction) (sym none)
-          (silent_goes last step reply p.receipt p'.receipt p.transaction p'.transaction its (subst (λ given. Takes may_give schema i step p given reply p') none did))
+          (silent_goes last step reply p.receipt p'.receipt p.transaction p'.transaction its (subst (λ given. Takes is_reading schema i step p given reply p') none did))
       by (inr one) =
           subst (λ given. Goes p.transaction (events_of i last (Some (step, reply)) given) p'.transaction) (sym one.1)
-          (taking_goes last one.0.number one.0.entry step reply p.receipt p'.receipt p.transaction p'.transaction its (subst (λ given. Takes may_give schema i step p given reply p') one.1 did))
+          (taking_goes last one.0.number one.0.entry step reply p.receipt p'.receipt p.transaction p'.transaction its (subst (λ given. Takes is_reading schema i step p given reply p') one.1 did))
 
   -- ---- MIGRATE
 
@@ -146,12 +156,12 @@ module _ (may_give : ℕ → Bool) (schema : Schema) (i : ℕ) (small : i ≤ ma
       )
       by (g ∷ f ∷ more) packs = absurd packs
 
-  step_goes : (last : ℕ) (step : Step) (reply : Reply) (p p' : Progress) (given : List Given) → IsServedStep schema i step → Takes may_give schema i step p given reply p'
+  step_goes : (last : ℕ) (step : Step) (reply : Reply) (p p' : Progress) (given : List Given) → IsServedStep schema i step → Takes is_reading schema i step p given reply p'
       → Goes p.transaction (events_of i last (Some (step, reply)) given) p'.transaction
   step_goes last step reply p p' given (inl its) did = own_goes last step reply p p' given its did
   step_goes last step reply p p' given (inr is) did =
       subst (λ step. Goes p.transaction (events_of i last (Some (step, reply)) given) p'.transaction) (sym is)
-      (migrate_goes last reply p p' given (subst (λ step. Takes may_give schema i step p given reply p') is did))
+      (migrate_goes last reply p p' given (subst (λ step. Takes is_reading schema i step p given reply p') is did))
 
   -- ---- what is refused since there is no room
 
@@ -190,55 +200,120 @@ module _ (may_give : ℕ → Bool) (schema : Schema) (i : ℕ) (small : i ≤ ma
   line_refused last line (Ok (Clock reading)) p p' given refusal unread = none_goes last p p' given unread.1.1.0 unread.1.1.1
   line_refused last line (Err e) p p' given refusal unread = none_goes last p p' given unread.1.1.0 unread.1.1.1
 
+  -- what is told of a line that says this
+  abbrev IsTold : Partial → Result Line Refusal → Bool → List Event → List ℕ → Type 0
+  IsTold line says is_open events text =
+      Says schema b i is_open says events text
+      ⊎ ((reading_takes schema i line ≡ true) × (events ≡ []) × (text ≡ refusal_text Memory))
+
+  none_told : (last : ℕ) (given : List Given) → given ≡ [] → events_of i last None given ≡ []
+  none_told last given none = ap (events_of i last None) none
+
+  unread_told : (last : ℕ) (line : Partial) (says : Result Line Refusal) (p p' : Progress) (given : List Given) (refusal : Refusal) (text : List ℕ) → IsUnread schema i line p given refusal p' → text ≡ refusal_text refusal → IsTold line says (open_in p) (events_of i last None given) text
+  unread_told last line says p p' given refusal text unread text_is = inr (unread.0, none_told last given unread.1.1.0, text_is ∙ ap refusal_text unread.1.0)
+
+  abbrev IsFull : Refusal → Type 0
+  IsFull refusal = ◌≡◌ {A = Option Refusal} (Some refusal) (Some JournalFull) → length b.entries ≡ most_entries
+
+  abbrev IsOpen : Refusal → Type 0
+  IsOpen refusal = ◌≡◌ {A = Option Refusal} (Some refusal) (Some NoTransaction) → ⊥
+
+  refused_told : (last : ℕ) (line : Partial) (says : Result Line Refusal) (p p' : Progress) (given : List Given) (refusal : Refusal) (text : List ℕ) → IsRefusedLine schema i line says p given refusal p' → text ≡ refusal_text refusal → IsFull refusal → IsOpen refusal
+      → IsTold line says (open_in p) (events_of i last None given) text
+  refused_told last line (Ok (Asks step)) p p' given refusal text (inl unread) text_is full not_open = unread_told last line (Ok (Asks step)) p p' given refusal text unread text_is
+  refused_told last line (Ok (Asks step)) p p' given refusal text (inr did) text_is full not_open =
+      let is = refused schema b i last step p p' given refusal did full not_open in
+      inl (inr (refusal, text_is, is.0, is.1))
+  refused_told last line (Ok Nothing) p p' given refusal text unread text_is full not_open = unread_told last line (Ok Nothing) p p' given refusal text unread text_is
+  refused_told last line (Ok (Clock reading)) p p' given refusal text unread text_is full not_open = unread_told last line (Ok (Clock reading)) p p' given refusal text unread text_is
+  refused_told last line (Err e) p p' given refusal text unread text_is full not_open = unread_told last line (Err e) p p' given refusal text unread text_is
+
+  same_open : (p p' : Progress) → p' ≡ p → open_in p' ≡ open_in p
+  same_open p p' left = ap open_in left
+
+  refused_open : (line : Partial) (says : Result Line Refusal) (p p' : Progress) (given : List Given) (refusal : Refusal) → IsRefusedLine schema i line says p given refusal p' → open_in p' ≡ open_in p
+  refused_open line (Ok (Asks step)) p p' given refusal (inl unread) = same_open p p' unread.1.1.1
+  refused_open line (Ok (Asks step)) p p' given refusal (inr did) = refused_stays schema i small step p p' given refusal did
+  refused_open line (Ok Nothing) p p' given refusal unread = same_open p p' unread.1.1.1
+  refused_open line (Ok (Clock reading)) p p' given refusal unread = same_open p p' unread.1.1.1
+  refused_open line (Err e) p p' given refusal unread = same_open p p' unread.1.1.1
+
+  step_open : (step : Step) (reply : Reply) (p p' : Progress) (given : List Given) → IsServedStep schema i step → Takes is_reading schema i step p given reply p' → (h : History) → has_open h i ≡ open_in p → has_open (step ∷ h) i ≡ open_in p'
+  step_open step reply p p' given (inl its) did h is = own_moves schema i small h p.receipt given reply p' step p.transaction its did is
+  step_open step reply p p' given (inr migrate) did h is =
+      let moved : TakesMigrate schema i p given reply p' = subst (λ step. Takes is_reading schema i step p given reply p') migrate did in
+      subst (λ step. has_open (step ∷ h) i ≡ open_in p') (sym migrate) (is ∙ sym (ap open_in moved.left))
+
   -- ---- a line
 
-  record LineGoes (last : ℕ) (refused : Option Refusal) (says : Result Line Refusal) (p p' : Progress) (given : List Given) (text : List ℕ) : Type 0 where
+  record LineGoes (last : ℕ) (line : Partial) (says : Result Line Refusal) (p p' : Progress) (given : List Given) (text : List ℕ) : Type 0 where
     step : Option (Step × Reply)
-    told : Says refused says step text
+    told : IsTold line says (open_in p) (events_of i last step given) text
+    opens : Opens i last p p' step given
     goes : Goes p.transaction (events_of i last step given) p'.transaction
 
-  answered : (last : ℕ) (line : Partial) (says : Result Line Refusal) → said schema i line ≡ says → (p p' : Progress) (given : List Given) (text : List ℕ) → Answers may_give schema i says p given text p' → LineGoes last None says p p' given text
-  answered last line (Err refusal) e p p' given text did = record { step = None; told = (refl, did.out_is); goes = none_goes last p p' given did.takes did.left }
-  answered last line (Ok Nothing) e p p' given text did = record { step = None; told = (refl, did.out_is); goes = none_goes last p p' given did.takes did.left }
-  answered last line (Ok (Clock reading)) e p p' given text did = record { step = None; told = (refl, did.out_is); goes = none_goes last p p' given did.takes did.left }
-  answered last line (Ok (Asks step)) e p p' given text did = record {
+  printed : (last : ℕ) (line : Partial) (says : Result Line Refusal) (p p' : Progress) (given : List Given) (text : List ℕ) → (events_of i last None given ≡ [] → Says schema b i (open_in p) says (events_of i last None given) text) → given ≡ [] → p' ≡ p → LineGoes last line says p p' given text
+  printed last line says p p' given text told none left = record {
+    step = None;
+    told = inl (told (none_told last given none));
+    opens = none_opens i last p p' given (same_open p p' left);
+    goes = none_goes last p p' given none left;
+  }
+
+  line_answered : (last : ℕ) (line : Partial) (says : Result Line Refusal) → said schema i line ≡ says → (p p' : Progress) (given : List Given) (text : List ℕ) → Answers is_reading schema i says p given text p' → LineGoes last line says p p' given text
+  line_answered last line (Err refusal) e p p' given text did = printed last line (Err refusal) p p' given text (λ none. (none, did.out_is)) did.takes did.left
+  line_answered last line (Ok Nothing) e p p' given text did = printed last line (Ok Nothing) p p' given text (λ none. (none, did.out_is)) did.takes did.left
+  line_answered last line (Ok (Clock reading)) e p p' given text did = printed last line (Ok (Clock reading)) p p' given text (λ none. (none, did.out_is)) did.takes did.left
+  line_answered last line (Ok (Asks step)) e p p' given text did = record {
     step = Some (step, did.reply);
-    told = (did.reply, refl, did.out_is);
+    told = inl (inl (did.reply, did.out_is, answered schema i last step p p' given did.reply (served_step schema i line step e) did.taken));
+    opens = step_opens i last p p' step did.reply given (step_open step did.reply p p' given (served_step schema i line step e) did.taken);
     goes = step_goes last step did.reply p p' given (served_step schema i line step e) did.taken;
   }
 
-  kept : (last : ℕ) (line : Partial) (refused : Option Refusal) (p p' : Progress) (given : List Given) (text : List ℕ) → IsKept may_give schema i refused line p given text p' → LineGoes last refused (said schema i line) p p' given text
-  kept last line (Some refusal) p p' given text did = record { step = None; told = (refl, did.out_is); goes = line_refused last line (said schema i line) p p' given refusal did.refused }
-  kept last line None p p' given text did = answered last line (said schema i line) refl p p' given text did
+  kept : (last : ℕ) (line : Partial) (refused : Option Refusal) (p p' : Progress) (given : List Given) (text : List ℕ) → IsKept is_reading schema i refused line p given text p' → (refused ≡ Some JournalFull → length b.entries ≡ most_entries) → (refused ≡ Some NoTransaction → ⊥)
+      → LineGoes last line (said schema i line) p p' given text
+  kept last line (Some refusal) p p' given text did full not_open = record {
+    step = None;
+    told = refused_told last line (said schema i line) p p' given refusal text did.refused did.out_is full not_open;
+    opens = none_opens i last p p' given (refused_open line (said schema i line) p p' given refusal did.refused);
+    goes = line_refused last line (said schema i line) p p' given refusal did.refused;
+  }
+  kept last line None p p' given text did full not_open = line_answered last line (said schema i line) refl p p' given text did
 
   -- ---- all lines
 
-  pub record LinesGo (last : ℕ) (lines : List Partial) (told : List Told) (p p' : Progress) (given : List Given) (text : List ℕ) : Type 0 where
+  pub record LinesGo (h : History) (last : ℕ) (lines : List Partial) (p p' : Progress) (given : List Given) (text : List ℕ) : Type 0 where
     pub events : List Event
-    pub tells : Tells schema i last lines told given events text
+    pub tells : Tells schema b i h lines events text
+    pub known : Rises last given → Facts i last given events
     pub goes : Goes p.transaction events p'.transaction
 
-  pub lines_go : (last : ℕ) (lines : List Partial) (told : List Told) (p p' : Progress) (given : List Given) (text : List ℕ) → Serves may_give schema i lines told p given text p' → LinesGo last lines told p p' given text
-  lines_go last [] [] p p' given text did = record { events = []; tells = (did.0, refl, did.1.0); goes = ap (λ (p : Progress). p.transaction) did.1.1 }
-  lines_go last (line ∷ lines) (t ∷ told) p p' given text (own, (more, (sent, (rest, (between, (given_is, (text_is, (did, later)))))))) =
-      let now = kept last line t.refused p between own sent did.kept in
-      let then = lines_go (last_of last own) lines told between p' more rest later in
+  pub lines_go : (h : History) (last : ℕ) (lines : List Partial) (told : List Told) (p p' : Progress) (given : List Given) (text : List ℕ) → AllByRecursion (IsRefusedRightly b) told → has_open h i ≡ open_in p → Serves is_reading schema i lines told p given text p'
+      → LinesGo h last lines p p' given text
+  lines_go h last [] [] p p' given text rightly is_open did = record {
+    events = [];
+    tells = (refl, did.1.0);
+    known = λ rises. subst (λ given. Facts i last given []) (sym did.0) (nothing i last);
+    goes = ap (λ (p : Progress). p.transaction) did.1.1;
+  }
+  lines_go h last (line ∷ lines) (t ∷ told) p p' given text rightly is_open (own, (more, (sent, (rest, (between, (given_is, (text_is, (did, later)))))))) =
+      let now = kept last line t.refused p between own sent did.kept rightly.0.full rightly.0.is_open in
+      let then = lines_go (history_after h (events_of i last now.step own)) (last_of last own) lines told between p' more rest rightly.1 (now.opens h is_open) later in
       record {
         events = events_of i last now.step own ++ then.events;
         tells = (
-          own,
-          more,
           events_of i last now.step own,
           then.events,
           sent,
           rest,
-          given_is,
           refl,
           text_is,
-          record { counted = did.counted; step = now.step; says = now.told; events_are = refl },
+          subst (λ is_open. IsTold line (said schema i line) is_open (events_of i last now.step own) sent) (sym is_open) now.told,
           then.tells,
         );
+        known = λ rises. subst (λ given. Facts i last given (events_of i last now.step own ++ then.events)) (sym given_is) (line_then i last now.step own more then.events (subst (Rises last) given_is rises) then.known);
         goes = chain_append (Moves schema) p.transaction between.transaction p'.transaction (events_of i last now.step own) then.events now.goes then.goes;
       }
-  lines_go last [] (t ∷ told) p p' given text did = absurd did
-  lines_go last (line ∷ lines) [] p p' given text did = absurd did
+  lines_go h last [] (t ∷ told) p p' given text rightly is_open did = absurd did
+  lines_go h last (line ∷ lines) [] p p' given text rightly is_open did = absurd did

@@ -4,6 +4,7 @@ use Rattle.std.specs.List.{AllByRecursion, flat_map}
 use Rattle.values.specs.Commits.{max_instant}
 use Rattle.values.specs.Log.{Changes, Net, Row}
 use Rattle.values.specs.Tables.{Schema}
+use Rattle.values.specs.declared.refusal.Refusal.TheVariants.{JournalFull, NoTransaction}
 use Rattle.serving.specs.tsbtree.View.{TreeState}
 use Rattle.serving.specs.staging.View.{Holds}
 use Rattle.serving.specs.staging.Own.{net_over, own}
@@ -14,7 +15,7 @@ use Rattle.lines.specs.Partial.{Partial}
 use Rattle.serving.specs.journal.declared.entry.Entry.{Entry}
 use Rattle.serving.specs.journal.declared.entry.Entry.TheVariants.{Begin, Commit, Split, Install}
 use Rattle.serving.specs.journal.Entries.{entry_at, numbers}
-use Rattle.serving.specs.book.Book.{BookState, IsBook}
+use Rattle.serving.specs.book.Book.{BookState, IsBook, most_entries}
 use Rattle.serving.specs.Progress.{Given, Progress, after}
 use Rattle.serving.specs.ServedSession.{Serves, Told}
 
@@ -70,10 +71,15 @@ pub record IsPart (schema : Schema) (p : Part) : Type 0 where
   pub serves : Serves is_reading schema p.number p.lines p.told (after 0 None) p.given p.text p.later
   pub rises : Rises 0 p.given
 
--- no two have one number
-abbrev pub AreApart : List Part → Type 0
+-- no number is there twice
+abbrev pub AreApart : (numbers : List ℕ) → Type 0
 AreApart [] = Unit {0}
-AreApart (p ∷ parts) = AllByRecursion (λ q. q.number ≢ p.number) parts × AreApart parts
+AreApart (n ∷ numbers) = AllByRecursion (λ m. m ≢ n) numbers × AreApart numbers
+
+-- a line was answered that the journal is full only where it is, and no COMMIT of an open transaction that none is open
+pub record IsRefusedRightly (b : BookState) (t : Told) : Type 0 where
+  pub full : t.refused ≡ Some JournalFull → length b.entries ≡ most_entries
+  pub is_open : t.refused ≡ Some NoTransaction → ⊥
 
 -- ---- the service
 
@@ -94,7 +100,8 @@ pub record IsRun (schema : Schema) (b : BookState) (table : ℕ) (rows : List Ro
   pub is_book : IsBook schema b
   pub is_loaded : IsLoaded schema table rows loaded
   pub are_parts : AllByRecursion (IsPart schema) parts
-  pub apart : AreApart parts
+  pub refused : AllByRecursion (λ p. AllByRecursion (IsRefusedRightly b) p.told) parts
+  pub apart : AreApart (map (λ p. p.number) parts)
   pub serviced : AllByRecursion (λ g. IsOfService g.entry) service
   pub stand : AllByRecursion (λ g. entry_at b.entries g.number ≡ Some g.entry)
       (all_given loaded parts service)

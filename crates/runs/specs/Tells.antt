@@ -1,42 +1,103 @@
--- What a session was sent, line by line: by its events, and by what is told of each line.
-use Rattle.std.specs.Prelude.{◌≡◌, ℕ, List, [], ◌∷◌, ◌++◌, Option, Some, None, Result, Ok, Err, length}
+-- What a session was sent, line by line, and by which events.
+use Rattle.std.specs.Prelude.{◌≡◌, ℕ, ◌≤◌, List, [], ◌∷◌, ◌++◌, ◌⊎◌, Bool, true, false, Option, Some, None, Result, Ok, Err, length}
 use Rattle.values.specs.declared.refusal.Refusal.{Refusal}
+use Rattle.values.specs.declared.refusal.Refusal.TheVariants.{JournalFull, Memory}
+use Rattle.values.specs.Commits.{max_instant}
 use Rattle.values.specs.Tables.{Schema}
 use Rattle.steps.specs.declared.step.Step.{Step}
+use Rattle.steps.specs.declared.step.Step.TheVariants.{Begin, Select, Commit, SplitKey, SplitTime, Migrate}
 use Rattle.steps.specs.declared.step.Reply.{Reply}
+use Rattle.steps.specs.declared.step.Reply.TheVariants.{Begun, Done}
+use Rattle.steps.specs.Reply.{commit_reply, takes_no_memory_by}
+use Rattle.histories.specs.History.{History, has_open}
 use Rattle.statement.specs.declared.line.Line.{Line}
-use Rattle.statement.specs.declared.line.Line.TheVariants.{Nothing, Clock, Step as Asks}
+use Rattle.statement.specs.declared.line.Line.TheVariants.{Step as Asks}
 use Rattle.statement.specs.Print.{refusal_text, reply_text}
 use Rattle.lines.specs.Partial.{Partial}
-use Rattle.serving.specs.Progress.{Given}
-use Rattle.serving.specs.ServedSession.{Told, said}
-use Rattle.runs.specs.Event.{Event, events_of, last_of}
+use Rattle.serving.specs.tsbtree.View.{TreeState, last}
+use Rattle.serving.specs.journal.declared.entry.Entry.{Entry}
+use Rattle.serving.specs.journal.declared.entry.Entry.TheVariants.{Begin as Begins, Commit as Commits, Split as Splits, Install as Installs}
+use Rattle.serving.specs.book.Book.{BookState, most_entries}
+use Rattle.serving.specs.Progress.{asks_store}
+use Rattle.serving.specs.ServedSession.{reading_takes, said}
+use Rattle.runs.specs.Event.{Event, history_after}
 
--- the step that a line is, where it is one, with its reply; and what is sent for the line. What is
--- refused since there is no room is no step.
-abbrev pub Says : Option Refusal → Result Line Refusal → Option (Step × Reply) → List ℕ → Type 0
-Says (Some refusal) said step text = (step ≡ None) × (text ≡ refusal_text refusal)
-Says None (Err refusal) step text = (step ≡ None) × (text ≡ refusal_text refusal)
-Says None (Ok Nothing) step text = (step ≡ None) × (text ≡ [])
-Says None (Ok (Clock reading)) step text = (step ≡ None) × (text ≡ [])
-Says None (Ok (Asks s)) step text =
-    (reply : Reply) × (step ≡ Some (s, reply)) × (text ≡ reply_text reply)
+-- a COMMIT's reading is its entry's
+abbrev pub with_reading : ℕ → Step → Step
+with_reading reading (Commit i before) = Commit i reading
+with_reading reading step = step
 
-module _ (schema : Schema) (i : ℕ) where
-  -- a line took these receipts, is these events, and was answered with this text
-  pub record TellsLine (last : ℕ) (line : Partial) (t : Told) (given : List Given)
-      (events : List Event) (text : List ℕ) : Type 0 where
-    pub counted : length given ≡ t.taken
-    pub step : Option (Step × Reply)
-    pub says : Says t.refused (said schema i line) step text
-    pub events_are : events ≡ events_of i last step given
+-- the entry of a session's begin, and no step
+abbrev pub IsBegun : (session : ℕ) → Event → Type 0
+IsBegun session e =
+    (earlier : ℕ) × (view : TreeState) × (e.entry ≡ Some (Begins session earlier view)) × (e.step ≡ None)
 
-  -- and so did all, one after another
-  abbrev pub Tells : ℕ → List Partial → List Told → List Given → List Event → List ℕ → Type 0
-  Tells last [] [] given events text = (given ≡ []) × (events ≡ []) × (text ≡ [])
-  Tells last (line ∷ lines) (t ∷ told) given events text =
-      (own more : List Given) × (now later : List Event) × (sent rest : List ℕ)
-      × (given ≡ own ++ more) × (events ≡ now ++ later) × (text ≡ sent ++ rest)
-      × TellsLine last line t own now sent × Tells (last_of last own) lines told more later rest
-  Tells last [] (t ∷ told) given events text = ⊥
-  Tells last (line ∷ lines) [] given events text = ⊥
+-- the entry of an install, and a MIGRATE that is done
+abbrev pub IsPacked : Option Entry → Option (Step × Reply) → Type 0
+IsPacked (Some (Installs rect block done)) step = step ≡ Some (Migrate, Done)
+IsPacked entry step = ⊥
+
+module _ (i : ℕ) where
+  -- the entry that a step of the session adds: a begin of its own for a BEGIN, and for a query with no transaction
+  -- open; a commit with its reading, which ended as is replied; a split; and for a MIGRATE the service's begin
+  abbrev pub IsEntryOf : Step → (reading : ℕ) → Reply → Entry → Type 0
+  IsEntryOf (Begin j) reading reply (Begins session earlier view) =
+      (session ≡ i) × (reply ≡ Begun (last view))
+  IsEntryOf (Select j form keys) reading reply (Begins session earlier view) = session ≡ i
+  IsEntryOf (Commit j before) reading reply (Commits session begin net at end) =
+      (session ≡ i) × (at ≡ reading) × (reading ≤ max_instant) × (reply ≡ commit_reply end)
+  IsEntryOf (SplitKey key) reading reply (Splits cut done) = reply ≡ Done
+  IsEntryOf (SplitTime key instant) reading reply (Splits cut done) = reply ≡ Done
+  IsEntryOf Migrate reading reply (Begins session earlier view) = (session ≡ 0) × (reply ≡ Done)
+  IsEntryOf step reading reply entry = ⊥
+
+  -- a step that is answered is one event, with its entry where it adds one; a MIGRATE that packs a node is two: the
+  -- service's begin, and the install
+  abbrev pub AreEventsOf : (adds : Bool) → List Event → Step → Reply → Type 0
+  AreEventsOf false (e ∷ []) step reply = (e.entry ≡ None) × (e.step ≡ Some (step, reply))
+  AreEventsOf true (e ∷ []) step reply =
+      (entry : Entry) × (reading : ℕ) × (e.entry ≡ Some entry) × IsEntryOf step reading reply entry
+      × (e.step ≡ Some (with_reading reading step, reply))
+  AreEventsOf true (e ∷ f ∷ []) Migrate reply = IsBegun 0 e × IsPacked f.entry f.step × (reply ≡ Done)
+  AreEventsOf adds events step reply = ⊥
+
+  -- what is refused for room is no step, and has no event, but that a query with no transaction open, or a MIGRATE,
+  -- may have begun
+  abbrev pub AreLeft : (is_open : Bool) → List Event → Refusal → Step → Type 0
+  AreLeft is_open [] refusal step = Unit {0}
+  AreLeft is_open (e ∷ []) Memory (Select j form keys) = (is_open ≡ false) × IsBegun i e
+  AreLeft is_open (e ∷ []) refusal Migrate = IsBegun 0 e
+  AreLeft is_open events refusal step = ⊥
+
+module _ (schema : Schema) (b : BookState) (i : ℕ) where
+  -- what is refused for room: a step that takes memory, since that ran out; and one that adds an entry, since the
+  -- journal is full, and it is
+  abbrev pub MayBeRefused : (is_open : Bool) → Step → Refusal → Type 0
+  MayBeRefused is_open step Memory = takes_no_memory_by (λ j. is_open) step ≡ false
+  MayBeRefused is_open step JournalFull =
+      (asks_store schema i step is_open ≡ true) × (length b.entries ≡ most_entries)
+  MayBeRefused is_open step refusal = ⊥
+
+  -- the events and the text of a line that says this, by whether the session has a transaction open: what is no step
+  -- has no event, and a step is answered, or refused for room
+  abbrev pub Says : (is_open : Bool) → Result Line Refusal → List Event → (text : List ℕ) → Type 0
+  Says is_open (Err refusal) events text = (events ≡ []) × (text ≡ refusal_text refusal)
+  Says is_open (Ok (Asks step)) events text =
+      ((reply : Reply) × (text ≡ reply_text reply)
+      × AreEventsOf i (asks_store schema i step is_open) events step reply)
+      ⊎ ((refusal : Refusal) × (text ≡ refusal_text refusal)
+      × MayBeRefused is_open step refusal × AreLeft i is_open events refusal step)
+  Says is_open (Ok other) events text = (events ≡ []) × (text ≡ [])
+
+  -- or memory ran out while the line was read, where that takes some
+  abbrev pub TellsLine : (is_open : Bool) → Partial → List Event → (text : List ℕ) → Type 0
+  TellsLine is_open line events text =
+      Says is_open (said schema i line) events text
+      ⊎ ((reading_takes schema i line ≡ true) × (events ≡ []) × (text ≡ refusal_text Memory))
+
+  -- all lines, one after another, from the steps of the session before them
+  abbrev pub Tells : History → List Partial → List Event → (text : List ℕ) → Type 0
+  Tells h [] events text = (events ≡ []) × (text ≡ [])
+  Tells h (line ∷ lines) events text =
+      (now later : List Event) × (sent rest : List ℕ) × (events ≡ now ++ later) × (text ≡ sent ++ rest)
+      × TellsLine (has_open h i) line now sent × Tells (history_after h now) lines later rest

@@ -1,7 +1,8 @@
--- Worked runs: what is no history, and what is no run.
-use Rattle.std.specs.Prelude.{◌≡◌, ℕ, ◌+◌, List, [], ◌∷◌, ◌++◌, Option, Some, None, codes, pos}
+-- Worked runs: what is no history, what is no run, and what is not refused.
+use Rattle.std.specs.Prelude.{◌≡◌, ◌≢◌, ℕ, ◌+◌, List, [], ◌∷◌, ◌++◌, Option, Some, None, Ok, false, codes, length, pos}
 use Rattle.values.specs.declared.value.Value.TheVariants.{Int, Text}
 use Rattle.values.specs.declared.query.Form.TheVariants.{Plain}
+use Rattle.values.specs.declared.refusal.Refusal.TheVariants.{JournalFull, Memory}
 use Rattle.values.specs.Sample.{sample}
 use Rattle.values.specs.Log.{Row}
 use Rattle.values.specs.Tables.{Schema}
@@ -10,11 +11,16 @@ use Rattle.steps.specs.declared.step.Step.TheVariants.{Begin, Insert, Select, Co
 use Rattle.steps.specs.declared.step.Listing.TheVariants.{Rows}
 use Rattle.steps.specs.declared.step.Reply.{Reply}
 use Rattle.steps.specs.declared.step.Reply.TheVariants.{Begun, Inserted, Shown, Committed}
+use Rattle.statement.specs.declared.line.Line.TheVariants.{Step as Asks}
+use Rattle.statement.specs.Print.{refusal_text}
+use Rattle.lines.specs.Partial.{Partial}
 use Rattle.serving.specs.journal.declared.entry.Entry.{Entry}
-use Rattle.serving.specs.book.Book.{BookState}
+use Rattle.serving.specs.book.Book.{BookState, most_entries}
 use Rattle.serving.specs.Progress.{Given}
+use Rattle.serving.specs.ServedSession.{reading_takes, said}
 use Rattle.runs.specs.Event.{Event, AreRight}
 use Rattle.runs.specs.Run.{IsRun, Part, all_given}
+use Rattle.runs.specs.Tells.{Tells}
 
 -- ---- a long fork: two sessions see two commits in different orders
 
@@ -73,3 +79,22 @@ NoReceiptTwice =
     (parts : List Part) (service front between back : List Given) (g h : Given)
     → all_given loaded parts service ≡ front ++ g ∷ (between ++ h ∷ back) → g.number ≡ h.number
     → IsRun schema b table rows loaded parts service → ⊥
+
+-- ---- what is not refused
+
+-- where a session's first line is a COMMIT, it is not sent that memory ran out: with none open a COMMIT
+-- takes none
+abbrev pub NoMemoryForNothing : Type 0
+NoMemoryForNothing =
+    (schema : Schema) (b : BookState) (i : ℕ) (line : Partial) (events : List Event)
+    → said schema i line ≡ Ok (Asks (Commit i 0)) → reading_takes schema i line ≡ false
+    → AreRight schema [] events
+    → Tells schema b i [] (line ∷ []) events (refusal_text Memory) → ⊥
+
+-- where it is a BEGIN, it is sent that the journal is full only if it is
+abbrev pub NoFullJournalWithRoom : Type 0
+NoFullJournalWithRoom =
+    (schema : Schema) (b : BookState) (i : ℕ) (line : Partial) (events : List Event)
+    → said schema i line ≡ Ok (Asks (Begin i)) → length b.entries ≢ most_entries
+    → AreRight schema [] events
+    → Tells schema b i [] (line ∷ []) events (refusal_text JournalFull) → ⊥

@@ -4,6 +4,7 @@ use Rattle.steps.specs.declared.step.Listing.TheVariants.{Rows, Periods}
 use Rattle.steps.specs.declared.step.Reply.{Reply}
 use Rattle.steps.specs.declared.step.Reply.TheVariants.{Begun, Inserted, Updated, Deleted, Shown, Committed, RolledBack, Altered, Done, Refused}
 use Rattle.serving.specs.journal.Entries.{numbers}
+use Rattle.runs.proofs.WorkedRefused as worked
 use Rattle.runs.proofs.WorkedTwice.{not_twice}
 use Rattle.runs.proofs.law.worked_runs_hold.Goals as goal
 
@@ -37,3 +38,9 @@ pub returns-clause-no_receipt_twice : goal.returns-clause-no_receipt_twice
 returns-clause-no_receipt_twice c = λ schema b table rows loaded parts service front between back g h are same run.
     not_twice (λ r. r.number) front between back g h (length b.entries) same
     (subst (λ gs. IsPermutation (map (λ r. r.number) gs) (numbers (length b.entries))) are run.once)
+
+pub returns-clause-no_memory_for_nothing : goal.returns-clause-no_memory_for_nothing
+returns-clause-no_memory_for_nothing c = worked.no_memory_for_nothing
+
+pub returns-clause-no_full_journal_with_room : goal.returns-clause-no_full_journal_with_room
+returns-clause-no_full_journal_with_room c = worked.no_full_journal_with_room
