@@ -1,5 +1,5 @@
 -- What sessions and rounds hand over: the receipts of one run.
-use Rattle.std.specs.Prelude.{◌≡◌, ◌≤◌, ℕ, List, [], ◌∷◌, ◌++◌, Bool, true, false, not, ◌&&◌, ◌==◌, nat_lt, nat_le, map, IsPermutation}
+use Rattle.std.specs.Prelude.{◌≡◌, ◌≤◌, ℕ, List, [], ◌∷◌, ◌++◌, Bool, true, false, not, ◌&&◌, ◌==◌, nat_lt, map, IsPermutation}
 use Rattle.std.specs.List.{AllByRecursion, flat_map, list_any}
 use Rattle.values.specs.Tables.{Schema}
 use Rattle.steps.specs.Misfit.{max_session}
