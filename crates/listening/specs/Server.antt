@@ -2,7 +2,7 @@
 use Rattle.std.specs.Prelude.{◌≡◌, ◌≢◌, ◌⊎◌, ℕ, List, [], Option, Some, None, IfSome, IsSome, All, codes, length}
 use Rattle.std.specs.Io.KnownBytes.{Appends, Keeps}
 use Rattle.values.specs.Commits.{max_instant}
-use Rattle.values.specs.Log.{changes}
+use Rattle.values.specs.Log.{Row, changes}
 use Rattle.values.specs.Tables.{Schema, table_at}
 use Rattle.values.specs.Versions.{answer}
 use Rattle.values.specs.declared.table.Table.{Table}
@@ -16,7 +16,7 @@ use Rattle.sessions.specs.journal.Entries.{entry_at, log}
 use Rattle.sessions.specs.book.Book.{BookState, IsBook}
 use Rattle.serving.specs.Progress.{Given}
 use Rattle.listening.specs.Loading.{IsLoadedAt, IsUnloaded}
-use Rattle.listening.specs.Connection.{IsOneRun}
+use Rattle.listening.specs.Connection.{IsOneRun, IsServedRun}
 use Rattle.listening.specs.declared.connection.ListenFault.TheVariants.{Socket, Memory, NotClosed}
 use Rattle.listening.specs.declared.server.Plan.{Plan}
 use Rattle.listening.specs.declared.server.TableRows.{TableRows}
@@ -43,12 +43,17 @@ pub record IsClosedWith (schema : Schema) (receipts : List Given) (b : BookState
   pub is_book : IsBook schema b
   pub stand : All (λ g. entry_at b.entries g.number ≡ Some g.entry) receipts
 
--- what its sessions were sent, with numbers up to this one, and the rows that were loaded first, where
--- some were, is one history
-abbrev pub IsOneRunAfter : Schema → (sessions : ℕ) → Option TableRows → BookState → Type 0
-IsOneRunAfter schema sessions None b = IsOneRun schema sessions 0 [] b
-IsOneRunAfter schema sessions (Some first) b =
-    IsOneRun schema sessions first.number first.rows.items b
+-- what its sessions were sent is one history, and this is how they were served, receipt by receipt
+pub record IsRunOf (schema : Schema) (sessions table : ℕ) (rows : List Row) (receipts : List Given)
+    (b : BookState) : Type 0 where
+  pub history : IsOneRun schema sessions table rows b
+  pub served : IsServedRun schema sessions table rows receipts b
+
+-- the run of its sessions, with numbers up to this one, after the rows that were loaded, where some were
+abbrev pub IsRunAfter : Schema → (sessions : ℕ) → Option TableRows → List Given → BookState → Type 0
+IsRunAfter schema sessions None receipts b = IsRunOf schema sessions 0 [] receipts b
+IsRunAfter schema sessions (Some first) receipts b =
+    IsRunOf schema sessions first.number first.rows.items receipts b
 
 -- the table that is exported, where one is, is one of these
 abbrev pub IsExportOf : Schema → Option ℕ → Type 0
@@ -94,7 +99,7 @@ pub record EndsAfter (schema : Schema) (number : Option ℕ) (b : BookState)
   pub exported : HasExported schema number b ended new
 
 -- the report of what was loaded, the port, and the end of a store that has the receipts of the load,
--- and all of which is one history
+-- and whose run is one history
 pub record HasServed (schema : Schema) (first : Option TableRows) (plan : Plan)
     (old new : Option (List ℕ)) : Type 0 where
   pub receipts : List Given
@@ -104,7 +109,7 @@ pub record HasServed (schema : Schema) (first : Option TableRows) (plan : Plan)
   pub loads : HasFirst schema first receipts old reported
   pub listens : HasListened plan.port reported listening
   pub closed : IsClosedWith schema receipts b
-  pub history : IsOneRunAfter schema plan.sessions first b
+  pub run : IsRunAfter schema plan.sessions first receipts b
   pub ends : EndsAfter schema plan.export b listening new
 
 -- ---- what a fault leaves: what came before it, and a prefix of what was to be written next
@@ -172,7 +177,7 @@ pub record StopsAfter (fault : ServerFault) (schema : Schema) (first : Option Ta
   pub loads : HasFirst schema first receipts old reported
   pub listens : HasListened plan.port reported listening
   pub closed : IsClosedWith schema receipts b
-  pub history : IsOneRunAfter schema plan.sessions first b
+  pub run : IsRunAfter schema plan.sessions first receipts b
   pub stops : StopsLate fault schema plan.export b listening new
 
 -- why an export stops: the writer failed, or memory ran out

@@ -14,7 +14,7 @@ ghost use Rattle.sessions.specs.journal.Entries.{log};
 ghost use Rattle.sessions.specs.book.Book.{IsBook};
 ghost use Rattle.serving.specs.Progress.{Given};
 ghost use Rattle.runs.specs.Run.{IsLoaded};
-ghost use Rattle.listening.specs.Connection.{IsOneRun};
+ghost use Rattle.listening.specs.Connection.{IsOneRun, IsServedRun};
 ghost use Rattle.listening.specs.Server.{EndsAfter, HasFirst, HasListened, HasNoFirst, HasReported, HasServed, HasStopped, IsClosedWith, IsExportOf, IsOfExport, StopsListening, StopsLate, versions_text};
 
 use crate::always_open::AlwaysOpen;
@@ -74,7 +74,8 @@ const OUT_OF_MEMORY: ServerFault = ServerFault::Listen(ListenFault::Memory);
 /// rows are to be loaded, `loaded N at I`; once it listens, `listening P`, where P is the port;
 /// when all connections have ended, `closed J`, where J is the number of entries; and then the
 /// table that is exported, with all its versions. What all sessions were sent, with the load before
-/// them, is one history of the closed store (`HasServed`).
+/// them, is one history of the closed store, and of each session its receipts are said besides
+/// (`HasServed`).
 pub fn serve<R, O>(
     rt: &R,
     alloc: Global,
@@ -230,6 +231,11 @@ where
         → IsLoaded J.schema table rows
         (map (λ r. record { number = r.number; entry = r.entry }) receipts.items)
         → IsOneRun J.schema plan.sessions table rows closed) }
+    ensures run { IfOk result (λ closed. (table : ℕ) (rows : List Row)
+        → IsLoaded J.schema table rows
+        (map (λ r. record { number = r.number; entry = r.entry }) receipts.items)
+        → IsServedRun J.schema plan.sessions table rows
+        (map (λ r. record { number = r.number; entry = r.entry }) receipts.items) closed) }
     ensures err { IfErr result (λ fault. StopsListening fault plan.port
         (O.contents out.old) (O.contents out.new)) }
 {

@@ -26,7 +26,7 @@ use Rattle.steps.specs.declared.step.Reply.TheVariants.{Begun, Shown, RolledBack
 use Rattle.steps.specs.Misfit.{max_session, misfit}
 use Rattle.steps.specs.Listing.{rows_taken, rows_of}
 use Rattle.histories.specs.History as history
-use Rattle.histories.specs.History.{History, schema_after, log, log_at_begin, mine_of, own, own_of, reply, reply_in, snap, snap_of}
+use Rattle.histories.specs.History.{History, schema_after, log, log_at_begin, mine_of, own, own_of, reply, snap_of}
 use Rattle.histories.proofs.HistoryGrowth.{log_rises}
 use Rattle.histories.proofs.StandsEnds.{itself}
 use Rattle.serving.specs.journal.declared.entry.Entry.{Entry}

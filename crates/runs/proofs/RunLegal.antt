@@ -1,19 +1,15 @@
 -- The entries of a closed journal, in turn: each may come where it stands.
-use Rattle.std.proofs.Common.{◌≡◌, ℕ, zero, suc, ◌+◌, ◌<◌, ◌≤◌, ◌==◌, Bool, true, false, List, [], ◌∷◌, ◌++◌, Option, Some, None, refl, sym, ap, subst, ◌∙◌, arith, append-nil, append_assoc, map, length, length-append, reverse, slice_get}
-use Rattle.std.specs.Prelude.{if◌then◌else◌, Result}
-use Rattle.std.proofs.lemmas.Bool.Decides.{nat_tests}
+use Rattle.std.proofs.Common.{◌≡◌, ℕ, zero, suc, ◌+◌, List, [], ◌∷◌, ◌++◌, Option, Some, None, refl, sym, ap, subst, ◌∙◌, arith, append-nil, append_assoc, map, length, length-append, reverse, slice_get}
 use Rattle.std.proofs.lemmas.List.{length-reverse}
 use Rattle.std.specs.List.{AllByRecursion, cons_option}
 use Rattle.std.specs.Option.{option_map}
-use Rattle.values.specs.declared.refusal.Refusal.{Refusal}
 use Rattle.values.specs.Tables.{Schema}
-use Rattle.values.specs.Log.{Net, changes}
+use Rattle.values.specs.Log.{changes}
 use Rattle.values.specs.Events.{AreChangesIn}
 use Rattle.serving.specs.journal.declared.entry.Entry.{Entry}
-use Rattle.serving.specs.journal.declared.entry.Entry.TheVariants.{Commit}
 use Rattle.serving.specs.journal.Entries.{Entries, entry_at, numbers, log as journal_log}
-use Rattle.serving.specs.journal.Legal.{IsLegal, MayCommit}
-use Rattle.serving.proofs.journal.JournalNumbering.{IsWithin, entry_is, entry_within, reverse_more, reverse_push}
+use Rattle.serving.specs.journal.Legal.{IsLegal}
+use Rattle.serving.proofs.journal.JournalNumbering.{entry_is, reverse_more, reverse_push}
 use Rattle.serving.proofs.sessions.StoreOfHistoryAlike.{same_some}
 use Rattle.serving.specs.Progress.{Given}
 use Rattle.runs.specs.Event.{Event, receipts_of}

@@ -18,7 +18,7 @@ use Rattle.serving.specs.validation.declared.cut.Cut.{Cut}
 use Rattle.serving.specs.validation.declared.cut.Cut.TheVariants.{Key as KeyCut, Time as TimeCut}
 use Rattle.serving.specs.sessions.SessionState.{write_by}
 use Rattle.serving.proofs.sessions.StoreOfHistoryAlike.{begins_itself}
-use Rattle.serving.specs.Progress.{Given, IsRefusedStep, Progress, Replies, ServedTransaction, Takes, TakesMigrate, TakesSplit, after, own_of, takes_split, with_own}
+use Rattle.serving.specs.Progress.{Given, IsRefusedStep, Progress, Replies, Takes, TakesSplit, after, own_of, takes_split, with_own}
 use Rattle.runs.specs.Event.{history_after}
 use Rattle.runs.specs.Run.{is_reading}
 use Rattle.runs.specs.Tells.{with_reading}

@@ -15,14 +15,14 @@ use Rattle.steps.specs.Misfit.{key_misfit}
 use Rattle.steps.specs.Reply.{takes_no_memory_by}
 use Rattle.serving.specs.tsbtree.View.{TreeState}
 use Rattle.serving.specs.journal.declared.entry.Entry.{Entry}
-use Rattle.serving.specs.journal.declared.entry.Entry.TheVariants.{Begin as Begins, Commit as Commits, Split as Splits, Install as Installs}
+use Rattle.serving.specs.journal.declared.entry.Entry.TheVariants.{Begin as Begins, Split as Splits}
 use Rattle.serving.specs.validation.declared.cut.Cut.{Cut}
 use Rattle.serving.specs.validation.declared.cut.Cut.TheVariants.{Key as KeyCut, Time as TimeCut}
 use Rattle.serving.specs.book.Book.{BookState, most_entries}
-use Rattle.serving.specs.Progress.{Given, IsRefusedStep, PacksFirst, Progress, Replies, ServedTransaction, Takes, TakesMigrate, TakesSplit, after, asks_store, may_be_refused, may_run_out, takes_split}
+use Rattle.serving.specs.Progress.{Given, IsRefusedStep, PacksFirst, Progress, Replies, Takes, TakesMigrate, TakesSplit, after, asks_store, may_be_refused, may_run_out, takes_split}
 use Rattle.runs.specs.Run.{is_reading}
 use Rattle.runs.specs.Tells.{AreEventsOf, AreLeft, IsBegun, IsEntryOf, IsPacked, MayBeRefused, with_reading}
-use Rattle.runs.proofs.TellsEvents.{events_of, read_by, taking, taking_all}
+use Rattle.runs.proofs.TellsEvents.{events_of, read_by, taking}
 use Rattle.runs.proofs.OneHistoryBeside.{Held, IsOwnStep}
 use Rattle.runs.proofs.TellsOpen.{open_in}
 

@@ -1,5 +1,5 @@
 -- What a line was refused for is known by what the book refused.
-use Rattle.std.proofs.Common.{◌≡◌, List, [], ◌∷◌, ◌++◌, Bool, true, false, Option, Some, None, inl, inr, refl, sym, ap, ◌∙◌, subst}
+use Rattle.std.proofs.Common.{◌≡◌, List, [], ◌∷◌, ◌++◌, Bool, true, false, inl, inr, refl, ap}
 use Rattle.std.specs.Prelude.{◌||◌, ◌⊎◌, ◌≢◌, Result, Ok, Err}
 use Rattle.std.specs.List.{AllByRecursion}
 use Rattle.values.specs.declared.refusal.Refusal.{Refusal}
@@ -10,7 +10,7 @@ use Rattle.sessions.specs.book.Refusal.{is_full, is_not_open}
 use Rattle.sessions.specs.declared.refusal.StoreRefusal.TheVariants.{Session, Book}
 use Rattle.serving.specs.declared.answer.Sent.{Sent}
 use Rattle.serving.specs.declared.answer.Sent.TheVariants.{Reply as Says, Ending, Refused as Denies}
-use Rattle.serving.specs.BookRefusals.{BookRefusalsState, GoesOn, IsKnown, with_refusal}
+use Rattle.serving.specs.BookRefusals.{BookRefusalsState, GoesOn, IsKnown}
 use Rattle.serving.specs.ServedSession.{Told}
 use Rattle.serving.specs.Serving.{IsByBook, kept_of, refused_of, sent_listing, sent_refusal}
 use Rattle.serving.proofs.AnswerRefusing.{memory_or_reply}

@@ -1,6 +1,7 @@
 //! Sessions that are served round a store of their own.
 ghost use Rattle.std.specs.Prelude.{true};
 
+use crate::cut::Cut;
 use crate::scene::Audit;
 use crate::step::keep;
 use growlog::StoreName;
@@ -8,7 +9,7 @@ use serving::{End, Readings, Served, serve_session};
 use sessions::{Gate, LockedStore, Place, Receipt};
 use std::alloc::Global;
 use std::io;
-use std::io::{ErrorKind, Read, Write};
+use std::io::{ErrorKind, Write};
 use std::process::Abort;
 use std::sync::Wait;
 use values::Instant;
@@ -114,28 +115,6 @@ impl Readings for Ticks {
     }
 }
 
-/// A reader that gives at most so many bytes at a call, and fails at the call after so many.
-#[derive(Drop)]
-pub(crate) struct Source<'a> {
-    pub(crate) rest: &'a [u8],
-    pub(crate) most: usize,
-    pub(crate) calls: usize,
-}
-
-impl Read for Source<'_> {
-    fn read(&mut self, buf: &mut [u8]) -> io::Result<usize> {
-        if self.calls == 0 {
-            return Err(io::Error::from(ErrorKind::Other));
-        }
-        self.calls -= 1;
-        let n = self.rest.len().min(buf.len()).min(self.most);
-        let (front, rest) = self.rest.split_at(n);
-        buf.split_at_mut(n).0.copy_from_slice(front);
-        self.rest = rest;
-        Ok(n)
-    }
-}
-
 /// A writer that takes so many bytes, passes them on so many times, and then fails.
 #[derive(Drop)]
 pub(crate) struct Pipe {
@@ -181,7 +160,7 @@ fn serve<J: StoreName, R: Abort + Wait>(
     alloc: Global,
     store: &LockedStore<J>,
     visit: &Visit<'_>,
-    reader: &mut Source<'_>,
+    reader: &mut Cut<'_>,
     writer: &mut Pipe,
 ) -> Served<J> {
     let session = store.session(alloc, visit.number);
@@ -213,7 +192,7 @@ fn serve_visit<J: StoreName, R: Abort + Wait>(
     visit: &Visit<'_>,
     receipts: &mut Vec<Receipt<J>>,
 ) -> bool {
-    let mut reader = Source {
+    let mut reader = Cut {
         rest: visit.text.as_bytes(),
         most: visit.limits.most,
         calls: visit.limits.reads,

@@ -1,7 +1,8 @@
 //! Sessions side by side, and the same lines one after another, in the order of their receipts.
 ghost use Rattle.std.specs.Prelude.{◌≡◌};
 
-use crate::case::{Ended, Pipe, Source, Ticks, kind_of};
+use crate::case::{Ended, Pipe, Ticks, kind_of};
+use crate::cut::Cut;
 use crate::scene::closed_with;
 use crate::step::keep;
 use growlog::{NewLog, StoreName};
@@ -210,7 +211,7 @@ fn serve_lines<J: StoreName, R: Abort + Wait>(
 ) {
     let text = text_of(rt, alloc);
     let mut session = store.session(alloc, number).expect(rt, "it is a session");
-    let mut reader = Source {
+    let mut reader = Cut {
         rest: text.as_slice(),
         most: 7,
         calls: 10_000,
@@ -300,7 +301,7 @@ fn replies_of(rt: &impl Abort, alloc: Global, answered: &[Answered]) -> Vec<u8> 
 /// Runs a script over a system, and returns its transcript.
 fn transcript_of(rt: &impl Abort, alloc: Global, script: &str) -> Vec<u8> {
     let schema = Schema::sample(alloc).expect(rt, "there is memory");
-    let mut reader = Source {
+    let mut reader = Cut {
         rest: script.as_bytes(),
         most: 10_000,
         calls: 10_000,

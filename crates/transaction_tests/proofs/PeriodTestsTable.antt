@@ -7,7 +7,7 @@ use Rattle.values.specs.declared.period.Period.{Period}
 use Rattle.values.specs.declared.table.Column.{Column}
 use Rattle.values.specs.declared.table.Table.{Table}
 use Rattle.values.specs.Tables.{column_at, but_last}
-use Rattle.values.specs.TableRules.{IsTable, IsColumnOf, HasInstants, HasPeriod, IsOutside, IsDistinct}
+use Rattle.values.specs.TableRules.{IsTable, IsColumnOf, HasInstants, HasPeriod, IsOutside}
 
 distinct_two : (before after : List ℕ) (n : ℕ) → 1 ∷ 2 ∷ [] ≡ before ++ n ∷ after → list_any (λ c. c == n) before ≡ false
 distinct_two [] after n e = refl

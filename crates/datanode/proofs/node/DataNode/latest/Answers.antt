@@ -1,4 +1,4 @@
-use Rattle.std.proofs.Common.{◌≡◌, None, ◌∙◌, subst, rules, option_copied}
+use Rattle.std.proofs.Common.{◌≡◌, ◌∙◌, subst, rules, option_copied}
 use Rattle.keyrange.specs.Rect.{IsArea}
 use Rattle.eventlist.specs.Place.{last_event}
 use Rattle.datanode.specs.Node.{Node}

@@ -1,4 +1,4 @@
-use Rattle.std.proofs.Common.{◌≡◌, sym, ap, ◌∙◌, arith, Some, ◌<◌, ◌-◌, length, refl, slice_get}
+use Rattle.std.proofs.Common.{sym, ap, ◌∙◌, arith, Some, ◌<◌, ◌-◌, length, refl, slice_get}
 use Rattle.std.proofs.lemmas.Option.{slice_get_past, slice_get_read}
 use Rattle.journal.specs.Entries.{entry_at}
 use Rattle.journal.specs.JournalState.{JournalState}

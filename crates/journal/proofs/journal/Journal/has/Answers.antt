@@ -1,4 +1,4 @@
-use Rattle.std.proofs.Common.{◌≡◌, sym, ap, ◌∙◌, arith, ◌<◌, ◌≤◌, ◌-◌, length}
+use Rattle.std.proofs.Common.{sym, ap, ◌∙◌, arith, ◌<◌, ◌≤◌, ◌-◌, length}
 use Rattle.journal.specs.Entries.{entry_at}
 use Rattle.journal.specs.JournalState.{JournalState}
 use Rattle.journal.proofs.JournalNumbering.{entry_found}

@@ -1,9 +1,8 @@
-use Rattle.std.proofs.Common.{◌≡◌, sym, ap, ◌∙◌, arith, length, reverse, ◌++◌, ◌∷◌, [], false, subst, List, slice_get}
+use Rattle.std.proofs.Common.{◌≡◌, ap, ◌∙◌, arith, length, reverse, ◌++◌, ◌∷◌, [], false, slice_get}
 use Rattle.std.proofs.lemmas.List.{with_items_is}
 use Rattle.std.specs.Vec.{vec_len}
-use Rattle.journal.specs.Entries.{Entries}
 use Rattle.journal.specs.JournalState.{JournalState, marked}
-use Rattle.journal.proofs.JournalPushing.{pushed, stands_after}
+use Rattle.journal.proofs.JournalPushing.{pushed}
 use Rattle.journal.proofs.journal.Journal.push.Goals as goal
 
 pub invariant_of-self : goal.invariant_of-self
