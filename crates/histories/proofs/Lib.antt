@@ -23,7 +23,7 @@ mod CommitLawPoints
 pub mod WorldGrowth
 pub mod TurnWrites
 pub mod TurnWritten
-mod StandsAltered
+pub mod StandsAltered
 pub mod HistoryTables
 mod HistoryWidened
 mod PeriodLawFits
@@ -33,3 +33,4 @@ mod PeriodLawWrites
 mod PeriodLawApart
 mod PeriodLawPoints
 mod WorkedTables
+mod AlikeIdle

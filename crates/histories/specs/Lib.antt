@@ -1,8 +1,10 @@
+pub mod Alike
 pub mod CommitLaw
 pub mod Conflict
 pub mod Due
 pub mod History
 pub mod Law
+pub mod Led
 pub mod Maintenance
 pub mod Memory
 pub mod PeriodLaw

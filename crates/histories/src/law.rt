@@ -1,5 +1,6 @@
 //! What every history of steps comes to.
 ghost use Rattle.values.specs.Tables.{Schema};
+ghost use Rattle.histories.specs.Alike.{IdleHistoriesAnswerAlike};
 ghost use Rattle.histories.specs.Law.{OpensAtItsBegin, LogsRise, LaterStepsAdd, PastStays, PastIsReadAlike, PastIsAnsweredAlike, TablesOnlyGrow, PastIsWidened, PastIsAnsweredWidened, FirstCommitterWins, LogIsOfWinners, ReadsBySnapshot, SelectsBySnapshot, RefusedWritesChangeNothing, MaintenanceChangesNoReply, MaintenanceCommitsNothing, AnsweredRepliesAreDue};
 ghost use Rattle.histories.specs.CommitLaw.{CommitsAtItsInstant, TouchedRowsAreSeen, UntouchedRowsStay, TouchedPointsAreSeen, UntouchedPointsStay, OthersCommitNothing};
 ghost use Rattle.histories.specs.Conflict.{ConflictIsLeast, ConflictIsReported, ConflictIsUnique};
@@ -96,6 +97,12 @@ pub fn maintenance_changes_no_other_reply()
 /// definitions.
 pub fn answered_replies_are_due()
     ensures { (first : Schema) → AnsweredRepliesAreDue first }
+{}
+
+/// States that where two histories, each with no transaction open, have come to the same tables and
+/// the same log, whatever steps follow get the same replies after both.
+pub fn idle_histories_answer_alike()
+    ensures { IdleHistoriesAnswerAlike }
 {}
 
 /// Checks the worked examples, by computation.

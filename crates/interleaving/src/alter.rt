@@ -43,7 +43,7 @@ impl System {
 }
 
 /// Whether no session has a transaction open.
-fn is_idle(sessions: &[Option<OpenTransaction>]) -> bool
+pub(crate) fn is_idle(sessions: &[Option<OpenTransaction>]) -> bool
     ensures { result ≡ list_all is_none sessions.now }
 {
     sessions.iter().all(|session| session.is_none())

@@ -2,6 +2,7 @@
 ghost use Rattle.std.specs.Prelude.{◌≡◌, IfOk};
 ghost use Rattle.values.specs.Memory.{OnlyMemory};
 
+use crate::alter::is_idle;
 use std::alloc::Global;
 use std::marker::Model;
 use steps::MAX_SESSION;
@@ -40,6 +41,9 @@ impl Model for System {
 impl System {
     ghost use Rattle.std.specs.Prelude.{[]};
     ghost use Rattle.values.specs.Events.{events_of};
+    ghost use Rattle.values.specs.Tables.{Schema};
+    ghost use Rattle.steps.specs.Idle.{is_idle};
+    ghost use Rattle.histories.specs.History.{History, has_open};
     ghost use Rattle.treewalk.specs.Shape.{IsShapeOf};
     ghost use Rattle.tsbtree.specs.View.{events, last, IsState};
     ghost use Rattle.interleaving.specs.SystemState.{Stands, world};
@@ -85,6 +89,14 @@ impl System {
         ensures memory { OnlyMemory result }
     {
         self.engine.tree().current().shape(self.alloc)
+    }
+
+    /// Tells whether no session has a transaction open.
+    pub fn is_idle(&self) -> bool
+        ensures { (first : Schema) (h : History) → Stands first self.now h
+            → result ≡ is_idle (has_open h) }
+    {
+        is_idle(&self.sessions)
     }
 
     /// Returns the tables, with the columns that were added.
