@@ -1,0 +1,7 @@
+pub mod DumpSteps
+pub mod FromChanges
+pub mod OfHistories
+pub mod OneKey
+pub mod Rebuilt
+pub mod Room
+pub mod WorkedDump
