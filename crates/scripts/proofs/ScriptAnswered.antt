@@ -39,10 +39,10 @@ prints_err a b (Ok done) text p f = tt
 prints_err a b (Err fault) text p f = f p
 
 -- a refusal but for memory is the one that was due
-other : (refusal : Refusal) → is_out_of_memory (Refused refusal) ≡ false → refusal ≢ Memory
+pub other : (refusal : Refusal) → is_out_of_memory (Refused refusal) ≡ false → refusal ≢ Memory
 other refusal e is = cc (sym e ∙ ap (λ (refusal : Refusal). is_out_of_memory (Refused refusal)) is)
 
-unless : (r : Refusal) (due : Result Line Refusal) → r ≢ Memory → UnlessMemory (Err r) due → due ≡ Err r
+pub unless : (r : Refusal) (due : Result Line Refusal) → r ≢ Memory → UnlessMemory (Err r) due → due ≡ Err r
 unless Memory due other e = absurd (other refl)
 unless (Syntax n) due other e = e
 unless NoTable due other e = e

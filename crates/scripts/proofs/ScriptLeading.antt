@@ -8,10 +8,11 @@ use Rattle.steps.specs.declared.step.Step.{Step}
 use Rattle.steps.specs.declared.step.Reply.{Reply}
 use Rattle.steps.specs.declared.step.Reply.TheVariants.{Refused}
 use Rattle.histories.specs.History.{History, reply}
+use Rattle.histories.specs.Led.{led}
 use Rattle.interleaving.specs.SystemState.{SystemState, Stands}
 use Rattle.scripts.specs.declared.script.RunFault.{RunFault}
 use Rattle.scripts.specs.declared.script.RunFault.TheVariants.{First}
-use Rattle.scripts.specs.First.{led, refusal_in, first_refusal, is_first}
+use Rattle.scripts.specs.First.{refusal_in, first_refusal, is_first}
 use Rattle.scripts.specs.Transcript.{after}
 use Rattle.scripts.specs.Script.{IsAt}
 use Rattle.scripts.specs.declared.script.Script.{Script}
@@ -25,7 +26,7 @@ pub record Leading (s s' : SystemState) (steps rest : List Step) : Type 0 where
 abbrev pub Answers : SystemState → SystemState → Step → Reply → Type 0
 Answers s s' step r = (schema : Schema) (h : History) → Stands schema s h → r ≢ Refused Memory → (r ≡ reply schema h step) × Stands schema s' (step ∷ h)
 
-no_memory : (r : Reply) → refusal_in r ≡ None → r ≢ Refused Memory
+pub no_memory : (r : Reply) → refusal_in r ≡ None → r ≢ Refused Memory
 no_memory r none is = cc (sym none ∙ ap refusal_in is)
 
 passes : (schema : Schema) (g : History) (step : Step) (more : List Step) (o : Option Refusal) → refusal_in (reply schema g step) ≡ o → o ≡ None → first_refusal schema g (step ∷ more) ≡ first_refusal schema (step ∷ g) more

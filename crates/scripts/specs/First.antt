@@ -7,14 +7,10 @@ use Rattle.steps.specs.declared.step.Step.{Step}
 use Rattle.steps.specs.declared.step.Reply.{Reply}
 use Rattle.steps.specs.declared.step.Reply.TheVariants.{Refused}
 use Rattle.histories.specs.History.{History, reply}
+use Rattle.histories.specs.Led.{led}
 use Rattle.scripts.specs.declared.script.RunFault.{RunFault}
 use Rattle.scripts.specs.declared.script.RunFault.TheVariants.{First, Memory as OutOfMemory}
 use Rattle.interleaving.specs.SystemState.{SystemState, Stands}
-
--- a history after more steps
-abbrev pub led : History → List Step → History
-led h [] = h
-led h (step ∷ steps) = led (step ∷ h) steps
 
 -- the history of steps
 abbrev pub history_of : List Step → History

@@ -36,14 +36,14 @@ pub enum RunFault {
 
 /// A run: the store, the last reading of the clock, and the line as far as it was read.
 #[derive(Drop)]
-struct Script {
-    system: System,
-    reading: Instant,
-    line: LineBuffer,
+pub(crate) struct Script {
+    pub(crate) system: System,
+    pub(crate) reading: Instant,
+    pub(crate) line: LineBuffer,
 }
 
 /// Reads the line, whose line feed is still on it.
-fn read(alloc: Global, script: &Script) -> Result<Line, Refusal>
+pub(crate) fn read(alloc: Global, script: &Script) -> Result<Line, Refusal>
     ensures { IsRead result script.now }
 {
     match script.line.get() {
@@ -207,7 +207,7 @@ fn finish<W: Write>(alloc: Global, writer: &mut W, script: &mut Script) -> Resul
 }
 
 /// Makes a run at the beginning of its script.
-fn begin(alloc: Global, system: System) -> Mem<Script>
+pub(crate) fn begin(alloc: Global, system: System) -> Mem<Script>
     ensures system { IfOk result (λ s. s.system ≡ system) }
     ensures reading { IfOk result (λ s. s.reading ≡ 0) }
     ensures line { IfOk result (λ s. s.line ≡ Some []) }
@@ -221,7 +221,7 @@ fn begin(alloc: Global, system: System) -> Mem<Script>
 }
 
 /// Returns the refusal in a reply, if it is one.
-fn refusal_in(reply: Reply) -> Option<Refusal>
+pub(crate) fn refusal_in(reply: Reply) -> Option<Refusal>
     ensures { result ≡ refusal_in reply }
 {
     match reply {
@@ -230,8 +230,8 @@ fn refusal_in(reply: Reply) -> Option<Refusal>
     }
 }
 
-/// Takes steps in turn, up to the first that is refused.
-fn take_all(system: &mut System, first: Vec<Step>) -> Result<(), Refusal>
+/// Takes steps in turn, up to the first that is refused, or at which memory ran out.
+pub fn take_all(system: &mut System, first: Vec<Step>) -> Result<(), Refusal>
     ensures all { OnOk result (LeadsTo system.old system.new first.items) }
     ensures some { IfErr result (λ refusal. RefusesFirst system.old first.items refusal) }
 {

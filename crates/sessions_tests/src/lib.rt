@@ -4,6 +4,8 @@
 #![tactic(auto)]
 
 #[cfg(test)]
+mod after_tests;
+#[cfg(test)]
 mod call_tests;
 #[cfg(test)]
 mod case;
