@@ -68,12 +68,12 @@ class Backups(Files):
         self.connection.commit()
 
     def rows_of(self, script):
-        """Returns the versions that a script leaves, by table, and checks that none of its lines is refused."""
+        """Returns the versions that a script leaves, by table. That it is replayed says that none of its lines is refused."""
         asked = "".join(f"2: {ALL.format(table)}\n" for table in ("staff", "note", "tariff", "wide"))
-        told, err, status = run("--schema", self.schema, "--script", self.file("again.script", script + asked), program=find_program())
+        told, err, status = run("--schema", self.schema, "--after", self.file("again.script", script), "--script",
+                                self.file("asked.script", asked), program=find_program())
         self.assertEqual((err, status), ("", 0))
-        self.assertEqual([line for line in told.split("\n") if line[:1] == "E"], [])
-        return told[told.index("\nrows ") + 1:]
+        return told
 
     def test_a_backup_leaves_the_same_history(self):
         chance = random.Random(7)

@@ -9,13 +9,15 @@ use Rattle.interleaving.specs.SystemState.{SystemState, Stands}
 use Rattle.command_line.specs.declared.options.Options.{Options}
 use Rattle.command_line.specs.declared.options.WordsFault.{WordsFault}
 use Rattle.command_line.specs.declared.fault.Fault.{Fault}
-use Rattle.command_line.specs.declared.fault.Fault.TheVariants.{Words, SchemaSyntax, BadTable, SchemaMemory, NoExport, Load, Read, Write, Socket, NotClosed, Memory}
+use Rattle.command_line.specs.declared.fault.Fault.TheVariants.{Words, SchemaSyntax, BadTable, SchemaMemory, NoExport, After, AfterOpen, Load, Read, Write, Socket, NotClosed, Memory}
 use Rattle.listening.specs.declared.connection.ListenFault.TheVariants as listen
 use Rattle.listening.specs.declared.server.ServerFault.TheVariants as server
 use Rattle.command_line.specs.Fault.{is_of_words}
 use Rattle.command_line.specs.Options.{Gives, Refuses, asked_of}
 use Rattle.command_line.specs.Export.{HasExported, Unexported}
-use Rattle.command_line.specs.Program.{HaltsOn, HasRun, HasRunOn, IsFaulty, IsRefused, IsStuck, IsUnanswered}
+use Rattle.command_line.specs.Load.{IsLed, Unloaded}
+use Rattle.command_line.specs.Replay.{IsAfter, IsNotAfter}
+use Rattle.command_line.specs.Program.{HaltsAfter, HaltsAt, HaltsOn, HasRun, HasRunAll, HasRunLoaded, HasRunOn, IsFaulty, IsRefused, IsStuck, IsUnanswered}
 use Rattle.command_line.proofs.FaultKinds.{of_words}
 
 -- ---- the script, then the export
@@ -48,6 +50,55 @@ halts_late (Err fault) script number system s unread left old mid new ran unexpo
       unexported = unexported first x.end (subst (Stands first s) (sym x.end_is) x.run.stands);
     })
 
+-- ---- the load before them
+
+pub ran_loaded : (r : Result (Unit {0}) Fault) (load script : Option Text) (number : Option ℕ) (system s : SystemState) (unread left old mid new : Option (List ℕ))
+    → ((first : Schema) (before : History) → Stands first system before → IsLed first load before s old mid)
+    → OnOk r ((first : Schema) (h : History) → Stands first s h → HasRunOn script number first h unread left mid new)
+    → OnOk r ((first : Schema) (before : History) → Stands first system before → HasRunLoaded load script number first before unread left old new)
+ran_loaded (Err e) load script number system s unread left old mid new led ran = tt
+ran_loaded (Ok u) load script number system s unread left old mid new led ran = λ first before at.
+    let x = led first before at in
+    record { later = x.later; between = mid; loaded = x.loaded; rest = ran first x.later x.stands }
+
+pub halts_loaded : (r : Result (Unit {0}) Fault) (load script : Option Text) (number : Option ℕ) (system s : SystemState) (unread left old mid new : Option (List ℕ))
+    → ((first : Schema) (before : History) → Stands first system before → IsLed first load before s old mid)
+    → IfErr r (λ fault. (first : Schema) (h : History) → Stands first s h → HaltsOn fault script number first h unread left mid new)
+    → IfErr r (λ fault. (first : Schema) (before : History) → Stands first system before → HaltsAfter fault load script number first before unread left old new)
+halts_loaded (Ok u) load script number system s unread left old mid new led halts = tt
+halts_loaded (Err fault) load script number system s unread left old mid new led halts = λ first before at.
+    let x = led first before at in
+    inr (record { later = x.later; between = mid; loaded = x.loaded; rest = halts first x.later x.stands })
+
+pub halts_early : (fault : Fault) (load script : Option Text) (number : Option ℕ) (system : SystemState) (unread old new : Option (List ℕ))
+    → ((first : Schema) (before : History) → Stands first system before → Unloaded fault first load before old new)
+    → (first : Schema) (before : History) → Stands first system before → HaltsAfter fault load script number first before unread unread old new
+halts_early fault load script number system unread old new unloaded first before at =
+    inl (record { read = Keeps-refl unread; unloaded = unloaded first before at })
+
+-- ---- the replay before all else
+
+pub ran_all : (r : Result (Unit {0}) Fault) (after load script : Option Text) (number : Option ℕ) (schema : Schema) (s : SystemState) (unread left old new : Option (List ℕ))
+    → IsAfter schema after s
+    → OnOk r ((first : Schema) (before : History) → Stands first s before → HasRunLoaded load script number first before unread left old new)
+    → OnOk r (HasRunAll after load script number schema unread left old new)
+ran_all (Err e) after load script number schema s unread left old new so ran = tt
+ran_all (Ok u) after load script number schema s unread left old new so ran =
+    record { before = so.later; replayed = so.replayed; rest = ran schema so.later so.stands }
+
+pub halts_all : (r : Result (Unit {0}) Fault) (after load script : Option Text) (number : Option ℕ) (schema : Schema) (s : SystemState) (unread left old new : Option (List ℕ))
+    → IsAfter schema after s
+    → IfErr r (λ fault. (first : Schema) (before : History) → Stands first s before → HaltsAfter fault load script number first before unread left old new)
+    → IfErr r (λ fault. HaltsAt fault after load script number schema unread left old new)
+halts_all (Ok u) after load script number schema s unread left old new so halts = tt
+halts_all (Err fault) after load script number schema s unread left old new so halts =
+    inr (record { before = so.later; replayed = so.replayed; rest = halts schema so.later so.stands })
+
+pub halts_first : (fault : Fault) (after load script : Option Text) (number : Option ℕ) (schema : Schema) (unread old : Option (List ℕ)) → IsNotAfter fault schema after
+    → HaltsAt fault after load script number schema unread unread old old
+halts_first fault after load script number schema unread old none =
+    inl (none, record { read = Keeps-refl unread; wrote = Keeps-refl old })
+
 -- ---- the words, where they are taken
 
 pub taken_faulty : (r : Result (Unit {0}) Fault) (words : List Text) (options : Options) (unread left old new : Option (List ℕ)) → Gives words options → IfErr r (λ fault. IsStuck fault (asked_of options) unread left old new)
@@ -77,6 +128,8 @@ unanswered (SchemaSyntax n) words unread old new e x = absurd x
 unanswered (BadTable n) words unread old new e x = absurd x
 unanswered SchemaMemory words unread old new e x = absurd x
 unanswered NoExport words unread old new e x = absurd x
+unanswered (After n refusal) words unread old new e x = absurd x
+unanswered AfterOpen words unread old new e x = absurd x
 unanswered (Load refusal) words unread old new e x = absurd x
 unanswered Read words unread old new e x = absurd x
 unanswered Socket words unread old new e x = absurd x

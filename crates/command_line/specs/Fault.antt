@@ -1,5 +1,7 @@
 -- The faults of schemas and of runs as faults of the program.
 use Rattle.std.specs.Prelude.{Bool, true, false, Result, Ok, Err}
+use Rattle.scripts.specs.declared.replay.ReplayFault.{ReplayFault}
+use Rattle.scripts.specs.declared.replay.ReplayFault.TheVariants as replay
 use Rattle.scripts.specs.declared.script.RunFault.{RunFault}
 use Rattle.scripts.specs.declared.script.RunFault.TheVariants as run
 use Rattle.rows.specs.declared.schema_reading.SchemaFault.{SchemaFault}
@@ -10,7 +12,7 @@ use Rattle.listening.specs.declared.connection.ListenFault.TheVariants as listen
 use Rattle.listening.specs.declared.server.ServerFault.{ServerFault}
 use Rattle.listening.specs.declared.server.ServerFault.TheVariants as server
 use Rattle.command_line.specs.declared.fault.Fault.{Fault}
-use Rattle.command_line.specs.declared.fault.Fault.TheVariants.{Words, SchemaSyntax, BadTable, SchemaMemory, Load, Read, Write, Socket, NotClosed, Memory}
+use Rattle.command_line.specs.declared.fault.Fault.TheVariants.{Words, SchemaSyntax, BadTable, SchemaMemory, After, AfterOpen, Load, Read, Write, Socket, NotClosed, Memory}
 
 -- the words are at fault
 abbrev pub is_of_words : Fault → Bool
@@ -34,10 +36,11 @@ abbrev pub outcome_of : {S : Type 0} → Result S RunFault → Result S Fault
 outcome_of (Ok system) = Ok system
 outcome_of (Err stopped) = Err (of_run stopped)
 
--- the same where the steps before a script are a load
-abbrev pub of_load : RunFault → Fault
-of_load (run.First refusal) = Load refusal
-of_load fault = Memory
+abbrev pub of_replay : ReplayFault → Fault
+of_replay (replay.Refused line refusal) = After line refusal
+of_replay replay.Open = AfterOpen
+of_replay replay.Read = Read
+of_replay replay.Memory = Memory
 
 abbrev pub of_export : ExportFault → Fault
 of_export export.Write = Write

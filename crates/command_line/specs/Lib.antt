@@ -1,5 +1,6 @@
 pub mod Options
 pub mod Fault
+pub mod Replay
 pub mod Load
 pub mod Export
 pub mod Server

@@ -1,4 +1,4 @@
--- What is loaded before a script, and what is written for it.
+-- What is loaded after a history and before a script, and what is written for it.
 use Rattle.std.specs.Prelude.{◌≡◌, ◌⊎◌, ℕ, List, [], ◌∷◌, Option, Some, None, Result, Ok, Err, length}
 use Rattle.std.specs.Io.KnownBytes.{Appends, Keeps}
 use Rattle.clap.specs.Words.{Text}
@@ -11,14 +11,15 @@ use Rattle.values.specs.Tables.{Schema, table_at}
 use Rattle.values.specs.TableRules.{IsTable}
 use Rattle.steps.specs.declared.step.Step.{Step}
 use Rattle.steps.specs.declared.step.Step.TheVariants.{Begin, Insert, Commit}
-use Rattle.histories.specs.History.{History, log}
+use Rattle.histories.specs.History.{History, log, schema_after}
+use Rattle.histories.specs.Led.{led}
 use Rattle.statement.specs.Writer.{AppendsPrefix}
 use Rattle.interleaving.specs.SystemState.{SystemState, Stands}
 use Rattle.interchange.specs.Load.{Loads, answered}
 use Rattle.interchange.specs.Report.{loaded_text}
-use Rattle.scripts.specs.First.{history_of, first_refusal}
+use Rattle.scripts.specs.First.{RefusesFirst, first_refusal}
 use Rattle.command_line.specs.declared.fault.Fault.{Fault}
-use Rattle.command_line.specs.declared.fault.Fault.TheVariants.{Load, Read, Write, Memory}
+use Rattle.command_line.specs.declared.fault.Fault.TheVariants.{Load, Read, Write}
 use Rattle.command_line.specs.Options.{name_in}
 
 -- the table with a name
@@ -43,60 +44,74 @@ pub record FileSays (schema : Schema) (text : Text) (number : ℕ) (r : Result (
   pub bytes : List ℕ
   pub loads : Loads table bytes r
 
--- the rows of some file, whose steps leave a history: none of them is refused
-pub record IsLoad (schema : Schema) (text : Text) (first : History) : Type 0 where
+-- the rows of some file, for a table as it is after a history; their steps leave another: none of
+-- them is refused
+pub record IsLoad (schema : Schema) (text : Text) (before later : History) : Type 0 where
   pub number : ℕ
   pub rows : List Row
-  pub says : FileSays schema text number (Ok rows)
-  pub taken : first_refusal schema [] (steps_of number rows) ≡ None
-  pub leaves : first ≡ history_of (steps_of number rows)
+  pub says : FileSays (schema_after schema before) text number (Ok rows)
+  pub taken : first_refusal schema before (steps_of number rows) ≡ None
+  pub leaves : later ≡ led before (steps_of number rows)
 
-pub record HasWrittenLoad (schema : Schema) (text : Text) (first : History)
+-- the instant at which rows were loaded: none without rows
+abbrev pub instant_of : Schema → List Row → History → ℕ
+instant_of schema [] later = 0
+instant_of schema (row ∷ rows) later = last (log schema later)
+
+pub record HasWrittenLoad (schema : Schema) (text : Text) (before later : History)
     (old new : Option (List ℕ)) : Type 0 where
-  pub load : IsLoad schema text first
-  pub wrote : Appends old new (loaded_text (length load.rows) (last (log schema first)))
+  pub load : IsLoad schema text before later
+  pub wrote : Appends old new
+      (loaded_text (length load.rows) (instant_of schema load.rows later))
 
--- what was loaded, where that is asked for: this is the history, and it was reported
-abbrev pub HasLoaded : Schema → Option Text → History → (old new : Option (List ℕ)) → Type 0
-HasLoaded schema None first old new = (first ≡ []) × Keeps old new
-HasLoaded schema (Some text) first old new = HasWrittenLoad schema text first old new
+-- what was loaded after a history, where that is asked for: this is the history then, and it was
+-- reported
+abbrev pub HasLoaded : Schema → Option Text → (before later : History)
+    → (old new : Option (List ℕ)) → Type 0
+HasLoaded schema None before later old new = (later ≡ before) × Keeps old new
+HasLoaded schema (Some text) before later old new =
+    HasWrittenLoad schema text before later old new
 
 -- the rows of some file, of whose steps this is the first refusal
-pub record IsRefusedLoad (schema : Schema) (text : Text) (refusal : Refusal) : Type 0 where
+pub record IsRefusedLoad (schema : Schema) (before : History) (text : Text) (refusal : Refusal)
+    : Type 0 where
   pub number : ℕ
   pub rows : List Row
-  pub says : FileSays schema text number (Ok rows)
-  pub refused : first_refusal schema [] (steps_of number rows) ≡ Some refusal
+  pub says : FileSays (schema_after schema before) text number (Ok rows)
+  pub refused : first_refusal schema before (steps_of number rows) ≡ Some refusal
 
--- why nothing is loaded: memory ran out, there is no such table, some file has no rows for it, or
--- its rows are refused
+-- why there are no rows: memory ran out, there is no such table, some file has no rows for it, or its
+-- rows are refused even where nothing was committed
 abbrev pub IsNoLoad : Schema → Text → Refusal → Type 0
 IsNoLoad schema text refusal =
     (refusal ≡ OutOfMemory)
     ⊎ (((refusal ≡ NoTable) × (table_number schema (name_in text) ≡ None))
     ⊎ (((number : ℕ) × FileSays schema text number (Err refusal))
-    ⊎ IsRefusedLoad schema text refusal))
+    ⊎ IsRefusedLoad schema [] text refusal))
 
 -- the writer failed in the report
-pub record IsHalfReported (schema : Schema) (text : Text) (old new : Option (List ℕ)) : Type 0 where
-  pub first : History
-  pub load : IsLoad schema text first
-  pub wrote : AppendsPrefix old new (loaded_text (length load.rows) (last (log schema first)))
+pub record IsHalfReported (schema : Schema) (text : Text) (before : History)
+    (old new : Option (List ℕ)) : Type 0 where
+  pub later : History
+  pub load : IsLoad schema text before later
+  pub wrote : AppendsPrefix old new
+      (loaded_text (length load.rows) (instant_of schema load.rows later))
 
 -- what a fault of a load leaves: nothing was written, unless the writer failed
-abbrev pub Unloaded : Fault → Schema → Option Text → (old new : Option (List ℕ)) → Type 0
-Unloaded Memory schema text old new = Keeps old new
-Unloaded Read schema (Some text) old new = Keeps old new
-Unloaded (Load refusal) schema (Some text) old new = IsNoLoad schema text refusal × Keeps old new
-Unloaded Write schema (Some text) old new = IsHalfReported schema text old new
-Unloaded fault schema text old new = ⊥
+abbrev pub Unloaded : Fault → Schema → Option Text → History → (old new : Option (List ℕ)) → Type 0
+Unloaded Read schema (Some text) before old new = Keeps old new
+Unloaded (Load refusal) schema (Some text) before old new =
+    (IsNoLoad (schema_after schema before) text refusal
+    ⊎ IsRefusedLoad schema before text refusal) × Keeps old new
+Unloaded Write schema (Some text) before old new = IsHalfReported schema text before old new
+Unloaded fault schema text before old new = ⊥
 
 -- a store that has what was loaded
-pub record IsLed (schema : Schema) (text : Option Text) (s : SystemState)
+pub record IsLed (schema : Schema) (text : Option Text) (before : History) (s : SystemState)
     (old new : Option (List ℕ)) : Type 0 where
-  pub first : History
-  pub loaded : HasLoaded schema text first old new
-  pub stands : Stands schema s first
+  pub later : History
+  pub loaded : HasLoaded schema text before later old new
+  pub stands : Stands schema s later
 
 -- ---- what the parts of a load leave
 
@@ -121,9 +136,8 @@ HasNoRows Read schema text = Unit {0}
 HasNoRows (Load refusal) schema text = IsNoLoad schema text refusal
 HasNoRows fault schema text = ⊥
 
--- why rows are not loaded
-abbrev pub IsUntaken : Fault → Schema → ℕ → List Row → Type 0
-IsUntaken Memory schema number rows = Unit {0}
-IsUntaken (Load refusal) schema number rows =
-    (refusal ≡ OutOfMemory) ⊎ (first_refusal schema [] (steps_of number rows) ≡ Some refusal)
-IsUntaken fault schema number rows = ⊥
+-- why rows are not loaded into a store
+pub record IsUntaken (fault : Fault) (s : SystemState) (number : ℕ) (rows : List Row) : Type 0 where
+  pub refusal : Refusal
+  pub fault_is : fault ≡ Load refusal
+  pub refuses : RefusesFirst s (steps_of number rows) refusal

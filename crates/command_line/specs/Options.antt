@@ -27,7 +27,9 @@ option name = record (new_rule name) { long = Some name; value_names = 1 }
 
 -- with the options of what is read
 abbrev pub reading : App
-reading = with_rule (with_rule bare (option (codes "schema"))) (option (codes "script"))
+reading =
+    with_rule (with_rule (with_rule bare (option (codes "schema"))) (option (codes "after")))
+    (option (codes "script"))
 
 -- and with those of a server
 abbrev pub serving : App
@@ -48,6 +50,7 @@ faults words = fault_of command words
 
 pub record AskedTexts : Type 0 where
   pub schema : Option Text
+  pub after : Option Text
   pub script : Option Text
   pub listen : Option Text
   pub sessions : Option Text
@@ -57,6 +60,7 @@ pub record AskedTexts : Type 0 where
 abbrev pub texts_in : List Text → AskedTexts
 texts_in words = record {
   schema = text_of (codes "schema") words;
+  after = text_of (codes "after") words;
   script = text_of (codes "script") words;
   listen = text_of (codes "listen") words;
   sessions = text_of (codes "sessions") words;
@@ -67,6 +71,7 @@ texts_in words = record {
 abbrev pub texts_of : Texts → AskedTexts
 texts_of texts = record {
   schema = option_map (λ text. text.now) texts.schema;
+  after = option_map (λ text. text.now) texts.after;
   script = option_map (λ text. text.now) texts.script;
   listen = option_map (λ text. text.now) texts.listen;
   sessions = option_map (λ text. text.now) texts.sessions;
@@ -77,6 +82,7 @@ texts_of texts = record {
 abbrev pub found_texts : Found → AskedTexts
 found_texts found = record {
   schema = first_value found (codes "schema");
+  after = first_value found (codes "after");
   script = first_value found (codes "script");
   listen = first_value found (codes "listen");
   sessions = first_value found (codes "sessions");
@@ -109,23 +115,25 @@ listening None sessions = None
 listening (Some port) None = None
 
 -- a port and a number of connections come together, and with no script
-abbrev pub mode_by : (script listen sessions : Option Text) → Option AskedMode
-mode_by script None None = Some (Scripts script)
-mode_by None (Some listen) (Some sessions) = listening (port_in listen) (count_in sessions)
-mode_by (Some script) (Some listen) (Some sessions) = None
-mode_by script (Some listen) None = None
-mode_by script None (Some sessions) = None
+abbrev pub mode_by : (after script listen sessions : Option Text) → Option AskedMode
+mode_by after script None None = Some (Scripts script)
+mode_by None None (Some listen) (Some sessions) = listening (port_in listen) (count_in sessions)
+mode_by (Some after) None (Some listen) (Some sessions) = None
+mode_by after (Some script) (Some listen) (Some sessions) = None
+mode_by after script (Some listen) None = None
+mode_by after script None (Some sessions) = None
 
 abbrev pub mode_in : AskedTexts → Option AskedMode
-mode_in texts = mode_by texts.script texts.listen texts.sessions
+mode_in texts = mode_by texts.after texts.script texts.listen texts.sessions
 
 abbrev pub mode_of : Mode → AskedMode
 mode_of (Script file) = Scripts (option_map (λ text. text.now) file)
 mode_of (Listen port sessions) = Listens port sessions
 
--- what is asked for: the schema's file, what is run, and the texts of the other two options
+-- what is asked for: the schema's file, what is run, and the texts of the other three options
 pub record Asked : Type 0 where
   pub schema : Option Text
+  pub after : Option Text
   pub mode : AskedMode
   pub load : Option Text
   pub exports : Option Text
@@ -133,6 +141,7 @@ pub record Asked : Type 0 where
 abbrev pub asked_of : Options → Asked
 asked_of options = record {
   schema = option_map (λ text. text.now) options.schema;
+  after = option_map (λ text. text.now) options.after;
   mode = mode_of options.mode;
   load = option_map (λ text. text.now) options.load;
   exports = option_map (λ text. text.now) options.export;
@@ -155,6 +164,7 @@ pub record Reads (words : List Text) (texts : AskedTexts) : Type 0 where
 pub record AskFor (words : List Text) (asked : Asked) : Type 0 where
   pub taken : faults words ≡ []
   pub schema_is : asked.schema ≡ (texts_in words).schema
+  pub after_is : asked.after ≡ (texts_in words).after
   pub mode_is : mode_in (texts_in words) ≡ Some asked.mode
   pub load_is : asked.load ≡ (texts_in words).load
   pub exports_is : asked.exports ≡ (texts_in words).exports

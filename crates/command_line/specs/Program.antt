@@ -15,6 +15,7 @@ use Rattle.scripts.specs.Transcript.{IsRunAfter, IsCutAfter, IsStoppedAfter, lea
 use Rattle.command_line.specs.declared.fault.Fault.{Fault}
 use Rattle.command_line.specs.declared.fault.Fault.TheVariants.{Words, SchemaSyntax, BadTable, SchemaMemory, NoExport, Read, Write, Memory}
 use Rattle.command_line.specs.Options.{Asked, AskFor, AskedMode, Scripts, Listens, AreRequest, AreMistaken}
+use Rattle.command_line.specs.Replay.{HasReplayed, IsNotAfter}
 use Rattle.command_line.specs.Load.{HasLoaded, Unloaded}
 use Rattle.command_line.specs.Export.{Exports, IsUnknown, HasExported, Unexported}
 use Rattle.command_line.specs.Server.{HasServedAll, HaltsServing}
@@ -104,47 +105,68 @@ HaltsOn fault script number schema h unread left old new =
 
 -- ---- the load before them
 
-pub record HasRunAll (load script : Option Text) (number : Option ℕ) (schema : Schema)
-    (unread left old new : Option (List ℕ)) : Type 0 where
-  pub first : History
+pub record HasRunLoaded (load script : Option Text) (number : Option ℕ) (schema : Schema)
+    (before : History) (unread left old new : Option (List ℕ)) : Type 0 where
+  pub later : History
   pub between : Option (List ℕ)
-  pub loaded : HasLoaded schema load first old between
-  pub rest : HasRunOn script number schema first unread left between new
+  pub loaded : HasLoaded schema load before later old between
+  pub rest : HasRunOn script number schema later unread left between new
 
 -- a fault of the load: nothing was read of standard input
-pub record HaltsEarly (fault : Fault) (load : Option Text) (schema : Schema)
+pub record HaltsEarly (fault : Fault) (load : Option Text) (schema : Schema) (before : History)
     (unread left old new : Option (List ℕ)) : Type 0 where
   pub read : Keeps unread left
-  pub unloaded : Unloaded fault schema load old new
+  pub unloaded : Unloaded fault schema load before old new
 
 pub record HaltsLoaded (fault : Fault) (load script : Option Text) (number : Option ℕ)
-    (schema : Schema) (unread left old new : Option (List ℕ)) : Type 0 where
-  pub first : History
+    (schema : Schema) (before : History) (unread left old new : Option (List ℕ)) : Type 0 where
+  pub later : History
   pub between : Option (List ℕ)
-  pub loaded : HasLoaded schema load first old between
-  pub rest : HaltsOn fault script number schema first unread left between new
+  pub loaded : HasLoaded schema load before later old between
+  pub rest : HaltsOn fault script number schema later unread left between new
 
-abbrev pub HaltsAt : Fault → Option Text → Option Text → Option ℕ → Schema
+abbrev pub HaltsAfter : Fault → (load script : Option Text) → Option ℕ → Schema → History
     → (unread left old new : Option (List ℕ)) → Type 0
-HaltsAt fault load script number schema unread left old new =
-    HaltsEarly fault load schema unread left old new
-    ⊎ HaltsLoaded fault load script number schema unread left old new
+HaltsAfter fault load script number schema before unread left old new =
+    HaltsEarly fault load schema before unread left old new
+    ⊎ HaltsLoaded fault load script number schema before unread left old new
+
+-- ---- the replay before all else
+
+pub record HasRunAll (after load script : Option Text) (number : Option ℕ) (schema : Schema)
+    (unread left old new : Option (List ℕ)) : Type 0 where
+  pub before : History
+  pub replayed : HasReplayed schema after before
+  pub rest : HasRunLoaded load script number schema before unread left old new
+
+pub record HaltsReplayed (fault : Fault) (after load script : Option Text) (number : Option ℕ)
+    (schema : Schema) (unread left old new : Option (List ℕ)) : Type 0 where
+  pub before : History
+  pub replayed : HasReplayed schema after before
+  pub rest : HaltsAfter fault load script number schema before unread left old new
+
+-- a fault of the replay, at which nothing was read or written; or one that came after it
+abbrev pub HaltsAt : Fault → (after load script : Option Text) → Option ℕ → Schema
+    → (unread left old new : Option (List ℕ)) → Type 0
+HaltsAt fault after load script number schema unread left old new =
+    (IsNotAfter fault schema after × IsIdle unread left old new)
+    ⊎ HaltsReplayed fault after load script number schema unread left old new
 
 -- ---- what is asked for, over a schema
 
-abbrev pub HasRunMode : AskedMode → Option Text → Option ℕ → Schema
+abbrev pub HasRunMode : AskedMode → (after load : Option Text) → Option ℕ → Schema
     → (unread left old new : Option (List ℕ)) → Type 0
-HasRunMode (Scripts script) load number schema unread left old new =
-    HasRunAll load script number schema unread left old new
-HasRunMode (Listens port sessions) load number schema unread left old new =
+HasRunMode (Scripts script) after load number schema unread left old new =
+    HasRunAll after load script number schema unread left old new
+HasRunMode (Listens port sessions) after load number schema unread left old new =
     HasServedAll load (record { port = port; sessions = sessions; export = number }) schema
     unread left old new
 
-abbrev pub HaltsMode : Fault → AskedMode → Option Text → Option ℕ → Schema
+abbrev pub HaltsMode : Fault → AskedMode → (after load : Option Text) → Option ℕ → Schema
     → (unread left old new : Option (List ℕ)) → Type 0
-HaltsMode fault (Scripts script) load number schema unread left old new =
-    HaltsAt fault load script number schema unread left old new
-HaltsMode fault (Listens port sessions) load number schema unread left old new =
+HaltsMode fault (Scripts script) after load number schema unread left old new =
+    HaltsAt fault after load script number schema unread left old new
+HaltsMode fault (Listens port sessions) after load number schema unread left old new =
     HaltsServing fault load (record { port = port; sessions = sessions; export = number }) schema
     unread left old new
 
@@ -152,7 +174,7 @@ pub record HasDone (asked : Asked) (schema : Schema) (unread left old new : Opti
     : Type 0 where
   pub number : Option ℕ
   pub exports : Exports schema asked.exports number
-  pub ran : HasRunMode asked.mode asked.load number schema unread left old new
+  pub ran : HasRunMode asked.mode asked.after asked.load number schema unread left old new
 
 -- there is no table to be exported: nothing was read or written
 pub record HasNoExport (fault : Fault) (asked : Asked) (schema : Schema)
@@ -165,7 +187,7 @@ pub record HasHalted (fault : Fault) (asked : Asked) (schema : Schema)
     (unread left old new : Option (List ℕ)) : Type 0 where
   pub number : Option ℕ
   pub exports : Exports schema asked.exports number
-  pub halts : HaltsMode fault asked.mode asked.load number schema unread left old new
+  pub halts : HaltsMode fault asked.mode asked.after asked.load number schema unread left old new
 
 abbrev pub Halts : Fault → Asked → Schema → (unread left old new : Option (List ℕ)) → Type 0
 Halts fault asked schema unread left old new =

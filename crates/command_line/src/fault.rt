@@ -1,12 +1,12 @@
 //! Why the program stops before its end: each text but those of refusals and words.
 ghost use Rattle.std.specs.Prelude.{◌≡◌, true, false};
-ghost use Rattle.command_line.specs.Fault.{is_of_words, of_export, of_load, of_run, of_schema, of_server};
+ghost use Rattle.command_line.specs.Fault.{is_of_words, of_export, of_replay, of_run, of_schema, of_server};
 
 use crate::options::WordsFault;
 use interchange::ExportFault;
 use listening::{ListenFault, ServerFault};
 use rows::SchemaFault;
-use scripts::RunFault;
+use scripts::{ReplayFault, RunFault};
 use statement::print_refusal;
 use std::io::Write;
 use thiserror::Error;
@@ -31,6 +31,12 @@ pub enum Fault {
     SchemaMemory,
     #[error("export: E2 no table")]
     NoExport,
+    /// The refusal's own text follows this one.
+    #[error("after: line {0}: ")]
+    After(u64, Refusal),
+    /// A session has a transaction open at the end of the script that is replayed.
+    #[error("after: E16 transactions open")]
+    AfterOpen,
     /// The refusal's own text follows this one.
     #[error("load: ")]
     Load(Refusal),
@@ -70,13 +76,15 @@ pub fn run_fault(fault: RunFault) -> Fault
     }
 }
 
-/// Returns the program's fault for a fault of the steps of a load.
-pub fn load_fault(fault: RunFault) -> Fault
-    ensures { result ≡ of_load fault }
+/// Returns the program's fault for a fault of the script that is replayed.
+pub fn replay_fault(fault: ReplayFault) -> Fault
+    ensures { result ≡ of_replay fault }
 {
     match fault {
-        RunFault::First(refusal) => Fault::Load(refusal),
-        _ => Fault::Memory,
+        ReplayFault::Refused(line, refusal) => Fault::After(line, refusal),
+        ReplayFault::Open => Fault::AfterOpen,
+        ReplayFault::Read => Fault::Read,
+        ReplayFault::Memory => Fault::Memory,
     }
 }
 
@@ -126,6 +134,10 @@ pub fn tell<E: Write>(err: &mut E, fault: &Fault) -> u8
         // The texts of words end their last line themselves.
         Fault::Words(words) => {
             let _ = write!(err, "{words}");
+        }
+        Fault::After(_, refusal) => {
+            let _ = write!(err, "{fault}");
+            let _ = print_refusal(err, refusal);
         }
         Fault::Load(refusal) => {
             let _ = write!(err, "{fault}");

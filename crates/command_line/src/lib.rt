@@ -7,5 +7,6 @@ mod load;
 pub mod options;
 mod output;
 pub mod program;
+mod replay;
 mod schema_file;
 mod server;

@@ -1,26 +1,25 @@
 //! Rows of a file that are loaded before the script.
-ghost use Rattle.std.specs.Prelude.{◌≡◌, IfOk, IfErr, IfSome, None, Some, Ok, Err, OnOk, [], length, option_map, List, ℕ};
+ghost use Rattle.std.specs.Prelude.{◌≡◌, ◌≢◌, IfOk, IfErr, IfSome, None, Some, Ok, OnOk, length, option_map, List, ℕ};
 ghost use Rattle.std.specs.Io.KnownBytes.{Appends};
 ghost use Rattle.clap.specs.Words.{Text};
 ghost use Rattle.values.specs.TableNumber.{table_number};
 ghost use Rattle.values.specs.Tables.{Schema};
 ghost use Rattle.values.specs.TableRules.{IsTable};
 ghost use Rattle.values.specs.Log.{last};
-ghost use Rattle.values.specs.declared.refusal.Refusal.{Refusal as Why};
 ghost use Rattle.histories.specs.History.{History, log};
 ghost use Rattle.statement.specs.Writer.{AppendsPrefix};
 ghost use Rattle.interleaving.specs.SystemState.{Stands};
 ghost use Rattle.interchange.specs.Load.{Loads};
 ghost use Rattle.interchange.specs.Report.{loaded_text};
-ghost use Rattle.scripts.specs.First.{history_of, first_refusal};
+ghost use Rattle.scripts.specs.First.{LeadsTo};
 ghost use Rattle.command_line.specs.Options.{name_in};
 ghost use Rattle.command_line.specs.Load.{IsLed, IsNamed, FileSays, HasNoRows, IsUnread, IsUntaken, Unloaded, steps_of};
 
-use crate::fault::{Fault, load_fault};
+use crate::fault::Fault;
 use interchange::{LoadFault, load_from, report_loaded};
 use interleaving::System;
 use listening::TableRows;
-use scripts::lead;
+use scripts::take_all;
 use std::alloc::Global;
 use std::fs::File;
 use std::io;
@@ -125,18 +124,17 @@ fn steps_of(alloc: Global, loaded: TableRows) -> Mem<Vec<Step>>
     Ok(vec![in alloc; Step::Begin(0), insert, Step::Commit(0, 0)]?)
 }
 
-/// Makes a store with these rows.
-fn store_of(alloc: Global, schema: Schema, loaded: TableRows) -> Result<System, Fault>
-    ensures stands { IfOk result (λ s.
-        Stands schema s (history_of (steps_of loaded.number loaded.rows.items))) }
-    ensures taken { OnOk result (
-        first_refusal schema [] (steps_of loaded.number loaded.rows.items) ≡ None) }
-    ensures err { IfErr result (λ fault. IsUntaken fault schema loaded.number loaded.rows.items) }
+/// Loads these rows into a store.
+fn load_into(alloc: Global, system: &mut System, loaded: TableRows) -> Result<(), Fault>
+    ensures ok { OnOk result (LeadsTo system.old system.new
+        (steps_of loaded.number loaded.rows.items)) }
+    ensures err { IfErr result (λ fault.
+        IsUntaken fault system.old loaded.number loaded.rows.items) }
 {
     match steps_of(alloc, loaded) {
-        Ok(steps) => match lead(alloc, schema, steps) {
-            Ok(system) => Ok(system),
-            Err(fault) => Err(load_fault(fault)),
+        Ok(steps) => match take_all(system, steps) {
+            Ok(()) => Ok(()),
+            Err(refusal) => Err(Fault::Load(refusal)),
         },
         Err(_) => Err(Fault::Load(Refusal::Memory)),
     }
@@ -148,6 +146,18 @@ fn last_instant(system: &System) -> Instant
         → result ≡ last (log first h) }
 {
     system.tree().current().last()
+}
+
+/// Returns the instant at which so many rows were loaded: 0 if there are none.
+fn load_instant(count: usize, system: &System) -> Instant
+    ensures some { count ≢ 0 → (first : Schema) (h : History) → Stands first system.now h
+        → result ≡ last (log first h) }
+    ensures none { count ≡ 0 → result ≡ 0 }
+{
+    if count == 0 {
+        return 0;
+    }
+    last_instant(system)
 }
 
 /// Writes how many rows were loaded, and at which instant. It takes no memory.
@@ -173,25 +183,24 @@ fn count_of(loaded: &TableRows) -> usize
 fn load_rows_of<O: Write>(
     alloc: Global,
     out: &mut O,
-    schema: Schema,
+    system: &mut System,
     loaded: TableRows,
-) -> Result<System, Fault>
-    ensures ok { IfOk result (λ s. (text : Text)
-        → FileSays schema text loaded.number (Ok loaded.rows.items)
-        → IsLed schema (Some text) s (O.contents out.old) (O.contents out.new)) }
+) -> Result<(), Fault>
+    ensures ok { OnOk result ((text : Text)
+        → FileSays system.old.schema text loaded.number (Ok loaded.rows.items)
+        → (first : Schema) (before : History) → Stands first system.old before
+        → IsLed first (Some text) before system.new (O.contents out.old) (O.contents out.new)) }
     ensures err { IfErr result (λ fault. (text : Text)
-        → FileSays schema text loaded.number (Ok loaded.rows.items)
-        → Unloaded fault schema (Some text) (O.contents out.old) (O.contents out.new)) }
+        → FileSays system.old.schema text loaded.number (Ok loaded.rows.items)
+        → (first : Schema) (before : History) → Stands first system.old before
+        → Unloaded fault first (Some text) before (O.contents out.old) (O.contents out.new)) }
 {
     let count = count_of(&loaded);
-    let system = match store_of(alloc, schema, loaded) {
-        Ok(system) => system,
+    match load_into(alloc, system, loaded) {
+        Ok(()) => {}
         Err(fault) => return Err(fault),
-    };
-    match report(out, count, last_instant(&system)) {
-        Ok(()) => Ok(system),
-        Err(fault) => Err(fault),
     }
+    report(out, count, load_instant(count, system))
 }
 
 /// Loads a file.
@@ -199,38 +208,39 @@ fn load_file<R: AllocGlobal + Files, O: Write>(
     rt: &R,
     text: &str,
     out: &mut O,
-    schema: Schema,
-) -> Result<System, Fault>
-    ensures ok { IfOk result (λ s. IsLed schema (Some text.now) s
+    system: &mut System,
+) -> Result<(), Fault>
+    ensures ok { OnOk result ((first : Schema) (before : History) → Stands first system.old before
+        → IsLed first (Some text.now) before system.new
         (O.contents out.old) (O.contents out.new)) }
-    ensures err { IfErr result (λ fault. Unloaded fault schema (Some text.now)
+    ensures err { IfErr result (λ fault. (first : Schema) (before : History)
+        → Stands first system.old before → Unloaded fault first (Some text.now) before
         (O.contents out.old) (O.contents out.new)) }
 {
-    match rows_for(rt, text, &schema) {
-        Ok(loaded) => load_rows_of(rt.alloc(), out, schema, loaded),
+    match rows_for(rt, text, system.schema()) {
+        Ok(loaded) => load_rows_of(rt.alloc(), out, system, loaded),
         Err(fault) => Err(fault),
     }
 }
 
-/// Makes the store before the script: with the rows of a file, if one is to be loaded, in one
+/// Loads the rows of a file into a store before the script, if one is to be loaded, in one
 /// transaction of session 0. Their number and their instant are then written.
 pub fn load<R: AllocGlobal + Files, O: Write>(
     rt: &R,
     text: Option<&str>,
     out: &mut O,
-    schema: Schema,
-) -> Result<System, Fault>
-    ensures ok { IfOk result (λ s. IsLed schema (option_map (λ text. text.now) text.entry) s
+    system: &mut System,
+) -> Result<(), Fault>
+    ensures ok { OnOk result ((first : Schema) (before : History) → Stands first system.old before
+        → IsLed first (option_map (λ text. text.now) text.entry) before system.new
         (O.contents out.old) (O.contents out.new)) }
-    ensures err { IfErr result (λ fault. Unloaded fault schema
-        (option_map (λ text. text.now) text.entry)
+    ensures err { IfErr result (λ fault. (first : Schema) (before : History)
+        → Stands first system.old before
+        → Unloaded fault first (option_map (λ text. text.now) text.entry) before
         (O.contents out.old) (O.contents out.new)) }
 {
     match text {
-        Some(text) => load_file(rt, text, out, schema),
-        None => match System::new(rt.alloc(), schema) {
-            Ok(system) => Ok(system),
-            Err(_) => Err(Fault::Memory),
-        },
+        Some(text) => load_file(rt, text, out, system),
+        None => Ok(()),
     }
 }

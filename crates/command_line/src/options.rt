@@ -50,8 +50,8 @@ The port is printed as 'listening PORT'. When --sessions connections have come a
 \n\
 Status:\n  \
 0  done, help among it; a line that is refused has its refusal as its reply\n  \
-1  a fault of the schema, the load, the export, a file, a socket, the output or memory,\n     \
-reported on standard error\n  \
+1  a fault of the schema, the replay, the load, the export, a file, a socket, the output or\n     \
+memory, reported on standard error\n  \
 2  words that are refused\n";
 
 /// What is said where there is no file in the text of `--load`.
@@ -61,6 +61,10 @@ const NO_FILE: &str =
 /// What is said where connections are to be served, and a script is to be run.
 const BOTH: &str =
     "error: --script and --listen exclude each other\n\nFor more information, try '--help'.\n";
+
+/// What is said where connections are to be served, and a script is to be replayed.
+const NO_AFTER: &str =
+    "error: --after and --listen exclude each other\n\nFor more information, try '--help'.\n";
 
 /// What is said where there is a port, and no number of connections.
 const NO_SESSIONS: &str =
@@ -97,6 +101,8 @@ pub enum Mode<'a> {
 pub struct Options<'a> {
     /// The file of the schema.
     pub schema: Option<&'a str>,
+    /// The file of the script that is replayed before all else.
+    pub after: Option<&'a str>,
     /// What is run.
     pub mode: Mode<'a>,
     /// A table's name, `=` and the file whose rows are loaded.
@@ -109,6 +115,7 @@ pub struct Options<'a> {
 #[derive(Clone, Copy)]
 struct Texts<'a> {
     schema: Option<&'a str>,
+    after: Option<&'a str>,
     script: Option<&'a str>,
     listen: Option<&'a str>,
     sessions: Option<&'a str>,
@@ -155,8 +162,10 @@ fn bare<'a>(alloc: Global) -> Command<'a>
 fn reading_command<'a>(alloc: Global) -> Result<Command<'a>, AllocError>
     ensures { IfOk result (λ c. app_of c ≡ reading) }
 {
+    let after = "First replays this script: nothing is written, and no line may be refused";
     bare(alloc)
         .arg(option(alloc, "schema", "FILE", "Reads the tables from this file"))?
+        .arg(option(alloc, "after", "FILE", after))?
         .arg(option(alloc, "script", "FILE", "Reads the script from this file"))
 }
 
@@ -186,6 +195,7 @@ fn texts_of<'a>(matches: &ArgMatches<'a>) -> Texts<'a>
 {
     Texts {
         schema: matches.get_str("schema"),
+        after: matches.get_str("after"),
         script: matches.get_str("script"),
         listen: matches.get_str("listen"),
         sessions: matches.get_str("sessions"),
@@ -248,12 +258,13 @@ fn mode_of<'a>(texts: Texts<'a>) -> Result<Mode<'a>, &'static str>
     ensures ok { IfOk result (λ mode. mode_in (texts_of texts.entry) ≡ Some (mode_of mode)) }
     ensures err { IfErr result (λ _. mode_in (texts_of texts.entry) ≡ None) }
 {
-    match (texts.script, texts.listen, texts.sessions) {
-        (script, None, None) => Ok(Mode::Script(script)),
-        (None, Some(listen), Some(sessions)) => listen_mode(listen, sessions),
-        (Some(_), Some(_), Some(_)) => Err(BOTH),
-        (_, Some(_), None) => Err(NO_SESSIONS),
-        (_, None, Some(_)) => Err(NO_LISTEN),
+    match (texts.after, texts.script, texts.listen, texts.sessions) {
+        (_, script, None, None) => Ok(Mode::Script(script)),
+        (None, None, Some(listen), Some(sessions)) => listen_mode(listen, sessions),
+        (Some(_), None, Some(_), Some(_)) => Err(NO_AFTER),
+        (_, Some(_), Some(_), Some(_)) => Err(BOTH),
+        (_, _, Some(_), None) => Err(NO_SESSIONS),
+        (_, _, None, Some(_)) => Err(NO_LISTEN),
     }
 }
 
@@ -280,6 +291,7 @@ fn options_of<'a>(texts: Texts<'a>) -> Result<Options<'a>, WordsFault>
     match mode_of(texts) {
         Ok(mode) => Ok(Options {
             schema: texts.schema,
+            after: texts.after,
             mode,
             load: texts.load,
             export: texts.export,
@@ -288,12 +300,12 @@ fn options_of<'a>(texts: Texts<'a>) -> Result<Options<'a>, WordsFault>
     }
 }
 
-/// Reads the words that follow the program's name: `--schema F`, `--script F`, `--listen PORT`,
-/// `--sessions N`, `--load T=F` and `--export T`, each at most once.
+/// Reads the words that follow the program's name: `--schema F`, `--after F`, `--script F`,
+/// `--listen PORT`, `--sessions N`, `--load T=F` and `--export T`, each at most once.
 ///
 /// `Clap` if `clap` refuses the words, or they ask for `--help` or `--version`. `Words` if the text
 /// of `--load` has no `=`; if one of `--listen` and `--sessions` is given without the other, or
-/// both with `--script`; if PORT or N is not a decimal number in its range.
+/// both with `--script` or `--after`; if PORT or N is not a decimal number in its range.
 pub fn words<'a, S: AsStr>(alloc: Global, words: &'a [S]) -> Result<Options<'a>, WordsFault>
     ensures ok { IfOk result (λ o. Gives (map S.text words.entry.now) o) }
     ensures err { IfErr result (λ fault. Refuses (map S.text words.entry.now) fault) }

@@ -7,7 +7,7 @@ ghost use Rattle.histories.specs.History.{History};
 ghost use Rattle.interleaving.specs.SystemState.{Stands};
 ghost use Rattle.listening.specs.Server.{IsExportOf};
 ghost use Rattle.command_line.specs.Options.{Refuses, asked_of, faults};
-ghost use Rattle.command_line.specs.Program.{Halts, HaltsAt, HaltsMode, HaltsOn, HasAnswered, HasDone, HasRun, HasRunAll, HasRunMode, HasRunOn, IsComplete, IsDone, IsFaulty, IsRefused, IsStuck, IsUnanswered, IsUnshown, Leaves};
+ghost use Rattle.command_line.specs.Program.{Halts, HaltsAfter, HaltsAt, HaltsMode, HaltsOn, HasAnswered, HasDone, HasRun, HasRunAll, HasRunLoaded, HasRunMode, HasRunOn, IsComplete, IsDone, IsFaulty, IsRefused, IsStuck, IsUnanswered, IsUnshown, Leaves};
 ghost use Rattle.command_line.specs.Fault.{is_of_words, outcome_of};
 
 use crate::export::{export_number, export_table};
@@ -16,6 +16,7 @@ use crate::load::load;
 use crate::options;
 use crate::options::{Mode, Options, WordsFault};
 use crate::output::print;
+use crate::replay::store_after;
 use crate::schema_file::schema_of;
 use crate::server::run_server;
 use clap::error::ErrorKind;
@@ -38,7 +39,8 @@ pub const DONE: u8 = 0;
 
 /// Runs the program: reads a script, from standard input or a file, over the schema of a file or
 /// the sample, as the words ask for, and writes its transcript, or serves connections; before it
-/// the rows of a file may be loaded, and after it a table may be exported. Returns the exit status:
+/// another script may be replayed, and the rows of a file loaded, and after it a table may be
+/// exported. Returns the exit status:
 /// 0 done, 1 a fault, 2 words that are refused; a fault is reported on standard error. Help and the
 /// version are written like other output.
 pub fn program<R, S, I, O, E>(rt: &R, words: &[S], reader: &mut I, out: &mut O, err: &mut E) -> u8
@@ -72,7 +74,7 @@ where
 }
 
 /// Runs the program up to its first fault: of the words, of the schema, of the table to be
-/// exported, of the load, of the script, of the export.
+/// exported, of the replay, of the load, of the script, of the export.
 fn run<R, S, I, O>(rt: &R, words: &[S], reader: &mut I, out: &mut O) -> Result<(), Fault>
 where
     R: AllocGlobal
@@ -240,16 +242,16 @@ where
     O: Write,
     requires export { IsExportOf schema number }
     ensures done { OnOk result (HasRunMode (asked_of options.entry).mode
-        (asked_of options.entry).load number schema
+        (asked_of options.entry).after (asked_of options.entry).load number schema
         (I.remaining reader.old) (I.remaining reader.new)
         (O.contents out.old) (O.contents out.new)) }
     ensures halts { IfErr result (λ fault. HaltsMode fault (asked_of options.entry).mode
-        (asked_of options.entry).load number schema
+        (asked_of options.entry).after (asked_of options.entry).load number schema
         (I.remaining reader.old) (I.remaining reader.new)
         (O.contents out.old) (O.contents out.new)) }
 {
     match options.mode {
-        Mode::Script(file) => run_all(rt, options.load, file, number, reader, out, schema),
+        Mode::Script(file) => run_all(rt, options, file, number, reader, out, schema),
         Mode::Listen { port, sessions } => {
             let plan = Plan {
                 port,
@@ -261,27 +263,56 @@ where
     }
 }
 
-/// Runs the load, then the script, then the export.
+/// Runs the replay, then the load, then the script, then the export.
 fn run_all<R: AllocGlobal + Files, I: Read, O: Write>(
     rt: &R,
-    text: Option<&str>,
+    options: Options<'_>,
     file: Option<&str>,
     number: Option<u8>,
     reader: &mut I,
     out: &mut O,
     schema: Schema,
 ) -> Result<(), Fault>
-    ensures done { OnOk result (HasRunAll (option_map (λ text. text.now) text.entry)
-        (option_map (λ text. text.now) file.entry) number schema
+    ensures done { OnOk result (HasRunAll (asked_of options.entry).after
+        (asked_of options.entry).load (option_map (λ text. text.now) file.entry) number schema
         (I.remaining reader.old) (I.remaining reader.new)
         (O.contents out.old) (O.contents out.new)) }
-    ensures halts { IfErr result (λ fault. HaltsAt fault (option_map (λ text. text.now) text.entry)
-        (option_map (λ text. text.now) file.entry) number schema
+    ensures halts { IfErr result (λ fault. HaltsAt fault (asked_of options.entry).after
+        (asked_of options.entry).load (option_map (λ text. text.now) file.entry) number schema
         (I.remaining reader.old) (I.remaining reader.new)
         (O.contents out.old) (O.contents out.new)) }
 {
-    match load(rt, text, out, schema) {
-        Ok(system) => run_on(rt, file, number, reader, out, system),
+    match store_after(rt, options.after, schema) {
+        Ok(system) => run_loaded(rt, options.load, file, number, reader, out, system),
+        Err(fault) => Err(fault),
+    }
+}
+
+/// Runs the load over a store, then the script, then the export.
+fn run_loaded<R: AllocGlobal + Files, I: Read, O: Write>(
+    rt: &R,
+    text: Option<&str>,
+    file: Option<&str>,
+    number: Option<u8>,
+    reader: &mut I,
+    out: &mut O,
+    system: System,
+) -> Result<(), Fault>
+    ensures done { OnOk result ((first : Schema) (before : History) → Stands first system before
+        → HasRunLoaded (option_map (λ text. text.now) text.entry)
+        (option_map (λ text. text.now) file.entry) number first before
+        (I.remaining reader.old) (I.remaining reader.new)
+        (O.contents out.old) (O.contents out.new)) }
+    ensures halts { IfErr result (λ fault. (first : Schema) (before : History)
+        → Stands first system before
+        → HaltsAfter fault (option_map (λ text. text.now) text.entry)
+        (option_map (λ text. text.now) file.entry) number first before
+        (I.remaining reader.old) (I.remaining reader.new)
+        (O.contents out.old) (O.contents out.new)) }
+{
+    let mut system = system;
+    match load(rt, text, out, &mut system) {
+        Ok(()) => run_on(rt, file, number, reader, out, system),
         Err(fault) => Err(fault),
     }
 }

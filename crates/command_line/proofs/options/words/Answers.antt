@@ -23,6 +23,7 @@ reads_of words texts found taken rows are = record {
   taken = taken;
   texts_are = are ∙ (λ i. record {
     schema = (first_value-rows found (codes "schema") ∙ ap (first_of (codes "schema")) rows) i;
+    after = (first_value-rows found (codes "after") ∙ ap (first_of (codes "after")) rows) i;
     script = (first_value-rows found (codes "script") ∙ ap (first_of (codes "script")) rows) i;
     listen = (first_value-rows found (codes "listen") ∙ ap (first_of (codes "listen")) rows) i;
     sessions = (first_value-rows found (codes "sessions") ∙ ap (first_of (codes "sessions")) rows) i;
