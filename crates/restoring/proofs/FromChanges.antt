@@ -20,7 +20,7 @@ use Rattle.values.proofs.LogMaps.{insert_entry-put, sorted_insert}
 use Rattle.values.proofs.LogLatest.{point, Upto, Upto-more}
 use Rattle.values.proofs.LogStates.{Upto-net}
 use Rattle.restoring.specs.FromChanges.{net_at, instants, AreNets, LogIsOfChanges}
-use Rattle.restoring.proofs.OfHistoriesSets.{among, inserted, units, InOrder, in_order_inserted, same_set}
+use Rattle.restoring.proofs.RebuiltSets.{among, inserted, units, InOrder, in_order_inserted, same_set}
 
 abbrev on : ℕ → Point → Bool
 on i p = eq_by_cmp nat_cmp i p.instant
@@ -132,20 +132,12 @@ abbrev points_or : Changes → ℕ → Option Net → Changes
 points_or m i None = m
 points_or m i (Some net) = points i net
 
-unequal : (i j : ℕ) → i < j → eq_by_cmp nat_cmp i j ≡ false
-unequal i j lt = by (nat_cmp i j) refl
+unequal : (i j : ℕ) → (i ≡ j → ⊥) → eq_by_cmp nat_cmp i j ≡ false
+unequal i j other = by (nat_cmp i j) refl
   where
     by : (o : Ordering) → nat_cmp i j ≡ o → is_eq o ≡ false
     by Less e = refl
-    by Equal e = let same : i ≡ j = nat_cmp-IsAntisymmetric i j e in absurd (omega arith)
-    by Greater e = refl
-
-unequal_back : (i j : ℕ) → j < i → eq_by_cmp nat_cmp i j ≡ false
-unequal_back i j lt = by (nat_cmp i j) refl
-  where
-    by : (o : Ordering) → nat_cmp i j ≡ o → is_eq o ≡ false
-    by Less e = refl
-    by Equal e = let same : i ≡ j = nat_cmp-IsAntisymmetric i j e in absurd (omega arith)
+    by Equal e = absurd (other (nat_cmp-IsAntisymmetric i j e))
     by Greater e = refl
 
 -- a log above an instant has none there
@@ -153,13 +145,13 @@ none_in : (log : Log) (n i : ℕ) → Rises n log → i ≤ n → net_in log i �
 none_in [] n i rises le = refl
 none_in (t ∷ log) n i rises le =
     let above : n < t.instant = rises.0 in
-    ap (λ b. cond b (Some t.net) (net_in log i)) (unequal i t.instant (omega arith)) ∙ none_in log t.instant i rises.1 (omega arith)
+    ap (λ b. cond b (Some t.net) (net_in log i)) (unequal i t.instant (λ (same : i ≡ t.instant). omega arith)) ∙ none_in log t.instant i rises.1 (omega arith)
 
 none_on : (m : Changes) (n i : ℕ) → Upto n m → n < i → at_instant i m ≡ []
 none_on [] n i up lt = refl
 none_on (c ∷ m) n i up lt =
     let le : c.0.instant ≤ n = up.0 in
-    ap (λ b. cond b (c ∷ at_instant i m) (at_instant i m)) (unequal_back i c.0.instant (omega arith)) ∙ none_on m n i up.1 lt
+    ap (λ b. cond b (c ∷ at_instant i m) (at_instant i m)) (unequal i c.0.instant (λ (same : i ≡ c.0.instant). omega arith)) ∙ none_on m n i up.1 lt
 
 same_number : (i j : ℕ) → eq_by_cmp nat_cmp i j ≡ true → i ≡ j
 same_number i j e = nat_cmp-IsAntisymmetric i j (tie _ e)
@@ -268,7 +260,7 @@ each_in (t ∷ log) n m rises says = λ k. record { instant = t.instant; net = i
     later : (i : ℕ) → t.instant < i → at_instant i m ≡ points_or [] i (net_in log i)
     later i lt =
         let above : n < t.instant = rises.0 in
-        says i (omega arith) ∙ ap (λ b. points_or [] i (cond b (Some t.net) (net_in log i))) (unequal_back i t.instant lt)
+        says i (omega arith) ∙ ap (λ b. points_or [] i (cond b (Some t.net) (net_in log i))) (unequal i t.instant (λ (same : i ≡ t.instant). omega (arith, lt, same)))
 
 pub log_is_of_changes : LogIsOfChanges
 log_is_of_changes log rises nets =

@@ -7,4 +7,4 @@ pub mod RebuiltKeys
 pub mod RebuiltNet
 pub mod RebuiltRows
 mod RoomNets
-mod OfHistoriesSets
+mod RebuiltSets

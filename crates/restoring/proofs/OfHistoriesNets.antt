@@ -30,7 +30,7 @@ use Rattle.histories.specs.History.{History, schema_after, log, log_at_begin, ow
 use Rattle.histories.proofs.HistoryGrowth.{log_rises}
 use Rattle.restoring.specs.FromChanges.{AreNets}
 use Rattle.restoring.specs.OfHistories.{LogsHaveNets, HistoriesAreOfChanges}
-use Rattle.restoring.proofs.OfHistoriesSets.{InOrder, in_order_inserted, units}
+use Rattle.restoring.proofs.RebuiltSets.{InOrder, in_order_inserted, units}
 use Rattle.restoring.proofs.FromChanges.{log_is_of_changes}
 
 abbrev KeysInOrder : List Key → Type 0

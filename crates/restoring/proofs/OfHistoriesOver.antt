@@ -2,9 +2,6 @@
 use Rattle.std.proofs.Common.{◌≡◌, ℕ, ◌≤◌, Bool, true, false, cond, ◌||◌, T, List, [], ◌∷◌, ◌++◌, Option, Some, None, refl, sym, ap, subst, ◌∙◌, map, filter, append-nil, append_assoc, is_some}
 use Rattle.std.specs.Prelude.{Result, Ok, Err, nat_lt, max, ◌+◌, if◌then◌else◌}
 use Rattle.std.specs.List.{AllByRecursion}
-use Rattle.std.specs.Ordering.{is_eq, ordering_reverse}
-use Rattle.std.specs.declared.cmp.Ordering.{Ordering}
-use Rattle.std.specs.declared.cmp.Ordering.TheVariants.{Less, Equal, Greater}
 use Rattle.std.specs.FinMap.{is_sorted}
 use Rattle.values.specs.declared.key.Key.{Key}
 use Rattle.values.specs.declared.key.Transaction.{Transaction}
@@ -18,7 +15,6 @@ use Rattle.values.specs.Law.{IsLog}
 use Rattle.values.specs.Period.{Periods, periods_of}
 use Rattle.values.specs.Commits.{after, log_after, outcome, conflicts_by, by_unit, unit_changed_since, max_instant}
 use Rattle.values.specs.Writes.{net_of}
-use Rattle.values.proofs.OrderTotal.{key_cmp_total}
 use Rattle.periods.proofs.NoOverlapMerge.{fresh_units, net_last}
 use Rattle.steps.specs.declared.step.Step.TheVariants.{Begin, Insert, Update, Delete, UpdatePortion, DeletePortion, Select, Commit, Rollback, AddColumn, SplitKey, SplitTime, Migrate}
 use Rattle.histories.specs.History.{History, schema_after, log, log_at_begin, own, own_of, net_change_of, seen_of}
@@ -27,6 +23,7 @@ use Rattle.histories.proofs.HistoryPrefixes.{opened_below}
 use Rattle.restoring.specs.Rebuilt.{IsNetOver}
 use Rattle.restoring.specs.OfHistories.{AllOver, LogsAreOver}
 use Rattle.restoring.proofs.OfHistoriesNets.{net_in_order, rewritten, untouched_neat}
+use Rattle.restoring.proofs.RebuiltRows.{itself}
 
 -- ---- the keys of net changes
 
@@ -35,14 +32,6 @@ either (Some w) true v = refl
 either (Some w) false v = refl
 either None true v = refl
 either None false v = refl
-
-itself : (k : Key) → is_key k k ≡ true
-itself k = by (key_cmp k k) (key_cmp_total.antisymm k k)
-  where
-    by : (o : Ordering) → o ≡ ordering_reverse o → is_eq o ≡ true
-    by Less e = cc
-    by Equal e = refl
-    by Greater e = cc
 
 abbrev AreIn : Net → Net → Type 0
 AreIn net some = AllByRecursion (λ c. is_some (net_last net c.0) ≡ true) some

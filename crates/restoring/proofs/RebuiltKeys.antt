@@ -1,13 +1,12 @@
 -- The keys that a transaction wrote that is made again are those of the net changes.
-use Rattle.std.proofs.Common.{◌≡◌, Bool, true, false, cond, ◌&&◌, ◌||◌, T, List, [], ◌∷◌, Option, Some, None, refl, sym, ap, subst, ◌∙◌, map}
+use Rattle.std.proofs.Common.{◌≡◌, Bool, true, false, cond, ◌&&◌, ◌||◌, T, List, [], ◌∷◌, Option, Some, None, refl, sym, ap, ◌∙◌}
 use Rattle.std.specs.Prelude.{is_some, if◌then◌else◌}
 use Rattle.std.specs.List.{AllByRecursion, list_any}
-use Rattle.std.specs.Ordering.{is_eq, match_ordering}
+use Rattle.std.specs.Ordering.{is_eq}
 use Rattle.std.specs.declared.cmp.Ordering.{Ordering}
 use Rattle.std.specs.declared.cmp.Ordering.TheVariants.{Less, Equal, Greater}
-use Rattle.std.specs.BTreeMap.{insert_entry, is_at}
 use Rattle.std.specs.BTreeSet.{insert_key}
-use Rattle.std.specs.Map.{keys_of, lookup}
+use Rattle.std.specs.Map.{keys_of}
 use Rattle.std.specs.FinMap.{is_sorted}
 use Rattle.std.specs.FinMap.Entries.{below_all}
 use Rattle.values.specs.declared.key.Key.{Key}
@@ -15,32 +14,16 @@ use Rattle.values.specs.Order.{key_cmp, is_key}
 use Rattle.values.specs.Log.{Net, Row, State, row_at}
 use Rattle.values.specs.Writes.{Own}
 use Rattle.values.proofs.OrderTotal.{key_cmp_total, key_cmp-IsAntisymmetric, first, second, both}
-use Rattle.values.proofs.LogMaps.{same_map, sorted_insert}
 use Rattle.values.proofs.LogStates.{row_at-set_row, sorted_set_row}
 use Rattle.restoring.specs.Rebuilt.{clear, fill, with_change, without, rebuilt, untouched, IsNetOver}
 use Rattle.restoring.proofs.RebuiltRows.{is_in}
+use Rattle.restoring.proofs.RebuiltSets as sets
 
 abbrev among : Key → List Key → Bool
 among q ks = list_any (is_key q) ks
 
-twice : (b r : Bool) → (b || r) ≡ (b || (b || r))
-twice true r = refl
-twice false r = refl
-
-apart : (a b r : Bool) → (a || (b || r)) ≡ (b || (a || r))
-apart true true r = refl
-apart true false r = refl
-apart false b r = refl
-
 inserted : (q k : Key) (ls : List Key) → among q (insert_key key_cmp ls k) ≡ (is_key q k || among q ls)
-inserted q k [] = refl
-inserted q k (x ∷ ls) = by (key_cmp k x) refl (inserted q k ls)
-  where
-    by : (o : Ordering) → key_cmp k x ≡ o → among q (insert_key key_cmp ls k) ≡ (is_key q k || among q ls)
-        → among q (match_ordering o (k ∷ x ∷ ls) (x ∷ ls) (x ∷ insert_key key_cmp ls k)) ≡ (is_key q k || (is_key q x || among q ls))
-    by Less is ih = refl
-    by Equal is ih = twice (is_key q x) (among q ls) ∙ ap (λ y. is_key q y || (is_key q x || among q ls)) (sym (key_cmp-IsAntisymmetric k x is))
-    by Greater is ih = ap (λ r. is_key q x || r) ih ∙ apart (is_key q x) (is_key q k) (among q ls)
+inserted = sets.inserted key_cmp key_cmp_total key_cmp-IsAntisymmetric
 
 same_key : {P : Type 0} (q k : Key) (b : Bool) → is_key q k ≡ b → (q ≡ k → b ≡ true → P) → (b ≡ false → P) → P
 same_key q k true e is no_more = is (by (key_cmp q k) refl e) refl
@@ -144,25 +127,16 @@ same_members m net q h is =
     filled_keys net (clear net (untouched m)) q ∙ ap (λ r. r || has_row net q) (cleared_keys net (untouched m) q h)
     ∙ all_written m net q is.there ∙ sym (keys_among net q)
 
--- ---- a set of keys in order, as a map to nothing
+-- ---- a set of keys in order
 
 abbrev units : List Key → List (Key × Unit {0})
-units ks = map (λ k. (k, tt)) ks
-
-chosen : (o : Ordering) (a b c : List Key) (d : List (Key × Unit {0})) → units c ≡ d → units (match_ordering o a b c) ≡ match_ordering o (units a) (units b) d
-chosen Less a b c d e = refl
-chosen Equal a b c d e = refl
-chosen Greater a b c d e = e
-
-unit_inserted : (ks : List Key) (k : Key) → units (insert_key key_cmp ks k) ≡ insert_entry key_cmp (units ks) k tt
-unit_inserted [] k = refl
-unit_inserted (x ∷ ks) k = chosen (key_cmp k x) (k ∷ x ∷ ks) (x ∷ ks) (x ∷ insert_key key_cmp ks k) ((x, tt) ∷ insert_entry key_cmp (units ks) k tt) (ap (λ l. (x, tt) ∷ l) (unit_inserted ks k))
+units ks = sets.units key_cmp key_cmp_total key_cmp-IsAntisymmetric ks
 
 abbrev InOrder : List Key → Type 0
-InOrder ks = T (is_sorted key_cmp (units ks))
+InOrder ks = sets.InOrder key_cmp key_cmp_total key_cmp-IsAntisymmetric ks
 
 in_order_inserted : (ks : List Key) (k : Key) → InOrder ks → InOrder (insert_key key_cmp ks k)
-in_order_inserted ks k h = subst (λ l. T (is_sorted key_cmp l)) (sym (unit_inserted ks k)) (sorted_insert key_cmp_total (units ks) k tt h)
+in_order_inserted = sets.in_order_inserted key_cmp key_cmp_total key_cmp-IsAntisymmetric
 
 in_order_if : (b : Bool) (ks : List Key) (k : Key) → InOrder ks → InOrder (if b then insert_key key_cmp ks k else ks)
 in_order_if true ks k h = in_order_inserted ks k h
@@ -188,33 +162,9 @@ pub net_in_order : (net : Net) → T (is_sorted key_cmp net) → InOrder (keys_o
 net_in_order [] h = tt
 net_in_order (c ∷ net) h = both _ _ (below_units c.0 net (first _ _ h)) (net_in_order net (second _ _ h))
 
-abbrev present : Option (Unit {0})
-present = Some tt
-
-abbrev missing : Option (Unit {0})
-missing = None
-
-chosen_twice : (a b : Bool) → cond a present (cond b present missing) ≡ cond (a || b) present missing
-chosen_twice true b = refl
-chosen_twice false b = refl
-
-looked_up : (ks : List Key) (q : Key) → lookup (is_at (key_cmp q)) (units ks) ≡ cond (among q ks) present missing
-looked_up [] q = refl
-looked_up (k ∷ ks) q = ap (cond (is_key q k) present) (looked_up ks q) ∙ chosen_twice (is_key q k) (among q ks)
-
-without_units : (ks : List Key) → map (λ e. e.0) (units ks) ≡ ks
-without_units [] = refl
-without_units (k ∷ ks) = ap (λ l. k ∷ l) (without_units ks)
-
-same_keys : (ks ls : List Key) → InOrder ks → InOrder ls → ((q : Key) → among q ks ≡ among q ls) → ks ≡ ls
-same_keys ks ls here there alike =
-    sym (without_units ks)
-    ∙ ap (map (λ e. e.0)) (same_map key_cmp_total key_cmp-IsAntisymmetric (units ks) (units ls) here there (λ q. looked_up ks q ∙ ap (λ b. cond b present missing) (alike q) ∙ sym (looked_up ls q)))
-    ∙ without_units ls
-
 pub written_keys : (m : State) (net : Net) → T (is_sorted key_cmp m) → IsNetOver m net → (rebuilt m net).written ≡ keys_of net
 written_keys m net h is =
-    same_keys (rebuilt m net).written (keys_of net)
+    sets.same_set key_cmp key_cmp_total key_cmp-IsAntisymmetric (rebuilt m net).written (keys_of net)
     (filled_in_order net (clear net (untouched m)) (cleared_in_order net (untouched m) tt))
     (net_in_order net is.in_order)
     (λ q. same_members m net q h is)

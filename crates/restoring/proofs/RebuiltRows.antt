@@ -53,7 +53,7 @@ other_back_by Greater h = absurd h
 other_back : (k q : Key) → T (is_lt (key_cmp k q)) → is_key q k ≡ false
 other_back k q h = ap is_eq (key_cmp_total.antisymm q k) ∙ other_back_by (key_cmp k q) h
 
-itself : (k : Key) → is_key k k ≡ true
+pub itself : (k : Key) → is_key k k ≡ true
 itself k = by (key_cmp k k) (key_cmp_total.antisymm k k)
   where
     by : (o : Ordering) → o ≡ ordering_reverse o → is_eq o ≡ true

@@ -14,8 +14,9 @@ use Rattle.values.specs.Writes.{Own, most_written}
 use Rattle.values.proofs.OrderTotal.{key_cmp_total, key_cmp-IsAntisymmetric, first, second, both}
 use Rattle.restoring.specs.Rebuilt.{clear, untouched, with_change, without}
 use Rattle.restoring.specs.Room.{HasRoomToClear, HasRoomToFill, FewNetsHaveRoom}
-use Rattle.restoring.proofs.OfHistoriesSets.{InOrder, among, in_order_inserted, inserted, units}
+use Rattle.restoring.proofs.RebuiltSets.{InOrder, among, in_order_inserted, inserted, units}
 use Rattle.restoring.proofs.RebuiltKeys.{net_in_order}
+use Rattle.restoring.proofs.RebuiltRows.{itself}
 
 abbrev Sorted : List Key → Type 0
 Sorted ks = InOrder key_cmp key_cmp_total key_cmp-IsAntisymmetric ks
@@ -49,14 +50,6 @@ lower k l (x ∷ ls) h rest = both _ _ (through (key_cmp k l) (key_cmp l x) refl
     through Less Greater e f h i = absurd i
     through Equal b e f h i = absurd h
     through Greater b e f h i = absurd h
-
-itself : (k : Key) → is_key k k ≡ true
-itself k = by (key_cmp k k) (key_cmp_total.antisymm k k)
-  where
-    by : (o : Ordering) → o ≡ ordering_reverse o → is_eq o ≡ true
-    by Less e = cc
-    by Equal e = refl
-    by Greater e = cc
 
 here : (k : Key) (ks : List Key) → has k (k ∷ ks) ≡ true
 here k ks = ap (λ b. b || has k ks) (itself k)
