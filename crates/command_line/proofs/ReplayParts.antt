@@ -1,5 +1,5 @@
 -- What a script leaves that is replayed, as the program's.
-use Rattle.std.proofs.Common.{◌≡◌, ℕ, List, [], Option, Some, sym, subst, inl, inr}
+use Rattle.std.proofs.Common.{◌≡◌, ℕ, List, [], Option, Some, sym, subst}
 use Rattle.clap.specs.Words.{Text}
 use Rattle.values.specs.Tables.{Schema}
 use Rattle.interleaving.specs.SystemState.{SystemState}
@@ -15,8 +15,7 @@ pub after_file : (schema : Schema) (file : Text) (s : SystemState) (unread left 
 after_file schema file s unread left so = record { later = so.later; replayed = (so.text, so.replays); stands = so.stands }
 
 as_fault : (fault : ReplayFault) (schema : Schema) (unread left : Option (List ℕ)) → IsUnreplayed fault schema line_says [] unread left → IsNotReplayed (of_replay fault) schema
-as_fault (replay.Refused line refusal) schema unread left (inl out) = inl out
-as_fault (replay.Refused line refusal) schema unread left (inr at) = inr (at.text, at.refuses)
+as_fault (replay.Refused line refusal) schema unread left at = (at.out, at.text, at.refuses)
 as_fault replay.Open schema unread left so = (so.text, so.leaves)
 as_fault replay.Read schema unread left so = tt
 as_fault replay.Memory schema unread left so = tt

@@ -1,8 +1,7 @@
 -- What the script of a file leaves that is replayed before all else.
-use Rattle.std.specs.Prelude.{◌≡◌, ◌⊎◌, ℕ, List, [], Option, Some, None, Err}
+use Rattle.std.specs.Prelude.{◌≡◌, ℕ, List, [], Option, Some, None, Err}
 use Rattle.clap.specs.Words.{Text}
 use Rattle.values.specs.Tables.{Schema}
-use Rattle.values.specs.declared.refusal.Refusal.TheVariants.{Memory as OutOfMemory}
 use Rattle.histories.specs.History.{History}
 use Rattle.interleaving.specs.SystemState.{SystemState, Stands}
 use Rattle.statement.specs.Line.{line_says}
@@ -19,12 +18,11 @@ abbrev pub HasReplayed : Schema → Option Text → History → Type 0
 HasReplayed schema None later = later ≡ []
 HasReplayed schema (Some file) later = IsReplay schema later
 
--- why some text is not replayed: memory ran out at a line, or this is the first that is refused; or a
--- session has a transaction open; or it could not be read, or memory ran out before
+-- why some text is not replayed: this line of it is the first that is refused, or memory ran out at it; or
+-- a session has a transaction open; or it could not be read, or memory ran out before
 abbrev pub IsNotReplayed : Fault → Schema → Type 0
 IsNotReplayed (After number refusal) schema =
-    (refusal ≡ OutOfMemory)
-    ⊎ ((text : List ℕ) × (replay_of schema line_says [] text ≡ Err (number, refusal)))
+    (out : ℕ) × (text : List ℕ) × (replay_of schema line_says out [] text ≡ Err (number, refusal))
 IsNotReplayed AfterOpen schema = (text : List ℕ) × LeavesOpen schema line_says [] text
 IsNotReplayed Read schema = Unit {0}
 IsNotReplayed Memory schema = Unit {0}

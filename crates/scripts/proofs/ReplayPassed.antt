@@ -1,6 +1,6 @@
 -- A line of a script was taken, and is not refused.
-use Rattle.std.proofs.Common.{◌≡◌, ℕ, Bool, true, false, Some, None, refl, sym, ap, subst, ◌∙◌, inl, inr}
-use Rattle.std.specs.Prelude.{Result, Ok, Err}
+use Rattle.std.proofs.Common.{◌≡◌, ℕ, Bool, true, false, Some, None, refl, sym, ap, subst, ◌∙◌}
+use Rattle.std.specs.Prelude.{Result, Ok, Err, if◌then◌else◌}
 use Rattle.values.specs.Tables.{Schema}
 use Rattle.values.specs.declared.refusal.Refusal.{Refusal}
 use Rattle.values.specs.declared.refusal.Refusal.TheVariants.{Memory}
@@ -16,11 +16,11 @@ use Rattle.statement.specs.declared.line.Line.TheVariants.{Nothing, Clock, Step 
 use Rattle.statement.specs.Line.{line_says}
 use Rattle.scripts.specs.declared.script.Script.{Script}
 use Rattle.scripts.specs.First.{refusal_in}
-use Rattle.scripts.specs.Replay.{refusal_to}
+use Rattle.scripts.specs.Replay.{line_refusal, refusal_to}
 use Rattle.scripts.specs.Replaying.{Passed, PassesLine, RefusesLine}
 use Rattle.scripts.specs.Script.{IsAt, IsRead, SameRun, said_by}
-use Rattle.scripts.specs.Transcript.{Progress, left_by, said}
-use Rattle.scripts.proofs.ScriptAnswered.{Stepped, at_same, other, said_is, unless}
+use Rattle.scripts.specs.Transcript.{Progress, is_risky, left_by, said}
+use Rattle.scripts.proofs.ScriptAnswered.{Stepped, at_same, other, read_risky, said_is, step_risky, unless}
 use Rattle.scripts.proofs.ScriptLeading.{no_memory}
 
 passed_as : (s' : Script) (schema : Schema) (p : Progress) (line : Partial) (r : Result Line Refusal) → said schema line_says p line ≡ r → refusal_to schema p r ≡ None → IsAt s' schema (left_by schema p r) → Passed s' schema p line
@@ -36,12 +36,18 @@ pub clock_passed : (s : Script) (reading : ℕ) → IsRead (Ok (Clock reading)) 
 clock_passed s reading is = λ schema p at.
     passed_as (record s { reading = reading }) schema p s.line (Ok (Clock reading)) (sym (said_is s schema p at) ∙ is.unless) refl (record { stands = at.stands; reading_is = refl })
 
+-- memory ran out at a line that takes some
+out_refused : (schema : Schema) (p : Progress) (line : Partial) (refusal : Refusal) → is_risky schema line_says p line ≡ true → refusal ≡ Memory → line_refusal schema line_says true p line ≡ Some refusal
+out_refused schema p line refusal risky is = ap (λ b. if b then Some Memory else refusal_to schema p (said schema line_says p line)) risky ∙ ap Some (sym is)
+
 pub line_refused : (s : Script) (refusal : Refusal) → IsRead (Err refusal) s → RefusesLine refusal s
-line_refused s refusal is = by (is_out_of_memory (Refused refusal)) refl
+line_refused s refusal is = λ schema p at. by schema p at (is_out_of_memory (Refused refusal)) refl
   where
-    by : (out : Bool) → is_out_of_memory (Refused refusal) ≡ out → RefusesLine refusal s
-    by true e = inl (is_memory_so refusal e)
-    by false e = inr (λ schema p at. ap (refusal_to schema p) (sym (said_is s schema p at) ∙ unless refusal _ (other refusal e) is.unless))
+    by : (schema : Schema) (p : Progress) → IsAt s schema p → (out : Bool) → is_out_of_memory (Refused refusal) ≡ out → (m : Bool) × (line_refusal schema line_says m p s.line ≡ Some refusal)
+    by schema p at true e =
+        let out = is_memory_so refusal e in
+        (true, out_refused schema p s.line refusal (read_risky s schema p at (subst (λ r. IsRead (Err r) s) out is)) out)
+    by schema p at false e = (false, ap (refusal_to schema p) (sym (said_is s schema p at) ∙ unless refusal _ (other refusal e) is.unless))
 
 -- ---- a step
 
@@ -55,14 +61,16 @@ is_memory : (r : Reply) (refusal : Refusal) → r ≡ Refused Memory → refusal
 is_memory r refusal is some = let same : Some Memory ≡ Some refusal = sym (ap refusal_in is) ∙ some in cc same
 
 pub step_refused : (s s' : Script) (step : Step) (r : Reply) (refusal : Refusal) → Stepped s s' step r → said_by s ≡ Ok (Asks step) → refusal_in r ≡ Some refusal → RefusesLine refusal s
-step_refused s s' step r refusal so e some = by (is_out_of_memory r) refl
+step_refused s s' step r refusal so e some = λ schema p at. by schema p at (is_out_of_memory r) refl
   where
-    by : (out : Bool) → is_out_of_memory r ≡ out → RefusesLine refusal s
-    by true is = inl (is_memory r refusal (is_out_so r is) some)
-    by false is = inr (λ schema p at.
-        ap (refusal_to schema p) (sym (said_is s schema p at) ∙ e)
-        ∙ ap refusal_in (sym (so.answers schema p.history at.stands (not_out r is)).0)
-        ∙ some)
+    by : (schema : Schema) (p : Progress) → IsAt s schema p → (out : Bool) → is_out_of_memory r ≡ out → (m : Bool) × (line_refusal schema line_says m p s.line ≡ Some refusal)
+    by schema p at true is = (true, out_refused schema p s.line refusal (step_risky s s' schema p step r so at e is) (is_memory r refusal (is_out_so r is) some))
+    by schema p at false is = (
+      false,
+      ap (refusal_to schema p) (sym (said_is s schema p at) ∙ e)
+          ∙ ap refusal_in (sym (so.answers schema p.history at.stands (not_out r is)).0)
+          ∙ some,
+    )
 
 -- ---- the next line is begun
 

@@ -91,7 +91,7 @@ or_right true y e = refl
 or_right false y e = e
 
 -- memory ran out while the line was read
-read_risky : (s : Script) (schema : Schema) (p : Progress) → IsAt s schema p → IsRead (Err Memory) s → is_risky schema line_says p s.line ≡ true
+pub read_risky : (s : Script) (schema : Schema) (p : Progress) → IsAt s schema p → IsRead (Err Memory) s → is_risky schema line_says p s.line ≡ true
 read_risky s schema p at is = or_left _ _ (is.memory refl)
 
 -- ---- a line that was answered
@@ -127,7 +127,7 @@ pub record Stepped (s s' : Script) (step : Step) (r : Reply) : Type 0 where
   pub reading_stays : s'.reading ≡ s.reading
 
 -- the step takes memory where it ran out
-step_risky : (s s' : Script) (schema : Schema) (p : Progress) (step : Step) (r : Reply) → Stepped s s' step r → IsAt s schema p → said_by s ≡ Ok (Asks step) → is_out_of_memory r ≡ true → is_risky schema line_says p s.line ≡ true
+pub step_risky : (s s' : Script) (schema : Schema) (p : Progress) (step : Step) (r : Reply) → Stepped s s' step r → IsAt s schema p → said_by s ≡ Ok (Asks step) → is_out_of_memory r ≡ true → is_risky schema line_says p s.line ≡ true
 step_risky s s' schema p step r so at e out =
     ap (can_run_out schema p s.line) (sym (said_is s schema p at) ∙ e) ∙ or_right (reading_takes s.line) _ (ap not (sym alike ∙ taken (takes_no_memory (world s.system) step) refl))
   where

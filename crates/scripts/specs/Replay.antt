@@ -1,5 +1,5 @@
 -- What a script leaves whose lines are taken in turn, where none of them is refused.
-use Rattle.std.specs.Prelude.{◌≡◌, ◌⊎◌, ◌+◌, ◌++◌, ℕ, List, [], ◌∷◌, Option, Some, None, true, false, Result, Ok, Err}
+use Rattle.std.specs.Prelude.{◌≡◌, ◌⊎◌, ◌+◌, ◌++◌, ◌==◌, ◌&&◌, ℕ, List, [], ◌∷◌, Bool, Option, Some, None, true, false, Result, Ok, Err, if◌then◌else◌}
 use Rattle.std.specs.Io.KnownBytes.{Consumes, IsAtEnd, Keeps}
 use Rattle.values.specs.Tables.{Schema}
 use Rattle.values.specs.declared.refusal.Refusal.{Refusal}
@@ -12,7 +12,7 @@ use Rattle.statement.specs.declared.line.Line.TheVariants.{Nothing, Clock, Step 
 use Rattle.lines.specs.Partial.{Partial}
 use Rattle.lines.specs.Lines.{lines_of}
 use Rattle.scripts.specs.First.{refusal_in}
-use Rattle.scripts.specs.Transcript.{Progress, Reading, after, left_by, said}
+use Rattle.scripts.specs.Transcript.{Progress, Reading, after, is_risky, left_by, said}
 use Rattle.scripts.specs.declared.replay.ReplayFault.{ReplayFault}
 use Rattle.scripts.specs.declared.replay.ReplayFault.TheVariants.{Refused, Open, Read, Memory as OutOfMemory}
 
@@ -24,30 +24,37 @@ refusal_to schema p (Ok (Clock reading)) = None
 refusal_to schema p (Ok (Asks step)) = refusal_in (reply schema p.history step)
 
 module _ (schema : Schema) (read : Reading) where
-  -- what lines leave behind so many others; or the number of the first that is refused, from 1, and why
-  abbrev pub lines_leave : ℕ → Progress → List Partial → Result Progress (ℕ × Refusal)
-  lines_leave n p [] = Ok p
-  lines_leave n p (line ∷ lines) = elim (refusal_to schema p (said schema read p line)) [
+  -- why a line is refused, where its mark says whether memory ran out: only one that takes some heeds it
+  abbrev pub line_refusal : Bool → Progress → Partial → Option Refusal
+  line_refusal m p line =
+      if m && is_risky schema read p line then Some Memory
+      else refusal_to schema p (said schema read p line)
+
+  -- what lines leave behind so many others; or the number of the first that is refused, from 1, and why.
+  -- Memory runs out at the line with the number `out`, or where that is 0 at none
+  abbrev pub lines_leave : (out n : ℕ) → Progress → List Partial → Result Progress (ℕ × Refusal)
+  lines_leave out n p [] = Ok p
+  lines_leave out n p (line ∷ lines) = elim (line_refusal (out == n + 1) p line) [
     | Some refusal ↦ Err (n + 1, refusal)
-    | None ↦ lines_leave (n + 1) (left_by schema p (said schema read p line)) lines
+    | None ↦ lines_leave out (n + 1) (left_by schema p (said schema read p line)) lines
   ]
 
   -- the same of the lines of a text, after a history and with the clock at 0
-  abbrev pub replay_of : History → List ℕ → Result Progress (ℕ × Refusal)
-  replay_of h text = lines_leave 0 (after h) (lines_of text)
+  abbrev pub replay_of : (out : ℕ) → History → List ℕ → Result Progress (ℕ × Refusal)
+  replay_of out h text = lines_leave out 0 (after h) (lines_of text)
 
 -- the text leaves a history, and no session has a transaction open then
 pub record Replays (schema : Schema) (read : Reading) (h : History) (text : List ℕ)
     (later : History) : Type 0 where
   pub progress : Progress
-  pub leaves : replay_of schema read h text ≡ Ok progress
+  pub leaves : replay_of schema read 0 h text ≡ Ok progress
   pub later_is : later ≡ progress.history
   pub idle : is_idle (has_open later) ≡ true
 
 -- a session has one open
 pub record LeavesOpen (schema : Schema) (read : Reading) (h : History) (text : List ℕ) : Type 0 where
   pub progress : Progress
-  pub leaves : replay_of schema read h text ≡ Ok progress
+  pub leaves : replay_of schema read 0 h text ≡ Ok progress
   pub busy : is_idle (has_open progress.history) ≡ false
 
 module _ (schema : Schema) (read : Reading) (h : History) where
@@ -61,15 +68,16 @@ module _ (schema : Schema) (read : Reading) (h : History) where
     pub replays : Replays schema read h text later
     pub stands : Stands schema s later
 
-  -- some bytes were read, and of their lines this is the first that is refused; so it is whatever follows
-  -- them, where anything can
+  -- some bytes were read, and of their lines this is the first that is refused, or memory ran out at it;
+  -- so it is whatever follows them, where anything can
   pub record IsRefusedAt (number : ℕ) (refusal : Refusal) (unread left : Option (List ℕ)) : Type 0
     where
       pub text : List ℕ
       pub took : Consumes unread left text
-      pub refuses : replay_of schema read h text ≡ Err (number, refusal)
+      pub out : ℕ
+      pub refuses : replay_of schema read out h text ≡ Err (number, refusal)
       pub stays : IsAtEnd left
-          ⊎ ((rest : List ℕ) → replay_of schema read h (text ++ rest) ≡ Err (number, refusal))
+          ⊎ ((rest : List ℕ) → replay_of schema read out h (text ++ rest) ≡ Err (number, refusal))
 
   -- a text was read to its end, and leaves a transaction open
   pub record IsLeftOpen (unread left : Option (List ℕ)) : Type 0 where
@@ -82,7 +90,7 @@ module _ (schema : Schema) (read : Reading) (h : History) where
 abbrev pub IsUnreplayed : ReplayFault → Schema → Reading → History
     → (unread left : Option (List ℕ)) → Type 0
 IsUnreplayed (Refused number refusal) schema read h unread left =
-    (refusal ≡ Memory) ⊎ IsRefusedAt schema read h number refusal unread left
+    IsRefusedAt schema read h number refusal unread left
 IsUnreplayed Open schema read h unread left = IsLeftOpen schema read h unread left
 IsUnreplayed Read schema read h unread left = Unit {0}
 IsUnreplayed OutOfMemory schema read h unread left = Keeps unread left

@@ -230,7 +230,8 @@ pub(crate) fn refusal_in(reply: Reply) -> Option<Refusal>
     }
 }
 
-/// Takes steps in turn, up to the first that is refused, or at which memory ran out.
+/// Takes steps in turn, up to the first that is refused, or at which memory ran out. Then those
+/// before it are taken; it is not said what the system stands for.
 pub fn take_all(system: &mut System, first: Vec<Step>) -> Result<(), Refusal>
     ensures all { OnOk result (LeadsTo system.old system.new first.items) }
     ensures some { IfErr result (λ refusal. RefusesFirst system.old first.items refusal) }
