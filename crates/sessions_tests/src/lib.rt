@@ -48,8 +48,6 @@ mod run_tests;
 #[cfg(test)]
 mod scene;
 #[cfg(test)]
-mod server_tests;
-#[cfg(test)]
 mod socket_tests;
 #[cfg(test)]
 mod staff;
