@@ -1,19 +1,17 @@
 -- A book with one entry more.
 use Rattle.std.proofs.Common.{◌≡◌, ◌≢◌, ℕ, ◌+◌, ◌<◌, ◌==◌, ◌||◌, [], ◌∷◌, ◌++◌, length, Option, Some, None, Bool, true, false, refl, sym, ap, ◌∙◌, arith, subst, Result, Ok, Err, if◌then◌else◌}
-use Rattle.std.specs.List.Sorted.{IsStrictlySortedBy}
 use Rattle.values.specs.declared.key.Transaction.{Transaction}
 use Rattle.values.specs.declared.refusal.Refusal.{Refusal}
 use Rattle.values.specs.declared.refusal.Refusal.TheVariants.{Memory}
 use Rattle.values.specs.Tables.{Schema}
-use Rattle.values.specs.Log.{Log, Net, last, last_from, changes, point_cmp}
+use Rattle.values.specs.Log.{Log, Net, last, last_from, changes}
 use Rattle.values.specs.Period.{periods_of}
 use Rattle.values.specs.Commits.{outcome, after, log_after}
-use Rattle.values.specs.Events.{AreKeysIn, IsKeyIn}
-use Rattle.values.specs.declared.key.Point.{Point}
-use Rattle.std.proofs.lemmas.List.Elements.{All-nil}
+use Rattle.values.specs.Events.{AreKeysIn}
+use Rattle.growlog.specs.Origin.{Origin}
 use Rattle.values.proofs.LogPush.{add_all-push}
 use Rattle.blocks.specs.PackedNode.{Packed}
-use Rattle.validation.specs.tsbtree.View.{TreeState, last as view_last, IsEmpty, IsState}
+use Rattle.validation.specs.tsbtree.View.{TreeState, last as view_last, IsState}
 use Rattle.validation.specs.tsbtree.Growth.{HoldsSame}
 use Rattle.validation.specs.staging.View.{Holds}
 use Rattle.journal.specs.BegunState.{BegunState}
@@ -30,16 +28,12 @@ book engine entries = record { engine = engine; entries = entries }
 
 -- ---- the first
 
-sorted_nil : IsStrictlySortedBy point_cmp []
-unfolding IsStrictlySortedBy
-sorted_nil = tt
-
-pub new_book : (schema : Schema) (engine : TreeState) (j : Entries) → IsEmpty engine → IsState engine.nodes (view_last engine) → j ≡ [] → IsBook schema (book engine j)
-new_book schema engine j empty sound none = subst (λ j. IsBook schema (book engine j)) (sym none) (record {
+pub book_over : (o : Origin) (engine : TreeState) (j : Entries) → Holds o.schema engine (changes o.log) → view_last engine ≡ last o.log → IsState engine.nodes (view_last engine) → j ≡ [] → IsBook o (book engine j)
+book_over o engine j holds clock sound none = subst (λ j. IsBook o (book engine j)) (sym none) (record {
   legal = tt;
   tree = sound;
-  holds = record { events_are = empty.no_event; keys = All-nil (λ (p : Point). IsKeyIn schema p.key); in_order = sorted_nil };
-  clock = empty.no_commit;
+  holds = holds;
+  clock = clock;
   room = omega arith;
 })
 
@@ -60,15 +54,15 @@ names_is j session number = by (has_entry_of j session number) refl
         (λ i. (chosen number (h i) == 0) || has_entry_of j session (chosen number (h i))) ∙ (λ i. (number == 0) || h i) ∙ either (number == 0)
     by false h = (λ i. (chosen number (h i) == 0) || has_entry_of j session (chosen number (h i)))
 
-pub may_begin : (schema : Schema) (b : BookState) (session number : ℕ) → IsBook schema b → MayFollow schema b.entries (begin_entry b session number)
-may_begin schema b session number is = record {
+pub may_begin : (o : Origin) (b : BookState) (session number : ℕ) → IsBook o b → MayFollow o b.entries (begin_entry b session number)
+may_begin o b session number is = record {
   sees = record { events_are = is.holds.events_are; last_is = is.clock };
   names = names_is b.entries session number;
 }
 
-pub begun : (schema : Schema) (b : BookState) (session number : ℕ) → IsBook schema b → length b.entries < most_entries → IsBook schema (book b.engine (begin_entry b session number ∷ b.entries))
-begun schema b session number is few = record {
-  legal = (may_begin schema b session number is, is.legal);
+pub begun : (o : Origin) (b : BookState) (session number : ℕ) → IsBook o b → length b.entries < most_entries → IsBook o (book b.engine (begin_entry b session number ∷ b.entries))
+begun o b session number is few = record {
+  legal = (may_begin o b session number is, is.legal);
   tree = is.tree;
   holds = is.holds;
   clock = is.clock;
@@ -77,9 +71,9 @@ begun schema b session number is few = record {
 
 -- ---- an install
 
-pub was_installed : (schema : Schema) (b : BookState) (new : TreeState) (packed : Packed) (done : Bool) → IsBook schema b → HoldsSame b.engine new → IsState new.nodes (view_last new) → length b.entries < most_entries
-    → IsBook schema (book new (Install packed.node.rect packed.bytes done ∷ b.entries))
-was_installed schema b new packed done is same sound few = record {
+pub was_installed : (o : Origin) (b : BookState) (new : TreeState) (packed : Packed) (done : Bool) → IsBook o b → HoldsSame b.engine new → IsState new.nodes (view_last new) → length b.entries < most_entries
+    → IsBook o (book new (Install packed.node.rect packed.bytes done ∷ b.entries))
+was_installed o b new packed done is same sound few = record {
   legal = (tt, is.legal);
   tree = sound;
   holds = record { events_are = same.events_are ∙ is.holds.events_are; keys = is.holds.keys; in_order = is.holds.in_order };
@@ -88,10 +82,10 @@ was_installed schema b new packed done is same sound few = record {
 }
 
 -- as the calls tell it
-pub with_install : (schema : Schema) (b : BookState) (new : TreeState) (packed : Packed) (done : Bool) (put : Entry) (made grown : Entries) → IsBook schema b → HoldsSame b.engine new → IsState new.nodes (view_last new) → length b.entries < most_entries
-    → made ≡ b.entries → put ≡ Install packed.node.rect packed.bytes done → grown ≡ put ∷ made → IsBook schema (book new grown)
-with_install schema b new packed done put made grown is holds sound few same entry grows =
-    subst (λ j. IsBook schema (book new j)) (sym (grows ∙ (λ k. entry k ∷ same k))) (was_installed schema b new packed done is holds sound few)
+pub with_install : (o : Origin) (b : BookState) (new : TreeState) (packed : Packed) (done : Bool) (put : Entry) (made grown : Entries) → IsBook o b → HoldsSame b.engine new → IsState new.nodes (view_last new) → length b.entries < most_entries
+    → made ≡ b.entries → put ≡ Install packed.node.rect packed.bytes done → grown ≡ put ∷ made → IsBook o (book new grown)
+with_install o b new packed done put made grown is holds sound few same entry grows =
+    subst (λ j. IsBook o (book new j)) (sym (grows ∙ (λ k. entry k ∷ same k))) (was_installed o b new packed done is holds sound few)
 
 -- ---- a commit
 
@@ -115,29 +109,29 @@ fits_after schema old new l net (Ok (Some instant)) keys fits is = record {
 }
 fits_after schema old new l net (Err refusal) keys fits is = subst (λ e. Fits schema e l) (sym is) fits
 
-module _ (schema : Schema) (b : BookState) (session reading : ℕ) (begun : BegunState) (net : Net) (is : IsBook schema b) (f : IsFound b.entries session begun) where
+module _ (o : Origin) (b : BookState) (session reading : ℕ) (begun : BegunState) (net : Net) (is : IsBook o b) (f : IsFound b.entries session begun) where
   abbrev how : Result (Option ℕ) Refusal
-  how = outcome (periods_of schema) (changes (log schema b.entries)) (last (log schema b.entries)) begun.start net reading
+  how = outcome (periods_of o.schema) (changes (log o b.entries)) (last (log o b.entries)) begun.start net reading
 
-  pub may_commit : MayFollow schema b.entries (commit_entry schema b session begun net reading)
+  pub may_commit : MayFollow o b.entries (commit_entry o b session begun net reading)
   may_commit = record {
     earlier = f.earlier;
     view = f.view;
     begun = f.there;
     first = f.first;
-    ends = (λ k. outcome (periods_of schema) (changes (log schema b.entries)) (last (log schema b.entries)) (sym f.start_is k) net reading);
+    ends = (λ k. outcome (periods_of o.schema) (changes (log o b.entries)) (last (log o b.entries)) (sym f.start_is k) net reading);
   }
 
-  log_is : log schema (commit_entry schema b session begun net reading ∷ b.entries) ≡ log_after (log schema b.entries) net how
+  log_is : log o (commit_entry o b session begun net reading ∷ b.entries) ≡ log_after (log o b.entries) net how
   log_is =
-      (λ k. elim (start_of (f.there k)) [ None ↦ log schema b.entries | Some start ↦ after (periods_of schema) (log schema b.entries) start net reading ])
-      ∙ (λ k. after (periods_of schema) (log schema b.entries) (f.start_is k) net reading)
+      (λ k. elim (start_of (f.there k)) [ None ↦ log o b.entries | Some start ↦ after (periods_of o.schema) (log o b.entries) start net reading ])
+      ∙ (λ k. after (periods_of o.schema) (log o b.entries) (f.start_is k) net reading)
 
-  pub committed : (new : TreeState) → AreKeysIn schema net → IsWritten b.engine new net (instant_of how) → IsState new.nodes (view_last new) → length b.entries < most_entries
-      → IsBook schema (book new (commit_entry schema b session begun net reading ∷ b.entries))
+  pub committed : (new : TreeState) → AreKeysIn o.schema net → IsWritten b.engine new net (instant_of how) → IsState new.nodes (view_last new) → length b.entries < most_entries
+      → IsBook o (book new (commit_entry o b session begun net reading ∷ b.entries))
   committed new keys written sound few =
-      let fits : Fits schema new (log schema (commit_entry schema b session begun net reading ∷ b.entries)) =
-      subst (Fits schema new) (sym log_is) (fits_after schema b.engine new (log schema b.entries) net how keys (record { holds = is.holds; clock = is.clock }) written) in
+      let fits : Fits o.schema new (log o (commit_entry o b session begun net reading ∷ b.entries)) =
+      subst (Fits o.schema new) (sym log_is) (fits_after o.schema b.engine new (log o b.entries) net how keys (record { holds = is.holds; clock = is.clock }) written) in
       record {
         legal = (may_commit, is.legal);
         tree = sound;
@@ -147,38 +141,38 @@ module _ (schema : Schema) (b : BookState) (session reading : ℕ) (begun : Begu
       }
 
 -- how it ends, by the validation
-pub ends_so : (schema : Schema) (b : BookState) (start : ℕ) (net : Net) (reading : ℕ) (end : Result (Option ℕ) Refusal) → IsBook schema b → AreKeysIn schema net → IsEnd schema b.engine start net reading end
-    → end ≡ outcome (periods_of schema) (changes (log schema b.entries)) (last (log schema b.entries)) start net reading
-ends_so schema b start net reading end is keys ends =
-    ends (changes (log schema b.entries)) is.holds keys ∙ (λ k. outcome (periods_of schema) (changes (log schema b.entries)) (is.clock k) start net reading)
+pub ends_so : (o : Origin) (b : BookState) (start : ℕ) (net : Net) (reading : ℕ) (end : Result (Option ℕ) Refusal) → IsBook o b → AreKeysIn o.schema net → IsEnd o.schema b.engine start net reading end
+    → end ≡ outcome (periods_of o.schema) (changes (log o b.entries)) (last (log o b.entries)) start net reading
+ends_so o b start net reading end is keys ends =
+    ends (changes (log o b.entries)) is.holds keys ∙ (λ k. outcome (periods_of o.schema) (changes (log o b.entries)) (is.clock k) start net reading)
 
 pub not_memory : (r : Result (Option ℕ) Refusal) → ran_out r ≡ false → r ≢ Err Memory
 not_memory r h e = cc (sym h ∙ ap ran_out e)
 
 -- ---- as the calls tell it
 
-pub fresh_as : (schema : Schema) (j made : Entries) (e put : Entry) → IsLegal schema j → MayFollow schema j e → made ≡ j → put ≡ e → has_ended (put ∷ made) (length made + 1) ≡ false
-fresh_as schema j made e put legal may same is = (λ k. has_ended (is k ∷ same k) (length (same k) + 1)) ∙ fresh schema j e legal may
+pub fresh_as : (o : Origin) (j made : Entries) (e put : Entry) → IsLegal o j → MayFollow o j e → made ≡ j → put ≡ e → has_ended (put ∷ made) (length made + 1) ≡ false
+fresh_as o j made e put legal may same is = (λ k. has_ended (is k ∷ same k) (length (same k) + 1)) ∙ fresh o j e legal may
 
-pub fresh_begin : (schema : Schema) (j made : Entries) (put : Entry) (session earlier : ℕ) (view : TreeState) → IsLegal schema j → made ≡ j → put ≡ Begin session earlier view → has_ended (put ∷ made) (length made + 1) ≡ false
-fresh_begin schema j made put session earlier view legal same is = (λ k. has_ended (is k ∷ same k) (length (same k) + 1)) ∙ none_ahead schema j (length j + 1) legal (omega arith)
+pub fresh_begin : (o : Origin) (j made : Entries) (put : Entry) (session earlier : ℕ) (view : TreeState) → IsLegal o j → made ≡ j → put ≡ Begin session earlier view → has_ended (put ∷ made) (length made + 1) ≡ false
+fresh_begin o j made put session earlier view legal same is = (λ k. has_ended (is k ∷ same k) (length (same k) + 1)) ∙ none_ahead o j (length j + 1) legal (omega arith)
 
-module _ (schema : Schema) (b : BookState) (session reading : ℕ) (begun : BegunState) (net : Net) (end : Result (Option ℕ) Refusal) (entry : Entry)
-    (is : IsBook schema b) (here : is_open b.entries session begun ≡ true) (keys : AreKeysIn schema net) (ends : IsEnd schema b.engine begun.start net reading end)
+module _ (o : Origin) (b : BookState) (session reading : ℕ) (begun : BegunState) (net : Net) (end : Result (Option ℕ) Refusal) (entry : Entry)
+    (is : IsBook o b) (here : is_open b.entries session begun ≡ true) (keys : AreKeysIn o.schema net) (ends : IsEnd o.schema b.engine begun.start net reading end)
     (made : entry ≡ Commit session begun.number net reading end) where
-  so : end ≡ outcome (periods_of schema) (changes (log schema b.entries)) (last (log schema b.entries)) begun.start net reading
-  so = ends_so schema b begun.start net reading end is keys ends
+  so : end ≡ outcome (periods_of o.schema) (changes (log o b.entries)) (last (log o b.entries)) begun.start net reading
+  so = ends_so o b begun.start net reading end is keys ends
 
-  pub commit_entry_is : entry ≡ commit_entry schema b session begun net reading
+  pub commit_entry_is : entry ≡ commit_entry o b session begun net reading
   commit_entry_is = made ∙ ap (Commit session begun.number net reading) so
 
   pub commit_fresh : (j : Entries) → j ≡ b.entries → has_ended (entry ∷ j) (length j + 1) ≡ false
-  commit_fresh j same = fresh_as schema b.entries j (commit_entry schema b session begun net reading) entry is.legal (may_commit schema b session reading begun net is (found b.entries session begun here)) same commit_entry_is
+  commit_fresh j same = fresh_as o b.entries j (commit_entry o b session begun net reading) entry is.legal (may_commit o b session reading begun net is (found b.entries session begun here)) same commit_entry_is
 
   pub commit_grows : (new : TreeState) (changed : Net) (instant : Option ℕ) (j grown : Entries) → changed ≡ net → instant ≡ instant_of end → IsWritten b.engine new changed instant → IsState new.nodes (view_last new) → length b.entries < most_entries
-      → j ≡ b.entries → grown ≡ entry ∷ j → IsBook schema (book new grown)
+      → j ≡ b.entries → grown ≡ entry ∷ j → IsBook o (book new grown)
   commit_grows new changed instant j grown twice at written sound few same grows =
-      subst (λ j. IsBook schema (book new j)) (sym (grows ∙ (λ k. commit_entry_is k ∷ same k)))
-      (committed schema b session reading begun net is (found b.entries session begun here) new keys
-      (subst (λ n. IsWritten b.engine new n (instant_of (outcome (periods_of schema) (changes (log schema b.entries)) (last (log schema b.entries)) begun.start net reading))) twice
+      subst (λ j. IsBook o (book new j)) (sym (grows ∙ (λ k. commit_entry_is k ∷ same k)))
+      (committed o b session reading begun net is (found b.entries session begun here) new keys
+      (subst (λ n. IsWritten b.engine new n (instant_of (outcome (periods_of o.schema) (changes (log o b.entries)) (last (log o b.entries)) begun.start net reading))) twice
       (subst (IsWritten b.engine new changed) (at ∙ ap instant_of so) written)) sound few)

@@ -1,7 +1,7 @@
 -- No commit names an entry that is still to come.
 use Rattle.std.proofs.Common.{◌≡◌, ℕ, ◌+◌, ◌<◌, ◌==◌, ◌||◌, ◌&&◌, [], ◌∷◌, length, Option, Some, None, Bool, true, false, not, refl, ap, ◌∙◌, arith}
 use Rattle.std.proofs.lemmas.Bool.Decides.{nat_tests}
-use Rattle.values.specs.Tables.{Schema}
+use Rattle.growlog.specs.Origin.{Origin}
 use Rattle.validation.specs.tsbtree.View.{TreeState, last}
 use Rattle.journal.specs.BegunState.{BegunState}
 use Rattle.journal.specs.declared.entry.Entry.{Entry}
@@ -13,22 +13,22 @@ use Rattle.journal.proofs.JournalNumbering.{IsWithin, entry_within}
 other : (begin n : ℕ) → begin < n → (begin == n) ≡ false
 other begin n h = grind (arith, nat_tests)
 
-ahead : (schema : Schema) (j : Entries) (e : Entry) (n : ℕ) → MayFollow schema j e → length j < n → is_commit_of n e ≡ false
-ahead schema j (Begin session earlier view) n may h = refl
-ahead schema j (Commit session begin net reading end) n may h =
-    let may : MayCommit schema j session begin net reading end = may in
+ahead : (o : Origin) (j : Entries) (e : Entry) (n : ℕ) → MayFollow o j e → length j < n → is_commit_of n e ≡ false
+ahead o j (Begin session earlier view) n may h = refl
+ahead o j (Commit session begin net reading end) n may h =
+    let may : MayCommit o j session begin net reading end = may in
     let within : IsWithin j begin = entry_within j begin (Begin session may.earlier may.view) may.begun in
     other begin n (omega arith)
-ahead schema j (Split cut done) n may h = refl
-ahead schema j (Install rect block done) n may h = refl
+ahead o j (Split cut done) n may h = refl
+ahead o j (Install rect block done) n may h = refl
 
-pub none_ahead : (schema : Schema) (j : Entries) (n : ℕ) → IsLegal schema j → length j < n → has_ended j n ≡ false
-none_ahead schema [] n legal h = refl
-none_ahead schema (e ∷ j) n legal h = ap (λ b. b || has_ended j n) (ahead schema j e n legal.0 (omega arith)) ∙ none_ahead schema j n legal.1 (omega arith)
+pub none_ahead : (o : Origin) (j : Entries) (n : ℕ) → IsLegal o j → length j < n → has_ended j n ≡ false
+none_ahead o [] n legal h = refl
+none_ahead o (e ∷ j) n legal h = ap (λ b. b || has_ended j n) (ahead o j e n legal.0 (omega arith)) ∙ none_ahead o j n legal.1 (omega arith)
 
 -- of an entry that may follow
-pub fresh : (schema : Schema) (j : Entries) (e : Entry) → IsLegal schema j → MayFollow schema j e → has_ended (e ∷ j) (length j + 1) ≡ false
-fresh schema j e legal may = ap (λ b. b || has_ended j (length j + 1)) (ahead schema j e (length j + 1) may (omega arith)) ∙ none_ahead schema j (length j + 1) legal (omega arith)
+pub fresh : (o : Origin) (j : Entries) (e : Entry) → IsLegal o j → MayFollow o j e → has_ended (e ∷ j) (length j + 1) ≡ false
+fresh o j e legal may = ap (λ b. b || has_ended j (length j + 1)) (ahead o j e (length j + 1) may (omega arith)) ∙ none_ahead o j (length j + 1) legal (omega arith)
 
 -- ---- a begin that is open
 

@@ -2,10 +2,10 @@
 use Rattle.std.specs.Prelude.{◌≡◌, ℕ, ◌≤◌, ◌∷◌, ◌⊎◌, Bool, Result, IfErr, if◌then◌else◌, length}
 use Rattle.values.specs.declared.refusal.Refusal.{Refusal}
 use Rattle.values.specs.declared.refusal.Refusal.TheVariants.{JournalFull, Memory}
-use Rattle.values.specs.Tables.{Schema}
 use Rattle.values.specs.Log.{Net, last, changes}
 use Rattle.values.specs.Period.{periods_of}
 use Rattle.values.specs.Commits.{outcome}
+use Rattle.growlog.specs.Origin.{Origin}
 use Rattle.blocks.specs.PackedNode.{Packed}
 use Rattle.validation.specs.tsbtree.View.{TreeState, last as view_last, IsState}
 use Rattle.validation.specs.tsbtree.Packing.{IsInstalled}
@@ -28,11 +28,11 @@ abbrev pub most_entries : ℕ
 most_entries = 1000000
 
 -- the journal is legal, the tree is sound and holds what its log changed, and the clock is at its last instant
-pub record IsBook (schema : Schema) (b : BookState) : Type 0 where
-  pub legal : IsLegal schema b.entries
+pub record IsBook (o : Origin) (b : BookState) : Type 0 where
+  pub legal : IsLegal o b.entries
   pub tree : IsState b.engine.nodes (view_last b.engine)
-  pub holds : Holds schema b.engine (changes (log schema b.entries))
-  pub clock : view_last b.engine ≡ last (log schema b.entries)
+  pub holds : Holds o.schema b.engine (changes (log o b.entries))
+  pub clock : view_last b.engine ≡ last (log o b.entries)
   pub room : length b.entries ≤ most_entries
 
 -- the number, where an entry of the session has it, or else 0
@@ -52,10 +52,10 @@ begun_now b session earlier number = record {
 }
 
 -- the entry of a commit now: the first committer wins
-abbrev pub commit_entry : Schema → BookState → ℕ → BegunState → Net → ℕ → Entry
-commit_entry schema b session begun net reading =
+abbrev pub commit_entry : Origin → BookState → ℕ → BegunState → Net → ℕ → Entry
+commit_entry o b session begun net reading =
     Commit session begun.number net reading
-    (outcome (periods_of schema) (changes (log schema b.entries)) (last (log schema b.entries))
+    (outcome (periods_of o.schema) (changes (log o b.entries)) (last (log o b.entries))
     begun.start net reading)
 
 -- there is one entry more, and this is its number

@@ -34,7 +34,7 @@ impl<J: StoreName> Book<J> {
         ensures view { IfOk result (λ o.
             o.transaction ≡ record { view = self.old.engine; writes = [] }) }
         ensures engine { self.new.engine ≡ self.old.engine }
-        ensures book { IsBook J.schema self.new }
+        ensures book { IsBook J.origin self.new }
         ensures full { length self.old.entries ≡ most_entries
             → result ≡ Err JournalFull }
         ensures room { length self.old.entries < most_entries → OnlyMemory result }

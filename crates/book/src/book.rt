@@ -1,7 +1,9 @@
 //! What was committed and the journal, in step.
 ghost use Rattle.std.specs.Prelude.{◌≡◌, [], IfOk, length};
 ghost use Rattle.values.specs.Memory.{OnlyMemory};
-ghost use Rattle.validation.specs.tsbtree.View.{IsEmpty};
+ghost use Rattle.values.specs.Log.{changes, last as last_of};
+ghost use Rattle.validation.specs.staging.View.{Holds};
+ghost use Rattle.validation.specs.tsbtree.View.{last};
 ghost use Rattle.book.specs.Book.{IsBook};
 
 use growlog::{NewLog, StoreName};
@@ -28,25 +30,25 @@ impl<J: StoreName> Model for Book<J> {
     ghost view = { λ b. record { engine = b.engine; entries = b.journal.entries } };
 
     ghost invariant = { λ b.
-        IsBook J.schema (record { engine = b.engine; entries = b.journal.entries }) };
+        IsBook J.origin (record { engine = b.engine; entries = b.journal.entries }) };
 }
 
 impl<J: StoreName> Book<J> {
-    /// Makes the book of a store to which nothing has happened. `Memory` where it runs out.
-    pub fn new(alloc: Global, opened: NewLog<SharedEntry>) -> Mem<Book<J>>
-        requires { opened.seen.book ≡ J.book }
-        ensures empty { IfOk result (λ b. b.entries ≡ []) }
-        ensures book { IfOk result (IsBook J.schema) }
-        ensures memory { OnlyMemory result }
+    /// Makes the book of a store that begins with what this engine has: nothing has happened to it yet.
+    pub fn over(alloc: Global, engine: Engine, opened: NewLog<SharedEntry>) -> Book<J>
+        requires log { opened.seen.book ≡ J.book }
+        requires holds { Holds J.origin.schema engine (changes J.origin.log) }
+        requires clock { last engine ≡ last_of J.origin.log }
+        ensures empty { result.entries ≡ [] }
+        ensures book { IsBook J.origin result }
     {
-        let engine = Engine::new(alloc)?;
         // Who asks for the tree knows that it is sound.
         let _tree = engine.tree();
-        Ok(Book {
+        Book {
             alloc,
             engine,
             journal: Journal::new(alloc, opened),
-        })
+        }
     }
 
     /// Returns the tree of what was committed.

@@ -67,7 +67,7 @@ impl<J: StoreName> Book<J> {
     /// more are added.
     pub fn close(self, receipts: Vec<Receipt<J>>) -> Closed
         ensures is { result ≡ self }
-        ensures book { IsBook J.schema result }
+        ensures book { IsBook J.origin result }
     {
         let Book {
             alloc: _alloc,

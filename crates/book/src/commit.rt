@@ -30,14 +30,14 @@ impl<J: StoreName> Book<J> {
         changes: KeyedNet,
         reading: Instant,
     ) -> Result<Receipt<J>, BookRefusal>
-        requires tables { schema.now ≡ J.schema }
-        requires keys { AreKeysIn J.schema net }
+        requires tables { schema.now ≡ J.origin.schema }
+        requires keys { AreKeysIn J.origin.schema net }
         requires twice { changes ≡ net }
         ensures entry { IfOk result (λ r.
-            r.entry ≡ commit_entry J.schema self.old session begun.now net reading) }
+            r.entry ≡ commit_entry J.origin self.old session begun.now net reading) }
         ensures adds { IfOk result (λ r. Adds r.entry r.number self.old self.new) }
         ensures history { KeepsHistory self.old.engine.nodes self.new.engine.nodes }
-        ensures book { IsBook J.schema self.new }
+        ensures book { IsBook J.origin self.new }
         ensures none { is_open self.old.entries session begun.now ≡ false
             → result ≡ Err NoTransaction }
         ensures full { is_open self.old.entries session begun.now ≡ true

@@ -27,7 +27,7 @@ impl<J: StoreName> Book<J> {
         ensures adds { IfOk result (λ r. Adds r.entry r.number self.old self.new) }
         ensures same { HoldsSame self.old.engine self.new.engine }
         ensures past { KeepsPast self.old.engine.nodes self.new.engine.nodes }
-        ensures book { IsBook J.schema self.new }
+        ensures book { IsBook J.origin self.new }
         ensures full { length self.old.entries ≡ most_entries
             → result ≡ Err JournalFull }
         ensures room { length self.old.entries < most_entries → OnlyMemory result }

@@ -16,4 +16,4 @@ pub use closing::Closed;
 pub use journal::{Begun, Entry, JournalGone, Receipt, SharedEntry};
 pub use refusal::{BookRefusal, MOST_ENTRIES};
 pub use transaction::{BlockCache, OpenTransaction, listing_of};
-pub use validation::{Cut, Job, KeyedNet, Net, PackedNode, View, find_job, pack_job};
+pub use validation::{Cut, Engine, Job, KeyedNet, Net, PackedNode, View, find_job, pack_job};

@@ -3,5 +3,6 @@ mod FaultKinds
 mod LoadRefused
 mod LoadParts
 mod ReplayParts
+mod ServerParts
 mod ProgramRun
 mod ProgramEnding

@@ -1,23 +1,22 @@
 -- What the program's parts leave, one after another.
-use Rattle.std.proofs.Common.{◌≡◌, ℕ, List, Option, true, false, sym, subst, inl, inr}
+use Rattle.std.proofs.Common.{◌≡◌, ℕ, List, Option, Some, None, true, false, refl, sym, subst, inl, inr}
 use Rattle.std.specs.Prelude.{Result, Ok, Err, IfErr, OnOk}
 use Rattle.std.proofs.KnownBytes.{Keeps-refl}
 use Rattle.clap.specs.Words.{Text}
 use Rattle.values.specs.Tables.{Schema}
-use Rattle.histories.specs.History.{History}
+use Rattle.steps.specs.Idle.{is_idle}
+use Rattle.histories.specs.History.{History, has_open}
 use Rattle.interleaving.specs.SystemState.{SystemState, Stands}
 use Rattle.command_line.specs.declared.options.Options.{Options}
 use Rattle.command_line.specs.declared.options.WordsFault.{WordsFault}
 use Rattle.command_line.specs.declared.fault.Fault.{Fault}
 use Rattle.command_line.specs.declared.fault.Fault.TheVariants.{Words, SchemaSyntax, BadTable, SchemaMemory, NoExport, After, AfterOpen, Load, Read, Write, Socket, NotClosed, Memory}
-use Rattle.listening.specs.declared.connection.ListenFault.TheVariants as listen
-use Rattle.listening.specs.declared.server.ServerFault.TheVariants as server
 use Rattle.command_line.specs.Fault.{is_of_words}
-use Rattle.command_line.specs.Options.{Gives, Refuses, asked_of}
+use Rattle.command_line.specs.Options.{AskedMode, Gives, Refuses, asked_of}
 use Rattle.command_line.specs.Export.{HasExported, Unexported}
 use Rattle.command_line.specs.Load.{IsLed, Unloaded}
-use Rattle.command_line.specs.Replay.{IsAfter, IsNotAfter}
-use Rattle.command_line.specs.Program.{HaltsAfter, HaltsAt, HaltsOn, HasRun, HasRunAll, HasRunLoaded, HasRunOn, IsFaulty, IsRefused, IsStuck, IsUnanswered}
+use Rattle.command_line.specs.Replay.{HasReplayed, IsAfter, IsNotAfter}
+use Rattle.command_line.specs.Program.{HaltsAfter, HaltsAt, HaltsMode, HaltsOn, HasRun, HasRunAll, HasRunLoaded, HasRunMode, HasRunOn, IsFaulty, IsRefused, IsStuck, IsUnanswered}
 use Rattle.command_line.proofs.FaultKinds.{of_words}
 
 -- ---- the script, then the export
@@ -78,25 +77,29 @@ halts_early fault load script number system unread old new unloaded first before
 
 -- ---- the replay before all else
 
-pub ran_all : (r : Result (Unit {0}) Fault) (after load script : Option Text) (number : Option ℕ) (schema : Schema) (s : SystemState) (unread left old new : Option (List ℕ))
-    → IsAfter schema after s
-    → OnOk r ((first : Schema) (before : History) → Stands first s before → HasRunLoaded load script number first before unread left old new)
-    → OnOk r (HasRunAll after load script number schema unread left old new)
-ran_all (Err e) after load script number schema s unread left old new so ran = tt
-ran_all (Ok u) after load script number schema s unread left old new so ran =
-    record { before = so.later; replayed = so.replayed; rest = ran schema so.later so.stands }
+idle_after : (schema : Schema) (after : Option Text) (before : History) → HasReplayed schema after before → is_idle (has_open before) ≡ true
+idle_after schema None before none = subst (λ h. is_idle (has_open h) ≡ true) (sym none) refl
+idle_after schema (Some file) before so = so.1.idle
 
-pub halts_all : (r : Result (Unit {0}) Fault) (after load script : Option Text) (number : Option ℕ) (schema : Schema) (s : SystemState) (unread left old new : Option (List ℕ))
+pub ran_all : (r : Result (Unit {0}) Fault) (mode : AskedMode) (after load : Option Text) (number : Option ℕ) (schema : Schema) (s : SystemState) (unread left old new : Option (List ℕ))
     → IsAfter schema after s
-    → IfErr r (λ fault. (first : Schema) (before : History) → Stands first s before → HaltsAfter fault load script number first before unread left old new)
-    → IfErr r (λ fault. HaltsAt fault after load script number schema unread left old new)
-halts_all (Ok u) after load script number schema s unread left old new so halts = tt
-halts_all (Err fault) after load script number schema s unread left old new so halts =
-    inr (record { before = so.later; replayed = so.replayed; rest = halts schema so.later so.stands })
+    → OnOk r ((first : Schema) (before : History) → Stands first s before → is_idle (has_open before) ≡ true → HasRunMode mode load number first before unread left old new)
+    → OnOk r (HasRunAll mode after load number schema unread left old new)
+ran_all (Err e) mode after load number schema s unread left old new so ran = tt
+ran_all (Ok u) mode after load number schema s unread left old new so ran =
+    record { before = so.later; replayed = so.replayed; rest = ran schema so.later so.stands (idle_after schema after so.later so.replayed) }
 
-pub halts_first : (fault : Fault) (after load script : Option Text) (number : Option ℕ) (schema : Schema) (unread old : Option (List ℕ)) → IsNotAfter fault schema after
-    → HaltsAt fault after load script number schema unread unread old old
-halts_first fault after load script number schema unread old none =
+pub halts_all : (r : Result (Unit {0}) Fault) (mode : AskedMode) (after load : Option Text) (number : Option ℕ) (schema : Schema) (s : SystemState) (unread left old new : Option (List ℕ))
+    → IsAfter schema after s
+    → IfErr r (λ fault. (first : Schema) (before : History) → Stands first s before → is_idle (has_open before) ≡ true → HaltsMode fault mode load number first before unread left old new)
+    → IfErr r (λ fault. HaltsAt fault mode after load number schema unread left old new)
+halts_all (Ok u) mode after load number schema s unread left old new so halts = tt
+halts_all (Err fault) mode after load number schema s unread left old new so halts =
+    inr (record { before = so.later; replayed = so.replayed; rest = halts schema so.later so.stands (idle_after schema after so.later so.replayed) })
+
+pub halts_first : (fault : Fault) (mode : AskedMode) (after load : Option Text) (number : Option ℕ) (schema : Schema) (unread old : Option (List ℕ)) → IsNotAfter fault schema after
+    → HaltsAt fault mode after load number schema unread unread old old
+halts_first fault mode after load number schema unread old none =
     inl (none, record { read = Keeps-refl unread; wrote = Keeps-refl old })
 
 -- ---- the words, where they are taken

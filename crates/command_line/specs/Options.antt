@@ -115,16 +115,15 @@ listening None sessions = None
 listening (Some port) None = None
 
 -- a port and a number of connections come together, and with no script
-abbrev pub mode_by : (after script listen sessions : Option Text) → Option AskedMode
-mode_by after script None None = Some (Scripts script)
-mode_by None None (Some listen) (Some sessions) = listening (port_in listen) (count_in sessions)
-mode_by (Some after) None (Some listen) (Some sessions) = None
-mode_by after (Some script) (Some listen) (Some sessions) = None
-mode_by after script (Some listen) None = None
-mode_by after script None (Some sessions) = None
+abbrev pub mode_by : (script listen sessions : Option Text) → Option AskedMode
+mode_by script None None = Some (Scripts script)
+mode_by None (Some listen) (Some sessions) = listening (port_in listen) (count_in sessions)
+mode_by (Some script) (Some listen) (Some sessions) = None
+mode_by script (Some listen) None = None
+mode_by script None (Some sessions) = None
 
 abbrev pub mode_in : AskedTexts → Option AskedMode
-mode_in texts = mode_by texts.after texts.script texts.listen texts.sessions
+mode_in texts = mode_by texts.script texts.listen texts.sessions
 
 abbrev pub mode_of : Mode → AskedMode
 mode_of (Script file) = Scripts (option_map (λ text. text.now) file)

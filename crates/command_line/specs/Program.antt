@@ -10,6 +10,7 @@ use Rattle.histories.specs.History.{History}
 use Rattle.interleaving.specs.SystemState.{SystemState}
 use Rattle.statement.specs.Line.{line_says}
 use Rattle.statement.specs.Writer.{AppendsPrefix}
+use Rattle.listening.specs.declared.server.Plan.{Plan}
 use Rattle.scripts.specs.Script.{IsIdle}
 use Rattle.scripts.specs.Transcript.{IsRunAfter, IsCutAfter, IsStoppedAfter, leaves_after}
 use Rattle.command_line.specs.declared.fault.Fault.{Fault}
@@ -131,50 +132,53 @@ HaltsAfter fault load script number schema before unread left old new =
     HaltsEarly fault load schema before unread left old new
     ⊎ HaltsLoaded fault load script number schema before unread left old new
 
+-- ---- what is asked for, after a history
+
+abbrev pub plan_of : (port sessions : ℕ) → Option ℕ → Plan
+plan_of port sessions number = record { port = port; sessions = sessions; export = number }
+
+abbrev pub HasRunMode : AskedMode → Option Text → Option ℕ → Schema → History
+    → (unread left old new : Option (List ℕ)) → Type 0
+HasRunMode (Scripts script) load number schema before unread left old new =
+    HasRunLoaded load script number schema before unread left old new
+HasRunMode (Listens port sessions) load number schema before unread left old new =
+    HasServedAll load (plan_of port sessions number) schema before unread left old new
+
+abbrev pub HaltsMode : Fault → AskedMode → Option Text → Option ℕ → Schema → History
+    → (unread left old new : Option (List ℕ)) → Type 0
+HaltsMode fault (Scripts script) load number schema before unread left old new =
+    HaltsAfter fault load script number schema before unread left old new
+HaltsMode fault (Listens port sessions) load number schema before unread left old new =
+    HaltsServing fault load (plan_of port sessions number) schema before unread left old new
+
 -- ---- the replay before all else
 
-pub record HasRunAll (after load script : Option Text) (number : Option ℕ) (schema : Schema)
-    (unread left old new : Option (List ℕ)) : Type 0 where
-  pub before : History
-  pub replayed : HasReplayed schema after before
-  pub rest : HasRunLoaded load script number schema before unread left old new
-
-pub record HaltsReplayed (fault : Fault) (after load script : Option Text) (number : Option ℕ)
+pub record HasRunAll (mode : AskedMode) (after load : Option Text) (number : Option ℕ)
     (schema : Schema) (unread left old new : Option (List ℕ)) : Type 0 where
   pub before : History
   pub replayed : HasReplayed schema after before
-  pub rest : HaltsAfter fault load script number schema before unread left old new
+  pub rest : HasRunMode mode load number schema before unread left old new
+
+pub record HaltsReplayed (fault : Fault) (mode : AskedMode) (after load : Option Text)
+    (number : Option ℕ) (schema : Schema) (unread left old new : Option (List ℕ)) : Type 0 where
+  pub before : History
+  pub replayed : HasReplayed schema after before
+  pub rest : HaltsMode fault mode load number schema before unread left old new
 
 -- a fault of the replay, at which nothing was read or written; or one that came after it
-abbrev pub HaltsAt : Fault → (after load script : Option Text) → Option ℕ → Schema
+abbrev pub HaltsAt : Fault → AskedMode → (after load : Option Text) → Option ℕ → Schema
     → (unread left old new : Option (List ℕ)) → Type 0
-HaltsAt fault after load script number schema unread left old new =
+HaltsAt fault mode after load number schema unread left old new =
     (IsNotAfter fault schema after × IsIdle unread left old new)
-    ⊎ HaltsReplayed fault after load script number schema unread left old new
+    ⊎ HaltsReplayed fault mode after load number schema unread left old new
 
 -- ---- what is asked for, over a schema
-
-abbrev pub HasRunMode : AskedMode → (after load : Option Text) → Option ℕ → Schema
-    → (unread left old new : Option (List ℕ)) → Type 0
-HasRunMode (Scripts script) after load number schema unread left old new =
-    HasRunAll after load script number schema unread left old new
-HasRunMode (Listens port sessions) after load number schema unread left old new =
-    HasServedAll load (record { port = port; sessions = sessions; export = number }) schema
-    unread left old new
-
-abbrev pub HaltsMode : Fault → AskedMode → (after load : Option Text) → Option ℕ → Schema
-    → (unread left old new : Option (List ℕ)) → Type 0
-HaltsMode fault (Scripts script) after load number schema unread left old new =
-    HaltsAt fault after load script number schema unread left old new
-HaltsMode fault (Listens port sessions) after load number schema unread left old new =
-    HaltsServing fault load (record { port = port; sessions = sessions; export = number }) schema
-    unread left old new
 
 pub record HasDone (asked : Asked) (schema : Schema) (unread left old new : Option (List ℕ))
     : Type 0 where
   pub number : Option ℕ
   pub exports : Exports schema asked.exports number
-  pub ran : HasRunMode asked.mode asked.after asked.load number schema unread left old new
+  pub ran : HasRunAll asked.mode asked.after asked.load number schema unread left old new
 
 -- there is no table to be exported: nothing was read or written
 pub record HasNoExport (fault : Fault) (asked : Asked) (schema : Schema)
@@ -187,7 +191,7 @@ pub record HasHalted (fault : Fault) (asked : Asked) (schema : Schema)
     (unread left old new : Option (List ℕ)) : Type 0 where
   pub number : Option ℕ
   pub exports : Exports schema asked.exports number
-  pub halts : HaltsMode fault asked.mode asked.after asked.load number schema unread left old new
+  pub halts : HaltsAt fault asked.mode asked.after asked.load number schema unread left old new
 
 abbrev pub Halts : Fault → Asked → Schema → (unread left old new : Option (List ℕ)) → Type 0
 Halts fault asked schema unread left old new =

@@ -3,6 +3,7 @@ use Rattle.std.specs.Prelude.{◌≡◌, ◌⊎◌, ℕ, List, Option, Some, Non
 use Rattle.std.specs.Io.KnownBytes.{Keeps}
 use Rattle.clap.specs.Words.{Text}
 use Rattle.values.specs.Tables.{Schema}
+use Rattle.histories.specs.History.{History, schema_after}
 use Rattle.scripts.specs.Script.{IsIdle}
 use Rattle.listening.specs.declared.server.Plan.{Plan}
 use Rattle.listening.specs.declared.server.TableRows.{TableRows}
@@ -18,13 +19,13 @@ IsFirst schema None first = first ≡ None
 IsFirst schema (Some text) first =
     (rows : TableRows) × (first ≡ Some rows) × FileSays schema text rows.number (Ok rows.rows.items)
 
--- nothing was read of standard input, and a server was served to its end
-pub record HasServedAll (load : Option Text) (plan : Plan) (schema : Schema)
+-- nothing was read of standard input, and after a history a server was served to its end
+pub record HasServedAll (load : Option Text) (plan : Plan) (start : Schema) (before : History)
     (unread left old new : Option (List ℕ)) : Type 0 where
   pub first : Option TableRows
-  pub first_is : IsFirst schema load first
+  pub first_is : IsFirst (schema_after start before) load first
   pub read : Keeps unread left
-  pub served : HasServed schema first plan old new
+  pub served : HasServed start before first plan old new
 
 -- there are no rows for the text of --load
 abbrev pub IsNoFirst : Fault → Option Text → Schema → Type 0
@@ -32,17 +33,17 @@ IsNoFirst fault None schema = ⊥
 IsNoFirst fault (Some text) schema = HasNoRows fault schema text
 
 -- the server stopped before its end
-pub record StopsServing (fault : Fault) (load : Option Text) (plan : Plan) (schema : Schema)
-    (unread left old new : Option (List ℕ)) : Type 0 where
+pub record StopsServing (fault : Fault) (load : Option Text) (plan : Plan) (start : Schema)
+    (before : History) (unread left old new : Option (List ℕ)) : Type 0 where
   pub first : Option TableRows
-  pub first_is : IsFirst schema load first
+  pub first_is : IsFirst (schema_after start before) load first
   pub read : Keeps unread left
   pub why : ServerFault
   pub fault_is : fault ≡ of_server why
-  pub stopped : HasStopped why schema first plan old new
+  pub stopped : HasStopped why start before first plan old new
 
-abbrev pub HaltsServing : Fault → Option Text → Plan → Schema
+abbrev pub HaltsServing : Fault → Option Text → Plan → Schema → History
     → (unread left old new : Option (List ℕ)) → Type 0
-HaltsServing fault load plan schema unread left old new =
-    (IsNoFirst fault load schema × IsIdle unread left old new)
-    ⊎ StopsServing fault load plan schema unread left old new
+HaltsServing fault load plan start before unread left old new =
+    (IsNoFirst fault load (schema_after start before) × IsIdle unread left old new)
+    ⊎ StopsServing fault load plan start before unread left old new

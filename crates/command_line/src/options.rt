@@ -62,10 +62,6 @@ const NO_FILE: &str =
 const BOTH: &str =
     "error: --script and --listen exclude each other\n\nFor more information, try '--help'.\n";
 
-/// What is said where connections are to be served, and a script is to be replayed.
-const NO_AFTER: &str =
-    "error: --after and --listen exclude each other\n\nFor more information, try '--help'.\n";
-
 /// What is said where there is a port, and no number of connections.
 const NO_SESSIONS: &str =
     "error: --listen needs --sessions\n\nFor more information, try '--help'.\n";
@@ -258,13 +254,12 @@ fn mode_of<'a>(texts: Texts<'a>) -> Result<Mode<'a>, &'static str>
     ensures ok { IfOk result (λ mode. mode_in (texts_of texts.entry) ≡ Some (mode_of mode)) }
     ensures err { IfErr result (λ _. mode_in (texts_of texts.entry) ≡ None) }
 {
-    match (texts.after, texts.script, texts.listen, texts.sessions) {
-        (_, script, None, None) => Ok(Mode::Script(script)),
-        (None, None, Some(listen), Some(sessions)) => listen_mode(listen, sessions),
-        (Some(_), None, Some(_), Some(_)) => Err(NO_AFTER),
-        (_, Some(_), Some(_), Some(_)) => Err(BOTH),
-        (_, _, Some(_), None) => Err(NO_SESSIONS),
-        (_, _, None, Some(_)) => Err(NO_LISTEN),
+    match (texts.script, texts.listen, texts.sessions) {
+        (script, None, None) => Ok(Mode::Script(script)),
+        (None, Some(listen), Some(sessions)) => listen_mode(listen, sessions),
+        (Some(_), Some(_), Some(_)) => Err(BOTH),
+        (_, Some(_), None) => Err(NO_SESSIONS),
+        (_, None, Some(_)) => Err(NO_LISTEN),
     }
 }
 
@@ -305,7 +300,7 @@ fn options_of<'a>(texts: Texts<'a>) -> Result<Options<'a>, WordsFault>
 ///
 /// `Clap` if `clap` refuses the words, or they ask for `--help` or `--version`. `Words` if the text
 /// of `--load` has no `=`; if one of `--listen` and `--sessions` is given without the other, or
-/// both with `--script` or `--after`; if PORT or N is not a decimal number in its range.
+/// both with `--script`; if PORT or N is not a decimal number in its range.
 pub fn words<'a, S: AsStr>(alloc: Global, words: &'a [S]) -> Result<Options<'a>, WordsFault>
     ensures ok { IfOk result (λ o. Gives (map S.text words.entry.now) o) }
     ensures err { IfErr result (λ fault. Refuses (map S.text words.entry.now) fault) }

@@ -3,10 +3,11 @@ ghost use Rattle.std.specs.Prelude.{◌≡◌, ◌≤◌, ℕ, List, IfOk, IfErr
 ghost use Rattle.std.specs.Io.KnownBytes.{Appends};
 ghost use Rattle.clap.specs.Words.{IsAmong, Text, kind_of};
 ghost use Rattle.values.specs.Tables.{Schema};
-ghost use Rattle.histories.specs.History.{History};
+ghost use Rattle.steps.specs.Idle.{is_idle};
+ghost use Rattle.histories.specs.History.{History, has_open};
 ghost use Rattle.interleaving.specs.SystemState.{Stands};
 ghost use Rattle.listening.specs.Server.{IsExportOf};
-ghost use Rattle.command_line.specs.Options.{Refuses, asked_of, faults};
+ghost use Rattle.command_line.specs.Options.{Refuses, asked_of, faults, mode_of};
 ghost use Rattle.command_line.specs.Program.{Halts, HaltsAfter, HaltsAt, HaltsMode, HaltsOn, HasAnswered, HasDone, HasRun, HasRunAll, HasRunLoaded, HasRunMode, HasRunOn, IsComplete, IsDone, IsFaulty, IsRefused, IsStuck, IsUnanswered, IsUnshown, Leaves};
 ghost use Rattle.command_line.specs.Fault.{is_of_words, outcome_of};
 
@@ -216,13 +217,13 @@ where
         (O.contents out.old) (O.contents out.new)) }
 {
     match export_number(&schema, options.export) {
-        Ok(number) => run_mode(rt, options, number, reader, out, schema),
+        Ok(number) => run_all(rt, options, number, reader, out, schema),
         Err(fault) => Err(fault),
     }
 }
 
-/// Runs a script or a server.
-fn run_mode<R, I, O>(
+/// Runs the replay, and then what is asked for.
+fn run_all<R, I, O>(
     rt: &R,
     options: Options<'_>,
     number: Option<u8>,
@@ -241,50 +242,64 @@ where
     I: Read,
     O: Write,
     requires export { IsExportOf schema number }
-    ensures done { OnOk result (HasRunMode (asked_of options.entry).mode
+    ensures done { OnOk result (HasRunAll (asked_of options.entry).mode
         (asked_of options.entry).after (asked_of options.entry).load number schema
         (I.remaining reader.old) (I.remaining reader.new)
         (O.contents out.old) (O.contents out.new)) }
-    ensures halts { IfErr result (λ fault. HaltsMode fault (asked_of options.entry).mode
+    ensures halts { IfErr result (λ fault. HaltsAt fault (asked_of options.entry).mode
         (asked_of options.entry).after (asked_of options.entry).load number schema
         (I.remaining reader.old) (I.remaining reader.new)
         (O.contents out.old) (O.contents out.new)) }
 {
-    match options.mode {
-        Mode::Script(file) => run_all(rt, options, file, number, reader, out, schema),
+    match store_after(rt, options.after, schema) {
+        Ok(system) => run_mode(rt, options.mode, options.load, number, reader, out, system),
+        Err(fault) => Err(fault),
+    }
+}
+
+/// Runs a script or a server over a store.
+fn run_mode<R, I, O>(
+    rt: &R,
+    mode: Mode<'_>,
+    text: Option<&str>,
+    number: Option<u8>,
+    reader: &mut I,
+    out: &mut O,
+    system: System,
+) -> Result<(), Fault>
+where
+    R: AllocGlobal
+        + Files
+        + Net<Listener = TcpListener, Stream = TcpStream>
+        + Clock
+        + Threads
+        + Wait
+        + Sync,
+    I: Read,
+    O: Write,
+    requires known { (first : Schema) × (before : History) × Stands first system before
+        × IsExportOf first number }
+    ensures done { OnOk result ((first : Schema) (before : History) → Stands first system before
+        → is_idle (has_open before) ≡ true
+        → HasRunMode (mode_of mode.entry) (option_map (λ text. text.now) text.entry) number
+        first before (I.remaining reader.old) (I.remaining reader.new)
+        (O.contents out.old) (O.contents out.new)) }
+    ensures halts { IfErr result (λ fault. (first : Schema) (before : History)
+        → Stands first system before → is_idle (has_open before) ≡ true
+        → HaltsMode fault (mode_of mode.entry) (option_map (λ text. text.now) text.entry) number
+        first before (I.remaining reader.old) (I.remaining reader.new)
+        (O.contents out.old) (O.contents out.new)) }
+{
+    match mode {
+        Mode::Script(file) => run_loaded(rt, text, file, number, reader, out, system),
         Mode::Listen { port, sessions } => {
             let plan = Plan {
                 port,
                 sessions,
                 export: number,
             };
-            run_server(rt, options.load, plan, reader, out, schema)
+            run_server(rt, text, plan, reader, out, system)
         }
-    }
-}
-
-/// Runs the replay, then the load, then the script, then the export.
-fn run_all<R: AllocGlobal + Files, I: Read, O: Write>(
-    rt: &R,
-    options: Options<'_>,
-    file: Option<&str>,
-    number: Option<u8>,
-    reader: &mut I,
-    out: &mut O,
-    schema: Schema,
-) -> Result<(), Fault>
-    ensures done { OnOk result (HasRunAll (asked_of options.entry).after
-        (asked_of options.entry).load (option_map (λ text. text.now) file.entry) number schema
-        (I.remaining reader.old) (I.remaining reader.new)
-        (O.contents out.old) (O.contents out.new)) }
-    ensures halts { IfErr result (λ fault. HaltsAt fault (asked_of options.entry).after
-        (asked_of options.entry).load (option_map (λ text. text.now) file.entry) number schema
-        (I.remaining reader.old) (I.remaining reader.new)
-        (O.contents out.old) (O.contents out.new)) }
-{
-    match store_after(rt, options.after, schema) {
-        Ok(system) => run_loaded(rt, options.load, file, number, reader, out, system),
-        Err(fault) => Err(fault),
     }
 }
 

@@ -1,11 +1,17 @@
 //! Connections that are served, instead of a script.
-ghost use Rattle.std.specs.Prelude.{◌≡◌, IfOk, IfErr, OnOk, option_map};
+ghost use Rattle.std.specs.Prelude.{◌≡◌, IfOk, IfErr, OnOk, option_map, true};
+ghost use Rattle.values.specs.Tables.{Schema};
+ghost use Rattle.steps.specs.Idle.{is_idle};
+ghost use Rattle.histories.specs.History.{History, has_open};
+ghost use Rattle.interleaving.specs.SystemState.{Stands};
 ghost use Rattle.listening.specs.Server.{IsExportOf};
+ghost use Rattle.command_line.specs.Fault.{served_of};
 ghost use Rattle.command_line.specs.Server.{HaltsServing, HasServedAll, IsFirst, IsNoFirst};
 
 use crate::fault::{Fault, server_fault};
 use crate::load::rows_for;
-use listening::{Plan, TableRows, serve};
+use interleaving::System;
+use listening::{Plan, ServerFault, TableRows, serve};
 use std::io::{Read, Write};
 use std::net::{Net, TcpListener, TcpStream};
 use std::rt::Files;
@@ -34,15 +40,15 @@ fn first_of<R: AllocGlobal + Files>(
     }
 }
 
-/// Serves connections round a store of these tables, and exports a table of it at the end, if one
-/// is to be. Standard input is not read.
+/// Serves connections round a store that begins with what a system has come to, and exports a table
+/// of it at the end, if one is to be. Standard input is not read.
 pub fn run_server<R, I, O>(
     rt: &R,
     text: Option<&str>,
     plan: Plan,
     reader: &mut I,
     out: &mut O,
-    schema: Schema,
+    system: System,
 ) -> Result<(), Fault>
 where
     R: AllocGlobal
@@ -54,23 +60,34 @@ where
         + Sync,
     I: Read,
     O: Write,
-    requires export { IsExportOf schema plan.export }
-    ensures done { OnOk result (HasServedAll (option_map (λ text. text.now) text.entry)
-        plan schema (I.remaining reader.old) (I.remaining reader.new)
+    requires known { (start : Schema) × (before : History) × Stands start system before
+        × IsExportOf start plan.export }
+    ensures done { OnOk result ((start : Schema) (before : History) → Stands start system before
+        → is_idle (has_open before) ≡ true
+        → HasServedAll (option_map (λ text. text.now) text.entry) plan start before
+        (I.remaining reader.old) (I.remaining reader.new)
         (O.contents out.old) (O.contents out.new)) }
-    ensures halts { IfErr result (λ fault. HaltsServing fault
-        (option_map (λ text. text.now) text.entry) plan schema
+    ensures halts { IfErr result (λ fault. (start : Schema) (before : History)
+        → Stands start system before → is_idle (has_open before) ≡ true
+        → HaltsServing fault (option_map (λ text. text.now) text.entry) plan start before
         (I.remaining reader.old) (I.remaining reader.new)
         (O.contents out.old) (O.contents out.new)) }
 {
     // Nothing is read of it.
     let _reader = reader;
-    let first = match first_of(rt, text, &schema) {
+    let first = match first_of(rt, text, system.schema()) {
         Ok(first) => first,
         Err(fault) => return Err(fault),
     };
-    match serve(rt, rt.alloc(), out, schema, first, plan) {
+    ended(serve(rt, rt.alloc(), out, system, first, plan))
+}
+
+/// Returns the program's fault for a server's.
+fn ended(served: Result<(), ServerFault>) -> Result<(), Fault>
+    ensures { result ≡ served_of served }
+{
+    match served {
         Ok(()) => Ok(()),
-        Err(fault) => Err(server_fault(fault)),
+        Err(stopped) => Err(server_fault(stopped)),
     }
 }

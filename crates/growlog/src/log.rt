@@ -54,14 +54,14 @@ impl<E> Plain<E, E, u64> for Add {
     ghost state = { λ entry. None };
 }
 
-/// Which store it is: its log, and its tables. Who makes a store picks them.
+/// Which store it is: its log, and what it begins with. Who makes a store picks them.
 pub trait StoreName: Send + Sync {
+    ghost use Rattle.growlog.specs.Origin.{Origin};
     ghost use Rattle.logbook.specs.Pages.{Book};
-    ghost use Rattle.values.specs.Tables.{Schema};
 
     ghost book: { Book };
 
-    ghost schema: { Schema };
+    ghost origin: { Origin };
 }
 
 impl StoreName for Brand {
@@ -69,7 +69,7 @@ impl StoreName for Brand {
 
     ghost book = { record { number = 0; log_name = 0; cells_name = 0 } };
 
-    ghost schema = { record { tables = [] } };
+    ghost origin = { record { schema = record { tables = [] }; log = [] } };
 }
 
 /// A log without entries, which no store has yet.

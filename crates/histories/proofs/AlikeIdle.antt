@@ -8,12 +8,12 @@ use Rattle.steps.specs.declared.step.Step.{Step}
 use Rattle.steps.specs.Idle.{is_idle}
 use Rattle.steps.specs.Misfit.{max_session}
 use Rattle.histories.specs.Alike.{IdleHistoriesAnswerAlike}
-use Rattle.histories.specs.History.{History, has_open, schema_after, log, log_at_begin, own, replies}
+use Rattle.histories.specs.History.{History, has_open, schema_after, log, own, replies}
 use Rattle.histories.specs.World.{OpenTransaction, World}
 use Rattle.histories.specs.Stands.{Stands, open_in, open_from}
 use Rattle.histories.specs.Turn.{turn}
 use Rattle.histories.specs.TurnLaw.{TurnsGiveTheReplies}
-use Rattle.histories.proofs.StandsAltered.{begun_alike, each_closed, none_of}
+use Rattle.histories.proofs.HistoryOwn.{none_begun}
 
 abbrev none_open : ℕ → List (Option OpenTransaction)
 none_open n = replicate n None
@@ -27,10 +27,8 @@ quiet now log = record {
   sessions = none_open (max_session + 1);
 }
 
-closed_in : (first : Schema) (h : History) (i : ℕ) → is_idle (has_open h) ≡ true → i ≤ max_session → open_in first h i ≡ None
-closed_in first h i idle small =
-    ap (λ o. open_from (schema_after first h) (log first h) o (own first h i))
-    (none_of (log_at_begin first h i) (begun_alike first h i ∙ each_closed max_session (has_open h) idle i small))
+closed_in : (first : Schema) (h : History) (i : ℕ) → is_idle (has_open h) ≡ true → open_in first h i ≡ None
+closed_in first h i idle = ap (λ o. open_from (schema_after first h) (log first h) o (own first h i)) (none_begun first h i idle)
 
 stands : (first : Schema) (h : History) → is_idle (has_open h) ≡ true → Stands first (quiet (schema_after first h) (log first h)) h
 stands first h idle = record {
@@ -38,7 +36,7 @@ stands first h idle = record {
   wide = length-replicate {A = Option OpenTransaction} (max_session + 1) None;
   changes_are = refl;
   latest_is = refl;
-  sessions_are = λ i small. get_or-replicate {A = Option OpenTransaction} (max_session + 1) i None None (let le : i ≤ max_session = small in omega arith) ∙ sym (closed_in first h i idle small);
+  sessions_are = λ i small. get_or-replicate {A = Option OpenTransaction} (max_session + 1) i None None (let le : i ≤ max_session = small in omega arith) ∙ sym (closed_in first h i idle);
 }
 
 module _ (turns : TurnsGiveTheReplies) where

@@ -59,7 +59,7 @@ beyond i e = grind (arith, nat_tests)
 within : (i : ℕ) → nat_le i max_session ≡ true → i ≤ max_session
 within i e = grind (arith, nat_tests)
 
-none_begun : (first : Schema) (h : History) (i : ℕ) → is_idle (has_open h) ≡ true → log_at_begin first h i ≡ None
+pub none_begun : (first : Schema) (h : History) (i : ℕ) → is_idle (has_open h) ≡ true → log_at_begin first h i ≡ None
 none_begun first h i idle = by (nat_le i max_session) refl
   where
     by : (b : Bool) → nat_le i max_session ≡ b → log_at_begin first h i ≡ None

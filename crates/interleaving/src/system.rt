@@ -46,7 +46,8 @@ impl System {
     ghost use Rattle.histories.specs.History.{History, has_open};
     ghost use Rattle.treewalk.specs.Shape.{IsShapeOf};
     ghost use Rattle.tsbtree.specs.View.{events, last, IsState};
-    ghost use Rattle.interleaving.specs.SystemState.{Stands, world};
+    ghost use Rattle.staging.specs.View.{Holds};
+    ghost use Rattle.interleaving.specs.SystemState.{Stands, changes_in, world};
 
     /// Makes a store in which nothing was committed: its tree is one node without events. `Memory`
     /// where it runs out.
@@ -97,6 +98,23 @@ impl System {
             → result ≡ is_idle (has_open h) }
     {
         is_idle(&self.sessions)
+    }
+
+    /// Returns the tables and what was committed. Transactions that are open are let go.
+    pub fn into_parts(self) -> (Schema, Engine)
+        ensures schema { result.0 ≡ self.schema }
+        ensures engine { result.1 ≡ self.engine }
+        ensures holds { Holds self.schema self.engine
+            (changes_in self.schema (events self.engine)) }
+    {
+        let System {
+            alloc: _,
+            schema,
+            engine,
+            sessions: _,
+            cache: _,
+        } = self;
+        (schema, engine)
     }
 
     /// Returns the tables, with the columns that were added.

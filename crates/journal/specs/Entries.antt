@@ -2,9 +2,9 @@
 use Rattle.std.specs.Prelude.{ℕ, List, [], ◌∷◌, Option, Some, None, Bool, false, ◌==◌, ◌&&◌, not, if◌then◌else◌, length, zero, suc, ◌++◌}
 use Rattle.std.specs.List.{list_any}
 use Rattle.values.specs.Log.{Log}
-use Rattle.values.specs.Tables.{Schema}
-use Rattle.values.specs.Period.{periods_of}
+use Rattle.values.specs.Period.{Periods, periods_of}
 use Rattle.values.specs.Commits.{after}
+use Rattle.growlog.specs.Origin.{Origin}
 use Rattle.validation.specs.tsbtree.View.{last}
 use Rattle.journal.specs.BegunState.{BegunState}
 use Rattle.journal.specs.declared.entry.Entry.{Entry}
@@ -24,14 +24,19 @@ abbrev pub start_of : Option Entry → Option ℕ
 start_of (Some (Begin session earlier view)) = Some (last view)
 start_of _ = None
 
--- what was committed: a commit adds its net changes, by its begin's snapshot and its reading, as any transaction does
-abbrev pub log : Schema → Entries → Log
-log schema [] = []
-log schema (Commit session begin net reading end ∷ j) = elim (start_of (entry_at j begin)) [
-  | None ↦ log schema j
-  | Some start ↦ after (periods_of schema) (log schema j) start net reading
+-- what was committed, from these transactions on: a commit adds its net changes, by its begin's snapshot
+-- and its reading, as any transaction does
+abbrev pub log_from : Periods → Log → Entries → Log
+log_from periods before [] = before
+log_from periods before (Commit i begin net reading end ∷ j) = elim (start_of (entry_at j begin)) [
+  | None ↦ log_from periods before j
+  | Some start ↦ after periods (log_from periods before j) start net reading
 ]
-log schema (e ∷ j) = log schema j
+log_from periods before (e ∷ j) = log_from periods before j
+
+-- the same of a store, from what it begins with on
+abbrev pub log : Origin → Entries → Log
+log o j = log_from (periods_of o.schema) o.log j
 
 -- a begin or a commit of the session
 abbrev pub is_entry_of : ℕ → Entry → Bool

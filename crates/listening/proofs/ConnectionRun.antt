@@ -9,12 +9,14 @@ use Rattle.std.specs.Prelude.{All, IfOk, OnOk, Result, Ok, Err}
 use Rattle.std.specs.List.{AllByRecursion, flat_map, list_all}
 use Rattle.values.specs.Log.{Row}
 use Rattle.values.specs.Tables.{Schema}
+use Rattle.growlog.specs.Origin.{Origin}
 use Rattle.steps.specs.Misfit.{max_session}
+use Rattle.histories.specs.History.{History}
 use Rattle.sessions.specs.journal.Entries.{entry_at, numbers}
 use Rattle.sessions.specs.book.Book.{BookState, IsBook, most_entries}
 use Rattle.serving.specs.Progress.{Given}
 use Rattle.serving.specs.ServedSession.{Told}
-use Rattle.runs.specs.OneHistory.{Dialogue, ServedRunsAreHistories, dialogue_of}
+use Rattle.runs.specs.OneHistory.{Carries, Dialogue, ServedRunsAreHistories, dialogue_of}
 use Rattle.runs.specs.Run.{AreApart, IsLoaded, IsPart, IsRefusedRightly, IsRun, Part}
 use Rattle.listening.specs.Pile.{AreKnown, AreOfRun}
 use Rattle.listening.specs.Connection.{IsOneRun, IsServedRun}
@@ -62,9 +64,9 @@ pub confirmed : {A E : Type 0} (r : Result A E) (a : A) (F : Type 0) (P : A → 
 confirmed (Ok x) a F P same full is = subst P (sym same) (is full)
 confirmed (Err e) a F P same full is = tt
 
-module _ (schema : Schema) (b : BookState) (most table : ℕ) (rows : List Row) (before given : List Given) (sessions : List ℕ) (has_full : Bool) where
-  is_run : IsBook schema b → IsLoaded schema table rows before → (run : AreOfRun schema sessions has_full given) → (has_full ≡ true → length b.entries ≡ most_entries) → All (λ g. entry_at b.entries g.number ≡ Some g.entry) (before ++ given)
-      → IsPermutation (map (λ g. g.number) (before ++ given)) (numbers (length b.entries)) → IsRun schema b table rows before run.parts run.service
+module _ (o : Origin) (b : BookState) (most table : ℕ) (rows : List Row) (before given : List Given) (sessions : List ℕ) (has_full : Bool) where
+  is_run : IsBook o b → IsLoaded o.schema table rows before → (run : AreOfRun o.schema sessions has_full given) → (has_full ≡ true → length b.entries ≡ most_entries) → All (λ g. entry_at b.entries g.number ≡ Some g.entry) (before ++ given)
+      → IsPermutation (map (λ g. g.number) (before ++ given)) (numbers (length b.entries)) → IsRun o b table rows before run.parts run.service
   is_run book loaded run full stand all = record {
     is_book = book;
     is_loaded = loaded;
@@ -76,8 +78,8 @@ module _ (schema : Schema) (b : BookState) (most table : ℕ) (rows : List Row) 
     once = once before given (flat_map (λ p. p.given) run.parts ++ run.service) (numbers (length b.entries)) run.given_are all;
   }
 
-  served_run : IsBook schema b → IsLoaded schema table rows before → AreOfRun schema sessions has_full given → (has_full ≡ true → length b.entries ≡ most_entries) → list_all (λ n. nat_le n most) sessions ≡ true → All (λ g. entry_at b.entries g.number ≡ Some g.entry) (before ++ given)
-      → IsPermutation (map (λ g. g.number) (before ++ given)) (numbers (length b.entries)) → IsServedRun schema most table rows before b
+  served_run : IsBook o b → IsLoaded o.schema table rows before → AreOfRun o.schema sessions has_full given → (has_full ≡ true → length b.entries ≡ most_entries) → list_all (λ n. nat_le n most) sessions ≡ true → All (λ g. entry_at b.entries g.number ≡ Some g.entry) (before ++ given)
+      → IsPermutation (map (λ g. g.number) (before ++ given)) (numbers (length b.entries)) → IsServedRun o most table rows before b
   served_run book loaded run full few stand all = record {
     parts = run.parts;
     service = run.service;
@@ -87,8 +89,8 @@ module _ (schema : Schema) (b : BookState) (most table : ℕ) (rows : List Row) 
 
   -- from the receipts that closed the store: those of before, and those that were handed over
   pub of_receipts : {R : Type 0} (f : R → Given) (all first later : List R) → all ≡ first ++ later → before ≡ map f first → given ≡ map f later
-      → IsBook schema b → IsLoaded schema table rows before → AreOfRun schema sessions has_full given → (has_full ≡ true → length b.entries ≡ most_entries) → list_all (λ n. nat_le n most) sessions ≡ true → All (λ r. entry_at b.entries (f r).number ≡ Some (f r).entry) all
-      → IsPermutation (map (λ r. (f r).number) all) (numbers (length b.entries)) → IsServedRun schema most table rows before b
+      → IsBook o b → IsLoaded o.schema table rows before → AreOfRun o.schema sessions has_full given → (has_full ≡ true → length b.entries ≡ most_entries) → list_all (λ n. nat_le n most) sessions ≡ true → All (λ r. entry_at b.entries (f r).number ≡ Some (f r).entry) all
+      → IsPermutation (map (λ r. (f r).number) all) (numbers (length b.entries)) → IsServedRun o most table rows before b
   of_receipts f all first later are first_are later_are book loaded run full few stand once =
       let parts : map f all ≡ before ++ given = ap (map f) are ∙ map-append f first later ∙ (λ k. sym first_are k ++ sym later_are k) in
       served_run book loaded run full few (subst (All (λ g. entry_at b.entries g.number ≡ Some g.entry)) parts (All-map (λ g. entry_at b.entries g.number ≡ Some g.entry) f all stand))
@@ -96,19 +98,19 @@ module _ (schema : Schema) (b : BookState) (most table : ℕ) (rows : List Row) 
 
 -- ---- its one history
 
-module _ (law : ServedRunsAreHistories) (schema : Schema) (most : ℕ) (before : List Given) where
-  one_run : (b : BookState) (table : ℕ) (rows : List Row) → IsServedRun schema most table rows before b → IsOneRun schema most table rows b
-  one_run b table rows run =
-      let found = law schema b table rows before run.parts run.service run.is_run in
+module _ (law : ServedRunsAreHistories) (o : Origin) (most : ℕ) (before : List Given) where
+  one_run : (start : Schema) (earlier : History) → Carries start earlier o → (b : BookState) (table : ℕ) (rows : List Row) → IsServedRun o most table rows before b → IsOneRun start earlier most table rows b
+  one_run start earlier carries b table rows run =
+      let found = law start earlier o b table rows before run.parts run.service carries run.is_run in
       record {
         dialogues = map dialogue_of run.parts;
-        numbered = numbered schema most run.parts run.numbered run.is_run.are_parts;
+        numbered = numbered o.schema most run.parts run.numbered run.is_run.are_parts;
         apart = subst AreApart (sym (map-map (λ (d : Dialogue). d.number) dialogue_of run.parts)) run.is_run.apart;
         events = found.0;
         history = found.1;
       }
 
-  pub each_one : {E : Type 0} (r : Result BookState E) → IfOk r (λ b. (table : ℕ) (rows : List Row) → IsLoaded schema table rows before → IsServedRun schema most table rows before b)
-      → IfOk r (λ b. (table : ℕ) (rows : List Row) → IsLoaded schema table rows before → IsOneRun schema most table rows b)
-  each_one (Ok b) runs = λ table rows loaded. one_run b table rows (runs table rows loaded)
+  pub each_one : {E : Type 0} (r : Result BookState E) → IfOk r (λ b. (table : ℕ) (rows : List Row) → IsLoaded o.schema table rows before → IsServedRun o most table rows before b)
+      → IfOk r (λ b. (start : Schema) (earlier : History) → Carries start earlier o → (table : ℕ) (rows : List Row) → IsLoaded o.schema table rows before → IsOneRun start earlier most table rows b)
+  each_one (Ok b) runs = λ start earlier carries table rows loaded. one_run start earlier carries b table rows (runs table rows loaded)
   each_one (Err e) runs = tt

@@ -6,4 +6,5 @@ mod LoadingCalls
 mod MigrationService
 mod PileCrossing
 mod PileParts
+mod ServerCarried
 mod ServerHistory

@@ -1,14 +1,17 @@
--- The one history of a server, with the rows that it loaded first.
-use Rattle.std.proofs.Common.{◌≡◌, ◌∙◌, ℕ, List, [], ◌∷◌, Option, Some, None, inr, subst, sym}
+-- The one history of a server, from the one that it began with, and with the rows that it loaded first.
+use Rattle.std.proofs.Common.{◌≡◌, ℕ, List, [], ◌∷◌, Option, Some, None, inl, inr, ap, subst}
 use Rattle.std.specs.Prelude.{Result, Ok, Err, OnOk}
 use Rattle.values.specs.Log.{Row}
 use Rattle.values.specs.Tables.{Schema}
+use Rattle.growlog.specs.Origin.{Origin}
+use Rattle.histories.specs.History.{History, schema_after}
 use Rattle.sessions.specs.book.Book.{BookState, IsBook}
 use Rattle.serving.specs.Progress.{Given}
+use Rattle.runs.specs.OneHistory.{Carries, come_to}
 use Rattle.runs.specs.Run.{IsLoaded}
 use Rattle.listening.specs.Connection.{IsOneRun, IsServedRun}
 use Rattle.listening.specs.Loading.{IsLoadedAt}
-use Rattle.listening.specs.Server.{EndsAfter, HasFirst, HasListened, HasServed, HasStopped, IsClosedWith, IsRunAfter, IsRunOf, StopsLate}
+use Rattle.listening.specs.Server.{EndsAfter, HasFirst, HasListened, HasNoFirst, HasServed, HasStopped, IsClosedWith, IsRunAfter, IsRunOf, StopsLate}
 use Rattle.listening.specs.declared.server.Plan.{Plan}
 use Rattle.listening.specs.declared.server.ServerFault.{ServerFault}
 use Rattle.listening.specs.declared.server.TableRows.{TableRows}
@@ -18,51 +21,64 @@ loaded schema table [] receipts instant at = at.0
 loaded schema table (row ∷ rows) receipts instant at = at.0
 
 -- what stands of each load with these receipts stands of this one
-run_after : (schema : Schema) (sessions : ℕ) (first : Option TableRows) (receipts : List Given) (b : BookState) (old new : Option (List ℕ)) → HasFirst schema first receipts old new
-    → ((table : ℕ) (rows : List Row) → IsLoaded schema table rows receipts → IsRunOf schema sessions table rows receipts b) → IsRunAfter schema sessions first receipts b
-run_after schema sessions None receipts b old new first run = run 0 [] first.0
-run_after schema sessions (Some rows) receipts b old new first run =
+run_after : (start : Schema) (before : History) (schema : Schema) (sessions : ℕ) (first : Option TableRows) (receipts : List Given) (b : BookState) (old new : Option (List ℕ)) → HasFirst schema first receipts old new
+    → ((table : ℕ) (rows : List Row) → IsLoaded schema table rows receipts → IsRunOf start before sessions table rows receipts b) → IsRunAfter start before sessions first receipts b
+run_after start before schema sessions None receipts b old new first run = run 0 [] first.0
+run_after start before schema sessions (Some rows) receipts b old new first run =
     run rows.number rows.rows.items (loaded schema rows.number rows.rows.items receipts first.instant first.loaded)
 
 pub on_ok : {A E : Type 0} (r : Result A E) (P Q : Type 0) → (P → Q) → OnOk r P → OnOk r Q
 on_ok (Ok x) P Q f p = f p
 on_ok (Err e) P Q f p = tt
 
--- ---- a server that came to its end, by tables that are the store's
+-- ---- by the history that a store began with
 
-module _ (schema store tables : Schema) (is : schema ≡ store) (copied : tables ≡ schema) (first : Option TableRows) (plan : Plan) (receipts : List Given) (old reported listening new : Option (List ℕ)) (b : BookState)
-    (loads : HasFirst store first receipts old reported) (listens : HasListened plan.port reported listening) (closed : IsClosedWith store receipts b)
-    (history : (table : ℕ) (rows : List Row) → IsLoaded store table rows receipts → IsOneRun store plan.sessions table rows b)
-    (handed : (table : ℕ) (rows : List Row) → IsLoaded store table rows receipts → IsServedRun store plan.sessions table rows receipts b) where
-  book : IsBook tables b
-  book = subst (λ s. IsBook s b) (sym (copied ∙ is)) closed.is_book
+module _ (o : Origin) (start : Schema) (before : History) (carries : Carries start before o) (first : Option TableRows) (plan : Plan) where
+  tables_are : o.schema ≡ schema_after start before
+  tables_are = ap (λ (o : Origin). o.schema) carries.origin_is
 
-  run : IsRunAfter schema plan.sessions first receipts b
-  run = subst (λ s. IsRunAfter s plan.sessions first receipts b) (sym is)
-      (run_after store plan.sessions first receipts b old reported loads (λ table rows loaded. record { history = history table rows loaded; served = handed table rows loaded }))
+  -- no rows were loaded
+  pub unloaded : (fault : ServerFault) (old new : Option (List ℕ)) → HasNoFirst fault o.schema first old new → HasStopped fault start before first plan old new
+  unloaded fault old new none = inr (inl (subst (λ s. HasNoFirst fault s first old new) tables_are none))
 
-  pub served : (IsBook tables b → EndsAfter tables plan.export b listening new) → HasServed schema first plan old new
-  served ends = record {
-    receipts = receipts;
-    reported = reported;
-    listening = listening;
-    b = b;
-    loads = subst (λ s. HasFirst s first receipts old reported) (sym is) loads;
-    listens = listens;
-    closed = subst (λ s. IsClosedWith s receipts b) (sym is) closed;
-    run = run;
-    ends = subst (λ s. EndsAfter s plan.export b listening new) copied (ends book);
-  }
+  module _ (receipts : List Given) (old reported : Option (List ℕ)) (loads : HasFirst o.schema first receipts old reported) where
+    loads_so : HasFirst (schema_after start before) first receipts old reported
+    loads_so = subst (λ s. HasFirst s first receipts old reported) tables_are loads
 
-  pub stopped : (fault : ServerFault) → (IsBook tables b → StopsLate fault tables plan.export b listening new) → HasStopped fault schema first plan old new
-  stopped fault ends = inr (inr (inr (record {
-    receipts = receipts;
-    reported = reported;
-    listening = listening;
-    b = b;
-    loads = subst (λ s. HasFirst s first receipts old reported) (sym is) loads;
-    listens = listens;
-    closed = subst (λ s. IsClosedWith s receipts b) (sym is) closed;
-    run = run;
-    stops = subst (λ s. StopsLate fault s plan.export b listening new) copied (ends book);
-  })))
+    -- a server that came to its end, by tables that are the store's
+    module _ (tables : Schema) (copied : o.schema ≡ tables) (listening new : Option (List ℕ)) (b : BookState) (listens : HasListened plan.port reported listening) (closed : IsClosedWith o receipts b)
+        (history : (start : Schema) (before : History) → Carries start before o → (table : ℕ) (rows : List Row) → IsLoaded o.schema table rows receipts → IsOneRun start before plan.sessions table rows b)
+        (handed : (table : ℕ) (rows : List Row) → IsLoaded o.schema table rows receipts → IsServedRun o plan.sessions table rows receipts b) where
+      run : IsRunAfter start before plan.sessions first receipts b
+      run =
+          run_after start before o.schema plan.sessions first receipts b old reported loads
+          (λ table rows loaded. record { history = history start before carries table rows loaded; served = subst (λ o. IsServedRun o plan.sessions table rows receipts b) carries.origin_is (handed table rows loaded) })
+
+      closed_so : IsClosedWith (come_to start before) receipts b
+      closed_so = subst (λ o. IsClosedWith o receipts b) carries.origin_is closed
+
+      pub served : ((o : Origin) → o.schema ≡ tables → IsBook o b → EndsAfter o plan.export b listening new) → HasServed start before first plan old new
+      served ends = record {
+        receipts = receipts;
+        reported = reported;
+        listening = listening;
+        b = b;
+        loads = loads_so;
+        listens = listens;
+        closed = closed_so;
+        run = run;
+        ends = subst (λ o. EndsAfter o plan.export b listening new) carries.origin_is (ends o copied closed.is_book);
+      }
+
+      pub stopped : (fault : ServerFault) → ((o : Origin) → o.schema ≡ tables → IsBook o b → StopsLate fault o plan.export b listening new) → HasStopped fault start before first plan old new
+      stopped fault ends = inr (inr (inr (record {
+        receipts = receipts;
+        reported = reported;
+        listening = listening;
+        b = b;
+        loads = loads_so;
+        listens = listens;
+        closed = closed_so;
+        run = run;
+        stops = subst (λ o. StopsLate fault o plan.export b listening new) carries.origin_is (ends o copied closed.is_book);
+      })))

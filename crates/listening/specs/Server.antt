@@ -4,6 +4,7 @@ use Rattle.std.specs.Io.KnownBytes.{Appends, Keeps}
 use Rattle.values.specs.Commits.{max_instant}
 use Rattle.values.specs.Log.{Row, changes}
 use Rattle.values.specs.Tables.{Schema, table_at}
+use Rattle.growlog.specs.Origin.{Origin}
 use Rattle.values.specs.Versions.{answer}
 use Rattle.values.specs.declared.table.Table.{Table}
 use Rattle.values.specs.declared.query.Form.TheVariants.{Between}
@@ -14,7 +15,9 @@ use Rattle.interchange.specs.Version.{export_text}
 use Rattle.interchange.specs.Report.{loaded_text}
 use Rattle.sessions.specs.journal.Entries.{entry_at, log}
 use Rattle.sessions.specs.book.Book.{BookState, IsBook}
+use Rattle.histories.specs.History.{History, schema_after}
 use Rattle.serving.specs.Progress.{Given}
+use Rattle.runs.specs.OneHistory.{come_to}
 use Rattle.listening.specs.Loading.{IsLoadedAt, IsUnloaded}
 use Rattle.listening.specs.Connection.{IsOneRun, IsServedRun}
 use Rattle.listening.specs.declared.connection.ListenFault.TheVariants.{Socket, Memory, NotClosed}
@@ -39,21 +42,23 @@ HasFirst schema (Some first) receipts old new = HasReported schema first receipt
 -- ---- a store that was served and closed
 
 -- its journal is legal, its tree holds what the journal's log changed, and these receipts are of its entries
-pub record IsClosedWith (schema : Schema) (receipts : List Given) (b : BookState) : Type 0 where
-  pub is_book : IsBook schema b
+pub record IsClosedWith (o : Origin) (receipts : List Given) (b : BookState) : Type 0 where
+  pub is_book : IsBook o b
   pub stand : All (λ g. entry_at b.entries g.number ≡ Some g.entry) receipts
 
--- what its sessions were sent is one history, and this is how they were served, receipt by receipt
-pub record IsRunOf (schema : Schema) (sessions table : ℕ) (rows : List Row) (receipts : List Given)
-    (b : BookState) : Type 0 where
-  pub history : IsOneRun schema sessions table rows b
-  pub served : IsServedRun schema sessions table rows receipts b
+-- what its sessions were sent goes on from a history as one with it, and this is how they were served,
+-- receipt by receipt
+pub record IsRunOf (start : Schema) (before : History) (sessions table : ℕ) (rows : List Row)
+    (receipts : List Given) (b : BookState) : Type 0 where
+  pub history : IsOneRun start before sessions table rows b
+  pub served : IsServedRun (come_to start before) sessions table rows receipts b
 
 -- the run of its sessions, with numbers up to this one, after the rows that were loaded, where some were
-abbrev pub IsRunAfter : Schema → (sessions : ℕ) → Option TableRows → List Given → BookState → Type 0
-IsRunAfter schema sessions None receipts b = IsRunOf schema sessions 0 [] receipts b
-IsRunAfter schema sessions (Some first) receipts b =
-    IsRunOf schema sessions first.number first.rows.items receipts b
+abbrev pub IsRunAfter : Schema → History → (sessions : ℕ) → Option TableRows → List Given
+    → BookState → Type 0
+IsRunAfter start before sessions None receipts b = IsRunOf start before sessions 0 [] receipts b
+IsRunAfter start before sessions (Some first) receipts b =
+    IsRunOf start before sessions first.number first.rows.items receipts b
 
 -- the table that is exported, where one is, is one of these
 abbrev pub IsExportOf : Schema → Option ℕ → Type 0
@@ -73,44 +78,44 @@ abbrev pub HasClosed : BookState → (old new : Option (List ℕ)) → Type 0
 HasClosed b old new = Appends old new (numbered (codes "closed ") (length b.entries))
 
 -- a table with all versions that the journal's log gives
-abbrev pub versions_text : Schema → BookState → Table → List ℕ
-versions_text schema b table = export_text table
-    (answer (changes (log schema b.entries)) table (Between 0 max_instant)
+abbrev pub versions_text : Origin → BookState → Table → List ℕ
+versions_text o b table = export_text table
+    (answer (changes (log o b.entries)) table (Between 0 max_instant)
     (record { table = table.number; comparisons = [] }))
 
-pub record HasWritten (schema : Schema) (number : ℕ) (b : BookState) (old new : Option (List ℕ))
+pub record HasWritten (o : Origin) (number : ℕ) (b : BookState) (old new : Option (List ℕ))
     : Type 0 where
   pub table : Table
-  pub table_is : table_at schema number ≡ Some table
-  pub wrote : Appends old new (versions_text schema b table)
+  pub table_is : table_at o.schema number ≡ Some table
+  pub wrote : Appends old new (versions_text o b table)
 
 -- the table that is exported, where one is
-abbrev pub HasExported : Schema → Option ℕ → BookState → (old new : Option (List ℕ)) → Type 0
-HasExported schema None b old new = Keeps old new
-HasExported schema (Some number) b old new = HasWritten schema number b old new
+abbrev pub HasExported : Origin → Option ℕ → BookState → (old new : Option (List ℕ)) → Type 0
+HasExported o None b old new = Keeps old new
+HasExported o (Some number) b old new = HasWritten o number b old new
 
 -- ---- all of it
 
 -- the number of entries, and then the table that is exported
-pub record EndsAfter (schema : Schema) (number : Option ℕ) (b : BookState)
+pub record EndsAfter (o : Origin) (number : Option ℕ) (b : BookState)
     (old new : Option (List ℕ)) : Type 0 where
   pub ended : Option (List ℕ)
   pub closes : HasClosed b old ended
-  pub exported : HasExported schema number b ended new
+  pub exported : HasExported o number b ended new
 
--- the report of what was loaded, the port, and the end of a store that has the receipts of the load,
--- and whose run is one history
-pub record HasServed (schema : Schema) (first : Option TableRows) (plan : Plan)
+-- the report of what was loaded, the port, and the end of a store that began with what a history had
+-- come to and has the receipts of the load; its run goes on from that history as one with it
+pub record HasServed (start : Schema) (before : History) (first : Option TableRows) (plan : Plan)
     (old new : Option (List ℕ)) : Type 0 where
   pub receipts : List Given
   pub reported : Option (List ℕ)
   pub listening : Option (List ℕ)
   pub b : BookState
-  pub loads : HasFirst schema first receipts old reported
+  pub loads : HasFirst (schema_after start before) first receipts old reported
   pub listens : HasListened plan.port reported listening
-  pub closed : IsClosedWith schema receipts b
-  pub run : IsRunAfter schema plan.sessions first receipts b
-  pub ends : EndsAfter schema plan.export b listening new
+  pub closed : IsClosedWith (come_to start before) receipts b
+  pub run : IsRunAfter start before plan.sessions first receipts b
+  pub ends : EndsAfter (come_to start before) plan.export b listening new
 
 -- ---- what a fault leaves: what came before it, and a prefix of what was to be written next
 
@@ -146,39 +151,39 @@ pub record StopsAtPort (fault : ServerFault) (schema : Schema) (first : Option T
   pub stops : StopsListening fault asked reported new
 
 -- a prefix of the table that is exported
-pub record StopsInExport (schema : Schema) (number : Option ℕ) (b : BookState)
+pub record StopsInExport (o : Origin) (number : Option ℕ) (b : BookState)
     (old new : Option (List ℕ)) : Type 0 where
   pub ended : Option (List ℕ)
   pub closes : HasClosed b old ended
   pub n : ℕ
   pub number_is : number ≡ Some n
   pub table : Table
-  pub table_is : table_at schema n ≡ Some table
-  pub wrote : AppendsPrefix ended new (versions_text schema b table)
+  pub table_is : table_at o.schema n ≡ Some table
+  pub wrote : AppendsPrefix ended new (versions_text o b table)
 
 -- the writer failed in the line that tells how many entries there are, or in the table; memory runs
 -- out in the table alone
-abbrev pub StopsLate : ServerFault → Schema → Option ℕ → BookState → (old new : Option (List ℕ))
+abbrev pub StopsLate : ServerFault → Origin → Option ℕ → BookState → (old new : Option (List ℕ))
     → Type 0
-StopsLate Write schema number b old new =
+StopsLate Write o number b old new =
     AppendsPrefix old new (numbered (codes "closed ") (length b.entries))
-    ⊎ StopsInExport schema number b old new
-StopsLate (Listen Memory) schema number b old new = StopsInExport schema number b old new
-StopsLate (Listen Socket) schema number b old new = ⊥
-StopsLate (Listen NotClosed) schema number b old new = ⊥
-StopsLate (Load refusal) schema number b old new = ⊥
+    ⊎ StopsInExport o number b old new
+StopsLate (Listen Memory) o number b old new = StopsInExport o number b old new
+StopsLate (Listen Socket) o number b old new = ⊥
+StopsLate (Listen NotClosed) o number b old new = ⊥
+StopsLate (Load refusal) o number b old new = ⊥
 
-pub record StopsAfter (fault : ServerFault) (schema : Schema) (first : Option TableRows)
-    (plan : Plan) (old new : Option (List ℕ)) : Type 0 where
+pub record StopsAfter (fault : ServerFault) (start : Schema) (before : History)
+    (first : Option TableRows) (plan : Plan) (old new : Option (List ℕ)) : Type 0 where
   pub receipts : List Given
   pub reported : Option (List ℕ)
   pub listening : Option (List ℕ)
   pub b : BookState
-  pub loads : HasFirst schema first receipts old reported
+  pub loads : HasFirst (schema_after start before) first receipts old reported
   pub listens : HasListened plan.port reported listening
-  pub closed : IsClosedWith schema receipts b
-  pub run : IsRunAfter schema plan.sessions first receipts b
-  pub stops : StopsLate fault schema plan.export b listening new
+  pub closed : IsClosedWith (come_to start before) receipts b
+  pub run : IsRunAfter start before plan.sessions first receipts b
+  pub stops : StopsLate fault (come_to start before) plan.export b listening new
 
 -- why an export stops: the writer failed, or memory ran out
 abbrev pub IsOfExport : ServerFault → Type 0
@@ -201,14 +206,16 @@ HasNoFirst (Listen fault) schema first old new = ⊥
 abbrev pub HasNoStore : ServerFault → (old new : Option (List ℕ)) → Type 0
 HasNoStore fault old new = (fault ≡ Listen Memory) × Keeps old new
 
-abbrev pub StopsSomewhere : ServerFault → Schema → Option TableRows → Plan
+abbrev pub StopsSomewhere : ServerFault → Schema → History → Option TableRows → Plan
     → (old new : Option (List ℕ)) → Type 0
-StopsSomewhere fault schema first plan old new =
-    StopsAtPort fault schema first plan.port old new ⊎ StopsAfter fault schema first plan old new
+StopsSomewhere fault start before first plan old new =
+    StopsAtPort fault (schema_after start before) first plan.port old new
+    ⊎ StopsAfter fault start before first plan old new
 
 -- where a server stopped, and what was written until then
-abbrev pub HasStopped : ServerFault → Schema → Option TableRows → Plan
+abbrev pub HasStopped : ServerFault → Schema → History → Option TableRows → Plan
     → (old new : Option (List ℕ)) → Type 0
-HasStopped fault schema first plan old new =
+HasStopped fault start before first plan old new =
     HasNoStore fault old new
-    ⊎ (HasNoFirst fault schema first old new ⊎ StopsSomewhere fault schema first plan old new)
+    ⊎ (HasNoFirst fault (schema_after start before) first old new
+    ⊎ StopsSomewhere fault start before first plan old new)

@@ -49,14 +49,14 @@ pub(crate) fn serve_client<J: StoreName, R: Wait, I: Read + Drop, W: Write, C: R
 ) -> Result<Served<J>, Unserved>
     requires { number ≤ max_session }
     ensures closed { IfOk result (λ s. s.end ≡ End.Closed
-        → IsServedWhole C.may_give J.schema number s.refused
+        → IsServedWhole C.may_give J.origin.schema number s.refused
         (map (λ r. record { number = r.number; entry = r.entry }) s.receipts.items)
         (I.remaining reader) (W.contents writer.old) (W.contents writer.new)) }
     ensures in_part { IfOk result (λ s. s.end ≢ End.Closed
-        → IsBrokenOff C.may_give J.schema number s.refused
+        → IsBrokenOff C.may_give J.origin.schema number s.refused
         (map (λ r. record { number = r.number; entry = r.entry }) s.receipts.items)
         (I.remaining reader) (W.contents writer.old) (W.contents writer.new)) }
-    ensures taken { IfOk result (λ s. HasTaken C.may_give J.schema number s.refused
+    ensures taken { IfOk result (λ s. HasTaken C.may_give J.origin.schema number s.refused
         (map (λ r. record { number = r.number; entry = r.entry }) s.receipts.items)) }
     ensures unserved { IfErr result (λ why.
         IsUnserved why (W.contents writer.old) (W.contents writer.new)) }
@@ -94,11 +94,11 @@ fn serve_lines<J: StoreName, R: Wait, I: Read + Drop, W: Write, C: Readings, G: 
     writer: &mut W,
 ) -> Result<Served<J>, Unserved>
     ensures closed { IfOk result (λ s. s.end ≡ End.Closed
-        → IsServedWhole C.may_give J.schema number s.refused
+        → IsServedWhole C.may_give J.origin.schema number s.refused
         (map (λ r. record { number = r.number; entry = r.entry }) s.receipts.items)
         (I.remaining reader) (W.contents writer.old) (W.contents writer.new)) }
     ensures in_part { IfOk result (λ s. s.end ≢ End.Closed
-        → IsBrokenOff C.may_give J.schema number s.refused
+        → IsBrokenOff C.may_give J.origin.schema number s.refused
         (map (λ r. record { number = r.number; entry = r.entry }) s.receipts.items)
         (I.remaining reader) (W.contents writer.old) (W.contents writer.new)) }
     ensures unserved { IfErr result (λ why.

@@ -1,9 +1,12 @@
 //! Connections, each served in a thread of its own.
 ghost use Rattle.std.specs.Prelude.{◌≡◌, ◌≢◌, ℕ, All, IfErr, IfOk, List, OnOk, Some, length, map, true};
 ghost use Rattle.values.specs.Log.{Row};
+ghost use Rattle.values.specs.Tables.{Schema};
+ghost use Rattle.histories.specs.History.{History};
 ghost use Rattle.sessions.specs.journal.Entries.{entry_at};
 ghost use Rattle.sessions.specs.book.Book.{IsBook, most_entries};
 ghost use Rattle.serving.specs.Progress.{Given};
+ghost use Rattle.runs.specs.OneHistory.{Carries};
 ghost use Rattle.runs.specs.Run.{IsLoaded};
 ghost use Rattle.listening.specs.Connection.{IsOneRun, IsServedRun};
 
@@ -45,8 +48,8 @@ pub enum ListenFault {
 /// with their receipts and those of what was done before.
 ///
 /// The closed store is a book (`IsBook`), and the receipts of what was done before are of its
-/// entries. Where those are a load's, there is one history (`IsOneRun`): its entries are the store's
-/// in their order, and each session was sent its replies at the places of its lines; `E10` was among them
+/// entries. Where those are a load's, there is one history (`IsOneRun`), which goes on from any that
+/// the store began with (`Carries`): its entries are the store's in their order, and each session was sent its replies at the places of its lines; `E10` was among them
 /// only for lines that take memory, and `E13` only if the journal has all entries that it may have. How
 /// each session was served, receipt by receipt, `IsServedRun` says besides. Which bytes a socket had is
 /// not known: of a session it is said of some lines.
@@ -68,17 +71,18 @@ where
     J: StoreName,
     R: Net<Listener = TcpListener, Stream = TcpStream> + Clock + Threads + Wait + Sync,
     G: Gate + Sync,
-    ensures book { IfOk result (IsBook J.schema) }
+    ensures book { IfOk result (IsBook J.origin) }
     ensures stand { IfOk result (λ c. All (λ r.
         entry_at c.entries r.number ≡ Some r.entry) before.items) }
-    ensures history { IfOk result (λ c. (table : ℕ) (rows : List Row)
-        → IsLoaded J.schema table rows
+    ensures history { IfOk result (λ c. (start : Schema) (earlier : History)
+        → Carries start earlier J.origin → (table : ℕ) (rows : List Row)
+        → IsLoaded J.origin.schema table rows
         (map (λ r. record { number = r.number; entry = r.entry }) before.items)
-        → IsOneRun J.schema sessions table rows c) }
+        → IsOneRun start earlier sessions table rows c) }
     ensures run { IfOk result (λ c. (table : ℕ) (rows : List Row)
-        → IsLoaded J.schema table rows
+        → IsLoaded J.origin.schema table rows
         (map (λ r. record { number = r.number; entry = r.entry }) before.items)
-        → IsServedRun J.schema sessions table rows
+        → IsServedRun J.origin sessions table rows
         (map (λ r. record { number = r.number; entry = r.entry }) before.items) c) }
     ensures why { IfErr result (λ fault. fault ≢ ListenFault.Socket) }
 {

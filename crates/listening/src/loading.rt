@@ -38,9 +38,9 @@ pub fn load_into<J: StoreName, R: Wait>(
     table: u8,
     rows: &[Row],
 ) -> Result<Loaded<J>, Unloaded<J>>
-    ensures ok { IfOk result (λ l. IsLoadedAt J.schema table rows.now
+    ensures ok { IfOk result (λ l. IsLoadedAt J.origin.schema table rows.now
         (map (λ r. record { number = r.number; entry = r.entry }) l.receipts.items) l.instant) }
-    ensures err { IfErr result (λ u. IsUnloaded J.schema table rows.now u.refusal
+    ensures err { IfErr result (λ u. IsUnloaded J.origin.schema table rows.now u.refusal
         (map (λ r. record { number = r.number; entry = r.entry }) u.receipts.items)) }
 {
     if rows.is_empty() {
@@ -84,12 +84,12 @@ fn load_begun<J: StoreName, R: Wait>(
     table: u8,
     rows: &[Row],
 ) -> Result<Loaded<J>, Unloaded<J>>
-    requires begun { IsBegun (unbegun J.schema) session.old begun.number begun.entry }
+    requires begun { IsBegun (unbegun J.origin.schema) session.old begun.number begun.entry }
     requires none { receipts.items ≡ [] }
     requires room { MOST_RECEIPTS ≤ vec_capacity receipts }
-    ensures ok { IfOk result (λ l. IsLoadAt J.schema table rows.now
+    ensures ok { IfOk result (λ l. IsLoadAt J.origin.schema table rows.now
         (map (λ r. record { number = r.number; entry = r.entry }) l.receipts.items) l.instant) }
-    ensures err { IfErr result (λ u. IsUnloaded J.schema table rows.now u.refusal
+    ensures err { IfErr result (λ u. IsUnloaded J.origin.schema table rows.now u.refusal
         (map (λ r. record { number = r.number; entry = r.entry }) u.receipts.items)) }
 {
     let mut receipts = receipts;
@@ -110,7 +110,7 @@ fn commit_begun<J: StoreName, R: Wait>(
     begun: Receipt<J>,
     receipts: Vec<Receipt<J>>,
 ) -> Result<Loaded<J>, Unloaded<J>>
-    requires tables { session.old.schema ≡ J.schema }
+    requires tables { session.old.schema ≡ J.origin.schema }
     requires open { IsSome session.old.transaction }
     requires none { receipts.items ≡ [] }
     requires room { MOST_RECEIPTS ≤ vec_capacity receipts }

@@ -51,7 +51,7 @@ impl<J: StoreName> Model for Pile<J> {
       has_full = p.has_full;
     } };
 
-    ghost invariant = { λ p. IsPile J.schema record {
+    ghost invariant = { λ p. IsPile J.origin.schema record {
       given = map (λ r. record { number = r.number; entry = r.entry }) p.receipts.items;
       sessions = p.sessions.items;
       is_run = p.is_run;
@@ -80,7 +80,7 @@ impl<J: StoreName> Pile<J> {
         origin: Origin,
         receipts: &mut Vec<Receipt<J>>,
     ) -> Result<(), AllocError>
-        requires { IsOf J.schema origin
+        requires { IsOf J.origin.schema origin
             (map (λ r. record { number = r.number; entry = r.entry }) receipts.old.items) }
         ensures given { OnOk result (self.new.given ≡ self.old.given
             ++ map (λ r. record { number = r.number; entry = r.entry }) receipts.old.items) }
@@ -133,7 +133,7 @@ impl<J: StoreName> Pile<J> {
         ensures run { result.1 ≡ (self.is_run && list_all (λ n. nat_le n most) self.sessions) }
         ensures full { result.2 ≡ self.has_full }
         ensures parts { self.is_run ≡ true
-            → AreOfRun J.schema self.sessions self.has_full self.given }
+            → AreOfRun J.origin.schema self.sessions self.has_full self.given }
     {
         let Pile {
             receipts,
@@ -201,7 +201,7 @@ pub(crate) fn hand_over<J: StoreName, R: Wait>(
     origin: Origin,
     receipts: Vec<Receipt<J>>,
 )
-    requires { IsOf J.schema origin
+    requires { IsOf J.origin.schema origin
         (map (λ r. record { number = r.number; entry = r.entry }) receipts.items) }
 {
     let mut receipts = receipts;

@@ -1,18 +1,25 @@
 //! A store that is loaded, served and closed, and what is written of it.
-ghost use Rattle.std.specs.Prelude.{◌≡◌, ◌⊎◌, ℕ, [], List, Some, IfOk, IfErr, OnOk, map, codes, length};
+ghost use Rattle.std.specs.Prelude.{◌≡◌, ◌⊎◌, ℕ, [], List, Some, IfOk, IfErr, OnOk, map, codes, length, true};
 ghost use Rattle.std.specs.Io.KnownBytes.{Appends, Keeps};
 ghost use Rattle.values.specs.Commits.{max_instant};
-ghost use Rattle.values.specs.Log.{Row, changes};
+ghost use Rattle.values.specs.Log.{Row, changes, last as last_of};
 ghost use Rattle.values.specs.Memory.{OnlyMemory};
 ghost use Rattle.values.specs.Tables.{table_at};
 ghost use Rattle.values.specs.TableRules.{IsTable};
 ghost use Rattle.values.specs.Versions.{answer};
 ghost use Rattle.values.specs.declared.query.Form.TheVariants.{Between};
+ghost use Rattle.growlog.specs.Origin.{Origin};
+ghost use Rattle.steps.specs.Idle.{is_idle};
+ghost use Rattle.histories.specs.History.{History, has_open};
+ghost use Rattle.interleaving.specs.SystemState.{Stands};
 ghost use Rattle.statement.specs.Print.{numbered};
 ghost use Rattle.statement.specs.Writer.{AppendsPrefix};
 ghost use Rattle.sessions.specs.journal.Entries.{log};
 ghost use Rattle.sessions.specs.book.Book.{IsBook};
+ghost use Rattle.sessions.specs.staging.View.{Holds};
+ghost use Rattle.sessions.specs.tsbtree.View.{last};
 ghost use Rattle.serving.specs.Progress.{Given};
+ghost use Rattle.runs.specs.OneHistory.{Carries};
 ghost use Rattle.runs.specs.Run.{IsLoaded};
 ghost use Rattle.listening.specs.Connection.{IsOneRun, IsServedRun};
 ghost use Rattle.listening.specs.Server.{EndsAfter, HasFirst, HasListened, HasNoFirst, HasReported, HasServed, HasStopped, IsClosedWith, IsExportOf, IsOfExport, StopsListening, StopsLate, versions_text};
@@ -23,8 +30,10 @@ use crate::loading::{Loaded, Unloaded, load_into};
 use crate::socket::bind;
 use growlog::{NewLog, StoreName};
 use interchange::{ExportFault, export, report_loaded, report_number};
+use interleaving::System;
+use restoring::histories_are_of_changes;
 use searchrange::Search;
-use sessions::{Closed, LockedStore, Receipt, SharedEntry};
+use sessions::{Closed, Engine, LockedStore, Receipt, SharedEntry};
 use std::alloc::Global;
 use std::io::Write;
 use std::marker::Brand;
@@ -70,30 +79,36 @@ struct Stopped<J: StoreName> {
 
 const OUT_OF_MEMORY: ServerFault = ServerFault::Listen(ListenFault::Memory);
 
-/// Serves connections round a store of these tables, and reports its progress as it happens: if
-/// rows are to be loaded, `loaded N at I`; once it listens, `listening P`, where P is the port;
-/// when all connections have ended, `closed J`, where J is the number of entries; and then the
-/// table that is exported, with all its versions. What all sessions were sent, with the load before
-/// them, is one history of the closed store, and of each session its receipts are said besides
-/// (`HasServed`).
+/// Serves connections round a store that begins with what a system has come to, and reports its
+/// progress as it happens: if rows are to be loaded, `loaded N at I`; once it listens,
+/// `listening P`, where P is the port; when all connections have ended, `closed J`, where J is the
+/// number of entries; and then the table that is exported, with all its versions. What all sessions
+/// were sent, with the load before them, goes on from the system's history as one with it, and of each
+/// session its receipts are said besides (`HasServed`). The system is to have no transaction open: one
+/// that is, is let go, and nothing is said of what follows.
 pub fn serve<R, O>(
     rt: &R,
     alloc: Global,
     out: &mut O,
-    schema: Schema,
+    system: System,
     first: Option<TableRows>,
     plan: Plan,
 ) -> Result<(), ServerFault>
 where
     R: Net<Listener = TcpListener, Stream = TcpStream> + Clock + Threads + Wait + Sync,
     O: Write,
-    requires export { IsExportOf schema plan.export }
-    ensures ok { OnOk result (HasServed schema first plan
-        (O.contents out.old) (O.contents out.new)) }
-    ensures err { IfErr result (λ fault. HasStopped fault schema first plan
-        (O.contents out.old) (O.contents out.new)) }
+    requires export { IsExportOf system.schema plan.export }
+    requires known { (start : Schema) × (before : History) × Stands start system before }
+    ensures ok { OnOk result ((start : Schema) (before : History) → Stands start system before
+        → is_idle (has_open before) ≡ true
+        → HasServed start before first plan (O.contents out.old) (O.contents out.new)) }
+    ensures err { IfErr result (λ fault. (start : Schema) (before : History)
+        → Stands start system before → is_idle (has_open before) ≡ true
+        → HasStopped fault start before first plan (O.contents out.old) (O.contents out.new)) }
 {
-    serve_store::<Brand, R, O>(rt, alloc, out, schema, first, plan, NewLog::new())
+    histories_are_of_changes();
+    let (schema, engine) = system.into_parts();
+    serve_store::<Brand, R, O>(rt, alloc, out, schema, engine, first, plan, NewLog::new())
 }
 
 fn serve_store<J, R, O>(
@@ -101,6 +116,7 @@ fn serve_store<J, R, O>(
     alloc: Global,
     out: &mut O,
     schema: Schema,
+    engine: Engine,
     first: Option<TableRows>,
     plan: Plan,
     opened: NewLog<SharedEntry>,
@@ -110,19 +126,20 @@ where
     R: Net<Listener = TcpListener, Stream = TcpStream> + Clock + Threads + Wait + Sync,
     O: Write,
     requires log { opened.seen.book ≡ J.book }
-    requires tables { schema ≡ J.schema }
+    requires tables { schema ≡ J.origin.schema }
+    requires holds { Holds J.origin.schema engine (changes J.origin.log) }
+    requires clock { last engine ≡ last_of J.origin.log }
     requires export { IsExportOf schema plan.export }
-    ensures ok { OnOk result (HasServed schema first plan
-        (O.contents out.old) (O.contents out.new)) }
-    ensures err { IfErr result (λ fault. HasStopped fault schema first plan
-        (O.contents out.old) (O.contents out.new)) }
+    ensures ok { OnOk result ((start : Schema) (before : History) → Carries start before J.origin
+        → HasServed start before first plan (O.contents out.old) (O.contents out.new)) }
+    ensures err { IfErr result (λ fault. (start : Schema) (before : History)
+        → Carries start before J.origin
+        → HasStopped fault start before first plan (O.contents out.old) (O.contents out.new)) }
 {
     let Ok(tables) = schema.copy(alloc) else {
         return Err(OUT_OF_MEMORY);
     };
-    let Ok(store) = LockedStore::<J>::new(alloc, schema, opened) else {
-        return Err(OUT_OF_MEMORY);
-    };
+    let store = LockedStore::<J>::over(alloc, schema, engine, opened);
     let receipts = match load_first(rt, alloc, out, &store, first) {
         Ok(receipts) => receipts,
         Err(Stopped { fault, receipts }) => {
@@ -144,10 +161,10 @@ fn load_first<J: StoreName, R: Wait, O: Write>(
     store: &LockedStore<J>,
     first: Option<TableRows>,
 ) -> Result<Vec<Receipt<J>>, Stopped<J>>
-    ensures ok { IfOk result (λ receipts. HasFirst J.schema first
+    ensures ok { IfOk result (λ receipts. HasFirst J.origin.schema first
         (map (λ r. record { number = r.number; entry = r.entry }) receipts.items)
         (O.contents out.old) (O.contents out.new)) }
-    ensures err { IfErr result (λ stopped. HasNoFirst stopped.fault J.schema first
+    ensures err { IfErr result (λ stopped. HasNoFirst stopped.fault J.origin.schema first
         (O.contents out.old) (O.contents out.new)) }
 {
     match first {
@@ -163,10 +180,10 @@ fn load_and_report<J: StoreName, R: Wait, O: Write>(
     store: &LockedStore<J>,
     first: &TableRows,
 ) -> Result<Vec<Receipt<J>>, Stopped<J>>
-    ensures ok { IfOk result (λ receipts. HasReported J.schema first.now
+    ensures ok { IfOk result (λ receipts. HasReported J.origin.schema first.now
         (map (λ r. record { number = r.number; entry = r.entry }) receipts.items)
         (O.contents out.old) (O.contents out.new)) }
-    ensures err { IfErr result (λ stopped. HasNoFirst stopped.fault J.schema (Some first.now)
+    ensures err { IfErr result (λ stopped. HasNoFirst stopped.fault J.origin.schema (Some first.now)
         (O.contents out.old) (O.contents out.new)) }
 {
     let rows = first.rows.as_slice();
@@ -225,16 +242,17 @@ where
     R: Net<Listener = TcpListener, Stream = TcpStream> + Clock + Threads + Wait + Sync,
     O: Write,
     ensures ok { IfOk result (λ closed. HasListened plan.port
-        (O.contents out.old) (O.contents out.new) × IsClosedWith J.schema
+        (O.contents out.old) (O.contents out.new) × IsClosedWith J.origin
         (map (λ r. record { number = r.number; entry = r.entry }) receipts.items) closed) }
-    ensures history { IfOk result (λ closed. (table : ℕ) (rows : List Row)
-        → IsLoaded J.schema table rows
+    ensures history { IfOk result (λ closed. (start : Schema) (before : History)
+        → Carries start before J.origin → (table : ℕ) (rows : List Row)
+        → IsLoaded J.origin.schema table rows
         (map (λ r. record { number = r.number; entry = r.entry }) receipts.items)
-        → IsOneRun J.schema plan.sessions table rows closed) }
+        → IsOneRun start before plan.sessions table rows closed) }
     ensures run { IfOk result (λ closed. (table : ℕ) (rows : List Row)
-        → IsLoaded J.schema table rows
+        → IsLoaded J.origin.schema table rows
         (map (λ r. record { number = r.number; entry = r.entry }) receipts.items)
-        → IsServedRun J.schema plan.sessions table rows
+        → IsServedRun J.origin plan.sessions table rows
         (map (λ r. record { number = r.number; entry = r.entry }) receipts.items) closed) }
     ensures err { IfErr result (λ fault. StopsListening fault plan.port
         (O.contents out.old) (O.contents out.new)) }
@@ -273,10 +291,11 @@ fn close_with<O: Write>(
     closed: &Closed,
 ) -> Result<(), ServerFault>
     requires { IsExportOf tables.now number }
-    ensures ok { OnOk result (IsBook tables.now closed.now
-        → EndsAfter tables.now number closed.now (O.contents out.old) (O.contents out.new)) }
-    ensures err { IfErr result (λ fault. IsBook tables.now closed.now → StopsLate fault
-        tables.now number closed.now (O.contents out.old) (O.contents out.new)) }
+    ensures ok { OnOk result ((o : Origin) → o.schema ≡ tables.now → IsBook o closed.now
+        → EndsAfter o number closed.now (O.contents out.old) (O.contents out.new)) }
+    ensures err { IfErr result (λ fault. (o : Origin) → o.schema ≡ tables.now
+        → IsBook o closed.now
+        → StopsLate fault o number closed.now (O.contents out.old) (O.contents out.new)) }
 {
     match report(out, b"closed ", closed.entries() as u64) {
         Ok(()) => {}
@@ -299,14 +318,14 @@ fn export_closed<O: Write>(
     closed: &Closed,
 ) -> Result<(), ServerFault>
     requires { IsTable table.now.number table.now }
-    ensures ok { OnOk result ((schema : Schema) → IsBook schema closed.now
-        → table_at schema table.now.number ≡ Some table.now
+    ensures ok { OnOk result ((o : Origin) → IsBook o closed.now
+        → table_at o.schema table.now.number ≡ Some table.now
         → Appends (O.contents out.old) (O.contents out.new)
-        (versions_text schema closed.now table.now)) }
-    ensures err { IfErr result (λ fault. (schema : Schema) → IsBook schema closed.now
-        → table_at schema table.now.number ≡ Some table.now
+        (versions_text o closed.now table.now)) }
+    ensures err { IfErr result (λ fault. (o : Origin) → IsBook o closed.now
+        → table_at o.schema table.now.number ≡ Some table.now
         → IsOfExport fault × AppendsPrefix (O.contents out.old) (O.contents out.new)
-        (versions_text schema closed.now table.now)) }
+        (versions_text o closed.now table.now)) }
 {
     let Ok(shown) = versions_of(alloc, closed, table) else {
         return Err(OUT_OF_MEMORY);
@@ -324,9 +343,9 @@ fn export_closed<O: Write>(
 /// Returns all versions of a table.
 fn versions_of(alloc: Global, closed: &Closed, table: &Table) -> Mem<Vec<Shown>>
     requires { IsTable table.now.number table.now }
-    ensures ok { IfOk result (λ shown. (schema : Schema) → IsBook schema closed.now
-        → table_at schema table.now.number ≡ Some table.now
-        → shown.items ≡ answer (changes (log schema closed.now.entries)) table.now
+    ensures ok { IfOk result (λ shown. (o : Origin) → IsBook o closed.now
+        → table_at o.schema table.now.number ≡ Some table.now
+        → shown.items ≡ answer (changes (log o closed.now.entries)) table.now
         (Between 0 max_instant) (record { table = table.now.number; comparisons = [] })) }
     ensures err { OnlyMemory result }
 {

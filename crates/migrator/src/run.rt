@@ -53,9 +53,9 @@ where
         (map (λ r. (r.number, r.entry)) receipts.items)) }
     ensures broken { IfErr result (λ fault. IsBroken session.old session.new
         (map (λ r. (r.number, r.entry)) fault.receipts.items)) }
-    ensures own { session.old.schema ≡ J.schema → IfErr result (λ fault.
+    ensures own { session.old.schema ≡ J.origin.schema → IfErr result (λ fault.
         fault.receipts.items ≡ [] → IsNoRoom fault.cause) }
-    ensures other { session.old.schema ≢ J.schema → IsErrAnd result (λ fault.
+    ensures other { session.old.schema ≢ J.origin.schema → IsErrAnd result (λ fault.
         (fault.receipts.items ≡ []) × IsNoStart fault.cause) }
 {
     let mut receipts = Vec::new(alloc);
@@ -80,8 +80,8 @@ fn begin<J: StoreName, R: Wait>(
 ) -> Result<Receipt<J>, Cause>
     requires { session.old.transaction ≡ None }
     ensures ok { IfOk result (λ r. HasBegun session.old session.new (r.number, r.entry)) }
-    ensures other { session.old.schema ≢ J.schema → result ≡ Err Cause.Worker }
-    ensures own { session.old.schema ≡ J.schema → IfErr result IsNoRoom }
+    ensures other { session.old.schema ≢ J.origin.schema → result ≡ Err Cause.Worker }
+    ensures own { session.old.schema ≡ J.origin.schema → IfErr result IsNoRoom }
     ensures err { OnErr result (session.new ≡ session.old) }
 {
     let receipt = begin_at(rt, store, session)?;

@@ -23,8 +23,8 @@ pub(crate) fn begin_at<J: StoreName, R: Wait>(
 ) -> Result<Receipt<J>, Cause>
     requires { session.old.transaction ≡ None }
     ensures begun { IfOk result (λ r. IsBegun session.old session.new r.number r.entry) }
-    ensures other { session.old.schema ≢ J.schema → result ≡ Err Cause.Worker }
-    ensures own { session.old.schema ≡ J.schema → IfErr result IsNoRoom }
+    ensures other { session.old.schema ≢ J.origin.schema → result ≡ Err Cause.Worker }
+    ensures own { session.old.schema ≡ J.origin.schema → IfErr result IsNoRoom }
     ensures refused { OnErr result (session.new ≡ session.old) }
 {
     match store.begin(rt, session) {

@@ -1,6 +1,7 @@
 -- A part beside a history: what is said of one event, and what stays.
 use Rattle.std.proofs.Common.{◌≡◌, ℕ, ◌≤◌, ◌⊎◌, Bool, List, [], ◌∷◌, Option, Some, None, length}
 use Rattle.values.specs.Tables.{Schema}
+use Rattle.growlog.specs.Origin.{Origin}
 use Rattle.values.specs.Log.{Log, changes}
 use Rattle.values.specs.Events.{AreChangesIn}
 use Rattle.values.specs.Writes.{Own}
@@ -96,12 +97,12 @@ module _ (schema : Schema) where
   abbrev pub Moves : Event → Held → Held → Type 0
   Moves x t t' = MovesBy x.part x.number x.entry x.step t t'
 
-module _ (schema : Schema) where
+module _ (first : Schema) (origin : Origin) where
   -- the entry may follow those before it, and has the next number
   pub record MayCome (w : World) (number : ℕ) (e : Entry) : Type 0 where
-    pub follows : MayFollow schema w.entries e
+    pub follows : MayFollow origin w.entries e
     pub numbered : number ≡ length (e ∷ w.entries)
-    pub keys : AreChangesIn schema (changes (journal_log schema w.entries))
+    pub keys : AreChangesIn origin.schema (changes (journal_log origin w.entries))
 
   abbrev pub MayBy : World → ℕ → Option Entry → Type 0
   MayBy w number None = Unit {0}
@@ -111,25 +112,25 @@ module _ (schema : Schema) where
   May w x = MayBy w x.number x.entry
 
   abbrev pub Right : World → Event → Type 0
-  Right w x = IsRight schema w.history x.step
+  Right w x = IsRight first w.history x.step
 
   -- the transaction is the history's
   pub record IsOpened (w : World) (i : ℕ) (t : ServedTransaction) : Type 0 where
     pub before : Log
-    pub at : log_at_begin schema w.history i ≡ Some before
-    pub changes_are : t.changes ≡ seen_at schema w.history i
-    pub own_is : ◌≡◌ {A = Option Own} (Some t.own) (own_at schema w.history i)
+    pub at : log_at_begin first w.history i ≡ Some before
+    pub changes_are : t.changes ≡ seen_at first w.history i
+    pub own_is : ◌≡◌ {A = Option Own} (Some t.own) (own_at first w.history i)
     pub earlier : ℕ
     pub view : TreeState
     pub begun : entry_at w.entries t.begin ≡ Some (Begins i earlier view)
-    pub starts : view_last view ≡ snap schema w.history i
+    pub starts : view_last view ≡ snap first w.history i
 
   abbrev pub Opened : World → ℕ → Held → Type 0
-  Opened w i None = log_at_begin schema w.history i ≡ None
+  Opened w i None = log_at_begin first w.history i ≡ None
   Opened w i (Some t) = IsOpened w i t
 
   -- the journal's log is the history's, and so is what the part has open
   pub record Beside (w : World) (i : ℕ) (t : Held) : Type 0 where
-    pub tables_stay : schema_after schema w.history ≡ schema
-    pub log_is : journal_log schema w.entries ≡ log schema w.history
+    pub tables_are : schema_after first w.history ≡ origin.schema
+    pub log_is : journal_log origin w.entries ≡ log first w.history
     pub opened : Opened w i t

@@ -1,20 +1,25 @@
 -- A run whose store closed has one history: the events of all parts, in the order of their receipts.
 use Rattle.std.proofs.Common.{◌≡◌, ◌≢◌, ℕ, ◌≤◌, ◌==◌, Bool, true, false, cond, List, [], ◌∷◌, ◌++◌, Option, Some, None, is_some, refl, sym, ap, subst, ◌∙◌, arith, append-nil, append_assoc, filter, length, map, reverse, IsPermutation}
-use Rattle.std.specs.Prelude.{◌⊎◌}
+use Rattle.std.specs.Prelude.{◌⊎◌, nat_le}
 use Rattle.std.specs.List.{AllByRecursion, cons_option, flat_map}
 use Rattle.std.specs.Option.{option_map}
 use Rattle.std.proofs.lemmas.Bool.Decides.{nat_tests}
 use Rattle.std.proofs.lemmas.List.Elements.{filter-append, filter_map-append}
 use Rattle.values.specs.Tables.{Schema}
+use Rattle.growlog.specs.Origin.{Origin}
 use Rattle.values.specs.Log.{Row}
 use Rattle.steps.specs.Misfit.{max_session}
-use Rattle.histories.specs.History.{log}
+use Rattle.steps.specs.Idle.{is_idle}
+use Rattle.histories.specs.History.{History, has_open, log, log_at_begin}
+use Rattle.histories.proofs.HistoryGrowth.{log_rises}
+use Rattle.histories.proofs.HistoryIdle.{none_open}
+use Rattle.histories.proofs.StandsAltered.{begun_alike, each_closed, none_of as none_where}
 use Rattle.serving.specs.journal.declared.entry.Entry.{Entry}
 use Rattle.serving.specs.journal.Entries.{Entries, entry_at, numbers, log as journal_log}
 use Rattle.serving.specs.book.Book.{BookState}
 use Rattle.serving.specs.Progress.{Given, after}
 use Rattle.runs.specs.Event.{Event, AreRight, history_after, of_part, receipt_of, receipts_of, with_step}
-use Rattle.runs.specs.OneHistory.{OneHistory, ServedRunsAreHistories, TellsLoaded, IsServiceEvent, dialogue_of, service_part}
+use Rattle.runs.specs.OneHistory.{OneHistory, come_to, ServedRunsAreHistories, TellsLoaded, IsServiceEvent, dialogue_of, service_part}
 use Rattle.runs.specs.Run.{AreApart, IsPart, IsRefusedRightly, IsRun, Part, all_given}
 use Rattle.runs.specs.Tells.{Tells}
 use Rattle.runs.proofs.RunAlong.{Chain, RightAll, after_all, run, same_number}
@@ -72,9 +77,9 @@ each_stands j (x ∷ xs) each = by x.entry each.0 (each_stands j xs each.1)
 
 -- ---- what is reached
 
-module _ (schema : Schema) (b : BookState) where
+module _ (first : Schema) (origin : Origin) where
   abbrev After : World → List Event → World
-  After = after_all (λ (e : Event). e.part) add (Moves schema) (May schema) (Right schema) (Beside schema)
+  After = after_all (λ (e : Event). e.part) add (Moves origin.schema) (May first origin) (Right first origin) (Beside first origin)
 
   reached : (xs : List Event) (w : World) → After w xs ≡ record { entries = onto (entries_of (receipts_of xs)) w.entries; history = history_after w.history xs }
   reached [] w = refl
@@ -85,10 +90,11 @@ module _ (schema : Schema) (b : BookState) where
       by None = refl
       by (Some e) = refl
 
-  right_all : (xs : List Event) (w : World) → RightAll (λ (e : Event). e.part) add (Moves schema) (May schema) (Right schema) (Beside schema) w xs → AreRight schema w.history xs
+  right_all : (xs : List Event) (w : World) → RightAll (λ (e : Event). e.part) add (Moves origin.schema) (May first origin) (Right first origin) (Beside first origin) w xs → AreRight first w.history xs
   right_all [] w right = tt
   right_all (x ∷ xs) w right = (right.0, right_all xs (add x w) right.1)
 
+module _ (schema : Schema) (b : BookState) where
   -- ---- the parts of sessions
 
   record Session (p : Part) : Type 0 where
@@ -168,14 +174,26 @@ module _ (schema : Schema) (b : BookState) where
       ∙ (λ k. s.0.known.takes k ++ all_receipts parts s.1 last k)
       ∙ sym (append_assoc p.given (flat_map (λ p. p.given) parts) (receipts_of last.events))
 
-  -- ---- the whole
+-- ---- the whole
 
-  module _ (table : ℕ) (rows : List Row) (loaded : List Given) (parts : List Part) (service : List Given) (is : IsRun schema b table rows loaded parts service) where
-    load : LoadEvents schema table rows loaded
-    load = load_events schema table rows loaded is.is_loaded
+-- where nobody has a transaction open, no session has one
+none_begun : (first : Schema) (h : History) (i : ℕ) → is_idle (has_open h) ≡ true → log_at_begin first h i ≡ None
+none_begun first h i idle = by (nat_le i max_session) refl
+  where
+    by : (b : Bool) → nat_le i max_session ≡ b → log_at_begin first h i ≡ None
+    by true e = none_where (log_at_begin first h i) (begun_alike first h i ∙ each_closed max_session (has_open h) idle i (grind (arith, nat_tests, e)))
+    by false e = none_open first h i (grind (arith, nat_tests, e))
 
-    served : Sessions parts
-    served = sessions parts is.are_parts is.refused
+module _ (first : Schema) (before : History) (idle : is_idle (has_open before) ≡ true) (b : BookState) where
+  abbrev origin : Origin
+  origin = come_to first before
+
+  module _ (table : ℕ) (rows : List Row) (loaded : List Given) (parts : List Part) (service : List Given) (is : IsRun origin b table rows loaded parts service) where
+    load : LoadEvents origin.schema table rows loaded
+    load = load_events origin.schema table rows loaded is.is_loaded
+
+    served : Sessions origin.schema b parts
+    served = sessions origin.schema b parts is.are_parts is.refused
 
     abbrev load_piece : Piece
     load_piece = record { part = 0; events = load.events }
@@ -184,7 +202,7 @@ module _ (schema : Schema) (b : BookState) where
     service_piece = record { part = service_part; events = service_events service }
 
     abbrev others : List Piece
-    others = pieces parts served ++ service_piece ∷ []
+    others = pieces origin.schema b parts served ++ service_piece ∷ []
 
     abbrev all : List Piece
     all = load_piece ∷ others
@@ -193,19 +211,19 @@ module _ (schema : Schema) (b : BookState) where
     abbrev events : List Event
     events = load.events ++ in_turn number_of (all_events others)
 
-    are : AllByRecursion (IsPiece schema) all
+    are : AllByRecursion (IsPiece origin.schema) all
     are = (
-      record { its = load.its; end = None; goes = subst (λ xs. Chain (Moves schema) None xs None) (sym (climbing load.events load.climbs)) load.goes },
-      are_pieces parts served service_piece (record { its = service_its service; end = None; goes = service_goes schema service is.serviced }),
+      record { its = load.its; end = None; goes = subst (λ xs. Chain (Moves origin.schema) None xs None) (sym (climbing origin.schema b load.events load.climbs)) load.goes },
+      are_pieces origin.schema b parts served service_piece (record { its = service_its service; end = None; goes = service_goes origin.schema service is.serviced }),
     )
 
     apart : Apart all
-    apart = (none_zero parts served service_piece refl, are_apart parts served service_piece refl is.apart)
+    apart = (none_zero origin.schema b parts served service_piece refl, are_apart origin.schema b parts served service_piece refl is.apart)
 
     receipts_are : receipts_of (all_events all) ≡ all_given loaded parts service
     receipts_are =
-        receipts_joined load.events (all_events (pieces parts served ++ service_piece ∷ []))
-        ∙ (λ k. load.takes k ++ (all_receipts parts served service_piece ∙ ap (λ gs. flat_map (λ p. p.given) parts ++ gs) (service_takes service)) k)
+        receipts_joined origin.schema b load.events (all_events (pieces origin.schema b parts served ++ service_piece ∷ []))
+        ∙ (λ k. load.takes k ++ (all_receipts origin.schema b parts served service_piece ∙ ap (λ gs. flat_map (λ p. p.given) parts ++ gs) (service_takes service)) k)
 
     -- the events that took a receipt
     split : filter took (all_events all) ≡ filter took load.events ++ filter took (all_events others)
@@ -253,70 +271,72 @@ module _ (schema : Schema) (b : BookState) where
         by : (b : Bool) → (0 == i) ≡ b → InTurn i
         by true h = subst InTurn (same_number 0 i h) (
             parted 0
-            ∙ (λ k. mine 0 load.events load.its k ++ in_turn number_of (none_of schema 0 others are.1 apart.0 k))
+            ∙ (λ k. mine 0 load.events load.its k ++ in_turn number_of (none_of origin.schema 0 others are.1 apart.0 k))
             ∙ append-nil load.events
-            ∙ sym (climbing load.events load.climbs)
-            ∙ ap (in_turn number_of) (sym (first_of schema load_piece others are apart)))
+            ∙ sym (climbing origin.schema b load.events load.climbs)
+            ∙ ap (in_turn number_of) (sym (first_of origin.schema load_piece others are apart)))
         by false h =
             parted i
             ∙ ap (λ xs. xs ++ in_turn number_of (of_part i (all_events others))) (not_mine i 0 load.events h load.its)
-            ∙ ap (in_turn number_of) (sym (later_of schema i load_piece others are.0 h))
+            ∙ ap (in_turn number_of) (sym (later_of origin.schema i load_piece others are.0 h))
 
     loaded_is : of_part 0 events ≡ load.events
-    loaded_is = of_all 0 ∙ ap (in_turn number_of) (first_of schema load_piece others are apart) ∙ climbing load.events load.climbs
+    loaded_is = of_all 0 ∙ ap (in_turn number_of) (first_of origin.schema load_piece others are apart) ∙ climbing origin.schema b load.events load.climbs
 
     abbrev start : World
-    start = record { entries = []; history = [] }
+    start = record { entries = []; history = before }
 
-    comes : (i : ℕ) → (t : Held) × Chain (Moves schema) None (of_part i events) t
-    comes i = subst (λ xs. (t : Held) × Chain (Moves schema) None xs t) (sym (of_all i)) (goes_of schema i all are apart)
+    comes : (i : ℕ) → (t : Held) × Chain (Moves origin.schema) None (of_part i events) t
+    comes i = subst (λ xs. (t : Held) × Chain (Moves origin.schema) None xs t) (sym (of_all i)) (goes_of origin.schema i all are apart)
 
-    ran : RightAll (λ (e : Event). e.part) add (Moves schema) (May schema) (Right schema) (Beside schema) start events
-        × ((i : ℕ) → Beside schema (After start events) i (comes i).0)
-    ran = run (λ (e : Event). e.part) add (Moves schema) (May schema) (Right schema) (Beside schema)
-        (record { own = own schema; other = other schema }) events start (λ i. None) (λ i. (comes i).0)
-        (all_may_come schema b.entries events is.is_book.legal is.is_book.holds.keys entries_are numbers_are)
-        (λ i. record { tables_stay = refl; log_is = refl; opened = refl })
+    ran : RightAll (λ (e : Event). e.part) add (Moves origin.schema) (May first origin) (Right first origin) (Beside first origin) start events
+        × ((i : ℕ) → Beside first origin (After first origin start events) i (comes i).0)
+    ran = run (λ (e : Event). e.part) add (Moves origin.schema) (May first origin) (Right first origin) (Beside first origin)
+        (record { own = own first origin; other = other first origin }) events start (λ i. None) (λ i. (comes i).0)
+        (all_may_come first origin (log_rises first before) before b.entries events is.is_book.legal is.is_book.holds.keys entries_are numbers_are)
+        (λ i. record { tables_are = refl; log_is = refl; opened = none_begun first before i idle })
         (λ i. (comes i).1)
 
     abbrev LogIs : World → Type 0
-    LogIs w = journal_log schema w.entries ≡ log schema w.history
+    LogIs w = journal_log origin w.entries ≡ log first w.history
 
-    log_is : journal_log schema b.entries ≡ log schema (history_after [] events)
+    log_is : journal_log origin b.entries ≡ log first (history_after before events)
     log_is =
-        subst (λ j. journal_log schema j ≡ log schema (history_after [] events)) (ap (λ es. onto es []) entries_are ∙ whole_journal b.entries)
-        (subst LogIs (reached events start) (ran.1 0).log_is)
+        subst (λ j. journal_log origin j ≡ log first (history_after before events)) (ap (λ es. onto es []) entries_are ∙ whole_journal b.entries)
+        (subst LogIs (reached first origin events start) (ran.1 0).log_is)
 
     each : AllByRecursion (λ p. of_part p.part (all_events all) ≡ p.events) all
-    each = each_of schema all are apart
+    each = each_of origin.schema all are apart
 
-    tells : (parts : List Part) (s : Sessions parts) (last : Piece) → AllByRecursion (λ p. of_part p.part (all_events all) ≡ p.events) (pieces parts s ++ last ∷ [])
-        → AllByRecursion (λ d. Tells schema b d.number [] d.lines (of_part d.number events) d.text) (map dialogue_of parts) × (of_part last.part (all_events all) ≡ last.events)
+    tells : (parts : List Part) (s : Sessions origin.schema b parts) (last : Piece) → AllByRecursion (λ p. of_part p.part (all_events all) ≡ p.events) (pieces origin.schema b parts s ++ last ∷ [])
+        → AllByRecursion (λ d. Tells origin.schema b d.number [] d.lines (of_part d.number events) d.text) (map dialogue_of parts) × (of_part last.part (all_events all) ≡ last.events)
     tells [] s last each = (tt, each.0)
     tells (p ∷ parts) s last each =
         let rest = tells parts s.1 last each.1 in
-        let same : of_part p.number events ≡ s.0.events = of_all p.number ∙ ap (in_turn number_of) each.0 ∙ climbing s.0.events s.0.known.climbs in
-        ((subst (λ xs. Tells schema b p.number [] p.lines xs p.text) (sym same) s.0.tells, rest.0), rest.1)
+        let same : of_part p.number events ≡ s.0.events = of_all p.number ∙ ap (in_turn number_of) each.0 ∙ climbing origin.schema b s.0.events s.0.known.climbs in
+        ((subst (λ xs. Tells origin.schema b p.number [] p.lines xs p.text) (sym same) s.0.tells, rest.0), rest.1)
 
-    not_of : (i : ℕ) (parts : List Part) (s : Sessions parts) (last : Piece) → (last.part == i) ≡ false → AllByRecursion (λ d. d.number ≢ i) (map dialogue_of parts) → AllByRecursion (λ q. (q.part == i) ≡ false) (pieces parts s ++ last ∷ [])
+    not_of : (i : ℕ) (parts : List Part) (s : Sessions origin.schema b parts) (last : Piece) → (last.part == i) ≡ false → AllByRecursion (λ d. d.number ≢ i) (map dialogue_of parts) → AllByRecursion (λ q. (q.part == i) ≡ false) (pieces origin.schema b parts s ++ last ∷ [])
     not_of i [] s last other apart = (other, tt)
-    not_of i (p ∷ parts) s last other apart = (differ p.number i apart.0, not_of i parts s.1 last other apart.1)
+    not_of i (p ∷ parts) s last other apart = (differ origin.schema b p.number i apart.0, not_of i parts s.1 last other apart.1)
 
-    turned : (a b : ℕ) → b ≢ a → (a == b) ≡ false
-    turned a b other = differ a b (λ e. other (sym e))
+    turned : (m n : ℕ) → n ≢ m → (m == n) ≡ false
+    turned m n apart = differ origin.schema b m n (λ e. apart (sym e))
 
-    one : OneHistory schema b table rows (map dialogue_of parts) events
+    one : OneHistory first before b table rows (map dialogue_of parts) events
     one = record {
       entries_are = entries_are;
       numbered = numbers_are;
-      right = right_all events start ran.0;
+      right = right_all first origin events start ran.0;
       log_is = log_is;
       loaded = subst (TellsLoaded table rows) (sym loaded_is) load.tells;
       loaded_first = (in_turn number_of (all_events others), ap (λ xs. xs ++ in_turn number_of (all_events others)) (sym loaded_is));
       sent = (tells parts served service_piece each.1).0;
       service = subst (AllByRecursion IsServiceEvent) (sym (of_all service_part ∙ ap (in_turn number_of) (tells parts served service_piece each.1).1)) (service_tells service is.serviced);
-      no_other = λ i some inside apart. of_all i ∙ ap (in_turn number_of) (none_of schema i all are (turned 0 i some, not_of i parts served service_piece (turned service_part i inside) apart));
+      no_other = λ i some inside apart. of_all i ∙ ap (in_turn number_of) (none_of origin.schema i all are (turned 0 i some, not_of i parts served service_piece (turned service_part i inside) apart));
     }
 
 pub served_runs_are_histories : ServedRunsAreHistories
-served_runs_are_histories schema b table rows loaded parts service is = (events schema b table rows loaded parts service is, one schema b table rows loaded parts service is)
+served_runs_are_histories first before o b table rows loaded parts service carries is =
+    let run : IsRun (come_to first before) b table rows loaded parts service = subst (λ o. IsRun o b table rows loaded parts service) carries.origin_is is in
+    (events first before carries.idle b table rows loaded parts service run, one first before carries.idle b table rows loaded parts service run)

@@ -3,6 +3,7 @@ use Rattle.std.proofs.Common.{◌≡◌, ℕ, inl, inr, Bool, false, ◌∷◌, 
 use Rattle.std.specs.Prelude.{◌==◌, ◌&&◌, nat_le}
 use Rattle.std.proofs.lemmas.Bool.Decides.{nat_tests}
 use Rattle.values.specs.Tables.{Schema}
+use Rattle.growlog.specs.Origin.{Origin}
 use Rattle.steps.specs.declared.step.Step.{Step}
 use Rattle.steps.specs.declared.step.Step.TheVariants.{Begin, Insert, Update, Delete, UpdatePortion, DeletePortion, Select, Commit, Rollback, AddColumn, SplitKey, SplitTime, Migrate}
 use Rattle.steps.specs.declared.step.Reply.{Reply}
@@ -40,37 +41,37 @@ its_another i j Migrate its other = absurd its
 migrate_another : (i : ℕ) → IsOfAnother i Migrate
 migrate_another i = record { no_begin = refl; no_end = refl; no_write = refl; no_column = λ now idle. refl }
 
-module _ (schema : Schema) (w : World) (i : ℕ) where
-  with_another : (step : Step) (t : Held) → IsOfAnother i step → Opened schema w i t → Opened schema (record { entries = w.entries; history = step ∷ w.history }) i t
-  with_another step None other o = same_begin schema w.history step i other ∙ o
+module _ (first : Schema) (origin : Origin) (w : World) (i : ℕ) where
+  with_another : (step : Step) (t : Held) → IsOfAnother i step → Opened first origin w i t → Opened first origin (record { entries = w.entries; history = step ∷ w.history }) i t
+  with_another step None other o = same_begin first w.history step i other ∙ o
   with_another step (Some t) other o = record {
     before = o.before;
-    at = same_begin schema w.history step i other ∙ o.at;
-    changes_are = o.changes_are ∙ sym (seen_stays schema w.history step i other o.before o.at);
-    own_is = o.own_is ∙ open_stays schema w.history step i other o.before o.at;
+    at = same_begin first w.history step i other ∙ o.at;
+    changes_are = o.changes_are ∙ sym (seen_stays first w.history step i other o.before o.at);
+    own_is = o.own_is ∙ open_stays first w.history step i other o.before o.at;
     earlier = o.earlier;
     view = o.view;
     begun = o.begun;
-    starts = o.starts ∙ sym (snap_stays schema w.history step i other o.before o.at);
+    starts = o.starts ∙ sym (snap_stays first w.history step i other o.before o.at);
   }
 
-  more_entries : (history : History) (entry : Option Entry) (t : Held) → Opened schema (record { entries = w.entries; history = history }) i t → Opened schema (record { entries = with_entry entry w.entries; history = history }) i t
+  more_entries : (history : History) (entry : Option Entry) (t : Held) → Opened first origin (record { entries = w.entries; history = history }) i t → Opened first origin (record { entries = with_entry entry w.entries; history = history }) i t
   more_entries history None t o = o
-  more_entries history (Some e) t o = opened_more schema (record { entries = w.entries; history = history }) i e t o
+  more_entries history (Some e) t o = opened_more first origin (record { entries = w.entries; history = history }) i e t o
 
   -- what an event of another part leaves open
-  stays_by : (j number : ℕ) (entry : Option Entry) (step : Option (Step × Reply)) (t t' : Held) → (j == i) ≡ false → MovesBy schema j number entry step t t' → (s : Held) → Opened schema w i s
-      → Opened schema (record { entries = w.entries; history = with_step step w.history }) i s
+  stays_by : (j number : ℕ) (entry : Option Entry) (step : Option (Step × Reply)) (t t' : Held) → (j == i) ≡ false → MovesBy origin.schema j number entry step t t' → (s : Held) → Opened first origin w i s
+      → Opened first origin (record { entries = w.entries; history = with_step step w.history }) i s
   stays_by j number entry None t t' other did s o = o
   stays_by j number None (Some a) t t' other (inl did) s o = with_another a.0 s (its_another i j a.0 did.its other) o
   stays_by j number (Some e) (Some a) t t' other (inl did) s o = with_another a.0 s (its_another i j a.0 did.its other) o
   stays_by j number None (Some a) t t' other (inr did) s o = with_another a.0 s (subst (IsOfAnother i) (sym did.step_is) (migrate_another i)) o
   stays_by j number (Some e) (Some a) t t' other (inr did) s o = with_another a.0 s (subst (IsOfAnother i) (sym did.step_is) (migrate_another i)) o
 
-pub other : (schema : Schema) (w : World) (x : Event) (i : ℕ) (old new s : Held) → May schema w x → (x.part == i) ≡ false → Moves schema x old new
-    → Beside schema (add x w) x.part new → Beside schema w i s → Beside schema (add x w) i s
-other schema w x i old new s may another did its is = record {
-  tables_stay = its.tables_stay;
+pub other : (first : Schema) (origin : Origin) (w : World) (x : Event) (i : ℕ) (old new s : Held) → May first origin w x → (x.part == i) ≡ false → Moves origin.schema x old new
+    → Beside first origin (add x w) x.part new → Beside first origin w i s → Beside first origin (add x w) i s
+other first origin w x i old new s may another did its is = record {
+  tables_are = its.tables_are;
   log_is = its.log_is;
-  opened = more_entries schema w i (with_step x.step w.history) x.entry s (stays_by schema w i x.part x.number x.entry x.step old new another did s is.opened);
+  opened = more_entries first origin w i (with_step x.step w.history) x.entry s (stays_by first origin w i x.part x.number x.entry x.step old new another did s is.opened);
 }

@@ -3,7 +3,7 @@ use Rattle.std.proofs.Common.{◌≡◌, ℕ, Bool, true, false, cond, List, [],
 use Rattle.std.proofs.lemmas.List.Elements.{All-head, All-tail, All-cons}
 use Rattle.std.specs.Map.{keys_of}
 use Rattle.values.specs.declared.key.Point.{Point}
-use Rattle.values.specs.Tables.{Schema}
+use Rattle.growlog.specs.Origin.{Origin}
 use Rattle.values.specs.Log.{Log, Changes, last, upto, changes}
 use Rattle.values.specs.Law.{IsLog, changes_upto}
 use Rattle.values.specs.Period.{periods_of}
@@ -19,61 +19,61 @@ use Rattle.serving.specs.journal.Entries.{Entries, entry_at, start_of, log}
 
 -- ---- its log
 
-pub journal_rises : (schema : Schema) (j : Entries) → IsLog (log schema j)
-journal_rises schema [] = tt
-journal_rises schema (Commit session begin net reading end ∷ j) =
-    elim (start_of (entry_at j begin)) as (λ o. IsLog (elim o [ None ↦ log schema j | Some start ↦ after (periods_of schema) (log schema j) start net reading ])) [
-      | None ↦ journal_rises schema j
-      | Some start ↦ rises_ended (log schema j) net _ (λ i e. outcome_above (periods_of schema) (changes (log schema j)) (last (log schema j)) start net reading i e) (journal_rises schema j)
+pub journal_rises : (origin : Origin) → IsLog origin.log → (j : Entries) → IsLog (log origin j)
+journal_rises origin first [] = first
+journal_rises origin first (Commit session begin net reading end ∷ j) =
+    elim (start_of (entry_at j begin)) as (λ o. IsLog (elim o [ None ↦ log origin j | Some start ↦ after (periods_of origin.schema) (log origin j) start net reading ])) [
+      | None ↦ journal_rises origin first j
+      | Some start ↦ rises_ended (log origin j) net _ (λ i e. outcome_above (periods_of origin.schema) (changes (log origin j)) (last (log origin j)) start net reading i e) (journal_rises origin first j)
     ]
-journal_rises schema (Begin session earlier view ∷ j) = journal_rises schema j
-journal_rises schema (Split cut done ∷ j) = journal_rises schema j
-journal_rises schema (Install rect block done ∷ j) = journal_rises schema j
+journal_rises origin first (Begin session earlier view ∷ j) = journal_rises origin first j
+journal_rises origin first (Split cut done ∷ j) = journal_rises origin first j
+journal_rises origin first (Install rect block done ∷ j) = journal_rises origin first j
 
-entry_adds : (schema : Schema) (e : Entry) (j : Entries) → (added : Log) × (log schema (e ∷ j) ≡ log schema j ++ added)
-entry_adds schema (Commit session begin net reading end) j =
-    elim (start_of (entry_at j begin)) as (λ o. (added : Log) × (elim o [ None ↦ log schema j | Some start ↦ after (periods_of schema) (log schema j) start net reading ] ≡ log schema j ++ added)) [
-      | None ↦ ([], sym (append-nil (log schema j)))
-      | Some start ↦ adds_ended (log schema j) net _
+entry_adds : (origin : Origin) (e : Entry) (j : Entries) → (added : Log) × (log origin (e ∷ j) ≡ log origin j ++ added)
+entry_adds origin (Commit session begin net reading end) j =
+    elim (start_of (entry_at j begin)) as (λ o. (added : Log) × (elim o [ None ↦ log origin j | Some start ↦ after (periods_of origin.schema) (log origin j) start net reading ] ≡ log origin j ++ added)) [
+      | None ↦ ([], sym (append-nil (log origin j)))
+      | Some start ↦ adds_ended (log origin j) net _
     ]
-entry_adds schema (Begin session earlier view) j = ([], sym (append-nil (log schema j)))
-entry_adds schema (Split cut done) j = ([], sym (append-nil (log schema j)))
-entry_adds schema (Install rect block done) j = ([], sym (append-nil (log schema j)))
+entry_adds origin (Begin session earlier view) j = ([], sym (append-nil (log origin j)))
+entry_adds origin (Split cut done) j = ([], sym (append-nil (log origin j)))
+entry_adds origin (Install rect block done) j = ([], sym (append-nil (log origin j)))
 
 -- entries in turn over those before
 abbrev pub onto : List Entry → Entries → Entries
 onto [] j = j
 onto (e ∷ es) j = onto es (e ∷ j)
 
-entries_add : (schema : Schema) (es : List Entry) (j : Entries) → (added : Log) × (log schema (onto es j) ≡ log schema j ++ added)
-entries_add schema [] j = ([], sym (append-nil (log schema j)))
-entries_add schema (e ∷ es) j =
-    let now = entry_adds schema e j in
-    let later = entries_add schema es (e ∷ j) in
-    (now.0 ++ later.0, later.1 ∙ ap (λ (l : Log). l ++ later.0) now.1 ∙ append_assoc (log schema j) now.0 later.0)
+entries_add : (origin : Origin) (es : List Entry) (j : Entries) → (added : Log) × (log origin (onto es j) ≡ log origin j ++ added)
+entries_add origin [] j = ([], sym (append-nil (log origin j)))
+entries_add origin (e ∷ es) j =
+    let now = entry_adds origin e j in
+    let later = entries_add origin es (e ∷ j) in
+    (now.0 ++ later.0, later.1 ∙ ap (λ (l : Log). l ++ later.0) now.1 ∙ append_assoc (log origin j) now.0 later.0)
 
 -- ---- keys
 
-module _ (schema : Schema) where
+module _ (origin : Origin) (first : IsLog origin.log) where
   abbrev In : Point → Type 0
-  In p = IsKeyIn schema p.key
+  In p = IsKeyIn origin.schema p.key
 
-  few_in : (m : Changes) (t : ℕ) → AreChangesIn schema m → AreChangesIn schema (changes_upto m t)
+  few_in : (m : Changes) (t : ℕ) → AreChangesIn origin.schema m → AreChangesIn origin.schema (changes_upto m t)
   few_in [] t keys = keys
   few_in (c ∷ cs) t keys = by (nat_le c.0.instant t) (few_in cs t (All-tail In c.0 (keys_of cs) keys))
     where
-      by : (b : Bool) → AreChangesIn schema (changes_upto cs t) → AreChangesIn schema (cond b (c ∷ changes_upto cs t) (changes_upto cs t))
+      by : (b : Bool) → AreChangesIn origin.schema (changes_upto cs t) → AreChangesIn origin.schema (cond b (c ∷ changes_upto cs t) (changes_upto cs t))
       by true rest = All-cons In c.0 (keys_of (changes_upto cs t)) (All-head In c.0 (keys_of cs) keys) rest
       by false rest = rest
 
   -- the keys that were changed before are among those that are changed at the end
-  pub keys_before : (es : List Entry) (j : Entries) → AreChangesIn schema (changes (log schema (onto es j))) → AreChangesIn schema (changes (log schema j))
+  pub keys_before : (es : List Entry) (j : Entries) → AreChangesIn origin.schema (changes (log origin (onto es j))) → AreChangesIn origin.schema (changes (log origin j))
   keys_before es j keys =
-      let more = entries_add schema es j in
-      let rises : IsLog (log schema j ++ more.0) = subst IsLog more.1 (journal_rises schema (onto es j)) in
-      let same : upto (log schema (onto es j)) (last (log schema j)) ≡ log schema j =
-      ap (λ l. upto l (last (log schema j))) more.1
-      ∙ upto-append (log schema j) more.0 0 (last (log schema j)) (omega arith) rises
-      ∙ upto_all (log schema j) 0 (last (log schema j)) (journal_rises schema j) (omega arith) in
-      subst (AreChangesIn schema) (sym (changes_upto_is (log schema (onto es j)) (last (log schema j))) ∙ ap changes same)
-      (few_in (changes (log schema (onto es j))) (last (log schema j)) keys)
+      let more = entries_add origin es j in
+      let rises : IsLog (log origin j ++ more.0) = subst IsLog more.1 (journal_rises origin first (onto es j)) in
+      let same : upto (log origin (onto es j)) (last (log origin j)) ≡ log origin j =
+      ap (λ l. upto l (last (log origin j))) more.1
+      ∙ upto-append (log origin j) more.0 0 (last (log origin j)) (omega arith) rises
+      ∙ upto_all (log origin j) 0 (last (log origin j)) (journal_rises origin first j) (omega arith) in
+      subst (AreChangesIn origin.schema) (sym (changes_upto_is (log origin (onto es j)) (last (log origin j))) ∙ ap changes same)
+      (few_in (changes (log origin (onto es j))) (last (log origin j)) keys)

@@ -4,6 +4,9 @@ use Rattle.std.proofs.lemmas.List.{length-reverse}
 use Rattle.std.specs.List.{AllByRecursion, cons_option}
 use Rattle.std.specs.Option.{option_map}
 use Rattle.values.specs.Tables.{Schema}
+use Rattle.values.specs.Law.{IsLog}
+use Rattle.growlog.specs.Origin.{Origin}
+use Rattle.histories.specs.History.{History}
 use Rattle.values.specs.Log.{changes}
 use Rattle.values.specs.Events.{AreChangesIn}
 use Rattle.serving.specs.journal.declared.entry.Entry.{Entry}
@@ -82,30 +85,30 @@ whole_journal j = onto_is (reverse j) [] ∙ append-nil (reverse (reverse j)) �
 
 -- ---- each may come
 
-module _ (schema : Schema) where
-  earlier_legal : (es : List Entry) (j : Entries) → IsLegal schema (onto es j) → IsLegal schema j
+module _ (first : Schema) (origin : Origin) (rises : IsLog origin.log) where
+  earlier_legal : (es : List Entry) (j : Entries) → IsLegal origin (onto es j) → IsLegal origin j
   earlier_legal [] j legal = legal
   earlier_legal (e ∷ es) j legal = (earlier_legal es (e ∷ j) legal).1
 
   record MayGoOn (j : Entries) (given : List Given) : Type 0 where
-    legal : IsLegal schema (onto (entries_of given) j)
+    legal : IsLegal origin (onto (entries_of given) j)
     upward : Upward (length j) (numbers_of given)
-    keys : AreChangesIn schema (changes (journal_log schema (onto (entries_of given) j)))
+    keys : AreChangesIn origin.schema (changes (journal_log origin (onto (entries_of given) j)))
 
   may_by : (w : World) (number : ℕ) (entry : Option Entry) (given : List Given) → MayGoOn w.entries (cons_option (option_map (λ entry. record { number = number; entry = entry }) entry) given)
-      → MayBy schema w number entry × MayGoOn (with_entry entry w.entries) given
+      → MayBy first origin w number entry × MayGoOn (with_entry entry w.entries) given
   may_by w number None given on = (tt, on)
   may_by w number (Some e) given on = (
     record {
       follows = (earlier_legal (entries_of given) (e ∷ w.entries) on.legal).0;
       numbered = on.upward.0;
-      keys = keys_before schema (e ∷ entries_of given) w.entries on.keys;
+      keys = keys_before origin rises (e ∷ entries_of given) w.entries on.keys;
     },
     record { legal = on.legal; upward = on.upward.1; keys = on.keys },
   )
 
   abbrev MayComeAll : World → List Event → Type 0
-  MayComeAll = MayAll (λ (e : Event). e.part) add (Moves schema) (May schema) (Right schema) (Beside schema)
+  MayComeAll = MayAll (λ (e : Event). e.part) add (Moves origin.schema) (May first origin) (Right first origin) (Beside first origin)
 
   may_all : (xs : List Event) (w : World) → MayGoOn w.entries (receipts_of xs) → MayComeAll w xs
   may_all [] w on = tt
@@ -114,12 +117,12 @@ module _ (schema : Schema) where
       (both.0, may_all xs (add x w) both.1)
 
   -- events whose receipts are the whole journal's, in turn
-  pub all_may_come : (j : Entries) (xs : List Event) → IsLegal schema j → AreChangesIn schema (changes (journal_log schema j)) → entries_of (receipts_of xs) ≡ reverse j → numbers_of (receipts_of xs) ≡ numbers (length j)
-      → MayComeAll (record { entries = []; history = [] }) xs
-  all_may_come j xs legal keys are same =
+  pub all_may_come : (before : History) (j : Entries) (xs : List Event) → IsLegal origin j → AreChangesIn origin.schema (changes (journal_log origin j)) → entries_of (receipts_of xs) ≡ reverse j → numbers_of (receipts_of xs) ≡ numbers (length j)
+      → MayComeAll (record { entries = []; history = before }) xs
+  all_may_come before j xs legal keys are same =
       let whole : onto (entries_of (receipts_of xs)) [] ≡ j = ap (λ es. onto es []) are ∙ whole_journal j in
-      may_all xs (record { entries = []; history = [] }) (record {
-        legal = subst (IsLegal schema) (sym whole) legal;
+      may_all xs (record { entries = []; history = before }) (record {
+        legal = subst (IsLegal origin) (sym whole) legal;
         upward = subst (Upward 0) (sym same) (numbers_upward (length j));
-        keys = subst (λ j. AreChangesIn schema (changes (journal_log schema j))) (sym whole) keys;
+        keys = subst (λ j. AreChangesIn origin.schema (changes (journal_log origin j))) (sym whole) keys;
       })

@@ -1,14 +1,17 @@
 -- One history of a whole run.
-use Rattle.std.specs.Prelude.{◌≡◌, ◌≢◌, ◌⊎◌, ℕ, ◌+◌, List, [], ◌∷◌, ◌++◌, Some, length, map, reverse}
+use Rattle.std.specs.Prelude.{◌≡◌, ◌≢◌, ◌⊎◌, ℕ, ◌+◌, List, [], ◌∷◌, ◌++◌, Some, length, map, reverse, true}
 use Rattle.std.specs.List.{AllByRecursion}
 use Rattle.values.specs.Log.{Row}
 use Rattle.values.specs.Tables.{Schema}
+use Rattle.values.specs.Period.{periods_of}
+use Rattle.growlog.specs.Origin.{Origin}
 use Rattle.steps.specs.declared.step.Step.TheVariants.{Begin, Insert, Commit}
 use Rattle.steps.specs.declared.step.Reply.TheVariants.{Begun, Committed, Inserted}
 use Rattle.steps.specs.Misfit.{max_session}
-use Rattle.histories.specs.History.{log}
+use Rattle.steps.specs.Idle.{is_idle}
+use Rattle.histories.specs.History.{History, has_open, log, schema_after}
 use Rattle.lines.specs.Partial.{Partial}
-use Rattle.serving.specs.journal.Entries.{numbers, log as journal_log}
+use Rattle.serving.specs.journal.Entries.{log_from, numbers}
 use Rattle.serving.specs.book.Book.{BookState}
 use Rattle.serving.specs.Progress.{Given}
 use Rattle.runs.specs.Event.{Event, AreRight, history_after, of_part, receipts_of}
@@ -42,20 +45,30 @@ pub record Dialogue : Type 0 where
   pub lines : List Partial
   pub text : List ℕ
 
+-- a store begins with what a history has come to
+abbrev pub come_to : Schema → History → Origin
+come_to first before = record { schema = schema_after first before; log = log first before }
+
+-- it does, and no session had a transaction open there
+pub record Carries (first : Schema) (before : History) (o : Origin) : Type 0 where
+  pub idle : is_idle (has_open before) ≡ true
+  pub origin_is : o ≡ come_to first before
+
 -- the events are the journal's entries in their order, and between them the steps that took none;
--- each reply is the history's where its step stands; what was committed is the history's; those of
--- the load come first; and of each session they are those of its lines, in order, by which it was
--- sent its text. There are no others but those of the service.
-pub record OneHistory (schema : Schema) (b : BookState) (table : ℕ) (rows : List Row)
+-- each reply is the history's where its step stands, after those before the run; what was committed is
+-- the history's; those of the load come first; and of each session they are those of its lines, in
+-- order, by which it was sent its text. There are no others but those of the service.
+pub record OneHistory (first : Schema) (before : History) (b : BookState) (table : ℕ) (rows : List Row)
     (dialogues : List Dialogue) (events : List Event) : Type 0 where
   pub entries_are : map (λ g. g.entry) (receipts_of events) ≡ reverse b.entries
   pub numbered : map (λ g. g.number) (receipts_of events) ≡ numbers (length b.entries)
-  pub right : AreRight schema [] events
-  pub log_is : journal_log schema b.entries ≡ log schema (history_after [] events)
+  pub right : AreRight first before events
+  pub log_is : log_from (periods_of (schema_after first before)) (log first before) b.entries
+      ≡ log first (history_after before events)
   pub loaded : TellsLoaded table rows (of_part 0 events)
   pub loaded_first : (later : List Event) × (events ≡ of_part 0 events ++ later)
-  pub sent : AllByRecursion
-      (λ d. Tells schema b d.number [] d.lines (of_part d.number events) d.text) dialogues
+  pub sent : AllByRecursion (λ d. Tells (schema_after first before) b d.number [] d.lines
+      (of_part d.number events) d.text) dialogues
   pub service : AllByRecursion IsServiceEvent (of_part service_part events)
   pub no_other : (i : ℕ) → i ≢ 0 → i ≢ service_part → AllByRecursion (λ d. d.number ≢ i) dialogues
       → of_part i events ≡ []
@@ -63,10 +76,11 @@ pub record OneHistory (schema : Schema) (b : BookState) (table : ℕ) (rows : Li
 abbrev pub dialogue_of : Part → Dialogue
 dialogue_of p = record { number = p.number; lines = p.lines; text = p.text }
 
--- a run whose store closed has one history
+-- a run whose store closed goes on from the history that it began with, where no session had a
+-- transaction open: both are one history
 abbrev pub ServedRunsAreHistories : Type 0
 ServedRunsAreHistories =
-    (schema : Schema) (b : BookState) (table : ℕ) (rows : List Row) (loaded : List Given)
-    (parts : List Part) (service : List Given)
-    → IsRun schema b table rows loaded parts service
-    → (events : List Event) × OneHistory schema b table rows (map dialogue_of parts) events
+    (first : Schema) (before : History) (o : Origin) (b : BookState) (table : ℕ) (rows : List Row)
+    (loaded : List Given) (parts : List Part) (service : List Given)
+    → Carries first before o → IsRun o b table rows loaded parts service
+    → (events : List Event) × OneHistory first before b table rows (map dialogue_of parts) events

@@ -4,6 +4,7 @@ use Rattle.std.specs.List.{AllByRecursion, flat_map}
 use Rattle.values.specs.Commits.{max_instant}
 use Rattle.values.specs.Log.{Changes, Net, Row}
 use Rattle.values.specs.Tables.{Schema}
+use Rattle.growlog.specs.Origin.{Origin}
 use Rattle.values.specs.declared.refusal.Refusal.TheVariants.{JournalFull, NoTransaction}
 use Rattle.serving.specs.tsbtree.View.{TreeState}
 use Rattle.serving.specs.staging.View.{Holds}
@@ -95,11 +96,11 @@ IsOfService (Split cut done) = ⊥
 abbrev pub all_given : List Given → List Part → List Given → List Given
 all_given loaded parts service = loaded ++ (flat_map (λ p. p.given) parts ++ service)
 
-pub record IsRun (schema : Schema) (b : BookState) (table : ℕ) (rows : List Row)
+pub record IsRun (o : Origin) (b : BookState) (table : ℕ) (rows : List Row)
     (loaded : List Given) (parts : List Part) (service : List Given) : Type 0 where
-  pub is_book : IsBook schema b
-  pub is_loaded : IsLoaded schema table rows loaded
-  pub are_parts : AllByRecursion (IsPart schema) parts
+  pub is_book : IsBook o b
+  pub is_loaded : IsLoaded o.schema table rows loaded
+  pub are_parts : AllByRecursion (IsPart o.schema) parts
   pub refused : AllByRecursion (λ p. AllByRecursion (IsRefusedRightly b) p.told) parts
   pub apart : AreApart (map (λ p. p.number) parts)
   pub serviced : AllByRecursion (λ g. IsOfService g.entry) service

@@ -6,6 +6,7 @@ use Rattle.values.specs.declared.refusal.Refusal.TheVariants.{JournalFull, Memor
 use Rattle.values.specs.Sample.{sample}
 use Rattle.values.specs.Log.{Row}
 use Rattle.values.specs.Tables.{Schema}
+use Rattle.growlog.specs.Origin.{Origin}
 use Rattle.steps.specs.declared.step.Step.{Step}
 use Rattle.steps.specs.declared.step.Step.TheVariants.{Begin, Insert, Select, Commit}
 use Rattle.steps.specs.declared.step.Listing.TheVariants.{Rows}
@@ -75,10 +76,10 @@ OneAfterTheOther =
 -- of a run no two receipts have one number, be they of one session or of two
 abbrev pub NoReceiptTwice : Type 0
 NoReceiptTwice =
-    (schema : Schema) (b : BookState) (table : ℕ) (rows : List Row) (loaded : List Given)
+    (o : Origin) (b : BookState) (table : ℕ) (rows : List Row) (loaded : List Given)
     (parts : List Part) (service front between back : List Given) (g h : Given)
     → all_given loaded parts service ≡ front ++ g ∷ (between ++ h ∷ back) → g.number ≡ h.number
-    → IsRun schema b table rows loaded parts service → ⊥
+    → IsRun o b table rows loaded parts service → ⊥
 
 -- ---- what is not refused
 

@@ -16,7 +16,7 @@ pub(crate) fn take_begin<J: StoreName, R: Wait>(
     store: &LockedStore<J>,
     session: &mut Session,
 ) -> Answer<J>
-    requires { session.old.schema ≡ J.schema }
+    requires { session.old.schema ≡ J.origin.schema }
     ensures { (may_give : ℕ → Bool)
         → IsStepped may_give (Begin session.old.number) session.old session.new result }
 {

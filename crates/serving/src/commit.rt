@@ -17,7 +17,7 @@ pub(crate) fn take_commit<J: StoreName, R: Wait, C: Readings>(
     session: &mut Session,
     readings: &mut C,
 ) -> Answer<J>
-    requires { session.old.schema ≡ J.schema }
+    requires { session.old.schema ≡ J.origin.schema }
     ensures { IsStepped C.may_give (Commit session.old.number 0)
         session.old session.new result }
 {

@@ -18,7 +18,7 @@ pub(crate) fn take_migrate<J: StoreName, R: Wait>(
     store: &LockedStore<J>,
     session: &mut Session,
 ) -> Answer<J>
-    requires { session.old.schema ≡ J.schema }
+    requires { session.old.schema ≡ J.origin.schema }
     ensures { (may_give : ℕ → Bool) → IsStepped may_give Migrate session.old session.new result }
 {
     migrate(rt, alloc, store)
@@ -26,7 +26,7 @@ pub(crate) fn take_migrate<J: StoreName, R: Wait>(
 
 /// Begins for the service, and packs what its begin shows.
 fn migrate<J: StoreName, R: Wait>(rt: &R, alloc: Global, store: &LockedStore<J>) -> Answer<J>
-    ensures migrated { IsMigrated J.schema (given_of result) (reply_of result) }
+    ensures migrated { IsMigrated J.origin.schema (given_of result) (reply_of result) }
     ensures by_book { IsByBook result.sent }
 {
     let receipt = match begin_service(rt, alloc, store) {
@@ -50,7 +50,7 @@ fn begin_service<J: StoreName, R: Wait>(
     store: &LockedStore<J>,
 ) -> Result<Receipt<J>, StoreRefusal>
     ensures ok { IfOk result (λ r.
-        HasServiceBegun J.schema (record { number = r.number; entry = r.entry })) }
+        HasServiceBegun J.origin.schema (record { number = r.number; entry = r.entry })) }
     ensures err { IfErr result IsRefusedForRoom }
 {
     let mut service = store.session(alloc, 0)?;

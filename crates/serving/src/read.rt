@@ -19,7 +19,7 @@ pub(crate) fn take_query<J: StoreName, R: Wait>(
     form: Form,
     keys: &Keys,
 ) -> Answer<J>
-    requires { session.old.schema ≡ J.schema }
+    requires { session.old.schema ≡ J.origin.schema }
     ensures { (may_give : ℕ → Bool) → IsStepped may_give
         (Select session.old.number form keys.now) session.old session.new result }
 {

@@ -40,7 +40,7 @@ pub fn serve_session<J: StoreName, R: Wait, I: Read, W: Write, C: Readings, G: G
     gate: &G,
     readings: &mut C,
 ) -> Served<J>
-    requires tables { session.old.schema ≡ J.schema }
+    requires tables { session.old.schema ≡ J.origin.schema }
     requires none { session.old.transaction ≡ None }
     ensures closed { result.end ≡ End.Closed
         → IsServed C.may_give session.old.schema session.old.number
@@ -87,7 +87,7 @@ fn serve<J: StoreName, R: Wait, I: Read, W: Write, C: Readings, G: Gate>(
     session: &mut Session,
     account: &mut Account<J>,
 ) -> End
-    requires { session.old.schema ≡ J.schema }
+    requires { session.old.schema ≡ J.origin.schema }
     ensures closed { result ≡ End.Closed → Ends C.may_give session.old session.new account.old account.new
         (I.remaining reader.old) (I.remaining reader.new)
         (W.contents writer.old) (W.contents writer.new) }
@@ -139,7 +139,7 @@ fn feed<J: StoreName, R: Wait, C: Readings, G: Gate, W: Write>(
     line: &mut LineBuffer,
     bytes: &[u8],
 ) -> Result<(), End>
-    requires tables { session.old.schema ≡ J.schema }
+    requires tables { session.old.schema ≡ J.origin.schema }
     requires fits { Fits line.old }
     ensures ok { OnOk result (Feeds C.may_give line.old line.new bytes.now session.old session.new
         account.old account.new (W.contents writer.old) (W.contents writer.new)) }
@@ -171,7 +171,7 @@ fn take_line<J: StoreName, R: Wait, C: Readings, G: Gate, W: Write>(
     line: &mut LineBuffer,
     bytes: &[u8],
 ) -> Result<usize, End>
-    requires tables { session.old.schema ≡ J.schema }
+    requires tables { session.old.schema ≡ J.origin.schema }
     requires fits { Fits line.old }
     ensures ok { IfOk result (λ n. Feeds C.may_give line.old line.new (take n bytes.now) session.old
         session.new account.old account.new (W.contents writer.old) (W.contents writer.new)) }
@@ -208,7 +208,7 @@ fn finish<J: StoreName, R: Wait, C: Readings, G: Gate, W: Write>(
     writer: &mut W,
     line: &LineBuffer,
 ) -> Result<(), End>
-    requires { session.old.schema ≡ J.schema }
+    requires { session.old.schema ≡ J.origin.schema }
     ensures ok { OnOk result (Writes C.may_give (lines_from line.now []) session.old session.new
         account.old account.new (W.contents writer.old) (W.contents writer.new)) }
     ensures err { OnErr result (IsBroken C.may_give (lines_from line.now []) session.old session.new

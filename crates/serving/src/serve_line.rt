@@ -31,7 +31,7 @@ pub(crate) fn serve_line<J: StoreName, R: Wait, C: Readings, G: Gate, W: Write>(
     writer: &mut W,
     line: &LineBuffer,
 ) -> Result<(), End>
-    requires { session.old.schema ≡ J.schema }
+    requires { session.old.schema ≡ J.origin.schema }
     ensures ok { OnOk result (Writes C.may_give (line.now ∷ []) session.old session.new
         account.old account.new (W.contents writer.old) (W.contents writer.new)) }
     ensures err { OnErr result (IsBroken C.may_give (line.now ∷ []) session.old session.new
@@ -66,7 +66,7 @@ fn serve_step<J: StoreName, R: Wait, C: Readings, G: Gate, W: Write>(
     writer: &mut W,
     step: &Step,
 ) -> Result<(), End>
-    requires { session.old.schema ≡ J.schema }
+    requires { session.old.schema ≡ J.origin.schema }
     ensures ok { OnOk result (Sends C.may_give step.now session.old session.new
         account.old account.new (W.contents writer.old) (W.contents writer.new)) }
     ensures err { OnErr result (IsBrokenStep C.may_give step.now session.old session.new

@@ -29,7 +29,7 @@ pub(crate) fn answer_step<J: StoreName, R: Wait, C: Readings, G: Gate>(
     account: &mut Account<J>,
     step: &Step,
 ) -> Answer<J>
-    requires { session.old.schema ≡ J.schema }
+    requires { session.old.schema ≡ J.origin.schema }
     ensures stepped { IsStepped C.may_give step.now session.old session.new result }
     ensures given { account.new.given ≡ account.old.given }
     ensures refused { account.new.refused ≡ account.old.refused }
@@ -80,7 +80,7 @@ fn take_step<J: StoreName, R: Wait, C: Readings>(
     readings: &mut C,
     step: &Step,
 ) -> Answer<J>
-    requires { session.old.schema ≡ J.schema }
+    requires { session.old.schema ≡ J.origin.schema }
     ensures { IsStepped C.may_give step.now session.old session.new result }
 {
     match step {

@@ -2,6 +2,7 @@ pub mod OfHistoryAlike
 pub mod OfHistoryEnded
 pub mod OfHistoryListed
 pub mod OfHistoryShown
+pub mod StoreBeginning
 pub mod StoreCrossing
 pub mod SessionEnding
 pub mod StoreOfHistoryAlike

@@ -187,18 +187,18 @@ module _ (first : Schema) (h : History) (step : Step) (i : ℕ) (is : IsWriteSte
   same_snapshot = λ k. changes (upto (sym is.same_log k) (snap_of (sym is.same_log k) (sym same_begin k)))
 
 pub writes_answer_alike : WritesAnswerAlike
-writes_answer_alike m s h step is its =
-    (λ k. written_reply step (write_by (sym is.tables_stay k) step (misfit (sym is.tables_stay k) step) (is.own_is k)).0)
-    ∙ answers s.schema h step s.number (of_writer s.schema h step s.number its)
+writes_answer_alike first m s h step is its =
+    (λ k. written_reply step (write_by (sym is.tables_are k) step (misfit (sym is.tables_are k) step) (is.own_is k)).0)
+    ∙ answers first h step s.number (of_writer first h step s.number its)
 
 pub writes_leave_alike : WritesLeaveAlike
-writes_leave_alike m old new h step is its same_number same_schema did = record {
-  tables_stay = (λ k. schema_after (same_schema k) (step ∷ h)) ∙ w.same_tables ∙ is.tables_stay ∙ sym same_schema;
-  snapshot = is.snapshot ∙ same_snapshot old.schema h step old.number w ∙ (λ k. changes (upto (log (sym same_schema k) (step ∷ h)) (snap (sym same_schema k) (step ∷ h) (sym same_number k))));
+writes_leave_alike first m old new h step is its same_number same_schema did = record {
+  tables_are = w.same_tables ∙ is.tables_are ∙ sym same_schema;
+  snapshot = is.snapshot ∙ same_snapshot first h step old.number w ∙ (λ k. changes (upto (log first (step ∷ h)) (snap first (step ∷ h) (sym same_number k))));
   own_is =
-      did ∙ (λ k. (write_by (sym is.tables_stay k) step (misfit (sym is.tables_stay k) step) (is.own_is k)).1) ∙ leaves old.schema h step old.number w
-      ∙ (λ k. own_at (sym same_schema k) (step ∷ h) (sym same_number k));
+      did ∙ (λ k. (write_by (sym is.tables_are k) step (misfit (sym is.tables_are k) step) (is.own_is k)).1) ∙ leaves first h step old.number w
+      ∙ (λ k. own_at first (step ∷ h) (sym same_number k));
 }
   where
-    w : IsWriteStep old.schema h step old.number
-    w = of_writer old.schema h step old.number its
+    w : IsWriteStep first h step old.number
+    w = of_writer first h step old.number its

@@ -46,15 +46,15 @@ of_history schema now writes table key lab None e = refl
 of_history schema now writes table key lab (Some before) e = (λ k. wide_at table (mine_of schema now (sym e k) writes) key) ∙ wide_is table (mine_of schema now lab writes) key
 
 pub gets_answer_alike : GetsAnswerAlike
-gets_answer_alike m s h key is =
+gets_answer_alike first m s h key is =
     ap (λ (r : Result (Option Row) Refusal). elim (key_misfit s.schema key) [ Some refusal ↦ Err refusal | None ↦ r ])
     (of_session m (table_at s.schema key.table) key s.transaction ∙ ap (row_of (table_at s.schema key.table) key) is.own_is)
-    ∙ (λ k. elim (key_misfit (sym is.tables_stay k) key) [ Some refusal ↦ Err refusal | None ↦ row_of (table_at (sym is.tables_stay k) key.table) key (own_at s.schema h s.number) ])
+    ∙ (λ k. elim (key_misfit (sym is.tables_are k) key) [ Some refusal ↦ Err refusal | None ↦ row_of (table_at (sym is.tables_are k) key.table) key (own_at first h s.number) ])
     ∙ ap (λ (r : Result (Option Row) Refusal). elim (key_misfit now key) [ Some refusal ↦ Err refusal | None ↦ r ])
-    (of_history now (log s.schema h) (own s.schema h s.number) (table_at now key.table) key (log_at_begin s.schema h s.number) (log_at_begin s.schema h s.number) refl)
+    (of_history now (log first h) (own first h s.number) (table_at now key.table) key (log_at_begin first h s.number) (log_at_begin first h s.number) refl)
   where
     now : Schema
-    now = schema_after s.schema h
+    now = schema_after first h
 
 -- ---- a rollback
 
@@ -77,8 +77,8 @@ ended_none first h i =
     λ k. option_map (λ before. own_of (schema_after first h) (log first h) (Some before) (own first (Rollback i ∷ h) i)) (if sym (itself i) k then None else log_at_begin first h i)
 
 pub rollbacks_answer_alike : RollbacksAnswerAlike
-rollbacks_answer_alike m s h result is small did = (
-  rolled_by _ _ s.transaction (log_at_begin s.schema h s.number) result is.own_is did
-      ∙ ap (λ (u : Option Refusal). elim u [ Some refusal ↦ Refused refusal | None ↦ elim (log_at_begin s.schema h s.number) [ Some before ↦ RolledBack | None ↦ Refused NoTransaction ] ]) (sym (in_range_fits s.number small)),
-  record { tables_stay = is.tables_stay; snapshot = refl; own_is = ended_none s.schema h s.number },
+rollbacks_answer_alike first m s h result is small did = (
+  rolled_by _ _ s.transaction (log_at_begin first h s.number) result is.own_is did
+      ∙ ap (λ (u : Option Refusal). elim u [ Some refusal ↦ Refused refusal | None ↦ elim (log_at_begin first h s.number) [ Some before ↦ RolledBack | None ↦ Refused NoTransaction ] ]) (sym (in_range_fits s.number small)),
+  record { tables_are = is.tables_are; snapshot = refl; own_is = ended_none first h s.number },
 )

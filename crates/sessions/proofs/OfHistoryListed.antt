@@ -83,11 +83,11 @@ its_table table keys key alone =
     grind (arith, nat_tests)
 
 pub gets_as_listed : GetsAsListed
-gets_as_listed m s h key keys table row is got fits there alone = by (key_misfit s.schema key) s.transaction (table_at s.schema key.table) refl refl got
+gets_as_listed first m s h key keys table row is got fits there alone = by (key_misfit s.schema key) s.transaction (table_at s.schema key.table) refl refl got
   where
-    listed : (t : SessionTransactionState) → s.transaction ≡ Some t → option_map (full_row table) (row_at (rows_seen m t.writes) key) ≡ row → reply s.schema h (Select s.number Plain keys) ≡ Shown (Rows (row_alone row))
+    listed : (t : SessionTransactionState) → s.transaction ≡ Some t → option_map (full_row table) (row_at (rows_seen m t.writes) key) ≡ row → reply first h (Select s.number Plain keys) ≡ Shown (Rows (row_alone row))
     listed t ran at =
-        sym (queries_answer_alike m s h Plain keys is (λ none. cc (sym ran ∙ none)))
+        sym (queries_answer_alike first m s h Plain keys is (λ none. cc (sym ran ∙ none)))
         ∙ (λ k. shown_reply (elim (fits k) [
           | Some refusal ↦ Err refusal
           | None ↦ elim (ran k) [ None ↦ Err NoTransaction | Some t ↦ elim (there k) [ None ↦ Err NoTable | Some table ↦ Ok (listing_in m t.writes table Plain keys) ] ]
@@ -101,7 +101,7 @@ gets_as_listed m s h key keys table row is got fits there alone = by (key_misfit
           | Some refusal ↦ Err refusal
           | None ↦ elim o [ None ↦ Err NoTransaction | Some t ↦ elim found [ None ↦ Err NoTable | Some table ↦ Ok (option_map (full_row table) (row_at (rows_seen m t.writes) key)) ] ]
         ]) (Ok row)
-        → reply s.schema h (Select s.number Plain keys) ≡ Shown (Rows (row_alone row))
+        → reply first h (Select s.number Plain keys) ≡ Shown (Rows (row_alone row))
     by (Some refusal) o found ran at_key got = absurd (cc)
     by None None found ran at_key got = absurd (cc)
     by None (Some t) None ran at_key got = absurd (cc)

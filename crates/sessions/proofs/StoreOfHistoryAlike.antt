@@ -39,7 +39,7 @@ use Rattle.book.specs.Book.{BookState}
 use Rattle.sessions.specs.SessionState.{SessionTransactionState, SessionState, WithWrites, own_in, with_transaction, with_writes, write_in}
 use Rattle.sessions.specs.Store.{begun_with}
 use Rattle.sessions.specs.OfHistory.{IsIn, own_at, seen_at}
-use Rattle.sessions.specs.StoreOfHistory.{BeganIn, IsBeside, Grows, IsOfAnother, IsSplitStep, entry_reply, BeginsAnswerAlike, CommitsAnswerAlike, SplitsAnswerAlike, InstallsAnswerAlike, RefusedAlike, OthersLeaveAlike, OwnStepsStayBeside}
+use Rattle.sessions.specs.StoreOfHistory.{BeganIn, IsBeside, Grows, IsOfAnother, IsSplitStep, entry_reply, origin, BeginsAnswerAlike, CommitsAnswerAlike, SplitsAnswerAlike, InstallsAnswerAlike, RefusedAlike, OthersLeaveAlike, OwnStepsStayBeside}
 use Rattle.sessions.proofs.SessionWriting.{state as session}
 use Rattle.sessions.proofs.OfHistoryEnded.{ended_none, in_range_fits}
 use Rattle.sessions.proofs.OfHistoryAlike.{writes_leave_alike}
@@ -88,13 +88,13 @@ all_stay (e ∷ more) j n x at = stays e (more ++ j) n x (all_stay more j n x at
 pub put_here : (e : Entry) (j : Entries) (n : ℕ) → n ≡ length (e ∷ j) → entry_at (e ∷ j) n ≡ Some e
 put_here e j n at = ap (λ b. if b then Some e else entry_at j n) (ap (λ m. n == m) (sym at) ∙ itself n)
 
-may_follow : (s : SessionState) (e : Entry) (n : ℕ) (b c : BookState) → Grows s e n b c → MayFollow s.schema b.entries e
-may_follow s e n b c grows = let legal : IsLegal s.schema (e ∷ b.entries) = subst (IsLegal s.schema) grows.adds.entries_are grows.is.legal in legal.0
+may_follow : (before : Log) (s : SessionState) (e : Entry) (n : ℕ) (b c : BookState) → Grows before s e n b c → MayFollow (origin before s) b.entries e
+may_follow before s e n b c grows = let legal : IsLegal (origin before s) (e ∷ b.entries) = subst (IsLegal (origin before s)) grows.adds.entries_are grows.is.legal in legal.0
 
-began_stays : (more j : Entries) (schema : Schema) (h : History) (step : Step) (i : ℕ) (o : Option SessionTransactionState) → snap schema (step ∷ h) i ≡ snap schema h i → seen_at schema (step ∷ h) i ≡ seen_at schema h i
-    → BeganIn j schema h i o → BeganIn (more ++ j) schema (step ∷ h) i o
-began_stays more j schema h step i None same seen began = tt
-began_stays more j schema h step i (Some t) same seen began = (
+began_stays : (more j : Entries) (first schema : Schema) (h : History) (step : Step) (i : ℕ) (o : Option SessionTransactionState) → snap first (step ∷ h) i ≡ snap first h i → seen_at first (step ∷ h) i ≡ seen_at first h i
+    → BeganIn j first schema h i o → BeganIn (more ++ j) first schema (step ∷ h) i o
+began_stays more j first schema h step i None same seen began = tt
+began_stays more j first schema h step i (Some t) same seen began = (
   all_stay more j t.begun.number _ began.0,
   began.1 ∙ sym same,
   subst (Holds schema t.view) (sym seen) began.2,
@@ -130,33 +130,33 @@ module _ (schema : Schema) (h : History) (i : ℕ) (small : i ≤ max_session) (
       (ap (λ t. rows_after [] (changes (upto (log schema h) t))) snapshot_is ∙ rows_at (log schema h) (last (log schema h)) (log_rises schema h))
       ∙ sym (λ k. option_map (λ before. own_of (schema_after schema h) (log schema h) (Some before) (unwritten k)) (opens k))
 
-  begun_beside : (number earlier : ℕ) (view : TreeState) (j : Entries) (receipt : ℕ) → schema_after schema h ≡ schema → journal_log schema j ≡ log schema h → Holds schema view (changes (log schema h)) → view_last view ≡ last (log schema h) → number ≡ length (Begin i earlier view ∷ j)
-      → IsBeside (Begin i earlier view ∷ j) (session i schema receipt (Some (begun_with number earlier view))) now
-  begun_beside number earlier view j receipt stay same holds stands at = record {
+  begun_beside : (before : Log) (tables : Schema) (number earlier : ℕ) (view : TreeState) (j : Entries) (receipt : ℕ) → schema_after schema h ≡ tables → journal_log (record { schema = tables; log = before }) j ≡ log schema h → Holds tables view (changes (log schema h)) → view_last view ≡ last (log schema h) → number ≡ length (Begin i earlier view ∷ j)
+      → IsBeside schema before (Begin i earlier view ∷ j) (session i tables receipt (Some (begun_with number earlier view))) now
+  begun_beside before tables number earlier view j receipt stay same holds stands at = record {
     in_range = small;
     log_is = same;
-    is_in = record { tables_stay = stay; snapshot = refl; own_is = sees_own };
-    began = (put_here (Begin i earlier view) j number at, stands ∙ sym snapshot_is, subst (Holds schema view) (sym sees_all) holds);
+    is_in = record { tables_are = stay; snapshot = refl; own_is = sees_own };
+    began = (put_here (Begin i earlier view) j number at, stands ∙ sym snapshot_is, subst (Holds tables view) (sym sees_all) holds);
   }
 
 pub begins_answer_alike : BeginsAnswerAlike
-begins_answer_alike old new b c h number e is none grows begun = (
-  ap entry_reply begun.entry_is ∙ ap Begun ends ∙ fit_reply old.schema h (BeginStep old.number) (Begun (last (log old.schema h))) (in_range_fits old.number is.in_range) (λ k. elim (sym closed k) [ Some before ↦ Refused InTransaction | None ↦ Begun (last (log old.schema h)) ]),
-  subst (λ j. IsBeside j new (BeginStep old.number ∷ h)) (sym (grows.adds.entries_are ∙ ap (λ e. e ∷ b.entries) begun.entry_is))
-      (subst (λ s. IsBeside (Begin old.number begun.earlier begun.view ∷ b.entries) s (BeginStep old.number ∷ h)) (sym begun.session_is)
-      (begun_beside old.schema h old.number is.in_range closed number begun.earlier begun.view b.entries number is.is_in.tables_stay is.log_is holds ends (grows.adds.numbered ∙ ap length grows.adds.entries_are))),
+begins_answer_alike first before old new b c h number e is none grows begun = (
+  ap entry_reply begun.entry_is ∙ ap Begun ends ∙ fit_reply first h (BeginStep old.number) (Begun (last (log first h))) (in_range_fits old.number is.in_range) (λ k. elim (sym closed k) [ Some before ↦ Refused InTransaction | None ↦ Begun (last (log first h)) ]),
+  subst (λ j. IsBeside first before j new (BeginStep old.number ∷ h)) (sym (grows.adds.entries_are ∙ ap (λ e. e ∷ b.entries) begun.entry_is))
+      (subst (λ s. IsBeside first before (Begin old.number begun.earlier begun.view ∷ b.entries) s (BeginStep old.number ∷ h)) (sym begun.session_is)
+      (begun_beside first h old.number is.in_range closed before old.schema number begun.earlier begun.view b.entries number is.is_in.tables_are is.log_is holds ends (grows.adds.numbered ∙ ap length grows.adds.entries_are))),
 )
   where
-    closed : log_at_begin old.schema h old.number ≡ None
-    closed = none_open _ _ old.transaction (log_at_begin old.schema h old.number) is.is_in.own_is none
+    closed : log_at_begin first h old.number ≡ None
+    closed = none_open _ _ old.transaction (log_at_begin first h old.number) is.is_in.own_is none
 
-    may : MayBegin old.schema b.entries old.number begun.earlier begun.view
-    may = subst (MayFollow old.schema b.entries) begun.entry_is (may_follow old e number b c grows)
+    may : MayBegin (origin before old) b.entries old.number begun.earlier begun.view
+    may = subst (MayFollow (origin before old) b.entries) begun.entry_is (may_follow before old e number b c grows)
 
-    ends : view_last begun.view ≡ last (log old.schema h)
+    ends : view_last begun.view ≡ last (log first h)
     ends = may.sees.last_is ∙ ap last is.log_is
 
-    holds : Holds old.schema begun.view (changes (log old.schema h))
+    holds : Holds old.schema begun.view (changes (log first h))
     holds = subst (λ l. Holds old.schema begun.view (changes l)) is.log_is (record { events_are = may.sees.events_are; keys = grows.was.holds.keys; in_order = grows.was.holds.in_order })
 
 -- ---- COMMIT
@@ -189,14 +189,14 @@ module _ (schema : Schema) (h : History) (i : ℕ) where
     reply_then before is = λ k. elim (sym is k) [ Some before ↦ commit_reply (outcome (periods_of (schema_after schema h)) (changes (log schema h)) (last (log schema h)) (snap schema h i) (net schema h i) reading) | None ↦ Refused NoTransaction ]
 
 pub commits_answer_alike : CommitsAnswerAlike
-commits_answer_alike old new b c h reading number e is grows did = (
+commits_answer_alike first before old new b c h reading number e is grows did = (
   ap entry_reply did.entry_is ∙ ap commit_reply end_is
-      ∙ fit_reply old.schema h (CommitStep old.number reading) _ (in_range_fits old.number is.in_range) (reply_then old.schema h old.number reading lab.value lab.is),
-  subst (λ j. IsBeside j new (CommitStep old.number reading ∷ h)) (sym (grows.adds.entries_are ∙ ap (λ e. e ∷ b.entries) did.entry_is))
-      (subst (λ s. IsBeside (entry ∷ b.entries) s (CommitStep old.number reading ∷ h)) (sym did.session_is) (record {
+      ∙ fit_reply first h (CommitStep old.number reading) _ (in_range_fits old.number is.in_range) (reply_then first h old.number reading lab.value lab.is),
+  subst (λ j. IsBeside first before j new (CommitStep old.number reading ∷ h)) (sym (grows.adds.entries_are ∙ ap (λ e. e ∷ b.entries) did.entry_is))
+      (subst (λ s. IsBeside first before (entry ∷ b.entries) s (CommitStep old.number reading ∷ h)) (sym did.session_is) (record {
         in_range = is.in_range;
         log_is = log_is;
-        is_in = record { tables_stay = is.is_in.tables_stay; snapshot = refl; own_is = has_none old.schema h old.number reading };
+        is_in = record { tables_are = is.is_in.tables_are; snapshot = refl; own_is = has_none first h old.number reading };
         began = tt;
       })),
 )
@@ -204,61 +204,61 @@ commits_answer_alike old new b c h reading number e is grows did = (
     entry : Entry
     entry = Commit old.number did.ran.begun.number did.net reading did.end
 
-    lab : IsOpened (log_at_begin old.schema h old.number)
-    lab = opened _ _ old.transaction (log_at_begin old.schema h old.number) is.is_in.own_is (some_is old.transaction did.ran did.was_open)
+    lab : IsOpened (log_at_begin first h old.number)
+    lab = opened _ _ old.transaction (log_at_begin first h old.number) is.is_in.own_is (some_is old.transaction did.ran did.was_open)
 
-    began : BeganIn b.entries old.schema h old.number (Some did.ran)
-    began = subst (BeganIn b.entries old.schema h old.number) did.was_open is.began
+    began : BeganIn b.entries first old.schema h old.number (Some did.ran)
+    began = subst (BeganIn b.entries first old.schema h old.number) did.was_open is.began
 
-    may : MayCommit old.schema b.entries old.number did.ran.begun.number did.net reading did.end
-    may = subst (MayFollow old.schema b.entries) did.entry_is (may_follow old e number b c grows)
+    may : MayCommit (origin before old) b.entries old.number did.ran.begun.number did.net reading did.end
+    may = subst (MayFollow (origin before old) b.entries) did.entry_is (may_follow before old e number b c grows)
 
-    start_is : view_last may.view ≡ snap old.schema h old.number
+    start_is : view_last may.view ≡ snap first h old.number
     start_is = same_some _ _ (ap start_of (sym may.begun ∙ began.0)) ∙ began.1
 
-    snap_is : snap old.schema h old.number ≡ last lab.value
-    snap_is = ap (snap_of (log old.schema h)) lab.is
+    snap_is : snap first h old.number ≡ last lab.value
+    snap_is = ap (snap_of (log first h)) lab.is
 
-    net_is : did.net ≡ net old.schema h old.number
+    net_is : did.net ≡ net first h old.number
     net_is =
-        did.net_is (seen_at old.schema h old.number) began.2
-        ∙ net_alike old.schema h old.number did.ran.writes lab.value lab.is ((λ k. option_map (λ t. own_over (seen_at old.schema h old.number) t.writes) (sym did.was_open k)) ∙ is.is_in.own_is)
+        did.net_is (seen_at first h old.number) began.2
+        ∙ net_alike first h old.number did.ran.writes lab.value lab.is ((λ k. option_map (λ t. own_over (seen_at first h old.number) t.writes) (sym did.was_open k)) ∙ is.is_in.own_is)
 
-    end_is : did.end ≡ outcome (periods_of (schema_after old.schema h)) (changes (log old.schema h)) (last (log old.schema h)) (snap old.schema h old.number) (net old.schema h old.number) reading
-    end_is = may.ends ∙ (λ k. outcome (periods_of (sym is.is_in.tables_stay k)) (changes (is.log_is k)) (last (is.log_is k)) (start_is k) (net_is k) reading)
+    end_is : did.end ≡ outcome (periods_of (schema_after first h)) (changes (log first h)) (last (log first h)) (snap first h old.number) (net first h old.number) reading
+    end_is = may.ends ∙ (λ k. outcome (periods_of (sym is.is_in.tables_are k)) (changes (is.log_is k)) (last (is.log_is k)) (start_is k) (net_is k) reading)
 
-    log_is : journal_log old.schema (entry ∷ b.entries) ≡ log old.schema (CommitStep old.number reading ∷ h)
+    log_is : journal_log (origin before old) (entry ∷ b.entries) ≡ log first (CommitStep old.number reading ∷ h)
     log_is =
-        (λ k. elim (start_of (began.0 k)) [ None ↦ journal_log old.schema b.entries | Some start ↦ after (periods_of old.schema) (journal_log old.schema b.entries) start did.net reading ])
-        ∙ (λ k. after (periods_of (sym is.is_in.tables_stay k)) (is.log_is k) ((began.1 ∙ snap_is) k) (net_is k) reading)
-        ∙ sym (log_then old.schema h old.number reading lab.value lab.is)
+        (λ k. elim (start_of (began.0 k)) [ None ↦ journal_log (origin before old) b.entries | Some start ↦ after (periods_of old.schema) (journal_log (origin before old) b.entries) start did.net reading ])
+        ∙ (λ k. after (periods_of (sym is.is_in.tables_are k)) (is.log_is k) ((began.1 ∙ snap_is) k) (net_is k) reading)
+        ∙ sym (log_then first h old.number reading lab.value lab.is)
 
 -- ---- a split
 
-split_beside : (s : SessionState) (j : Entries) (h : History) (step : Step) (cut : Cut) (done : Bool) → IsBeside j s h → IsSplitStep cut step → IsBeside (Split cut done ∷ j) s (step ∷ h)
-split_beside s j h (SplitKey key) cut done is at = record {
+split_beside : (first : Schema) (before : Log) (s : SessionState) (j : Entries) (h : History) (step : Step) (cut : Cut) (done : Bool) → IsBeside first before j s h → IsSplitStep cut step → IsBeside first before (Split cut done ∷ j) s (step ∷ h)
+split_beside first before s j h (SplitKey key) cut done is at = record {
   in_range = is.in_range;
   log_is = is.log_is;
-  is_in = record { tables_stay = is.is_in.tables_stay; snapshot = refl; own_is = is.is_in.own_is };
-  began = began_stays (Split cut done ∷ []) j s.schema h (SplitKey key) s.number s.transaction refl refl is.began;
+  is_in = record { tables_are = is.is_in.tables_are; snapshot = refl; own_is = is.is_in.own_is };
+  began = began_stays (Split cut done ∷ []) j first s.schema h (SplitKey key) s.number s.transaction refl refl is.began;
 }
-split_beside s j h (SplitTime key instant) cut done is at = record {
+split_beside first before s j h (SplitTime key instant) cut done is at = record {
   in_range = is.in_range;
   log_is = is.log_is;
-  is_in = record { tables_stay = is.is_in.tables_stay; snapshot = refl; own_is = is.is_in.own_is };
-  began = began_stays (Split cut done ∷ []) j s.schema h (SplitTime key instant) s.number s.transaction refl refl is.began;
+  is_in = record { tables_are = is.is_in.tables_are; snapshot = refl; own_is = is.is_in.own_is };
+  began = began_stays (Split cut done ∷ []) j first s.schema h (SplitTime key instant) s.number s.transaction refl refl is.began;
 }
-split_beside s j h (BeginStep i) cut done is at = absurd at
-split_beside s j h (Insert i number rows) cut done is at = absurd at
-split_beside s j h (Update i keys sets) cut done is at = absurd at
-split_beside s j h (Delete i keys) cut done is at = absurd at
-split_beside s j h (UpdatePortion i keys span sets) cut done is at = absurd at
-split_beside s j h (DeletePortion i keys span) cut done is at = absurd at
-split_beside s j h (Select i form keys) cut done is at = absurd at
-split_beside s j h (CommitStep i reading) cut done is at = absurd at
-split_beside s j h (Rollback i) cut done is at = absurd at
-split_beside s j h (AddColumn i number name of) cut done is at = absurd at
-split_beside s j h Migrate cut done is at = absurd at
+split_beside first before s j h (BeginStep i) cut done is at = absurd at
+split_beside first before s j h (Insert i number rows) cut done is at = absurd at
+split_beside first before s j h (Update i keys sets) cut done is at = absurd at
+split_beside first before s j h (Delete i keys) cut done is at = absurd at
+split_beside first before s j h (UpdatePortion i keys span sets) cut done is at = absurd at
+split_beside first before s j h (DeletePortion i keys span) cut done is at = absurd at
+split_beside first before s j h (Select i form keys) cut done is at = absurd at
+split_beside first before s j h (CommitStep i reading) cut done is at = absurd at
+split_beside first before s j h (Rollback i) cut done is at = absurd at
+split_beside first before s j h (AddColumn i number name of) cut done is at = absurd at
+split_beside first before s j h Migrate cut done is at = absurd at
 
 split_reply : (schema : Schema) (h : History) (cut : Cut) (step : Step) → IsSplitStep cut step → Done ≡ reply_in schema h step
 split_reply schema h cut (SplitKey key) at = refl
@@ -276,33 +276,33 @@ split_reply schema h cut (AddColumn i number name of) at = absurd at
 split_reply schema h cut Migrate at = absurd at
 
 pub splits_answer_alike : SplitsAnswerAlike
-splits_answer_alike s j h cut step e is at fits did = (
-  ap entry_reply did.entry_is ∙ fit_reply s.schema h step Done (ap (λ schema. misfit schema step) is.is_in.tables_stay ∙ fits) (split_reply s.schema h cut step at),
-  subst (λ e. IsBeside (e ∷ j) s (step ∷ h)) (sym did.entry_is) (split_beside s j h step cut did.done is at),
+splits_answer_alike first before s j h cut step e is at fits did = (
+  ap entry_reply did.entry_is ∙ fit_reply first h step Done (ap (λ schema. misfit schema step) is.is_in.tables_are ∙ fits) (split_reply first h cut step at),
+  subst (λ e. IsBeside first before (e ∷ j) s (step ∷ h)) (sym did.entry_is) (split_beside first before s j h step cut did.done is at),
 )
 
 -- ---- an install
 
 pub installs_answer_alike : InstallsAnswerAlike
-installs_answer_alike s j h packed e at did = (
-  ap entry_reply did.entry_is ∙ fit_reply s.schema h Migrate Done refl refl,
-  subst (λ e. IsBeside (e ∷ j) s (Migrate ∷ h)) (sym did.entry_is) (record {
+installs_answer_alike first before s j h packed e at did = (
+  ap entry_reply did.entry_is ∙ fit_reply first h Migrate Done refl refl,
+  subst (λ e. IsBeside first before (e ∷ j) s (Migrate ∷ h)) (sym did.entry_is) (record {
     in_range = at.in_range;
     log_is = at.log_is;
-    is_in = record { tables_stay = at.is_in.tables_stay; snapshot = refl; own_is = at.is_in.own_is };
-    began = began_stays (Install packed.node.rect packed.bytes did.done ∷ []) j s.schema h Migrate s.number s.transaction refl refl at.began;
+    is_in = record { tables_are = at.is_in.tables_are; snapshot = refl; own_is = at.is_in.own_is };
+    began = began_stays (Install packed.node.rect packed.bytes did.done ∷ []) j first s.schema h Migrate s.number s.transaction refl refl at.began;
   }),
 )
 
 -- ---- refusals
 
 pub refused_alike : RefusedAlike
-refused_alike s j h is = (
-  (λ ran. let lab : IsOpened (log_at_begin s.schema h s.number) = opened _ _ s.transaction (log_at_begin s.schema h s.number) is.is_in.own_is ran in
-      fit_reply s.schema h (BeginStep s.number) (Refused InTransaction) (in_range_fits s.number is.in_range) (λ k. elim (sym lab.is k) [ Some before ↦ Refused InTransaction | None ↦ Begun (last (log s.schema h)) ])),
-  λ reading none. let closed : log_at_begin s.schema h s.number ≡ None = none_open _ _ s.transaction (log_at_begin s.schema h s.number) is.is_in.own_is none in
-      fit_reply s.schema h (CommitStep s.number reading) (Refused NoTransaction) (in_range_fits s.number is.in_range)
-      (λ k. elim (sym closed k) [ Some before ↦ commit_reply (outcome (periods_of (schema_after s.schema h)) (changes (log s.schema h)) (last (log s.schema h)) (snap s.schema h s.number) (net s.schema h s.number) reading) | None ↦ Refused NoTransaction ]),
+refused_alike first before s j h is = (
+  (λ ran. let lab : IsOpened (log_at_begin first h s.number) = opened _ _ s.transaction (log_at_begin first h s.number) is.is_in.own_is ran in
+      fit_reply first h (BeginStep s.number) (Refused InTransaction) (in_range_fits s.number is.in_range) (λ k. elim (sym lab.is k) [ Some before ↦ Refused InTransaction | None ↦ Begun (last (log first h)) ])),
+  λ reading none. let closed : log_at_begin first h s.number ≡ None = none_open _ _ s.transaction (log_at_begin first h s.number) is.is_in.own_is none in
+      fit_reply first h (CommitStep s.number reading) (Refused NoTransaction) (in_range_fits s.number is.in_range)
+      (λ k. elim (sym closed k) [ Some before ↦ commit_reply (outcome (periods_of (schema_after first h)) (changes (log first h)) (last (log first h)) (snap first h s.number) (net first h s.number) reading) | None ↦ Refused NoTransaction ]),
 )
 
 -- ---- another session
@@ -340,34 +340,34 @@ module _ (schema : Schema) (h : History) (step : Step) (i : ℕ) (other : IsOfAn
       ∙ (λ k. changes (upto (log schema h) (snap_of (log schema h) (sym is k))))
 
 pub others_leave_alike : OthersLeaveAlike
-others_leave_alike s j more h step is other grows = by s.transaction refl
+others_leave_alike first before s j more h step is other grows = by s.transaction refl
   where
-    by : (o : Option SessionTransactionState) → s.transaction ≡ o → IsBeside (more ++ j) s (step ∷ h)
+    by : (o : Option SessionTransactionState) → s.transaction ≡ o → IsBeside first before (more ++ j) s (step ∷ h)
     by None none =
-        let closed : log_at_begin s.schema h s.number ≡ None = none_open _ _ s.transaction (log_at_begin s.schema h s.number) is.is_in.own_is none in
+        let closed : log_at_begin first h s.number ≡ None = none_open _ _ s.transaction (log_at_begin first h s.number) is.is_in.own_is none in
         record {
           in_range = is.in_range;
           log_is = grows;
           is_in = record {
-            tables_stay = same_tables s.schema h step s.number other ∙ is.is_in.tables_stay;
+            tables_are = same_tables first h step s.number other ∙ is.is_in.tables_are;
             snapshot = refl;
             own_is =
-                (λ k. option_map (λ t. own_over (seen_at s.schema (step ∷ h) s.number) t.writes) (none k))
-                ∙ (λ k. option_map (λ before. own_of (schema_after s.schema (step ∷ h)) (log s.schema (step ∷ h)) (Some before) (own s.schema (step ∷ h) s.number)) (sym (same_begin s.schema h step s.number other ∙ closed) k));
+                (λ k. option_map (λ t. own_over (seen_at first (step ∷ h) s.number) t.writes) (none k))
+                ∙ (λ k. option_map (λ before. own_of (schema_after first (step ∷ h)) (log first (step ∷ h)) (Some before) (own first (step ∷ h) s.number)) (sym (same_begin first h step s.number other ∙ closed) k));
           };
-          began = subst (BeganIn (more ++ j) s.schema (step ∷ h) s.number) (sym none) tt;
+          began = subst (BeganIn (more ++ j) first s.schema (step ∷ h) s.number) (sym none) tt;
         }
     by (Some t) ran =
-        let lab : IsOpened (log_at_begin s.schema h s.number) = opened _ _ s.transaction (log_at_begin s.schema h s.number) is.is_in.own_is (some_is s.transaction t ran) in
+        let lab : IsOpened (log_at_begin first h s.number) = opened _ _ s.transaction (log_at_begin first h s.number) is.is_in.own_is (some_is s.transaction t ran) in
         record {
           in_range = is.in_range;
           log_is = grows;
           is_in = record {
-            tables_stay = same_tables s.schema h step s.number other ∙ is.is_in.tables_stay;
+            tables_are = same_tables first h step s.number other ∙ is.is_in.tables_are;
             snapshot = refl;
-            own_is = (λ k. own_in (seen_stays s.schema h step s.number other lab.value lab.is k) s) ∙ is.is_in.own_is ∙ open_stays s.schema h step s.number other lab.value lab.is;
+            own_is = (λ k. own_in (seen_stays first h step s.number other lab.value lab.is k) s) ∙ is.is_in.own_is ∙ open_stays first h step s.number other lab.value lab.is;
           };
-          began = began_stays more j s.schema h step s.number s.transaction (snap_stays s.schema h step s.number other lab.value lab.is) (seen_stays s.schema h step s.number other lab.value lab.is) is.began;
+          began = began_stays more j first s.schema h step s.number s.transaction (snap_stays first h step s.number other lab.value lab.is) (seen_stays first h step s.number other lab.value lab.is) is.began;
         }
 
 -- ---- what a session does without the store
@@ -391,43 +391,43 @@ still schema h (SplitKey key) i its = absurd (cc)
 still schema h (SplitTime key instant) i its = absurd (cc)
 still schema h Migrate i its = absurd (cc)
 
-began_written : (j : Entries) (schema : Schema) (h : History) (i : ℕ) (writes : Net) (o : Option SessionTransactionState) → BeganIn j schema h i o → BeganIn j schema h i (option_map (with_writes writes) o)
-began_written j schema h i writes None began = tt
-began_written j schema h i writes (Some t) began = began
+began_written : (j : Entries) (first schema : Schema) (h : History) (i : ℕ) (writes : Net) (o : Option SessionTransactionState) → BeganIn j first schema h i o → BeganIn j first schema h i (option_map (with_writes writes) o)
+began_written j first schema h i writes None began = tt
+began_written j first schema h i writes (Some t) began = began
 
-write_beside : (old new : SessionState) (j : Entries) (h : History) (step : Step) → IsBeside j old h → writer step ≡ Some old.number → WithWrites old new
-    → own_in (seen_at old.schema h old.number) new ≡ (write_in old step (own_in (seen_at old.schema h old.number) old)).1 → IsBeside j new (step ∷ h)
-write_beside old new j h step is its rest did =
-    subst (λ s. IsBeside j s (step ∷ h)) (sym rest.1) (record {
+write_beside : (first : Schema) (before : Log) (old new : SessionState) (j : Entries) (h : History) (step : Step) → IsBeside first before j old h → writer step ≡ Some old.number → WithWrites old new
+    → own_in (seen_at first h old.number) new ≡ (write_in old step (own_in (seen_at first h old.number) old)).1 → IsBeside first before j new (step ∷ h)
+write_beside first before old new j h step is its rest did =
+    subst (λ s. IsBeside first before j s (step ∷ h)) (sym rest.1) (record {
       in_range = is.in_range;
       log_is = is.log_is ∙ sym same.same_log;
-      is_in = subst (λ m. IsIn m written (step ∷ h)) is_in.snapshot is_in;
-      began = began_stays [] j old.schema h step old.number written.transaction (λ k. snap_of (same.same_log k) (same.same_begin k)) (λ k. changes (upto (same.same_log k) (snap_of (same.same_log k) (same.same_begin k))))
-          (began_written j old.schema h old.number rest.0 old.transaction is.began);
+      is_in = subst (λ m. IsIn first m written (step ∷ h)) is_in.snapshot is_in;
+      began = began_stays [] j first old.schema h step old.number written.transaction (λ k. snap_of (same.same_log k) (same.same_begin k)) (λ k. changes (upto (same.same_log k) (snap_of (same.same_log k) (same.same_begin k))))
+          (began_written j first old.schema h old.number rest.0 old.transaction is.began);
     })
   where
     written : SessionState
     written = with_transaction old (option_map (with_writes rest.0) old.transaction)
 
-    same : IsStill old.schema h step old.number
-    same = still old.schema h step old.number its
+    same : IsStill first h step old.number
+    same = still first h step old.number its
 
-    is_in : IsIn (seen_at old.schema h old.number) written (step ∷ h)
-    is_in = writes_leave_alike (seen_at old.schema h old.number) old written h step is.is_in its refl refl (ap (own_in (seen_at old.schema h old.number)) (sym rest.1) ∙ did)
+    is_in : IsIn first (seen_at first h old.number) written (step ∷ h)
+    is_in = writes_leave_alike first (seen_at first h old.number) old written h step is.is_in its refl refl (ap (own_in (seen_at first h old.number)) (sym rest.1) ∙ did)
 
 pub own_steps_stay : OwnStepsStayBeside
-own_steps_stay old new j h step is = (
-  (λ its rest did. write_beside old new j h step is its rest did),
+own_steps_stay first before old new j h step is = (
+  (λ its rest did. write_beside first before old new j h step is its rest did),
   (λ form keys. record {
     in_range = is.in_range;
     log_is = is.log_is;
-    is_in = record { tables_stay = is.is_in.tables_stay; snapshot = refl; own_is = is.is_in.own_is };
-    began = began_stays [] j old.schema h (Select old.number form keys) old.number old.transaction refl refl is.began;
+    is_in = record { tables_are = is.is_in.tables_are; snapshot = refl; own_is = is.is_in.own_is };
+    began = began_stays [] j first old.schema h (Select old.number form keys) old.number old.transaction refl refl is.began;
   }),
   record {
     in_range = is.in_range;
     log_is = is.log_is;
-    is_in = record { tables_stay = is.is_in.tables_stay; snapshot = refl; own_is = ended_none old.schema h old.number };
+    is_in = record { tables_are = is.is_in.tables_are; snapshot = refl; own_is = ended_none first h old.number };
     began = tt;
   },
 )

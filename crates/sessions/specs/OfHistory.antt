@@ -33,11 +33,11 @@ own_at first h i =
     (log_at_begin first h i)
 
 -- the session has open what the history has: its view shows the history's snapshot, and its own
--- rows and keys are the history's. The history begins with the session's tables, and they stay.
-pub record IsIn (m : Changes) (s : SessionState) (h : History) : Type 0 where
-  pub tables_stay : schema_after s.schema h ≡ s.schema
-  pub snapshot : m ≡ changes (upto (log s.schema h) (snap s.schema h s.number))
-  pub own_is : own_in m s ≡ own_at s.schema h s.number
+-- rows and keys are the history's. The history has come to the session's tables.
+pub record IsIn (first : Schema) (m : Changes) (s : SessionState) (h : History) : Type 0 where
+  pub tables_are : schema_after first h ≡ s.schema
+  pub snapshot : m ≡ changes (upto (log first h) (snap first h s.number))
+  pub own_is : own_in m s ≡ own_at first h s.number
 
 abbrev pub shown_reply : Result Listing Refusal → Reply
 shown_reply (Ok listing) = Shown listing
@@ -46,25 +46,25 @@ shown_reply (Err refusal) = Refused refusal
 -- its writes answer what the history's do
 abbrev pub WritesAnswerAlike : Type 0
 WritesAnswerAlike =
-    (m : Changes) (s : SessionState) (h : History) (step : Step)
-    → IsIn m s h → writer step ≡ Some s.number
-    → written_reply step (write_in s step (own_in m s)).0 ≡ reply s.schema h step
+    (first : Schema) (m : Changes) (s : SessionState) (h : History) (step : Step)
+    → IsIn first m s h → writer step ≡ Some s.number
+    → written_reply step (write_in s step (own_in m s)).0 ≡ reply first h step
 
 -- and so do its queries
 abbrev pub QueriesAnswerAlike : Type 0
 QueriesAnswerAlike =
-    (m : Changes) (s : SessionState) (h : History) (form : Form) (keys : Keys)
-    → IsIn m s h → s.transaction ≢ None
-    → shown_reply (select_in m s form keys) ≡ reply s.schema h (Select s.number form keys)
+    (first : Schema) (m : Changes) (s : SessionState) (h : History) (form : Form) (keys : Keys)
+    → IsIn first m s h → s.transaction ≢ None
+    → shown_reply (select_in m s form keys) ≡ reply first h (Select s.number form keys)
 
 -- after a write it has open what the history with that step has
 abbrev pub WritesLeaveAlike : Type 0
 WritesLeaveAlike =
-    (m : Changes) (old new : SessionState) (h : History) (step : Step)
-    → IsIn m old h → writer step ≡ Some old.number
+    (first : Schema) (m : Changes) (old new : SessionState) (h : History) (step : Step)
+    → IsIn first m old h → writer step ≡ Some old.number
     → new.number ≡ old.number → new.schema ≡ old.schema
     → own_in m new ≡ (write_in old step (own_in m old)).1
-    → IsIn m new (step ∷ h)
+    → IsIn first m new (step ∷ h)
 
 -- the row that the history's open transaction has at a key, if there is one: of the rows that its
 -- plain queries list, and as wide as its table
@@ -83,8 +83,8 @@ read_at first h i key = elim (key_misfit (schema_after first h) key) [
 -- a read at a key gives the row that the history has there
 abbrev pub GetsAnswerAlike : Type 0
 GetsAnswerAlike =
-    (m : Changes) (s : SessionState) (h : History) (key : Key)
-    → IsIn m s h → get_in m s key ≡ read_at s.schema h s.number key
+    (first : Schema) (m : Changes) (s : SessionState) (h : History) (key : Key)
+    → IsIn first m s h → get_in m s key ≡ read_at first h s.number key
 
 -- a row, if there is one
 abbrev pub row_alone : Option Row → List Row
@@ -94,13 +94,13 @@ row_alone (Some row) = row ∷ []
 -- and it is the row that the history's reply shows to a plain query that takes this key alone
 abbrev pub GetsAsListed : Type 0
 GetsAsListed =
-    (m : Changes) (s : SessionState) (h : History) (key : Key) (keys : Keys) (table : Table)
-    (row : Option Row)
-    → IsIn m s h → get_in m s key ≡ Ok row
+    (first : Schema) (m : Changes) (s : SessionState) (h : History) (key : Key) (keys : Keys)
+    (table : Table) (row : Option Row)
+    → IsIn first m s h → get_in m s key ≡ Ok row
     → misfit s.schema (Select s.number Plain keys) ≡ None
     → table_at s.schema keys.table ≡ Some table
     → ((k : Key) → matches table keys k ≡ is_key key k)
-    → reply s.schema h (Select s.number Plain keys) ≡ Shown (Rows (row_alone row))
+    → reply first h (Select s.number Plain keys) ≡ Shown (Rows (row_alone row))
 
 -- what a history's open transaction sees of what was committed, or all of it with none open
 abbrev pub seen_at : Schema → History → ℕ → Changes
@@ -114,9 +114,10 @@ rolled_reply (Err refusal) = Refused refusal
 -- that step has: none
 abbrev pub RollbacksAnswerAlike : Type 0
 RollbacksAnswerAlike =
-    (m : Changes) (s : SessionState) (h : History) (result : Result (Unit {0}) Refusal)
-    → IsIn m s h → s.number ≤ max_session
+    (first : Schema) (m : Changes) (s : SessionState) (h : History)
+    (result : Result (Unit {0}) Refusal)
+    → IsIn first m s h → s.number ≤ max_session
     → MatchOption s.transaction (result ≡ Err NoTransaction) (λ _. IsOk result)
-    → (rolled_reply result ≡ reply s.schema h (Rollback s.number))
-    × IsIn (seen_at s.schema (Rollback s.number ∷ h) s.number)
+    → (rolled_reply result ≡ reply first h (Rollback s.number))
+    × IsIn first (seen_at first (Rollback s.number ∷ h) s.number)
     (with_transaction s None) (Rollback s.number ∷ h)

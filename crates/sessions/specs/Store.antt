@@ -2,6 +2,7 @@
 use Rattle.std.specs.Prelude.{◌≡◌, ℕ, [], Option, Some, None, Result, Bool, false, true, ◌==◌, ◌||◌}
 use Rattle.values.specs.declared.refusal.Refusal.{Refusal}
 use Rattle.values.specs.Log.{Changes, Net}
+use Rattle.growlog.specs.Origin.{Origin}
 use Rattle.blocks.specs.PackedNode.{Packed}
 use Rattle.book.specs.tsbtree.View.{TreeState, last}
 use Rattle.book.specs.staging.View.{Holds}
@@ -46,11 +47,11 @@ pub record IsNetOf (s : SessionState) (net : Net) : Type 0 where
   pub net_is : (m : Changes) → Holds s.schema ran.view m → net ≡ net_over m ran.writes
 
 -- the entry is that of a commit at the book of what the session has open, and the transaction has ended
-pub record IsCommitAt (book : BookState) (old new : SessionState) (net : Net) (reading number : ℕ)
-    (e : Entry) : Type 0 where
+pub record IsCommitAt (o : Origin) (book : BookState) (old new : SessionState) (net : Net)
+    (reading number : ℕ) (e : Entry) : Type 0 where
   pub ran : SessionTransactionState
   pub was_open : old.transaction ≡ Some ran
-  pub entry_is : e ≡ commit_entry old.schema book old.number ran.begun net reading
+  pub entry_is : e ≡ commit_entry o book old.number ran.begun net reading
   pub session_is : new ≡ record {
     number = old.number;
     schema = old.schema;

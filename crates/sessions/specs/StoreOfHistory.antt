@@ -6,6 +6,8 @@ use Rattle.values.specs.declared.query.Keys.{Keys}
 use Rattle.values.specs.declared.refusal.Refusal.TheVariants.{InTransaction, NoTransaction}
 use Rattle.values.specs.Tables.{Schema}
 use Rattle.values.specs.KeyEncoding.{bytes_of_key}
+use Rattle.values.specs.Log.{Log}
+use Rattle.growlog.specs.Origin.{Origin}
 use Rattle.blocks.specs.PackedNode.{Packed}
 use Rattle.book.specs.tsbtree.View.{last as view_last}
 use Rattle.book.specs.staging.View.{Holds}
@@ -35,41 +37,51 @@ entry_reply (Split cut done) = Done
 entry_reply (Install rect block done) = Done
 
 -- the open transaction's begin is in the journal, and saw what the history's snapshot has
-abbrev pub BeganIn : Entries → Schema → History → ℕ → Option SessionTransactionState → Type 0
-BeganIn j first h i None = Unit {0}
-BeganIn j first h i (Some t) =
+abbrev pub BeganIn : Entries → (first schema : Schema) → History → ℕ
+    → Option SessionTransactionState → Type 0
+BeganIn j first schema h i None = Unit {0}
+BeganIn j first schema h i (Some t) =
     (entry_at j t.begun.number ≡ Some (Begin i t.begun.earlier t.view))
-    × (view_last t.view ≡ snap first h i) × Holds first t.view (seen_at first h i)
+    × (view_last t.view ≡ snap first h i) × Holds schema t.view (seen_at first h i)
+
+-- a store of the session's tables, that begins with these transactions
+abbrev pub origin : Log → SessionState → Origin
+origin before s = record { schema = s.schema; log = before }
 
 -- the journal's log is the history's, and the session has open what the history has
-pub record IsBeside (j : Entries) (s : SessionState) (h : History) : Type 0 where
+pub record IsBeside (first : Schema) (before : Log) (j : Entries) (s : SessionState) (h : History)
+    : Type 0 where
   pub in_range : s.number ≤ max_session
-  pub log_is : journal_log s.schema j ≡ log s.schema h
-  pub is_in : IsIn (seen_at s.schema h s.number) s h
-  pub began : BeganIn j s.schema h s.number s.transaction
+  pub log_is : journal_log (origin before s) j ≡ log first h
+  pub is_in : IsIn first (seen_at first h s.number) s h
+  pub began : BeganIn j first s.schema h s.number s.transaction
 
 -- under the lock there is one entry more
-pub record Grows (s : SessionState) (e : Entry) (number : ℕ) (old new : BookState) : Type 0 where
-  pub was : IsBook s.schema old
-  pub is : IsBook s.schema new
+pub record Grows (before : Log) (s : SessionState) (e : Entry) (number : ℕ) (old new : BookState)
+    : Type 0 where
+  pub was : IsBook (origin before s) old
+  pub is : IsBook (origin before s) new
   pub adds : Adds e number old new
 
 -- a BEGIN answers the history's last instant, and then the session has open what the history has
 abbrev pub BeginsAnswerAlike : Type 0
 BeginsAnswerAlike =
-    (old new : SessionState) (b c : BookState) (h : History) (number : ℕ) (e : Entry)
-    → IsBeside b.entries old h → old.transaction ≡ None → Grows old e number b c
+    (first : Schema) (before : Log) (old new : SessionState) (b c : BookState) (h : History)
+    (number : ℕ) (e : Entry)
+    → IsBeside first before b.entries old h → old.transaction ≡ None → Grows before old e number b c
     → IsBegun old new number e
-    → (entry_reply e ≡ reply old.schema h (BeginStep old.number))
-    × IsBeside c.entries new (BeginStep old.number ∷ h)
+    → (entry_reply e ≡ reply first h (BeginStep old.number))
+    × IsBeside first before c.entries new (BeginStep old.number ∷ h)
 
 -- a COMMIT answers the history's outcome, an instant or none or a refusal, and leaves its log
 abbrev pub CommitsAnswerAlike : Type 0
 CommitsAnswerAlike =
-    (old new : SessionState) (b c : BookState) (h : History) (reading number : ℕ) (e : Entry)
-    → IsBeside b.entries old h → Grows old e number b c → IsCommitted old new reading number e
-    → (entry_reply e ≡ reply old.schema h (CommitStep old.number reading))
-    × IsBeside c.entries new (CommitStep old.number reading ∷ h)
+    (first : Schema) (before : Log) (old new : SessionState) (b c : BookState) (h : History)
+    (reading number : ℕ) (e : Entry)
+    → IsBeside first before b.entries old h → Grows before old e number b c
+    → IsCommitted old new reading number e
+    → (entry_reply e ≡ reply first h (CommitStep old.number reading))
+    × IsBeside first before c.entries new (CommitStep old.number reading ∷ h)
 
 -- a step that splits at the cut
 abbrev pub IsSplitStep : Cut → Step → Type 0
@@ -81,25 +93,28 @@ IsSplitStep cut _ = ⊥
 -- changes nothing of any session
 abbrev pub SplitsAnswerAlike : Type 0
 SplitsAnswerAlike =
-    (s : SessionState) (j : Entries) (h : History) (cut : Cut) (step : Step) (e : Entry)
-    → IsBeside j s h → IsSplitStep cut step → misfit s.schema step ≡ None → IsSplitOf cut e
-    → (entry_reply e ≡ reply s.schema h step) × IsBeside (e ∷ j) s (step ∷ h)
+    (first : Schema) (before : Log) (s : SessionState) (j : Entries) (h : History) (cut : Cut)
+    (step : Step) (e : Entry)
+    → IsBeside first before j s h → IsSplitStep cut step → misfit s.schema step ≡ None → IsSplitOf cut e
+    → (entry_reply e ≡ reply first h step) × IsBeside first before (e ∷ j) s (step ∷ h)
 
 -- an install answers what a MIGRATE does, whether its block took its place or not, and changes
 -- nothing of any session
 abbrev pub InstallsAnswerAlike : Type 0
 InstallsAnswerAlike =
-    (s : SessionState) (j : Entries) (h : History) (packed : Packed) (e : Entry)
-    → IsBeside j s h → IsInstallOf packed e
-    → (entry_reply e ≡ reply s.schema h Migrate) × IsBeside (e ∷ j) s (Migrate ∷ h)
+    (first : Schema) (before : Log) (s : SessionState) (j : Entries) (h : History) (packed : Packed)
+    (e : Entry)
+    → IsBeside first before j s h → IsInstallOf packed e
+    → (entry_reply e ≡ reply first h Migrate) × IsBeside first before (e ∷ j) s (Migrate ∷ h)
 
 -- a BEGIN with one open and a COMMIT with none are refused as the history refuses them
 abbrev pub RefusedAlike : Type 0
 RefusedAlike =
-    (s : SessionState) (j : Entries) (h : History) → IsBeside j s h
-    → (s.transaction ≢ None → Refused InTransaction ≡ reply s.schema h (BeginStep s.number))
+    (first : Schema) (before : Log) (s : SessionState) (j : Entries) (h : History)
+    → IsBeside first before j s h
+    → (s.transaction ≢ None → Refused InTransaction ≡ reply first h (BeginStep s.number))
     × ((reading : ℕ) → s.transaction ≡ None
-    → Refused NoTransaction ≡ reply s.schema h (CommitStep s.number reading))
+    → Refused NoTransaction ≡ reply first h (CommitStep s.number reading))
 
 -- the step neither begins nor ends nor writes for the session, and adds a column to no table
 pub record IsOfAnother (i : ℕ) (step : Step) : Type 0 where
@@ -111,19 +126,20 @@ pub record IsOfAnother (i : ℕ) (step : Step) : Type 0 where
 -- a step of another session changes nothing of what a session has open
 abbrev pub OthersLeaveAlike : Type 0
 OthersLeaveAlike =
-    (s : SessionState) (j more : Entries) (h : History) (step : Step)
-    → IsBeside j s h → IsOfAnother s.number step
-    → journal_log s.schema (more ++ j) ≡ log s.schema (step ∷ h)
-    → IsBeside (more ++ j) s (step ∷ h)
+    (first : Schema) (before : Log) (s : SessionState) (j more : Entries) (h : History) (step : Step)
+    → IsBeside first before j s h → IsOfAnother s.number step
+    → journal_log (origin before s) (more ++ j) ≡ log first (step ∷ h)
+    → IsBeside first before (more ++ j) s (step ∷ h)
 
 -- what a session does without the store keeps it beside the history: a write that leaves what the
 -- definitions say, a query, and a rollback
 abbrev pub OwnStepsStayBeside : Type 0
 OwnStepsStayBeside =
-    (old new : SessionState) (j : Entries) (h : History) (step : Step) → IsBeside j old h
+    (first : Schema) (before : Log) (old new : SessionState) (j : Entries) (h : History) (step : Step)
+    → IsBeside first before j old h
     → (writer step ≡ Some old.number → WithWrites old new
-    → own_in (seen_at old.schema h old.number) new
-    ≡ (write_in old step (own_in (seen_at old.schema h old.number) old)).1
-    → IsBeside j new (step ∷ h))
-    × ((form : Form) (keys : Keys) → IsBeside j old (Select old.number form keys ∷ h))
-    × IsBeside j (with_transaction old None) (Rollback old.number ∷ h)
+    → own_in (seen_at first h old.number) new
+    ≡ (write_in old step (own_in (seen_at first h old.number) old)).1
+    → IsBeside first before j new (step ∷ h))
+    × ((form : Form) (keys : Keys) → IsBeside first before j old (Select old.number form keys ∷ h))
+    × IsBeside first before j (with_transaction old None) (Rollback old.number ∷ h)

@@ -68,11 +68,11 @@ impl Session {
         changes: KeyedNet,
         reading: Instant,
     ) -> Result<Ended<J>, StoreRefusal>
-        requires tables { self.old.schema ≡ J.schema }
-        requires keys { AreKeysIn J.schema net }
+        requires tables { self.old.schema ≡ J.origin.schema }
+        requires keys { AreKeysIn J.origin.schema net }
         requires twice { changes ≡ net }
-        ensures committed { IfOk result (λ e. IsCommitAt book.old self.old self.new net reading
-            e.receipt.number e.receipt.entry) }
+        ensures committed { IfOk result (λ e. IsCommitAt J.origin book.old self.old self.new net
+            reading e.receipt.number e.receipt.entry) }
         ensures adds { IfOk result (λ e.
             Adds e.receipt.entry e.receipt.number book.old book.new) }
         ensures none { self.old.transaction ≡ None

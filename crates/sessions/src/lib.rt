@@ -12,7 +12,7 @@ mod store;
 mod write;
 
 pub use book::{
-    BlockCache, BookRefusal, Closed, Cut, Entry, Job, MOST_ENTRIES, PackedNode, Receipt,
+    BlockCache, BookRefusal, Closed, Cut, Engine, Entry, Job, MOST_ENTRIES, PackedNode, Receipt,
     SharedEntry, View, find_job, listing_of, pack_job,
 };
 pub use commit::Ended;

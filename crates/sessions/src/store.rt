@@ -1,9 +1,12 @@
 //! The store: the book under its lock.
-ghost use Rattle.std.specs.Prelude.{◌≡◌, ◌≢◌, ◌<◌, ◌≤◌, ◌⊎◌, ◌↔◌, All, Err, IfErr, IfOk, IsPermutation, IsSome, IsTrue, None, OnErr, Some, length, map};
+ghost use Rattle.std.specs.Prelude.{◌≡◌, ◌≢◌, ◌<◌, ◌≤◌, ◌⊎◌, ◌↔◌, All, [], Err, IfErr, IfOk, IsPermutation, IsSome, IsTrue, None, OnErr, Some, length, map};
+ghost use Rattle.values.specs.Log.{changes, last as last_of};
 ghost use Rattle.values.specs.Memory.{OnlyMemory};
 ghost use Rattle.steps.specs.Misfit.{max_session};
 ghost use Rattle.book.specs.journal.Entries.{entry_at, numbers};
 ghost use Rattle.book.specs.Book.{IsBook};
+ghost use Rattle.book.specs.staging.View.{Holds};
+ghost use Rattle.book.specs.tsbtree.View.{last};
 ghost use Rattle.values.specs.declared.refusal.Refusal.TheVariants.{InTransaction, NoTable, NoTransaction};
 ghost use Rattle.sessions.specs.declared.refusal.StoreRefusal.TheVariants as refused;
 ghost use Rattle.sessions.specs.Refusal.{OnlyBook, OnlyBookRoom};
@@ -12,7 +15,7 @@ ghost use Rattle.sessions.specs.Store.{IsBegun, IsCommitted, IsCommittedBy, IsIn
 use crate::readings::Readings;
 use crate::refusal::StoreRefusal;
 use crate::session::Session;
-use book::{Book, Closed, Cut, JournalGone, PackedNode, Receipt, SharedEntry};
+use book::{Book, Closed, Cut, Engine, JournalGone, PackedNode, Receipt, SharedEntry};
 use growlog::{NewLog, StoreName};
 use std::alloc::Global;
 use std::hint::spin_loop;
@@ -25,7 +28,7 @@ use values::{Instant, Mem, Refusal, Schema};
 pub struct LockedStore<J: StoreName> {
     schema: Schema,
     book: Mutex<Book<J>>,
-    pub ghost named: { schema ≡ J.schema },
+    pub ghost named: { schema ≡ J.origin.schema },
 }
 
 /// A store that is not closed, since the receipts are not one for each entry. They are handed back
@@ -42,25 +45,42 @@ const TRIES: u32 = 200;
 const TRIES_AT_ONCE: u32 = 100;
 
 impl<J: StoreName> LockedStore<J> {
-    /// Makes a store of these tables to which nothing has happened. Out of memory is the only
+    /// Makes a store of these tables in which nothing was committed. Out of memory is the only
     /// refusal.
     pub fn new(alloc: Global, schema: Schema, opened: NewLog<SharedEntry>) -> Mem<LockedStore<J>>
         requires log { opened.seen.book ≡ J.book }
-        requires tables { schema ≡ J.schema }
+        requires origin { J.origin ≡ record { schema = schema; log = [] } }
         ensures memory { OnlyMemory result }
     {
-        let book = Book::new(alloc, opened)?;
-        Ok(LockedStore {
+        let engine = Engine::new(alloc)?;
+        Ok(LockedStore::over(alloc, schema, engine, opened))
+    }
+
+    /// Makes a store of these tables that begins with what the engine has: nothing has happened to
+    /// it yet, and its entries are numbered from 1.
+    pub fn over(
+        alloc: Global,
+        schema: Schema,
+        engine: Engine,
+        opened: NewLog<SharedEntry>,
+    ) -> LockedStore<J>
+        requires log { opened.seen.book ≡ J.book }
+        requires tables { schema ≡ J.origin.schema }
+        requires holds { Holds J.origin.schema engine (changes J.origin.log) }
+        requires clock { last engine ≡ last_of J.origin.log }
+    {
+        let book = Book::over(alloc, engine, opened);
+        LockedStore {
             schema,
             book: Mutex::new(book),
-        })
+        }
     }
 
     /// Makes a session of the store's tables, with no transaction open. `NoSession` or out of
     /// memory where the number is above 64; otherwise out of memory is the only refusal.
     pub fn session(&self, alloc: Global, number: u8) -> Result<Session, Refusal>
         ensures ok { IfOk result (λ s. s
-            ≡ record { number = number; schema = J.schema; receipt = 0; transaction = None }) }
+            ≡ record { number = number; schema = J.origin.schema; receipt = 0; transaction = None }) }
         ensures above { max_session < number → IfOk result (λ s. ⊥) }
         ensures upto { number ≤ max_session → OnlyMemory result }
         ensures why { IfErr result (λ e. (e ≡ Refusal.NoSession) ⊎ (e ≡ Refusal.Memory)) }
@@ -70,7 +90,7 @@ impl<J: StoreName> LockedStore<J> {
 
     /// Tells whether a session is of the store's tables.
     fn has_tables_of(&self, session: &Session) -> bool
-        ensures { IsTrue result ↔ (session.now.schema ≡ J.schema) }
+        ensures { IsTrue result ↔ (session.now.schema ≡ J.origin.schema) }
     {
         self.schema == session.schema
     }
@@ -96,10 +116,10 @@ impl<J: StoreName> LockedStore<J> {
     /// is no room for one more entry. After a refusal nothing has changed.
     pub fn begin<R: Wait>(&self, rt: &R, session: &mut Session) -> Result<Receipt<J>, StoreRefusal>
         ensures begun { IfOk result (λ r. IsBegun session.old session.new r.number r.entry) }
-        ensures other { session.old.schema ≢ J.schema → result ≡ Err (refused.Session NoTable) }
-        ensures open_before { session.old.schema ≡ J.schema → IsSome session.old.transaction
+        ensures other { session.old.schema ≢ J.origin.schema → result ≡ Err (refused.Session NoTable) }
+        ensures open_before { session.old.schema ≡ J.origin.schema → IsSome session.old.transaction
             → result ≡ Err (refused.Session InTransaction) }
-        ensures why { session.old.schema ≡ J.schema → session.old.transaction ≡ None
+        ensures why { session.old.schema ≡ J.origin.schema → session.old.transaction ≡ None
             → OnlyBookRoom result }
         ensures refused { OnErr result (session.new ≡ session.old) }
     {
@@ -117,7 +137,7 @@ impl<J: StoreName> LockedStore<J> {
         rt: &R,
         session: &mut Session,
     ) -> Result<Receipt<J>, StoreRefusal>
-        requires { session.old.schema ≡ J.schema }
+        requires { session.old.schema ≡ J.origin.schema }
         ensures begun { IfOk result (λ r. IsBegun session.old session.new r.number r.entry) }
         ensures open_before { IsSome session.old.transaction
             → result ≡ Err (refused.Session InTransaction) }
@@ -143,10 +163,10 @@ impl<J: StoreName> LockedStore<J> {
     ) -> Result<Receipt<J>, StoreRefusal>
         ensures committed { IfOk result (λ r.
             IsCommitted session.old session.new reading r.number r.entry) }
-        ensures other { session.old.schema ≢ J.schema → result ≡ Err (refused.Session NoTable) }
-        ensures none { session.old.schema ≡ J.schema → session.old.transaction ≡ None
+        ensures other { session.old.schema ≢ J.origin.schema → result ≡ Err (refused.Session NoTable) }
+        ensures none { session.old.schema ≡ J.origin.schema → session.old.transaction ≡ None
             → result ≡ Err (refused.Session NoTransaction) }
-        ensures why { session.old.schema ≡ J.schema → IsSome session.old.transaction
+        ensures why { session.old.schema ≡ J.origin.schema → IsSome session.old.transaction
             → OnlyBook result }
         ensures refused { OnErr result (session.new ≡ session.old) }
     {
@@ -170,7 +190,7 @@ impl<J: StoreName> LockedStore<J> {
         session: &mut Session,
         readings: &mut C,
     ) -> Result<Receipt<J>, StoreRefusal>
-        requires { session.old.schema ≡ J.schema }
+        requires { session.old.schema ≡ J.origin.schema }
         ensures committed { IfOk result (λ r.
             IsCommittedBy C.may_give session.old session.new r.number r.entry) }
         ensures none { session.old.transaction ≡ None → result ≡ Err (refused.Session NoTransaction) }
@@ -210,7 +230,7 @@ impl<J: StoreName> LockedStore<J> {
     /// Closes the store where the receipts are those of its entries, one for each, in whatever
     /// order they come. It takes no memory.
     pub fn close(self, receipts: Vec<Receipt<J>>) -> Result<Closed, Unclosed<J>>
-        ensures book { IfOk result (IsBook J.schema) }
+        ensures book { IfOk result (IsBook J.origin) }
         ensures stand { IfOk result (λ c. All (λ r.
             entry_at c.entries r.number ≡ Some r.entry) receipts.items) }
         ensures once { IfOk result (λ c. IsPermutation

@@ -1,5 +1,5 @@
 //! Sessions side by side, and the same lines one after another, in the order of their receipts.
-ghost use Rattle.std.specs.Prelude.{◌≡◌};
+ghost use Rattle.std.specs.Prelude.{◌≡◌, []};
 
 use crate::case::{Ended, Pipe, Ticks, kind_of};
 use crate::cut::Cut;
@@ -325,7 +325,7 @@ fn replay<J: StoreName, R: Abort + Threads + Wait + Sync>(
     opened: NewLog<SharedEntry>,
 )
     requires log { opened.seen.book ≡ J.book }
-    requires tables { schema ≡ J.schema }
+    requires origin { J.origin ≡ record { schema = schema; log = [] } }
 {
     let store = LockedStore::<J>::new(alloc, schema, opened).expect(rt, "there is memory");
     let tray = Mutex::new(Tray {

@@ -1,5 +1,5 @@
 //! Scenes round a store that is made for each, and what the store shows when it is closed.
-ghost use Rattle.std.specs.Prelude.{◌≡◌};
+ghost use Rattle.std.specs.Prelude.{◌≡◌, []};
 
 use crate::call_tests::{make_calls, split_twice};
 use crate::case::{Case, serve_case};
@@ -175,7 +175,7 @@ fn play_round<J: StoreName, R: Abort + Threads + Wait + Sync>(
     scene: Scene<'_>,
 )
     requires log { opened.seen.book ≡ J.book }
-    requires tables { schema ≡ J.schema }
+    requires origin { J.origin ≡ record { schema = schema; log = [] } }
 {
     let store = LockedStore::<J>::new(alloc, schema, opened).expect(rt, "there is memory");
     let mut receipts = Vec::new(alloc);

@@ -1,5 +1,5 @@
 //! Clients of a store that is served.
-ghost use Rattle.std.specs.Prelude.{◌≡◌};
+ghost use Rattle.std.specs.Prelude.{◌≡◌, []};
 
 use crate::client::{Play, Sent, run_play};
 use crate::staff::employee;
@@ -149,7 +149,7 @@ where
     R: Abort + Net<Listener = TcpListener, Stream = TcpStream> + Clock + Threads + Wait + Sync,
     G: Gate + Sync,
     requires log { opened.seen.book ≡ J.book }
-    requires tables { schema ≡ J.schema }
+    requires origin { J.origin ≡ record { schema = schema; log = [] } }
 {
     let store = LockedStore::<J>::new(alloc, schema, opened).expect(rt, "there is memory");
     serve_two(rt, alloc, store, gate, play)

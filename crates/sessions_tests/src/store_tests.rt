@@ -1,5 +1,5 @@
 //! Sessions beside each other, and a session at a store where it did not begin.
-ghost use Rattle.std.specs.Prelude.{◌≡◌};
+ghost use Rattle.std.specs.Prelude.{◌≡◌, []};
 
 use crate::desk::{Desk, count, insert, is_not_open};
 use crate::scene::{Audit, Scene, closed_with, play};
@@ -59,7 +59,7 @@ fn refuses_commit<K: StoreName, R: Abort + Wait>(
     session: &mut Session,
 ) -> bool
     requires log { opened.seen.book ≡ K.book }
-    requires tables { schema ≡ K.schema }
+    requires origin { K.origin ≡ record { schema = schema; log = [] } }
 {
     let other = LockedStore::<K>::new(alloc, schema, opened).expect(rt, "there is memory");
     match other.commit(rt, session, 0) {

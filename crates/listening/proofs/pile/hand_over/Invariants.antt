@@ -6,4 +6,4 @@ use Rattle.listening.proofs.pile.hand_over.Given as goal
 abbrev pub invariant-loop-turn : goal.invariant-loop-turn
 invariant-loop-turn g l =
     (goal.iterator-loop-turn g).can_next l._turn-iterator × (goal.iterator-loop-turn g).is_finite l._turn-iterator
-    × IsOf g.J.StoreName.schema l.origin (map (λ r. record { number = r.number; entry = r.entry }) l.receipts.items)
+    × IsOf g.J.StoreName.origin.schema l.origin (map (λ r. record { number = r.number; entry = r.entry }) l.receipts.items)

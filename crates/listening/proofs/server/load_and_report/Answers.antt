@@ -13,7 +13,7 @@ returns-in-Err-report_loaded-clause-err g c =
       first_is = refl;
       receipts = given;
       instant = c.in-Ok.loaded.instant;
-      loaded = subst (λ rows. IsLoadedAt g.J.StoreName.schema c.args.first.now.number rows given c.in-Ok.loaded.instant) c.as_slice-rows.ensures.value c.in-Ok.ensures.ok;
+      loaded = subst (λ rows. IsLoadedAt g.J.StoreName.origin.schema c.args.first.now.number rows given c.in-Ok.loaded.instant) c.as_slice-rows.ensures.value c.in-Ok.ensures.ok;
       wrote = subst (AppendsPrefix (g.O.Write.contents c.args.out.now) (g.O.Write.contents c.report_loaded.new.out))
           (ap (λ rows. loaded_text (length rows) c.in-Ok.loaded.instant) c.as_slice-rows.ensures.value)
           c.in-Err-report_loaded.ensures;

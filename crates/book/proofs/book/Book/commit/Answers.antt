@@ -28,26 +28,26 @@ of_copy schema engine start changes net reading end same h = subst (λ n. IsEnd 
 
 pub push-requires-clause-fresh : goal.push-requires-clause-fresh
 push-requires-clause-fresh g c = λ κs h.
-    commit_fresh g.J.StoreName.schema (book c.self.inside.engine c.self.inside.journal.entries) c.args.session c.args.reading c.args.begun.now c.args.net c.in_ok-end.end c.in_ok-entry.entry
-    c.self.invariant c.in_ok-find_open.ensures.ok c.requires.keys (ends g.J.StoreName.schema c.in_ok-end.end c.args.reading c.args.net c.self.inside.engine c.args.begun.now c.start.result c.start.ensures (ends_here g.J.StoreName.schema c.args.schema.now _ _ _ _ _ c.requires.tables (of_copy _ _ _ _ _ _ _ c.requires.twice c.in_ok-end.ensures.is))) (made c.in_ok-end.end c.args.session c.args.reading c.args.net c.args.begun.now c.number.result c.number.ensures c.in_ok-entry.entry c.in_ok-entry.ensures.is) c.make_room.new.journal.entries c.make_room.ensures.same
+    commit_fresh g.J.StoreName.origin (book c.self.inside.engine c.self.inside.journal.entries) c.args.session c.args.reading c.args.begun.now c.args.net c.in_ok-end.end c.in_ok-entry.entry
+    c.self.invariant c.in_ok-find_open.ensures.ok c.requires.keys (ends g.J.StoreName.origin.schema c.in_ok-end.end c.args.reading c.args.net c.self.inside.engine c.args.begun.now c.start.result c.start.ensures (ends_here g.J.StoreName.origin.schema c.args.schema.now _ _ _ _ _ c.requires.tables (of_copy _ _ _ _ _ _ _ c.requires.twice c.in_ok-end.ensures.is))) (made c.in_ok-end.end c.args.session c.args.reading c.args.net c.args.begun.now c.number.result c.number.ensures c.in_ok-entry.entry c.in_ok-entry.ensures.is) c.make_room.new.journal.entries c.make_room.ensures.same
 
 pub invariant_of-self-2 : goal.invariant_of-self-2
 invariant_of-self-2 g c =
-    commit_grows g.J.StoreName.schema (book c.self.inside.engine c.self.inside.journal.entries) c.args.session c.args.reading c.args.begun.now c.args.net c.in_ok-end.end c.in_ok-entry.entry
-    c.self.invariant c.in_ok-find_open.ensures.ok c.requires.keys (ends g.J.StoreName.schema c.in_ok-end.end c.args.reading c.args.net c.self.inside.engine c.args.begun.now c.start.result c.start.ensures (ends_here g.J.StoreName.schema c.args.schema.now _ _ _ _ _ c.requires.tables (of_copy _ _ _ _ _ _ _ c.requires.twice c.in_ok-end.ensures.is))) (made c.in_ok-end.end c.args.session c.args.reading c.args.net c.args.begun.now c.number.result c.number.ensures c.in_ok-entry.entry c.in_ok-entry.ensures.is)
+    commit_grows g.J.StoreName.origin (book c.self.inside.engine c.self.inside.journal.entries) c.args.session c.args.reading c.args.begun.now c.args.net c.in_ok-end.end c.in_ok-entry.entry
+    c.self.invariant c.in_ok-find_open.ensures.ok c.requires.keys (ends g.J.StoreName.origin.schema c.in_ok-end.end c.args.reading c.args.net c.self.inside.engine c.args.begun.now c.start.result c.start.ensures (ends_here g.J.StoreName.origin.schema c.args.schema.now _ _ _ _ _ c.requires.tables (of_copy _ _ _ _ _ _ _ c.requires.twice c.in_ok-end.ensures.is))) (made c.in_ok-end.end c.args.session c.args.reading c.args.net c.args.begun.now c.number.result c.number.ensures c.in_ok-entry.entry c.in_ok-entry.ensures.is)
     c.write.new.engine c.args.changes c.instant_of-instant.result c.make_room.new.journal.entries c.push.new.self.entries c.requires.twice c.instant_of-instant.ensures c.in_ok-write.ensures.ok c.tree-tree.ensures.sound c.in_ok-make_room.ensures.few
     c.make_room.ensures.same c.push.ensures.entries
 
 pub returns-clause-entry : goal.returns-clause-entry
 returns-clause-entry g c =
     c.push.ensures.entry
-    ∙ commit_entry_is g.J.StoreName.schema (book c.self.inside.engine c.self.inside.journal.entries) c.args.session c.args.reading c.args.begun.now c.args.net c.in_ok-end.end c.in_ok-entry.entry
-    c.self.invariant c.in_ok-find_open.ensures.ok c.requires.keys (ends g.J.StoreName.schema c.in_ok-end.end c.args.reading c.args.net c.self.inside.engine c.args.begun.now c.start.result c.start.ensures (ends_here g.J.StoreName.schema c.args.schema.now _ _ _ _ _ c.requires.tables (of_copy _ _ _ _ _ _ _ c.requires.twice c.in_ok-end.ensures.is))) (made c.in_ok-end.end c.args.session c.args.reading c.args.net c.args.begun.now c.number.result c.number.ensures c.in_ok-entry.entry c.in_ok-entry.ensures.is)
-    ∙ ap (λ (b : BookState). commit_entry g.J.StoreName.schema b c.args.session c.args.begun.now c.args.net c.args.reading) c.self.view_is
+    ∙ commit_entry_is g.J.StoreName.origin (book c.self.inside.engine c.self.inside.journal.entries) c.args.session c.args.reading c.args.begun.now c.args.net c.in_ok-end.end c.in_ok-entry.entry
+    c.self.invariant c.in_ok-find_open.ensures.ok c.requires.keys (ends g.J.StoreName.origin.schema c.in_ok-end.end c.args.reading c.args.net c.self.inside.engine c.args.begun.now c.start.result c.start.ensures (ends_here g.J.StoreName.origin.schema c.args.schema.now _ _ _ _ _ c.requires.tables (of_copy _ _ _ _ _ _ _ c.requires.twice c.in_ok-end.ensures.is))) (made c.in_ok-end.end c.args.session c.args.reading c.args.net c.args.begun.now c.number.result c.number.ensures c.in_ok-entry.entry c.in_ok-entry.ensures.is)
+    ∙ ap (λ (b : BookState). commit_entry g.J.StoreName.origin b c.args.session c.args.begun.now c.args.net c.args.reading) c.self.view_is
 
 pub returns-clause-book : goal.returns-clause-book
 returns-clause-book g c =
-    commit_grows g.J.StoreName.schema (book c.self.inside.engine c.self.inside.journal.entries) c.args.session c.args.reading c.args.begun.now c.args.net c.in_ok-end.end c.in_ok-entry.entry
-    c.self.invariant c.in_ok-find_open.ensures.ok c.requires.keys (ends g.J.StoreName.schema c.in_ok-end.end c.args.reading c.args.net c.self.inside.engine c.args.begun.now c.start.result c.start.ensures (ends_here g.J.StoreName.schema c.args.schema.now _ _ _ _ _ c.requires.tables (of_copy _ _ _ _ _ _ _ c.requires.twice c.in_ok-end.ensures.is))) (made c.in_ok-end.end c.args.session c.args.reading c.args.net c.args.begun.now c.number.result c.number.ensures c.in_ok-entry.entry c.in_ok-entry.ensures.is)
+    commit_grows g.J.StoreName.origin (book c.self.inside.engine c.self.inside.journal.entries) c.args.session c.args.reading c.args.begun.now c.args.net c.in_ok-end.end c.in_ok-entry.entry
+    c.self.invariant c.in_ok-find_open.ensures.ok c.requires.keys (ends g.J.StoreName.origin.schema c.in_ok-end.end c.args.reading c.args.net c.self.inside.engine c.args.begun.now c.start.result c.start.ensures (ends_here g.J.StoreName.origin.schema c.args.schema.now _ _ _ _ _ c.requires.tables (of_copy _ _ _ _ _ _ _ c.requires.twice c.in_ok-end.ensures.is))) (made c.in_ok-end.end c.args.session c.args.reading c.args.net c.args.begun.now c.number.result c.number.ensures c.in_ok-entry.entry c.in_ok-entry.ensures.is)
     c.write.new.engine c.args.changes c.instant_of-instant.result c.make_room.new.journal.entries c.push.new.self.entries c.requires.twice c.instant_of-instant.ensures c.in_ok-write.ensures.ok c.tree-tree.ensures.sound c.in_ok-make_room.ensures.few
     c.make_room.ensures.same c.push.ensures.entries

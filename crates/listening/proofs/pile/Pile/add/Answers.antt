@@ -8,7 +8,7 @@ use Rattle.listening.proofs.pile.Pile.add.Goals as goal
 pub invariant_of-self-2 : goal.invariant_of-self-2
 invariant_of-self-2 g c =
     let own : List Given = map (λ r. record { number = r.number; entry = r.entry }) c.args.receipts.now.items in
-    with_more g.J.StoreName.schema _ c.args.origin own c.goes_on-goes_on.result _ _ _ c.self.invariant c.requires
+    with_more g.J.StoreName.origin.schema _ c.args.origin own c.goes_on-goes_on.result _ _ _ c.self.invariant c.requires
     (c.goes_on-goes_on.ensures ∙ (λ k. goes_on (sym c.self.view_is k).sessions c.args.origin (map {B = Given} (λ r. record { number = r.number; entry = r.entry }) (c.as_slice.ensures.value k))))
     (c.count.ensures ∙ ap (λ ns. counted ns c.args.origin) c.in_ok-reserve.ensures.items)
     (ap (λ b. c.self.inside.has_full || b) c.has_full.ensures)

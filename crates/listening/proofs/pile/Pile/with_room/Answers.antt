@@ -4,5 +4,5 @@ use Rattle.listening.proofs.PileParts.{nothing_of}
 use Rattle.listening.proofs.pile.Pile.with_room.Goals as goal
 
 pub invariant_of-result : goal.invariant_of-result
-invariant_of-result g c = λ is. nothing_of g.J.StoreName.schema _ _ _ c.in_ok-sessions.ensures.items
+invariant_of-result g c = λ is. nothing_of g.J.StoreName.origin.schema _ _ _ c.in_ok-sessions.ensures.items
     (ap (map {B = Given} (λ r. record { number = r.number; entry = r.entry })) c.in_ok-with_capacity.ensures.items)
