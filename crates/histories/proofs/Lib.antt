@@ -27,7 +27,7 @@ pub mod StandsAltered
 pub mod HistoryTables
 mod HistoryWidened
 mod PeriodLawFits
-mod HistoryOwn
+pub mod HistoryOwn
 mod PeriodLawTables
 mod PeriodLawWrites
 mod PeriodLawApart

@@ -25,7 +25,7 @@ pub use line::{Line, read_line};
 pub use literal::{digits_here, number_here};
 pub use meaning::{is_column_list, place_of, row_in};
 pub use meaning_law::asked_steps_fit;
-pub use print::{print_numbered, print_refusal, print_reply};
+pub use print::{print_numbered, print_refusal, print_reply, print_value};
 pub use served_line::read_served;
 pub use steps::{Listing, Reply, Step};
 pub use writer::{WriteFault, print_number, write_all};

@@ -303,7 +303,9 @@ fn print_next_number<W: Write>(writer: &mut W, number: i64) -> Printed
     print_number(writer, number)
 }
 
-fn print_value<W: Write>(writer: &mut W, value: &Value) -> Printed
+/// Writes a value as a line has it: a number in decimal, a text in quotes with each quote in it
+/// doubled, `true`, `false` or `null`. Where the writer fails, it took a prefix of that text.
+pub fn print_value<W: Write>(writer: &mut W, value: &Value) -> Printed
     ensures { Prints (W.contents writer.old) (W.contents writer.new) result (value_text value.now) }
 {
     match value {
