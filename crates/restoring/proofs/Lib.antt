@@ -1,4 +1,3 @@
-mod DumpStepsAdded
 pub mod FromChanges
 mod OfHistoriesNets
 mod OfHistoriesOver

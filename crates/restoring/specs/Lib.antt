@@ -1,7 +1,5 @@
-pub mod DumpSteps
 pub mod FromChanges
 pub mod OfHistories
 pub mod OneKey
 pub mod Rebuilt
 pub mod Room
-pub mod WorkedDump

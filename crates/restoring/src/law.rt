@@ -1,10 +1,8 @@
-//! What the steps of a dump restore.
-ghost use Rattle.restoring.specs.DumpSteps.{DumpAddsTheLog, DumpLeavesTheLog};
+//! How transactions are made again.
 ghost use Rattle.restoring.specs.FromChanges.{LogIsOfChanges};
 ghost use Rattle.restoring.specs.OfHistories.{HistoriesAreOfChanges, LogsAreOver, LogsHaveNets};
 ghost use Rattle.restoring.specs.OneKey.{OneKeyIsDeleted, OneRowIsInserted};
 ghost use Rattle.restoring.specs.Room.{FewNetsHaveRoom};
-ghost use Rattle.restoring.specs.WorkedDump.{TurnedDumpLosesTheLog, WorkedDumpLeavesItsLog, WorkedLogIsOfChanges};
 ghost use Rattle.restoring.specs.Rebuilt.{NetIsRebuilt, TransactionIsAdded};
 
 /// States that who deletes the keys of a transaction's net changes, and then inserts their rows, has
@@ -27,14 +25,6 @@ pub fn one_key_is_written()
     ensures inserted { OneRowIsInserted }
 {}
 
-/// States that the steps of a dump add the transactions that they are made of to the log of any
-/// history with no transaction open, where each can be made over those before it: none is lost, and
-/// none is open then. So from nothing on they leave the log.
-pub fn dumps_leave_the_log()
-    ensures adds { DumpAddsTheLog }
-    ensures leaves { DumpLeavesTheLog }
-{}
-
 /// States that the log of every history is read off its changes: its net changes are in order, none
 /// is empty, none has more keys than a transaction may write, and what each removed was there. So a
 /// transaction that is made again from one has room for each of its keys.
@@ -43,11 +33,4 @@ pub fn histories_are_of_changes()
     ensures changes { HistoriesAreOfChanges }
     ensures over { LogsAreOver }
     ensures room { FewNetsHaveRoom }
-{}
-
-/// Checks a worked dump, by computation.
-pub fn worked_dump_holds()
-    ensures leaves { WorkedDumpLeavesItsLog }
-    ensures changes { WorkedLogIsOfChanges }
-    ensures turned { TurnedDumpLosesTheLog }
 {}

@@ -1,0 +1,16 @@
+mod ReadableTables
+mod ReadableHistoriesRows
+mod ReadableHistoriesSteps
+mod ReadableHistoriesTables
+mod ReadableHistoriesSchemas
+mod ReadableHistoriesSample
+mod ReadableHistoriesLogs
+mod ReadableHistoriesLeft
+mod ReadableHistoriesLoaded
+mod ReplayedPieces
+mod ReplayedLines
+mod ReplayedLengths
+mod ReplayedText
+mod ReplayedWrites
+mod ReplayedDump
+mod WorkedDumpTextHolds

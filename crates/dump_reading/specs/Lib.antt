@@ -1,0 +1,4 @@
+pub mod Readable
+pub mod ReadableHistories
+pub mod Replayed
+pub mod WorkedDumpText

@@ -1,0 +1,16 @@
+mod ChangeBefore
+mod ChangeSteps
+mod ColumnSteps
+mod DeletionPairs
+mod DumpTextPieces
+mod HistoryDump
+mod HistoryEvents
+mod HistoryLog
+mod HistoryPlaces
+mod HistoryRuns
+mod OrderPlaces
+mod OrderRuns
+mod RowLines
+mod RowLoops
+mod RowSteps
+mod TransactionPieces

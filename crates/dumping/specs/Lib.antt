@@ -1,0 +1,9 @@
+pub mod Change
+pub mod Column
+pub mod Deletion
+pub mod DumpText
+pub mod History
+pub mod Name
+pub mod Order
+pub mod Row
+pub mod Transaction
