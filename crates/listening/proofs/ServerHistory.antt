@@ -1,6 +1,5 @@
 -- The one history of a server, from the one that it began with, and with the rows that it loaded first.
 use Rattle.std.proofs.Common.{◌≡◌, ℕ, List, [], ◌∷◌, Option, Some, None, inl, inr, ap, subst}
-use Rattle.std.specs.Prelude.{Result, Ok, Err, OnOk}
 use Rattle.values.specs.Log.{Row}
 use Rattle.values.specs.Tables.{Schema}
 use Rattle.growlog.specs.Origin.{Origin}
@@ -27,14 +26,10 @@ run_after start before schema sessions None receipts b old new first run = run 0
 run_after start before schema sessions (Some rows) receipts b old new first run =
     run rows.number rows.rows.items (loaded schema rows.number rows.rows.items receipts first.instant first.loaded)
 
-pub on_ok : {A E : Type 0} (r : Result A E) (P Q : Type 0) → (P → Q) → OnOk r P → OnOk r Q
-on_ok (Ok x) P Q f p = f p
-on_ok (Err e) P Q f p = tt
-
 -- ---- by the history that a store began with
 
 module _ (o : Origin) (start : Schema) (before : History) (carries : Carries start before o) (first : Option TableRows) (plan : Plan) where
-  tables_are : o.schema ≡ schema_after start before
+  pub tables_are : o.schema ≡ schema_after start before
   tables_are = ap (λ (o : Origin). o.schema) carries.origin_is
 
   -- no rows were loaded
@@ -57,12 +52,11 @@ module _ (o : Origin) (start : Schema) (before : History) (carries : Carries sta
       closed_so : IsClosedWith (come_to start before) receipts b
       closed_so = subst (λ o. IsClosedWith o receipts b) carries.origin_is closed
 
-      pub served : ((o : Origin) → o.schema ≡ tables → IsBook o b → EndsAfter o plan.export b listening new) → HasServed start before first plan old new
+      pub served : ((o : Origin) → o.schema ≡ tables → IsBook o b → EndsAfter o plan.export b listening new) → HasServed start before first plan b old new
       served ends = record {
         receipts = receipts;
         reported = reported;
         listening = listening;
-        b = b;
         loads = loads_so;
         listens = listens;
         closed = closed_so;

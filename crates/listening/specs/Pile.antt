@@ -1,12 +1,13 @@
 -- What sessions and rounds hand over: the receipts of one run.
-use Rattle.std.specs.Prelude.{◌≡◌, ◌≤◌, ℕ, List, [], ◌∷◌, ◌++◌, Bool, true, false, not, ◌&&◌, ◌==◌, nat_lt, map, IsPermutation}
-use Rattle.std.specs.List.{AllByRecursion, flat_map, list_any}
+use Rattle.std.specs.Prelude.{◌≡◌, ◌≤◌, ◌+◌, ◌-◌, ℕ, List, [], ◌∷◌, ◌++◌, Option, Some, None, Bool, true, false, not, ◌&&◌, nat_lt, is_some, map, length, slice_set, IsPermutation}
+use Rattle.std.specs.List.{AllByRecursion, flat_map, slice_get}
+use Rattle.std.specs.Option.{unwrap_or}
 use Rattle.values.specs.Tables.{Schema}
 use Rattle.steps.specs.Misfit.{max_session}
 use Rattle.serving.specs.BookRefusals.{BookRefusalsState, IsKnown}
 use Rattle.serving.specs.Progress.{Given}
 use Rattle.serving.specs.ServedSession.{Told}
-use Rattle.runs.specs.Run.{AreApart, IsOfService, IsPart, Part, is_reading}
+use Rattle.runs.specs.Run.{IsOfService, IsPart, Part, Sent, given_of, is_reading, last_of, told_of}
 use Rattle.listening.specs.Client.{HasTaken}
 use Rattle.listening.specs.declared.pile.Origin.{Origin}
 use Rattle.listening.specs.declared.pile.Origin.TheVariants.{Session, Service}
@@ -28,17 +29,38 @@ abbrev pub rises_from : ℕ → List Given → Bool
 rises_from last [] = true
 rises_from last (g ∷ given) = nat_lt last g.number && rises_from g.number given
 
--- a session is another one than these, its receipts rise, and its transactions were open where they ended
-abbrev pub goes_on : List ℕ → Origin → List Given → Bool
-goes_on sessions (Session number has_full has_not_open) given =
-    nat_lt 0 number && (not (list_any (λ n. n == number) sessions)
-    && (not has_not_open && rises_from 0 given))
-goes_on sessions Service given = true
+-- by session, from 1 on: the number of its last receipt, 0 before the first, where a connection of it has
+-- handed over
+abbrev pub Lasts : Type 0
+Lasts = List (Option ℕ)
 
--- the sessions that have handed over
-abbrev pub counted : List ℕ → Origin → List ℕ
-counted sessions (Session number has_full has_not_open) = sessions ++ number ∷ []
-counted sessions Service = sessions
+abbrev pub handed_by : Lasts → ℕ → Option ℕ
+handed_by lasts number = unwrap_or (slice_get lasts (number - 1)) None
+
+abbrev pub last_for : Lasts → ℕ → ℕ
+last_for lasts number = unwrap_or (handed_by lasts number) 0
+
+-- the receipts of a session's next connection rise behind those of the connections before it, and its
+-- transactions were open where they ended
+abbrev pub goes_on : Lasts → Origin → List Given → Bool
+goes_on lasts (Session number has_full has_not_open) given =
+    nat_lt 0 number && (not has_not_open && rises_from (last_for lasts number) given)
+goes_on lasts Service given = true
+
+abbrev pub with_last : Lasts → Origin → ℕ → Lasts
+with_last lasts (Session number has_full has_not_open) last = slice_set lasts (number - 1) (Some last)
+with_last lasts Service last = lasts
+
+-- one more connection has handed over
+abbrev pub counted : Lasts → Origin → List Given → Lasts
+counted lasts (Session number has_full has_not_open) given =
+    with_last lasts (Session number has_full has_not_open) (last_of (last_for lasts number) given)
+counted lasts Service given = lasts
+
+-- a connection of the session has handed over before
+abbrev pub is_again : Lasts → Origin → Bool
+is_again lasts (Session number has_full has_not_open) = is_some (handed_by lasts number)
+is_again lasts Service = false
 
 -- a line was refused since the journal is full
 abbrev pub has_full_of : Origin → Bool
@@ -50,25 +72,39 @@ abbrev pub AreKnown : Bool → List Told → Type 0
 AreKnown has_full told =
     AllByRecursion (λ t. IsKnown (record { full = has_full; not_open = false }) t.refused) told
 
--- these receipts are those of parts of a run, of the sessions with these numbers, and of its service
-pub record AreOfRun (schema : Schema) (sessions : List ℕ) (has_full : Bool) (given : List Given)
+-- their numbers are this one and those behind it
+abbrev pub AreNumbered : ℕ → List Part → Type 0
+AreNumbered n [] = Unit {0}
+AreNumbered n (p ∷ parts) = (p.number ≡ n) × AreNumbered (n + 1) parts
+
+abbrev pub last_in : List Sent → List Given → Option ℕ
+last_in [] given = None
+last_in (s ∷ sent) given = Some (last_of 0 given)
+
+-- these receipts are those of parts of a run, one for each session, of whose connections these are the
+-- last numbers, and of its service; none has two connections, unless one has handed over again
+pub record AreOfRun (schema : Schema) (lasts : Lasts) (again has_full : Bool) (given : List Given)
     : Type 0 where
   pub parts : List Part
   pub service : List Given
   pub are_parts : AllByRecursion (IsPart schema) parts
-  pub apart : AreApart (map (λ p. p.number) parts)
-  pub known : AllByRecursion (λ p. AreKnown has_full p.told) parts
-  pub numbers_are : map (λ p. p.number) parts ≡ sessions
+  pub numbered : AreNumbered 1 parts
+  pub wide : length parts ≡ max_session
+  pub known : AllByRecursion (λ p. AreKnown has_full (told_of p)) parts
+  pub lasts_are : map (λ p. last_in p.sent (given_of p)) parts ≡ lasts
+  pub once : again ≡ false → AllByRecursion (λ p. length p.sent ≤ 1) parts
   pub serviced : AllByRecursion (λ g. IsOfService g.entry) service
-  pub given_are : IsPermutation given (flat_map (λ p. p.given) parts ++ service)
+  pub given_are : IsPermutation given (flat_map given_of parts ++ service)
 
--- what was handed over: the receipts, the numbers of sessions, whether they can be those of one run, and whether a
--- line was refused since the journal is full
+-- what was handed over: the receipts, the last numbers of the sessions, whether they can be those of
+-- one run, whether a session has handed over again, and whether a line was refused since the journal
+-- is full
 pub record PileState : Type 0 where
   pub given : List Given
-  pub sessions : List ℕ
+  pub lasts : Lasts
   pub is_run : Bool
+  pub again : Bool
   pub has_full : Bool
 
 abbrev pub IsPile : Schema → PileState → Type 0
-IsPile schema p = p.is_run ≡ true → AreOfRun schema p.sessions p.has_full p.given
+IsPile schema p = p.is_run ≡ true → AreOfRun schema p.lasts p.again p.has_full p.given

@@ -106,11 +106,10 @@ pub record EndsAfter (o : Origin) (number : Option ℕ) (b : BookState)
 -- the report of what was loaded, the port, and the end of a store that began with what a history had
 -- come to and has the receipts of the load; its run goes on from that history as one with it
 pub record HasServed (start : Schema) (before : History) (first : Option TableRows) (plan : Plan)
-    (old new : Option (List ℕ)) : Type 0 where
+    (b : BookState) (old new : Option (List ℕ)) : Type 0 where
   pub receipts : List Given
   pub reported : Option (List ℕ)
   pub listening : Option (List ℕ)
-  pub b : BookState
   pub loads : HasFirst (schema_after start before) first receipts old reported
   pub listens : HasListened plan.port reported listening
   pub closed : IsClosedWith (come_to start before) receipts b

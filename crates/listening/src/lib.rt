@@ -18,5 +18,5 @@ pub use always_open::AlwaysOpen;
 pub use clock::Microseconds;
 pub use connection::{ListenFault, listen};
 pub use loading::{Loaded, Unloaded, load_into};
-pub use server::{Plan, ServerFault, TableRows, serve};
+pub use server::{Plan, Served, ServerFault, TableRows, serve};
 pub use socket::bind;

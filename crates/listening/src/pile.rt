@@ -1,8 +1,10 @@
 //! What sessions and rounds hand over.
-ghost use Rattle.std.specs.Prelude.{◌≡◌, ◌++◌, ◌&&◌, ◌||◌, ◌<◌, [], Bool, IfOk, List, OnErr, OnOk, false, length, map, nat_le, true, vec_capacity};
+ghost use Rattle.std.specs.Prelude.{◌≡◌, ◌++◌, ◌&&◌, ◌||◌, [], Bool, IfOk, List, None, OnErr, OnOk, drop, false, is_none, map, not, replicate, true};
 ghost use Rattle.std.specs.List.{list_all};
 ghost use Rattle.serving.specs.Progress.{Given};
-ghost use Rattle.listening.specs.Pile.{AreOfRun, IsOf, counted, goes_on, has_full_of, rises_from};
+ghost use Rattle.runs.specs.Run.{last_of};
+ghost use Rattle.steps.specs.Misfit.{max_session};
+ghost use Rattle.listening.specs.Pile.{AreOfRun, IsOf, counted, goes_on, handed_by, has_full_of, is_again, rises_from, with_last};
 
 use growlog::StoreName;
 use sessions::Receipt;
@@ -14,9 +16,9 @@ use steps::MAX_SESSION;
 /// Whose receipts are handed over.
 #[derive(Clone, Copy, Debug, PartialEq, Eq)]
 pub(crate) enum Origin {
-    /// Those of the session with a number, which hands over once; whether a line of it was refused by
-    /// the store's book since the journal is full, and whether the end of a transaction was since it is
-    /// not open there.
+    /// Those of a connection of the session with a number, which hands over once; whether a line of it
+    /// was refused by the store's book since the journal is full, and whether the end of a transaction
+    /// was since it is not open there.
     Session {
         number: u8,
         has_full: bool,
@@ -27,14 +29,18 @@ pub(crate) enum Origin {
 }
 
 /// The receipts that sessions and rounds have handed over, and whether they can be those of one run:
-/// each session handed over once, its receipts rise, and no transaction that it had open was refused
-/// as one that is not. Where they can, its type keeps that they are the receipts of lines of sessions
-/// with these numbers, and of the service, and that a line was refused for a full journal only if that
-/// is noted.
+/// the receipts of each session rise from connection to connection, and no transaction that it had
+/// open was refused as one that is not. Where they can, its type keeps that they are the receipts of
+/// lines of sessions, with these last numbers, and of the service, that no session has two connections
+/// unless one has handed over again, and that a line was refused for a full journal only if that is
+/// noted.
 pub(crate) struct Pile<J: StoreName> {
     receipts: Vec<Receipt<J>>,
-    sessions: Vec<u8>,
+    /// By session, from 1 on: the number of its last receipt, 0 before the first, where a connection
+    /// of it has handed over.
+    lasts: Vec<Option<u64>>,
     is_run: bool,
+    again: bool,
     has_full: bool,
 }
 
@@ -46,15 +52,17 @@ impl<J: StoreName> Model for Pile<J> {
 
     ghost view = { λ p. record {
       given = map (λ r. record { number = r.number; entry = r.entry }) p.receipts.items;
-      sessions = p.sessions.items;
+      lasts = p.lasts.items;
       is_run = p.is_run;
+      again = p.again;
       has_full = p.has_full;
     } };
 
     ghost invariant = { λ p. IsPile J.origin.schema record {
       given = map (λ r. record { number = r.number; entry = r.entry }) p.receipts.items;
-      sessions = p.sessions.items;
+      lasts = p.lasts.items;
       is_run = p.is_run;
+      again = p.again;
       has_full = p.has_full;
     } };
 }
@@ -62,14 +70,19 @@ impl<J: StoreName> Model for Pile<J> {
 impl<J: StoreName> Pile<J> {
     /// Makes an empty pile with room for some receipts.
     pub(crate) fn with_room(alloc: Global, receipts: usize) -> Result<Pile<J>, AllocError>
-        ensures { IfOk result (λ pile. pile
-            ≡ record { given = []; sessions = []; is_run = true; has_full = false }) }
+        ensures given { IfOk result (λ pile. pile.given ≡ []) }
+        ensures lasts { IfOk result (λ pile. pile.lasts ≡ replicate max_session None) }
+        ensures run { IfOk result (λ pile. pile.is_run ≡ true) }
+        ensures again { IfOk result (λ pile. pile.again ≡ false) }
+        ensures full { IfOk result (λ pile. pile.has_full ≡ false) }
     {
-        let sessions = Vec::with_capacity(alloc, usize::from(MAX_SESSION))?;
+        let mut lasts = Vec::new(alloc);
+        lasts.resize(usize::from(MAX_SESSION), None)?;
         Ok(Pile {
             receipts: Vec::with_capacity(alloc, receipts)?,
-            sessions,
+            lasts,
             is_run: true,
+            again: false,
             has_full: false,
         })
     }
@@ -84,10 +97,13 @@ impl<J: StoreName> Pile<J> {
             (map (λ r. record { number = r.number; entry = r.entry }) receipts.old.items) }
         ensures given { OnOk result (self.new.given ≡ self.old.given
             ++ map (λ r. record { number = r.number; entry = r.entry }) receipts.old.items) }
-        ensures sessions { OnOk result (self.new.sessions ≡ counted self.old.sessions origin) }
+        ensures lasts { OnOk result (self.new.lasts ≡ counted self.old.lasts origin
+            (map (λ r. record { number = r.number; entry = r.entry }) receipts.old.items)) }
         ensures run { OnOk result (self.new.is_run ≡ (self.old.is_run
-            && goes_on self.old.sessions origin
+            && goes_on self.old.lasts origin
             (map (λ r. record { number = r.number; entry = r.entry }) receipts.old.items))) }
+        ensures again { OnOk result
+            (self.new.again ≡ (self.old.again || is_again self.old.lasts origin)) }
         ensures full { OnOk result
             (self.new.has_full ≡ (self.old.has_full || has_full_of origin)) }
         ensures moved { OnOk result (receipts.new.items ≡ []) }
@@ -95,19 +111,31 @@ impl<J: StoreName> Pile<J> {
         ensures kept { OnErr result (receipts.new.items ≡ receipts.old.items) }
     {
         let goes_on = self.goes_on(origin, receipts.as_slice());
-        self.sessions.reserve(1)?;
+        let again = self.is_again(origin);
+        let last = self.last_with(origin, receipts.as_slice());
         self.receipts.append(receipts)?;
-        count(&mut self.sessions, origin);
+        count(&mut self.lasts, origin, last);
         self.is_run &= goes_on;
+        self.again |= again;
         self.has_full |= has_full(origin);
         Ok(())
     }
 
-    /// Tells whether receipts can be those of one run with those that were handed over: a session is
-    /// another one than those before, its receipts rise, and its transactions were open where they
-    /// ended.
+    /// Returns what is known of a session: the number of its last receipt, 0 before the first, where a
+    /// connection of it has handed over.
+    fn handed_by(&self, number: u8) -> Option<u64>
+        ensures { result ≡ handed_by self.now.lasts number }
+    {
+        match self.lasts.get(usize::from(number).saturating_sub(1)) {
+            Some(last) => *last,
+            None => None,
+        }
+    }
+
+    /// Tells whether receipts can be those of one run with those that were handed over: a session's
+    /// rise behind those of its connections before, and its transactions were open where they ended.
     fn goes_on(&self, origin: Origin, receipts: &[Receipt<J>]) -> bool
-        ensures { result ≡ goes_on self.now.sessions origin
+        ensures { result ≡ goes_on self.now.lasts origin
             (map (λ r. record { number = r.number; entry = r.entry }) receipts.now) }
     {
         match origin {
@@ -117,43 +145,92 @@ impl<J: StoreName> Pile<J> {
                 has_not_open,
             } => {
                 number > 0
-                    && !self.sessions.contains(&number)
                     && !has_not_open
-                    && are_rising(receipts)
+                    && are_rising(self.handed_by(number).unwrap_or(0), receipts)
             }
             Origin::Service => true,
         }
     }
 
+    /// Tells whether a connection of the session has handed over before.
+    fn is_again(&self, origin: Origin) -> bool
+        ensures { result ≡ is_again self.now.lasts origin }
+    {
+        match origin {
+            Origin::Session { number, .. } => self.handed_by(number).is_some(),
+            Origin::Service => false,
+        }
+    }
+
+    /// Returns the number of a session's last receipt, these among them.
+    fn last_with(&self, origin: Origin, receipts: &[Receipt<J>]) -> u64
+        ensures { counted self.now.lasts origin
+            (map (λ r. record { number = r.number; entry = r.entry }) receipts.now)
+            ≡ with_last self.now.lasts origin result }
+    {
+        match origin {
+            Origin::Session { number, .. } => {
+                last_number(self.handed_by(number).unwrap_or(0), receipts)
+            }
+            Origin::Service => 0,
+        }
+    }
+
     /// Returns the receipts, whether they are those of one run, of sessions with numbers up to this
-    /// one, and whether a line was refused since the journal is full.
+    /// one, each of which has handed over once at most, and whether a line was refused since the
+    /// journal is full.
     pub(crate) fn into_receipts(self, most: u8) -> (Vec<Receipt<J>>, bool, bool)
         ensures given { map (λ r. record { number = r.number; entry = r.entry }) result.0.items
             ≡ self.given }
-        ensures run { result.1 ≡ (self.is_run && list_all (λ n. nat_le n most) self.sessions) }
+        ensures run { result.1 ≡ (self.is_run && (not self.again
+            && list_all is_none (drop most self.lasts))) }
         ensures full { result.2 ≡ self.has_full }
         ensures parts { self.is_run ≡ true
-            → AreOfRun J.origin.schema self.sessions self.has_full self.given }
+            → AreOfRun J.origin.schema self.lasts self.again self.has_full self.given }
     {
         let Pile {
             receipts,
-            sessions,
+            lasts,
             is_run,
+            again,
             has_full,
         } = self;
-        let is_run = is_run && are_upto(sessions.as_slice(), most);
+        let is_run = is_run && !again && are_none(beyond(lasts.as_slice(), usize::from(most)));
         (receipts, is_run, has_full)
     }
 }
 
-/// Counts a session among those that have handed over.
-fn count(sessions: &mut Vec<u8>, origin: Origin)
-    requires { length sessions.old.items < vec_capacity sessions.old }
-    ensures { sessions.new.items ≡ counted sessions.old.items origin }
+/// Notes the number of a session's last receipt.
+fn count(lasts: &mut Vec<Option<u64>>, origin: Origin, last: u64)
+    ensures { lasts.new.items ≡ with_last lasts.old.items origin last }
 {
     if let Origin::Session { number, .. } = origin {
-        sessions.push_reserved(number);
+        if let Some(place) = lasts.get_mut(usize::from(number).saturating_sub(1)) {
+            *place = Some(last);
+        }
     }
+}
+
+/// Returns what is behind so many.
+fn beyond(lasts: &[Option<u64>], most: usize) -> &[Option<u64>]
+    ensures { result.now ≡ drop most lasts.now }
+{
+    if most >= lasts.len() {
+        return &[];
+    }
+    lasts.split_at(most).1
+}
+
+/// Tells whether no session has handed over.
+fn are_none(lasts: &[Option<u64>]) -> bool
+    ensures { result ≡ list_all is_none lasts.now }
+{
+    for last in lasts {
+        if last.is_some() {
+            return false;
+        }
+    }
+    true
 }
 
 /// Tells whether a line was refused since the journal is full.
@@ -166,12 +243,12 @@ fn has_full(origin: Origin) -> bool
     }
 }
 
-/// Tells whether the numbers of receipts rise.
-fn are_rising<J: StoreName>(receipts: &[Receipt<J>]) -> bool
-    ensures { result ≡ rises_from 0
+/// Tells whether the numbers of receipts rise, from above this one.
+fn are_rising<J: StoreName>(before: u64, receipts: &[Receipt<J>]) -> bool
+    ensures { result ≡ rises_from before
         (map (λ r. record { number = r.number; entry = r.entry }) receipts.now) }
 {
-    let mut last = 0;
+    let mut last = before;
     for receipt in receipts {
         if receipt.number <= last {
             return false;
@@ -181,16 +258,16 @@ fn are_rising<J: StoreName>(receipts: &[Receipt<J>]) -> bool
     true
 }
 
-/// Tells whether no number is above this one.
-fn are_upto(numbers: &[u8], most: u8) -> bool
-    ensures { result ≡ list_all (λ n. nat_le n most) numbers.now }
+/// Returns the number of the last receipt, or this one where there is none.
+fn last_number<J: StoreName>(before: u64, receipts: &[Receipt<J>]) -> u64
+    ensures { result ≡ last_of before
+        (map (λ r. record { number = r.number; entry = r.entry }) receipts.now) }
 {
-    for number in numbers {
-        if *number > most {
-            return false;
-        }
+    let mut last = before;
+    for receipt in receipts {
+        last = receipt.number;
     }
-    true
+    last
 }
 
 /// Hands receipts over. Where there is no room for them, it is waited for; a pile with room for as

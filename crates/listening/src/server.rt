@@ -10,7 +10,7 @@ ghost use Rattle.values.specs.Versions.{answer};
 ghost use Rattle.values.specs.declared.query.Form.TheVariants.{Between};
 ghost use Rattle.growlog.specs.Origin.{Origin};
 ghost use Rattle.steps.specs.Idle.{is_idle};
-ghost use Rattle.histories.specs.History.{History, has_open};
+ghost use Rattle.histories.specs.History.{History, has_open, schema_after};
 ghost use Rattle.interleaving.specs.SystemState.{Stands};
 ghost use Rattle.statement.specs.Print.{numbered};
 ghost use Rattle.statement.specs.Writer.{AppendsPrefix};
@@ -71,6 +71,13 @@ pub struct Plan {
     pub export: Option<u8>,
 }
 
+/// A store that was served to its end, and its tables.
+#[derive(Drop)]
+pub struct Served {
+    pub tables: Schema,
+    pub closed: Closed,
+}
+
 /// Why a server stopped while it had receipts, and these.
 struct Stopped<J: StoreName> {
     fault: ServerFault,
@@ -82,10 +89,11 @@ const OUT_OF_MEMORY: ServerFault = ServerFault::Listen(ListenFault::Memory);
 /// Serves connections round a store that begins with what a system has come to, and reports its
 /// progress as it happens: if rows are to be loaded, `loaded N at I`; once it listens,
 /// `listening P`, where P is the port; when all connections have ended, `closed J`, where J is the
-/// number of entries; and then the table that is exported, with all its versions. What all sessions
-/// were sent, with the load before them, goes on from the system's history as one with it, and of each
-/// session its receipts are said besides (`HasServed`). The system is to have no transaction open: one
-/// that is, is let go, and nothing is said of what follows.
+/// number of entries; and then the table that is exported, with all its versions. Returns the closed
+/// store with its tables. What all sessions were sent, with the load before them, goes on from the
+/// system's history as one with it, and of each session its receipts are said besides (`HasServed`).
+/// The system is to have no transaction open: one that is, is let go, and nothing is said of what
+/// follows.
 pub fn serve<R, O>(
     rt: &R,
     alloc: Global,
@@ -93,15 +101,16 @@ pub fn serve<R, O>(
     system: System,
     first: Option<TableRows>,
     plan: Plan,
-) -> Result<(), ServerFault>
+) -> Result<Served, ServerFault>
 where
     R: Net<Listener = TcpListener, Stream = TcpStream> + Clock + Threads + Wait + Sync,
     O: Write,
     requires export { IsExportOf system.schema plan.export }
     requires known { (start : Schema) × (before : History) × Stands start system before }
-    ensures ok { OnOk result ((start : Schema) (before : History) → Stands start system before
-        → is_idle (has_open before) ≡ true
-        → HasServed start before first plan (O.contents out.old) (O.contents out.new)) }
+    ensures ok { IfOk result (λ s. (start : Schema) (before : History)
+        → Stands start system before → is_idle (has_open before) ≡ true
+        → (s.tables ≡ schema_after start before)
+        × HasServed start before first plan s.closed (O.contents out.old) (O.contents out.new)) }
     ensures err { IfErr result (λ fault. (start : Schema) (before : History)
         → Stands start system before → is_idle (has_open before) ≡ true
         → HasStopped fault start before first plan (O.contents out.old) (O.contents out.new)) }
@@ -120,7 +129,7 @@ fn serve_store<J, R, O>(
     first: Option<TableRows>,
     plan: Plan,
     opened: NewLog<SharedEntry>,
-) -> Result<(), ServerFault>
+) -> Result<Served, ServerFault>
 where
     J: StoreName,
     R: Net<Listener = TcpListener, Stream = TcpStream> + Clock + Threads + Wait + Sync,
@@ -130,8 +139,10 @@ where
     requires holds { Holds J.origin.schema engine (changes J.origin.log) }
     requires clock { last engine ≡ last_of J.origin.log }
     requires export { IsExportOf schema plan.export }
-    ensures ok { OnOk result ((start : Schema) (before : History) → Carries start before J.origin
-        → HasServed start before first plan (O.contents out.old) (O.contents out.new)) }
+    ensures ok { IfOk result (λ s. (start : Schema) (before : History)
+        → Carries start before J.origin
+        → (s.tables ≡ schema_after start before)
+        × HasServed start before first plan s.closed (O.contents out.old) (O.contents out.new)) }
     ensures err { IfErr result (λ fault. (start : Schema) (before : History)
         → Carries start before J.origin
         → HasStopped fault start before first plan (O.contents out.old) (O.contents out.new)) }
@@ -147,8 +158,12 @@ where
             return Err(fault);
         }
     };
-    match serve_to_close(rt, alloc, out, plan, store, receipts) {
-        Ok(closed) => close_with(alloc, out, &tables, plan.export, &closed),
+    let closed = match serve_to_close(rt, alloc, out, plan, store, receipts) {
+        Ok(closed) => closed,
+        Err(fault) => return Err(fault),
+    };
+    match close_with(alloc, out, &tables, plan.export, &closed) {
+        Ok(()) => Ok(Served { tables, closed }),
         Err(fault) => Err(fault),
     }
 }

@@ -1,3 +1,4 @@
+pub mod EventAfter
 pub mod OneHistoryApart
 pub mod OneHistoryBegin
 pub mod OneHistoryBeside
@@ -14,6 +15,7 @@ pub mod RunLegal
 pub mod RunLoaded
 pub mod RunNumbered
 pub mod RunPieces
+pub mod TellsConnections
 pub mod TellsEvents
 pub mod TellsFacts
 pub mod TellsLines

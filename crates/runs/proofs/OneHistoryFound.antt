@@ -1,6 +1,6 @@
 -- A run whose store closed has one history: the events of all parts, in the order of their receipts.
 use Rattle.std.proofs.Common.{◌≡◌, ◌≢◌, ℕ, ◌≤◌, ◌==◌, Bool, true, false, cond, List, [], ◌∷◌, ◌++◌, Option, Some, None, is_some, refl, sym, ap, subst, ◌∙◌, arith, append-nil, append_assoc, filter, length, map, reverse, IsPermutation}
-use Rattle.std.specs.Prelude.{◌⊎◌, nat_le}
+use Rattle.std.specs.Prelude.{◌⊎◌}
 use Rattle.std.specs.List.{AllByRecursion, cons_option, flat_map}
 use Rattle.std.specs.Option.{option_map}
 use Rattle.std.proofs.lemmas.Bool.Decides.{nat_tests}
@@ -10,27 +10,26 @@ use Rattle.growlog.specs.Origin.{Origin}
 use Rattle.values.specs.Log.{Row}
 use Rattle.steps.specs.Misfit.{max_session}
 use Rattle.steps.specs.Idle.{is_idle}
-use Rattle.histories.specs.History.{History, has_open, log, log_at_begin}
+use Rattle.histories.specs.History.{History, has_open, log}
 use Rattle.histories.proofs.HistoryGrowth.{log_rises}
-use Rattle.histories.proofs.HistoryIdle.{none_open}
-use Rattle.histories.proofs.StandsAltered.{begun_alike, each_closed, none_of as none_where}
+use Rattle.histories.proofs.HistoryOwn.{none_begun}
 use Rattle.serving.specs.journal.declared.entry.Entry.{Entry}
 use Rattle.serving.specs.journal.Entries.{Entries, entry_at, numbers, log as journal_log}
 use Rattle.serving.specs.book.Book.{BookState}
-use Rattle.serving.specs.Progress.{Given, after}
+use Rattle.serving.specs.Progress.{Given}
 use Rattle.runs.specs.Event.{Event, AreRight, history_after, of_part, receipt_of, receipts_of, with_step}
-use Rattle.runs.specs.OneHistory.{OneHistory, come_to, ServedRunsAreHistories, TellsLoaded, IsServiceEvent, dialogue_of, service_part}
-use Rattle.runs.specs.Run.{AreApart, IsPart, IsRefusedRightly, IsRun, Part, all_given}
-use Rattle.runs.specs.Tells.{Tells}
+use Rattle.runs.specs.OneHistory.{OneHistory, come_to, ServedRunsAreHistories, TellsLoaded, dialogue_of, service_part}
+use Rattle.runs.specs.Run.{AreApart, IsPart, IsRefusedRightly, IsRun, Part, all_given, given_of, last_of, told_of}
+use Rattle.runs.specs.Tells.{TellsAll}
 use Rattle.runs.proofs.RunAlong.{Chain, RightAll, after_all, run, same_number}
 use Rattle.runs.proofs.OneHistoryBeside.{World, Beside, Held, May, Moves, Right, add, with_entry}
-use Rattle.runs.proofs.TellsFacts.{Facts, number_of, numbers_of, took}
+use Rattle.runs.proofs.TellsConnections.{all_go}
+use Rattle.runs.proofs.TellsFacts.{Facts, facts, number_of, numbers_of, took}
 use Rattle.runs.proofs.RunFirst.{numbered_first}
 use Rattle.runs.proofs.RunInTurn.{Climbs, Each, each_join, each_split, filter_in_turn, in_turn, in_turn_already, in_turn_each}
 use Rattle.runs.proofs.RunJournal.{onto}
 use Rattle.runs.proofs.RunLegal.{all_may_come, entries_in_turn, entries_of, whole_journal}
-use Rattle.runs.proofs.TellsLines.{lines_go}
-use Rattle.runs.proofs.RunLoaded.{LoadEvents, load_events, service_events, service_goes, service_its, service_takes, service_tells}
+use Rattle.runs.proofs.RunLoaded.{IsServiceEvent, LoadEvents, load_events, service_events, service_goes, service_its, service_takes, service_tells}
 use Rattle.runs.proofs.RunNumbered.{numbered}
 use Rattle.runs.proofs.OneHistoryOthers.{other}
 use Rattle.runs.proofs.OneHistoryOwn.{own}
@@ -99,19 +98,19 @@ module _ (schema : Schema) (b : BookState) where
 
   record Session (p : Part) : Type 0 where
     events : List Event
-    tells : Tells schema b p.number [] p.lines events p.text
-    known : Facts p.number 0 p.given events
-    goes : Chain (Moves schema) None events p.later.transaction
+    tells : TellsAll schema b p.number [] (map (λ s. (s.lines, s.text)) p.sent) events
+    known : Facts p.number 0 (given_of p) events
+    goes : Chain (Moves schema) None events None
     some : 1 ≤ p.number
     small : p.number ≤ max_session
 
-  session : (p : Part) → IsPart schema p → AllByRecursion (IsRefusedRightly b) p.told → Session p
+  session : (p : Part) → IsPart schema p → AllByRecursion (IsRefusedRightly b) (told_of p) → Session p
   session p is refused =
-      let go = lines_go schema b p.number is.in_range [] 0 p.lines p.told (after 0 None) p.later p.given p.text refused refl is.serves in
+      let go = all_go schema b p.number is.in_range [] 0 p.sent refused refl is.serves in
       record {
         events = go.events;
         tells = go.tells;
-        known = go.known is.rises;
+        known = facts p.number 0 (last_of 0 (given_of p)) (given_of p) go.events (go.known is.rises);
         goes = go.goes;
         some = is.some;
         small = is.in_range;
@@ -124,7 +123,7 @@ module _ (schema : Schema) (b : BookState) where
   Sessions [] = Unit {0}
   Sessions (p ∷ parts) = Session p × Sessions parts
 
-  sessions : (parts : List Part) → AllByRecursion (IsPart schema) parts → AllByRecursion (λ p. AllByRecursion (IsRefusedRightly b) p.told) parts → Sessions parts
+  sessions : (parts : List Part) → AllByRecursion (IsPart schema) parts → AllByRecursion (λ p. AllByRecursion (IsRefusedRightly b) (told_of p)) parts → Sessions parts
   sessions [] are refused = tt
   sessions (p ∷ parts) are refused = (session p are.0 refused.0, sessions parts are.1 refused.1)
 
@@ -136,7 +135,7 @@ module _ (schema : Schema) (b : BookState) where
   climbing events climbs = in_turn_already number_of 0 events climbs
 
   is_piece : (p : Part) (s : Session p) → IsPiece schema (piece p s)
-  is_piece p s = record { its = s.known.its; end = p.later.transaction; goes = subst (λ xs. Chain (Moves schema) None xs p.later.transaction) (sym (climbing s.events s.known.climbs)) s.goes }
+  is_piece p s = record { its = s.known.its; end = None; goes = subst (λ xs. Chain (Moves schema) None xs None) (sym (climbing s.events s.known.climbs)) s.goes }
 
   are_pieces : (parts : List Part) (s : Sessions parts) (last : Piece) → IsPiece schema last → AllByRecursion (IsPiece schema) (pieces parts s ++ last ∷ [])
   are_pieces [] s last is = (is, tt)
@@ -167,22 +166,14 @@ module _ (schema : Schema) (b : BookState) where
   receipts_joined : (xs ys : List Event) → receipts_of (xs ++ ys) ≡ receipts_of xs ++ receipts_of ys
   receipts_joined xs ys = filter_map-append receipt_of xs ys
 
-  all_receipts : (parts : List Part) (s : Sessions parts) (last : Piece) → receipts_of (all_events (pieces parts s ++ last ∷ [])) ≡ flat_map (λ p. p.given) parts ++ receipts_of last.events
+  all_receipts : (parts : List Part) (s : Sessions parts) (last : Piece) → receipts_of (all_events (pieces parts s ++ last ∷ [])) ≡ flat_map given_of parts ++ receipts_of last.events
   all_receipts [] s last = ap receipts_of (append-nil last.events)
   all_receipts (p ∷ parts) s last =
       receipts_joined s.0.events (all_events (pieces parts s.1 ++ last ∷ []))
       ∙ (λ k. s.0.known.takes k ++ all_receipts parts s.1 last k)
-      ∙ sym (append_assoc p.given (flat_map (λ p. p.given) parts) (receipts_of last.events))
+      ∙ sym (append_assoc (given_of p) (flat_map given_of parts) (receipts_of last.events))
 
 -- ---- the whole
-
--- where nobody has a transaction open, no session has one
-none_begun : (first : Schema) (h : History) (i : ℕ) → is_idle (has_open h) ≡ true → log_at_begin first h i ≡ None
-none_begun first h i idle = by (nat_le i max_session) refl
-  where
-    by : (b : Bool) → nat_le i max_session ≡ b → log_at_begin first h i ≡ None
-    by true e = none_where (log_at_begin first h i) (begun_alike first h i ∙ each_closed max_session (has_open h) idle i (grind (arith, nat_tests, e)))
-    by false e = none_open first h i (grind (arith, nat_tests, e))
 
 module _ (first : Schema) (before : History) (idle : is_idle (has_open before) ≡ true) (b : BookState) where
   abbrev origin : Origin
@@ -223,7 +214,7 @@ module _ (first : Schema) (before : History) (idle : is_idle (has_open before) �
     receipts_are : receipts_of (all_events all) ≡ all_given loaded parts service
     receipts_are =
         receipts_joined origin.schema b load.events (all_events (pieces origin.schema b parts served ++ service_piece ∷ []))
-        ∙ (λ k. load.takes k ++ (all_receipts origin.schema b parts served service_piece ∙ ap (λ gs. flat_map (λ p. p.given) parts ++ gs) (service_takes service)) k)
+        ∙ (λ k. load.takes k ++ (all_receipts origin.schema b parts served service_piece ∙ ap (λ gs. flat_map given_of parts ++ gs) (service_takes service)) k)
 
     -- the events that took a receipt
     split : filter took (all_events all) ≡ filter took load.events ++ filter took (all_events others)
@@ -309,12 +300,12 @@ module _ (first : Schema) (before : History) (idle : is_idle (has_open before) �
     each = each_of origin.schema all are apart
 
     tells : (parts : List Part) (s : Sessions origin.schema b parts) (last : Piece) → AllByRecursion (λ p. of_part p.part (all_events all) ≡ p.events) (pieces origin.schema b parts s ++ last ∷ [])
-        → AllByRecursion (λ d. Tells origin.schema b d.number [] d.lines (of_part d.number events) d.text) (map dialogue_of parts) × (of_part last.part (all_events all) ≡ last.events)
+        → AllByRecursion (λ d. TellsAll origin.schema b d.number [] d.talks (of_part d.number events)) (map dialogue_of parts) × (of_part last.part (all_events all) ≡ last.events)
     tells [] s last each = (tt, each.0)
     tells (p ∷ parts) s last each =
         let rest = tells parts s.1 last each.1 in
         let same : of_part p.number events ≡ s.0.events = of_all p.number ∙ ap (in_turn number_of) each.0 ∙ climbing origin.schema b s.0.events s.0.known.climbs in
-        ((subst (λ xs. Tells origin.schema b p.number [] p.lines xs p.text) (sym same) s.0.tells, rest.0), rest.1)
+        ((subst (TellsAll origin.schema b p.number [] (map (λ s. (s.lines, s.text)) p.sent)) (sym same) s.0.tells, rest.0), rest.1)
 
     not_of : (i : ℕ) (parts : List Part) (s : Sessions origin.schema b parts) (last : Piece) → (last.part == i) ≡ false → AllByRecursion (λ d. d.number ≢ i) (map dialogue_of parts) → AllByRecursion (λ q. (q.part == i) ≡ false) (pieces origin.schema b parts s ++ last ∷ [])
     not_of i [] s last other apart = (other, tt)

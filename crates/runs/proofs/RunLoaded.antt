@@ -20,7 +20,8 @@ use Rattle.serving.specs.journal.declared.entry.Entry.TheVariants.{Begin as Begi
 use Rattle.serving.specs.sessions.SessionState.{write_by}
 use Rattle.serving.specs.Progress.{Given, ServedTransaction, after, with_own}
 use Rattle.runs.specs.Event.{Event, receipts_of}
-use Rattle.runs.specs.OneHistory.{IsServiceEvent, TellsLoaded, service_part}
+use Rattle.runs.specs.OneHistory.{TellsLoaded, service_part}
+use Rattle.runs.specs.Tells.{IsBegun, IsPacked}
 use Rattle.runs.specs.Run.{IsLoad, IsLoaded, IsOfService}
 use Rattle.runs.proofs.RunAlong.{Chain}
 use Rattle.runs.proofs.OneHistoryBeside.{Held, Moves}
@@ -158,6 +159,10 @@ load_events schema table [] given none = record { events = []; its = tt; climbs 
 load_events schema table (row ∷ rows) given l = made schema table row rows given l
 
 -- ---- the service
+
+-- it begins, or packs a node
+abbrev pub IsServiceEvent : Event → Type 0
+IsServiceEvent e = IsBegun 0 e ⊎ IsPacked e.entry e.step
 
 -- an install is a MIGRATE that is done, and a begin is none
 abbrev service_step : Entry → Option (Step × Reply)

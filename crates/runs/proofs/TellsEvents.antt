@@ -36,8 +36,3 @@ silent i last (Some s) =
 abbrev pub events_of : ℕ → ℕ → Option (Step × Reply) → List Given → List Event
 events_of i last step [] = silent i last step
 events_of i last step (g ∷ given) = taking_all i g step given
-
--- the number of the last receipt
-abbrev pub last_of : ℕ → List Given → ℕ
-last_of last [] = last
-last_of last (g ∷ given) = last_of g.number given

@@ -1,12 +1,12 @@
 -- The events of a part: whose they are, in which order, and with which receipts.
-use Rattle.std.proofs.Common.{◌≡◌, ℕ, ◌<◌, Bool, List, [], ◌∷◌, ◌++◌, Option, Some, None, is_some, refl, ap, ◌∙◌, arith, map}
+use Rattle.std.proofs.Common.{◌≡◌, ℕ, ◌<◌, Bool, List, [], ◌∷◌, ◌++◌, Option, Some, None, is_some, refl, sym, ap, subst, ◌∙◌, arith, map, append-nil, append_assoc}
 use Rattle.std.specs.List.{AllByRecursion}
 use Rattle.steps.specs.declared.step.Step.{Step}
 use Rattle.steps.specs.declared.step.Reply.{Reply}
 use Rattle.serving.specs.Progress.{Given}
 use Rattle.runs.specs.Event.{Event, receipts_of}
-use Rattle.runs.specs.Run.{Rises}
-use Rattle.runs.proofs.TellsEvents.{events_of, last_of, taking_all}
+use Rattle.runs.specs.Run.{Rises, last_of}
+use Rattle.runs.proofs.TellsEvents.{events_of, taking_all}
 use Rattle.runs.proofs.RunInTurn.{Climbs}
 
 abbrev pub number_of : Event → ℕ
@@ -38,7 +38,7 @@ taken i last g step (next ∷ given) lt rises =
       take = λ rest. ap (λ gs. g ∷ gs) (more.take rest);
     }
 
-line : (i last : ℕ) (step : Option (Step × Reply)) (given : List Given) → Rises last given → Before i last (last_of last given) given (events_of i last step given)
+pub line : (i last : ℕ) (step : Option (Step × Reply)) (given : List Given) → Rises last given → Before i last (last_of last given) given (events_of i last step given)
 line i last None [] rises = record { its = λ rest its. its; climb = λ rest c. c; take = λ rest. refl }
 line i last (Some s) [] rises = record {
   its = λ rest its. (refl, its);
@@ -47,11 +47,11 @@ line i last (Some s) [] rises = record {
 }
 line i last step (g ∷ given) rises = taken i last g step given rises.0 rises.1
 
-rises_first : (last : ℕ) (own more : List Given) → Rises last (own ++ more) → Rises last own
+pub rises_first : (last : ℕ) (own more : List Given) → Rises last (own ++ more) → Rises last own
 rises_first last [] more r = tt
 rises_first last (g ∷ own) more r = (r.0, rises_first g.number own more r.1)
 
-rises_later : (last : ℕ) (own more : List Given) → Rises last (own ++ more) → Rises (last_of last own) more
+pub rises_later : (last : ℕ) (own more : List Given) → Rises last (own ++ more) → Rises (last_of last own) more
 rises_later last [] more r = r
 rises_later last (g ∷ own) more r = rises_later g.number own more r.1
 
@@ -63,23 +63,34 @@ pub joined : {A : Type 0} (P : A → Type 0) (xs ys : List A) → AllByRecursion
 joined P [] ys first rest = rest
 joined P (x ∷ xs) ys first rest = (first.0, joined P xs ys first.1 rest)
 
+pub last_join : (last : ℕ) (own more : List Given) → last_of last (own ++ more) ≡ last_of (last_of last own) more
+last_join last [] more = refl
+last_join last (g ∷ own) more = last_join g.number own more
+
+pub none_before : (i last : ℕ) → Before i last last [] []
+none_before i last = record { its = λ rest its. its; climb = λ rest c. c; take = λ rest. refl }
+
+-- events behind others
+pub joined_before : (i last between end : ℕ) (own more : List Given) (xs ys : List Event) → Before i last between own xs → Before i between end more ys → Before i last end (own ++ more) (xs ++ ys)
+joined_before i last between end own more xs ys first later = record {
+  its = λ rest its. subst (AllByRecursion (λ e. e.part ≡ i)) (sym (append_assoc xs ys rest)) (first.its (ys ++ rest) (later.its rest its));
+  climb = λ rest c. subst (Climbs number_of last) (sym (append_assoc xs ys rest)) (first.climb (ys ++ rest) (later.climb rest c));
+  take = λ rest.
+      ap receipts_of (append_assoc xs ys rest)
+      ∙ first.take (ys ++ rest)
+      ∙ ap (λ gs. own ++ gs) (later.take rest)
+      ∙ sym (append_assoc own more (receipts_of rest));
+}
+
 -- the events of a part, which took these receipts
 pub record Facts (i last : ℕ) (given : List Given) (events : List Event) : Type 0 where
   pub its : AllByRecursion (λ e. e.part ≡ i) events
   pub climbs : Climbs number_of last events
   pub takes : receipts_of events ≡ given
 
-pub nothing : (i last : ℕ) → Facts i last [] []
-nothing i last = record { its = tt; climbs = tt; takes = refl }
-
--- the events of a line, and of the lines behind it
-pub line_then : (i last : ℕ) (step : Option (Step × Reply)) (own more : List Given) (later : List Event) → Rises last (own ++ more) → (Rises (last_of last own) more → Facts i (last_of last own) more later)
-    → Facts i last (own ++ more) (events_of i last step own ++ later)
-line_then i last step own more later rises then =
-    let first : Before i last (last_of last own) own (events_of i last step own) = line i last step own (rises_first last own more rises) in
-    let after : Facts i (last_of last own) more later = then (rises_later last own more rises) in
-    record {
-      its = first.its later after.its;
-      climbs = first.climb later after.climbs;
-      takes = first.take later ∙ ap (λ gs. own ++ gs) after.takes;
-    }
+pub facts : (i last end : ℕ) (given : List Given) (events : List Event) → Before i last end given events → Facts i last given events
+facts i last end given events before = record {
+  its = subst (AllByRecursion (λ e. e.part ≡ i)) (append-nil events) (before.its [] tt);
+  climbs = subst (Climbs number_of last) (append-nil events) (before.climb [] tt);
+  takes = ap receipts_of (sym (append-nil events)) ∙ before.take [] ∙ append-nil given;
+}

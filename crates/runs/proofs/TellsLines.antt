@@ -25,12 +25,13 @@ use Rattle.serving.specs.book.Book.{BookState, most_entries}
 use Rattle.serving.specs.Progress.{Given, IsRefusedStep, PacksFirst, Progress, Replies, Takes, TakesMigrate, TakesSplit, after, takes_split}
 use Rattle.serving.specs.ServedSession.{Answers, IsKept, IsRefusedLine, IsUnread, Serves, Told, reading_takes, said}
 use Rattle.runs.specs.Event.{Event, history_after}
-use Rattle.runs.specs.Run.{IsRefusedRightly, Rises, is_reading}
+use Rattle.runs.specs.Run.{IsRefusedRightly, Rises, is_reading, last_of}
 use Rattle.runs.specs.Tells.{Says, Tells, with_reading}
-use Rattle.runs.proofs.TellsEvents.{events_of, last_of, read_by}
+use Rattle.runs.proofs.TellsEvents.{events_of, read_by}
 use Rattle.runs.proofs.RunAlong.{Chain, chain_append}
 use Rattle.runs.proofs.OneHistoryBeside.{Held, IsIdle, IsOwnStep, Moves}
-use Rattle.runs.proofs.TellsFacts.{Facts, line_then, nothing}
+use Rattle.runs.proofs.EventAfter.{after_both}
+use Rattle.runs.proofs.TellsFacts.{Before, last_join, line as one_line, none_before, rises_first, rises_later, joined_before}
 use Rattle.runs.proofs.TellsOpen.{Opens, none_opens, open_in, own_moves, refused_stays, step_opens}
 use Rattle.runs.proofs.TellsSaid.{answered, refused}
 use Rattle.runs.proofs.TellsSteps.{IsServedStep, served_step}
@@ -286,34 +287,44 @@ module _ (schema : Schema) (b : BookState) (i : ℕ) (small : i ≤ max_session)
   pub record LinesGo (h : History) (last : ℕ) (lines : List Partial) (p p' : Progress) (given : List Given) (text : List ℕ) : Type 0 where
     pub events : List Event
     pub tells : Tells schema b i h lines events text
-    pub known : Rises last given → Facts i last given events
+    pub known : Rises last given → Before i last (last_of last given) given events
     pub goes : Goes p.transaction events p'.transaction
+    pub opens : has_open (history_after h events) i ≡ open_in p'
 
   pub lines_go : (h : History) (last : ℕ) (lines : List Partial) (told : List Told) (p p' : Progress) (given : List Given) (text : List ℕ) → AllByRecursion (IsRefusedRightly b) told → has_open h i ≡ open_in p → Serves is_reading schema i lines told p given text p'
       → LinesGo h last lines p p' given text
   lines_go h last [] [] p p' given text rightly is_open did = record {
     events = [];
     tells = (refl, did.1.0);
-    known = λ rises. subst (λ given. Facts i last given []) (sym did.0) (nothing i last);
+    known = λ rises. subst (λ given. Before i last (last_of last given) given []) (sym did.0) (none_before i last);
     goes = ap (λ (p : Progress). p.transaction) did.1.1;
+    opens = is_open ∙ sym (ap open_in did.1.1);
   }
   lines_go h last (line ∷ lines) (t ∷ told) p p' given text rightly is_open (own, (more, (sent, (rest, (between, (given_is, (text_is, (did, later)))))))) =
       let now = kept last line t.refused p between own sent did.kept rightly.0.full rightly.0.is_open in
-      let then = lines_go (history_after h (events_of i last now.step own)) (last_of last own) lines told between p' more rest rightly.1 (now.opens h is_open) later in
+      let first = events_of i last now.step own in
+      let behind = lines_go (history_after h first) (last_of last own) lines told between p' more rest rightly.1 (now.opens h is_open) later in
       record {
-        events = events_of i last now.step own ++ then.events;
+        events = first ++ behind.events;
         tells = (
-          events_of i last now.step own,
-          then.events,
+          first,
+          behind.events,
           sent,
           rest,
           refl,
           text_is,
-          subst (λ is_open. IsTold line (said schema i line) is_open (events_of i last now.step own) sent) (sym is_open) now.told,
-          then.tells,
+          subst (λ is_open. IsTold line (said schema i line) is_open first sent) (sym is_open) now.told,
+          behind.tells,
         );
-        known = λ rises. subst (λ given. Facts i last given (events_of i last now.step own ++ then.events)) (sym given_is) (line_then i last now.step own more then.events (subst (Rises last) given_is rises) then.known);
-        goes = chain_append (Moves schema) p.transaction between.transaction p'.transaction (events_of i last now.step own) then.events now.goes then.goes;
+        known = λ rises. subst (λ given. Before i last (last_of last given) given (first ++ behind.events)) (sym given_is) (both own more first behind.events now.step refl (subst (Rises last) given_is rises) behind.known);
+        goes = chain_append (Moves schema) p.transaction between.transaction p'.transaction first behind.events now.goes behind.goes;
+        opens = ap (λ h. has_open h i) (after_both h first behind.events) ∙ behind.opens;
       }
+    where
+      both : (own more : List Given) (xs ys : List Event) (step : Option (Step × Reply)) → xs ≡ events_of i last step own → Rises last (own ++ more) → (Rises (last_of last own) more → Before i (last_of last own) (last_of (last_of last own) more) more ys)
+          → Before i last (last_of last (own ++ more)) (own ++ more) (xs ++ ys)
+      both own more xs ys step is rises known =
+          subst (λ end. Before i last end (own ++ more) (xs ++ ys)) (sym (last_join last own more))
+          (joined_before i last (last_of last own) (last_of (last_of last own) more) own more xs ys (subst (Before i last (last_of last own) own) (sym is) (one_line i last step own (rises_first last own more rises))) (known (rises_later last own more rises)))
   lines_go h last [] (t ∷ told) p p' given text rightly is_open did = absurd did
   lines_go h last (line ∷ lines) [] p p' given text rightly is_open did = absurd did

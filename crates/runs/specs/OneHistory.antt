@@ -16,16 +16,15 @@ use Rattle.serving.specs.book.Book.{BookState}
 use Rattle.serving.specs.Progress.{Given}
 use Rattle.runs.specs.Event.{Event, AreRight, history_after, of_part, receipts_of}
 use Rattle.runs.specs.Run.{IsRun, Part}
-use Rattle.runs.specs.Tells.{IsBegun, IsPacked, Tells}
+use Rattle.runs.specs.Tells.{IsBegun, IsPacked, TellsAll}
 
 -- the events of a load: BEGIN, INSERT and COMMIT of session 0
 pub record TellsLoad (table : ℕ) (rows : List Row) (events : List Event) : Type 0 where
   pub begun : ℕ
   pub count : ℕ
   pub instant : ℕ
-  pub steps : map (λ e. e.step) events ≡
-      Some (Begin 0, Begun begun) ∷ Some (Insert 0 table rows, Inserted count)
-      ∷ Some (Commit 0 0, Committed (Some instant)) ∷ []
+  pub steps : map (λ e. e.step) events ≡ Some (Begin 0, Begun begun)
+      ∷ Some (Insert 0 table rows, Inserted count) ∷ Some (Commit 0 0, Committed (Some instant)) ∷ []
 
 abbrev pub TellsLoaded : ℕ → List Row → List Event → Type 0
 TellsLoaded table [] events = events ≡ []
@@ -35,15 +34,10 @@ TellsLoaded table (row ∷ rows) events = TellsLoad table (row ∷ rows) events
 abbrev pub service_part : ℕ
 service_part = max_session + 1
 
--- an event of the service: it begins, or packs a node
-abbrev pub IsServiceEvent : Event → Type 0
-IsServiceEvent e = IsBegun 0 e ⊎ IsPacked e.entry e.step
-
--- what a session said and was told: its number, the lines that were taken, and the text that it was sent
+-- what a session said and was told: its number, and its connections, one after another
 pub record Dialogue : Type 0 where
   pub number : ℕ
-  pub lines : List Partial
-  pub text : List ℕ
+  pub talks : List (List Partial × List ℕ)
 
 -- a store begins with what a history has come to
 abbrev pub come_to : Schema → History → Origin
@@ -56,8 +50,9 @@ pub record Carries (first : Schema) (before : History) (o : Origin) : Type 0 whe
 
 -- the events are the journal's entries in their order, and between them the steps that took none;
 -- each reply is the history's where its step stands, after those before the run; what was committed is
--- the history's; those of the load come first; and of each session they are those of its lines, in
--- order, by which it was sent its text. There are no others but those of the service.
+-- the history's; those of the load come first; and of each session they are those of its connections'
+-- lines, in order, by which each was sent its text. There are no others but those of the service, which
+-- begins, or packs a node.
 pub record OneHistory (first : Schema) (before : History) (b : BookState) (table : ℕ) (rows : List Row)
     (dialogues : List Dialogue) (events : List Event) : Type 0 where
   pub entries_are : map (λ g. g.entry) (receipts_of events) ≡ reverse b.entries
@@ -67,14 +62,14 @@ pub record OneHistory (first : Schema) (before : History) (b : BookState) (table
       ≡ log first (history_after before events)
   pub loaded : TellsLoaded table rows (of_part 0 events)
   pub loaded_first : (later : List Event) × (events ≡ of_part 0 events ++ later)
-  pub sent : AllByRecursion (λ d. Tells (schema_after first before) b d.number [] d.lines
-      (of_part d.number events) d.text) dialogues
-  pub service : AllByRecursion IsServiceEvent (of_part service_part events)
+  pub sent : AllByRecursion (λ d. TellsAll (schema_after first before) b d.number [] d.talks
+      (of_part d.number events)) dialogues
+  pub service : AllByRecursion (λ e. IsBegun 0 e ⊎ IsPacked e.entry e.step) (of_part service_part events)
   pub no_other : (i : ℕ) → i ≢ 0 → i ≢ service_part → AllByRecursion (λ d. d.number ≢ i) dialogues
       → of_part i events ≡ []
 
 abbrev pub dialogue_of : Part → Dialogue
-dialogue_of p = record { number = p.number; lines = p.lines; text = p.text }
+dialogue_of p = record { number = p.number; talks = map (λ s. (s.lines, s.text)) p.sent }
 
 -- a run whose store closed goes on from the history that it began with, where no session had a
 -- transaction open: both are one history

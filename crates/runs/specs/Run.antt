@@ -47,15 +47,30 @@ IsLoaded schema table (row ∷ rows) given = IsLoad schema table (row ∷ rows) 
 
 -- ---- sessions
 
--- what a session comes to: its number, the lines that were taken, what is told of each, its
--- receipts, the text that it was sent, and what it has come to
-pub record Part : Type 0 where
-  pub number : ℕ
+-- what a connection comes to: the lines that were taken, what is told of each, its receipts, the text
+-- that it was sent, and what it has come to
+pub record Sent : Type 0 where
   pub lines : List Partial
   pub told : List Told
   pub given : List Given
   pub text : List ℕ
   pub later : Progress
+
+-- a session: its number, and its connections, one after another
+pub record Part : Type 0 where
+  pub number : ℕ
+  pub sent : List Sent
+
+abbrev pub given_of : Part → List Given
+given_of p = flat_map (λ s. s.given) p.sent
+
+abbrev pub told_of : Part → List Told
+told_of p = flat_map (λ s. s.told) p.sent
+
+-- the number of the last receipt, this one before the first
+abbrev pub last_of : ℕ → List Given → ℕ
+last_of last [] = last
+last_of last (g ∷ given) = last_of g.number given
 
 -- numbers rise, from above this one
 abbrev pub Rises : ℕ → List Given → Type 0
@@ -69,8 +84,9 @@ is_reading t = nat_le t max_instant
 pub record IsPart (schema : Schema) (p : Part) : Type 0 where
   pub some : 1 ≤ p.number
   pub in_range : p.number ≤ max_session
-  pub serves : Serves is_reading schema p.number p.lines p.told (after 0 None) p.given p.text p.later
-  pub rises : Rises 0 p.given
+  pub serves : AllByRecursion
+      (λ s. Serves is_reading schema p.number s.lines s.told (after 0 None) s.given s.text s.later) p.sent
+  pub rises : Rises 0 (given_of p)
 
 -- no number is there twice
 abbrev pub AreApart : (numbers : List ℕ) → Type 0
@@ -94,14 +110,14 @@ IsOfService (Split cut done) = ⊥
 -- ---- all of it
 
 abbrev pub all_given : List Given → List Part → List Given → List Given
-all_given loaded parts service = loaded ++ (flat_map (λ p. p.given) parts ++ service)
+all_given loaded parts service = loaded ++ (flat_map given_of parts ++ service)
 
 pub record IsRun (o : Origin) (b : BookState) (table : ℕ) (rows : List Row)
     (loaded : List Given) (parts : List Part) (service : List Given) : Type 0 where
   pub is_book : IsBook o b
   pub is_loaded : IsLoaded o.schema table rows loaded
   pub are_parts : AllByRecursion (IsPart o.schema) parts
-  pub refused : AllByRecursion (λ p. AllByRecursion (IsRefusedRightly b) p.told) parts
+  pub refused : AllByRecursion (λ p. AllByRecursion (IsRefusedRightly b) (told_of p)) parts
   pub apart : AreApart (map (λ p. p.number) parts)
   pub serviced : AllByRecursion (λ g. IsOfService g.entry) service
   pub stand : AllByRecursion (λ g. entry_at b.entries g.number ≡ Some g.entry)

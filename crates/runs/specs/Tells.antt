@@ -1,13 +1,13 @@
--- What a session was sent, line by line, and by which events.
-use Rattle.std.specs.Prelude.{◌≡◌, ℕ, ◌≤◌, List, [], ◌∷◌, ◌++◌, ◌⊎◌, Bool, true, false, Option, Some, None, Result, Ok, Err, length}
+-- What a session was sent, connection by connection and line by line, and by which events.
+use Rattle.std.specs.Prelude.{◌≡◌, ℕ, ◌≤◌, List, [], ◌∷◌, ◌++◌, ◌⊎◌, Bool, true, false, Option, Some, None, Result, Ok, Err, length, map}
 use Rattle.values.specs.declared.refusal.Refusal.{Refusal}
 use Rattle.values.specs.declared.refusal.Refusal.TheVariants.{JournalFull, Memory}
 use Rattle.values.specs.Commits.{max_instant}
 use Rattle.values.specs.Tables.{Schema}
 use Rattle.steps.specs.declared.step.Step.{Step}
-use Rattle.steps.specs.declared.step.Step.TheVariants.{Begin, Select, Commit, SplitKey, SplitTime, Migrate}
+use Rattle.steps.specs.declared.step.Step.TheVariants.{Begin, Select, Commit, Rollback, SplitKey, SplitTime, Migrate}
 use Rattle.steps.specs.declared.step.Reply.{Reply}
-use Rattle.steps.specs.declared.step.Reply.TheVariants.{Begun, Done}
+use Rattle.steps.specs.declared.step.Reply.TheVariants.{Begun, Done, RolledBack}
 use Rattle.steps.specs.Reply.{commit_reply, takes_no_memory_by}
 use Rattle.histories.specs.History.{History, has_open}
 use Rattle.statement.specs.declared.line.Line.{Line}
@@ -69,6 +69,11 @@ module _ (i : ℕ) where
   AreLeft is_open (e ∷ []) refusal Migrate = IsBegun 0 e
   AreLeft is_open events refusal step = ⊥
 
+  -- a transaction that is open where its connection ends is rolled back
+  abbrev pub let_go : (is_open : Bool) → List (Option Entry × Option (Step × Reply))
+  let_go false = []
+  let_go true = (None, Some (Rollback i, RolledBack)) ∷ []
+
 module _ (schema : Schema) (b : BookState) (i : ℕ) where
   -- what is refused for room: a step that takes memory, since that ran out; and one that adds an entry, since the
   -- journal is full, and it is
@@ -101,3 +106,12 @@ module _ (schema : Schema) (b : BookState) (i : ℕ) where
   Tells h (line ∷ lines) events text =
       (now later : List Event) × (sent rest : List ℕ) × (events ≡ now ++ later) × (text ≡ sent ++ rest)
       × TellsLine (has_open h i) line now sent × Tells (history_after h now) lines later rest
+
+  -- all connections, one after another, each with no transaction open at first: of each the lines that were
+  -- taken, and the text that it was sent
+  abbrev pub TellsAll : History → List (List Partial × List ℕ) → List Event → Type 0
+  TellsAll h [] events = events ≡ []
+  TellsAll h (talk ∷ talks) events =
+      (now gone later : List Event) × (events ≡ now ++ (gone ++ later)) × Tells h talk.0 now talk.1
+      × (map (λ e. (e.entry, e.step)) gone ≡ let_go i (has_open (history_after h now) i))
+      × TellsAll (history_after (history_after h now) gone) talks later

@@ -2,12 +2,14 @@
 ghost use Rattle.runs.specs.OneHistory.{ServedRunsAreHistories};
 ghost use Rattle.runs.specs.Worked.{NoFullJournalWithRoom, NoLongFork, NoMemoryForNothing, NoReceiptTwice, OneAfterTheOther};
 
-/// What all sessions of a run were sent is one history: of a closed store, and of all its receipts,
-/// each with what it was taken for, where those of each session rise, there is one list of events. Its
-/// entries are the journal's, in their order; each reply is that of the history of the steps before it; what was committed is what
-/// the history has; those of a load come first; and of each session the events are the steps of its
-/// lines, in their order, by which it was sent its text. A line is sent `E10` only where it takes
-/// memory, and `E13` only where it adds an entry and the journal is full.
+/// What all sessions of a run were sent is one history, which goes on from the one that the store began
+/// with, where no session had a transaction open: of a closed store, and of all its receipts, each with
+/// what it was taken for, where those of each session rise, there is one list of events. Its entries
+/// are the journal's, in their order; each reply is that of the history of the steps before it, those
+/// of the first history among them; what was committed is what both histories have; those of a load
+/// come first; and of each session the events are the steps of its lines, in their order, by which it
+/// was sent its text. A line is sent `E10` only where it takes memory, and `E13` only where it adds an
+/// entry and the journal is full.
 ///
 /// Nothing is said of real time between sessions, of the clock but that a commit's reading is at most
 /// the greatest instant, nor that a line which was sent `E10` had to be.

@@ -28,7 +28,7 @@ returns-in-Ok-close-clause-run g c =
     c.append.ensures.items ∙ (λ k. if well k then c.reserve.new.self.items ++ later else c.reserve.new.self.items) ∙ ap (λ rs. rs ++ later) c.reserve.ensures.items in
     let run = both c.into_inner.result.is_run _ (sym c.into_receipts-others.ensures.run ∙ c.if-not-is_run.false) in
     of_receipts g.J.StoreName.origin c.in-Ok-close.closed c.args.sessions table rows
-    (map {B = Given} (λ r. record { number = r.number; entry = r.entry }) c.args.before.items) c.into_inner.result.given c.into_inner.result.sessions c.into_inner.result.has_full
+    (map {B = Given} (λ r. record { number = r.number; entry = r.entry }) c.args.before.items) c.into_inner.result.given c.into_inner.result.lasts c.into_inner.result.again c.into_inner.result.has_full
     (λ r. record { number = r.number; entry = r.entry }) c.append.new.self.items c.args.before.items later are (λ k. map {B = Given} (λ r. record { number = r.number; entry = r.entry }) c.args.before.items) (sym c.into_receipts-others.ensures.given)
     c.in-Ok-close.ensures.book loaded (c.into_receipts-others.ensures.parts run.0) (λ e. full (c.into_receipts-others.ensures.full ∙ e)) run.1 c.in-Ok-close.ensures.stand c.in-Ok-close.ensures.once)
 

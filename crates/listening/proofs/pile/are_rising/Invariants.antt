@@ -7,4 +7,4 @@ use Rattle.listening.proofs.pile.are_rising.Given as goal
 abbrev pub invariant-loop-receipt : goal.invariant-loop-receipt
 invariant-loop-receipt g l =
     rises_from l.last (map {B = Given} (λ r. record { number = r.number; entry = r.entry }) (drop l.receipt-index l.receipts))
-    ≡ rises_from 0 (map {B = Given} (λ r. record { number = r.number; entry = r.entry }) l.receipts)
+    ≡ rises_from l.before (map {B = Given} (λ r. record { number = r.number; entry = r.entry }) l.receipts)

@@ -1,6 +1,5 @@
-use Rattle.listening.proofs.LoadingCalls.{if_err}
+use Rattle.listening.proofs.LoadingCalls.{if_err, if_ok}
 use Rattle.listening.proofs.ServerCarried.{carries, clock, holds}
-use Rattle.listening.proofs.ServerHistory.{on_ok}
 use Rattle.listening.proofs.server.serve.Goals as goal
 
 pub serve_store-requires-clause-holds : goal.serve_store-requires-clause-holds
@@ -18,7 +17,7 @@ serve_store-requires-clause-clock g c = λ κs h.
 pub returns-clause-ok : goal.returns-clause-ok
 returns-clause-ok g c =
     let parts = c.into_parts-schema in
-    on_ok c.serve_store.result _ _ (λ served start before stands idle.
+    if_ok c.serve_store.result _ _ (λ s served start before stands idle.
     served start before (carries c.histories_are_of_changes.ensures.changes c.args.system start before stands parts.result.0 parts.result.1 parts.ensures.schema parts.ensures.engine idle)) c.serve_store.ensures.ok
 
 pub returns-clause-err : goal.returns-clause-err
