@@ -9,25 +9,25 @@ _tsvd() {
     if [[ $word == ?*=* ]]; then
         # where `=` was taken out of COMP_WORDBREAKS
         case "$before $word" in
-        '--load '* | *' --load='?*=* | *' --schema='* | *' --after='* | *' --script='*)
+        '--load '* | *' --load='?*=* | *' --schema='* | *' --after='* | *' --script='* | *' --dump='*)
             mapfile -t COMPREPLY < <(compgen -f -P "${word%=*}=" -- "${word##*=}") ;;
         *) COMPREPLY=() ;;
         esac
         return
     fi
     if [[ $before == '=' ]]; then
-        # --schema=FILE, --after=FILE and --script=FILE, --load TABLE=FILE and --load=TABLE=FILE
+        # --schema=FILE, --after=FILE, --script=FILE and --dump=FILE, --load TABLE=FILE and --load=TABLE=FILE
         case " ${COMP_WORDS[at - 1]} ${COMP_WORDS[at - 2]} ${COMP_WORDS[at - 3]} " in
-        ' --schema '* | ' --after '* | ' --script '* | *' --load '*) mapfile -t COMPREPLY < <(compgen -f -- "$word") ;;
+        ' --schema '* | ' --after '* | ' --script '* | ' --dump '* | *' --load '*) mapfile -t COMPREPLY < <(compgen -f -- "$word") ;;
         *) COMPREPLY=() ;;
         esac
         [[ ${COMP_WORDS[at - 1]} != --load ]] || COMPREPLY=()
         return
     fi
     case $before in
-    --schema | --after | --script) mapfile -t COMPREPLY < <(compgen -f -- "$word") ;;
+    --schema | --after | --script | --dump) mapfile -t COMPREPLY < <(compgen -f -- "$word") ;;
     --listen | --sessions | --export | --load) COMPREPLY=() ;;
-    *) mapfile -t COMPREPLY < <(compgen -W "--schema --after --script --listen --sessions --load --export --help --version" -- "$word") ;;
+    *) mapfile -t COMPREPLY < <(compgen -W "--schema --after --script --listen --sessions --load --export --dump --help --version" -- "$word") ;;
     esac
 }
 complete -o filenames -F _tsvd tsvd

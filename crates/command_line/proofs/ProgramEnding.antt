@@ -21,37 +21,32 @@ use Rattle.command_line.proofs.FaultKinds.{of_words}
 
 -- ---- the script, then the export
 
-pub ran_on : (r : Result (Unit {0}) Fault) (script : Option Text) (number : Option ℕ) (system s : SystemState) (unread left old mid new : Option (List ℕ))
-    → ((first : Schema) (h : History) → Stands first system h → HasRun script first h s unread left old mid)
-    → OnOk r ((first : Schema) (h : History) → Stands first s h → HasExported first number h mid new)
-    → OnOk r ((first : Schema) (h : History) → Stands first system h → HasRunOn script number first h unread left old new)
-ran_on (Err e) script number system s unread left old mid new ran exported = tt
-ran_on (Ok u) script number system s unread left old mid new ran exported = λ first h at.
-    let x = ran first h at in
-    record {
-      s = s;
-      between = mid;
-      ran = x;
-      exported = exported first x.end (subst (Stands first s) (sym x.end_is) x.run.stands);
-    }
+module _ (script : Option Text) (number : Option ℕ) (system s : SystemState) (unread left old mid new : Option (List ℕ)) (ran : (first : Schema) (h : History) → Stands first system h → HasRun script first h s unread left old mid) where
+  pub ran_on : ((first : Schema) (h : History) → Stands first s h → HasExported first number h mid new)
+      → (first : Schema) (h : History) → Stands first system h → HasRunOn script number first h unread left old new
+  ran_on exported first h at =
+      let x = ran first h at in
+      record {
+        s = s;
+        between = mid;
+        ran = x;
+        exported = exported first x.end (subst (Stands first s) (sym x.end_is) x.run.stands);
+      }
 
-pub halts_late : (r : Result (Unit {0}) Fault) (script : Option Text) (number : Option ℕ) (system s : SystemState) (unread left old mid new : Option (List ℕ))
-    → ((first : Schema) (h : History) → Stands first system h → HasRun script first h s unread left old mid)
-    → IfErr r (λ fault. (first : Schema) (h : History) → Stands first s h → Unexported fault first number h mid new)
-    → IfErr r (λ fault. (first : Schema) (h : History) → Stands first system h → HaltsOn fault script number first h unread left old new)
-halts_late (Ok u) script number system s unread left old mid new ran unexported = tt
-halts_late (Err fault) script number system s unread left old mid new ran unexported = λ first h at.
-    let x = ran first h at in
-    inr (record {
-      s = s;
-      between = mid;
-      ran = x;
-      unexported = unexported first x.end (subst (Stands first s) (sym x.end_is) x.run.stands);
-    })
+  pub halts_late : (fault : Fault) → ((first : Schema) (h : History) → Stands first s h → Unexported fault first number h mid new)
+      → (first : Schema) (h : History) → Stands first system h → HaltsOn fault script number first h unread left old new
+  halts_late fault unexported first h at =
+      let x = ran first h at in
+      inr (record {
+        s = s;
+        between = mid;
+        ran = x;
+        unexported = unexported first x.end (subst (Stands first s) (sym x.end_is) x.run.stands);
+      })
 
 -- ---- the load before them
 
-pub ran_loaded : (r : Result (Unit {0}) Fault) (load script : Option Text) (number : Option ℕ) (system s : SystemState) (unread left old mid new : Option (List ℕ))
+pub ran_loaded : {A : Type 0} (r : Result A Fault) (load script : Option Text) (number : Option ℕ) (system s : SystemState) (unread left old mid new : Option (List ℕ))
     → ((first : Schema) (before : History) → Stands first system before → IsLed first load before s old mid)
     → OnOk r ((first : Schema) (h : History) → Stands first s h → HasRunOn script number first h unread left mid new)
     → OnOk r ((first : Schema) (before : History) → Stands first system before → HasRunLoaded load script number first before unread left old new)
@@ -60,7 +55,7 @@ ran_loaded (Ok u) load script number system s unread left old mid new led ran = 
     let x = led first before at in
     record { later = x.later; between = mid; loaded = x.loaded; rest = ran first x.later x.stands }
 
-pub halts_loaded : (r : Result (Unit {0}) Fault) (load script : Option Text) (number : Option ℕ) (system s : SystemState) (unread left old mid new : Option (List ℕ))
+pub halts_loaded : {A : Type 0} (r : Result A Fault) (load script : Option Text) (number : Option ℕ) (system s : SystemState) (unread left old mid new : Option (List ℕ))
     → ((first : Schema) (before : History) → Stands first system before → IsLed first load before s old mid)
     → IfErr r (λ fault. (first : Schema) (h : History) → Stands first s h → HaltsOn fault script number first h unread left mid new)
     → IfErr r (λ fault. (first : Schema) (before : History) → Stands first system before → HaltsAfter fault load script number first before unread left old new)
@@ -81,7 +76,7 @@ idle_after : (schema : Schema) (after : Option Text) (before : History) → HasR
 idle_after schema None before none = subst (λ h. is_idle (has_open h) ≡ true) (sym none) refl
 idle_after schema (Some file) before so = so.1.idle
 
-pub ran_all : (r : Result (Unit {0}) Fault) (mode : AskedMode) (after load : Option Text) (number : Option ℕ) (schema : Schema) (s : SystemState) (unread left old new : Option (List ℕ))
+pub ran_all : {A : Type 0} (r : Result A Fault) (mode : AskedMode) (after load : Option Text) (number : Option ℕ) (schema : Schema) (s : SystemState) (unread left old new : Option (List ℕ))
     → IsAfter schema after s
     → OnOk r ((first : Schema) (before : History) → Stands first s before → is_idle (has_open before) ≡ true → HasRunMode mode load number first before unread left old new)
     → OnOk r (HasRunAll mode after load number schema unread left old new)
@@ -89,7 +84,7 @@ ran_all (Err e) mode after load number schema s unread left old new so ran = tt
 ran_all (Ok u) mode after load number schema s unread left old new so ran =
     record { before = so.later; replayed = so.replayed; rest = ran schema so.later so.stands (idle_after schema after so.later so.replayed) }
 
-pub halts_all : (r : Result (Unit {0}) Fault) (mode : AskedMode) (after load : Option Text) (number : Option ℕ) (schema : Schema) (s : SystemState) (unread left old new : Option (List ℕ))
+pub halts_all : {A : Type 0} (r : Result A Fault) (mode : AskedMode) (after load : Option Text) (number : Option ℕ) (schema : Schema) (s : SystemState) (unread left old new : Option (List ℕ))
     → IsAfter schema after s
     → IfErr r (λ fault. (first : Schema) (before : History) → Stands first s before → is_idle (has_open before) ≡ true → HaltsMode fault mode load number first before unread left old new)
     → IfErr r (λ fault. HaltsAt fault mode after load number schema unread left old new)

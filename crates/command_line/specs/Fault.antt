@@ -8,6 +8,8 @@ use Rattle.rows.specs.declared.schema_reading.SchemaFault.{SchemaFault}
 use Rattle.rows.specs.declared.schema_reading.SchemaFault.TheVariants as schema
 use Rattle.interchange.specs.declared.version.ExportFault.{ExportFault}
 use Rattle.interchange.specs.declared.version.ExportFault.TheVariants as export
+use Rattle.dumping.specs.declared.fault.DumpFault.{DumpFault}
+use Rattle.dumping.specs.declared.fault.DumpFault.TheVariants as dump
 use Rattle.listening.specs.declared.connection.ListenFault.TheVariants as listen
 use Rattle.listening.specs.declared.server.ServerFault.{ServerFault}
 use Rattle.listening.specs.declared.server.ServerFault.TheVariants as server
@@ -45,6 +47,10 @@ of_replay replay.Memory = Memory
 abbrev pub of_export : ExportFault → Fault
 of_export export.Write = Write
 of_export export.Memory = Memory
+
+abbrev pub of_dump : DumpFault → Fault
+of_dump dump.Write = Write
+of_dump dump.Memory = Memory
 
 abbrev pub of_server : ServerFault → Fault
 of_server (server.Load refusal) = Load refusal

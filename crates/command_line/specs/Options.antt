@@ -36,7 +36,9 @@ abbrev pub serving : App
 serving = with_rule (with_rule reading (option (codes "listen"))) (option (codes "sessions"))
 
 abbrev pub command : App
-command = with_rule (with_rule serving (option (codes "load"))) (option (codes "export"))
+command =
+    with_rule (with_rule (with_rule serving (option (codes "load"))) (option (codes "export")))
+    (option (codes "dump"))
 
 -- the text of an option, where it has one
 abbrev pub text_of : Text → List Text → Option Text
@@ -56,6 +58,7 @@ pub record AskedTexts : Type 0 where
   pub sessions : Option Text
   pub load : Option Text
   pub exports : Option Text
+  pub dump : Option Text
 
 abbrev pub texts_in : List Text → AskedTexts
 texts_in words = record {
@@ -66,6 +69,7 @@ texts_in words = record {
   sessions = text_of (codes "sessions") words;
   load = text_of (codes "load") words;
   exports = text_of (codes "export") words;
+  dump = text_of (codes "dump") words;
 }
 
 abbrev pub texts_of : Texts → AskedTexts
@@ -77,6 +81,7 @@ texts_of texts = record {
   sessions = option_map (λ text. text.now) texts.sessions;
   load = option_map (λ text. text.now) texts.load;
   exports = option_map (λ text. text.now) texts.export;
+  dump = option_map (λ text. text.now) texts.dump;
 }
 
 abbrev pub found_texts : Found → AskedTexts
@@ -88,6 +93,7 @@ found_texts found = record {
   sessions = first_value found (codes "sessions");
   load = first_value found (codes "load");
   exports = first_value found (codes "export");
+  dump = first_value found (codes "dump");
 }
 
 -- ---- what they ask for
@@ -129,13 +135,14 @@ abbrev pub mode_of : Mode → AskedMode
 mode_of (Script file) = Scripts (option_map (λ text. text.now) file)
 mode_of (Listen port sessions) = Listens port sessions
 
--- what is asked for: the schema's file, what is run, and the texts of the other three options
+-- what is asked for: the schema's file, what is run, and the texts of the other four options
 pub record Asked : Type 0 where
   pub schema : Option Text
   pub after : Option Text
   pub mode : AskedMode
   pub load : Option Text
   pub exports : Option Text
+  pub dump : Option Text
 
 abbrev pub asked_of : Options → Asked
 asked_of options = record {
@@ -144,6 +151,7 @@ asked_of options = record {
   mode = mode_of options.mode;
   load = option_map (λ text. text.now) options.load;
   exports = option_map (λ text. text.now) options.export;
+  dump = option_map (λ text. text.now) options.dump;
 }
 
 -- the text of --load is a table's name, `=` and a file: there is an `=`
@@ -167,6 +175,7 @@ pub record AskFor (words : List Text) (asked : Asked) : Type 0 where
   pub mode_is : mode_in (texts_in words) ≡ Some asked.mode
   pub load_is : asked.load ≡ (texts_in words).load
   pub exports_is : asked.exports ≡ (texts_in words).exports
+  pub dump_is : asked.dump ≡ (texts_in words).dump
   pub has_file : IfSome asked.load HasFile
 
 abbrev pub Gives : List Text → Options → Type 0

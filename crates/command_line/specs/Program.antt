@@ -11,6 +11,7 @@ use Rattle.interleaving.specs.SystemState.{SystemState}
 use Rattle.statement.specs.Line.{line_says}
 use Rattle.statement.specs.Writer.{AppendsPrefix}
 use Rattle.listening.specs.declared.server.Plan.{Plan}
+use Rattle.sessions.specs.book.Book.{BookState}
 use Rattle.scripts.specs.Script.{IsIdle}
 use Rattle.scripts.specs.Transcript.{IsRunAfter, IsCutAfter, IsStoppedAfter, leaves_after}
 use Rattle.command_line.specs.declared.fault.Fault.{Fault}
@@ -18,7 +19,7 @@ use Rattle.command_line.specs.declared.fault.Fault.TheVariants.{Words, SchemaSyn
 use Rattle.command_line.specs.Options.{Asked, AskFor, AskedMode, Scripts, Listens, AreRequest, AreMistaken}
 use Rattle.command_line.specs.Replay.{HasReplayed, IsNotAfter}
 use Rattle.command_line.specs.Load.{HasLoaded, Unloaded}
-use Rattle.command_line.specs.Export.{Exports, IsUnknown, HasExported, Unexported}
+use Rattle.command_line.specs.Export.{Exports, IsOfWriting, IsUnknown, HasExported, Unexported}
 use Rattle.command_line.specs.Server.{HasServedAll, HaltsServing}
 
 -- the sample schema, or where a file is named the schema of some text
@@ -142,7 +143,7 @@ abbrev pub HasRunMode : AskedMode → Option Text → Option ℕ → Schema → 
 HasRunMode (Scripts script) load number schema before unread left old new =
     HasRunLoaded load script number schema before unread left old new
 HasRunMode (Listens port sessions) load number schema before unread left old new =
-    HasServedAll load (plan_of port sessions number) schema before unread left old new
+    (b : BookState) × HasServedAll load (plan_of port sessions number) schema before b unread left old new
 
 abbrev pub HaltsMode : Fault → AskedMode → Option Text → Option ℕ → Schema → History
     → (unread left old new : Option (List ℕ)) → Type 0
@@ -172,6 +173,22 @@ HaltsAt fault mode after load number schema unread left old new =
     (IsNotAfter fault schema after × IsIdle unread left old new)
     ⊎ HaltsReplayed fault mode after load number schema unread left old new
 
+-- ---- the dump behind all else
+
+-- the dump stopped: all before it was done
+pub record IsUndumped (fault : Fault) (asked : Asked) (number : Option ℕ) (schema : Schema)
+    (unread left old new : Option (List ℕ)) : Type 0 where
+  pub file : Text
+  pub dump_is : asked.dump ≡ Some file
+  pub why : IsOfWriting fault
+  pub ran : HasRunAll asked.mode asked.after asked.load number schema unread left old new
+
+abbrev pub HaltsOrUndumped : Fault → Asked → Option ℕ → Schema
+    → (unread left old new : Option (List ℕ)) → Type 0
+HaltsOrUndumped fault asked number schema unread left old new =
+    HaltsAt fault asked.mode asked.after asked.load number schema unread left old new
+    ⊎ IsUndumped fault asked number schema unread left old new
+
 -- ---- what is asked for, over a schema
 
 pub record HasDone (asked : Asked) (schema : Schema) (unread left old new : Option (List ℕ))
@@ -191,7 +208,7 @@ pub record HasHalted (fault : Fault) (asked : Asked) (schema : Schema)
     (unread left old new : Option (List ℕ)) : Type 0 where
   pub number : Option ℕ
   pub exports : Exports schema asked.exports number
-  pub halts : HaltsAt fault asked.mode asked.after asked.load number schema unread left old new
+  pub halts : HaltsOrUndumped fault asked number schema unread left old new
 
 abbrev pub Halts : Fault → Asked → Schema → (unread left old new : Option (List ℕ)) → Type 0
 Halts fault asked schema unread left old new =

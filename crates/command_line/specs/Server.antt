@@ -9,6 +9,7 @@ use Rattle.listening.specs.declared.server.Plan.{Plan}
 use Rattle.listening.specs.declared.server.TableRows.{TableRows}
 use Rattle.listening.specs.declared.server.ServerFault.{ServerFault}
 use Rattle.listening.specs.Server.{HasServed, HasStopped}
+use Rattle.sessions.specs.book.Book.{BookState}
 use Rattle.command_line.specs.declared.fault.Fault.{Fault}
 use Rattle.command_line.specs.Fault.{of_server}
 use Rattle.command_line.specs.Load.{FileSays, HasNoRows}
@@ -21,11 +22,11 @@ IsFirst schema (Some text) first =
 
 -- nothing was read of standard input, and after a history a server was served to its end
 pub record HasServedAll (load : Option Text) (plan : Plan) (start : Schema) (before : History)
-    (unread left old new : Option (List ℕ)) : Type 0 where
+    (b : BookState) (unread left old new : Option (List ℕ)) : Type 0 where
   pub first : Option TableRows
   pub first_is : IsFirst (schema_after start before) load first
   pub read : Keeps unread left
-  pub served : HasServed start before first plan old new
+  pub served : HasServed start before first plan b old new
 
 -- there are no rows for the text of --load
 abbrev pub IsNoFirst : Fault → Option Text → Schema → Type 0

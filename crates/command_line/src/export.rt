@@ -44,6 +44,7 @@ fn versions_of(alloc: Global, system: &mut System, number: u8) -> Result<ShownRo
         → reply first h (all_versions number) ≡ Shows (Periods shown)) }
     ensures err { IfErr result (λ fault. fault ≡ Fault.Memory) }
     ensures schema { OnOk result (system.new.schema ≡ system.old.schema) }
+    ensures tree { system.new.engine ≡ system.old.engine }
 {
     let keys = Keys::all(alloc, number);
     match system.step(Step::Select(0, Form::Between(0, MAX_INSTANT), keys)) {
@@ -76,15 +77,16 @@ fn export_versions<O: Write>(
     alloc: Global,
     out: &mut O,
     number: u8,
-    mut system: System,
+    system: &mut System,
 ) -> Result<(), Fault>
-    ensures ok { OnOk result ((first : Schema) (h : History) → Stands first system h
+    ensures ok { OnOk result ((first : Schema) (h : History) → Stands first system.old h
         → HasExported first (Some number) h (O.contents out.old) (O.contents out.new)) }
-    ensures err { IfErr result (λ fault. (first : Schema) (h : History) → Stands first system h
-        → Unexported fault first (Some number) h
+    ensures err { IfErr result (λ fault. (first : Schema) (h : History)
+        → Stands first system.old h → Unexported fault first (Some number) h
         (O.contents out.old) (O.contents out.new)) }
+    ensures tree { system.new.engine ≡ system.old.engine }
 {
-    let shown = match versions_of(alloc, &mut system, number) {
+    let shown = match versions_of(alloc, system, number) {
         Ok(shown) => shown,
         Err(fault) => return Err(fault),
     };
@@ -95,17 +97,19 @@ fn export_versions<O: Write>(
 }
 
 /// Writes a table with all its versions as CSV, if one is to be exported. The text is never held
-/// whole.
+/// whole. The store keeps its tables and its tree.
 pub fn export_table<O: Write>(
     alloc: Global,
     out: &mut O,
     number: Option<u8>,
-    system: System,
+    system: &mut System,
 ) -> Result<(), Fault>
-    ensures ok { OnOk result ((first : Schema) (h : History) → Stands first system h
+    ensures ok { OnOk result ((first : Schema) (h : History) → Stands first system.old h
         → HasExported first number h (O.contents out.old) (O.contents out.new)) }
-    ensures err { IfErr result (λ fault. (first : Schema) (h : History) → Stands first system h
+    ensures err { IfErr result (λ fault. (first : Schema) (h : History)
+        → Stands first system.old h
         → Unexported fault first number h (O.contents out.old) (O.contents out.new)) }
+    ensures tree { system.new.engine ≡ system.old.engine }
 {
     match number {
         Some(number) => export_versions(alloc, out, number, system),

@@ -1,8 +1,9 @@
 //! Why the program stops before its end: each text but those of refusals and words.
 ghost use Rattle.std.specs.Prelude.{◌≡◌, true, false};
-ghost use Rattle.command_line.specs.Fault.{is_of_words, of_export, of_replay, of_run, of_schema, of_server};
+ghost use Rattle.command_line.specs.Fault.{is_of_words, of_dump, of_export, of_replay, of_run, of_schema, of_server};
 
 use crate::options::WordsFault;
+use dumping::DumpFault;
 use interchange::ExportFault;
 use listening::{ListenFault, ServerFault};
 use rows::SchemaFault;
@@ -95,6 +96,16 @@ pub fn export_fault(fault: ExportFault) -> Fault
     match fault {
         ExportFault::Write => Fault::Write,
         ExportFault::Memory => Fault::Memory,
+    }
+}
+
+/// Returns the program's fault for a fault of a dump.
+pub fn dump_fault(fault: DumpFault) -> Fault
+    ensures { result ≡ of_dump fault }
+{
+    match fault {
+        DumpFault::Write => Fault::Write,
+        DumpFault::Memory => Fault::Memory,
     }
 }
 

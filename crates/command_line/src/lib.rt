@@ -1,6 +1,7 @@
 //! What the program does with its command line and its streams.
 #![tactic(auto)]
 
+mod dumped;
 mod export;
 pub mod fault;
 mod load;

@@ -105,6 +105,8 @@ pub struct Options<'a> {
     pub load: Option<&'a str>,
     /// The name of the table that is exported.
     pub export: Option<&'a str>,
+    /// The file that what was committed is dumped to.
+    pub dump: Option<&'a str>,
 }
 
 /// For each option the text that followed it, or none.
@@ -117,6 +119,7 @@ struct Texts<'a> {
     sessions: Option<&'a str>,
     load: Option<&'a str>,
     export: Option<&'a str>,
+    dump: Option<&'a str>,
 }
 
 /// Why words were refused. The texts end their last lines.
@@ -181,9 +184,11 @@ fn tsvd<'a>(alloc: Global) -> Result<Command<'a>, AllocError>
 {
     let load = "First loads the rows of this CSV file in one transaction";
     let export = "Last writes this table with all its versions as CSV";
+    let dump = "Last of all writes what was committed to this file, as a script for --after";
     serving_command(alloc)?
         .arg(option(alloc, "load", "TABLE=FILE", load))?
-        .arg(option(alloc, "export", "TABLE", export))
+        .arg(option(alloc, "export", "TABLE", export))?
+        .arg(option(alloc, "dump", "FILE", dump))
 }
 
 fn texts_of<'a>(matches: &ArgMatches<'a>) -> Texts<'a>
@@ -197,6 +202,7 @@ fn texts_of<'a>(matches: &ArgMatches<'a>) -> Texts<'a>
         sessions: matches.get_str("sessions"),
         load: matches.get_str("load"),
         export: matches.get_str("export"),
+        dump: matches.get_str("dump"),
     }
 }
 
@@ -290,13 +296,14 @@ fn options_of<'a>(texts: Texts<'a>) -> Result<Options<'a>, WordsFault>
             mode,
             load: texts.load,
             export: texts.export,
+            dump: texts.dump,
         }),
         Err(text) => Err(WordsFault::Words(text)),
     }
 }
 
 /// Reads the words that follow the program's name: `--schema F`, `--after F`, `--script F`,
-/// `--listen PORT`, `--sessions N`, `--load T=F` and `--export T`, each at most once.
+/// `--listen PORT`, `--sessions N`, `--load T=F`, `--export T` and `--dump F`, each at most once.
 ///
 /// `Clap` if `clap` refuses the words, or they ask for `--help` or `--version`. `Words` if the text
 /// of `--load` has no `=`; if one of `--listen` and `--sessions` is given without the other, or

@@ -7,10 +7,12 @@ ghost use Rattle.steps.specs.Idle.{is_idle};
 ghost use Rattle.histories.specs.History.{History, has_open};
 ghost use Rattle.interleaving.specs.SystemState.{Stands};
 ghost use Rattle.listening.specs.Server.{IsExportOf};
+ghost use Rattle.command_line.specs.Dumped.{tree_of};
 ghost use Rattle.command_line.specs.Options.{Refuses, asked_of, faults, mode_of};
-ghost use Rattle.command_line.specs.Program.{Halts, HaltsAfter, HaltsAt, HaltsMode, HaltsOn, HasAnswered, HasDone, HasRun, HasRunAll, HasRunLoaded, HasRunMode, HasRunOn, IsComplete, IsDone, IsFaulty, IsRefused, IsStuck, IsUnanswered, IsUnshown, Leaves};
+ghost use Rattle.command_line.specs.Program.{Halts, HaltsAfter, HaltsAt, HaltsMode, HaltsOn, HaltsOrUndumped, HasAnswered, HasDone, HasRun, HasRunAll, HasRunLoaded, HasRunMode, HasRunOn, IsComplete, IsDone, IsFaulty, IsRefused, IsStuck, IsUnanswered, IsUnshown, Leaves};
 ghost use Rattle.command_line.specs.Fault.{is_of_words, outcome_of};
 
+use crate::dumped::{Left, Store, dump_to};
 use crate::export::{export_number, export_table};
 use crate::fault::{FAULT, Fault, WORDS, run_fault, tell};
 use crate::load::load;
@@ -22,7 +24,7 @@ use crate::schema_file::schema_of;
 use crate::server::run_server;
 use clap::error::ErrorKind;
 use interleaving::System;
-use listening::Plan;
+use listening::{Plan, Served};
 use scripts::{RunFault, run_script_in};
 use std::alloc::Global;
 use std::convert::AsStr;
@@ -41,7 +43,7 @@ pub const DONE: u8 = 0;
 /// Runs the program: reads a script, from standard input or a file, over the schema of a file or
 /// the sample, as the words ask for, and writes its transcript, or serves connections; before it
 /// another script may be replayed, and the rows of a file loaded, and after it a table may be
-/// exported. Returns the exit status:
+/// exported, and what was committed dumped to a file. Returns the exit status:
 /// 0 done, 1 a fault, 2 words that are refused; a fault is reported on standard error. Help and the
 /// version are written like other output.
 pub fn program<R, S, I, O, E>(rt: &R, words: &[S], reader: &mut I, out: &mut O, err: &mut E) -> u8
@@ -75,7 +77,7 @@ where
 }
 
 /// Runs the program up to its first fault: of the words, of the schema, of the table to be
-/// exported, of the replay, of the load, of the script, of the export.
+/// exported, of the replay, of the load, of the script, of the export, of the dump.
 fn run<R, S, I, O>(rt: &R, words: &[S], reader: &mut I, out: &mut O) -> Result<(), Fault>
 where
     R: AllocGlobal
@@ -217,7 +219,51 @@ where
         (O.contents out.old) (O.contents out.new)) }
 {
     match export_number(&schema, options.export) {
-        Ok(number) => run_all(rt, options, number, reader, out, schema),
+        Ok(number) => run_to_the_dump(rt, options, number, reader, out, schema),
+        Err(fault) => Err(fault),
+    }
+}
+
+/// Runs all that is asked for, and last of all dumps what was committed, if it is to be. The first
+/// tables are kept for that.
+fn run_to_the_dump<R, I, O>(
+    rt: &R,
+    options: Options<'_>,
+    number: Option<u8>,
+    reader: &mut I,
+    out: &mut O,
+    schema: Schema,
+) -> Result<(), Fault>
+where
+    R: AllocGlobal
+        + Files
+        + Net<Listener = TcpListener, Stream = TcpStream>
+        + Clock
+        + Threads
+        + Wait
+        + Sync,
+    I: Read,
+    O: Write,
+    requires export { IsExportOf schema number }
+    ensures done { OnOk result (HasRunAll (asked_of options.entry).mode
+        (asked_of options.entry).after (asked_of options.entry).load number schema
+        (I.remaining reader.old) (I.remaining reader.new)
+        (O.contents out.old) (O.contents out.new)) }
+    ensures halts { IfErr result (λ fault. HaltsOrUndumped fault (asked_of options.entry) number
+        schema (I.remaining reader.old) (I.remaining reader.new)
+        (O.contents out.old) (O.contents out.new)) }
+{
+    let Some(file) = options.dump else {
+        return match run_all(rt, options, number, reader, out, schema) {
+            Ok(_left) => Ok(()),
+            Err(fault) => Err(fault),
+        };
+    };
+    let Ok(first) = schema.copy(rt.alloc()) else {
+        return Err(Fault::Memory);
+    };
+    match run_all(rt, options, number, reader, out, schema) {
+        Ok(left) => dump_to(rt, file, &first, &left),
         Err(fault) => Err(fault),
     }
 }
@@ -230,7 +276,7 @@ fn run_all<R, I, O>(
     reader: &mut I,
     out: &mut O,
     schema: Schema,
-) -> Result<(), Fault>
+) -> Result<Left, Fault>
 where
     R: AllocGlobal
         + Files
@@ -266,7 +312,7 @@ fn run_mode<R, I, O>(
     reader: &mut I,
     out: &mut O,
     system: System,
-) -> Result<(), Fault>
+) -> Result<Left, Fault>
 where
     R: AllocGlobal
         + Files
@@ -298,7 +344,13 @@ where
                 sessions,
                 export: number,
             };
-            run_server(rt, text, plan, reader, out, system)
+            match run_server(rt, text, plan, reader, out, system) {
+                Ok(Served { tables, closed }) => Ok(Left {
+                    tables,
+                    store: Store::Closed(closed),
+                }),
+                Err(fault) => Err(fault),
+            }
         }
     }
 }
@@ -312,7 +364,7 @@ fn run_loaded<R: AllocGlobal + Files, I: Read, O: Write>(
     reader: &mut I,
     out: &mut O,
     system: System,
-) -> Result<(), Fault>
+) -> Result<Left, Fault>
     ensures done { OnOk result ((first : Schema) (before : History) → Stands first system before
         → HasRunLoaded (option_map (λ text. text.now) text.entry)
         (option_map (λ text. text.now) file.entry) number first before
@@ -340,7 +392,7 @@ fn run_on<R: AllocGlobal + Files, I: Read, O: Write>(
     reader: &mut I,
     out: &mut O,
     system: System,
-) -> Result<(), Fault>
+) -> Result<Left, Fault>
     ensures done { OnOk result ((first : Schema) (h : History) → Stands first system h
         → HasRunOn (option_map (λ text. text.now) file.entry) number first h
         (I.remaining reader.old) (I.remaining reader.new)
@@ -350,9 +402,25 @@ fn run_on<R: AllocGlobal + Files, I: Read, O: Write>(
         (I.remaining reader.old) (I.remaining reader.new)
         (O.contents out.old) (O.contents out.new)) }
 {
-    match run_script_of(rt, file, reader, out, system) {
-        Ok(system) => export_table(rt.alloc(), out, number, system),
+    let mut system = match run_script_of(rt, file, reader, out, system) {
+        Ok(system) => system,
+        Err(fault) => return Err(fault),
+    };
+    match export_table(rt.alloc(), out, number, &mut system) {
+        Ok(()) => Ok(left_by(system)),
         Err(fault) => Err(fault),
+    }
+}
+
+/// Returns what a system leaves: what transactions that are open have written is not in it.
+fn left_by(system: System) -> Left
+    ensures tables { result.tables ≡ system.schema }
+    ensures tree { tree_of result.store ≡ system.engine }
+{
+    let (tables, engine) = system.into_parts();
+    Left {
+        tables,
+        store: Store::Engine(engine),
     }
 }
 

@@ -2,7 +2,7 @@
 ghost use Rattle.std.specs.Prelude.{◌≡◌, IfOk, IfErr, OnOk, option_map, true};
 ghost use Rattle.values.specs.Tables.{Schema};
 ghost use Rattle.steps.specs.Idle.{is_idle};
-ghost use Rattle.histories.specs.History.{History, has_open};
+ghost use Rattle.histories.specs.History.{History, has_open, schema_after};
 ghost use Rattle.interleaving.specs.SystemState.{Stands};
 ghost use Rattle.listening.specs.Server.{IsExportOf};
 ghost use Rattle.command_line.specs.Fault.{served_of};
@@ -11,7 +11,7 @@ ghost use Rattle.command_line.specs.Server.{HaltsServing, HasServedAll, IsFirst,
 use crate::fault::{Fault, server_fault};
 use crate::load::rows_for;
 use interleaving::System;
-use listening::{Plan, ServerFault, TableRows, serve};
+use listening::{Plan, Served, ServerFault, TableRows, serve};
 use std::io::{Read, Write};
 use std::net::{Net, TcpListener, TcpStream};
 use std::rt::Files;
@@ -41,7 +41,7 @@ fn first_of<R: AllocGlobal + Files>(
 }
 
 /// Serves connections round a store that begins with what a system has come to, and exports a table
-/// of it at the end, if one is to be. Standard input is not read.
+/// of it at the end, if one is to be. Returns the closed store. Standard input is not read.
 pub fn run_server<R, I, O>(
     rt: &R,
     text: Option<&str>,
@@ -49,7 +49,7 @@ pub fn run_server<R, I, O>(
     reader: &mut I,
     out: &mut O,
     system: System,
-) -> Result<(), Fault>
+) -> Result<Served, Fault>
 where
     R: AllocGlobal
         + Files
@@ -62,9 +62,10 @@ where
     O: Write,
     requires known { (start : Schema) × (before : History) × Stands start system before
         × IsExportOf start plan.export }
-    ensures done { OnOk result ((start : Schema) (before : History) → Stands start system before
-        → is_idle (has_open before) ≡ true
-        → HasServedAll (option_map (λ text. text.now) text.entry) plan start before
+    ensures done { IfOk result (λ served. (start : Schema) (before : History)
+        → Stands start system before → is_idle (has_open before) ≡ true
+        → (served.tables ≡ schema_after start before)
+        × HasServedAll (option_map (λ text. text.now) text.entry) plan start before served.closed
         (I.remaining reader.old) (I.remaining reader.new)
         (O.contents out.old) (O.contents out.new)) }
     ensures halts { IfErr result (λ fault. (start : Schema) (before : History)
@@ -83,11 +84,11 @@ where
 }
 
 /// Returns the program's fault for a server's.
-fn ended(served: Result<(), ServerFault>) -> Result<(), Fault>
+fn ended(served: Result<Served, ServerFault>) -> Result<Served, Fault>
     ensures { result ≡ served_of served }
 {
     match served {
-        Ok(()) => Ok(()),
+        Ok(served) => Ok(served),
         Err(stopped) => Err(server_fault(stopped)),
     }
 }

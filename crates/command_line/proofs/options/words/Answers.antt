@@ -29,6 +29,7 @@ reads_of words texts found taken rows are = record {
     sessions = (first_value-rows found (codes "sessions") ∙ ap (first_of (codes "sessions")) rows) i;
     load = (first_value-rows found (codes "load") ∙ ap (first_of (codes "load")) rows) i;
     exports = (first_value-rows found (codes "export") ∙ ap (first_of (codes "export")) rows) i;
+    dump = (first_value-rows found (codes "dump") ∙ ap (first_of (codes "dump")) rows) i;
   });
 }
 
