@@ -6,3 +6,5 @@ mod ReplayParts
 mod ServerParts
 mod ProgramRun
 mod ProgramEnding
+mod DumpedParts
+mod DumpedTaken

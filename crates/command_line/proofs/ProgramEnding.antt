@@ -1,18 +1,20 @@
 -- What the program's parts leave, one after another.
 use Rattle.std.proofs.Common.{◌≡◌, ℕ, List, Option, Some, None, true, false, refl, sym, subst, inl, inr}
-use Rattle.std.specs.Prelude.{Result, Ok, Err, IfErr, OnOk}
+use Rattle.std.specs.Prelude.{Result, Ok, Err, IfErr, IfOk}
 use Rattle.std.proofs.KnownBytes.{Keeps-refl}
 use Rattle.clap.specs.Words.{Text}
 use Rattle.values.specs.Tables.{Schema}
 use Rattle.steps.specs.Idle.{is_idle}
 use Rattle.histories.specs.History.{History, has_open}
 use Rattle.interleaving.specs.SystemState.{SystemState, Stands}
+use Rattle.command_line.specs.declared.dumped.Left.{Left}
 use Rattle.command_line.specs.declared.options.Options.{Options}
 use Rattle.command_line.specs.declared.options.WordsFault.{WordsFault}
 use Rattle.command_line.specs.declared.fault.Fault.{Fault}
 use Rattle.command_line.specs.declared.fault.Fault.TheVariants.{Words, SchemaSyntax, BadTable, SchemaMemory, NoExport, After, AfterOpen, Load, Read, Write, Socket, NotClosed, Memory}
 use Rattle.command_line.specs.Fault.{is_of_words}
 use Rattle.command_line.specs.Options.{AskedMode, Gives, Refuses, asked_of}
+use Rattle.command_line.specs.Dumped.{HasLeft, IsLeftBy}
 use Rattle.command_line.specs.Export.{HasExported, Unexported}
 use Rattle.command_line.specs.Load.{IsLed, Unloaded}
 use Rattle.command_line.specs.Replay.{HasReplayed, IsAfter, IsNotAfter}
@@ -22,15 +24,22 @@ use Rattle.command_line.proofs.FaultKinds.{of_words}
 -- ---- the script, then the export
 
 module _ (script : Option Text) (number : Option ℕ) (system s : SystemState) (unread left old mid new : Option (List ℕ)) (ran : (first : Schema) (h : History) → Stands first system h → HasRun script first h s unread left old mid) where
-  pub ran_on : ((first : Schema) (h : History) → Stands first s h → HasExported first number h mid new)
-      → (first : Schema) (h : History) → Stands first system h → HasRunOn script number first h unread left old new
-  ran_on exported first h at =
+  pub ran_on : (leaves : Left) → ((first : Schema) (h : History) → Stands first s h → IsLeftBy first h leaves)
+      → ((first : Schema) (h : History) → Stands first s h → HasExported first number h mid new)
+      → (first : Schema) (h : History) → Stands first system h → HasLeft first leaves (λ end. HasRunOn script number first h end unread left old new)
+  ran_on leaves left_by exported first h at =
       let x = ran first h at in
+      let stands = subst (Stands first s) (sym x.end_is) x.run.stands in
       record {
-        s = s;
-        between = mid;
-        ran = x;
-        exported = exported first x.end (subst (Stands first s) (sym x.end_is) x.run.stands);
+        end = x.end;
+        came_to = record {
+          s = s;
+          between = mid;
+          ran = x;
+          end_is = refl;
+          exported = exported first x.end stands;
+        };
+        left_by = left_by first x.end stands;
       }
 
   pub halts_late : (fault : Fault) → ((first : Schema) (h : History) → Stands first s h → Unexported fault first number h mid new)
@@ -46,14 +55,19 @@ module _ (script : Option Text) (number : Option ℕ) (system s : SystemState) (
 
 -- ---- the load before them
 
-pub ran_loaded : {A : Type 0} (r : Result A Fault) (load script : Option Text) (number : Option ℕ) (system s : SystemState) (unread left old mid new : Option (List ℕ))
+pub ran_loaded : (r : Result Left Fault) (load script : Option Text) (number : Option ℕ) (system s : SystemState) (unread left old mid new : Option (List ℕ))
     → ((first : Schema) (before : History) → Stands first system before → IsLed first load before s old mid)
-    → OnOk r ((first : Schema) (h : History) → Stands first s h → HasRunOn script number first h unread left mid new)
-    → OnOk r ((first : Schema) (before : History) → Stands first system before → HasRunLoaded load script number first before unread left old new)
+    → IfOk r (λ leaves. (first : Schema) (h : History) → Stands first s h → HasLeft first leaves (λ end. HasRunOn script number first h end unread left mid new))
+    → IfOk r (λ leaves. (first : Schema) (before : History) → Stands first system before → HasLeft first leaves (λ end. HasRunLoaded load script number first before end unread left old new))
 ran_loaded (Err e) load script number system s unread left old mid new led ran = tt
 ran_loaded (Ok u) load script number system s unread left old mid new led ran = λ first before at.
     let x = led first before at in
-    record { later = x.later; between = mid; loaded = x.loaded; rest = ran first x.later x.stands }
+    let y = ran first x.later x.stands in
+    record {
+      end = y.end;
+      came_to = record { later = x.later; between = mid; loaded = x.loaded; rest = y.came_to };
+      left_by = y.left_by;
+    }
 
 pub halts_loaded : {A : Type 0} (r : Result A Fault) (load script : Option Text) (number : Option ℕ) (system s : SystemState) (unread left old mid new : Option (List ℕ))
     → ((first : Schema) (before : History) → Stands first system before → IsLed first load before s old mid)
@@ -76,13 +90,19 @@ idle_after : (schema : Schema) (after : Option Text) (before : History) → HasR
 idle_after schema None before none = subst (λ h. is_idle (has_open h) ≡ true) (sym none) refl
 idle_after schema (Some file) before so = so.1.idle
 
-pub ran_all : {A : Type 0} (r : Result A Fault) (mode : AskedMode) (after load : Option Text) (number : Option ℕ) (schema : Schema) (s : SystemState) (unread left old new : Option (List ℕ))
+pub ran_all : (r : Result Left Fault) (mode : AskedMode) (after load : Option Text) (number : Option ℕ) (schema : Schema) (s : SystemState) (unread left old new : Option (List ℕ))
     → IsAfter schema after s
-    → OnOk r ((first : Schema) (before : History) → Stands first s before → is_idle (has_open before) ≡ true → HasRunMode mode load number first before unread left old new)
-    → OnOk r (HasRunAll mode after load number schema unread left old new)
+    → IfOk r (λ leaves. (first : Schema) (before : History) → Stands first s before → is_idle (has_open before) ≡ true
+    → HasLeft first leaves (λ end. HasRunMode mode load number first before end unread left old new))
+    → IfOk r (λ leaves. HasLeft schema leaves (λ end. HasRunAll mode after load number schema end unread left old new))
 ran_all (Err e) mode after load number schema s unread left old new so ran = tt
 ran_all (Ok u) mode after load number schema s unread left old new so ran =
-    record { before = so.later; replayed = so.replayed; rest = ran schema so.later so.stands (idle_after schema after so.later so.replayed) }
+    let x = ran schema so.later so.stands (idle_after schema after so.later so.replayed) in
+    record {
+      end = x.end;
+      came_to = record { before = so.later; replayed = so.replayed; rest = x.came_to };
+      left_by = x.left_by;
+    }
 
 pub halts_all : {A : Type 0} (r : Result A Fault) (mode : AskedMode) (after load : Option Text) (number : Option ℕ) (schema : Schema) (s : SystemState) (unread left old new : Option (List ℕ))
     → IsAfter schema after s

@@ -58,8 +58,3 @@ of_server server.Write = Write
 of_server (server.Listen listen.Socket) = Socket
 of_server (server.Listen listen.Memory) = Memory
 of_server (server.Listen listen.NotClosed) = NotClosed
-
--- what a server comes to: a fault is reported as it is
-abbrev pub served_of : {S : Type 0} → Result S ServerFault → Result S Fault
-served_of (Ok done) = Ok done
-served_of (Err stopped) = Err (of_server stopped)

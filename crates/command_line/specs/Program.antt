@@ -12,6 +12,7 @@ use Rattle.statement.specs.Line.{line_says}
 use Rattle.statement.specs.Writer.{AppendsPrefix}
 use Rattle.listening.specs.declared.server.Plan.{Plan}
 use Rattle.sessions.specs.book.Book.{BookState}
+use Rattle.dump_reading.specs.Replayed.{IsTakenAgain}
 use Rattle.scripts.specs.Script.{IsIdle}
 use Rattle.scripts.specs.Transcript.{IsRunAfter, IsCutAfter, IsStoppedAfter, leaves_after}
 use Rattle.command_line.specs.declared.fault.Fault.{Fault}
@@ -84,11 +85,12 @@ Leaves fault script schema h unread left old new = ⊥
 
 -- ---- the script and then the export
 
-pub record HasRunOn (script : Option Text) (number : Option ℕ) (schema : Schema) (h : History)
+pub record HasRunOn (script : Option Text) (number : Option ℕ) (schema : Schema) (h end : History)
     (unread left old new : Option (List ℕ)) : Type 0 where
   pub s : SystemState
   pub between : Option (List ℕ)
   pub ran : HasRun script schema h s unread left old between
+  pub end_is : end ≡ ran.end
   pub exported : HasExported schema number ran.end between new
 
 -- a fault of the export
@@ -108,11 +110,11 @@ HaltsOn fault script number schema h unread left old new =
 -- ---- the load before them
 
 pub record HasRunLoaded (load script : Option Text) (number : Option ℕ) (schema : Schema)
-    (before : History) (unread left old new : Option (List ℕ)) : Type 0 where
+    (before end : History) (unread left old new : Option (List ℕ)) : Type 0 where
   pub later : History
   pub between : Option (List ℕ)
   pub loaded : HasLoaded schema load before later old between
-  pub rest : HasRunOn script number schema later unread left between new
+  pub rest : HasRunOn script number schema later end unread left between new
 
 -- a fault of the load: nothing was read of standard input
 pub record HaltsEarly (fault : Fault) (load : Option Text) (schema : Schema) (before : History)
@@ -138,12 +140,13 @@ HaltsAfter fault load script number schema before unread left old new =
 abbrev pub plan_of : (port sessions : ℕ) → Option ℕ → Plan
 plan_of port sessions number = record { port = port; sessions = sessions; export = number }
 
-abbrev pub HasRunMode : AskedMode → Option Text → Option ℕ → Schema → History
+abbrev pub HasRunMode : AskedMode → Option Text → Option ℕ → Schema → (before end : History)
     → (unread left old new : Option (List ℕ)) → Type 0
-HasRunMode (Scripts script) load number schema before unread left old new =
-    HasRunLoaded load script number schema before unread left old new
-HasRunMode (Listens port sessions) load number schema before unread left old new =
-    (b : BookState) × HasServedAll load (plan_of port sessions number) schema before b unread left old new
+HasRunMode (Scripts script) load number schema before end unread left old new =
+    HasRunLoaded load script number schema before end unread left old new
+HasRunMode (Listens port sessions) load number schema before end unread left old new =
+    (b : BookState)
+    × HasServedAll load (plan_of port sessions number) schema before end b unread left old new
 
 abbrev pub HaltsMode : Fault → AskedMode → Option Text → Option ℕ → Schema → History
     → (unread left old new : Option (List ℕ)) → Type 0
@@ -154,11 +157,12 @@ HaltsMode fault (Listens port sessions) load number schema before unread left ol
 
 -- ---- the replay before all else
 
+-- all of it was done, which came to this history
 pub record HasRunAll (mode : AskedMode) (after load : Option Text) (number : Option ℕ)
-    (schema : Schema) (unread left old new : Option (List ℕ)) : Type 0 where
+    (schema : Schema) (end : History) (unread left old new : Option (List ℕ)) : Type 0 where
   pub before : History
   pub replayed : HasReplayed schema after before
-  pub rest : HasRunMode mode load number schema before unread left old new
+  pub rest : HasRunMode mode load number schema before end unread left old new
 
 pub record HaltsReplayed (fault : Fault) (mode : AskedMode) (after load : Option Text)
     (number : Option ℕ) (schema : Schema) (unread left old new : Option (List ℕ)) : Type 0 where
@@ -181,7 +185,8 @@ pub record IsUndumped (fault : Fault) (asked : Asked) (number : Option ℕ) (sch
   pub file : Text
   pub dump_is : asked.dump ≡ Some file
   pub why : IsOfWriting fault
-  pub ran : HasRunAll asked.mode asked.after asked.load number schema unread left old new
+  pub end : History
+  pub ran : HasRunAll asked.mode asked.after asked.load number schema end unread left old new
 
 abbrev pub HaltsOrUndumped : Fault → Asked → Option ℕ → Schema
     → (unread left old new : Option (List ℕ)) → Type 0
@@ -195,7 +200,8 @@ pub record HasDone (asked : Asked) (schema : Schema) (unread left old new : Opti
     : Type 0 where
   pub number : Option ℕ
   pub exports : Exports schema asked.exports number
-  pub ran : HasRunAll asked.mode asked.after asked.load number schema unread left old new
+  pub end : History
+  pub ran : HasRunAll asked.mode asked.after asked.load number schema end unread left old new
 
 -- there is no table to be exported: nothing was read or written
 pub record HasNoExport (fault : Fault) (asked : Asked) (schema : Schema)
@@ -250,10 +256,13 @@ IsAnswered words unread left old new = Keeps unread left × HasAnswered words ol
 abbrev pub IsHalfAnswered : List Text → (unread left old new : Option (List ℕ)) → Type 0
 IsHalfAnswered words unread left old new = Keeps unread left × HasHalfAnswered words old new
 
+-- what is asked for was done; and the dump of the history that it came to is taken before a later run
+-- over the same schema, and leaves that history's tables and transactions
 pub record IsComplete (asked : Asked) (unread left old new : Option (List ℕ)) : Type 0 where
   pub schema : Schema
   pub schema_is : IsSchemaOf asked.schema schema
   pub did : HasDone asked schema unread left old new
+  pub again : IsTakenAgain schema did.end
 
 pub record IsRun (words : List Text) (unread left old new : Option (List ℕ)) : Type 0 where
   pub asked : Asked

@@ -1,17 +1,16 @@
 //! What was committed, as a script in a file.
 ghost use Rattle.std.specs.Prelude.{◌≡◌, IfErr, OnOk};
 ghost use Rattle.std.specs.Io.KnownBytes.{Appends};
-ghost use Rattle.values.specs.Law.{IsLog};
-ghost use Rattle.values.specs.Log.{Log};
+ghost use Rattle.histories.specs.History.{History, log, schema_after};
 ghost use Rattle.dumping.specs.DumpText.{dump_text};
-ghost use Rattle.dumping.specs.History.{HoldsLog};
-ghost use Rattle.restoring.specs.FromChanges.{AreNets};
-ghost use Rattle.command_line.specs.Dumped.{tree_of};
+ghost use Rattle.command_line.specs.Dumped.{IsLeftBy, tree_of};
 ghost use Rattle.command_line.specs.Export.{IsOfWriting};
 
 use crate::fault::{Fault, dump_fault};
 use crate::output::flush;
 use dumping::dump;
+use histories::log_only_grows;
+use restoring::histories_are_of_changes;
 use sessions::{Closed, Engine};
 use std::alloc::Global;
 use std::fs;
@@ -49,19 +48,21 @@ impl Store {
     }
 }
 
-/// Writes the script that leaves it again, over the first tables, and passes it on.
+/// Writes the script that leaves it again, over the first tables, and passes it on: the dump of each
+/// history that left it.
 fn print_dump<W: Write>(
     alloc: Global,
     writer: &mut W,
     first: &Schema,
     left: &Left,
 ) -> Result<(), Fault>
-    ensures ok { OnOk result ((log : Log) → IsLog log → AreNets log
-        → HoldsLog left.now.tables (tree_of left.now.store) log
+    ensures ok { OnOk result ((h : History) → IsLeftBy first.now h left.now
         → Appends (W.contents writer.old) (W.contents writer.new)
-        (dump_text first.now left.now.tables log)) }
+        (dump_text first.now (schema_after first.now h) (log first.now h))) }
     ensures err { IfErr result IsOfWriting }
 {
+    log_only_grows();
+    histories_are_of_changes();
     match dump(
         alloc,
         writer,
@@ -110,14 +111,15 @@ fn may_be_put<R: Files>(rt: &R, path: &str) -> bool {
     }
 }
 
-/// Writes the script to a file beside the one that is named, and puts it in its place when it is
-/// whole: at a fault before that the file is what it was, and there is none beside it.
+/// Writes the script of what a history left to a file beside the one that is named, and puts it in its
+/// place when it is whole: at a fault before that the file is what it was, and there is none beside it.
 pub fn dump_to<R: AllocGlobal + Files>(
     rt: &R,
     path: &str,
     first: &Schema,
     left: &Left,
 ) -> Result<(), Fault>
+    requires left { (h : History) × IsLeftBy first.now h left.now }
     ensures { IfErr result IsOfWriting }
 {
     let Ok(part) = format!(in rt.alloc(); "{path}.part") else {

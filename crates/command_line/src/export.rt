@@ -84,6 +84,7 @@ fn export_versions<O: Write>(
     ensures err { IfErr result (λ fault. (first : Schema) (h : History)
         → Stands first system.old h → Unexported fault first (Some number) h
         (O.contents out.old) (O.contents out.new)) }
+    ensures tables { OnOk result (system.new.schema ≡ system.old.schema) }
     ensures tree { system.new.engine ≡ system.old.engine }
 {
     let shown = match versions_of(alloc, system, number) {
@@ -109,6 +110,7 @@ pub fn export_table<O: Write>(
     ensures err { IfErr result (λ fault. (first : Schema) (h : History)
         → Stands first system.old h
         → Unexported fault first number h (O.contents out.old) (O.contents out.new)) }
+    ensures tables { OnOk result (system.new.schema ≡ system.old.schema) }
     ensures tree { system.new.engine ≡ system.old.engine }
 {
     match number {

@@ -5,9 +5,11 @@ ghost use Rattle.clap.specs.Words.{IsAmong, Text, kind_of};
 ghost use Rattle.values.specs.Tables.{Schema};
 ghost use Rattle.steps.specs.Idle.{is_idle};
 ghost use Rattle.histories.specs.History.{History, has_open};
-ghost use Rattle.interleaving.specs.SystemState.{Stands};
+ghost use Rattle.interleaving.specs.SystemState.{Stands, changes_in};
 ghost use Rattle.listening.specs.Server.{IsExportOf};
-ghost use Rattle.command_line.specs.Dumped.{tree_of};
+ghost use Rattle.sessions.specs.staging.View.{Holds};
+ghost use Rattle.sessions.specs.tsbtree.View.{events};
+ghost use Rattle.command_line.specs.Dumped.{HasLeft, tree_of};
 ghost use Rattle.command_line.specs.Options.{Refuses, asked_of, faults, mode_of};
 ghost use Rattle.command_line.specs.Program.{Halts, HaltsAfter, HaltsAt, HaltsMode, HaltsOn, HaltsOrUndumped, HasAnswered, HasDone, HasRun, HasRunAll, HasRunLoaded, HasRunMode, HasRunOn, IsComplete, IsDone, IsFaulty, IsRefused, IsStuck, IsUnanswered, IsUnshown, Leaves};
 ghost use Rattle.command_line.specs.Fault.{is_of_words, outcome_of};
@@ -23,8 +25,9 @@ use crate::replay::store_after;
 use crate::schema_file::schema_of;
 use crate::server::run_server;
 use clap::error::ErrorKind;
+use dump_reading::{dumps_are_replayed, histories_can_be_read};
 use interleaving::System;
-use listening::{Plan, Served};
+use listening::Plan;
 use scripts::{RunFault, run_script_in};
 use std::alloc::Global;
 use std::convert::AsStr;
@@ -187,6 +190,8 @@ where
         (I.remaining reader.old) (I.remaining reader.new)
         (O.contents out.old) (O.contents out.new)) }
 {
+    histories_can_be_read();
+    dumps_are_replayed();
     match schema_of(rt, options.schema) {
         Ok(schema) => run_over(rt, options, reader, out, schema),
         Err(fault) => Err(fault),
@@ -245,8 +250,8 @@ where
     I: Read,
     O: Write,
     requires export { IsExportOf schema number }
-    ensures done { OnOk result (HasRunAll (asked_of options.entry).mode
-        (asked_of options.entry).after (asked_of options.entry).load number schema
+    ensures done { OnOk result ((end : History) × HasRunAll (asked_of options.entry).mode
+        (asked_of options.entry).after (asked_of options.entry).load number schema end
         (I.remaining reader.old) (I.remaining reader.new)
         (O.contents out.old) (O.contents out.new)) }
     ensures halts { IfErr result (λ fault. HaltsOrUndumped fault (asked_of options.entry) number
@@ -288,10 +293,11 @@ where
     I: Read,
     O: Write,
     requires export { IsExportOf schema number }
-    ensures done { OnOk result (HasRunAll (asked_of options.entry).mode
-        (asked_of options.entry).after (asked_of options.entry).load number schema
+    ensures done { IfOk result (λ left. HasLeft schema left (λ end.
+        HasRunAll (asked_of options.entry).mode
+        (asked_of options.entry).after (asked_of options.entry).load number schema end
         (I.remaining reader.old) (I.remaining reader.new)
-        (O.contents out.old) (O.contents out.new)) }
+        (O.contents out.old) (O.contents out.new))) }
     ensures halts { IfErr result (λ fault. HaltsAt fault (asked_of options.entry).mode
         (asked_of options.entry).after (asked_of options.entry).load number schema
         (I.remaining reader.old) (I.remaining reader.new)
@@ -325,11 +331,12 @@ where
     O: Write,
     requires known { (first : Schema) × (before : History) × Stands first system before
         × IsExportOf first number }
-    ensures done { OnOk result ((first : Schema) (before : History) → Stands first system before
-        → is_idle (has_open before) ≡ true
-        → HasRunMode (mode_of mode.entry) (option_map (λ text. text.now) text.entry) number
-        first before (I.remaining reader.old) (I.remaining reader.new)
-        (O.contents out.old) (O.contents out.new)) }
+    ensures done { IfOk result (λ left. (first : Schema) (before : History)
+        → Stands first system before → is_idle (has_open before) ≡ true
+        → HasLeft first left (λ end. HasRunMode (mode_of mode.entry)
+        (option_map (λ text. text.now) text.entry) number first before end
+        (I.remaining reader.old) (I.remaining reader.new)
+        (O.contents out.old) (O.contents out.new))) }
     ensures halts { IfErr result (λ fault. (first : Schema) (before : History)
         → Stands first system before → is_idle (has_open before) ≡ true
         → HaltsMode fault (mode_of mode.entry) (option_map (λ text. text.now) text.entry) number
@@ -344,13 +351,7 @@ where
                 sessions,
                 export: number,
             };
-            match run_server(rt, text, plan, reader, out, system) {
-                Ok(Served { tables, closed }) => Ok(Left {
-                    tables,
-                    store: Store::Closed(closed),
-                }),
-                Err(fault) => Err(fault),
-            }
+            run_server(rt, text, plan, reader, out, system)
         }
     }
 }
@@ -365,11 +366,12 @@ fn run_loaded<R: AllocGlobal + Files, I: Read, O: Write>(
     out: &mut O,
     system: System,
 ) -> Result<Left, Fault>
-    ensures done { OnOk result ((first : Schema) (before : History) → Stands first system before
-        → HasRunLoaded (option_map (λ text. text.now) text.entry)
-        (option_map (λ text. text.now) file.entry) number first before
+    ensures done { IfOk result (λ left. (first : Schema) (before : History)
+        → Stands first system before → HasLeft first left (λ end. HasRunLoaded
+        (option_map (λ text. text.now) text.entry)
+        (option_map (λ text. text.now) file.entry) number first before end
         (I.remaining reader.old) (I.remaining reader.new)
-        (O.contents out.old) (O.contents out.new)) }
+        (O.contents out.old) (O.contents out.new))) }
     ensures halts { IfErr result (λ fault. (first : Schema) (before : History)
         → Stands first system before
         → HaltsAfter fault (option_map (λ text. text.now) text.entry)
@@ -393,10 +395,10 @@ fn run_on<R: AllocGlobal + Files, I: Read, O: Write>(
     out: &mut O,
     system: System,
 ) -> Result<Left, Fault>
-    ensures done { OnOk result ((first : Schema) (h : History) → Stands first system h
-        → HasRunOn (option_map (λ text. text.now) file.entry) number first h
-        (I.remaining reader.old) (I.remaining reader.new)
-        (O.contents out.old) (O.contents out.new)) }
+    ensures done { IfOk result (λ left. (first : Schema) (h : History) → Stands first system h
+        → HasLeft first left (λ end. HasRunOn (option_map (λ text. text.now) file.entry) number
+        first h end (I.remaining reader.old) (I.remaining reader.new)
+        (O.contents out.old) (O.contents out.new))) }
     ensures halts { IfErr result (λ fault. (first : Schema) (h : History) → Stands first system h
         → HaltsOn fault (option_map (λ text. text.now) file.entry) number first h
         (I.remaining reader.old) (I.remaining reader.new)
@@ -416,6 +418,8 @@ fn run_on<R: AllocGlobal + Files, I: Read, O: Write>(
 fn left_by(system: System) -> Left
     ensures tables { result.tables ≡ system.schema }
     ensures tree { tree_of result.store ≡ system.engine }
+    ensures holds { Holds system.schema system.engine
+        (changes_in system.schema (events system.engine)) }
 {
     let (tables, engine) = system.into_parts();
     Left {

@@ -2,14 +2,17 @@
 ghost use Rattle.std.specs.Prelude.{◌≡◌, IfOk, IfErr, OnOk, option_map, true};
 ghost use Rattle.values.specs.Tables.{Schema};
 ghost use Rattle.steps.specs.Idle.{is_idle};
-ghost use Rattle.histories.specs.History.{History, has_open, schema_after};
+ghost use Rattle.histories.specs.History.{History, has_open};
 ghost use Rattle.interleaving.specs.SystemState.{Stands};
 ghost use Rattle.listening.specs.Server.{IsExportOf};
-ghost use Rattle.command_line.specs.Fault.{served_of};
-ghost use Rattle.command_line.specs.Server.{HaltsServing, HasServedAll, IsFirst, IsNoFirst};
+ghost use Rattle.sessions.specs.book.Book.{BookState};
+ghost use Rattle.command_line.specs.Dumped.{HasLeft};
+ghost use Rattle.command_line.specs.Server.{HaltsServing, HasServedAll, IsFirst, IsNoFirst, left_of};
 
+use crate::dumped::{Left, Store};
 use crate::fault::{Fault, server_fault};
 use crate::load::rows_for;
+use dump_reading::histories_can_be_read;
 use interleaving::System;
 use listening::{Plan, Served, ServerFault, TableRows, serve};
 use std::io::{Read, Write};
@@ -41,7 +44,7 @@ fn first_of<R: AllocGlobal + Files>(
 }
 
 /// Serves connections round a store that begins with what a system has come to, and exports a table
-/// of it at the end, if one is to be. Returns the closed store. Standard input is not read.
+/// of it at the end, if one is to be. Returns what it leaves. Standard input is not read.
 pub fn run_server<R, I, O>(
     rt: &R,
     text: Option<&str>,
@@ -49,7 +52,7 @@ pub fn run_server<R, I, O>(
     reader: &mut I,
     out: &mut O,
     system: System,
-) -> Result<Served, Fault>
+) -> Result<Left, Fault>
 where
     R: AllocGlobal
         + Files
@@ -62,18 +65,19 @@ where
     O: Write,
     requires known { (start : Schema) × (before : History) × Stands start system before
         × IsExportOf start plan.export }
-    ensures done { IfOk result (λ served. (start : Schema) (before : History)
+    ensures done { IfOk result (λ left. (start : Schema) (before : History)
         → Stands start system before → is_idle (has_open before) ≡ true
-        → (served.tables ≡ schema_after start before)
-        × HasServedAll (option_map (λ text. text.now) text.entry) plan start before served.closed
+        → HasLeft start left (λ end. (b : BookState)
+        × HasServedAll (option_map (λ text. text.now) text.entry) plan start before end b
         (I.remaining reader.old) (I.remaining reader.new)
-        (O.contents out.old) (O.contents out.new)) }
+        (O.contents out.old) (O.contents out.new))) }
     ensures halts { IfErr result (λ fault. (start : Schema) (before : History)
         → Stands start system before → is_idle (has_open before) ≡ true
         → HaltsServing fault (option_map (λ text. text.now) text.entry) plan start before
         (I.remaining reader.old) (I.remaining reader.new)
         (O.contents out.old) (O.contents out.new)) }
 {
+    histories_can_be_read();
     // Nothing is read of it.
     let _reader = reader;
     let first = match first_of(rt, text, system.schema()) {
@@ -83,12 +87,15 @@ where
     ended(serve(rt, rt.alloc(), out, system, first, plan))
 }
 
-/// Returns the program's fault for a server's.
-fn ended(served: Result<Served, ServerFault>) -> Result<Served, Fault>
-    ensures { result ≡ served_of served }
+/// Returns what a server leaves, or the program's fault for the server's.
+fn ended(served: Result<Served, ServerFault>) -> Result<Left, Fault>
+    ensures { result ≡ left_of served }
 {
     match served {
-        Ok(served) => Ok(served),
+        Ok(Served { tables, closed }) => Ok(Left {
+            tables,
+            store: Store::Closed(closed),
+        }),
         Err(stopped) => Err(server_fault(stopped)),
     }
 }

@@ -7,6 +7,8 @@ mod ReadableHistoriesSample
 mod ReadableHistoriesLogs
 mod ReadableHistoriesLeft
 mod ReadableHistoriesLoaded
+mod ReadableRunsSteps
+mod ReadableRunsLeft
 mod ReplayedPieces
 mod ReplayedLines
 mod ReplayedLengths

@@ -1,4 +1,5 @@
 pub mod Readable
 pub mod ReadableHistories
+pub mod ReadableRuns
 pub mod Replayed
 pub mod WorkedDumpText

@@ -1,5 +1,6 @@
 //! That a dump is read as its steps.
 ghost use Rattle.dump_reading.specs.ReadableHistories.{AskedStepsAreReadable, GrownTablesAreReadable, LoadedRowsAreReadable, LogsAreReadable, ReadSchemasAreReadable, ReplaysLeaveReadable, SampleIsReadable, ScriptsLeaveReadable, ServedStepsAreReadable};
+ghost use Rattle.dump_reading.specs.ReadableRuns.{ServedRunsKeepTables, ServedRunsLeaveReadable};
 ghost use Rattle.dump_reading.specs.Replayed.{DumpsAreReplayed, HistoriesAreTakenAgain};
 ghost use Rattle.dump_reading.specs.WorkedDumpText.{BrokenTextIsRefused, ChangedTextLeavesAnother, WorkedTextIsReplayed, WorkedTextIsTheDump};
 
@@ -18,8 +19,9 @@ pub fn dumps_are_replayed()
 }
 
 /// States that a schema that was read is readable, as is the one where none is declared, and that
-/// the steps that lines ask for are, the rows of a file of CSV, and so what a script leaves. With such
-/// steps the tables stay readable, and what is committed can be printed.
+/// the steps that lines ask for are, the rows of a file of CSV, and so what a script leaves, and a
+/// served run, which adds no column. With such steps the tables stay readable, and what is committed
+/// can be printed.
 pub fn histories_can_be_read()
     ensures schemas { ReadSchemasAreReadable }
     ensures sample { SampleIsReadable }
@@ -28,6 +30,8 @@ pub fn histories_can_be_read()
     ensures loaded { LoadedRowsAreReadable }
     ensures replayed { ReplaysLeaveReadable }
     ensures scripts { ScriptsLeaveReadable }
+    ensures runs { ServedRunsLeaveReadable }
+    ensures kept { ServedRunsKeepTables }
     ensures tables { GrownTablesAreReadable }
     ensures logs { LogsAreReadable }
 {}

@@ -15,3 +15,10 @@ other false status P words faulty e = faulty refl
 
 pub returns-in-Err-clause-fault : goal.returns-in-Err-clause-fault
 returns-in-Err-clause-fault g c = other (is_of_words c.in-Err.fault) c.tell.result _ c.tell.ensures.words c.in-Err.ensures.fault
+
+none_done : (of_words : Bool) (status : ℕ) (P : Type 0) → (of_words ≡ true → status ≡ 2) → (of_words ≡ false → status ≡ 1) → status ≡ 0 → P
+none_done true status P words faulty e = absurd (omega (arith, words refl, e))
+none_done false status P words faulty e = absurd (omega (arith, faulty refl, e))
+
+pub returns-in-Err-clause-done : goal.returns-in-Err-clause-done
+returns-in-Err-clause-done g c = none_done (is_of_words c.in-Err.fault) c.tell.result _ c.tell.ensures.words c.tell.ensures.other

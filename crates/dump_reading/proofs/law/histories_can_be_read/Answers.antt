@@ -5,6 +5,7 @@ use Rattle.dump_reading.proofs.ReadableHistoriesSample as sample
 use Rattle.dump_reading.proofs.ReadableHistoriesSchemas as schemas
 use Rattle.dump_reading.proofs.ReadableHistoriesSteps as steps
 use Rattle.dump_reading.proofs.ReadableHistoriesTables as tables
+use Rattle.dump_reading.proofs.ReadableRunsLeft as runs
 use Rattle.dump_reading.proofs.law.histories_can_be_read.Goals as goal
 
 pub returns-clause-schemas : goal.returns-clause-schemas
@@ -27,6 +28,12 @@ returns-clause-replayed c = left.replays_leave_readable
 
 pub returns-clause-scripts : goal.returns-clause-scripts
 returns-clause-scripts c = left.scripts_leave_readable
+
+pub returns-clause-runs : goal.returns-clause-runs
+returns-clause-runs c = runs.served_runs_leave_readable
+
+pub returns-clause-kept : goal.returns-clause-kept
+returns-clause-kept c = runs.served_runs_keep_tables
 
 pub returns-clause-tables : goal.returns-clause-tables
 returns-clause-tables c = tables.grown_tables_are_readable
