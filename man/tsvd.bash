@@ -26,8 +26,8 @@ _tsvd() {
     fi
     case $before in
     --schema | --after | --script | --dump) mapfile -t COMPREPLY < <(compgen -f -- "$word") ;;
-    --listen | --sessions | --export | --load) COMPREPLY=() ;;
-    *) mapfile -t COMPREPLY < <(compgen -W "--schema --after --script --listen --sessions --load --export --dump --help --version" -- "$word") ;;
+    --listen | --sessions | --connections | --entries | --idle | --export | --load) COMPREPLY=() ;;
+    *) mapfile -t COMPREPLY < <(compgen -W "--schema --after --script --listen --sessions --connections --entries --idle --load --export --dump --help --version" -- "$word") ;;
     esac
 }
 complete -o filenames -F _tsvd tsvd

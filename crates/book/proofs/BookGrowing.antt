@@ -19,7 +19,7 @@ use Rattle.journal.specs.declared.entry.Entry.{Entry}
 use Rattle.journal.specs.declared.entry.Entry.TheVariants.{Begin, Commit, Install}
 use Rattle.journal.specs.Entries.{Entries, start_of, log, has_entry_of, has_ended, is_open}
 use Rattle.journal.specs.Legal.{IsLegal, MayFollow}
-use Rattle.book.specs.Book.{BookState, IsBook, most_entries, earlier_in, begin_entry, commit_entry}
+use Rattle.book.specs.Book.{BookState, IsBook, earlier_in, begin_entry, commit_entry}
 use Rattle.book.specs.Ending.{instant_of, ran_out, IsEnd, IsWritten}
 use Rattle.book.proofs.BookNaming.{IsFound, found, fresh, none_ahead}
 
@@ -60,7 +60,7 @@ may_begin o b session number is = record {
   names = names_is b.entries session number;
 }
 
-pub begun : (o : Origin) (b : BookState) (session number : ℕ) → IsBook o b → length b.entries < most_entries → IsBook o (book b.engine (begin_entry b session number ∷ b.entries))
+pub begun : (o : Origin) (b : BookState) (session number : ℕ) → IsBook o b → length b.entries < o.most_entries → IsBook o (book b.engine (begin_entry b session number ∷ b.entries))
 begun o b session number is few = record {
   legal = (may_begin o b session number is, is.legal);
   tree = is.tree;
@@ -71,7 +71,7 @@ begun o b session number is few = record {
 
 -- ---- an install
 
-pub was_installed : (o : Origin) (b : BookState) (new : TreeState) (packed : Packed) (done : Bool) → IsBook o b → HoldsSame b.engine new → IsState new.nodes (view_last new) → length b.entries < most_entries
+pub was_installed : (o : Origin) (b : BookState) (new : TreeState) (packed : Packed) (done : Bool) → IsBook o b → HoldsSame b.engine new → IsState new.nodes (view_last new) → length b.entries < o.most_entries
     → IsBook o (book new (Install packed.node.rect packed.bytes done ∷ b.entries))
 was_installed o b new packed done is same sound few = record {
   legal = (tt, is.legal);
@@ -82,7 +82,7 @@ was_installed o b new packed done is same sound few = record {
 }
 
 -- as the calls tell it
-pub with_install : (o : Origin) (b : BookState) (new : TreeState) (packed : Packed) (done : Bool) (put : Entry) (made grown : Entries) → IsBook o b → HoldsSame b.engine new → IsState new.nodes (view_last new) → length b.entries < most_entries
+pub with_install : (o : Origin) (b : BookState) (new : TreeState) (packed : Packed) (done : Bool) (put : Entry) (made grown : Entries) → IsBook o b → HoldsSame b.engine new → IsState new.nodes (view_last new) → length b.entries < o.most_entries
     → made ≡ b.entries → put ≡ Install packed.node.rect packed.bytes done → grown ≡ put ∷ made → IsBook o (book new grown)
 with_install o b new packed done put made grown is holds sound few same entry grows =
     subst (λ j. IsBook o (book new j)) (sym (grows ∙ (λ k. entry k ∷ same k))) (was_installed o b new packed done is holds sound few)
@@ -127,7 +127,7 @@ module _ (o : Origin) (b : BookState) (session reading : ℕ) (begun : BegunStat
       (λ k. elim (start_of (f.there k)) [ None ↦ log o b.entries | Some start ↦ after (periods_of o.schema) (log o b.entries) start net reading ])
       ∙ (λ k. after (periods_of o.schema) (log o b.entries) (f.start_is k) net reading)
 
-  pub committed : (new : TreeState) → AreKeysIn o.schema net → IsWritten b.engine new net (instant_of how) → IsState new.nodes (view_last new) → length b.entries < most_entries
+  pub committed : (new : TreeState) → AreKeysIn o.schema net → IsWritten b.engine new net (instant_of how) → IsState new.nodes (view_last new) → length b.entries < o.most_entries
       → IsBook o (book new (commit_entry o b session begun net reading ∷ b.entries))
   committed new keys written sound few =
       let fits : Fits o.schema new (log o (commit_entry o b session begun net reading ∷ b.entries)) =
@@ -169,7 +169,7 @@ module _ (o : Origin) (b : BookState) (session reading : ℕ) (begun : BegunStat
   pub commit_fresh : (j : Entries) → j ≡ b.entries → has_ended (entry ∷ j) (length j + 1) ≡ false
   commit_fresh j same = fresh_as o b.entries j (commit_entry o b session begun net reading) entry is.legal (may_commit o b session reading begun net is (found b.entries session begun here)) same commit_entry_is
 
-  pub commit_grows : (new : TreeState) (changed : Net) (instant : Option ℕ) (j grown : Entries) → changed ≡ net → instant ≡ instant_of end → IsWritten b.engine new changed instant → IsState new.nodes (view_last new) → length b.entries < most_entries
+  pub commit_grows : (new : TreeState) (changed : Net) (instant : Option ℕ) (j grown : Entries) → changed ≡ net → instant ≡ instant_of end → IsWritten b.engine new changed instant → IsState new.nodes (view_last new) → length b.entries < o.most_entries
       → j ≡ b.entries → grown ≡ entry ∷ j → IsBook o (book new grown)
   commit_grows new changed instant j grown twice at written sound few same grows =
       subst (λ j. IsBook o (book new j)) (sym (grows ∙ (λ k. commit_entry_is k ∷ same k)))

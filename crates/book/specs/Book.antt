@@ -23,17 +23,14 @@ pub record BookState : Type 0 where
   pub engine : TreeState
   pub entries : Entries
 
--- the entries that a journal may hold
-abbrev pub most_entries : ℕ
-most_entries = 1000000
-
--- the journal is legal, the tree is sound and holds what its log changed, and the clock is at its last instant
+-- the journal is legal and has no more entries than it may have, the tree is sound and holds what its log changed, and
+-- the clock is at its last instant
 pub record IsBook (o : Origin) (b : BookState) : Type 0 where
   pub legal : IsLegal o b.entries
   pub tree : IsState b.engine.nodes (view_last b.engine)
   pub holds : Holds o.schema b.engine (changes (log o b.entries))
   pub clock : view_last b.engine ≡ last (log o b.entries)
-  pub room : length b.entries ≤ most_entries
+  pub room : length b.entries ≤ o.most_entries
 
 -- the number, where an entry of the session has it, or else 0
 abbrev pub earlier_in : Entries → ℕ → ℕ → ℕ

@@ -3,7 +3,7 @@ ghost use Rattle.std.specs.Prelude.{◌≡◌, ◌<◌, [], Err, IfOk, OnErr, le
 ghost use Rattle.values.specs.Memory.{OnlyMemory};
 ghost use Rattle.values.specs.declared.refusal.Refusal.TheVariants.{JournalFull};
 ghost use Rattle.journal.specs.declared.entry.Entry.TheVariants.{Begin};
-ghost use Rattle.book.specs.Book.{Adds, IsBook, OnlyRoom, begin_entry, begun_now, most_entries};
+ghost use Rattle.book.specs.Book.{Adds, IsBook, OnlyRoom, begin_entry, begun_now};
 
 use crate::book::{Book, twice};
 use crate::refusal::{BookRefusal, make_room};
@@ -35,13 +35,13 @@ impl<J: StoreName> Book<J> {
             o.transaction ≡ record { view = self.old.engine; writes = [] }) }
         ensures engine { self.new.engine ≡ self.old.engine }
         ensures book { IsBook J.origin self.new }
-        ensures full { length self.old.entries ≡ most_entries
+        ensures full { length self.old.entries ≡ J.origin.most_entries
             → result ≡ Err JournalFull }
-        ensures room { length self.old.entries < most_entries → OnlyMemory result }
+        ensures room { length self.old.entries < J.origin.most_entries → OnlyMemory result }
         ensures why { OnlyRoom result }
         ensures refused { OnErr result (self.new ≡ self.old) }
     {
-        make_room(&mut self.journal)?;
+        make_room(&mut self.journal, self.most_entries)?;
         let earlier = if self.journal.has_entry_of(session, earlier) {
             earlier
         } else {

@@ -20,6 +20,8 @@ pub struct Book<J: StoreName> {
     pub(crate) alloc: Global,
     pub(crate) engine: Engine,
     pub(crate) journal: Journal<J>,
+    pub(crate) most_entries: usize,
+    pub(crate) ghost most_is: { most_entries ≡ J.origin.most_entries },
 }
 
 impl<J: StoreName> Model for Book<J> {
@@ -34,8 +36,15 @@ impl<J: StoreName> Model for Book<J> {
 }
 
 impl<J: StoreName> Book<J> {
-    /// Makes the book of a store that begins with what this engine has: nothing has happened to it yet.
-    pub fn over(alloc: Global, engine: Engine, opened: NewLog<SharedEntry>) -> Book<J>
+    /// Makes the book of a store that begins with what this engine has, whose journal may have so many
+    /// entries: nothing has happened to it yet.
+    pub fn over(
+        alloc: Global,
+        engine: Engine,
+        most_entries: usize,
+        opened: NewLog<SharedEntry>,
+    ) -> Book<J>
+        requires most { most_entries ≡ J.origin.most_entries }
         requires log { opened.seen.book ≡ J.book }
         requires holds { Holds J.origin.schema engine (changes J.origin.log) }
         requires clock { last engine ≡ last_of J.origin.log }
@@ -48,6 +57,7 @@ impl<J: StoreName> Book<J> {
             alloc,
             engine,
             journal: Journal::new(alloc, opened),
+            most_entries,
         }
     }
 

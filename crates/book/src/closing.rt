@@ -73,6 +73,7 @@ impl<J: StoreName> Book<J> {
             alloc: _alloc,
             engine,
             journal,
+            most_entries: _,
         } = self;
         Closed {
             engine,
@@ -86,6 +87,7 @@ impl<J: StoreName> Book<J> {
             alloc: _,
             engine: _,
             journal,
+            most_entries: _,
         } = self;
         journal.give_up(receipts)
     }

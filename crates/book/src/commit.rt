@@ -5,7 +5,7 @@ ghost use Rattle.values.specs.Memory.{OnlyMemory};
 ghost use Rattle.values.specs.declared.refusal.Refusal.TheVariants.{JournalFull, NoTransaction};
 ghost use Rattle.validation.specs.treenodes.History.{KeepsHistory};
 ghost use Rattle.journal.specs.Entries.{is_open};
-ghost use Rattle.book.specs.Book.{Adds, IsBook, OnlyRoom, commit_entry, most_entries};
+ghost use Rattle.book.specs.Book.{Adds, IsBook, OnlyRoom, commit_entry};
 ghost use Rattle.book.specs.Ending.{IsEnd, IsWritten, MayBeWritten, instant_of, ran_out};
 
 use crate::book::{Book, twice};
@@ -41,14 +41,14 @@ impl<J: StoreName> Book<J> {
         ensures none { is_open self.old.entries session begun.now ≡ false
             → result ≡ Err NoTransaction }
         ensures full { is_open self.old.entries session begun.now ≡ true
-            → length self.old.entries ≡ most_entries → result ≡ Err JournalFull }
+            → length self.old.entries ≡ J.origin.most_entries → result ≡ Err JournalFull }
         ensures room { is_open self.old.entries session begun.now ≡ true
-            → length self.old.entries < most_entries → OnlyMemory result }
+            → length self.old.entries < J.origin.most_entries → OnlyMemory result }
         ensures why { is_open self.old.entries session begun.now ≡ true → OnlyRoom result }
         ensures refused { OnErr result (self.new ≡ self.old) }
     {
         find_open(&self.journal, session, begun)?;
-        make_room(&mut self.journal)?;
+        make_room(&mut self.journal, self.most_entries)?;
         let end = ending(&self.engine, schema, begun.start(), &changes, reading)?;
         let instant = instant_of(&end);
         let entry = Entry::Commit {

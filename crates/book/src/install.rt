@@ -5,7 +5,7 @@ ghost use Rattle.values.specs.declared.refusal.Refusal.TheVariants.{JournalFull}
 ghost use Rattle.validation.specs.treenodes.History.{KeepsPast};
 ghost use Rattle.validation.specs.tsbtree.Growth.{HoldsSame};
 ghost use Rattle.journal.specs.declared.entry.Entry.TheVariants.{Install};
-ghost use Rattle.book.specs.Book.{Adds, IsBook, IsInstallEntry, OnlyRoom, most_entries};
+ghost use Rattle.book.specs.Book.{Adds, IsBook, IsInstallEntry, OnlyRoom};
 ghost use Rattle.book.specs.Outcomes.{entry_of};
 
 use crate::book::{Book, twice};
@@ -28,13 +28,13 @@ impl<J: StoreName> Book<J> {
         ensures same { HoldsSame self.old.engine self.new.engine }
         ensures past { KeepsPast self.old.engine.nodes self.new.engine.nodes }
         ensures book { IsBook J.origin self.new }
-        ensures full { length self.old.entries ≡ most_entries
+        ensures full { length self.old.entries ≡ J.origin.most_entries
             → result ≡ Err JournalFull }
-        ensures room { length self.old.entries < most_entries → OnlyMemory result }
+        ensures room { length self.old.entries < J.origin.most_entries → OnlyMemory result }
         ensures why { OnlyRoom result }
         ensures refused { OnErr result (self.new ≡ self.old) }
     {
-        make_room(&mut self.journal)?;
+        make_room(&mut self.journal, self.most_entries)?;
         let outcomes = install_outcomes(self.alloc, &packed)?;
         let is_done = self.engine.install(packed)?;
         // Who asks for the tree knows that it is sound.

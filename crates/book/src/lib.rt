@@ -14,6 +14,6 @@ pub use begin::Opening;
 pub use book::Book;
 pub use closing::Closed;
 pub use journal::{Begun, Entry, JournalGone, Receipt, SharedEntry};
-pub use refusal::{BookRefusal, MOST_ENTRIES};
+pub use refusal::BookRefusal;
 pub use transaction::{BlockCache, OpenTransaction, listing_of};
 pub use validation::{Cut, Engine, Job, KeyedNet, Net, PackedNode, View, find_job, pack_job};

@@ -1,7 +1,6 @@
 //! The entries of a step of which it is known only afterwards whether it is done.
-ghost use Rattle.std.specs.Prelude.{◌≡◌, ◌<◌, ◌+◌, ◌∷◌, Bool, false, length};
+ghost use Rattle.std.specs.Prelude.{◌≡◌, ◌<◌, ◌^◌, ◌+◌, ◌∷◌, Bool, false, length};
 ghost use Rattle.journal.specs.Entries.{has_ended};
-ghost use Rattle.book.specs.Book.{most_entries};
 ghost use Rattle.book.specs.Outcomes.{entry_of};
 
 use growlog::StoreName;
@@ -26,7 +25,7 @@ pub(crate) fn note<J: StoreName>(
     requires left { outcomes.left.1 ≡ outcomes.left.0 }
     requires fresh { (done : Bool) → has_ended (entry_of outcomes done ∷ journal.old.entries)
         (length journal.old.entries + 1) ≡ false }
-    requires few { length journal.old.entries < most_entries }
+    requires short { length journal.old.entries < 2 ^ 62 }
     ensures entries { journal.new.entries ≡ entry_of outcomes is_done ∷ journal.old.entries }
     ensures number { result.number ≡ length journal.new.entries }
     ensures entry { result.entry ≡ entry_of outcomes is_done }

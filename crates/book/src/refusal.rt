@@ -1,9 +1,9 @@
 //! Why a book refuses a call.
-ghost use Rattle.std.specs.Prelude.{◌≡◌, ◌<◌, Err, IsTrue, OnErr, OnOk, false, length, true};
+ghost use Rattle.std.specs.Prelude.{◌≡◌, ◌<◌, ◌^◌, Err, IsTrue, OnErr, OnOk, false, length, true};
 ghost use Rattle.values.specs.Memory.{OnlyMemory};
 ghost use Rattle.values.specs.declared.refusal.Refusal.TheVariants.{JournalFull, NoTransaction};
 ghost use Rattle.journal.specs.Entries.{is_open};
-ghost use Rattle.book.specs.Book.{OnlyRoom, most_entries};
+ghost use Rattle.book.specs.Book.{OnlyRoom};
 ghost use Rattle.book.specs.Refusal.{is_full, is_not_open};
 
 use growlog::StoreName;
@@ -12,8 +12,8 @@ use std::alloc::AllocError;
 use std::marker::Model;
 use values::Refusal;
 
-/// The entries that a journal may hold.
-pub const MOST_ENTRIES: usize = 1_000_000;
+/// More entries than any memory has room for.
+const TOO_MANY: usize = 1 << 62;
 
 /// Why a book refused a call. Contracts see the refusal. One that says that the journal is full, or that
 /// a transaction is not open, is made here alone, where that was found: whoever has it was told so by a
@@ -92,20 +92,28 @@ impl From<Refusal> for BookRefusal {
     }
 }
 
-/// Makes room for one more entry. `JournalFull` where there is no room. Where it is refused the entries
-/// are what they were.
-pub(crate) fn make_room<J: StoreName>(journal: &mut Journal<J>) -> Result<(), BookRefusal>
+/// Makes room for one more entry of so many that there may be. `JournalFull` where there is no room. Where
+/// it is refused the entries are what they were.
+pub(crate) fn make_room<J: StoreName>(
+    journal: &mut Journal<J>,
+    most: usize,
+) -> Result<(), BookRefusal>
+    requires { most ≡ J.origin.most_entries }
     ensures ok { OnOk result (0 < journal.new.room) }
-    ensures few { OnOk result (length journal.old.entries < most_entries) }
+    ensures few { OnOk result (length journal.old.entries < J.origin.most_entries) }
+    ensures short { OnOk result (length journal.old.entries < 2 ^ 62) }
     ensures same { journal.new.entries ≡ journal.old.entries }
-    ensures full { length journal.old.entries ≡ most_entries → result ≡ Err JournalFull }
-    ensures room { length journal.old.entries < most_entries → OnlyMemory result }
+    ensures full { length journal.old.entries ≡ J.origin.most_entries → result ≡ Err JournalFull }
+    ensures room { length journal.old.entries < J.origin.most_entries → OnlyMemory result }
     ensures why { OnlyRoom result }
 {
-    if journal.len() >= MOST_ENTRIES {
+    if journal.len() >= most {
         return Err(BookRefusal {
             why: Refusal::JournalFull,
         });
+    }
+    if journal.len() >= TOO_MANY {
+        return Err(BookRefusal::from(AllocError));
     }
     journal.reserve()?;
     Ok(())

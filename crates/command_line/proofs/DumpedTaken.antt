@@ -10,6 +10,7 @@ use Rattle.histories.specs.Led.{led}
 use Rattle.sessions.specs.book.Book.{BookState}
 use Rattle.serving.specs.Progress.{Given}
 use Rattle.statement.specs.GrammarLaw.{ArePlain}
+use Rattle.listening.specs.declared.server.Plan.{Plan}
 use Rattle.listening.specs.declared.server.TableRows.{TableRows}
 use Rattle.listening.specs.Server.{IsRunAfter}
 use Rattle.dump_reading.specs.ReadableHistories.{IsReadableHistory, IsReadableSchema, LoadedRowsAreReadable, ReadSchemasAreReadable, ReplaysLeaveReadable, SampleIsReadable, ScriptsLeaveReadable}
@@ -17,7 +18,7 @@ use Rattle.dump_reading.specs.ReadableRuns.{ServedRunsLeaveReadable}
 use Rattle.dump_reading.specs.Replayed.{HistoriesAreTakenAgain, IsTakenAgain}
 use Rattle.command_line.specs.Load.{FileSays, HasLoaded, steps_of}
 use Rattle.command_line.specs.Options.{Asked, AskedMode, Listens, Scripts}
-use Rattle.command_line.specs.Program.{HasDone, HasRunAll, HasRunMode, HasRunOn, IsComplete, IsSchemaOf}
+use Rattle.command_line.specs.Program.{HasDone, HasRunAll, HasRunMode, HasRunOn, IsComplete, IsSchemaOf, plan_of}
 use Rattle.command_line.specs.Replay.{HasReplayed}
 use Rattle.command_line.specs.Server.{IsEndOf, IsFirst}
 
@@ -65,20 +66,20 @@ module _ (readings : Readings) where
       same : (a b : TableRows) → ◌≡◌ {A = Option TableRows} (Some b) (Some a) → a ≡ b
       same a b is = cc
 
-  readable_run : (start : Schema) (before end : History) (load : Option Text) (sessions : ℕ) (first : Option TableRows) (receipts : List Given) (b : BookState)
-      (run : IsRunAfter start before sessions first receipts b) → IsFirst (schema_after start before) load first → IsEndOf start before sessions first receipts b run end → IsReadableHistory before → IsReadableHistory end
-  readable_run start before end load sessions None receipts b run is ends readable =
-      subst IsReadableHistory (sym ends) (readings.runs start before b 0 [] run.history.dialogues run.history.events run.history.history tt readable)
-  readable_run start before end load sessions (Some rows) receipts b run is ends readable =
+  readable_run : (start : Schema) (before end : History) (load : Option Text) (plan : Plan) (first : Option TableRows) (receipts : List Given) (b : BookState)
+      (run : IsRunAfter start before plan first receipts b) → IsFirst (schema_after start before) load first → IsEndOf start before plan first receipts b run end → IsReadableHistory before → IsReadableHistory end
+  readable_run start before end load plan None receipts b run is ends readable =
+      subst IsReadableHistory (sym ends) (readings.runs start before plan.entries b 0 [] run.history.dialogues run.history.events run.history.history tt readable)
+  readable_run start before end load plan (Some rows) receipts b run is ends readable =
       subst IsReadableHistory (sym ends)
-      (readings.runs start before b rows.number rows.rows.items run.history.dialogues run.history.events run.history.history (plain_first (schema_after start before) load rows is) readable)
+      (readings.runs start before plan.entries b rows.number rows.rows.items run.history.dialogues run.history.events run.history.history (plain_first (schema_after start before) load rows is) readable)
 
   readable_mode : (mode : AskedMode) (load : Option Text) (number : Option ℕ) (schema : Schema) (before end : History) (unread left old new : Option (List ℕ)) → HasRunMode mode load number schema before end unread left old new
       → IsReadableHistory before → IsReadableHistory end
   readable_mode (Scripts script) load number schema before end unread left old new so readable =
       readable_script script number schema so.later end unread left so.between new so.rest (readable_load schema load before so.later old so.between so.loaded readable)
-  readable_mode (Listens port sessions) load number schema before end unread left old new (b, so) readable =
-      readable_run schema before end load sessions so.first so.served.receipts b so.served.run so.first_is so.ends readable
+  readable_mode (Listens port limit entries idle) load number schema before end unread left old new (b, so) readable =
+      readable_run schema before end load (plan_of port limit entries idle number) so.first so.served.receipts b so.served.run so.first_is so.ends readable
 
   pub is_taken_again : HistoriesAreTakenAgain → (file : Option Text) (mode : AskedMode) (after load : Option Text) (number : Option ℕ) (schema : Schema) (end : History) (unread left old new : Option (List ℕ)) → IsSchemaOf file schema
       → HasRunAll mode after load number schema end unread left old new → IsTakenAgain schema end

@@ -22,6 +22,7 @@ use Rattle.listening.specs.declared.server.Plan.{Plan}
 use Rattle.listening.specs.declared.server.Served.{Served}
 use Rattle.listening.specs.declared.server.ServerFault.{ServerFault}
 use Rattle.listening.specs.declared.server.TableRows.{TableRows}
+use Rattle.listening.specs.Connection.{HasRead}
 use Rattle.listening.specs.Server.{HasServed, HasStopped, IsExportOf, IsRunAfter}
 use Rattle.command_line.specs.declared.dumped.Left.{Left}
 use Rattle.command_line.specs.declared.fault.Fault.{Fault}
@@ -44,24 +45,24 @@ exports_on s start before stands (Some n) there =
 
 -- ---- what a run of sessions comes to
 
-record Ended (start : Schema) (before : History) (sessions : ℕ) (first : Option TableRows) (receipts : List Given) (b : BookState) (run : IsRunAfter start before sessions first receipts b) : Type 0 where
+record Ended (start : Schema) (before : History) (plan : Plan) (first : Option TableRows) (receipts : List Given) (b : BookState) (run : IsRunAfter start before plan first receipts b) : Type 0 where
   end : History
-  ends : IsEndOf start before sessions first receipts b run end
+  ends : IsEndOf start before plan first receipts b run end
   tables_stay : schema_after start end ≡ schema_after start before
   log_is : log_from (periods_of (schema_after start before)) (log start before) b.entries ≡ log start end
 
-run_ends : ServedRunsKeepTables → (start : Schema) (before : History) (sessions : ℕ) (first : Option TableRows) (receipts : List Given) (b : BookState) (run : IsRunAfter start before sessions first receipts b)
-    → Ended start before sessions first receipts b run
-run_ends keep start before sessions None receipts b run = record {
+run_ends : ServedRunsKeepTables → (start : Schema) (before : History) (plan : Plan) (first : Option TableRows) (receipts : List Given) (b : BookState) (run : IsRunAfter start before plan first receipts b)
+    → Ended start before plan first receipts b run
+run_ends keep start before plan None receipts b run = record {
   end = history_after before run.history.events;
   ends = refl;
-  tables_stay = keep start before b 0 [] run.history.dialogues run.history.events run.history.history;
+  tables_stay = keep start before plan.entries b 0 [] run.history.dialogues run.history.events run.history.history;
   log_is = run.history.history.log_is;
 }
-run_ends keep start before sessions (Some rows) receipts b run = record {
+run_ends keep start before plan (Some rows) receipts b run = record {
   end = history_after before run.history.events;
   ends = refl;
-  tables_stay = keep start before b rows.number rows.rows.items run.history.dialogues run.history.events run.history.history;
+  tables_stay = keep start before plan.entries b rows.number rows.rows.items run.history.dialogues run.history.events run.history.history;
   log_is = run.history.history.log_is;
 }
 
@@ -83,13 +84,13 @@ module _ (s : SystemState) (load : Option Text) (plan : Plan) (unread old : Opti
       → HaltsServing fault load plan start before unread unread old old
   no_first fault none start before stands idle = inl (subst (IsNoFirst fault load) stands.schema_is none, record { read = Keeps-refl unread; wrote = Keeps-refl old })
 
-  module _ (first : Option TableRows) (first_is : IsFirst s.schema load first) (new : Option (List ℕ)) (r : Result Served ServerFault) (x : Result Left Fault) (is : x ≡ left_of r) where
+  module _ (first : Option TableRows) (first_is : IsFirst s.schema load first) (left new : Option (List ℕ)) (read : HasRead plan.limit unread left) (r : Result Served ServerFault) (x : Result Left Fault) (is : x ≡ left_of r) where
     abbrev Done : Left → Type 0
-    Done left = (start : Schema) (before : History) → Stands start s before → is_idle (has_open before) ≡ true
-        → HasLeft start left (λ end. (b : BookState) × HasServedAll load plan start before end b unread unread old new)
+    Done leaves = (start : Schema) (before : History) → Stands start s before → is_idle (has_open before) ≡ true
+        → HasLeft start leaves (λ end. (b : BookState) × HasServedAll load plan start before end b unread left old new)
 
     abbrev Halted : Fault → Type 0
-    Halted fault = (start : Schema) (before : History) → Stands start s before → is_idle (has_open before) ≡ true → HaltsServing fault load plan start before unread unread old new
+    Halted fault = (start : Schema) (before : History) → Stands start s before → is_idle (has_open before) ≡ true → HaltsServing fault load plan start before unread left old new
 
     abbrev WasServed : Served → Type 0
     WasServed served = (start : Schema) (before : History) → Stands start s before → is_idle (has_open before) ≡ true → (served.tables ≡ schema_after start before) × HasServed start before first plan served.closed old new
@@ -101,7 +102,7 @@ module _ (s : SystemState) (load : Option Text) (plan : Plan) (unread old : Opti
         by (Ok served) f = λ start before stands idle.
             let its = f start before stands idle in
             let run = its.1 in
-            let ended = run_ends keep start before plan.sessions first run.receipts served.closed run.run in
+            let ended = run_ends keep start before plan first run.receipts served.closed run.run in
             record {
               end = ended.end;
               came_to = (
@@ -109,7 +110,7 @@ module _ (s : SystemState) (load : Option Text) (plan : Plan) (unread old : Opti
                 record {
                   first = first;
                   first_is = subst (λ schema. IsFirst schema load first) stands.schema_is first_is;
-                  read = Keeps-refl unread;
+                  read = read;
                   served = run;
                   ends = ended.ends;
                 },
@@ -129,7 +130,7 @@ module _ (s : SystemState) (load : Option Text) (plan : Plan) (unread old : Opti
         by (Err why) f = λ start before stands idle. inr (record {
           first = first;
           first_is = subst (λ schema. IsFirst schema load first) stands.schema_is first_is;
-          read = Keeps-refl unread;
+          read = read;
           why = why;
           fault_is = refl;
           stopped = f start before stands idle;

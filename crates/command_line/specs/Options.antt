@@ -8,6 +8,8 @@ use Rattle.clap.specs.declared.error.kind.ErrorKind.TheVariants as kind
 use Rattle.steps.specs.Misfit.{max_session}
 use Rattle.statement.specs.Literal.{digits_here}
 use Rattle.interchange.specs.Field.{whole}
+use Rattle.listening.specs.declared.limit.Limit.{Limit}
+use Rattle.listening.specs.declared.limit.Limit.TheVariants.{Sessions, Connections}
 use Rattle.command_line.specs.declared.options.Options.{Options}
 use Rattle.command_line.specs.declared.options.Mode.{Mode}
 use Rattle.command_line.specs.declared.options.Mode.TheVariants.{Script, Listen}
@@ -33,12 +35,14 @@ reading =
 
 -- and with those of a server
 abbrev pub serving : App
-serving = with_rule (with_rule reading (option (codes "listen"))) (option (codes "sessions"))
+serving =
+    with_rule (with_rule (with_rule (with_rule reading (option (codes "listen")))
+    (option (codes "sessions"))) (option (codes "connections"))) (option (codes "entries"))
 
 abbrev pub command : App
 command =
-    with_rule (with_rule (with_rule serving (option (codes "load"))) (option (codes "export")))
-    (option (codes "dump"))
+    with_rule (with_rule (with_rule (with_rule serving (option (codes "idle")))
+    (option (codes "load"))) (option (codes "export"))) (option (codes "dump"))
 
 -- the text of an option, where it has one
 abbrev pub text_of : Text → List Text → Option Text
@@ -56,6 +60,9 @@ pub record AskedTexts : Type 0 where
   pub script : Option Text
   pub listen : Option Text
   pub sessions : Option Text
+  pub connections : Option Text
+  pub entries : Option Text
+  pub idle : Option Text
   pub load : Option Text
   pub exports : Option Text
   pub dump : Option Text
@@ -67,6 +74,9 @@ texts_in words = record {
   script = text_of (codes "script") words;
   listen = text_of (codes "listen") words;
   sessions = text_of (codes "sessions") words;
+  connections = text_of (codes "connections") words;
+  entries = text_of (codes "entries") words;
+  idle = text_of (codes "idle") words;
   load = text_of (codes "load") words;
   exports = text_of (codes "export") words;
   dump = text_of (codes "dump") words;
@@ -79,6 +89,9 @@ texts_of texts = record {
   script = option_map (λ text. text.now) texts.script;
   listen = option_map (λ text. text.now) texts.listen;
   sessions = option_map (λ text. text.now) texts.sessions;
+  connections = option_map (λ text. text.now) texts.connections;
+  entries = option_map (λ text. text.now) texts.entries;
+  idle = option_map (λ text. text.now) texts.idle;
   load = option_map (λ text. text.now) texts.load;
   exports = option_map (λ text. text.now) texts.export;
   dump = option_map (λ text. text.now) texts.dump;
@@ -91,6 +104,9 @@ found_texts found = record {
   script = first_value found (codes "script");
   listen = first_value found (codes "listen");
   sessions = first_value found (codes "sessions");
+  connections = first_value found (codes "connections");
+  entries = first_value found (codes "entries");
+  idle = first_value found (codes "idle");
   load = first_value found (codes "load");
   exports = first_value found (codes "export");
   dump = first_value found (codes "dump");
@@ -98,10 +114,11 @@ found_texts found = record {
 
 -- ---- what they ask for
 
--- a script, that of a file or standard input; or a number of connections at a port
+-- a script, that of a file or standard input; or so many connections at a port, how many entries the journal may
+-- have, and after how many seconds a connection makes room
 pub data AskedMode : Type 0 where
   Scripts : Option Text → AskedMode
-  Listens : (port sessions : ℕ) → AskedMode
+  Listens : (port : ℕ) (limit : Limit) (entries : ℕ) (idle : Option ℕ) → AskedMode
 
 -- decimal digits alone, up to 65535
 abbrev pub port_in : Text → Option ℕ
@@ -115,25 +132,67 @@ positive (Some n) = if n == 0 then None else Some n
 abbrev pub count_in : Text → Option ℕ
 count_in text = positive (whole (digits_here max_session text))
 
-abbrev pub listening : (port sessions : Option ℕ) → Option AskedMode
-listening (Some port) (Some sessions) = Some (Listens port sessions)
-listening None sessions = None
-listening (Some port) None = None
+-- decimal digits alone, from 0 and from 1 to a million
+abbrev pub many_in : Text → Option ℕ
+many_in text = whole (digits_here 1000000 text)
 
--- a port and a number of connections come together, and with no script
-abbrev pub mode_by : (script listen sessions : Option Text) → Option AskedMode
-mode_by script None None = Some (Scripts script)
-mode_by None (Some listen) (Some sessions) = listening (port_in listen) (count_in sessions)
-mode_by (Some script) (Some listen) (Some sessions) = None
-mode_by script (Some listen) None = None
-mode_by script None (Some sessions) = None
+abbrev pub seconds_in : Text → Option ℕ
+seconds_in text = positive (many_in text)
+
+-- one of two numbers
+abbrev pub limit_by : (sessions connections : Option Text) → Option Limit
+limit_by (Some text) None = option_map (λ n. Sessions n) (count_in text)
+limit_by None (Some text) = option_map (λ n. Connections n) (many_in text)
+limit_by None None = None
+limit_by (Some text) (Some other) = None
+
+abbrev pub limit_in : AskedTexts → Option Limit
+limit_in texts = limit_by texts.sessions texts.connections
+
+-- a million entries, or decimal digits alone, from 1 to 1,000,000,000
+abbrev pub entries_by : Option Text → Option ℕ
+entries_by None = Some 1000000
+entries_by (Some text) = positive (whole (digits_here 1000000000 text))
+
+abbrev pub entries_in : AskedTexts → Option ℕ
+entries_in texts = entries_by texts.entries
+
+-- no seconds, or some where there is a number of clients
+abbrev pub idle_by : (idle connections : Option Text) → Option (Option ℕ)
+idle_by None connections = Some None
+idle_by (Some text) (Some other) = option_map (λ n. Some n) (seconds_in text)
+idle_by (Some text) None = None
+
+abbrev pub idle_in : AskedTexts → Option (Option ℕ)
+idle_in texts = idle_by texts.idle texts.connections
+
+abbrev pub listening : (port : Option ℕ) → Option Limit → (entries : Option ℕ) → Option (Option ℕ)
+    → Option AskedMode
+listening (Some port) (Some limit) (Some entries) (Some idle) = Some (Listens port limit entries idle)
+listening None limit entries idle = None
+listening (Some port) None entries idle = None
+listening (Some port) (Some limit) None idle = None
+listening (Some port) (Some limit) (Some entries) None = None
+
+abbrev pub script_by : (script sessions connections entries idle : Option Text) → Option AskedMode
+script_by script None None None None = Some (Scripts script)
+script_by script sessions connections entries idle = None
+
+abbrev pub script_in : AskedTexts → Option AskedMode
+script_in texts = script_by texts.script texts.sessions texts.connections texts.entries texts.idle
+
+-- a port, and no script; or no word of a server
+abbrev pub mode_by : AskedTexts → (script listen : Option Text) → Option AskedMode
+mode_by texts script None = script_in texts
+mode_by texts None (Some listen) = listening (port_in listen) (limit_in texts) (entries_in texts) (idle_in texts)
+mode_by texts (Some script) (Some listen) = None
 
 abbrev pub mode_in : AskedTexts → Option AskedMode
-mode_in texts = mode_by texts.script texts.listen texts.sessions
+mode_in texts = mode_by texts texts.script texts.listen
 
 abbrev pub mode_of : Mode → AskedMode
 mode_of (Script file) = Scripts (option_map (λ text. text.now) file)
-mode_of (Listen port sessions) = Listens port sessions
+mode_of (Listen port limit entries idle) = Listens port limit entries idle
 
 -- what is asked for: the schema's file, what is run, and the texts of the other four options
 pub record Asked : Type 0 where

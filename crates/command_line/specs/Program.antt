@@ -10,6 +10,7 @@ use Rattle.histories.specs.History.{History}
 use Rattle.interleaving.specs.SystemState.{SystemState}
 use Rattle.statement.specs.Line.{line_says}
 use Rattle.statement.specs.Writer.{AppendsPrefix}
+use Rattle.listening.specs.declared.limit.Limit.{Limit}
 use Rattle.listening.specs.declared.server.Plan.{Plan}
 use Rattle.sessions.specs.book.Book.{BookState}
 use Rattle.dump_reading.specs.Replayed.{IsTakenAgain}
@@ -137,23 +138,24 @@ HaltsAfter fault load script number schema before unread left old new =
 
 -- ---- what is asked for, after a history
 
-abbrev pub plan_of : (port sessions : ℕ) → Option ℕ → Plan
-plan_of port sessions number = record { port = port; sessions = sessions; export = number }
+abbrev pub plan_of : (port : ℕ) → Limit → (entries : ℕ) → (idle number : Option ℕ) → Plan
+plan_of port limit entries idle number =
+    record { port = port; limit = limit; entries = entries; idle = idle; export = number }
 
 abbrev pub HasRunMode : AskedMode → Option Text → Option ℕ → Schema → (before end : History)
     → (unread left old new : Option (List ℕ)) → Type 0
 HasRunMode (Scripts script) load number schema before end unread left old new =
     HasRunLoaded load script number schema before end unread left old new
-HasRunMode (Listens port sessions) load number schema before end unread left old new =
+HasRunMode (Listens port limit entries idle) load number schema before end unread left old new =
     (b : BookState)
-    × HasServedAll load (plan_of port sessions number) schema before end b unread left old new
+    × HasServedAll load (plan_of port limit entries idle number) schema before end b unread left old new
 
 abbrev pub HaltsMode : Fault → AskedMode → Option Text → Option ℕ → Schema → History
     → (unread left old new : Option (List ℕ)) → Type 0
 HaltsMode fault (Scripts script) load number schema before unread left old new =
     HaltsAfter fault load script number schema before unread left old new
-HaltsMode fault (Listens port sessions) load number schema before unread left old new =
-    HaltsServing fault load (plan_of port sessions number) schema before unread left old new
+HaltsMode fault (Listens port limit entries idle) load number schema before unread left old new =
+    HaltsServing fault load (plan_of port limit entries idle number) schema before unread left old new
 
 -- ---- the replay before all else
 

@@ -1,6 +1,5 @@
 -- What a run that serves connections leaves.
 use Rattle.std.specs.Prelude.{◌≡◌, ◌⊎◌, ℕ, List, Option, Some, None, Result, Ok, Err}
-use Rattle.std.specs.Io.KnownBytes.{Keeps}
 use Rattle.clap.specs.Words.{Text}
 use Rattle.values.specs.Tables.{Schema}
 use Rattle.histories.specs.History.{History, schema_after}
@@ -9,6 +8,7 @@ use Rattle.listening.specs.declared.server.Plan.{Plan}
 use Rattle.listening.specs.declared.server.TableRows.{TableRows}
 use Rattle.listening.specs.declared.server.Served.{Served}
 use Rattle.listening.specs.declared.server.ServerFault.{ServerFault}
+use Rattle.listening.specs.Connection.{HasRead}
 use Rattle.listening.specs.Server.{HasServed, HasStopped, IsRunAfter}
 use Rattle.runs.specs.Event.{history_after}
 use Rattle.serving.specs.Progress.{Given}
@@ -35,23 +35,23 @@ left_of (Ok served) = Ok (left_by served)
 left_of (Err stopped) = Err (of_server stopped)
 
 -- the history of a run of sessions
-abbrev pub IsEndOf : (start : Schema) (before : History) (sessions : ℕ) (first : Option TableRows)
-    (receipts : List Given) (b : BookState) → IsRunAfter start before sessions first receipts b
+abbrev pub IsEndOf : (start : Schema) (before : History) (plan : Plan) (first : Option TableRows)
+    (receipts : List Given) (b : BookState) → IsRunAfter start before plan first receipts b
     → (end : History) → Type 0
-IsEndOf start before sessions None receipts b run end =
+IsEndOf start before plan None receipts b run end =
     end ≡ history_after before run.history.events
-IsEndOf start before sessions (Some rows) receipts b run end =
+IsEndOf start before plan (Some rows) receipts b run end =
     end ≡ history_after before run.history.events
 
--- nothing was read of standard input, and after a history a server was served to its end, which is this
--- history
+-- after a history a server was served to its end, which is this history; of standard input nothing was read
+-- where the server has a limit
 pub record HasServedAll (load : Option Text) (plan : Plan) (start : Schema) (before end : History)
     (b : BookState) (unread left old new : Option (List ℕ)) : Type 0 where
   pub first : Option TableRows
   pub first_is : IsFirst (schema_after start before) load first
-  pub read : Keeps unread left
+  pub read : HasRead plan.limit unread left
   pub served : HasServed start before first plan b old new
-  pub ends : IsEndOf start before plan.sessions first served.receipts b served.run end
+  pub ends : IsEndOf start before plan first served.receipts b served.run end
 
 -- there are no rows for the text of --load
 abbrev pub IsNoFirst : Fault → Option Text → Schema → Type 0
@@ -63,7 +63,7 @@ pub record StopsServing (fault : Fault) (load : Option Text) (plan : Plan) (star
     (before : History) (unread left old new : Option (List ℕ)) : Type 0 where
   pub first : Option TableRows
   pub first_is : IsFirst (schema_after start before) load first
-  pub read : Keeps unread left
+  pub read : HasRead plan.limit unread left
   pub why : ServerFault
   pub fault_is : fault ≡ of_server why
   pub stopped : HasStopped why start before first plan old new

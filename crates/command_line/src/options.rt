@@ -1,11 +1,12 @@
 //! The words of the command line, which `clap` reads.
 ghost use Rattle.std.specs.Prelude.{◌≡◌, ◌↔◌, IfOk, IfErr, IfSome, IsTrue, None, Some, codes, false, map, option_map, List};
 ghost use Rattle.clap.specs.Words.{HasKind, Text, app_of, found_of, rule_of};
-ghost use Rattle.command_line.specs.Options.{Gives, HasFile, Reads, Refuses, bare, command, count_in, faults, found_texts, listening, mode_in, mode_of, option, port_in, reading, serving, texts_of};
+ghost use Rattle.command_line.specs.Options.{Gives, HasFile, Reads, Refuses, bare, command, count_in, entries_by, entries_in, faults, found_texts, idle_in, limit_in, listening, many_in, mode_in, mode_of, option, port_in, reading, script_in, seconds_in, serving, texts_of};
 
 use clap::error::ErrorKind;
 use clap::{Arg, ArgMatches, Command};
 use interchange::whole_within;
+use listening::Limit;
 use std::alloc::{AllocError, Global};
 use std::convert::AsStr;
 use steps::MAX_SESSION;
@@ -47,6 +48,8 @@ A value is a number, a 'text', TRUE, FALSE or NULL.\n\
 \n\
 With --listen each connection to 127.0.0.1 is a session, and its lines are statements alone, such as BEGIN.\n\
 The port is printed as 'listening PORT'. When --sessions connections have come and ended, the server ends.\n\
+With --connections in its place NUMBER clients come and end, of which 64 are served at once while 128 more\n\
+wait; with 0 as many as come, until standard input ends or the journal is full. What sends no line is no client.\n\
 \n\
 Status:\n  \
 0  done, help among it; a line that is refused has its refusal as its reply\n  \
@@ -63,11 +66,27 @@ const BOTH: &str =
     "error: --script and --listen exclude each other\n\nFor more information, try '--help'.\n";
 
 /// What is said where there is a port, and no number of connections.
-const NO_SESSIONS: &str =
-    "error: --listen needs --sessions\n\nFor more information, try '--help'.\n";
+const NO_LIMIT: &str =
+    "error: --listen needs --sessions or --connections\n\nFor more information, try '--help'.\n";
+
+/// What is said where there are two numbers of connections.
+const BOTH_LIMITS: &str =
+    "error: --sessions and --connections exclude each other\n\nFor more information, try '--help'.\n";
 
 /// What is said where there is a number of connections, and no port.
 const NO_LISTEN: &str = "error: --sessions needs --listen\n\nFor more information, try '--help'.\n";
+
+/// What is said where there is a number of clients, and no port.
+const NO_LISTEN_FOR_CLIENTS: &str =
+    "error: --connections needs --listen\n\nFor more information, try '--help'.\n";
+
+/// What is said where clients are to make room, and there is no number of them.
+const NO_CONNECTIONS: &str =
+    "error: --idle needs --connections\n\nFor more information, try '--help'.\n";
+
+/// What is said where there is a number of entries, and no port.
+const NO_LISTEN_FOR_ENTRIES: &str =
+    "error: --entries needs --listen\n\nFor more information, try '--help'.\n";
 
 /// What is said of a port that is none.
 const NO_PORT: &str =
@@ -77,19 +96,47 @@ const NO_PORT: &str =
 const NO_COUNT: &str =
     "error: --sessions takes a number, 1 to 64\n\nFor more information, try '--help'.\n";
 
+/// What is said of a number of clients that is none.
+const NO_MANY: &str =
+    "error: --connections takes a number, 0 to 1000000\n\nFor more information, try '--help'.\n";
+
+/// What is said of a number of seconds that is none.
+const NO_SECONDS: &str =
+    "error: --idle takes a number of seconds, 1 to 1000000\n\nFor more information, try '--help'.\n";
+
+/// What is said of a number of entries that is none.
+const NO_ENTRIES: &str =
+    "error: --entries takes a number, 1 to 1000000000\n\nFor more information, try '--help'.\n";
+
 /// The greatest port.
 const MAX_PORT: u64 = 65_535;
 
-/// The most connections.
+/// The most sessions.
 const MAX_COUNT: u64 = MAX_SESSION as u64;
+
+/// The most clients, and the most seconds.
+const MAX_MANY: u64 = 1_000_000;
+
+/// The entries that a journal may have where no number of them is given.
+const USUAL_ENTRIES: usize = 1_000_000;
+
+/// The most entries that it may be given.
+const MAX_ENTRIES: u64 = 1_000_000_000;
 
 /// What is run.
 #[derive(Clone, Copy, Debug, PartialEq, Eq)]
 pub enum Mode<'a> {
     /// A script: that of a file, or standard input.
     Script(Option<&'a str>),
-    /// So many connections are served, at a port, or at one that the system chooses where it is 0.
-    Listen { port: u16, sessions: u8 },
+    /// Connections are served, at a port, or at one that the system chooses where it is 0: so many, with
+    /// so many entries in the journal; and while others wait, none that has sent nothing for so many
+    /// seconds.
+    Listen {
+        port: u16,
+        limit: Limit,
+        entries: usize,
+        idle: Option<u32>,
+    },
 }
 
 /// What is asked for.
@@ -117,6 +164,9 @@ struct Texts<'a> {
     script: Option<&'a str>,
     listen: Option<&'a str>,
     sessions: Option<&'a str>,
+    connections: Option<&'a str>,
+    entries: Option<&'a str>,
+    idle: Option<&'a str>,
     load: Option<&'a str>,
     export: Option<&'a str>,
     dump: Option<&'a str>,
@@ -174,18 +224,25 @@ fn serving_command<'a>(alloc: Global) -> Result<Command<'a>, AllocError>
 {
     let listen = "Serves sessions over TCP at this port of 127.0.0.1; 0: one that is free";
     let sessions = "Ends when this many connections, 1 to 64, have come and ended";
+    let connections =
+        "Ends when this many clients, 1 to 1000000, have come and ended; 0: with standard input";
+    let entries = "Has room for this many entries in its journal, 1 to 1000000000; else 1000000";
     reading_command(alloc)?
         .arg(option(alloc, "listen", "PORT", listen))?
-        .arg(option(alloc, "sessions", "NUMBER", sessions))
+        .arg(option(alloc, "sessions", "NUMBER", sessions))?
+        .arg(option(alloc, "connections", "NUMBER", connections))?
+        .arg(option(alloc, "entries", "NUMBER", entries))
 }
 
 fn tsvd<'a>(alloc: Global) -> Result<Command<'a>, AllocError>
     ensures { IfOk result (λ c. app_of c ≡ command) }
 {
+    let idle = "While others wait, ends a connection that sent nothing for this many seconds";
     let load = "First loads the rows of this CSV file in one transaction";
     let export = "Last writes this table with all its versions as CSV";
     let dump = "Last of all writes what was committed to this file, as a script for --after";
     serving_command(alloc)?
+        .arg(option(alloc, "idle", "SECONDS", idle))?
         .arg(option(alloc, "load", "TABLE=FILE", load))?
         .arg(option(alloc, "export", "TABLE", export))?
         .arg(option(alloc, "dump", "FILE", dump))
@@ -200,6 +257,9 @@ fn texts_of<'a>(matches: &ArgMatches<'a>) -> Texts<'a>
         script: matches.get_str("script"),
         listen: matches.get_str("listen"),
         sessions: matches.get_str("sessions"),
+        connections: matches.get_str("connections"),
+        entries: matches.get_str("entries"),
+        idle: matches.get_str("idle"),
         load: matches.get_str("load"),
         export: matches.get_str("export"),
         dump: matches.get_str("dump"),
@@ -239,19 +299,113 @@ fn count_of(text: &str) -> Option<u8>
     }
 }
 
-/// Returns a server's mode by the texts of its two options.
-fn listen_mode<'a>(listen: &str, sessions: &str) -> Result<Mode<'a>, &'static str>
-    ensures ok { IfOk result (λ mode. listening (port_in listen.now) (count_in sessions.now)
-        ≡ Some (mode_of mode)) }
-    ensures err { IfErr result (λ _.
-        listening (port_in listen.now) (count_in sessions.now) ≡ None) }
+fn many_of(text: &str) -> Option<u32>
+    ensures { result ≡ many_in text.now }
 {
-    let Some(port) = port_of(listen) else {
-        return Err(NO_PORT);
+    let many = whole_within(MAX_MANY, text.as_bytes())?;
+    Some(many as u32)
+}
+
+fn seconds_of(text: &str) -> Option<u32>
+    ensures { result ≡ seconds_in text.now }
+{
+    match whole_within(MAX_MANY, text.as_bytes()) {
+        Some(0) => None,
+        Some(seconds) => Some(seconds as u32),
+        None => None,
+    }
+}
+
+/// Returns how many connections are served, by the texts of the two options for it.
+fn limit_of(texts: Texts<'_>) -> Result<Limit, &'static str>
+    ensures ok { IfOk result (λ limit. limit_in (texts_of texts.entry) ≡ Some limit) }
+    ensures err { IfErr result (λ _. limit_in (texts_of texts.entry) ≡ None) }
+{
+    match (texts.sessions, texts.connections) {
+        (Some(sessions), None) => match count_of(sessions) {
+            Some(sessions) => Ok(Limit::Sessions(sessions)),
+            None => Err(NO_COUNT),
+        },
+        (None, Some(connections)) => match many_of(connections) {
+            Some(connections) => Ok(Limit::Connections(connections)),
+            None => Err(NO_MANY),
+        },
+        (None, None) => Err(NO_LIMIT),
+        (Some(_), Some(_)) => Err(BOTH_LIMITS),
+    }
+}
+
+/// Returns how many entries the journal may have, by the text of the option for it, if there is one.
+fn entries_of(text: Option<&str>) -> Option<usize>
+    ensures { result ≡ entries_by (option_map (λ text. text.now) text.entry) }
+{
+    let Some(text) = text else {
+        return Some(USUAL_ENTRIES);
     };
-    match count_of(sessions) {
-        Some(sessions) => Ok(Mode::Listen { port, sessions }),
-        None => Err(NO_COUNT),
+    match whole_within(MAX_ENTRIES, text.as_bytes()) {
+        Some(0) => None,
+        Some(entries) => Some(entries as usize),
+        None => None,
+    }
+}
+
+/// Returns after how many seconds a connection makes room, if any does.
+fn idle_of(texts: Texts<'_>) -> Result<Option<u32>, &'static str>
+    ensures ok { IfOk result (λ idle. idle_in (texts_of texts.entry) ≡ Some idle) }
+    ensures err { IfErr result (λ _. idle_in (texts_of texts.entry) ≡ None) }
+{
+    match (texts.idle, texts.connections) {
+        (None, _) => Ok(None),
+        (Some(idle), Some(_)) => match seconds_of(idle) {
+            Some(seconds) => Ok(Some(seconds)),
+            None => Err(NO_SECONDS),
+        },
+        (Some(_), None) => Err(NO_CONNECTIONS),
+    }
+}
+
+/// Returns a server's mode by the text of its port.
+fn listen_mode<'a>(listen: &str, texts: Texts<'_>) -> Result<Mode<'a>, &'static str>
+    ensures ok { IfOk result (λ mode. listening (port_in listen.now)
+        (limit_in (texts_of texts.entry)) (entries_in (texts_of texts.entry))
+        (idle_in (texts_of texts.entry)) ≡ Some (mode_of mode)) }
+    ensures err { IfErr result (λ _. listening (port_in listen.now)
+        (limit_in (texts_of texts.entry)) (entries_in (texts_of texts.entry))
+        (idle_in (texts_of texts.entry)) ≡ None) }
+{
+    let limit = match limit_of(texts) {
+        Ok(limit) => limit,
+        Err(text) => return Err(text),
+    };
+    let idle = match idle_of(texts) {
+        Ok(idle) => idle,
+        Err(text) => return Err(text),
+    };
+    let Some(entries) = entries_of(texts.entries) else {
+        return Err(NO_ENTRIES);
+    };
+    match port_of(listen) {
+        Some(port) => Ok(Mode::Listen {
+            port,
+            limit,
+            entries,
+            idle,
+        }),
+        None => Err(NO_PORT),
+    }
+}
+
+/// Returns the mode of a script, where no word is one of a server's.
+fn script_mode<'a>(texts: Texts<'a>) -> Result<Mode<'a>, &'static str>
+    ensures ok { IfOk result (λ mode. script_in (texts_of texts.entry) ≡ Some (mode_of mode)) }
+    ensures err { IfErr result (λ _. script_in (texts_of texts.entry) ≡ None) }
+{
+    match (texts.sessions, texts.connections, texts.entries, texts.idle) {
+        (None, None, None, None) => Ok(Mode::Script(texts.script)),
+        (Some(_), _, _, _) => Err(NO_LISTEN),
+        (None, Some(_), _, _) => Err(NO_LISTEN_FOR_CLIENTS),
+        (None, None, Some(_), _) => Err(NO_LISTEN_FOR_ENTRIES),
+        (None, None, None, Some(_)) => Err(NO_CONNECTIONS),
     }
 }
 
@@ -260,12 +414,10 @@ fn mode_of<'a>(texts: Texts<'a>) -> Result<Mode<'a>, &'static str>
     ensures ok { IfOk result (λ mode. mode_in (texts_of texts.entry) ≡ Some (mode_of mode)) }
     ensures err { IfErr result (λ _. mode_in (texts_of texts.entry) ≡ None) }
 {
-    match (texts.script, texts.listen, texts.sessions) {
-        (script, None, None) => Ok(Mode::Script(script)),
-        (None, Some(listen), Some(sessions)) => listen_mode(listen, sessions),
-        (Some(_), Some(_), Some(_)) => Err(BOTH),
-        (_, Some(_), None) => Err(NO_SESSIONS),
-        (_, None, Some(_)) => Err(NO_LISTEN),
+    match (texts.script, texts.listen) {
+        (_, None) => script_mode(texts),
+        (None, Some(listen)) => listen_mode(listen, texts),
+        (Some(_), Some(_)) => Err(BOTH),
     }
 }
 
@@ -303,11 +455,14 @@ fn options_of<'a>(texts: Texts<'a>) -> Result<Options<'a>, WordsFault>
 }
 
 /// Reads the words that follow the program's name: `--schema F`, `--after F`, `--script F`,
-/// `--listen PORT`, `--sessions N`, `--load T=F`, `--export T` and `--dump F`, each at most once.
+/// `--listen PORT`, `--sessions N`, `--connections N`, `--entries N`, `--idle SECONDS`, `--load T=F`,
+/// `--export T` and `--dump F`, each at most once.
 ///
 /// `Clap` if `clap` refuses the words, or they ask for `--help` or `--version`. `Words` if the text
-/// of `--load` has no `=`; if one of `--listen` and `--sessions` is given without the other, or
-/// both with `--script`; if PORT or N is not a decimal number in its range.
+/// of `--load` has no `=`; if `--listen` is given with `--script`, or without one of `--sessions` and
+/// `--connections`, or these two are given together, or one of them or `--entries` without `--listen`;
+/// if `--idle` is given without `--connections`; if PORT, N or SECONDS is not a decimal number in its
+/// range.
 pub fn words<'a, S: AsStr>(alloc: Global, words: &'a [S]) -> Result<Options<'a>, WordsFault>
     ensures ok { IfOk result (λ o. Gives (map S.text words.entry.now) o) }
     ensures err { IfErr result (λ fault. Refuses (map S.text words.entry.now) fault) }

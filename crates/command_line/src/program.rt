@@ -27,7 +27,7 @@ use crate::server::run_server;
 use clap::error::ErrorKind;
 use dump_reading::{dumps_are_replayed, histories_can_be_read};
 use interleaving::System;
-use listening::Plan;
+use listening::{Control, Plan};
 use scripts::{RunFault, run_script_in};
 use std::alloc::Global;
 use std::convert::AsStr;
@@ -59,7 +59,7 @@ where
         + Wait
         + Sync,
     S: AsStr,
-    I: Read,
+    I: Control + Read,
     O: Write,
     E: Write,
     ensures done { result ≡ DONE → IsDone (map S.text words.now)
@@ -91,7 +91,7 @@ where
         + Wait
         + Sync,
     S: AsStr,
-    I: Read,
+    I: Control + Read,
     O: Write,
     ensures done { OnOk result (IsDone (map S.text words.now)
         (I.remaining reader.old) (I.remaining reader.new)
@@ -181,7 +181,7 @@ where
         + Threads
         + Wait
         + Sync,
-    I: Read,
+    I: Control + Read,
     O: Write,
     ensures done { OnOk result (IsComplete (asked_of options.entry)
         (I.remaining reader.old) (I.remaining reader.new)
@@ -214,7 +214,7 @@ where
         + Threads
         + Wait
         + Sync,
-    I: Read,
+    I: Control + Read,
     O: Write,
     ensures done { OnOk result (HasDone (asked_of options.entry) schema
         (I.remaining reader.old) (I.remaining reader.new)
@@ -247,7 +247,7 @@ where
         + Threads
         + Wait
         + Sync,
-    I: Read,
+    I: Control + Read,
     O: Write,
     requires export { IsExportOf schema number }
     ensures done { OnOk result ((end : History) × HasRunAll (asked_of options.entry).mode
@@ -290,7 +290,7 @@ where
         + Threads
         + Wait
         + Sync,
-    I: Read,
+    I: Control + Read,
     O: Write,
     requires export { IsExportOf schema number }
     ensures done { IfOk result (λ left. HasLeft schema left (λ end.
@@ -327,7 +327,7 @@ where
         + Threads
         + Wait
         + Sync,
-    I: Read,
+    I: Control + Read,
     O: Write,
     requires known { (first : Schema) × (before : History) × Stands first system before
         × IsExportOf first number }
@@ -345,10 +345,17 @@ where
 {
     match mode {
         Mode::Script(file) => run_loaded(rt, text, file, number, reader, out, system),
-        Mode::Listen { port, sessions } => {
+        Mode::Listen {
+            port,
+            limit,
+            entries,
+            idle,
+        } => {
             let plan = Plan {
                 port,
-                sessions,
+                limit,
+                entries,
+                idle,
                 export: number,
             };
             run_server(rt, text, plan, reader, out, system)

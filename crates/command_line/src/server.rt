@@ -14,7 +14,7 @@ use crate::fault::{Fault, server_fault};
 use crate::load::rows_for;
 use dump_reading::histories_can_be_read;
 use interleaving::System;
-use listening::{Plan, Served, ServerFault, TableRows, serve};
+use listening::{Control, Plan, Served, ServerFault, TableRows, serve};
 use std::io::{Read, Write};
 use std::net::{Net, TcpListener, TcpStream};
 use std::rt::Files;
@@ -44,7 +44,8 @@ fn first_of<R: AllocGlobal + Files>(
 }
 
 /// Serves connections round a store that begins with what a system has come to, and exports a table
-/// of it at the end, if one is to be. Returns what it leaves. Standard input is not read.
+/// of it at the end, if one is to be. Returns what it leaves. Standard input is read only
+/// where the server goes on until it ends.
 pub fn run_server<R, I, O>(
     rt: &R,
     text: Option<&str>,
@@ -61,7 +62,7 @@ where
         + Threads
         + Wait
         + Sync,
-    I: Read,
+    I: Control + Read,
     O: Write,
     requires known { (start : Schema) × (before : History) × Stands start system before
         × IsExportOf start plan.export }
@@ -78,13 +79,11 @@ where
         (O.contents out.old) (O.contents out.new)) }
 {
     histories_can_be_read();
-    // Nothing is read of it.
-    let _reader = reader;
     let first = match first_of(rt, text, system.schema()) {
         Ok(first) => first,
         Err(fault) => return Err(fault),
     };
-    ended(serve(rt, rt.alloc(), out, system, first, plan))
+    ended(serve(rt, rt.alloc(), reader, out, system, first, plan))
 }
 
 /// Returns what a server leaves, or the program's fault for the server's.

@@ -1,5 +1,5 @@
 -- What a served run leaves is of readable steps, and its tables are those before it.
-use Rattle.std.proofs.Common.{◌≡◌, ◌≢◌, ◌⊎◌, ℕ, ◌==◌, Bool, true, false, cond, List, [], ◌∷◌, Option, Some, None, refl, sym, subst, inl, inr, ◌∙◌, arith}
+use Rattle.std.proofs.Common.{◌≡◌, ◌≢◌, ◌⊎◌, ℕ, ◌==◌, Bool, true, false, cond, length, List, [], ◌∷◌, Option, Some, None, refl, sym, subst, inl, inr, ◌∙◌, arith}
 use Rattle.std.proofs.lemmas.Bool.Decides.{nat_tests}
 use Rattle.std.specs.List.{AllByRecursion}
 use Rattle.values.specs.Log.{Row}
@@ -73,19 +73,19 @@ module _ (R : Type 0) where
     tables_after [] h good = refl
     tables_after (e ∷ events) h good = tables_after events (with_step e.step h) good.1 ∙ tables_with e.step h good.0
 
-module _ (first : Schema) (before : History) (b : BookState) (table : ℕ) (rows : List Row) (dialogues : List Dialogue) (events : List Event)
-    (one : OneHistory first before b table rows dialogues events) where
+module _ (first : Schema) (before : History) (most : ℕ) (b : BookState) (table : ℕ) (rows : List Row) (dialogues : List Dialogue) (events : List Event)
+    (one : OneHistory first before most b table rows dialogues events) where
   abbrev Plain : Type 0
   Plain = AllByRecursion ArePlain rows
 
-  of_sessions : (i : ℕ) (ds : List Dialogue) → AllByRecursion (λ d. TellsAll (schema_after first before) b d.number [] d.talks (of_part d.number events)) ds
+  of_sessions : (i : ℕ) (ds : List Dialogue) → AllByRecursion (λ d. TellsAll (schema_after first before) (length b.entries ≡ most) d.number [] d.talks (of_part d.number events)) ds
       → AreGood Plain (of_part i events) ⊎ AllByRecursion (λ d. d.number ≢ i) ds
   of_sessions i [] all = inr tt
   of_sessions i (d ∷ ds) all = by (d.number == i) refl (of_sessions i ds all.1)
     where
       by : (same : Bool) → (d.number == i) ≡ same → AreGood Plain (of_part i events) ⊎ AllByRecursion (λ d. d.number ≢ i) ds
           → AreGood Plain (of_part i events) ⊎ AllByRecursion (λ d. d.number ≢ i) (d ∷ ds)
-      by true is rest = inl (subst (λ n. AreGood Plain (of_part n events)) (same_number d.number i is) (all_tell Plain d.number (schema_after first before) b [] d.talks (of_part d.number events) all.0))
+      by true is rest = inl (subst (λ n. AreGood Plain (of_part n events)) (same_number d.number i is) (all_tell Plain d.number (schema_after first before) (length b.entries ≡ most) [] d.talks (of_part d.number events) all.0))
       by false is (inl good) = inl good
       by false is (inr none) = inr (apart d.number i is, none)
 
@@ -102,9 +102,9 @@ module _ (first : Schema) (before : History) (b : BookState) (table : ℕ) (rows
   all_good = of_all Plain events of_each
 
 pub served_runs_leave_readable : ServedRunsLeaveReadable
-served_runs_leave_readable first before b table rows dialogues events one plain readable =
-    readable_after (AllByRecursion ArePlain rows) events before (all_good first before b table rows dialogues events one) plain readable
+served_runs_leave_readable first before most b table rows dialogues events one plain readable =
+    readable_after (AllByRecursion ArePlain rows) events before (all_good first before most b table rows dialogues events one) plain readable
 
 pub served_runs_keep_tables : ServedRunsKeepTables
-served_runs_keep_tables first before b table rows dialogues events one =
-    tables_after (AllByRecursion ArePlain rows) first events before (all_good first before b table rows dialogues events one)
+served_runs_keep_tables first before most b table rows dialogues events one =
+    tables_after (AllByRecursion ArePlain rows) first events before (all_good first before most b table rows dialogues events one)

@@ -14,7 +14,6 @@ use Rattle.lines.specs.Partial.{Partial}
 use Rattle.statement.specs.declared.line.Line.{Line}
 use Rattle.statement.specs.declared.line.Line.TheVariants.{Nothing, Clock, Step as Asks}
 use Rattle.statement.specs.GrammarLaw.{ArePlain}
-use Rattle.serving.specs.book.Book.{BookState}
 use Rattle.serving.specs.journal.declared.entry.Entry.{Entry}
 use Rattle.serving.specs.journal.declared.entry.Entry.TheVariants.{Begin as Begins, Commit as Commits, Split as Splits, Install as Installs}
 use Rattle.serving.specs.Progress.{asks_store}
@@ -168,8 +167,8 @@ module _ (R : Type 0) where
     full_left is_open e (SplitTime key instant) left = absurd left
     full_left is_open e Migrate left = begun_is_good 0 e left
 
-    module _ (schema : Schema) (b : BookState) where
-      one_left : (is_open : Bool) (e : Event) (refusal : Refusal) (step : Step) → MayBeRefused schema b i is_open step refusal → AreLeft i is_open (e ∷ []) refusal step → IsGoodEvent e
+    module _ (schema : Schema) (IsFull : Type 0) where
+      one_left : (is_open : Bool) (e : Event) (refusal : Refusal) (step : Step) → MayBeRefused schema IsFull i is_open step refusal → AreLeft i is_open (e ∷ []) refusal step → IsGoodEvent e
       one_left is_open e (Syntax at) step may left = absurd may
       one_left is_open e NoTable step may left = absurd may
       one_left is_open e (BadRow at) step may left = absurd may
@@ -187,28 +186,28 @@ module _ (R : Type 0) where
       one_left is_open e BadPeriod step may left = absurd may
       one_left is_open e TransactionsOpen step may left = absurd may
 
-      refused : (is_open : Bool) (events : List Event) (refusal : Refusal) (step : Step) → MayBeRefused schema b i is_open step refusal → AreLeft i is_open events refusal step → AreGood events
+      refused : (is_open : Bool) (events : List Event) (refusal : Refusal) (step : Step) → MayBeRefused schema IsFull i is_open step refusal → AreLeft i is_open events refusal step → AreGood events
       refused is_open [] refusal step may left = tt
       refused is_open (e ∷ []) refusal step may left = (one_left is_open e refusal step may left, tt)
       refused is_open (e ∷ f ∷ events) refusal step may left = none refusal may left
         where
-          none : (refusal : Refusal) → MayBeRefused schema b i is_open step refusal → AreLeft i is_open (e ∷ f ∷ events) refusal step → AreGood (e ∷ f ∷ events)
+          none : (refusal : Refusal) → MayBeRefused schema IsFull i is_open step refusal → AreLeft i is_open (e ∷ f ∷ events) refusal step → AreGood (e ∷ f ∷ events)
           none refusal may left = absurd left
 
       -- ---- lines, and connections
 
-      says : (is_open : Bool) (r : Result Line Refusal) → ((step : Step) → r ≡ Ok (Asks step) → IsGood step) → (events : List Event) (text : List ℕ) → Says schema b i is_open r events text → AreGood events
+      says : (is_open : Bool) (r : Result Line Refusal) → ((step : Step) → r ≡ Ok (Asks step) → IsGood step) → (events : List Event) (text : List ℕ) → Says schema IsFull i is_open r events text → AreGood events
       says is_open (Err refusal) good events text so = subst AreGood (sym so.0) tt
       says is_open (Ok Nothing) good events text so = subst AreGood (sym so.0) tt
       says is_open (Ok (Clock reading)) good events text so = subst AreGood (sym so.0) tt
       says is_open (Ok (Asks step)) good events text (inl so) = answered (asks_store schema i step is_open) events step so.0 (good step refl) so.2
       says is_open (Ok (Asks step)) good events text (inr so) = refused is_open events so.0 step so.2 so.3
 
-      line_tells : (is_open : Bool) (line : Partial) (events : List Event) (text : List ℕ) → TellsLine schema b i is_open line events text → AreGood events
+      line_tells : (is_open : Bool) (line : Partial) (events : List Event) (text : List ℕ) → TellsLine schema IsFull i is_open line events text → AreGood events
       line_tells is_open line events text (inl so) = says is_open (said schema i line) (said_is_good schema i line) events text so
       line_tells is_open line events text (inr so) = subst AreGood (sym so.1) tt
 
-      tells : (h : History) (lines : List Partial) (events : List Event) (text : List ℕ) → Tells schema b i h lines events text → AreGood events
+      tells : (h : History) (lines : List Partial) (events : List Event) (text : List ℕ) → Tells schema IsFull i h lines events text → AreGood events
       tells h [] events text so = subst AreGood (sym so.0) tt
       tells h (line ∷ lines) events text (now, later, sent, rest, is, of_text, told, goes) =
           subst AreGood (sym is) (good_joined now later (line_tells (has_open h i) line now sent told) (tells (history_after h now) lines later rest goes))
@@ -224,7 +223,7 @@ module _ (R : Type 0) where
           by false events is = steps_of events (subst (AllByRecursion (λ (p : Option Entry × Option (Step × Reply)). IsGoodFor p.1)) (sym is) tt)
           by true events is = steps_of events (subst (AllByRecursion (λ (p : Option Entry × Option (Step × Reply)). IsGoodFor p.1)) (sym is) ((λ r. tt, tt), tt))
 
-      pub all_tell : (h : History) (talks : List (List Partial × List ℕ)) (events : List Event) → TellsAll schema b i h talks events → AreGood events
+      pub all_tell : (h : History) (talks : List (List Partial × List ℕ)) (events : List Event) → TellsAll schema IsFull i h talks events → AreGood events
       all_tell h [] events is = subst AreGood (sym is) tt
       all_tell h (talk ∷ talks) events (now, left, later, is, told, ends, goes) =
           subst AreGood (sym is) (good_joined now (left ++ later) (tells h talk.0 now talk.1 told)

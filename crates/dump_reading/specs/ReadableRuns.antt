@@ -14,15 +14,15 @@ use Rattle.dump_reading.specs.ReadableHistories.{IsReadableHistory}
 -- printed
 abbrev pub ServedRunsLeaveReadable : Type 0
 ServedRunsLeaveReadable =
-    (first : Schema) (before : History) (b : BookState) (table : ℕ) (rows : List Row)
+    (first : Schema) (before : History) (most : ℕ) (b : BookState) (table : ℕ) (rows : List Row)
     (dialogues : List Dialogue) (events : List Event)
-    → OneHistory first before b table rows dialogues events → AllByRecursion ArePlain rows
+    → OneHistory first before most b table rows dialogues events → AllByRecursion ArePlain rows
     → IsReadableHistory before → IsReadableHistory (history_after before events)
 
 -- and no session adds a column
 abbrev pub ServedRunsKeepTables : Type 0
 ServedRunsKeepTables =
-    (first : Schema) (before : History) (b : BookState) (table : ℕ) (rows : List Row)
+    (first : Schema) (before : History) (most : ℕ) (b : BookState) (table : ℕ) (rows : List Row)
     (dialogues : List Dialogue) (events : List Event)
-    → OneHistory first before b table rows dialogues events
+    → OneHistory first before most b table rows dialogues events
     → schema_after first (history_after before events) ≡ schema_after first before

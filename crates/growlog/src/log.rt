@@ -69,7 +69,7 @@ impl StoreName for Brand {
 
     ghost book = { record { number = 0; log_name = 0; cells_name = 0 } };
 
-    ghost origin = { record { schema = record { tables = [] }; log = [] } };
+    ghost origin = { record { schema = record { tables = [] }; log = []; most_entries = 0 } };
 }
 
 /// A log without entries, which no store has yet.

@@ -22,18 +22,15 @@ pub handed : {A E : Type 0} (r : Result A E) (a : A) (P : A → Type 0) → IfOk
 handed (Ok x) a P same p = subst P (sym same) p
 handed (Err e) a P same p = tt
 
--- the text begins otherwise than what is refused
-pub not_foreign : (P : Type 0) (known : Option (List ℕ)) (f : List ℕ → Bool) (head : Bool) → IfSome known (λ bytes. f bytes ≡ head) → head ≡ false → IfSome known (λ bytes. f bytes ≡ true → P)
-not_foreign P None f head same other = tt
-not_foreign P (Some bytes) f head same other = λ is. absurd (none (sym is ∙ same ∙ other))
-  where
-    none : true ≡ false → ⊥
-    none e = cc e
-
 -- what follows where a text is refused
 pub turned_away : {P Q : Type 0} (known : Option (List ℕ)) (f : List ℕ → Bool) → IfSome known (λ bytes. f bytes ≡ true → P) → (P → Q) → IfSome known (λ bytes. f bytes ≡ true → Q)
 turned_away None f away then = tt
 turned_away (Some bytes) f away then = λ is. then (away is)
+
+-- the same where it is refused for what it has not
+pub unasked : {P Q : Type 0} (known : Option (List ℕ)) (f : List ℕ → Bool) → IfSome known (λ bytes. f bytes ≡ false → P) → (P → Q) → IfSome known (λ bytes. f bytes ≡ false → Q)
+unasked None f away then = tt
+unasked (Some bytes) f away then = λ is. then (away is)
 
 module _ (may_give : ℕ → Bool) (schema : Schema) (number : ℕ) (refused : BookRefusalsState) where
   -- a session to which nothing has happened

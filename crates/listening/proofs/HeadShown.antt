@@ -1,11 +1,11 @@
 -- When the first bytes of a text show how it begins.
 use lib.Pointwise.{pointwise}
-use Rattle.std.proofs.Common.{◌≡◌, ◌∙◌, ℕ, ◌≤◌, ◌==◌, ◌||◌, ◌&&◌, Bool, true, false, List, [], ◌∷◌, ◌++◌, Option, Some, None, append-nil, ap, arith, codes, length, refl, sym}
+use Rattle.std.proofs.Common.{◌≡◌, ◌∙◌, ℕ, ◌≤◌, ◌==◌, ◌||◌, ◌&&◌, Bool, true, false, List, [], ◌∷◌, ◌++◌, Option, Some, None, append-nil, suc, ap, arith, codes, length, not, refl, sym}
 use Rattle.std.proofs.lemmas.Bool.Decides.{nat_tests}
 use Rattle.std.proofs.lemmas.List.{take-append-le}
 use Rattle.std.specs.Prelude.{IfSome}
 use Rattle.std.specs.Io.KnownBytes.{Consumes, IsAtEnd}
-use Rattle.listening.specs.Request.{begin, begins, is_foreign, may_become}
+use Rattle.listening.specs.Request.{begin, begins, has_line, is_foreign, may_become}
 
 -- ---- a word
 
@@ -89,3 +89,31 @@ pub shown_at_end : (known left : Option (List ℕ)) (bytes : List ℕ) → Consu
 shown_at_end None left bytes took ended = tt
 shown_at_end (Some all) None bytes took ended = absurd took
 shown_at_end (Some all) (Some rest) bytes took ended = ap is_foreign (took ∙ ap (λ rest. bytes ++ rest) ended ∙ append-nil bytes)
+
+-- the text begins otherwise than what is refused
+pub not_foreign : (P : Type 0) (known : Option (List ℕ)) (f : List ℕ → Bool) (head : Bool) → IfSome known (λ bytes. f bytes ≡ head) → head ≡ false → IfSome known (λ bytes. f bytes ≡ true → P)
+not_foreign P None f head same other = tt
+not_foreign P (Some bytes) f head same other = λ is. absurd (none (sym is ∙ same ∙ other))
+  where
+    none : true ≡ false → ⊥
+    none e = cc e
+
+-- ---- a first line
+
+-- bytes have one unless they are none
+pub lined : (bytes : List ℕ) → not (length bytes == 0) ≡ has_line bytes
+lined [] = refl
+lined (c ∷ bytes) = let some : (suc (length bytes) == 0) ≡ false = grind (arith, nat_tests) in (λ k. not (some k))
+
+line_on : (bytes more : List ℕ) → has_line bytes ≡ true → has_line (bytes ++ more) ≡ true
+line_on [] more e = absurd (cc e)
+line_on (c ∷ bytes) more e = refl
+
+-- a text has a line whose first bytes have one
+pub with_line : (P : Type 0) (known left : Option (List ℕ)) (bytes : List ℕ) → Consumes known left bytes → has_line bytes ≡ true → IfSome known (λ all. has_line all ≡ false → P)
+with_line P None left bytes took line = tt
+with_line P (Some all) None bytes took line = absurd took
+with_line P (Some all) (Some rest) bytes took line = λ none. absurd (some (sym (line_on bytes rest line) ∙ ap has_line (sym took) ∙ none))
+  where
+    some : true ≡ false → ⊥
+    some e = cc e

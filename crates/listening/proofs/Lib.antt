@@ -8,3 +8,4 @@ mod PileCrossing
 mod PileParts
 mod ServerCarried
 mod ServerHistory
+mod ServiceCrossing

@@ -1,6 +1,6 @@
 -- A run with the receipts of one more connection, or of one more round.
-use Rattle.std.proofs.Common.{◌≡◌, ◌≢◌, ℕ, zero, suc, ◌+◌, ◌-◌, ◌<◌, ◌≤◌, List, [], ◌∷◌, ◌++◌, Option, Some, None, Bool, true, false, not, ◌&&◌, ◌||◌, nat_lt, is_some, refl, sym, ap, subst, ◌∙◌, arith, map, length, append-nil, IsPermutation}
-use Rattle.std.specs.Prelude.{drop, is_none, replicate, slice_set, take}
+use Rattle.std.proofs.Common.{◌≡◌, ◌≢◌, ℕ, zero, suc, ◌+◌, ◌-◌, ◌<◌, ◌≤◌, List, [], ◌∷◌, ◌++◌, Option, Some, None, Bool, true, false, not, ◌&&◌, ◌||◌, nat_lt, is_some, refl, sym, ap, subst, ◌∙◌, arith, map, length, length-append, append-nil, IsPermutation}
+use Rattle.std.specs.Prelude.{drop, is_none, min, replicate, slice_set, take}
 use Rattle.std.proofs.lemmas.Bool.Decides.{nat_tests}
 use Rattle.std.proofs.lemmas.Grind.{flat_map-append}
 use Rattle.std.proofs.lemmas.List.{append_assoc}
@@ -16,7 +16,7 @@ use Rattle.serving.specs.ServedSession.{Serves}
 use Rattle.serving.proofs.BookRefusalsKnown.{known_on}
 use Rattle.runs.specs.Run.{AreApart, IsOfService, IsPart, Part, Rises, Sent, given_of, is_reading, last_of, told_of}
 use Rattle.runs.proofs.TellsFacts.{last_join}
-use Rattle.listening.specs.Pile.{AreKnown, AreNumbered, AreOfRun, IsOf, IsPile, IsServedAs, Lasts, PileState, counted, goes_on, handed_by, has_full_of, is_again, last_for, last_in, rises_from}
+use Rattle.listening.specs.Pile.{AreKnown, AreNumbered, AreOfRun, IsOf, IsPile, IsServedAs, Lasts, PileState, counted, goes_on, handed_by, has_full_of, is_again, last_for, last_in, most_counted, one_more, rises_from}
 use Rattle.listening.specs.declared.pile.Origin.{Origin}
 use Rattle.listening.specs.declared.pile.Origin.TheVariants.{Session, Service}
 
@@ -127,6 +127,19 @@ module _ (s : Sent) where
   wide_still zero (p ∷ parts) = refl
   wide_still (suc k) (p ∷ parts) = ap suc (wide_still k parts)
 
+  one_added : (k : ℕ) (parts : List Part) → k < length parts → length (flat_map (λ p. p.sent) (add_to s k parts)) ≡ length (flat_map (λ p. p.sent) parts) + 1
+  one_added k [] within = absurd (omega (arith, within))
+  one_added zero (p ∷ parts) within =
+      let rest = flat_map (λ (p : Part). p.sent) parts in
+      length-append (p.sent ++ s ∷ []) rest ∙ ap (λ n. n + length rest) (length-append p.sent (s ∷ []))
+      ∙ (let h : (length p.sent + 1) + length rest ≡ (length p.sent + length rest) + 1 = omega arith in h)
+      ∙ sym (ap (λ n. n + 1) (length-append p.sent rest))
+  one_added (suc k) (p ∷ parts) within =
+      let rest = flat_map (λ (p : Part). p.sent) parts in
+      length-append p.sent (flat_map (λ p. p.sent) (add_to s k parts)) ∙ ap (λ n. length p.sent + n) (one_added k parts (omega (arith, within)))
+      ∙ (let h : length p.sent + (length rest + 1) ≡ (length p.sent + length rest) + 1 = omega arith in h)
+      ∙ sym (ap (λ n. n + 1) (length-append p.sent rest))
+
   lasts_still : (k : ℕ) (parts : List Part) → lasts_of (add_to s k parts) ≡ slice_set (lasts_of parts) k (Some (last_of (unwrap_or (at k parts) 0) s.given))
   lasts_still k [] = refl
   lasts_still zero (p ∷ parts) = ap (λ l. l ∷ lasts_of parts) (last_more p.sent s)
@@ -179,12 +192,13 @@ module _ (schema : Schema) where
   parts_still number refused own served n (suc k) (p ∷ parts) are is rises all =
       (all.0, parts_still number refused own served (n + 1) k parts are.1 (is ∙ (let h : n + suc k ≡ (n + 1) + k = omega arith in h)) rises all.1)
 
-  pub with_connection : (lasts : Lasts) (again noted : Bool) (given own : List Given) (number : ℕ) (full not_open : Bool) → AreOfRun schema lasts again noted given → IsServedAs schema number (record { full = full; not_open = not_open }) own
-      → nat_lt 0 number && (not not_open && rises_from (last_for lasts number) own) ≡ true
-      → AreOfRun schema (slice_set lasts (number - 1) (Some (last_of (last_for lasts number) own))) (again || is_some (handed_by lasts number)) (noted || full) (given ++ own)
-  with_connection lasts again noted given own number full not_open run served goes =
+  pub with_connection : (lasts : Lasts) (connections : ℕ) (again noted : Bool) (given own : List Given) (number : ℕ) (full not_open : Bool) → AreOfRun schema lasts connections again noted given → IsServedAs schema number (record { full = full; not_open = not_open }) own
+      → nat_lt connections most_counted && (nat_lt 0 number && (not not_open && rises_from (last_for lasts number) own)) ≡ true
+      → AreOfRun schema (slice_set lasts (number - 1) (Some (last_of (last_for lasts number) own))) (min (connections + 1) most_counted) (again || is_some (handed_by lasts number)) (noted || full) (given ++ own)
+  with_connection lasts connections again noted given own number full not_open run served goes =
       let s = sent_of number _ own served in
-      let tests = both (nat_lt 0 number) (not not_open && rises_from (last_for lasts number) own) goes in
+      let room = both (nat_lt connections most_counted) (nat_lt 0 number && (not not_open && rises_from (last_for lasts number) own)) goes in
+      let tests = both (nat_lt 0 number) (not not_open && rises_from (last_for lasts number) own) room.1 in
       let its = both (not not_open) (rises_from (last_for lasts number) own) tests.1 in
       let some : 0 < number = grind (arith, nat_tests, tests.0) in
       let place : number ≡ 1 + (number - 1) = omega (arith, some) in
@@ -201,6 +215,9 @@ module _ (schema : Schema) where
             (known_on _ _ served.taken.told (record { full = λ e. or_true noted full e; not_open = λ e. absurd (open_still not_open e its.0) }) served.taken.known)
             (noted_still noted full run.parts run.known);
         lasts_are = lasts_still s (number - 1) run.parts ∙ ap (λ ls. slice_set ls (number - 1) (Some (last_of (last_for ls number) own))) run.lasts_are;
+        connections_are =
+            one_added s (number - 1) run.parts within ∙ ap (λ n. n + 1) run.connections_are
+            ∙ (let h : connections + 1 ≡ min (connections + 1) most_counted = grind (arith, nat_tests, room.0) in h);
         once = λ e.
             let neither = neither_of again (is_some (handed_by lasts number)) e in
             once_still s (number - 1) run.parts (ap (λ ls. is_some (handed_by ls number)) run.lasts_are ∙ neither.1) (run.once neither.0);
@@ -210,8 +227,8 @@ module _ (schema : Schema) where
             (IsPermutation-append (flat_map given_of run.parts ++ own) (flat_map given_of (add_to s (number - 1) run.parts)) run.service run.service (given_still s (number - 1) run.parts within) (IsPermutation-refl run.service));
       }
 
-  pub with_service : (lasts : Lasts) (again noted : Bool) (given own : List Given) → AreOfRun schema lasts again noted given → AllByRecursion (λ g. IsOfService g.entry) own → AreOfRun schema lasts (again || false) (noted || false) (given ++ own)
-  with_service lasts again noted given own run serviced = record {
+  pub with_service : (lasts : Lasts) (connections : ℕ) (again noted : Bool) (given own : List Given) → AreOfRun schema lasts connections again noted given → AllByRecursion (λ g. IsOfService g.entry) own → AreOfRun schema lasts connections (again || false) (noted || false) (given ++ own)
+  with_service lasts connections again noted given own run serviced = record {
     parts = run.parts;
     service = run.service ++ own;
     are_parts = run.are_parts;
@@ -219,6 +236,7 @@ module _ (schema : Schema) where
     wide = run.wide;
     known = noted_still noted false run.parts run.known;
     lasts_are = run.lasts_are;
+    connections_are = run.connections_are;
     once = λ e. run.once (neither_of again false e).0;
     serviced = all_and (λ g. IsOfService g.entry) run.service own run.serviced serviced;
     given_are = subst (IsPermutation (given ++ own)) (append_assoc (flat_map given_of run.parts) run.service own)
@@ -251,6 +269,10 @@ module _ (schema : Schema) where
   silent_once n zero = tt
   silent_once n (suc count) = (omega arith, silent_once (n + 1) count)
 
+  silent_none : (n count : ℕ) → flat_map (λ p. p.sent) (silent n count) ≡ []
+  silent_none n zero = refl
+  silent_none n (suc count) = silent_none (n + 1) count
+
   silent_lasts : (n count : ℕ) → lasts_of (silent n count) ≡ replicate count None
   silent_lasts n zero = refl
   silent_lasts n (suc count) = ap (λ ls. None ∷ ls) (silent_lasts (n + 1) count)
@@ -259,7 +281,7 @@ module _ (schema : Schema) where
   silent_given n zero = refl
   silent_given n (suc count) = silent_given (n + 1) count
 
-  nothing_yet : (again noted : Bool) → AreOfRun schema (replicate max_session None) again noted []
+  nothing_yet : (again noted : Bool) → AreOfRun schema (replicate max_session None) 0 again noted []
   nothing_yet again noted = record {
     parts = silent 1 max_session;
     service = [];
@@ -268,6 +290,7 @@ module _ (schema : Schema) where
     wide = silent_wide 1 max_session;
     known = silent_known noted 1 max_session;
     lasts_are = silent_lasts 1 max_session;
+    connections_are = ap length (silent_none 1 max_session);
     once = λ e. silent_once 1 max_session;
     serviced = tt;
     given_are = subst (λ gs. IsPermutation [] (gs ++ [])) (sym (silent_given 1 max_session)) (IsPermutation-refl []);
@@ -277,23 +300,28 @@ module _ (schema : Schema) where
   pub filled : (items old : Lasts) (n len : ℕ) → items ≡ take n old ++ replicate (n - len) None → old ≡ [] → len ≡ 0 → n ≡ max_session → items ≡ replicate max_session None
   filled items old n len is empty nought all = is ∙ (λ k. take (all k) (empty k) ++ replicate (all k - nought k) None)
 
-  pub nothing_of : (lasts : Lasts) (again noted : Bool) (given : List Given) → lasts ≡ replicate max_session None → given ≡ [] → AreOfRun schema lasts again noted given
-  nothing_of lasts again noted given none empty = subst (λ ls. AreOfRun schema ls again noted given) (sym none) (subst (AreOfRun schema (replicate max_session None) again noted) (sym empty) (nothing_yet again noted))
+  pub nothing_of : (lasts : Lasts) (connections : ℕ) (again noted : Bool) (given : List Given) → lasts ≡ replicate max_session None → connections ≡ 0 → given ≡ [] → AreOfRun schema lasts connections again noted given
+  nothing_of lasts connections again noted given none nought empty =
+      subst (λ ls. AreOfRun schema ls connections again noted given) (sym none)
+      (subst (λ n. AreOfRun schema (replicate max_session None) n again noted given) (sym nought)
+      (subst (AreOfRun schema (replicate max_session None) 0 again noted) (sym empty) (nothing_yet again noted)))
 
   -- what is handed over next
-  pub with_more : (p : PileState) (origin : Origin) (own : List Given) (goes : Bool) (lasts : Lasts) (again noted : Bool) (given : List Given) → IsPile schema p → IsOf schema origin own → goes ≡ goes_on p.lasts origin own
-      → lasts ≡ counted p.lasts origin own → again ≡ (p.again || is_again p.lasts origin) → noted ≡ (p.has_full || has_full_of origin) → given ≡ p.given ++ own → p.is_run && goes ≡ true → AreOfRun schema lasts again noted given
-  with_more p origin own goes lasts again noted given was of goes_is lasts_are again_is noted_is given_are is =
+  pub with_more : (p : PileState) (origin : Origin) (own : List Given) (goes : Bool) (lasts : Lasts) (connections : ℕ) (again noted : Bool) (given : List Given) → IsPile schema p → IsOf schema origin own → goes ≡ goes_on p.lasts p.connections origin own
+      → lasts ≡ counted p.lasts origin own → connections ≡ one_more p.connections origin → again ≡ (p.again || is_again p.lasts origin) → noted ≡ (p.has_full || has_full_of origin) → given ≡ p.given ++ own → p.is_run && goes ≡ true
+      → AreOfRun schema lasts connections again noted given
+  with_more p origin own goes lasts connections again noted given was of goes_is lasts_are connections_are again_is noted_is given_are is =
       let h = both p.is_run goes is in
-      subst (λ ls. AreOfRun schema ls again noted given) (sym lasts_are)
-      (subst (λ a. AreOfRun schema (counted p.lasts origin own) a noted given) (sym again_is)
-      (subst (λ n. AreOfRun schema (counted p.lasts origin own) (p.again || is_again p.lasts origin) n given) (sym noted_is)
-      (subst (AreOfRun schema (counted p.lasts origin own) (p.again || is_again p.lasts origin) (p.has_full || has_full_of origin)) (sym given_are) (by origin of (sym goes_is ∙ h.1) (was h.0)))))
+      subst (λ ls. AreOfRun schema ls connections again noted given) (sym lasts_are)
+      (subst (λ n. AreOfRun schema (counted p.lasts origin own) n again noted given) (sym connections_are)
+      (subst (λ a. AreOfRun schema (counted p.lasts origin own) (one_more p.connections origin) a noted given) (sym again_is)
+      (subst (λ n. AreOfRun schema (counted p.lasts origin own) (one_more p.connections origin) (p.again || is_again p.lasts origin) n given) (sym noted_is)
+      (subst (AreOfRun schema (counted p.lasts origin own) (one_more p.connections origin) (p.again || is_again p.lasts origin) (p.has_full || has_full_of origin)) (sym given_are) (by origin of (sym goes_is ∙ h.1) (was h.0))))))
     where
-      by : (origin : Origin) → IsOf schema origin own → goes_on p.lasts origin own ≡ true → AreOfRun schema p.lasts p.again p.has_full p.given
-          → AreOfRun schema (counted p.lasts origin own) (p.again || is_again p.lasts origin) (p.has_full || has_full_of origin) (p.given ++ own)
-      by (Session number full not_open) of is run = with_connection p.lasts p.again p.has_full p.given own number full not_open run of is
-      by Service of is run = with_service p.lasts p.again p.has_full p.given own run of
+      by : (origin : Origin) → IsOf schema origin own → goes_on p.lasts p.connections origin own ≡ true → AreOfRun schema p.lasts p.connections p.again p.has_full p.given
+          → AreOfRun schema (counted p.lasts origin own) (one_more p.connections origin) (p.again || is_again p.lasts origin) (p.has_full || has_full_of origin) (p.given ++ own)
+      by (Session number full not_open) of is run = with_connection p.lasts p.connections p.again p.has_full p.given own number full not_open run of is
+      by Service of is run = with_service p.lasts p.connections p.again p.has_full p.given own run of
 
 -- ---- what the numbers of parts show
 

@@ -11,7 +11,7 @@ use Rattle.serving.specs.BookRefusals.{BookRefusalsState, IsKnown}
 use Rattle.serving.specs.Progress.{Given, Progress, after}
 use Rattle.serving.specs.ServedSession.{IsServed, IsServedInPart, Serves, Told}
 use Rattle.listening.specs.declared.client.Unserved.{Unserved}
-use Rattle.listening.specs.declared.client.Unserved.TheVariants.{Memory, Read, Foreign}
+use Rattle.listening.specs.declared.client.Unserved.TheVariants.{Memory, Read, Foreign, NoLine}
 
 module _ (may_give : ℕ → Bool) (schema : Schema) (number : ℕ) (refused : BookRefusalsState) where
   -- its text was read to its end, and what follows for its lines was written
@@ -42,3 +42,4 @@ abbrev pub IsUnserved : Unserved → (old new : Option (List ℕ)) → Type 0
 IsUnserved Memory old new = AppendsPrefix old new (refusal_text OutOfMemory)
 IsUnserved Read old new = Keeps old new
 IsUnserved Foreign old new = Keeps old new
+IsUnserved NoLine old new = Keeps old new

@@ -1,6 +1,6 @@
 -- What sessions and rounds hand over: the receipts of one run.
-use Rattle.std.specs.Prelude.{◌≡◌, ◌≤◌, ◌+◌, ◌-◌, ℕ, List, [], ◌∷◌, ◌++◌, Option, Some, None, Bool, true, false, not, ◌&&◌, nat_lt, is_some, map, length, slice_set, IsPermutation}
-use Rattle.std.specs.List.{AllByRecursion, flat_map, slice_get}
+use Rattle.std.specs.Prelude.{◌≡◌, ◌≤◌, ◌+◌, ◌-◌, ◌^◌, ℕ, List, [], ◌∷◌, ◌++◌, ◌==◌, Option, Some, None, Bool, true, false, not, ◌&&◌, ◌||◌, drop, min, nat_le, nat_lt, is_none, is_some, map, length, slice_set, IsPermutation}
+use Rattle.std.specs.List.{AllByRecursion, flat_map, list_all, slice_get}
 use Rattle.std.specs.Option.{unwrap_or}
 use Rattle.values.specs.Tables.{Schema}
 use Rattle.steps.specs.Misfit.{max_session}
@@ -9,6 +9,8 @@ use Rattle.serving.specs.Progress.{Given}
 use Rattle.serving.specs.ServedSession.{Told}
 use Rattle.runs.specs.Run.{IsOfService, IsPart, Part, Sent, given_of, is_reading, last_of, told_of}
 use Rattle.listening.specs.Client.{HasTaken}
+use Rattle.listening.specs.declared.limit.Limit.{Limit}
+use Rattle.listening.specs.declared.limit.Limit.TheVariants.{Sessions, Connections}
 use Rattle.listening.specs.declared.pile.Origin.{Origin}
 use Rattle.listening.specs.declared.pile.Origin.TheVariants.{Session, Service}
 
@@ -40,12 +42,22 @@ handed_by lasts number = unwrap_or (slice_get lasts (number - 1)) None
 abbrev pub last_for : Lasts → ℕ → ℕ
 last_for lasts number = unwrap_or (handed_by lasts number) 0
 
--- the receipts of a session's next connection rise behind those of the connections before it, and its
--- transactions were open where they ended
-abbrev pub goes_on : Lasts → Origin → List Given → Bool
-goes_on lasts (Session number has_full has_not_open) given =
-    nat_lt 0 number && (not has_not_open && rises_from (last_for lasts number) given)
-goes_on lasts Service given = true
+-- as many connections as can be counted
+abbrev pub most_counted : ℕ
+most_counted = 2 ^ 64 - 1
+
+-- one more connection can be counted; its receipts rise behind those of the session's connections before it, and
+-- its transactions were open where they ended
+abbrev pub goes_on : Lasts → (connections : ℕ) → Origin → List Given → Bool
+goes_on lasts connections (Session number has_full has_not_open) given =
+    nat_lt connections most_counted
+    && (nat_lt 0 number && (not has_not_open && rises_from (last_for lasts number) given))
+goes_on lasts connections Service given = true
+
+-- how many connections have handed over, where one more has, as far as can be counted
+abbrev pub one_more : (connections : ℕ) → Origin → ℕ
+one_more connections (Session number has_full has_not_open) = min (connections + 1) most_counted
+one_more connections Service = connections
 
 abbrev pub with_last : Lasts → Origin → ℕ → Lasts
 with_last lasts (Session number has_full has_not_open) last = slice_set lasts (number - 1) (Some last)
@@ -82,9 +94,10 @@ last_in [] given = None
 last_in (s ∷ sent) given = Some (last_of 0 given)
 
 -- these receipts are those of parts of a run, one for each session, of whose connections these are the
--- last numbers, and of its service; none has two connections, unless one has handed over again
-pub record AreOfRun (schema : Schema) (lasts : Lasts) (again has_full : Bool) (given : List Given)
-    : Type 0 where
+-- last numbers, and of its service; all parts have so many connections, and none has two, unless one has
+-- handed over again
+pub record AreOfRun (schema : Schema) (lasts : Lasts) (connections : ℕ) (again has_full : Bool)
+    (given : List Given) : Type 0 where
   pub parts : List Part
   pub service : List Given
   pub are_parts : AllByRecursion (IsPart schema) parts
@@ -92,19 +105,27 @@ pub record AreOfRun (schema : Schema) (lasts : Lasts) (again has_full : Bool) (g
   pub wide : length parts ≡ max_session
   pub known : AllByRecursion (λ p. AreKnown has_full (told_of p)) parts
   pub lasts_are : map (λ p. last_in p.sent (given_of p)) parts ≡ lasts
+  pub connections_are : length (flat_map (λ p. p.sent) parts) ≡ connections
   pub once : again ≡ false → AllByRecursion (λ p. length p.sent ≤ 1) parts
   pub serviced : AllByRecursion (λ g. IsOfService g.entry) service
   pub given_are : IsPermutation given (flat_map given_of parts ++ service)
 
--- what was handed over: the receipts, the last numbers of the sessions, whether they can be those of
--- one run, whether a session has handed over again, and whether a line was refused since the journal
--- is full
+-- what was handed over: the receipts, the last numbers of the sessions, by how many connections, whether
+-- they can be those of one run, whether a session has handed over again, and whether a line was refused
+-- since the journal is full
 pub record PileState : Type 0 where
   pub given : List Given
   pub lasts : Lasts
+  pub connections : ℕ
   pub is_run : Bool
   pub again : Bool
   pub has_full : Bool
 
 abbrev pub IsPile : Schema → PileState → Type 0
-IsPile schema p = p.is_run ≡ true → AreOfRun schema p.lasts p.again p.has_full p.given
+IsPile schema p =
+    p.is_run ≡ true → AreOfRun schema p.lasts p.connections p.again p.has_full p.given
+
+-- no more connections have handed over than the limit has it
+abbrev pub is_within : Limit → PileState → Bool
+is_within (Sessions most) p = not p.again && list_all is_none (drop most p.lasts)
+is_within (Connections most) p = most == 0 || nat_le p.connections most

@@ -1,5 +1,5 @@
--- Texts that begin as a request of HTTP or a handshake of TLS does.
-use Rattle.std.specs.Prelude.{ℕ, List, [], ◌∷◌, Bool, ◌==◌, ◌||◌, codes}
+-- Texts that begin as a request of HTTP or a handshake of TLS does, or that have no line.
+use Rattle.std.specs.Prelude.{ℕ, List, [], ◌∷◌, Bool, false, true, ◌==◌, ◌||◌, codes}
 use Rattle.std.specs.List.{starts_with}
 
 -- the bytes begin with a word
@@ -35,3 +35,8 @@ may_become bytes =
     || begin bytes (codes "OPTIONS ") || begin bytes (codes "CONNECT ")
     || begin bytes (codes "TRACE ") || begin bytes (codes "PATCH ")
     || begin bytes (codes "DELETE /")
+
+-- the first line may be ended by the end of the text
+abbrev pub has_line : List ℕ → Bool
+has_line [] = false
+has_line (c ∷ bytes) = true

@@ -21,6 +21,7 @@ use Rattle.runs.specs.OneHistory.{come_to}
 use Rattle.listening.specs.Loading.{IsLoadedAt, IsUnloaded}
 use Rattle.listening.specs.Connection.{IsOneRun, IsServedRun}
 use Rattle.listening.specs.declared.connection.ListenFault.TheVariants.{Socket, Memory, NotClosed}
+use Rattle.listening.specs.declared.limit.Limit.{Limit}
 use Rattle.listening.specs.declared.server.Plan.{Plan}
 use Rattle.listening.specs.declared.server.TableRows.{TableRows}
 use Rattle.listening.specs.declared.server.ServerFault.{ServerFault}
@@ -48,17 +49,16 @@ pub record IsClosedWith (o : Origin) (receipts : List Given) (b : BookState) : T
 
 -- what its sessions were sent goes on from a history as one with it, and this is how they were served,
 -- receipt by receipt
-pub record IsRunOf (start : Schema) (before : History) (sessions table : ℕ) (rows : List Row)
+pub record IsRunOf (start : Schema) (before : History) (limit : Limit) (most : ℕ) (table : ℕ) (rows : List Row)
     (receipts : List Given) (b : BookState) : Type 0 where
-  pub history : IsOneRun start before sessions table rows b
-  pub served : IsServedRun (come_to start before) sessions table rows receipts b
+  pub history : IsOneRun start before limit most table rows b
+  pub served : IsServedRun (come_to start before most) limit table rows receipts b
 
--- the run of its sessions, with numbers up to this one, after the rows that were loaded, where some were
-abbrev pub IsRunAfter : Schema → History → (sessions : ℕ) → Option TableRows → List Given
-    → BookState → Type 0
-IsRunAfter start before sessions None receipts b = IsRunOf start before sessions 0 [] receipts b
-IsRunAfter start before sessions (Some first) receipts b =
-    IsRunOf start before sessions first.number first.rows.items receipts b
+-- the run of its sessions, within the limits of the plan, after the rows that were loaded, where some were
+abbrev pub IsRunAfter : Schema → History → Plan → Option TableRows → List Given → BookState → Type 0
+IsRunAfter start before plan None receipts b = IsRunOf start before plan.limit plan.entries 0 [] receipts b
+IsRunAfter start before plan (Some first) receipts b =
+    IsRunOf start before plan.limit plan.entries first.number first.rows.items receipts b
 
 -- the table that is exported, where one is, is one of these
 abbrev pub IsExportOf : Schema → Option ℕ → Type 0
@@ -112,9 +112,9 @@ pub record HasServed (start : Schema) (before : History) (first : Option TableRo
   pub listening : Option (List ℕ)
   pub loads : HasFirst (schema_after start before) first receipts old reported
   pub listens : HasListened plan.port reported listening
-  pub closed : IsClosedWith (come_to start before) receipts b
-  pub run : IsRunAfter start before plan.sessions first receipts b
-  pub ends : EndsAfter (come_to start before) plan.export b listening new
+  pub closed : IsClosedWith (come_to start before plan.entries) receipts b
+  pub run : IsRunAfter start before plan first receipts b
+  pub ends : EndsAfter (come_to start before plan.entries) plan.export b listening new
 
 -- ---- what a fault leaves: what came before it, and a prefix of what was to be written next
 
@@ -180,9 +180,9 @@ pub record StopsAfter (fault : ServerFault) (start : Schema) (before : History)
   pub b : BookState
   pub loads : HasFirst (schema_after start before) first receipts old reported
   pub listens : HasListened plan.port reported listening
-  pub closed : IsClosedWith (come_to start before) receipts b
-  pub run : IsRunAfter start before plan.sessions first receipts b
-  pub stops : StopsLate fault (come_to start before) plan.export b listening new
+  pub closed : IsClosedWith (come_to start before plan.entries) receipts b
+  pub run : IsRunAfter start before plan first receipts b
+  pub stops : StopsLate fault (come_to start before plan.entries) plan.export b listening new
 
 -- why an export stops: the writer failed, or memory ran out
 abbrev pub IsOfExport : ServerFault → Type 0

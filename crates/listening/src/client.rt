@@ -1,14 +1,15 @@
 //! A client over any reader and writer.
-ghost use Rattle.std.specs.Prelude.{◌≡◌, ◌≢◌, ◌≤◌, [], IfErr, IfOk, IfSome, map, true};
+ghost use Rattle.std.specs.Prelude.{◌≡◌, ◌≢◌, ◌≤◌, [], IfErr, IfOk, IfSome, false, map, true};
 ghost use Rattle.std.specs.Io.KnownBytes.{Keeps};
 ghost use Rattle.steps.specs.Misfit.{max_session};
 ghost use Rattle.statement.specs.Print.{refusal_text};
 ghost use Rattle.statement.specs.Writer.{AppendsPrefix};
 ghost use Rattle.values.specs.declared.refusal.Refusal.TheVariants.{Memory};
 ghost use Rattle.listening.specs.Client.{HasTaken, IsBrokenOff, IsServedWhole, IsUnserved};
-ghost use Rattle.listening.specs.Request.{is_foreign};
+ghost use Rattle.listening.specs.Request.{has_line, is_foreign};
 
-use crate::head::{is_foreign, read_head};
+use crate::door::Door;
+use crate::head::read_first;
 use growlog::StoreName;
 use serving::{End, Served, serve_session};
 use sessions::{Gate, LockedStore, Readings};
@@ -27,11 +28,14 @@ pub(crate) enum Unserved {
     Read,
     /// It begins as an HTTP request or a TLS handshake does.
     Foreign,
+    /// It ended without the line that was awaited.
+    NoLine,
 }
 
 /// Serves a client as a session with a number, unless it begins as an HTTP request or a TLS
 /// handshake does. A browser sends what a web page has it send behind such a beginning, so no line
-/// of it is taken, and nothing is sent, whether memory runs out or not.
+/// of it is taken, and nothing is sent, whether memory runs out or not. The same holds of a client that
+/// sends nothing, where the door awaits a line; else the door is told that there is one.
 ///
 /// Where the session ended as `Closed` all was read and answered; at another end the replies, of
 /// which the last may be there in part, are those of the first lines. `Memory` if memory ran out
@@ -44,6 +48,7 @@ pub(crate) fn serve_client<J: StoreName, R: Wait, I: Read + Drop, W: Write, C: R
     gate: &G,
     readings: &mut C,
     number: u8,
+    door: &Door,
     reader: I,
     writer: &mut W,
 ) -> Result<Served<J>, Unserved>
@@ -62,8 +67,13 @@ pub(crate) fn serve_client<J: StoreName, R: Wait, I: Read + Drop, W: Write, C: R
         IsUnserved why (W.contents writer.old) (W.contents writer.new)) }
     ensures foreign { IfSome (I.remaining reader) (λ bytes. is_foreign bytes ≡ true
         → IfOk result (λ _. ⊥) × Keeps (W.contents writer.old) (W.contents writer.new)) }
+    ensures no_line { door.now.awaits_line ≡ true
+        → IfSome (I.remaining reader) (λ bytes. has_line bytes ≡ false
+        → IfOk result (λ _. ⊥) × Keeps (W.contents writer.old) (W.contents writer.new)) }
 {
-    match serve_lines(rt, alloc, store, gate, readings, number, reader, writer) {
+    match serve_lines(
+        rt, alloc, store, gate, readings, number, door, reader, writer,
+    ) {
         Ok(served) => Ok(served),
         Err(Unserved::Memory) => {
             answer_memory(writer);
@@ -90,6 +100,7 @@ fn serve_lines<J: StoreName, R: Wait, I: Read + Drop, W: Write, C: Readings, G: 
     gate: &G,
     readings: &mut C,
     number: u8,
+    door: &Door,
     reader: I,
     writer: &mut W,
 ) -> Result<Served<J>, Unserved>
@@ -105,18 +116,20 @@ fn serve_lines<J: StoreName, R: Wait, I: Read + Drop, W: Write, C: Readings, G: 
         Keeps (W.contents writer.old) (W.contents writer.new)) }
     ensures foreign { IfSome (I.remaining reader) (λ bytes. is_foreign bytes ≡ true
         → IfOk result (λ _. ⊥) × IfErr result (λ why. why ≢ Unserved.Memory)) }
+    ensures no_line { door.now.awaits_line ≡ true
+        → IfSome (I.remaining reader) (λ bytes. has_line bytes ≡ false
+        → IfOk result (λ _. ⊥) × IfErr result (λ why. why ≢ Unserved.Memory)) }
 {
     let mut reader = reader;
-    let Ok(head) = read_head(&mut reader) else {
-        return Err(Unserved::Read);
+    let first = match read_first(&mut reader, door.awaits_line) {
+        Ok(first) => first,
+        Err(why) => return Err(why),
     };
-    if is_foreign(head.as_slice()) {
-        return Err(Unserved::Foreign);
-    }
+    door.enter(rt);
     let Ok(mut session) = store.session(alloc, number) else {
         return Err(Unserved::Memory);
     };
-    let mut whole = head.as_slice().chain(reader);
+    let mut whole = first.as_slice().chain(reader);
     let served = serve_session(
         rt,
         alloc,

@@ -1,8 +1,9 @@
 //! The first bytes of a client, by which HTTP and TLS are told.
-ghost use Rattle.std.specs.Prelude.{◌≡◌, ◌<◌, ◌++◌, ℕ, IfOk, IfSome, List, false, length, true};
+ghost use Rattle.std.specs.Prelude.{◌≡◌, ◌≢◌, ◌<◌, ◌≤◌, ◌++◌, ℕ, IfErr, IfOk, IfSome, List, false, length, true};
 ghost use Rattle.std.specs.Io.KnownBytes.{Consumes, IsAtEnd};
-ghost use Rattle.listening.specs.Request.{is_foreign, is_request, may_become};
+ghost use Rattle.listening.specs.Request.{has_line, is_foreign, is_request, may_become};
 
+use crate::client::Unserved;
 use arrayvec::ArrayVec;
 use std::io;
 use std::io::Read;
@@ -14,7 +15,7 @@ const LONGEST: usize = 8;
 /// statement begins with it.
 const HANDSHAKE: u8 = 0x16;
 
-/// The first bytes of a client.
+/// The first bytes of a client, by which its beginning is told.
 pub(crate) type Head = ArrayVec<u8, LONGEST>;
 
 /// Tells whether bytes begin as an HTTP request does: with a method and a blank, or with
@@ -56,10 +57,40 @@ fn may_become(bytes: &[u8]) -> bool
         || b"DELETE /".starts_with(bytes)
 }
 
+/// Reads a client's first bytes. An error if they begin as an HTTP request or a TLS handshake does; if a
+/// line is awaited and there is no byte of one before the client ends; or if the reader fails.
+pub(crate) fn read_first<I: Read>(reader: &mut I, awaits_line: bool) -> Result<Head, Unserved>
+    ensures took { IfOk result (λ head.
+        Consumes (I.remaining reader.old) (I.remaining reader.new) head.items) }
+    ensures foreign { IfSome (I.remaining reader.old)
+        (λ bytes. is_foreign bytes ≡ true → IfOk result (λ _. ⊥)) }
+    ensures line { awaits_line ≡ true → IfSome (I.remaining reader.old)
+        (λ bytes. has_line bytes ≡ false → IfOk result (λ _. ⊥)) }
+    ensures why { IfErr result (λ why. why ≢ Unserved.Memory) }
+{
+    let Ok(head) = read_head(reader) else {
+        return Err(Unserved::Read);
+    };
+    if is_foreign(head.as_slice()) {
+        return Err(Unserved::Foreign);
+    }
+    if awaits_line && !has_line(&head) {
+        return Err(Unserved::NoLine);
+    }
+    Ok(head)
+}
+
+/// Tells whether bytes have a first line, which the end of the text may end.
+fn has_line(head: &Head) -> bool
+    ensures { result ≡ has_line head.now.items }
+{
+    !head.is_empty()
+}
+
 /// Reads first bytes, until they show whether the client begins as an HTTP request or a TLS
 /// handshake does: what is behind them changes nothing. No such beginning has a line feed, so a line
 /// is never waited for once it has ended.
-pub(crate) fn read_head<I: Read>(reader: &mut I) -> io::Result<Head>
+fn read_head<I: Read>(reader: &mut I) -> io::Result<Head>
     ensures took { IfOk result (λ head.
         Consumes (I.remaining reader.old) (I.remaining reader.new) head.items) }
     ensures shown { IfOk result (λ head. IfSome (I.remaining reader.old)

@@ -1,11 +1,12 @@
 //! What sessions and rounds hand over.
-ghost use Rattle.std.specs.Prelude.{◌≡◌, ◌++◌, ◌&&◌, ◌||◌, [], Bool, IfOk, List, None, OnErr, OnOk, drop, false, is_none, map, not, replicate, true};
+ghost use Rattle.std.specs.Prelude.{◌≡◌, ◌++◌, ◌&&◌, ◌||◌, [], Bool, IfOk, List, None, OnErr, OnOk, drop, false, is_none, map, replicate, true};
 ghost use Rattle.std.specs.List.{list_all};
 ghost use Rattle.serving.specs.Progress.{Given};
 ghost use Rattle.runs.specs.Run.{last_of};
 ghost use Rattle.steps.specs.Misfit.{max_session};
-ghost use Rattle.listening.specs.Pile.{AreOfRun, IsOf, counted, goes_on, handed_by, has_full_of, is_again, rises_from, with_last};
+ghost use Rattle.listening.specs.Pile.{AreOfRun, IsOf, counted, goes_on, handed_by, has_full_of, is_again, is_within, one_more, rises_from, with_last};
 
+use crate::limit::Limit;
 use growlog::StoreName;
 use sessions::Receipt;
 use std::alloc::{AllocError, Global};
@@ -31,14 +32,16 @@ pub(crate) enum Origin {
 /// The receipts that sessions and rounds have handed over, and whether they can be those of one run:
 /// the receipts of each session rise from connection to connection, and no transaction that it had
 /// open was refused as one that is not. Where they can, its type keeps that they are the receipts of
-/// lines of sessions, with these last numbers, and of the service, that no session has two connections
-/// unless one has handed over again, and that a line was refused for a full journal only if that is
-/// noted.
+/// lines of sessions, with these last numbers, and of the service, how many connections they are of,
+/// that no session has two unless one has handed over again, and that a line was refused for a full
+/// journal only if that is noted.
 pub(crate) struct Pile<J: StoreName> {
     receipts: Vec<Receipt<J>>,
     /// By session, from 1 on: the number of its last receipt, 0 before the first, where a connection
     /// of it has handed over.
     lasts: Vec<Option<u64>>,
+    /// How many connections have handed over.
+    connections: u64,
     is_run: bool,
     again: bool,
     has_full: bool,
@@ -53,6 +56,7 @@ impl<J: StoreName> Model for Pile<J> {
     ghost view = { λ p. record {
       given = map (λ r. record { number = r.number; entry = r.entry }) p.receipts.items;
       lasts = p.lasts.items;
+      connections = p.connections;
       is_run = p.is_run;
       again = p.again;
       has_full = p.has_full;
@@ -61,6 +65,7 @@ impl<J: StoreName> Model for Pile<J> {
     ghost invariant = { λ p. IsPile J.origin.schema record {
       given = map (λ r. record { number = r.number; entry = r.entry }) p.receipts.items;
       lasts = p.lasts.items;
+      connections = p.connections;
       is_run = p.is_run;
       again = p.again;
       has_full = p.has_full;
@@ -72,6 +77,7 @@ impl<J: StoreName> Pile<J> {
     pub(crate) fn with_room(alloc: Global, receipts: usize) -> Result<Pile<J>, AllocError>
         ensures given { IfOk result (λ pile. pile.given ≡ []) }
         ensures lasts { IfOk result (λ pile. pile.lasts ≡ replicate max_session None) }
+        ensures connections { IfOk result (λ pile. pile.connections ≡ 0) }
         ensures run { IfOk result (λ pile. pile.is_run ≡ true) }
         ensures again { IfOk result (λ pile. pile.again ≡ false) }
         ensures full { IfOk result (λ pile. pile.has_full ≡ false) }
@@ -81,6 +87,7 @@ impl<J: StoreName> Pile<J> {
         Ok(Pile {
             receipts: Vec::with_capacity(alloc, receipts)?,
             lasts,
+            connections: 0,
             is_run: true,
             again: false,
             has_full: false,
@@ -99,8 +106,10 @@ impl<J: StoreName> Pile<J> {
             ++ map (λ r. record { number = r.number; entry = r.entry }) receipts.old.items) }
         ensures lasts { OnOk result (self.new.lasts ≡ counted self.old.lasts origin
             (map (λ r. record { number = r.number; entry = r.entry }) receipts.old.items)) }
+        ensures connections { OnOk result
+            (self.new.connections ≡ one_more self.old.connections origin) }
         ensures run { OnOk result (self.new.is_run ≡ (self.old.is_run
-            && goes_on self.old.lasts origin
+            && goes_on self.old.lasts self.old.connections origin
             (map (λ r. record { number = r.number; entry = r.entry }) receipts.old.items))) }
         ensures again { OnOk result
             (self.new.again ≡ (self.old.again || is_again self.old.lasts origin)) }
@@ -113,8 +122,10 @@ impl<J: StoreName> Pile<J> {
         let goes_on = self.goes_on(origin, receipts.as_slice());
         let again = self.is_again(origin);
         let last = self.last_with(origin, receipts.as_slice());
+        let connections = one_more(self.connections, origin);
         self.receipts.append(receipts)?;
         count(&mut self.lasts, origin, last);
+        self.connections = connections;
         self.is_run &= goes_on;
         self.again |= again;
         self.has_full |= has_full(origin);
@@ -132,10 +143,11 @@ impl<J: StoreName> Pile<J> {
         }
     }
 
-    /// Tells whether receipts can be those of one run with those that were handed over: a session's
-    /// rise behind those of its connections before, and its transactions were open where they ended.
+    /// Tells whether receipts can be those of one run with those that were handed over: one more
+    /// connection can be counted, a session's rise behind those of its connections before, and its
+    /// transactions were open where they ended.
     fn goes_on(&self, origin: Origin, receipts: &[Receipt<J>]) -> bool
-        ensures { result ≡ goes_on self.now.lasts origin
+        ensures { result ≡ goes_on self.now.lasts self.now.connections origin
             (map (λ r. record { number = r.number; entry = r.entry }) receipts.now) }
     {
         match origin {
@@ -144,7 +156,8 @@ impl<J: StoreName> Pile<J> {
                 has_full: _,
                 has_not_open,
             } => {
-                number > 0
+                self.connections < u64::MAX
+                    && number > 0
                     && !has_not_open
                     && are_rising(self.handed_by(number).unwrap_or(0), receipts)
             }
@@ -176,27 +189,48 @@ impl<J: StoreName> Pile<J> {
         }
     }
 
-    /// Returns the receipts, whether they are those of one run, of sessions with numbers up to this
-    /// one, each of which has handed over once at most, and whether a line was refused since the
-    /// journal is full.
-    pub(crate) fn into_receipts(self, most: u8) -> (Vec<Receipt<J>>, bool, bool)
+    /// Returns the receipts, whether they are those of one run whose connections are within a limit, and
+    /// whether a line was refused since the journal is full.
+    pub(crate) fn into_receipts(self, limit: Limit) -> (Vec<Receipt<J>>, bool, bool)
         ensures given { map (λ r. record { number = r.number; entry = r.entry }) result.0.items
             ≡ self.given }
-        ensures run { result.1 ≡ (self.is_run && (not self.again
-            && list_all is_none (drop most self.lasts))) }
+        ensures run { result.1 ≡ (self.is_run && is_within limit self) }
         ensures full { result.2 ≡ self.has_full }
         ensures parts { self.is_run ≡ true
-            → AreOfRun J.origin.schema self.lasts self.again self.has_full self.given }
+            → AreOfRun J.origin.schema self.lasts self.connections self.again self.has_full self.given }
     {
+        let is_within = self.is_within(limit);
         let Pile {
             receipts,
-            lasts,
+            lasts: _,
+            connections: _,
             is_run,
-            again,
+            again: _,
             has_full,
         } = self;
-        let is_run = is_run && !again && are_none(beyond(lasts.as_slice(), usize::from(most)));
-        (receipts, is_run, has_full)
+        (receipts, is_run && is_within, has_full)
+    }
+
+    /// Tells whether no more connections have handed over than a limit has it.
+    fn is_within(&self, limit: Limit) -> bool
+        ensures { result ≡ is_within limit self.now }
+    {
+        match limit {
+            Limit::Sessions(most) => {
+                !self.again && are_none(beyond(self.lasts.as_slice(), usize::from(most)))
+            }
+            Limit::Connections(most) => most == 0 || self.connections <= u64::from(most),
+        }
+    }
+}
+
+/// Returns how many connections have handed over where one more has, as far as can be counted.
+fn one_more(connections: u64, origin: Origin) -> u64
+    ensures { result ≡ one_more connections origin }
+{
+    match origin {
+        Origin::Session { .. } => connections.saturating_add(1),
+        Origin::Service => connections,
     }
 }
 

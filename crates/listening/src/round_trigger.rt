@@ -1,65 +1,36 @@
 //! What calls for rounds of the migrator: the commits of sessions.
 
 use crossbeam_channel::Sender;
-use sessions::{Gate, Place};
 use std::alloc::Global;
-use std::cell::Cell;
 use std::sync::Wait;
+use std::sync::atomic::{AtomicU64, Ordering};
 
-/// The commits of a session after which a round is called for.
-const COMMITS: u8 = 16;
+/// The commits after which a round is called for.
+const COMMITS: u64 = 16;
 
 /// A call for a round.
 #[derive(Clone, Copy)]
 pub(crate) struct Call;
 
-/// Calls for a round after each 16th commit of a session.
+/// Calls for a round after each 16th commit of those that are counted together: of a connection, or of
+/// all.
 #[derive(Drop)]
-pub(crate) struct RoundTrigger {
+pub(crate) struct RoundTrigger<'a> {
     calls: Sender<Call, Global>,
-    commits: Cell<u8>,
+    commits: &'a AtomicU64,
 }
 
-impl RoundTrigger {
-    /// Makes a trigger that has counted no commit, and sends its calls there.
-    pub(crate) fn new(calls: Sender<Call, Global>) -> RoundTrigger {
-        RoundTrigger {
-            calls,
-            commits: Cell::new(0),
-        }
+impl<'a> RoundTrigger<'a> {
+    /// Makes a session's trigger, which counts its commits there, and sends its calls.
+    pub(crate) fn new(calls: Sender<Call, Global>, commits: &'a AtomicU64) -> RoundTrigger<'a> {
+        RoundTrigger { calls, commits }
     }
 
     /// Counts a commit. If a call is out of memory there is no round, which no reply shows.
-    fn count_commit<R: Wait>(&self, rt: &R) {
-        let commits = self.commits.get().saturating_add(1);
-        if commits < COMMITS {
-            self.commits.set(commits);
-            return;
+    pub(crate) fn count_commit<R: Wait>(&self, rt: &R) {
+        let earlier = self.commits.fetch_add(1, Ordering::SeqCst);
+        if earlier % COMMITS == COMMITS - 1 {
+            let _ = self.calls.send(rt, Call);
         }
-        self.commits.set(0);
-        let _ = self.calls.send(rt, Call);
-    }
-}
-
-/// A session's gate, at which its trigger counts the commits.
-#[derive(Drop)]
-pub(crate) struct CountingGate<'a, G: Gate> {
-    gate: &'a G,
-    trigger: RoundTrigger,
-}
-
-impl<'a, G: Gate> CountingGate<'a, G> {
-    /// Makes a session's gate of one that all pass.
-    pub(crate) fn new(gate: &'a G, trigger: RoundTrigger) -> CountingGate<'a, G> {
-        CountingGate { gate, trigger }
-    }
-}
-
-impl<G: Gate> Gate for CountingGate<'_, G> {
-    fn pass<R: Wait>(&self, rt: &R, who: u8, place: Place) -> bool {
-        if place == Place::Committed {
-            self.trigger.count_commit(rt);
-        }
-        self.gate.pass(rt, who, place)
     }
 }

@@ -21,11 +21,13 @@ ghost use Rattle.sessions.specs.tsbtree.View.{last};
 ghost use Rattle.serving.specs.Progress.{Given};
 ghost use Rattle.runs.specs.OneHistory.{Carries};
 ghost use Rattle.runs.specs.Run.{IsLoaded};
-ghost use Rattle.listening.specs.Connection.{IsOneRun, IsServedRun};
+ghost use Rattle.listening.specs.Connection.{HasRead, IsOneRun, IsServedRun};
 ghost use Rattle.listening.specs.Server.{EndsAfter, HasFirst, HasListened, HasNoFirst, HasReported, HasServed, HasStopped, IsClosedWith, IsExportOf, IsOfExport, StopsListening, StopsLate, versions_text};
 
 use crate::always_open::AlwaysOpen;
 use crate::connection::{ListenFault, listen};
+use crate::control::Control;
+use crate::limit::Limit;
 use crate::loading::{Loaded, Unloaded, load_into};
 use crate::socket::bind;
 use growlog::{NewLog, StoreName};
@@ -35,7 +37,7 @@ use restoring::histories_are_of_changes;
 use searchrange::Search;
 use sessions::{Closed, Engine, LockedStore, Receipt, SharedEntry};
 use std::alloc::Global;
-use std::io::Write;
+use std::io::{Read, Write};
 use std::marker::Brand;
 use std::net::{Net, TcpListener, TcpStream};
 use std::sync::Wait;
@@ -63,11 +65,15 @@ pub struct TableRows {
 }
 
 /// What a server does: the port at which it listens, 0 where the system chooses; how many
-/// connections it takes; and the number of the table that is exported at the end, where one is.
+/// connections it takes; how many entries its journal may have; the seconds, 1 or more, after which a client that has sent nothing makes room
+/// for another that waits, where it does; and the number of the table that is exported at the end,
+/// where one is.
 #[derive(Clone, Copy, Debug, PartialEq, Eq)]
 pub struct Plan {
     pub port: u16,
-    pub sessions: u8,
+    pub limit: Limit,
+    pub entries: usize,
+    pub idle: Option<u32>,
     pub export: Option<u8>,
 }
 
@@ -94,9 +100,13 @@ const OUT_OF_MEMORY: ServerFault = ServerFault::Listen(ListenFault::Memory);
 /// system's history as one with it, and of each session its receipts are said besides (`HasServed`).
 /// The system is to have no transaction open: one that is, is let go, and nothing is said of what
 /// follows.
-pub fn serve<R, O>(
+///
+/// The reader is read only where the limit is `Connections(0)`: the server is stopped when it ends
+/// (`HasRead`).
+pub fn serve<R, I, O>(
     rt: &R,
     alloc: Global,
+    reader: &mut I,
     out: &mut O,
     system: System,
     first: Option<TableRows>,
@@ -104,6 +114,7 @@ pub fn serve<R, O>(
 ) -> Result<Served, ServerFault>
 where
     R: Net<Listener = TcpListener, Stream = TcpStream> + Clock + Threads + Wait + Sync,
+    I: Control + Read,
     O: Write,
     requires export { IsExportOf system.schema plan.export }
     requires known { (start : Schema) × (before : History) × Stands start system before }
@@ -114,15 +125,27 @@ where
     ensures err { IfErr result (λ fault. (start : Schema) (before : History)
         → Stands start system before → is_idle (has_open before) ≡ true
         → HasStopped fault start before first plan (O.contents out.old) (O.contents out.new)) }
+    ensures read { HasRead plan.limit (I.remaining reader.old) (I.remaining reader.new) }
 {
     histories_are_of_changes();
     let (schema, engine) = system.into_parts();
-    serve_store::<Brand, R, O>(rt, alloc, out, schema, engine, first, plan, NewLog::new())
+    serve_store::<Brand, R, I, O>(
+        rt,
+        alloc,
+        reader,
+        out,
+        schema,
+        engine,
+        first,
+        plan,
+        NewLog::new(),
+    )
 }
 
-fn serve_store<J, R, O>(
+fn serve_store<J, R, I, O>(
     rt: &R,
     alloc: Global,
+    reader: &mut I,
     out: &mut O,
     schema: Schema,
     engine: Engine,
@@ -133,11 +156,13 @@ fn serve_store<J, R, O>(
 where
     J: StoreName,
     R: Net<Listener = TcpListener, Stream = TcpStream> + Clock + Threads + Wait + Sync,
+    I: Control + Read,
     O: Write,
     requires log { opened.seen.book ≡ J.book }
     requires tables { schema ≡ J.origin.schema }
     requires holds { Holds J.origin.schema engine (changes J.origin.log) }
     requires clock { last engine ≡ last_of J.origin.log }
+    requires most { plan.entries ≡ J.origin.most_entries }
     requires export { IsExportOf schema plan.export }
     ensures ok { IfOk result (λ s. (start : Schema) (before : History)
         → Carries start before J.origin
@@ -146,11 +171,12 @@ where
     ensures err { IfErr result (λ fault. (start : Schema) (before : History)
         → Carries start before J.origin
         → HasStopped fault start before first plan (O.contents out.old) (O.contents out.new)) }
+    ensures read { HasRead plan.limit (I.remaining reader.old) (I.remaining reader.new) }
 {
     let Ok(tables) = schema.copy(alloc) else {
         return Err(OUT_OF_MEMORY);
     };
-    let store = LockedStore::<J>::over(alloc, schema, engine, opened);
+    let store = LockedStore::<J>::over(alloc, schema, engine, plan.entries, opened);
     let receipts = match load_first(rt, alloc, out, &store, first) {
         Ok(receipts) => receipts,
         Err(Stopped { fault, receipts }) => {
@@ -158,7 +184,7 @@ where
             return Err(fault);
         }
     };
-    let closed = match serve_to_close(rt, alloc, out, plan, store, receipts) {
+    let closed = match serve_to_close(rt, alloc, reader, out, plan, store, receipts) {
         Ok(closed) => closed,
         Err(fault) => return Err(fault),
     };
@@ -244,9 +270,10 @@ fn report<O: Write>(out: &mut O, label: &[u8], number: u64) -> Result<(), Server
 }
 
 /// Listens, reports the port, and serves connections until the store closes.
-fn serve_to_close<J, R, O>(
+fn serve_to_close<J, R, I, O>(
     rt: &R,
     alloc: Global,
+    reader: &mut I,
     out: &mut O,
     plan: Plan,
     store: LockedStore<J>,
@@ -255,6 +282,7 @@ fn serve_to_close<J, R, O>(
 where
     J: StoreName,
     R: Net<Listener = TcpListener, Stream = TcpStream> + Clock + Threads + Wait + Sync,
+    I: Control + Read,
     O: Write,
     ensures ok { IfOk result (λ closed. HasListened plan.port
         (O.contents out.old) (O.contents out.new) × IsClosedWith J.origin
@@ -263,14 +291,15 @@ where
         → Carries start before J.origin → (table : ℕ) (rows : List Row)
         → IsLoaded J.origin.schema table rows
         (map (λ r. record { number = r.number; entry = r.entry }) receipts.items)
-        → IsOneRun start before plan.sessions table rows closed) }
+        → IsOneRun start before plan.limit J.origin.most_entries table rows closed) }
     ensures run { IfOk result (λ closed. (table : ℕ) (rows : List Row)
         → IsLoaded J.origin.schema table rows
         (map (λ r. record { number = r.number; entry = r.entry }) receipts.items)
-        → IsServedRun J.origin plan.sessions table rows
+        → IsServedRun J.origin plan.limit table rows
         (map (λ r. record { number = r.number; entry = r.entry }) receipts.items) closed) }
     ensures err { IfErr result (λ fault. StopsListening fault plan.port
         (O.contents out.old) (O.contents out.new)) }
+    ensures read { HasRead plan.limit (I.remaining reader.old) (I.remaining reader.new) }
 {
     let Ok((listener, port)) = bind(rt, plan.port) else {
         let _gone = store.give_up(receipts);
@@ -286,8 +315,10 @@ where
     match listen(
         rt,
         alloc,
-        listener,
-        plan.sessions,
+        (listener, port),
+        plan.limit,
+        plan.idle,
+        reader,
         store,
         receipts,
         &AlwaysOpen,

@@ -93,20 +93,20 @@ module _ (first : Schema) (origin : Origin) where
   right_all [] w right = tt
   right_all (x ∷ xs) w right = (right.0, right_all xs (add x w) right.1)
 
-module _ (schema : Schema) (b : BookState) where
+module _ (schema : Schema) (IsFull : Type 0) where
   -- ---- the parts of sessions
 
   record Session (p : Part) : Type 0 where
     events : List Event
-    tells : TellsAll schema b p.number [] (map (λ s. (s.lines, s.text)) p.sent) events
+    tells : TellsAll schema IsFull p.number [] (map (λ s. (s.lines, s.text)) p.sent) events
     known : Facts p.number 0 (given_of p) events
     goes : Chain (Moves schema) None events None
     some : 1 ≤ p.number
     small : p.number ≤ max_session
 
-  session : (p : Part) → IsPart schema p → AllByRecursion (IsRefusedRightly b) (told_of p) → Session p
+  session : (p : Part) → IsPart schema p → AllByRecursion (IsRefusedRightly IsFull) (told_of p) → Session p
   session p is refused =
-      let go = all_go schema b p.number is.in_range [] 0 p.sent refused refl is.serves in
+      let go = all_go schema IsFull p.number is.in_range [] 0 p.sent refused refl is.serves in
       record {
         events = go.events;
         tells = go.tells;
@@ -123,7 +123,7 @@ module _ (schema : Schema) (b : BookState) where
   Sessions [] = Unit {0}
   Sessions (p ∷ parts) = Session p × Sessions parts
 
-  sessions : (parts : List Part) → AllByRecursion (IsPart schema) parts → AllByRecursion (λ p. AllByRecursion (IsRefusedRightly b) (told_of p)) parts → Sessions parts
+  sessions : (parts : List Part) → AllByRecursion (IsPart schema) parts → AllByRecursion (λ p. AllByRecursion (IsRefusedRightly IsFull) (told_of p)) parts → Sessions parts
   sessions [] are refused = tt
   sessions (p ∷ parts) are refused = (session p are.0 refused.0, sessions parts are.1 refused.1)
 
@@ -175,16 +175,19 @@ module _ (schema : Schema) (b : BookState) where
 
 -- ---- the whole
 
-module _ (first : Schema) (before : History) (idle : is_idle (has_open before) ≡ true) (b : BookState) where
+module _ (first : Schema) (before : History) (idle : is_idle (has_open before) ≡ true) (most : ℕ) (b : BookState) where
   abbrev origin : Origin
-  origin = come_to first before
+  origin = come_to first before most
+
+  abbrev IsFull : Type 0
+  IsFull = length b.entries ≡ most
 
   module _ (table : ℕ) (rows : List Row) (loaded : List Given) (parts : List Part) (service : List Given) (is : IsRun origin b table rows loaded parts service) where
     load : LoadEvents origin.schema table rows loaded
     load = load_events origin.schema table rows loaded is.is_loaded
 
-    served : Sessions origin.schema b parts
-    served = sessions origin.schema b parts is.are_parts is.refused
+    served : Sessions origin.schema IsFull parts
+    served = sessions origin.schema IsFull parts is.are_parts is.refused
 
     abbrev load_piece : Piece
     load_piece = record { part = 0; events = load.events }
@@ -193,7 +196,7 @@ module _ (first : Schema) (before : History) (idle : is_idle (has_open before) �
     service_piece = record { part = service_part; events = service_events service }
 
     abbrev others : List Piece
-    others = pieces origin.schema b parts served ++ service_piece ∷ []
+    others = pieces origin.schema IsFull parts served ++ service_piece ∷ []
 
     abbrev all : List Piece
     all = load_piece ∷ others
@@ -204,17 +207,17 @@ module _ (first : Schema) (before : History) (idle : is_idle (has_open before) �
 
     are : AllByRecursion (IsPiece origin.schema) all
     are = (
-      record { its = load.its; end = None; goes = subst (λ xs. Chain (Moves origin.schema) None xs None) (sym (climbing origin.schema b load.events load.climbs)) load.goes },
-      are_pieces origin.schema b parts served service_piece (record { its = service_its service; end = None; goes = service_goes origin.schema service is.serviced }),
+      record { its = load.its; end = None; goes = subst (λ xs. Chain (Moves origin.schema) None xs None) (sym (climbing origin.schema IsFull load.events load.climbs)) load.goes },
+      are_pieces origin.schema IsFull parts served service_piece (record { its = service_its service; end = None; goes = service_goes origin.schema service is.serviced }),
     )
 
     apart : Apart all
-    apart = (none_zero origin.schema b parts served service_piece refl, are_apart origin.schema b parts served service_piece refl is.apart)
+    apart = (none_zero origin.schema IsFull parts served service_piece refl, are_apart origin.schema IsFull parts served service_piece refl is.apart)
 
     receipts_are : receipts_of (all_events all) ≡ all_given loaded parts service
     receipts_are =
-        receipts_joined origin.schema b load.events (all_events (pieces origin.schema b parts served ++ service_piece ∷ []))
-        ∙ (λ k. load.takes k ++ (all_receipts origin.schema b parts served service_piece ∙ ap (λ gs. flat_map given_of parts ++ gs) (service_takes service)) k)
+        receipts_joined origin.schema IsFull load.events (all_events (pieces origin.schema IsFull parts served ++ service_piece ∷ []))
+        ∙ (λ k. load.takes k ++ (all_receipts origin.schema IsFull parts served service_piece ∙ ap (λ gs. flat_map given_of parts ++ gs) (service_takes service)) k)
 
     -- the events that took a receipt
     split : filter took (all_events all) ≡ filter took load.events ++ filter took (all_events others)
@@ -264,7 +267,7 @@ module _ (first : Schema) (before : History) (idle : is_idle (has_open before) �
             parted 0
             ∙ (λ k. mine 0 load.events load.its k ++ in_turn number_of (none_of origin.schema 0 others are.1 apart.0 k))
             ∙ append-nil load.events
-            ∙ sym (climbing origin.schema b load.events load.climbs)
+            ∙ sym (climbing origin.schema IsFull load.events load.climbs)
             ∙ ap (in_turn number_of) (sym (first_of origin.schema load_piece others are apart)))
         by false h =
             parted i
@@ -272,7 +275,7 @@ module _ (first : Schema) (before : History) (idle : is_idle (has_open before) �
             ∙ ap (in_turn number_of) (sym (later_of origin.schema i load_piece others are.0 h))
 
     loaded_is : of_part 0 events ≡ load.events
-    loaded_is = of_all 0 ∙ ap (in_turn number_of) (first_of origin.schema load_piece others are apart) ∙ climbing origin.schema b load.events load.climbs
+    loaded_is = of_all 0 ∙ ap (in_turn number_of) (first_of origin.schema load_piece others are apart) ∙ climbing origin.schema IsFull load.events load.climbs
 
     abbrev start : World
     start = record { entries = []; history = before }
@@ -299,22 +302,22 @@ module _ (first : Schema) (before : History) (idle : is_idle (has_open before) �
     each : AllByRecursion (λ p. of_part p.part (all_events all) ≡ p.events) all
     each = each_of origin.schema all are apart
 
-    tells : (parts : List Part) (s : Sessions origin.schema b parts) (last : Piece) → AllByRecursion (λ p. of_part p.part (all_events all) ≡ p.events) (pieces origin.schema b parts s ++ last ∷ [])
-        → AllByRecursion (λ d. TellsAll origin.schema b d.number [] d.talks (of_part d.number events)) (map dialogue_of parts) × (of_part last.part (all_events all) ≡ last.events)
+    tells : (parts : List Part) (s : Sessions origin.schema IsFull parts) (last : Piece) → AllByRecursion (λ p. of_part p.part (all_events all) ≡ p.events) (pieces origin.schema IsFull parts s ++ last ∷ [])
+        → AllByRecursion (λ d. TellsAll origin.schema IsFull d.number [] d.talks (of_part d.number events)) (map dialogue_of parts) × (of_part last.part (all_events all) ≡ last.events)
     tells [] s last each = (tt, each.0)
     tells (p ∷ parts) s last each =
         let rest = tells parts s.1 last each.1 in
-        let same : of_part p.number events ≡ s.0.events = of_all p.number ∙ ap (in_turn number_of) each.0 ∙ climbing origin.schema b s.0.events s.0.known.climbs in
-        ((subst (TellsAll origin.schema b p.number [] (map (λ s. (s.lines, s.text)) p.sent)) (sym same) s.0.tells, rest.0), rest.1)
+        let same : of_part p.number events ≡ s.0.events = of_all p.number ∙ ap (in_turn number_of) each.0 ∙ climbing origin.schema IsFull s.0.events s.0.known.climbs in
+        ((subst (TellsAll origin.schema IsFull p.number [] (map (λ s. (s.lines, s.text)) p.sent)) (sym same) s.0.tells, rest.0), rest.1)
 
-    not_of : (i : ℕ) (parts : List Part) (s : Sessions origin.schema b parts) (last : Piece) → (last.part == i) ≡ false → AllByRecursion (λ d. d.number ≢ i) (map dialogue_of parts) → AllByRecursion (λ q. (q.part == i) ≡ false) (pieces origin.schema b parts s ++ last ∷ [])
+    not_of : (i : ℕ) (parts : List Part) (s : Sessions origin.schema IsFull parts) (last : Piece) → (last.part == i) ≡ false → AllByRecursion (λ d. d.number ≢ i) (map dialogue_of parts) → AllByRecursion (λ q. (q.part == i) ≡ false) (pieces origin.schema IsFull parts s ++ last ∷ [])
     not_of i [] s last other apart = (other, tt)
-    not_of i (p ∷ parts) s last other apart = (differ origin.schema b p.number i apart.0, not_of i parts s.1 last other apart.1)
+    not_of i (p ∷ parts) s last other apart = (differ origin.schema IsFull p.number i apart.0, not_of i parts s.1 last other apart.1)
 
     turned : (m n : ℕ) → n ≢ m → (m == n) ≡ false
-    turned m n apart = differ origin.schema b m n (λ e. apart (sym e))
+    turned m n apart = differ origin.schema IsFull m n (λ e. apart (sym e))
 
-    one : OneHistory first before b table rows (map dialogue_of parts) events
+    one : OneHistory first before most b table rows (map dialogue_of parts) events
     one = record {
       entries_are = entries_are;
       numbered = numbers_are;
@@ -329,5 +332,5 @@ module _ (first : Schema) (before : History) (idle : is_idle (has_open before) �
 
 pub served_runs_are_histories : ServedRunsAreHistories
 served_runs_are_histories first before o b table rows loaded parts service carries is =
-    let run : IsRun (come_to first before) b table rows loaded parts service = subst (λ o. IsRun o b table rows loaded parts service) carries.origin_is is in
-    (events first before carries.idle b table rows loaded parts service run, one first before carries.idle b table rows loaded parts service run)
+    let run : IsRun (come_to first before o.most_entries) b table rows loaded parts service = subst (λ o. IsRun o b table rows loaded parts service) carries.origin_is is in
+    (events first before carries.idle o.most_entries b table rows loaded parts service run, one first before carries.idle o.most_entries b table rows loaded parts service run)

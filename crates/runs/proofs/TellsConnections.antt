@@ -8,7 +8,6 @@ use Rattle.steps.specs.declared.step.Reply.TheVariants.{RolledBack}
 use Rattle.steps.specs.Misfit.{max_session}
 use Rattle.histories.specs.History.{History, begins, has_open}
 use Rattle.histories.proofs.StandsEnds.{itself}
-use Rattle.serving.specs.book.Book.{BookState}
 use Rattle.serving.specs.Progress.{Given, after}
 use Rattle.serving.specs.ServedSession.{Serves}
 use Rattle.runs.specs.Event.{Event, history_after}
@@ -24,7 +23,7 @@ front_of : {A : Type 0} (P : A → Type 0) (xs ys : List A) → AllByRecursion P
 front_of P [] ys all = tt
 front_of P (x ∷ xs) ys all = (all.0, front_of P xs ys all.1)
 
-module _ (schema : Schema) (b : BookState) (i : ℕ) (small : i ≤ max_session) where
+module _ (schema : Schema) (IsFull : Type 0) (i : ℕ) (small : i ≤ max_session) where
   abbrev Goes : Held → List Event → Held → Type 0
   Goes = Chain (Moves schema)
 
@@ -78,19 +77,19 @@ module _ (schema : Schema) (b : BookState) (i : ℕ) (small : i ≤ max_session)
 
   pub record AllGo (h : History) (last : ℕ) (sent : List Sent) : Type 0 where
     pub events : List Event
-    pub tells : TellsAll schema b i h (map (λ s. (s.lines, s.text)) sent) events
+    pub tells : TellsAll schema IsFull i h (map (λ s. (s.lines, s.text)) sent) events
     pub known : Rises last (given_by sent) → Before i last (last_of last (given_by sent)) (given_by sent) events
     pub goes : Goes None events None
 
-  pub all_go : (h : History) (last : ℕ) (sent : List Sent) → AllByRecursion (IsRefusedRightly b) (flat_map (λ s. s.told) sent) → has_open h i ≡ false
+  pub all_go : (h : History) (last : ℕ) (sent : List Sent) → AllByRecursion (IsRefusedRightly IsFull) (flat_map (λ s. s.told) sent) → has_open h i ≡ false
       → AllByRecursion (λ s. Serves is_reading schema i s.lines s.told (after 0 None) s.given s.text s.later) sent → AllGo h last sent
   all_go h last [] rightly closed are = record { events = []; tells = refl; known = λ rises. none_before i last; goes = refl }
   all_go h last (s ∷ sent) rightly closed are =
       let next = last_of last s.given in
-      let now = lines_go schema b i small h last s.lines s.told (after 0 None) s.later s.given s.text (front_of (IsRefusedRightly b) s.told (flat_map (λ s. s.told) sent) rightly) closed are.0 in
+      let now = lines_go schema IsFull i small h last s.lines s.told (after 0 None) s.later s.given s.text (front_of (IsRefusedRightly IsFull) s.told (flat_map (λ s. s.told) sent) rightly) closed are.0 in
       let end = gone next s.later.transaction in
       let behind =
-      all_go (history_after (history_after h now.events) end) next sent (rest_of (IsRefusedRightly b) s.told (flat_map (λ s. s.told) sent) rightly) (gone_closes (history_after h now.events) next s.later.transaction now.opens) are.1 in
+      all_go (history_after (history_after h now.events) end) next sent (rest_of (IsRefusedRightly IsFull) s.told (flat_map (λ s. s.told) sent) rightly) (gone_closes (history_after h now.events) next s.later.transaction now.opens) are.1 in
       record {
         events = now.events ++ (end ++ behind.events);
         tells = (

@@ -21,7 +21,6 @@ use Rattle.statement.specs.Print.{refusal_text}
 use Rattle.lines.specs.Partial.{Partial}
 use Rattle.serving.specs.journal.declared.entry.Entry.{Entry}
 use Rattle.serving.specs.journal.declared.entry.Entry.TheVariants.{Begin as Begins, Commit as Commits, Split as Splits, Install as Installs}
-use Rattle.serving.specs.book.Book.{BookState, most_entries}
 use Rattle.serving.specs.Progress.{Given, IsRefusedStep, PacksFirst, Progress, Replies, Takes, TakesMigrate, TakesSplit, after, takes_split}
 use Rattle.serving.specs.ServedSession.{Answers, IsKept, IsRefusedLine, IsUnread, Serves, Told, reading_takes, said}
 use Rattle.runs.specs.Event.{Event, history_after}
@@ -59,7 +58,7 @@ module _ (may_give : ℕ → Bool) (schema : Schema) (i : ℕ) (p : Progress) (g
   as_read (SplitTime key instant) r its did = record { its = its; takes = did; again = refl }
   as_read Migrate r its did = absurd its
 
-module _ (schema : Schema) (b : BookState) (i : ℕ) (small : i ≤ max_session) where
+module _ (schema : Schema) (Full : Type 0) (i : ℕ) (small : i ≤ max_session) where
   abbrev Goes : Held → List Event → Held → Type 0
   Goes = Chain (Moves schema)
 
@@ -204,7 +203,7 @@ module _ (schema : Schema) (b : BookState) (i : ℕ) (small : i ≤ max_session)
   -- what is told of a line that says this
   abbrev IsTold : Partial → Result Line Refusal → Bool → List Event → List ℕ → Type 0
   IsTold line says is_open events text =
-      Says schema b i is_open says events text
+      Says schema Full i is_open says events text
       ⊎ ((reading_takes schema i line ≡ true) × (events ≡ []) × (text ≡ refusal_text Memory))
 
   none_told : (last : ℕ) (given : List Given) → given ≡ [] → events_of i last None given ≡ []
@@ -214,7 +213,7 @@ module _ (schema : Schema) (b : BookState) (i : ℕ) (small : i ≤ max_session)
   unread_told last line says p p' given refusal text unread text_is = inr (unread.0, none_told last given unread.1.1.0, text_is ∙ ap refusal_text unread.1.0)
 
   abbrev IsFull : Refusal → Type 0
-  IsFull refusal = ◌≡◌ {A = Option Refusal} (Some refusal) (Some JournalFull) → length b.entries ≡ most_entries
+  IsFull refusal = ◌≡◌ {A = Option Refusal} (Some refusal) (Some JournalFull) → Full
 
   abbrev IsOpen : Refusal → Type 0
   IsOpen refusal = ◌≡◌ {A = Option Refusal} (Some refusal) (Some NoTransaction) → ⊥
@@ -223,7 +222,7 @@ module _ (schema : Schema) (b : BookState) (i : ℕ) (small : i ≤ max_session)
       → IsTold line says (open_in p) (events_of i last None given) text
   refused_told last line (Ok (Asks step)) p p' given refusal text (inl unread) text_is full not_open = unread_told last line (Ok (Asks step)) p p' given refusal text unread text_is
   refused_told last line (Ok (Asks step)) p p' given refusal text (inr did) text_is full not_open =
-      let is = refused schema b i last step p p' given refusal did full not_open in
+      let is = refused schema Full i last step p p' given refusal did full not_open in
       inl (inr (refusal, text_is, is.0, is.1))
   refused_told last line (Ok Nothing) p p' given refusal text unread text_is full not_open = unread_told last line (Ok Nothing) p p' given refusal text unread text_is
   refused_told last line (Ok (Clock reading)) p p' given refusal text unread text_is full not_open = unread_told last line (Ok (Clock reading)) p p' given refusal text unread text_is
@@ -253,7 +252,7 @@ module _ (schema : Schema) (b : BookState) (i : ℕ) (small : i ≤ max_session)
     opens : Opens i last p p' step given
     goes : Goes p.transaction (events_of i last step given) p'.transaction
 
-  printed : (last : ℕ) (line : Partial) (says : Result Line Refusal) (p p' : Progress) (given : List Given) (text : List ℕ) → (events_of i last None given ≡ [] → Says schema b i (open_in p) says (events_of i last None given) text) → given ≡ [] → p' ≡ p → LineGoes last line says p p' given text
+  printed : (last : ℕ) (line : Partial) (says : Result Line Refusal) (p p' : Progress) (given : List Given) (text : List ℕ) → (events_of i last None given ≡ [] → Says schema Full i (open_in p) says (events_of i last None given) text) → given ≡ [] → p' ≡ p → LineGoes last line says p p' given text
   printed last line says p p' given text told none left = record {
     step = None;
     told = inl (told (none_told last given none));
@@ -272,7 +271,7 @@ module _ (schema : Schema) (b : BookState) (i : ℕ) (small : i ≤ max_session)
     goes = step_goes last step did.reply p p' given (served_step schema i line step e) did.taken;
   }
 
-  kept : (last : ℕ) (line : Partial) (refused : Option Refusal) (p p' : Progress) (given : List Given) (text : List ℕ) → IsKept is_reading schema i refused line p given text p' → (refused ≡ Some JournalFull → length b.entries ≡ most_entries) → (refused ≡ Some NoTransaction → ⊥)
+  kept : (last : ℕ) (line : Partial) (refused : Option Refusal) (p p' : Progress) (given : List Given) (text : List ℕ) → IsKept is_reading schema i refused line p given text p' → (refused ≡ Some JournalFull → Full) → (refused ≡ Some NoTransaction → ⊥)
       → LineGoes last line (said schema i line) p p' given text
   kept last line (Some refusal) p p' given text did full not_open = record {
     step = None;
@@ -286,12 +285,12 @@ module _ (schema : Schema) (b : BookState) (i : ℕ) (small : i ≤ max_session)
 
   pub record LinesGo (h : History) (last : ℕ) (lines : List Partial) (p p' : Progress) (given : List Given) (text : List ℕ) : Type 0 where
     pub events : List Event
-    pub tells : Tells schema b i h lines events text
+    pub tells : Tells schema Full i h lines events text
     pub known : Rises last given → Before i last (last_of last given) given events
     pub goes : Goes p.transaction events p'.transaction
     pub opens : has_open (history_after h events) i ≡ open_in p'
 
-  pub lines_go : (h : History) (last : ℕ) (lines : List Partial) (told : List Told) (p p' : Progress) (given : List Given) (text : List ℕ) → AllByRecursion (IsRefusedRightly b) told → has_open h i ≡ open_in p → Serves is_reading schema i lines told p given text p'
+  pub lines_go : (h : History) (last : ℕ) (lines : List Partial) (told : List Told) (p p' : Progress) (given : List Given) (text : List ℕ) → AllByRecursion (IsRefusedRightly Full) told → has_open h i ≡ open_in p → Serves is_reading schema i lines told p given text p'
       → LinesGo h last lines p p' given text
   lines_go h last [] [] p p' given text rightly is_open did = record {
     events = [];

@@ -18,7 +18,6 @@ use Rattle.serving.specs.journal.declared.entry.Entry.{Entry}
 use Rattle.serving.specs.journal.declared.entry.Entry.TheVariants.{Begin as Begins, Split as Splits}
 use Rattle.serving.specs.validation.declared.cut.Cut.{Cut}
 use Rattle.serving.specs.validation.declared.cut.Cut.TheVariants.{Key as KeyCut, Time as TimeCut}
-use Rattle.serving.specs.book.Book.{BookState, most_entries}
 use Rattle.serving.specs.Progress.{Given, IsRefusedStep, PacksFirst, Progress, Replies, Takes, TakesMigrate, TakesSplit, after, asks_store, may_be_refused, may_run_out, takes_split}
 use Rattle.runs.specs.Run.{is_reading}
 use Rattle.runs.specs.Tells.{AreEventsOf, AreLeft, IsBegun, IsEntryOf, IsPacked, MayBeRefused, with_reading}
@@ -114,7 +113,7 @@ module _ (schema : Schema) (i last : ℕ) where
       subst (λ step. Are step (asks_store schema i step (open_in p)) given reply) (sym is)
       (migrated p p' given reply (subst (λ step. Takes is_reading schema i step p given reply p') is did))
 
-module _ (schema : Schema) (b : BookState) (i last : ℕ) where
+module _ (schema : Schema) (Full : Type 0) (i last : ℕ) where
   -- ---- a step that is refused
 
   memory_may : (step : Step) (is_open : Bool) → may_run_out schema i step is_open ≡ true → takes_no_memory_by (λ j. is_open) step ≡ false
@@ -140,12 +139,12 @@ module _ (schema : Schema) (b : BookState) (i last : ℕ) where
   memory_may Migrate is_open e = refl
 
   abbrev IsFull : Refusal → Type 0
-  IsFull refusal = ◌≡◌ {A = Option Refusal} (Some refusal) (Some JournalFull) → length b.entries ≡ most_entries
+  IsFull refusal = ◌≡◌ {A = Option Refusal} (Some refusal) (Some JournalFull) → Full
 
   abbrev IsOpen : Refusal → Type 0
   IsOpen refusal = ◌≡◌ {A = Option Refusal} (Some refusal) (Some NoTransaction) → ⊥
 
-  may : (step : Step) (t : Held) (refusal : Refusal) → may_be_refused schema i step t refusal ≡ true → IsFull refusal → IsOpen refusal → MayBeRefused schema b i (is_some t) step refusal
+  may : (step : Step) (t : Held) (refusal : Refusal) → may_be_refused schema i step t refusal ≡ true → IsFull refusal → IsOpen refusal → MayBeRefused schema Full i (is_some t) step refusal
   may step t Memory e full not_open = memory_may step (is_some t) e
   may step t JournalFull e full not_open = (e, full refl)
   may step t NoTransaction e full not_open = absurd (not_open refl)
@@ -167,7 +166,7 @@ module _ (schema : Schema) (b : BookState) (i last : ℕ) where
   Left is_open given refusal step = AreLeft i is_open (events_of i last None given) refusal step
 
   abbrev Denied : Bool → List Given → Refusal → Step → Type 0
-  Denied is_open given refusal step = MayBeRefused schema b i is_open step refusal × Left is_open given refusal step
+  Denied is_open given refusal step = MayBeRefused schema Full i is_open step refusal × Left is_open given refusal step
 
   pub refused : (step : Step) (p p' : Progress) (given : List Given) (refusal : Refusal) → IsRefusedStep schema i step p given refusal p' → IsFull refusal → IsOpen refusal → Denied (open_in p) given refusal step
   refused step p p' [] refusal did full not_open = (may step p.transaction refusal did.may full not_open, tt)

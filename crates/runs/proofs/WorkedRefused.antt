@@ -13,7 +13,6 @@ use Rattle.histories.specs.History.{reply}
 use Rattle.statement.specs.declared.line.Line.TheVariants.{Step as Asks}
 use Rattle.statement.specs.Print.{refusal_text, reply_text}
 use Rattle.lines.specs.Partial.{Partial}
-use Rattle.serving.specs.book.Book.{BookState, most_entries}
 use Rattle.serving.specs.ServedSession.{reading_takes, said}
 use Rattle.runs.specs.Event.{Event, AreRight, IsRight}
 use Rattle.runs.specs.Tells.{MayBeRefused, Says, Tells, TellsLine}
@@ -24,22 +23,22 @@ abbrev third : List ℕ → ℕ
 third (a ∷ b ∷ c ∷ rest) = c
 third text = 0
 
-module _ (schema : Schema) (b : BookState) (i : ℕ) where
+module _ (schema : Schema) (IsFull : Type 0) (i : ℕ) where
   -- what one line is, of a session that says no more
-  alone : (line : Partial) (step : Step) (events : List Event) (text : List ℕ) → said schema i line ≡ Ok (Asks step) → AreRight schema [] events → Tells schema b i [] (line ∷ []) events text
-      → (Says schema b i false (Ok (Asks step)) events text ⊎ ((reading_takes schema i line ≡ true) × (text ≡ refusal_text Memory)))
+  alone : (line : Partial) (step : Step) (events : List Event) (text : List ℕ) → said schema i line ≡ Ok (Asks step) → AreRight schema [] events → Tells schema IsFull i [] (line ∷ []) events text
+      → (Says schema IsFull i false (Ok (Asks step)) events text ⊎ ((reading_takes schema i line ≡ true) × (text ≡ refusal_text Memory)))
   alone line step events text is right (now, later, sent, rest, events_is, text_is, told, (none, no_text)) =
       let all : now ≡ events = sym (append-nil now) ∙ ap (λ xs. now ++ xs) (sym none) ∙ sym events_is in
       let whole : sent ≡ text = sym (append-nil sent) ∙ ap (λ xs. sent ++ xs) (sym no_text) ∙ sym text_is in
-      by (subst (λ sent. TellsLine schema b i false line events sent) whole (subst (λ now. TellsLine schema b i false line now sent) all told))
+      by (subst (λ sent. TellsLine schema IsFull i false line events sent) whole (subst (λ now. TellsLine schema IsFull i false line now sent) all told))
     where
-      by : TellsLine schema b i false line events text → (Says schema b i false (Ok (Asks step)) events text ⊎ ((reading_takes schema i line ≡ true) × (text ≡ refusal_text Memory)))
-      by (inl says) = inl (subst (λ says. Says schema b i false says events text) is says)
+      by : TellsLine schema IsFull i false line events text → (Says schema IsFull i false (Ok (Asks step)) events text ⊎ ((reading_takes schema i line ≡ true) × (text ≡ refusal_text Memory)))
+      by (inl says) = inl (subst (λ says. Says schema IsFull i false says events text) is says)
       by (inr (takes, none, text_is)) = inr (takes, text_is)
 
   -- ---- a COMMIT with none open
 
-  nothing_for_commit : (refusal : Refusal) → MayBeRefused schema b i false (Commit i 0) refusal → ⊥
+  nothing_for_commit : (refusal : Refusal) → MayBeRefused schema IsFull i false (Commit i 0) refusal → ⊥
   nothing_for_commit Memory may = cc may
   nothing_for_commit JournalFull may = cc may.0
   nothing_for_commit (Syntax byte) may = may
@@ -65,7 +64,7 @@ module _ (schema : Schema) (b : BookState) (i : ℕ) where
       by true e = let f : 49 ≡ 48 = e in omega (arith, f)
       by false e = let f : 32 ≡ 48 = e in omega (arith, f)
 
-  commit_answered : (events : List Event) → AreRight schema [] events → Says schema b i false (Ok (Asks (Commit i 0))) events (refusal_text Memory) → ⊥
+  commit_answered : (events : List Event) → AreRight schema [] events → Says schema IsFull i false (Ok (Asks (Commit i 0))) events (refusal_text Memory) → ⊥
   commit_answered [] right (inl (r, text, are)) = are
   commit_answered (e ∷ []) right (inl (r, text, are)) = commit_text r (subst (IsRight schema []) are.1 right.0) (sym text)
   commit_answered (e ∷ f ∷ events) right (inl (r, text, are)) = are
@@ -73,7 +72,7 @@ module _ (schema : Schema) (b : BookState) (i : ℕ) where
 
   -- ---- a BEGIN
 
-  full_for_begin : (refusal : Refusal) → length b.entries ≢ most_entries → refusal_text JournalFull ≡ refusal_text refusal → MayBeRefused schema b i false (Begin i) refusal → ⊥
+  full_for_begin : (refusal : Refusal) → (IsFull → ⊥) → refusal_text JournalFull ≡ refusal_text refusal → MayBeRefused schema IsFull i false (Begin i) refusal → ⊥
   full_for_begin Memory few text may = let f : 51 ≡ 48 = ap third text in omega (arith, f)
   full_for_begin JournalFull few text may = few may.1
   full_for_begin (Syntax byte) few text may = may
@@ -99,7 +98,7 @@ module _ (schema : Schema) (b : BookState) (i : ℕ) where
       by true e = let f : 49 ≡ 51 = e in omega (arith, f)
       by false e = let f : 103 ≡ 51 = e in omega (arith, f)
 
-  begin_answered : (events : List Event) → length b.entries ≢ most_entries → AreRight schema [] events → Says schema b i false (Ok (Asks (Begin i))) events (refusal_text JournalFull) → ⊥
+  begin_answered : (events : List Event) → (IsFull → ⊥) → AreRight schema [] events → Says schema IsFull i false (Ok (Asks (Begin i))) events (refusal_text JournalFull) → ⊥
   begin_answered [] few right (inl (r, text, are)) = are
   begin_answered (e ∷ []) few right (inl (r, text, (entry, reading, entry_is, its, step_is))) = begin_text r (subst (IsRight schema []) step_is right.0) (sym text)
   begin_answered (e ∷ f ∷ []) few right (inl (r, text, are)) = are
@@ -107,15 +106,15 @@ module _ (schema : Schema) (b : BookState) (i : ℕ) where
   begin_answered events few right (inr (refusal, text, may, left)) = full_for_begin refusal few text may
 
 pub no_memory_for_nothing : NoMemoryForNothing
-no_memory_for_nothing schema b i line events is takes_none right tells = by (alone schema b i line (Commit i 0) events (refusal_text Memory) is right tells)
+no_memory_for_nothing schema most b i line events is takes_none right tells = by (alone schema (length b.entries ≡ most) i line (Commit i 0) events (refusal_text Memory) is right tells)
   where
-    by : (Says schema b i false (Ok (Asks (Commit i 0))) events (refusal_text Memory) ⊎ ((reading_takes schema i line ≡ true) × (refusal_text Memory ≡ refusal_text Memory))) → ⊥
-    by (inl says) = commit_answered schema b i events right says
+    by : (Says schema (length b.entries ≡ most) i false (Ok (Asks (Commit i 0))) events (refusal_text Memory) ⊎ ((reading_takes schema i line ≡ true) × (refusal_text Memory ≡ refusal_text Memory))) → ⊥
+    by (inl says) = commit_answered schema (length b.entries ≡ most) i events right says
     by (inr unread) = cc (takes_none, unread.0)
 
 pub no_full_journal_with_room : NoFullJournalWithRoom
-no_full_journal_with_room schema b i line events is few right tells = by (alone schema b i line (Begin i) events (refusal_text JournalFull) is right tells)
+no_full_journal_with_room schema most b i line events is few right tells = by (alone schema (length b.entries ≡ most) i line (Begin i) events (refusal_text JournalFull) is right tells)
   where
-    by : (Says schema b i false (Ok (Asks (Begin i))) events (refusal_text JournalFull) ⊎ ((reading_takes schema i line ≡ true) × (refusal_text JournalFull ≡ refusal_text Memory))) → ⊥
-    by (inl says) = begin_answered schema b i events few right says
+    by : (Says schema (length b.entries ≡ most) i false (Ok (Asks (Begin i))) events (refusal_text JournalFull) ⊎ ((reading_takes schema i line ≡ true) × (refusal_text JournalFull ≡ refusal_text Memory))) → ⊥
+    by (inl says) = begin_answered schema (length b.entries ≡ most) i events few right says
     by (inr unread) = let f : 51 ≡ 48 = ap third unread.1 in omega (arith, f)

@@ -45,5 +45,4 @@ IsRight schema h (Some s) = s.1 ≡ reply schema h s.0
 -- each reply is the history's, where its step stands
 abbrev pub AreRight : Schema → History → List Event → Type 0
 AreRight schema h [] = Unit {0}
-AreRight schema h (e ∷ events) =
-    IsRight schema h e.step × AreRight schema (with_step e.step h) events
+AreRight schema h (e ∷ events) = IsRight schema h e.step × AreRight schema (with_step e.step h) events

@@ -39,21 +39,21 @@ pub record Dialogue : Type 0 where
   pub number : ℕ
   pub talks : List (List Partial × List ℕ)
 
--- a store begins with what a history has come to
-abbrev pub come_to : Schema → History → Origin
-come_to first before = record { schema = schema_after first before; log = log first before }
+-- a store begins with what a history has come to, and its journal may have so many entries
+abbrev pub come_to : Schema → History → ℕ → Origin
+come_to first before most = record { schema = schema_after first before; log = log first before; most_entries = most }
 
 -- it does, and no session had a transaction open there
 pub record Carries (first : Schema) (before : History) (o : Origin) : Type 0 where
   pub idle : is_idle (has_open before) ≡ true
-  pub origin_is : o ≡ come_to first before
+  pub origin_is : o ≡ come_to first before o.most_entries
 
 -- the events are the journal's entries in their order, and between them the steps that took none;
 -- each reply is the history's where its step stands, after those before the run; what was committed is
 -- the history's; those of the load come first; and of each session they are those of its connections'
 -- lines, in order, by which each was sent its text. There are no others but those of the service, which
 -- begins, or packs a node.
-pub record OneHistory (first : Schema) (before : History) (b : BookState) (table : ℕ) (rows : List Row)
+pub record OneHistory (first : Schema) (before : History) (most : ℕ) (b : BookState) (table : ℕ) (rows : List Row)
     (dialogues : List Dialogue) (events : List Event) : Type 0 where
   pub entries_are : map (λ g. g.entry) (receipts_of events) ≡ reverse b.entries
   pub numbered : map (λ g. g.number) (receipts_of events) ≡ numbers (length b.entries)
@@ -62,7 +62,7 @@ pub record OneHistory (first : Schema) (before : History) (b : BookState) (table
       ≡ log first (history_after before events)
   pub loaded : TellsLoaded table rows (of_part 0 events)
   pub loaded_first : (later : List Event) × (events ≡ of_part 0 events ++ later)
-  pub sent : AllByRecursion (λ d. TellsAll (schema_after first before) b d.number [] d.talks
+  pub sent : AllByRecursion (λ d. TellsAll (schema_after first before) (length b.entries ≡ most) d.number [] d.talks
       (of_part d.number events)) dialogues
   pub service : AllByRecursion (λ e. IsBegun 0 e ⊎ IsPacked e.entry e.step) (of_part service_part events)
   pub no_other : (i : ℕ) → i ≢ 0 → i ≢ service_part → AllByRecursion (λ d. d.number ≢ i) dialogues
@@ -78,4 +78,5 @@ ServedRunsAreHistories =
     (first : Schema) (before : History) (o : Origin) (b : BookState) (table : ℕ) (rows : List Row)
     (loaded : List Given) (parts : List Part) (service : List Given)
     → Carries first before o → IsRun o b table rows loaded parts service
-    → (events : List Event) × OneHistory first before b table rows (map dialogue_of parts) events
+    → (events : List Event) × OneHistory first before o.most_entries b table rows
+    (map dialogue_of parts) events

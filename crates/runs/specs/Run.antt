@@ -16,7 +16,7 @@ use Rattle.lines.specs.Partial.{Partial}
 use Rattle.serving.specs.journal.declared.entry.Entry.{Entry}
 use Rattle.serving.specs.journal.declared.entry.Entry.TheVariants.{Begin, Commit, Split, Install}
 use Rattle.serving.specs.journal.Entries.{entry_at, numbers}
-use Rattle.serving.specs.book.Book.{BookState, IsBook, most_entries}
+use Rattle.serving.specs.book.Book.{BookState, IsBook}
 use Rattle.serving.specs.Progress.{Given, Progress, after}
 use Rattle.serving.specs.ServedSession.{Serves, Told}
 
@@ -94,8 +94,8 @@ AreApart [] = Unit {0}
 AreApart (n ∷ numbers) = AllByRecursion (λ m. m ≢ n) numbers × AreApart numbers
 
 -- a line was answered that the journal is full only where it is, and no COMMIT of an open transaction that none is open
-pub record IsRefusedRightly (b : BookState) (t : Told) : Type 0 where
-  pub full : t.refused ≡ Some JournalFull → length b.entries ≡ most_entries
+pub record IsRefusedRightly (IsFull : Type 0) (t : Told) : Type 0 where
+  pub full : t.refused ≡ Some JournalFull → IsFull
   pub is_open : t.refused ≡ Some NoTransaction → ⊥
 
 -- ---- the service
@@ -117,7 +117,8 @@ pub record IsRun (o : Origin) (b : BookState) (table : ℕ) (rows : List Row)
   pub is_book : IsBook o b
   pub is_loaded : IsLoaded o.schema table rows loaded
   pub are_parts : AllByRecursion (IsPart o.schema) parts
-  pub refused : AllByRecursion (λ p. AllByRecursion (IsRefusedRightly b) (told_of p)) parts
+  pub refused : AllByRecursion
+      (λ p. AllByRecursion (IsRefusedRightly (length b.entries ≡ o.most_entries)) (told_of p)) parts
   pub apart : AreApart (map (λ p. p.number) parts)
   pub serviced : AllByRecursion (λ g. IsOfService g.entry) service
   pub stand : AllByRecursion (λ g. entry_at b.entries g.number ≡ Some g.entry)

@@ -1,5 +1,5 @@
 -- What a session was sent, connection by connection and line by line, and by which events.
-use Rattle.std.specs.Prelude.{◌≡◌, ℕ, ◌≤◌, List, [], ◌∷◌, ◌++◌, ◌⊎◌, Bool, true, false, Option, Some, None, Result, Ok, Err, length, map}
+use Rattle.std.specs.Prelude.{◌≡◌, ℕ, ◌≤◌, List, [], ◌∷◌, ◌++◌, ◌⊎◌, Bool, true, false, Option, Some, None, Result, Ok, Err, map}
 use Rattle.values.specs.declared.refusal.Refusal.{Refusal}
 use Rattle.values.specs.declared.refusal.Refusal.TheVariants.{JournalFull, Memory}
 use Rattle.values.specs.Commits.{max_instant}
@@ -17,7 +17,6 @@ use Rattle.lines.specs.Partial.{Partial}
 use Rattle.serving.specs.tsbtree.View.{TreeState, last}
 use Rattle.serving.specs.journal.declared.entry.Entry.{Entry}
 use Rattle.serving.specs.journal.declared.entry.Entry.TheVariants.{Begin as Begins, Commit as Commits, Split as Splits, Install as Installs}
-use Rattle.serving.specs.book.Book.{BookState, most_entries}
 use Rattle.serving.specs.Progress.{asks_store}
 use Rattle.serving.specs.ServedSession.{reading_takes, said}
 use Rattle.runs.specs.Event.{Event, history_after}
@@ -41,8 +40,7 @@ module _ (i : ℕ) where
   -- the entry that a step of the session adds: a begin of its own for a BEGIN, and for a query with no transaction
   -- open; a commit with its reading, which ended as is replied; a split; and for a MIGRATE the service's begin
   abbrev pub IsEntryOf : Step → (reading : ℕ) → Reply → Entry → Type 0
-  IsEntryOf (Begin j) reading reply (Begins session earlier view) =
-      (session ≡ i) × (reply ≡ Begun (last view))
+  IsEntryOf (Begin j) reading reply (Begins session earlier view) = (session ≡ i) × (reply ≡ Begun (last view))
   IsEntryOf (Select j form keys) reading reply (Begins session earlier view) = session ≡ i
   IsEntryOf (Commit j before) reading reply (Commits session begin net at end) =
       (session ≡ i) × (at ≡ reading) × (reading ≤ max_instant) × (reply ≡ commit_reply end)
@@ -74,13 +72,12 @@ module _ (i : ℕ) where
   let_go false = []
   let_go true = (None, Some (Rollback i, RolledBack)) ∷ []
 
-module _ (schema : Schema) (b : BookState) (i : ℕ) where
+module _ (schema : Schema) (IsFull : Type 0) (i : ℕ) where
   -- what is refused for room: a step that takes memory, since that ran out; and one that adds an entry, since the
-  -- journal is full, and it is
+  -- journal is full, where it is
   abbrev pub MayBeRefused : (is_open : Bool) → Step → Refusal → Type 0
   MayBeRefused is_open step Memory = takes_no_memory_by (λ j. is_open) step ≡ false
-  MayBeRefused is_open step JournalFull =
-      (asks_store schema i step is_open ≡ true) × (length b.entries ≡ most_entries)
+  MayBeRefused is_open step JournalFull = (asks_store schema i step is_open ≡ true) × IsFull
   MayBeRefused is_open step refusal = ⊥
 
   -- the events and the text of a line that says this, by whether the session has a transaction open: what is no step

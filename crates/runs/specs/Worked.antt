@@ -16,7 +16,7 @@ use Rattle.statement.specs.declared.line.Line.TheVariants.{Step as Asks}
 use Rattle.statement.specs.Print.{refusal_text}
 use Rattle.lines.specs.Partial.{Partial}
 use Rattle.serving.specs.journal.declared.entry.Entry.{Entry}
-use Rattle.serving.specs.book.Book.{BookState, most_entries}
+use Rattle.serving.specs.book.Book.{BookState}
 use Rattle.serving.specs.Progress.{Given}
 use Rattle.serving.specs.ServedSession.{reading_takes, said}
 use Rattle.runs.specs.Event.{Event, AreRight}
@@ -87,15 +87,15 @@ NoReceiptTwice =
 -- takes none
 abbrev pub NoMemoryForNothing : Type 0
 NoMemoryForNothing =
-    (schema : Schema) (b : BookState) (i : ℕ) (line : Partial) (events : List Event)
+    (schema : Schema) (most : ℕ) (b : BookState) (i : ℕ) (line : Partial) (events : List Event)
     → said schema i line ≡ Ok (Asks (Commit i 0)) → reading_takes schema i line ≡ false
     → AreRight schema [] events
-    → Tells schema b i [] (line ∷ []) events (refusal_text Memory) → ⊥
+    → Tells schema (length b.entries ≡ most) i [] (line ∷ []) events (refusal_text Memory) → ⊥
 
 -- where it is a BEGIN, it is sent that the journal is full only if it is
 abbrev pub NoFullJournalWithRoom : Type 0
 NoFullJournalWithRoom =
-    (schema : Schema) (b : BookState) (i : ℕ) (line : Partial) (events : List Event)
-    → said schema i line ≡ Ok (Asks (Begin i)) → length b.entries ≢ most_entries
+    (schema : Schema) (most : ℕ) (b : BookState) (i : ℕ) (line : Partial) (events : List Event)
+    → said schema i line ≡ Ok (Asks (Begin i)) → length b.entries ≢ most
     → AreRight schema [] events
-    → Tells schema b i [] (line ∷ []) events (refusal_text JournalFull) → ⊥
+    → Tells schema (length b.entries ≡ most) i [] (line ∷ []) events (refusal_text JournalFull) → ⊥

@@ -71,6 +71,14 @@ impl<J: StoreName> Answer<J> {
         }
     }
 
+    /// Tells whether it is refused since the journal is full.
+    pub(crate) fn is_full(&self) -> bool {
+        match &self.sent {
+            Sent::Refused(StoreRefusal::Book(refusal)) => refusal.is_full(),
+            _ => false,
+        }
+    }
+
     /// Makes a reply with one receipt.
     pub(crate) fn with_receipt(receipt: Receipt<J>, sent: Sent) -> Answer<J>
         ensures { result ≡ record {

@@ -22,7 +22,8 @@ use steps::Step;
 use values::Refusal;
 
 /// Serves a line: its step is taken, and what is sent for it written. A query first passes the
-/// gate, and a commit that ended a transaction passes it when its reply is written.
+/// gate; and when its reply is written a commit that ended a transaction passes it, and a line that
+/// was refused since the journal is full.
 pub(crate) fn serve_line<J: StoreName, R: Wait, C: Readings, G: Gate, W: Write>(
     service: &Service<'_, J, R, G>,
     readings: &mut C,
@@ -78,12 +79,23 @@ fn serve_step<J: StoreName, R: Wait, C: Readings, G: Gate, W: Write>(
         pass(service, session, Place::Read)?;
     }
     let answer = answer_step(service, readings, session, account, step);
-    let ended = is_commit(step) && answer.receipt.is_some();
+    let place = place_behind(step, &answer);
     tell(account, writer, answer)?;
-    if ended {
-        pass(service, session, Place::Committed)?;
+    if let Some(place) = place {
+        pass(service, session, place)?;
     }
     Ok(())
+}
+
+/// Returns where the gate is that is passed when an answer is written, if there is one.
+fn place_behind<J: StoreName>(step: &Step, answer: &Answer<J>) -> Option<Place> {
+    if answer.is_full() {
+        Some(Place::Full)
+    } else if is_commit(step) && answer.receipt.is_some() {
+        Some(Place::Committed)
+    } else {
+        None
+    }
 }
 
 /// Passes the gate.

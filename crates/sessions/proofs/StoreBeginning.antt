@@ -1,5 +1,5 @@
 -- A store that begins with nothing.
-use Rattle.std.proofs.Common.{◌≡◌, [], sym, ap, ◌∙◌, subst}
+use Rattle.std.proofs.Common.{◌≡◌, ℕ, [], sym, ap, ◌∙◌, subst}
 use Rattle.std.specs.List.Sorted.{IsStrictlySortedBy}
 use Rattle.std.proofs.lemmas.List.Elements.{All-nil}
 use Rattle.values.specs.declared.key.Point.{Point}
@@ -14,9 +14,12 @@ sorted_nil : IsStrictlySortedBy point_cmp []
 unfolding IsStrictlySortedBy
 sorted_nil = tt
 
-module _ (o : Origin) (schema : Schema) (engine : TreeState) (is : o ≡ record { schema = schema; log = [] }) (empty : IsEmpty engine) where
+module _ (o : Origin) (schema : Schema) (most : ℕ) (engine : TreeState) (is : o ≡ record { schema = schema; log = []; most_entries = most }) (empty : IsEmpty engine) where
   pub tables : schema ≡ o.schema
   tables = sym (ap (λ (o : Origin). o.schema) is)
+
+  pub most_is : most ≡ o.most_entries
+  most_is = sym (ap (λ (o : Origin). o.most_entries) is)
 
   pub holds : Holds o.schema engine (changes o.log)
   holds = subst (λ (o : Origin). Holds o.schema engine (changes o.log)) (sym is) (record { events_are = empty.no_event; keys = All-nil (λ (p : Point). IsKeyIn schema p.key); in_order = sorted_nil })

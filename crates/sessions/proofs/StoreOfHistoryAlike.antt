@@ -32,7 +32,7 @@ use Rattle.histories.proofs.StandsOpen.{no_writes}
 use Rattle.histories.proofs.HistoryPrefixes.{opened_below}
 use Rattle.book.specs.journal.declared.entry.Entry.{Entry}
 use Rattle.book.specs.journal.declared.entry.Entry.TheVariants.{Begin, Commit, Split, Install}
-use Rattle.book.specs.journal.Entries.{Entries, entry_at, start_of, log as journal_log}
+use Rattle.book.specs.journal.Entries.{Entries, entry_at, start_of, log_from}
 use Rattle.book.specs.journal.Legal.{IsLegal, MayFollow, MayBegin, MayCommit}
 use Rattle.book.proofs.journal.JournalNumbering.{IsWithin, entry_within}
 use Rattle.book.specs.Book.{BookState}
@@ -88,8 +88,8 @@ all_stay (e ∷ more) j n x at = stays e (more ++ j) n x (all_stay more j n x at
 pub put_here : (e : Entry) (j : Entries) (n : ℕ) → n ≡ length (e ∷ j) → entry_at (e ∷ j) n ≡ Some e
 put_here e j n at = ap (λ b. if b then Some e else entry_at j n) (ap (λ m. n == m) (sym at) ∙ itself n)
 
-may_follow : (before : Log) (s : SessionState) (e : Entry) (n : ℕ) (b c : BookState) → Grows before s e n b c → MayFollow (origin before s) b.entries e
-may_follow before s e n b c grows = let legal : IsLegal (origin before s) (e ∷ b.entries) = subst (IsLegal (origin before s)) grows.adds.entries_are grows.is.legal in legal.0
+may_follow : (before : Log) (s : SessionState) (e : Entry) (n : ℕ) (b c : BookState) → (grows : Grows before s e n b c) → MayFollow (origin before grows.most s) b.entries e
+may_follow before s e n b c grows = let legal : IsLegal (origin before grows.most s) (e ∷ b.entries) = subst (IsLegal (origin before grows.most s)) grows.adds.entries_are grows.is.legal in legal.0
 
 began_stays : (more j : Entries) (first schema : Schema) (h : History) (step : Step) (i : ℕ) (o : Option SessionTransactionState) → snap first (step ∷ h) i ≡ snap first h i → seen_at first (step ∷ h) i ≡ seen_at first h i
     → BeganIn j first schema h i o → BeganIn (more ++ j) first schema (step ∷ h) i o
@@ -130,7 +130,7 @@ module _ (schema : Schema) (h : History) (i : ℕ) (small : i ≤ max_session) (
       (ap (λ t. rows_after [] (changes (upto (log schema h) t))) snapshot_is ∙ rows_at (log schema h) (last (log schema h)) (log_rises schema h))
       ∙ sym (λ k. option_map (λ before. own_of (schema_after schema h) (log schema h) (Some before) (unwritten k)) (opens k))
 
-  begun_beside : (before : Log) (tables : Schema) (number earlier : ℕ) (view : TreeState) (j : Entries) (receipt : ℕ) → schema_after schema h ≡ tables → journal_log (record { schema = tables; log = before }) j ≡ log schema h → Holds tables view (changes (log schema h)) → view_last view ≡ last (log schema h) → number ≡ length (Begin i earlier view ∷ j)
+  begun_beside : (before : Log) (tables : Schema) (number earlier : ℕ) (view : TreeState) (j : Entries) (receipt : ℕ) → schema_after schema h ≡ tables → log_from (periods_of tables) before j ≡ log schema h → Holds tables view (changes (log schema h)) → view_last view ≡ last (log schema h) → number ≡ length (Begin i earlier view ∷ j)
       → IsBeside schema before (Begin i earlier view ∷ j) (session i tables receipt (Some (begun_with number earlier view))) now
   begun_beside before tables number earlier view j receipt stay same holds stands at = record {
     in_range = small;
@@ -150,8 +150,8 @@ begins_answer_alike first before old new b c h number e is none grows begun = (
     closed : log_at_begin first h old.number ≡ None
     closed = none_open _ _ old.transaction (log_at_begin first h old.number) is.is_in.own_is none
 
-    may : MayBegin (origin before old) b.entries old.number begun.earlier begun.view
-    may = subst (MayFollow (origin before old) b.entries) begun.entry_is (may_follow before old e number b c grows)
+    may : MayBegin (origin before grows.most old) b.entries old.number begun.earlier begun.view
+    may = subst (MayFollow (origin before grows.most old) b.entries) begun.entry_is (may_follow before old e number b c grows)
 
     ends : view_last begun.view ≡ last (log first h)
     ends = may.sees.last_is ∙ ap last is.log_is
@@ -210,8 +210,8 @@ commits_answer_alike first before old new b c h reading number e is grows did = 
     began : BeganIn b.entries first old.schema h old.number (Some did.ran)
     began = subst (BeganIn b.entries first old.schema h old.number) did.was_open is.began
 
-    may : MayCommit (origin before old) b.entries old.number did.ran.begun.number did.net reading did.end
-    may = subst (MayFollow (origin before old) b.entries) did.entry_is (may_follow before old e number b c grows)
+    may : MayCommit (origin before grows.most old) b.entries old.number did.ran.begun.number did.net reading did.end
+    may = subst (MayFollow (origin before grows.most old) b.entries) did.entry_is (may_follow before old e number b c grows)
 
     start_is : view_last may.view ≡ snap first h old.number
     start_is = same_some _ _ (ap start_of (sym may.begun ∙ began.0)) ∙ began.1
@@ -227,9 +227,9 @@ commits_answer_alike first before old new b c h reading number e is grows did = 
     end_is : did.end ≡ outcome (periods_of (schema_after first h)) (changes (log first h)) (last (log first h)) (snap first h old.number) (net first h old.number) reading
     end_is = may.ends ∙ (λ k. outcome (periods_of (sym is.is_in.tables_are k)) (changes (is.log_is k)) (last (is.log_is k)) (start_is k) (net_is k) reading)
 
-    log_is : journal_log (origin before old) (entry ∷ b.entries) ≡ log first (CommitStep old.number reading ∷ h)
+    log_is : log_from (periods_of old.schema) before (entry ∷ b.entries) ≡ log first (CommitStep old.number reading ∷ h)
     log_is =
-        (λ k. elim (start_of (began.0 k)) [ None ↦ journal_log (origin before old) b.entries | Some start ↦ after (periods_of old.schema) (journal_log (origin before old) b.entries) start did.net reading ])
+        (λ k. elim (start_of (began.0 k)) [ None ↦ log_from (periods_of old.schema) before b.entries | Some start ↦ after (periods_of old.schema) (log_from (periods_of old.schema) before b.entries) start did.net reading ])
         ∙ (λ k. after (periods_of (sym is.is_in.tables_are k)) (is.log_is k) ((began.1 ∙ snap_is) k) (net_is k) reading)
         ∙ sym (log_then first h old.number reading lab.value lab.is)
 

@@ -7,6 +7,7 @@ use Rattle.values.specs.declared.refusal.Refusal.TheVariants.{InTransaction, NoT
 use Rattle.values.specs.Tables.{Schema}
 use Rattle.values.specs.KeyEncoding.{bytes_of_key}
 use Rattle.values.specs.Log.{Log}
+use Rattle.values.specs.Period.{periods_of}
 use Rattle.growlog.specs.Origin.{Origin}
 use Rattle.blocks.specs.PackedNode.{Packed}
 use Rattle.book.specs.tsbtree.View.{last as view_last}
@@ -23,7 +24,7 @@ use Rattle.steps.specs.Reply.{commit_reply}
 use Rattle.steps.specs.Write.{is_write_of, writer}
 use Rattle.book.specs.journal.declared.entry.Entry.{Entry}
 use Rattle.book.specs.journal.declared.entry.Entry.TheVariants.{Begin, Commit, Split, Install}
-use Rattle.book.specs.journal.Entries.{Entries, entry_at, log as journal_log}
+use Rattle.book.specs.journal.Entries.{Entries, entry_at, log_from}
 use Rattle.book.specs.Book.{BookState, IsBook, Adds}
 use Rattle.sessions.specs.SessionState.{SessionTransactionState, SessionState, WithWrites, own_in, with_transaction, write_in}
 use Rattle.sessions.specs.OfHistory.{IsIn, seen_at}
@@ -45,22 +46,23 @@ BeganIn j first schema h i (Some t) =
     × (view_last t.view ≡ snap first h i) × Holds schema t.view (seen_at first h i)
 
 -- a store of the session's tables, that begins with these transactions
-abbrev pub origin : Log → SessionState → Origin
-origin before s = record { schema = s.schema; log = before }
+abbrev pub origin : Log → (most_entries : ℕ) → SessionState → Origin
+origin before most s = record { schema = s.schema; log = before; most_entries = most }
 
 -- the journal's log is the history's, and the session has open what the history has
 pub record IsBeside (first : Schema) (before : Log) (j : Entries) (s : SessionState) (h : History)
     : Type 0 where
   pub in_range : s.number ≤ max_session
-  pub log_is : journal_log (origin before s) j ≡ log first h
+  pub log_is : log_from (periods_of s.schema) before j ≡ log first h
   pub is_in : IsIn first (seen_at first h s.number) s h
   pub began : BeganIn j first s.schema h s.number s.transaction
 
 -- under the lock there is one entry more
 pub record Grows (before : Log) (s : SessionState) (e : Entry) (number : ℕ) (old new : BookState)
     : Type 0 where
-  pub was : IsBook (origin before s) old
-  pub is : IsBook (origin before s) new
+  pub most : ℕ
+  pub was : IsBook (origin before most s) old
+  pub is : IsBook (origin before most s) new
   pub adds : Adds e number old new
 
 -- a BEGIN answers the history's last instant, and then the session has open what the history has
@@ -128,7 +130,7 @@ abbrev pub OthersLeaveAlike : Type 0
 OthersLeaveAlike =
     (first : Schema) (before : Log) (s : SessionState) (j more : Entries) (h : History) (step : Step)
     → IsBeside first before j s h → IsOfAnother s.number step
-    → journal_log (origin before s) (more ++ j) ≡ log first (step ∷ h)
+    → log_from (periods_of s.schema) before (more ++ j) ≡ log first (step ∷ h)
     → IsBeside first before (more ++ j) s (step ∷ h)
 
 -- what a session does without the store keeps it beside the history: a write that leaves what the

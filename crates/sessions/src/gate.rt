@@ -9,6 +9,8 @@ pub enum Place {
     Read,
     /// After a commit's reply.
     Committed,
+    /// After a line was refused since the journal is full.
+    Full,
     /// Before a worker packs a node.
     Pack,
 }

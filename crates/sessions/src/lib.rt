@@ -12,8 +12,8 @@ mod store;
 mod write;
 
 pub use book::{
-    BlockCache, BookRefusal, Closed, Cut, Engine, Entry, Job, MOST_ENTRIES, PackedNode, Receipt,
-    SharedEntry, View, find_job, listing_of, pack_job,
+    BlockCache, BookRefusal, Closed, Cut, Engine, Entry, Job, PackedNode, Receipt, SharedEntry,
+    View, find_job, listing_of, pack_job,
 };
 pub use commit::Ended;
 pub use gate::{Gate, GaveUp, Place, pass_gate};

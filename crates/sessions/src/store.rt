@@ -27,8 +27,10 @@ use values::{Instant, Mem, Refusal, Schema};
 #[derive(Drop)]
 pub struct LockedStore<J: StoreName> {
     schema: Schema,
+    most_entries: usize,
     book: Mutex<Book<J>>,
     pub ghost named: { schema ≡ J.origin.schema },
+    pub ghost most_is: { most_entries ≡ J.origin.most_entries },
 }
 
 /// A store that is not closed, since the receipts are not one for each entry. They are handed back
@@ -45,35 +47,56 @@ const TRIES: u32 = 200;
 const TRIES_AT_ONCE: u32 = 100;
 
 impl<J: StoreName> LockedStore<J> {
-    /// Makes a store of these tables in which nothing was committed. Out of memory is the only
-    /// refusal.
-    pub fn new(alloc: Global, schema: Schema, opened: NewLog<SharedEntry>) -> Mem<LockedStore<J>>
+    /// Makes a store of these tables in which nothing was committed, and whose journal may have so many
+    /// entries. Out of memory is the only refusal.
+    pub fn new(
+        alloc: Global,
+        schema: Schema,
+        most_entries: usize,
+        opened: NewLog<SharedEntry>,
+    ) -> Mem<LockedStore<J>>
         requires log { opened.seen.book ≡ J.book }
-        requires origin { J.origin ≡ record { schema = schema; log = [] } }
+        requires origin { J.origin
+            ≡ record { schema = schema; log = []; most_entries = most_entries } }
         ensures memory { OnlyMemory result }
     {
         let engine = Engine::new(alloc)?;
-        Ok(LockedStore::over(alloc, schema, engine, opened))
+        Ok(LockedStore::over(alloc, schema, engine, most_entries, opened))
     }
 
-    /// Makes a store of these tables that begins with what the engine has: nothing has happened to
-    /// it yet, and its entries are numbered from 1.
+    /// Makes a store of these tables that begins with what the engine has, and whose journal may have so
+    /// many entries: nothing has happened to it yet, and its entries are numbered from 1.
     pub fn over(
         alloc: Global,
         schema: Schema,
         engine: Engine,
+        most_entries: usize,
         opened: NewLog<SharedEntry>,
     ) -> LockedStore<J>
         requires log { opened.seen.book ≡ J.book }
         requires tables { schema ≡ J.origin.schema }
+        requires most { most_entries ≡ J.origin.most_entries }
         requires holds { Holds J.origin.schema engine (changes J.origin.log) }
         requires clock { last engine ≡ last_of J.origin.log }
     {
-        let book = Book::over(alloc, engine, opened);
+        let book = Book::over(alloc, engine, most_entries, opened);
         LockedStore {
             schema,
+            most_entries,
             book: Mutex::new(book),
         }
+    }
+
+    /// Returns how many entries the journal may have.
+    pub fn most_entries(&self) -> usize
+        ensures { result ≡ J.origin.most_entries }
+    {
+        self.most_entries
+    }
+
+    /// Returns how many entries the journal has, for who looks on: it may have more when this is read.
+    pub fn entries<R: Wait>(&self, rt: &R) -> usize {
+        self.locked(rt).len()
     }
 
     /// Makes a session of the store's tables, with no transaction open. `NoSession` or out of
@@ -238,13 +261,18 @@ impl<J: StoreName> LockedStore<J> {
         ensures unclosed { IfErr result (λ u. IsPermutation receipts.items u.receipts.items) }
     {
         let mut receipts = receipts;
-        let LockedStore { schema, book } = self;
+        let LockedStore {
+            schema,
+            most_entries,
+            book,
+        } = self;
         let book = book.into_inner();
         if book.is_covered(&mut receipts) {
             return Ok(book.close(receipts));
         }
         let store = LockedStore {
             schema,
+            most_entries,
             book: Mutex::new(book),
         };
         Err(Unclosed { store, receipts })
@@ -254,7 +282,11 @@ impl<J: StoreName> LockedStore<J> {
     /// cannot go on, as where memory ran out. What it returns ends the receipts that are not among
     /// them. It takes no memory.
     pub fn give_up(self, receipts: Vec<Receipt<J>>) -> JournalGone<J> {
-        let LockedStore { schema: _, book } = self;
+        let LockedStore {
+            schema: _,
+            most_entries: _,
+            book,
+        } = self;
         book.into_inner().give_up(receipts)
     }
 }

@@ -18,12 +18,18 @@ pub(crate) enum Play {
     Broken,
     /// The first splits a node, and then has committed 16 times.
     Busy,
+    /// The first ends in the middle of a transaction; 63 that are no clients come and go, of which every
+    /// second one begins an HTTP request, and the others send nothing; and a third comes when the second
+    /// has all its replies.
+    Again,
 }
 
 /// What two clients were sent.
 pub(crate) type Sent = (Vec<u8>, Vec<u8>);
 
 const HIRE: &[u8] = b"BEGIN\nINSERT INTO emp VALUES (2, 'Bea')\nCOMMIT\nSELECT * FROM emp";
+
+const OPEN: &[u8] = b"BEGIN\nINSERT INTO emp VALUES (2, 'Bea')\n";
 
 const LOOK: &[u8] = b"SELECT * FROM emp\nCOMMIT\n";
 
@@ -127,6 +133,23 @@ fn busy_text(rt: &impl Abort, alloc: Global) -> Vec<u8> {
     text
 }
 
+/// A client that ends in the middle of a transaction, and one that comes when its session's number has
+/// come free again: those in between are no clients.
+fn ask_again<R: Abort + Net<Listener = TcpListener, Stream = TcpStream>>(
+    rt: &R,
+    alloc: Global,
+    port: u16,
+) -> Sent {
+    let first = ask(rt, alloc, port, OPEN);
+    for turn in 0..63u8 {
+        let text: &[u8] = if turn % 2 == 0 { b"GET " } else { b"" };
+        let _ = ask(rt, alloc, port, text);
+    }
+    let second = ask(rt, alloc, port, LOOK);
+    let _ = ask(rt, alloc, port, LOOK);
+    (first, second)
+}
+
 /// What two clients are sent.
 pub(crate) fn run_play<R: Abort + Net<Listener = TcpListener, Stream = TcpStream>>(
     rt: &R,
@@ -136,6 +159,7 @@ pub(crate) fn run_play<R: Abort + Net<Listener = TcpListener, Stream = TcpStream
 ) -> Sent {
     let first = match play {
         Play::Held => return ask_while_another_commits(rt, alloc, port),
+        Play::Again => return ask_again(rt, alloc, port),
         Play::InTurn => ask(rt, alloc, port, HIRE),
         Play::Broken => break_off(rt, alloc, port),
         Play::Busy => ask(rt, alloc, port, busy_text(rt, alloc).as_slice()),

@@ -1,4 +1,5 @@
 //! A reader that gives a text in pieces.
+use listening::Control;
 use std::io;
 use std::io::{ErrorKind, Read};
 
@@ -23,3 +24,5 @@ impl Read for Cut<'_> {
         Ok(n)
     }
 }
+
+impl Control for Cut<'_> {}

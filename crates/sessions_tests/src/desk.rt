@@ -144,3 +144,11 @@ pub(crate) fn is_not_open(refusal: &StoreRefusal) -> bool {
         StoreRefusal::Book(refusal) => refusal.is_not_open(),
     }
 }
+
+/// Whether a store's book refused a call, since its journal is full.
+pub(crate) fn is_full(refusal: &StoreRefusal) -> bool {
+    match refusal {
+        StoreRefusal::Session(_) => false,
+        StoreRefusal::Book(refusal) => refusal.is_full(),
+    }
+}

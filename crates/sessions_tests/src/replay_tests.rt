@@ -325,9 +325,12 @@ fn replay<J: StoreName, R: Abort + Threads + Wait + Sync>(
     opened: NewLog<SharedEntry>,
 )
     requires log { opened.seen.book ≡ J.book }
-    requires origin { J.origin ≡ record { schema = schema; log = [] } }
+    requires origin { J.origin ≡ record { schema = schema; log = []; most_entries = 1000000 } }
 {
-    let store = LockedStore::<J>::new(alloc, schema, opened).expect(rt, "there is memory");
+    let store = LockedStore::<J>::new(alloc, schema, 1_000_000, opened).expect(
+        rt,
+        "there is memory",
+    );
     let tray = Mutex::new(Tray {
         answered: Vec::new(alloc),
         receipts: Vec::new(alloc),

@@ -175,9 +175,12 @@ fn play_round<J: StoreName, R: Abort + Threads + Wait + Sync>(
     scene: Scene<'_>,
 )
     requires log { opened.seen.book ≡ J.book }
-    requires origin { J.origin ≡ record { schema = schema; log = [] } }
+    requires origin { J.origin ≡ record { schema = schema; log = []; most_entries = 1000000 } }
 {
-    let store = LockedStore::<J>::new(alloc, schema, opened).expect(rt, "there is memory");
+    let store = LockedStore::<J>::new(alloc, schema, 1_000_000, opened).expect(
+        rt,
+        "there is memory",
+    );
     let mut receipts = Vec::new(alloc);
     let wanted = play_with(rt, alloc, &store, scene, &mut receipts);
     assert!(rt; closed_in_two(rt, alloc, store, receipts) == Some(wanted));

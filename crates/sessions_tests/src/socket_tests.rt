@@ -5,7 +5,7 @@ use crate::client::{Play, Sent, run_play};
 use crate::staff::employee;
 use crate::wanted::{Wanted, is_so};
 use growlog::{NewLog, StoreName};
-use listening::{AlwaysOpen, bind, listen};
+use listening::{AlwaysOpen, Limit, bind, listen};
 use sessions::{Gate, LockedStore, Place, Receipt, Session, SharedEntry};
 use std::alloc::Global;
 use std::marker::Brand;
@@ -54,13 +54,15 @@ impl Gate for Shut {
     }
 }
 
-/// A gate that lets session 2 alone read.
+/// A gate that lets the session with a number alone read.
 #[derive(Clone, Copy)]
-struct ForSecond;
+struct ForOne {
+    number: u8,
+}
 
-impl Gate for ForSecond {
+impl Gate for ForOne {
     fn pass<R: Wait>(&self, _rt: &R, session: u8, place: Place) -> bool {
-        place == Place::Committed || session == 2
+        place == Place::Committed || session == self.number
     }
 }
 
@@ -90,11 +92,12 @@ fn hire_ann<J: StoreName, R: Abort + Wait>(
 /// them, so it takes them out of here.
 type Held<J> = Mutex<Option<(LockedStore<J>, Vec<Receipt<J>>)>>;
 
-/// Serves two connections, and returns how many entries the store closes with.
+/// Serves connections, and returns how many entries the store closes with.
 fn serve_held<J: StoreName, R, G>(
     rt: &R,
     alloc: Global,
-    listener: TcpListener,
+    bound: (TcpListener, u16),
+    limit: Limit,
     held: &Held<J>,
     gate: &G,
 ) -> usize
@@ -103,16 +106,28 @@ where
     G: Gate + Sync,
 {
     let (store, before) = held.lock(rt).take().expect(rt, "it is held");
-    let closed = listen(rt, alloc, listener, 2, store, before, gate);
+    let mut reader = b"".as_slice();
+    let closed = listen(
+        rt,
+        alloc,
+        bound,
+        limit,
+        None,
+        &mut reader,
+        store,
+        before,
+        gate,
+    );
     closed.expect(rt, "the store closes").entries()
 }
 
-/// What clients are sent by a store that is served to two, and how many entries it closes with.
+/// What two clients are sent by a store that is served, and how many entries it closes with.
 fn serve_two<J: StoreName, R, G>(
     rt: &R,
     alloc: Global,
     store: LockedStore<J>,
     gate: &G,
+    limit: Limit,
     play: Play,
 ) -> (Sent, usize)
 where
@@ -126,7 +141,7 @@ where
     let shared = &held;
     let found = thread::scope(thread::scope_env(), rt, |scope| {
         let clients = scope.spawn(move || run_play(rt, alloc, port, play));
-        let entries = serve_held(rt, alloc, listener, shared, gate);
+        let entries = serve_held(rt, alloc, (listener, port), limit, shared, gate);
         let clients = clients.expect(rt, "a thread starts");
         (clients.join(rt), entries)
     });
@@ -143,19 +158,54 @@ fn serve_new<J: StoreName, R, G>(
     schema: Schema,
     opened: NewLog<SharedEntry>,
     gate: &G,
+    limit: Limit,
     play: Play,
 ) -> (Sent, usize)
 where
     R: Abort + Net<Listener = TcpListener, Stream = TcpStream> + Clock + Threads + Wait + Sync,
     G: Gate + Sync,
     requires log { opened.seen.book ≡ J.book }
-    requires origin { J.origin ≡ record { schema = schema; log = [] } }
+    requires origin { J.origin ≡ record { schema = schema; log = []; most_entries = 1000000 } }
 {
-    let store = LockedStore::<J>::new(alloc, schema, opened).expect(rt, "there is memory");
-    serve_two(rt, alloc, store, gate, play)
+    let store = LockedStore::<J>::new(alloc, schema, 1_000_000, opened).expect(
+        rt,
+        "there is memory",
+    );
+    serve_two(rt, alloc, store, gate, limit, play)
 }
 
-/// Whether the first client is sent what is wanted, and whether the second is, and how many entries the store closes with.
+/// Whether the first client is sent what is wanted, and whether the second is, and how many entries the
+/// store closes with, by a server of so many connections.
+fn serve_clients<R, G>(
+    rt: &R,
+    alloc: Global,
+    gate: &G,
+    limit: Limit,
+    play: Play,
+    wanted: (Wanted, Wanted),
+) -> (bool, bool, usize)
+where
+    R: Abort + Net<Listener = TcpListener, Stream = TcpStream> + Clock + Threads + Wait + Sync,
+    G: Gate + Sync,
+{
+    let schema = Schema::sample(alloc).expect(rt, "there is memory");
+    let (sent, entries) = serve_new::<Brand, _, _>(
+        rt,
+        alloc,
+        schema,
+        NewLog::new(),
+        gate,
+        limit,
+        play,
+    );
+    (
+        is_so(sent.0.as_slice(), wanted.0),
+        is_so(sent.1.as_slice(), wanted.1),
+        entries,
+    )
+}
+
+/// The same of a server of two sessions.
 fn serve_two_clients<R, G>(
     rt: &R,
     alloc: Global,
@@ -167,13 +217,7 @@ where
     R: Abort + Net<Listener = TcpListener, Stream = TcpStream> + Clock + Threads + Wait + Sync,
     G: Gate + Sync,
 {
-    let schema = Schema::sample(alloc).expect(rt, "there is memory");
-    let (sent, entries) = serve_new::<Brand, _, _>(rt, alloc, schema, NewLog::new(), gate, play);
-    (
-        is_so(sent.0.as_slice(), wanted.0),
-        is_so(sent.1.as_slice(), wanted.1),
-        entries,
-    )
+    serve_clients(rt, alloc, gate, Limit::Sessions(2), play, wanted)
 }
 
 /// Any text.
@@ -242,6 +286,20 @@ fn the_second_connection_is_session_2(rt: HostRuntime) {
         Wanted::Within("begun 100\ninserted 1\ncommitted ", ""),
         Wanted::Whole("rows 2\n(1, 'Ann')\n(2, 'Bea')\nE4 no transaction\n"),
     );
-    let found = serve_two_clients(&rt, rt.alloc(), &ForSecond, Play::InTurn, wanted);
+    let found = serve_two_clients(&rt, rt.alloc(), &ForOne { number: 2 }, Play::InTurn, wanted);
     assert!(rt; found == (true, true, 5));
+}
+
+#[test]
+fn a_number_is_used_again_when_its_connection_has_ended(rt: HostRuntime) {
+    let wanted = (
+        Wanted::Whole("begun 100\ninserted 1\n"),
+        Wanted::Whole("rows 1\n(1, 'Ann')\nE4 no transaction\n"),
+    );
+    let gate = ForOne { number: 1 };
+    let limit = Limit::Connections(3);
+    let found = serve_clients(&rt, rt.alloc(), &gate, limit, Play::Again, wanted);
+    // Those that are no clients have used up all other numbers; the third that counts is session 2, which
+    // may not read.
+    assert!(rt; found == (true, true, 4));
 }

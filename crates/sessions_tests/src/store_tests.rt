@@ -1,7 +1,7 @@
 //! Sessions beside each other, and a session at a store where it did not begin.
 ghost use Rattle.std.specs.Prelude.{◌≡◌, []};
 
-use crate::desk::{Desk, count, insert, is_not_open};
+use crate::desk::{Desk, count, insert, is_full, is_not_open, open_desk};
 use crate::scene::{Audit, Scene, closed_with, play};
 use crate::step::{begin, commit};
 use growlog::{NewLog, StoreName};
@@ -59,9 +59,12 @@ fn refuses_commit<K: StoreName, R: Abort + Wait>(
     session: &mut Session,
 ) -> bool
     requires log { opened.seen.book ≡ K.book }
-    requires origin { K.origin ≡ record { schema = schema; log = [] } }
+    requires origin { K.origin ≡ record { schema = schema; log = []; most_entries = 1000000 } }
 {
-    let other = LockedStore::<K>::new(alloc, schema, opened).expect(rt, "there is memory");
+    let other = LockedStore::<K>::new(alloc, schema, 1_000_000, opened).expect(
+        rt,
+        "there is memory",
+    );
     match other.commit(rt, session, 0) {
         Ok(_receipt) => panic!(rt; "it was committed elsewhere"),
         Err(refusal) => {
@@ -92,4 +95,36 @@ pub(crate) fn commit_elsewhere<J: StoreName, R: Abort + Wait>(
 #[test]
 fn a_transaction_is_open_at_its_own_store_alone(rt: HostRuntime) {
     play(&rt, rt.alloc(), Scene::Elsewhere);
+}
+
+/// Whether a store of these tables, whose journal may have one entry, begins one transaction and refuses the next since it
+/// is full, and closes with that entry.
+fn is_full_at_one<J: StoreName, R: Abort + Wait>(
+    rt: &R,
+    alloc: Global,
+    schema: Schema,
+    opened: NewLog<SharedEntry>,
+) -> bool
+    requires log { opened.seen.book ≡ J.book }
+    requires origin { J.origin ≡ record { schema = schema; log = []; most_entries = 1 } }
+{
+    let store = LockedStore::<J>::new(alloc, schema, 1, opened).expect(rt, "there is memory");
+    let mut desk = open_desk(rt, alloc);
+    let mut receipts = Vec::new(alloc);
+    assert!(rt; store.entries(rt) == 0);
+    begin(rt, &store, &mut desk.first, &mut receipts);
+    assert!(rt; store.entries(rt) == store.most_entries());
+    match store.begin(rt, &mut desk.second) {
+        Ok(_receipt) => panic!(rt; "it began in a full journal"),
+        Err(refusal) => {
+            let shown = closed_with(rt, alloc, store, receipts);
+            is_full(&refusal) && shown == Some((1, 0, 0))
+        }
+    }
+}
+
+#[test]
+fn a_journal_is_full_with_all_entries_that_it_may_have(rt: HostRuntime) {
+    let schema = Schema::sample(rt.alloc()).expect(&rt, "there is memory");
+    assert!(rt; is_full_at_one::<Brand, _>(&rt, rt.alloc(), schema, NewLog::new()));
 }

@@ -17,10 +17,10 @@ pub returns-clause-done : goal.returns-clause-done
 returns-clause-done g c =
     let load = option_map (λ text. text.now) c.args.text in
     served_all c.args.system load c.args.plan (g.I.Read.remaining c.args.reader.now) (g.O.Write.contents c.args.out.now) c.in-Ok.first (subst (λ schema. IsFirst schema load c.in-Ok.first) c.schema.ensures c.in-Ok.ensures.ok)
-    (g.O.Write.contents c.serve.new.out) c.serve.result c.ended.result c.ended.ensures c.histories_can_be_read.ensures.kept c.serve.ensures.ok
+    (g.I.Read.remaining c.serve.new.reader) (g.O.Write.contents c.serve.new.out) c.serve.ensures.read c.serve.result c.ended.result c.ended.ensures c.histories_can_be_read.ensures.kept c.serve.ensures.ok
 
 pub returns-clause-halts : goal.returns-clause-halts
 returns-clause-halts g c =
     let load = option_map (λ text. text.now) c.args.text in
     stops_serving c.args.system load c.args.plan (g.I.Read.remaining c.args.reader.now) (g.O.Write.contents c.args.out.now) c.in-Ok.first (subst (λ schema. IsFirst schema load c.in-Ok.first) c.schema.ensures c.in-Ok.ensures.ok)
-    (g.O.Write.contents c.serve.new.out) c.serve.result c.ended.result c.ended.ensures c.serve.ensures.err
+    (g.I.Read.remaining c.serve.new.reader) (g.O.Write.contents c.serve.new.out) c.serve.ensures.read c.serve.result c.ended.result c.ended.ensures c.serve.ensures.err

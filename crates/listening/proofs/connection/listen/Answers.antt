@@ -27,12 +27,12 @@ returns-in-Ok-close-clause-run g c =
     let are : c.append.new.self.items ≡ c.args.before.items ++ later =
     c.append.ensures.items ∙ (λ k. if well k then c.reserve.new.self.items ++ later else c.reserve.new.self.items) ∙ ap (λ rs. rs ++ later) c.reserve.ensures.items in
     let run = both c.into_inner.result.is_run _ (sym c.into_receipts-others.ensures.run ∙ c.if-not-is_run.false) in
-    of_receipts g.J.StoreName.origin c.in-Ok-close.closed c.args.sessions table rows
-    (map {B = Given} (λ r. record { number = r.number; entry = r.entry }) c.args.before.items) c.into_inner.result.given c.into_inner.result.lasts c.into_inner.result.again c.into_inner.result.has_full
+    of_receipts g.J.StoreName.origin c.in-Ok-close.closed c.args.limit table rows
+    (map {B = Given} (λ r. record { number = r.number; entry = r.entry }) c.args.before.items) c.into_inner.result
     (λ r. record { number = r.number; entry = r.entry }) c.append.new.self.items c.args.before.items later are (λ k. map {B = Given} (λ r. record { number = r.number; entry = r.entry }) c.args.before.items) (sym c.into_receipts-others.ensures.given)
-    c.in-Ok-close.ensures.book loaded (c.into_receipts-others.ensures.parts run.0) (λ e. full (c.into_receipts-others.ensures.full ∙ e)) run.1 c.in-Ok-close.ensures.stand c.in-Ok-close.ensures.once)
+    c.in-Ok-close.ensures.book loaded (c.into_receipts-others.ensures.parts run.0) (λ e. full (c.into_receipts-others.ensures.full ∙ e) ∙ c.most_entries-most_entries.ensures) run.1 c.in-Ok-close.ensures.stand c.in-Ok-close.ensures.once)
 
 pub returns-in-Ok-close-clause-history : goal.returns-in-Ok-close-clause-history
 returns-in-Ok-close-clause-history g c =
-    each_one c.served_runs_are_histories.ensures.histories g.J.StoreName.origin c.args.sessions
+    each_one c.served_runs_are_histories.ensures.histories g.J.StoreName.origin c.args.limit
     (map {B = Given} (λ r. record { number = r.number; entry = r.entry }) c.args.before.items) c.confirm.result (returns-in-Ok-close-clause-run g c)

@@ -3,4 +3,4 @@ use Rattle.sessions_tests.proofs.scene.play.Given as goal
 
 -- the log that was just made, and the tables
 abbrev pub ghosts-play_round : goal.ghosts-play_round
-ghosts-play_round g a = record { book = a.opened.seen.book; origin = record { schema = a.schema; log = [] } }
+ghosts-play_round g a = record { book = a.opened.seen.book; origin = record { schema = a.schema; log = []; most_entries = 1000000 } }
