@@ -24,6 +24,15 @@ CREATE TABLE note (
 ) WITH SYSTEM VERSIONING
 """
 
+def has_option(option):
+    """Returns whether there is a program, and its help has an option."""
+    program = find_program()
+    if not program:
+        return False
+    told = subprocess.run([program, "--help"], stdout=subprocess.PIPE, stdin=subprocess.DEVNULL, timeout=LONGEST, check=False)
+    return f" {option} " in told.stdout.decode("utf-8")
+
+
 needs_program = unittest.skipUnless(find_program(), "tsvd is not built")
 
 

@@ -1,15 +1,19 @@
+import os
 import pathlib
 import re
+import signal
 import socket
 import subprocess
 import sys
+import unittest
 
 import tsvd
-from tests.served import LONGEST, Files, needs_program
+from tests.served import LONGEST, Files, has_option, needs_program
 from tsvd.program import find_program
 
-UNIT = pathlib.Path(tsvd.__file__).resolve().parents[3] / "examples" / "tsvd.service"
-PAGE = UNIT.parents[1] / "docs" / "OPERATING.md"
+EXAMPLES = pathlib.Path(tsvd.__file__).resolve().parents[3] / "examples"
+UNITS = {path.name: path.read_text() for path in sorted(EXAMPLES.glob("*.service"))}
+PAGE = EXAMPLES.parent / "docs" / "OPERATING.md"
 SCHEMA = """CREATE TABLE contracts (contract INT PRIMARY KEY, holder TEXT,
   s TIMESTAMP(6) GENERATED ALWAYS AS ROW START, e TIMESTAMP(6) GENERATED ALWAYS AS ROW END, PERIOD FOR SYSTEM_TIME (s, e)
 ) WITH SYSTEM VERSIONING"""
@@ -21,36 +25,68 @@ def free_port():
         return listener.getsockname()[1]
 
 
+def units(supervised):
+    """Returns the units that start the supervisor, or those that start the program itself."""
+    return [text for text in UNITS.values() if (" serve " in text) == supervised]
+
+
 @needs_program
 class Units(Files):
-    def commands(self, name, port):
-        """Returns the commands of the unit, with the paths and the port of this test."""
-        for before, now in (("/usr/local/bin/tsvd", find_program()), ("/etc/tsvd", str(self.folder)), ("7411", str(port)),
-                            ("/usr/bin/python3", "python3")):
-            self.assertIn(before, UNIT.read_text())
-        text = UNIT.read_text().replace("/usr/local/bin/tsvd", find_program()).replace("/etc/tsvd", str(self.folder))
-        text = re.sub(r"(/usr/bin/)?python3", sys.executable, text.replace("7411", str(port)))
-        return re.findall(f"^{name}=(.*)$", text, re.M)
-
-    def test_the_commands_of_the_unit_start_and_stop_a_server(self):
+    def setUp(self):
+        super().setUp()
         self.file("tables.schema", SCHEMA)
-        port = free_port()
-        (start,), stops = self.commands("ExecStart", port), self.commands("ExecStop", port)
+        self.port = free_port()
+
+    def commands(self, text, name):
+        """Returns the commands of a unit, with the paths and the port of this test."""
+        for before, now in (("/usr/local/bin/tsvd", find_program()), ("/etc/tsvd", str(self.folder)), ("7411", str(self.port)),
+                            ("/usr/bin/python3", "python3"), ("/var/lib/tsvd", str(self.folder / "state"))):
+            self.assertIn(before, text)
+            text = text.replace(before, now)
+        return re.findall(f"^{name}=(.*)$", text.replace("python3", sys.executable), re.M)
+
+    def start(self, command):
+        """Starts a command with its output in a file, and commits a row in a session of its own."""
         with open(str(self.folder / "output"), "w") as output:
-            server = subprocess.Popen(start.split(), stdout=output, cwd=str(self.folder))
+            server = subprocess.Popen(command.split(), stdout=output, stderr=subprocess.DEVNULL, cwd=str(self.folder),
+                                      env=self.environment())
         self.addCleanup(server.wait)
         self.addCleanup(server.kill)
-        with tsvd.connect(port, SCHEMA) as connection:
+        with tsvd.connect(self.port, SCHEMA, wait=LONGEST) as connection:
             connection.execute("INSERT INTO contracts VALUES (1, NULL)")
         connection.close()
-        for command in stops:
-            ran = subprocess.run(["sh", "-c", command], cwd=str(self.folder), timeout=LONGEST, check=False,
-                                 env={"PYTHONPATH": str(pathlib.Path(tsvd.__file__).parents[1]), "PATH": "/usr/bin:/bin"})
-            self.assertEqual(ran.returncode, 0, command)
-        server.terminate()
-        self.assertEqual(server.wait(LONGEST), 0)
-        self.assertIn("\ncontract,holder,s,e\n1,,", (self.folder / "output").read_text())
-        self.assertIn("VALUES (1, NULL)", (self.folder / "stopped.script").read_text())
+        return server
 
-    def test_the_page_has_the_unit(self):
-        self.assertIn(UNIT.read_text(), PAGE.read_text(encoding="utf-8"))
+    def environment(self):
+        """Returns an environment in which the package is found."""
+        return {"PYTHONPATH": str(pathlib.Path(tsvd.__file__).parents[1]), "PATH": os.environ["PATH"]}
+
+    def test_the_commands_of_a_unit_start_and_stop_a_server(self):
+        for text in units(supervised=False):
+            (start,), stops = self.commands(text, "ExecStart"), self.commands(text, "ExecStop")
+            server = self.start(start)
+            for command in stops:
+                ran = subprocess.run(["sh", "-c", command], cwd=str(self.folder), timeout=LONGEST, check=False,
+                                     env=self.environment())
+                self.assertEqual(ran.returncode, 0, command)
+            server.terminate()
+            self.assertEqual(server.wait(LONGEST), 0)
+            self.assertIn("\ncontract,holder,s,e\n1,,", (self.folder / "output").read_text())
+            self.assertIn("VALUES (1, NULL)", (self.folder / "stopped.script").read_text())
+
+    @unittest.skipUnless(has_option("--connections"), "the program has no --connections")
+    def test_a_unit_of_the_supervisor_starts_a_server_and_term_stops_it(self):
+        for text in units(supervised=True):
+            (start,), stops = self.commands(text, "ExecStart"), self.commands(text, "ExecStop")
+            self.assertEqual(stops, [])
+            # TERM must not reach the program itself.
+            self.assertIn("\nKillMode=mixed\n", text)
+            server = self.start(start)
+            server.send_signal(signal.SIGTERM)
+            self.assertEqual(server.wait(LONGEST), 0)
+            self.assertIn("VALUES (1, null)", (self.folder / "state" / "state.script").read_text())
+
+    def test_the_page_has_each_unit(self):
+        self.assertTrue(UNITS)
+        for text in UNITS.values():
+            self.assertIn(text, PAGE.read_text(encoding="utf-8"))

@@ -41,6 +41,6 @@ class Package(unittest.TestCase):
                 elif isinstance(node, ast.ImportFrom) and node.level == 0:
                     names.add(node.module)
         self.assertLessEqual(names, {
-            "__future__", "argparse", "atexit", "bisect", "csv", "datetime", "decimal", "html", "itertools", "json", "numbers",
-            "operator", "os", "pathlib", "re", "readline", "shutil", "socket", "subprocess", "sys", "threading", "time",
-            "typing", "unicodedata", "uuid"})
+            "__future__", "argparse", "atexit", "bisect", "collections", "contextlib", "copy", "csv", "datetime", "decimal",
+            "fcntl", "filecmp", "html", "itertools", "json", "numbers", "operator", "os", "pathlib", "re", "readline", "shutil",
+            "signal", "socket", "subprocess", "sys", "threading", "time", "typing", "unicodedata", "uuid"})

@@ -8,7 +8,7 @@ from tsvd.protocol import Session
 
 
 class Answers:
-    """A server of one connection that answers each line with bytes of the test's own."""
+    """A server of one connection that answers each line behind the first with bytes of the test's own."""
 
     def __init__(self, *answers):
         self.listener = socket.create_server(("127.0.0.1", 0))
@@ -20,6 +20,8 @@ class Answers:
     def serve(self, answers):
         connection, _ = self.listener.accept()
         with connection, connection.makefile("rb") as lines:
+            lines.readline()
+            connection.sendall(b"E4 no transaction\n")
             for answer in answers:
                 self.lines.append(lines.readline())
                 connection.sendall(answer)

@@ -5,14 +5,14 @@ from __future__ import annotations
 import sys
 from typing import Callable, Dict, List, Sequence
 
-from . import backup, csv_check, extract, load, replay, send, shell, side_by_side, stop, timeline
+from . import backup, csv_check, extract, health, load, replay, send, serve, shell, side_by_side, stop, timeline
 from .errors import Error
 
 COMMANDS: Dict[str, Callable[[Sequence[str]], int]] = {
     "shell": shell.main, "send": send.main, "timeline": timeline.main, "side-by-side": side_by_side.main,
     "check-csv": csv_check.main, "load": load.main, "extract": extract.main,
     "backup": backup.main, "replay": replay.main,
-    "stop": stop.main,
+    "serve": serve.main, "health": health.main, "stop": stop.main,
 }
 INTERRUPTED = 130
 USAGE = """usage: python3 -m tsvd COMMAND
@@ -26,6 +26,8 @@ USAGE = """usage: python3 -m tsvd COMMAND
   extract PORT TABLE              writes what was on record as of a date, as CSV or JSON
   backup PORT                     writes all versions of all tables as a script that leaves the same history
   replay TABLE=FILE               makes such a script of CSV files with periods, also those of other systems
+  serve --state FOLDER -- OPTIONS keeps a server going, with its history in a folder, until a signal stops it
+  health PORT                     asks whether a server answers, without an entry in its journal
   stop PORT                       ends a server by using up its remaining sessions, and waits for its end
 
 COMMAND --help says more."""

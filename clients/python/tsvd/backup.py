@@ -41,14 +41,17 @@ def backup_lines(last: int, histories: Sequence[History]) -> Iterator[str]:
 
 
 def main(words: Sequence[str]) -> int:
-    """Runs `backup PORT [--schema FILE]`, and writes the script to standard output."""
-    parser = argparse.ArgumentParser(prog="python3 -m tsvd backup", usage="%(prog)s PORT [--schema FILE] > SCRIPT",
+    """Runs `backup PORT [--schema FILE] [--wait SECONDS]`, and writes the script to standard output."""
+    parser = argparse.ArgumentParser(prog="python3 -m tsvd backup",
+                                     usage="%(prog)s PORT [--schema FILE] [--wait SECONDS] > SCRIPT",
                                      epilog="Run it with tsvd --schema FILE --script SCRIPT. Only tables of the schema "
                                      "are written.")
     parser.add_argument("port", type=int, help="the port of a running server")
     parser.add_argument("--schema", help="the schema file of the server; without it the sample table emp (no, name)")
+    parser.add_argument("--wait", type=float, default=5.0, metavar="SECONDS",
+                        help="the longest time until the server serves this session (5)")
     given = parser.parse_args(words)
-    connection = connect(given.port, schema_file(given.schema))
+    connection = connect(given.port, schema_file(given.schema), given.wait)
     try:
         last, histories = read_histories(connection)
     finally:

@@ -165,12 +165,14 @@ def connect(port: int, schema: Union[None, str, Schema] = None, wait: float = 5.
             datetimes: bool = False) -> Connection:
     """Opens a session with the server at a port of this machine.
 
-    `schema` is the text of the server's schema file; None means the sample table. If nothing
-    listens at the port yet, tries again for `wait` seconds. A reply that takes longer than
-    `timeout` seconds ends the session. With `autocommit` each statement is a transaction by itself.
-    `days` says how columns hold dates: {'table.column': form}, or {'table': form} for its period of
-    application time, with a form of 'yyyymmdd', 'yyyy-mm-dd' and 'microseconds'. With `datetimes` the
-    periods of FROM .. TO and BETWEEN .. AND are datetimes in UTC instead of microseconds since 1970.
+    `schema` is the text of the server's schema file; None means the sample table. A server serves 64
+    connections at once: waits for its turn at most `wait` seconds in all, or a second where that is
+    less. Where nothing listens at the port yet, or the connection is refused or broken off, it is tried
+    again meanwhile. A later reply that takes longer than `timeout` seconds ends the session. With
+    `autocommit` each statement is a transaction by itself. `days` says how columns hold dates:
+    {'table.column': form}, or {'table': form} for its period of application time, with a form of
+    'yyyymmdd', 'yyyy-mm-dd' and 'microseconds'. With `datetimes` the periods of FROM .. TO and
+    BETWEEN .. AND are datetimes in UTC instead of microseconds since 1970.
     """
     tables = schema_of(schema)
     Days(days, tables)

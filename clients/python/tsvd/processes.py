@@ -9,7 +9,7 @@ import socket
 import sys
 from typing import Dict, Iterable, Iterator, List, NamedTuple, Optional, Set
 
-from .protocol import HOST
+from .opening import HOST
 
 PROC = pathlib.Path("/proc")
 LISTENING = "0A"

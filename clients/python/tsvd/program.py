@@ -40,10 +40,14 @@ def program_path() -> str:
 
 
 class Server:
-    """Runs a server at a free port; `before` holds the lines printed before the port."""
+    """Runs a server at a free port; `before` holds the lines printed before the port.
 
-    def __init__(self, options: Sequence[str] = (), sessions: int = 1, errors: Optional[int] = None) -> None:
-        words = [program_path(), *options, "--listen", "0", "--sessions", str(sessions)]
+    `counted` says what ends it: `--sessions`, or `--connections` where it serves any number of them.
+    """
+
+    def __init__(self, options: Sequence[str] = (), sessions: int = 1, errors: Optional[int] = None,
+                 counted: str = "--sessions") -> None:
+        words = [program_path(), *options, "--listen", "0", counted, str(sessions)]
         self.process = subprocess.Popen(
             words, stdin=subprocess.DEVNULL, stdout=subprocess.PIPE, stderr=errors,
             encoding="utf-8", start_new_session=True)

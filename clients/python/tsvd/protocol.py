@@ -2,51 +2,29 @@
 
 from __future__ import annotations
 
+import copy
 import socket
 import threading
-import time
 from typing import Any, List, Optional, Union
 
-from .errors import DisconnectError, InterfaceError, OperationalError
+from .errors import DisconnectError, InterfaceError
 from .lines import checked
+from .opening import open_session
 from .replies import is_reply
-
-HOST = "127.0.0.1"
-PAUSE = 0.05
-
-
-def nothing_listens(port: int) -> OperationalError:
-    """Makes the exception for a port where nothing listens."""
-    return OperationalError(f"nothing listens at port {port}: there is no server, or its sessions are all taken, "
-                            "and it ends with them")
-
-
-def open_socket(port: int, wait: float = 5.0, timeout: Optional[float] = None) -> socket.socket:
-    """Connects to a port of this machine; retries for `wait` seconds while connections are refused."""
-    end = time.monotonic() + wait
-    while True:
-        try:
-            connected = socket.create_connection((HOST, port), timeout)
-            connected.setsockopt(socket.IPPROTO_TCP, socket.TCP_NODELAY, 1)
-            return connected
-        except ConnectionRefusedError:
-            if time.monotonic() >= end:
-                raise nothing_listens(port) from None
-            time.sleep(PAUSE)
-        except OSError as fault:
-            raise OperationalError(f"port {port}: {fault}") from fault
 
 
 class Session:
     """Represents one connection, which is one session of the server.
 
-    A line is sent only if it has exactly one reply, and only after the previous reply was read
-    completely. If reading is interrupted, or a reply has an unknown form, the session ends.
+    It is open once the server has answered a first line, which takes no entry of the journal: `wait`
+    bounds the time until then. A line is sent only if it has exactly one reply, and only after the
+    previous reply was read completely. If reading is interrupted, or a reply has an unknown form,
+    the session ends.
     """
 
     def __init__(self, port: int, wait: float = 5.0, timeout: Optional[float] = None) -> None:
-        self.socket = open_socket(port, wait, timeout)
-        self.replies = self.socket.makefile("rb")
+        self.socket, self.replies = open_session(port, wait)
+        self.socket.settimeout(timeout)
         self.is_open = True
         self.lock = threading.Lock()
 
@@ -62,6 +40,33 @@ class Session:
         self.is_open = False
         self.replies.close()
         self.socket.close()
+
+    def handed_on(self) -> "Session":
+        """Returns the session for another holder; whoever still has this object can neither use nor close it."""
+        kept, timeout = copy.copy(self), self.socket.gettimeout()
+        kept.lock = threading.Lock()
+        kept.socket = socket.socket(fileno=self.socket.detach())
+        kept.socket.settimeout(timeout)
+        kept.replies = kept.socket.makefile("rb")
+        self.is_open = False
+        return kept
+
+    def has_ended(self) -> bool:
+        """Returns whether the session was closed or the server has ended it, without sending anything."""
+        if not self.is_open:
+            return True
+        timeout = self.socket.gettimeout()
+        try:
+            self.socket.settimeout(0)
+            # Between replies there is nothing to read but the connection's end.
+            self.socket.recv(1, socket.MSG_PEEK)
+        except BlockingIOError:
+            return False
+        except OSError:
+            return True
+        finally:
+            self.socket.settimeout(timeout)
+        return True
 
     def ask(self, line: Union[str, bytes]) -> List[str]:
         """Sends a line and returns the lines of its reply: one, and N more after `rows N`."""

@@ -37,7 +37,7 @@ REFUSALS: Dict[int, Refusal] = {
     10: Refusal(OperationalError, "out of memory; nothing has changed", "try again when memory is available"),
     11: Refusal(ProgrammingError, "no such session", "use a session from 1 to 64"),
     12: Refusal(DataError, "the line has over 8,192 bytes", "split it into several statements"),
-    13: Refusal(OperationalError, "the journal is full, with 1,000,000 entries",
+    13: Refusal(OperationalError, "the journal is full",
                 "end the run, which writes its --export, and load the current rows into the next; an open transaction still reads"),
     14: Refusal(IntegrityError, "the period overlaps another of the same entity",
                 "change the overlapping part with FOR PORTION OF"),

@@ -11,7 +11,7 @@ from typing import List, Optional, Sequence
 from .errors import InterfaceError, OperationalError
 from .limits import MOST_SESSIONS
 from .processes import Client, Process, clients_of, has_ended, listed, server_at
-from .protocol import HOST, nothing_listens
+from .opening import HOST, nothing_listens
 
 NONE_LISTENS, WAS_LEFT, IS_HELD = "none listens", "was left", "is held"
 HAS_ENDED, IS_KEPT, IS_UNSEEN = 0, 3, 4
@@ -45,7 +45,8 @@ def use_sessions(port: int, wait: float = 5.0) -> int:
             return used
         if found == IS_HELD:
             raise OperationalError(f"used up {used} remaining sessions; the server did not answer the next one in time")
-    raise OperationalError(f"the program at port {port} is not tsvd: it takes over {MOST_SESSIONS} connections")
+    raise OperationalError(f"the server at port {port} takes over {MOST_SESSIONS} connections: one with --connections is "
+                           "ended by its standard input, and python3 -m tsvd serve by TERM; else it is not tsvd")
 
 
 def remaining(port: int, wait: float, server: Optional[Process]) -> int:
