@@ -1,7 +1,5 @@
--- What happened at MariaDB: `export` runs these lines, each in the session of its number, on a server of its own. SET timestamp
--- gives a session the dates of the story. A line that begins with a file writes what it selects to that file.
-1: SET time_zone = '+00:00'
-2: SET time_zone = '+00:00'
+-- What happened at MariaDB: `export` runs these lines, each in the session of its number and in UTC, on a server of its own.
+-- SET timestamp gives a session the dates of the story. A line that begins with a file writes what it selects to that file.
 1: CREATE TABLE credit (customer INT PRIMARY KEY, holder VARCHAR(40) NOT NULL, euros INT NOT NULL, row_start TIMESTAMP(6) GENERATED ALWAYS AS ROW START, row_end TIMESTAMP(6) GENERATED ALWAYS AS ROW END, PERIOD FOR SYSTEM_TIME (row_start, row_end)) WITH SYSTEM VERSIONING
 
 -- 5 January: three customers, and how much credit each has.
