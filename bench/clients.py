@@ -10,6 +10,16 @@ import postgres
 END = "end of the reply"
 
 
+def has_mariadb():
+    """Returns whether MariaDB's server and client are installed."""
+    return all(map(mariadb.find, ("mariadbd", "mariadb-install-db", "mariadb")))
+
+
+def has_postgres():
+    """Returns whether PostgreSQL's server and client are installed."""
+    return all(map(postgres.find, ("initdb", "postgres", "psql")))
+
+
 class Client:
     """A session: statements go in, and the lines of each reply come out, its fields with tabs between them."""
 
@@ -53,7 +63,7 @@ class Client:
 
 def of_mariadb(server):
     """Returns a session at a server of `mariadb.py`, in UTC."""
-    client = Client(["mariadb", "--no-defaults", "--batch", "--skip-column-names", "--unbuffered", "--force",
+    client = Client([mariadb.find("mariadb"), "--no-defaults", "--batch", "--skip-column-names", "--unbuffered", "--force",
                      "--default-character-set=utf8mb4", "--host=127.0.0.1", f"--port={server.port}",
                      f"--user={mariadb.USER}", "bench"], f"SELECT '{END}';", MYSQL_PWD=server.password)
     client.run("SET time_zone = '+00:00'")

@@ -1,4 +1,4 @@
-"""A clock that can be set, for programs that are started while it is laid over them: by libfaketime, where it is installed."""
+"""A clock that can be set, for programs that are started while it is laid over them, by libfaketime."""
 
 import contextlib
 import os

@@ -46,8 +46,9 @@ class Server:
 
     def open(self):
         data = os.path.join(self.folder, "data")
-        made = subprocess.run([find("initdb"), f"--pgdata={data}", "--auth=trust", f"--username={USER}", "--no-sync",
-                               "--encoding=UTF8", "--locale=C.UTF-8"], capture_output=True, text=True, check=False, **self.own)
+        words = [find("initdb"), f"--pgdata={data}", "--auth=trust", f"--username={USER}", "--no-sync", "--encoding=UTF8",
+                 "--locale=C.UTF-8"]
+        made = subprocess.run(words, capture_output=True, text=True, check=False, **self.own)
         if made.returncode != 0:
             raise Fault("initdb: " + made.stderr[-500:])
         with open(os.path.join(self.folder, "log"), "wb") as log:
@@ -62,9 +63,12 @@ class Server:
 
     def answer(self, statement="SHOW server_version"):
         """Returns what a statement selects, or None."""
-        ran = subprocess.run([find("psql"), "-XAtq", f"--host={self.folder}", f"--username={USER}", "postgres", "-c", statement],
-                             capture_output=True, text=True, check=False)
+        words = [find("psql"), "-XAtq", f"--host={self.folder}", f"--username={USER}", "postgres", "-c", statement]
+        ran = subprocess.run(words, capture_output=True, text=True, check=False)
         return ran.stdout.strip() if ran.returncode == 0 else None
+
+    def has_periods(self):
+        return self.answer("SELECT 1 FROM pg_available_extensions WHERE name = 'periods'") == "1"
 
     def close(self):
         if self.process is not None:
