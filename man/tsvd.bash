@@ -27,7 +27,7 @@ _tsvd() {
     case $before in
     --schema | --after | --script | --dump) mapfile -t COMPREPLY < <(compgen -f -- "$word") ;;
     --listen | --sessions | --connections | --entries | --idle | --export | --load) COMPREPLY=() ;;
-    *) mapfile -t COMPREPLY < <(compgen -W "--schema --after --script --listen --sessions --connections --entries --idle --load --export --dump --help --version" -- "$word") ;;
+    *) mapfile -t COMPREPLY < <(compgen -W "--schema --after --script --listen --sessions --connections --entries --idle --log --load --export --dump --help --version" -- "$word") ;;
     esac
 }
 complete -o filenames -F _tsvd tsvd
