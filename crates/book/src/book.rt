@@ -1,5 +1,5 @@
 //! What was committed and the journal, in step.
-ghost use Rattle.std.specs.Prelude.{◌≡◌, [], IfOk, length};
+ghost use Rattle.std.specs.Prelude.{◌≡◌, ◌≤◌, [], IfOk, length};
 ghost use Rattle.values.specs.Memory.{OnlyMemory};
 ghost use Rattle.values.specs.Log.{changes, last as last_of};
 ghost use Rattle.validation.specs.staging.View.{Holds};
@@ -68,9 +68,10 @@ impl<J: StoreName> Book<J> {
         self.engine.tree()
     }
 
-    /// Returns how many entries there are.
+    /// Returns how many entries there are, which is no more than there may be.
     pub fn len(&self) -> usize
-        ensures { result ≡ length self.now.entries }
+        ensures count { result ≡ length self.now.entries }
+        ensures room { result ≤ J.origin.most_entries }
     {
         self.journal.len()
     }

@@ -19,6 +19,7 @@ use book::{Book, Closed, Cut, Engine, JournalGone, PackedNode, Receipt, SharedEn
 use growlog::{NewLog, StoreName};
 use std::alloc::Global;
 use std::hint::spin_loop;
+use std::sync::atomic::{AtomicU64, Ordering};
 use std::sync::{Mutex, MutexGuard, Wait};
 use std::thread::yield_now;
 use values::{Instant, Mem, Refusal, Schema};
@@ -29,6 +30,10 @@ pub struct LockedStore<J: StoreName> {
     schema: Schema,
     most_entries: usize,
     book: Mutex<Book<J>>,
+    /// How many threads have found the book locked, and wait for it.
+    waiting: AtomicU64,
+    /// Whose turn it is among commits of many rows.
+    turn: Mutex<()>,
     pub ghost named: { schema ≡ J.origin.schema },
     pub ghost most_is: { most_entries ≡ J.origin.most_entries },
 }
@@ -45,6 +50,9 @@ const TRIES: u32 = 200;
 
 /// How many of these tries come before other threads are let run between them.
 const TRIES_AT_ONCE: u32 = 100;
+
+/// From how many rows on a commit lets others go first.
+const MANY_ROWS: usize = 50;
 
 impl<J: StoreName> LockedStore<J> {
     /// Makes a store of these tables in which nothing was committed, and whose journal may have so many
@@ -84,6 +92,8 @@ impl<J: StoreName> LockedStore<J> {
             schema,
             most_entries,
             book: Mutex::new(book),
+            waiting: AtomicU64::new(0),
+            turn: Mutex::new(()),
         }
     }
 
@@ -94,8 +104,11 @@ impl<J: StoreName> LockedStore<J> {
         self.most_entries
     }
 
-    /// Returns how many entries the journal has, for who looks on: it may have more when this is read.
-    pub fn entries<R: Wait>(&self, rt: &R) -> usize {
+    /// Returns how many entries the journal has, for who looks on: it may have more when this is read, and
+    /// never more than it may have.
+    pub fn entries<R: Wait>(&self, rt: &R) -> usize
+        ensures { result ≤ J.origin.most_entries }
+    {
         self.locked(rt).len()
     }
 
@@ -118,9 +131,20 @@ impl<J: StoreName> LockedStore<J> {
         self.schema == session.schema
     }
 
-    /// Takes the lock. Who has it has it for some microseconds, and a thread takes longer to sleep
-    /// and to be woken; so before it sleeps it tries for a while, and then lets others run between.
+    /// Takes the lock.
     fn locked<R: Wait>(&self, rt: &R) -> MutexGuard<'_, Book<J>> {
+        if let Some(book) = self.book.try_lock() {
+            return book;
+        }
+        self.waiting.fetch_add(1, Ordering::SeqCst);
+        let book = self.locked_in_time(rt);
+        self.waiting.fetch_sub(1, Ordering::SeqCst);
+        book
+    }
+
+    /// Waits for the lock. Who has it has it for some microseconds, and a thread takes longer to sleep
+    /// and to be woken; so before it sleeps it tries for a while, and then lets others run between.
+    fn locked_in_time<R: Wait>(&self, rt: &R) -> MutexGuard<'_, Book<J>> {
         for turn in 0..TRIES {
             if let Some(book) = self.book.try_lock() {
                 return book;
@@ -132,6 +156,22 @@ impl<J: StoreName> LockedStore<J> {
             }
         }
         self.book.lock(rt)
+    }
+
+    /// Waits until a commit of so many rows may take the lock. One of many rows has it for long: there is
+    /// one at a time, and before it others go that wait already. So nobody waits for two of them.
+    fn turn<R: Wait>(&self, rt: &R, rows: usize) -> Option<MutexGuard<'_, ()>> {
+        if rows < MANY_ROWS {
+            return None;
+        }
+        let turn = self.turn.lock(rt);
+        for _ in 0..TRIES {
+            if self.waiting.load(Ordering::SeqCst) == 0 {
+                break;
+            }
+            yield_now();
+        }
+        Some(turn)
     }
 
     /// Begins a session's transaction, which sees what its receipt's entry shows. `NoTable` where
@@ -197,6 +237,7 @@ impl<J: StoreName> LockedStore<J> {
             return Err(StoreRefusal::Session(Refusal::NoTable));
         }
         let (net, changes) = session.nets()?;
+        let _turn = self.turn(rt, changes.changes().len());
         let ended = session.commit_at(&mut *self.locked(rt), net, changes, reading)?;
         Ok(ended.into_receipt())
     }
@@ -221,10 +262,12 @@ impl<J: StoreName> LockedStore<J> {
         ensures refused { OnErr result (session.new ≡ session.old) }
     {
         let (net, changes) = session.nets()?;
+        let turn = self.turn(rt, changes.changes().len());
         let mut book = self.locked(rt);
         let reading = readings.reading();
         let ended = session.commit_at(&mut *book, net, changes, reading);
         drop(book);
+        drop(turn);
         Ok(ended?.into_receipt())
     }
 
@@ -265,6 +308,8 @@ impl<J: StoreName> LockedStore<J> {
             schema,
             most_entries,
             book,
+            waiting: _,
+            turn: _,
         } = self;
         let book = book.into_inner();
         if book.is_covered(&mut receipts) {
@@ -274,6 +319,8 @@ impl<J: StoreName> LockedStore<J> {
             schema,
             most_entries,
             book: Mutex::new(book),
+            waiting: AtomicU64::new(0),
+            turn: Mutex::new(()),
         };
         Err(Unclosed { store, receipts })
     }
@@ -286,6 +333,8 @@ impl<J: StoreName> LockedStore<J> {
             schema: _,
             most_entries: _,
             book,
+            waiting: _,
+            turn: _,
         } = self;
         book.into_inner().give_up(receipts)
     }
