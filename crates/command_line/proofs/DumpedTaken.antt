@@ -78,8 +78,8 @@ module _ (readings : Readings) where
       → IsReadableHistory before → IsReadableHistory end
   readable_mode (Scripts script) load number schema before end unread left old new so readable =
       readable_script script number schema so.later end unread left so.between new so.rest (readable_load schema load before so.later old so.between so.loaded readable)
-  readable_mode (Listens port limit entries idle) load number schema before end unread left old new (b, so) readable =
-      readable_run schema before end load (plan_of port limit entries idle number) so.first so.served.receipts b so.served.run so.first_is so.ends readable
+  readable_mode (Listens port limit entries idle log) load number schema before end unread left old new (b, so) readable =
+      readable_run schema before end load (plan_of port limit entries idle log number) so.first so.served.receipts b so.served.run so.first_is so.ends readable
 
   pub is_taken_again : HistoriesAreTakenAgain → (file : Option Text) (mode : AskedMode) (after load : Option Text) (number : Option ℕ) (schema : Schema) (end : History) (unread left old new : Option (List ℕ)) → IsSchemaOf file schema
       → HasRunAll mode after load number schema end unread left old new → IsTakenAgain schema end

@@ -1,10 +1,12 @@
 -- The words of the command line, as clap's exact matches and faults of a command give them.
-use Rattle.std.specs.Prelude.{◌≡◌, ◌≢◌, ◌<◌, ◌⊎◌, ◌==◌, ℕ, List, [], Option, Some, None, IfSome, codes, option_map, true, ⊤, length, if◌then◌else◌}
+use Rattle.std.specs.Prelude.{◌≡◌, ◌≢◌, ◌<◌, ◌⊎◌, ◌==◌, ℕ, List, [], Option, Some, None, IfSome, codes, option_map, Bool, true, false, ⊤, length, if◌then◌else◌}
 use Rattle.std.specs.List.{before_first, position_or_len}
+use Rattle.std.specs.Str.{bytes_eq}
 use Rattle.clap.specs.Words.{App, IsAmong, Kinds, Rule, Text, fault_of, first_of, first_value, kind_of, matches_of, new_app, new_rule, with_rule}
 use Rattle.clap.specs.declared.parser.matches.Found.{Found}
 use Rattle.clap.specs.declared.error.kind.ErrorKind.{ErrorKind}
 use Rattle.clap.specs.declared.error.kind.ErrorKind.TheVariants as kind
+use Rattle.clap.specs.declared.builder.action.ArgAction.TheVariants.{SetTrue}
 use Rattle.steps.specs.Misfit.{max_session}
 use Rattle.statement.specs.Literal.{digits_here}
 use Rattle.interchange.specs.Field.{whole}
@@ -27,6 +29,10 @@ bare = record (new_app (codes "tsvd")) {
 abbrev pub option : Text → Rule
 option name = record (new_rule name) { long = Some name; value_names = 1 }
 
+-- an option that no text follows
+abbrev pub flag : Text → Rule
+flag name = record (new_rule name) { long = Some name; action = Some SetTrue }
+
 -- with the options of what is read
 abbrev pub reading : App
 reading =
@@ -39,10 +45,14 @@ serving =
     with_rule (with_rule (with_rule (with_rule reading (option (codes "listen")))
     (option (codes "sessions"))) (option (codes "connections"))) (option (codes "entries"))
 
+-- that stays
+abbrev pub staying : App
+staying = with_rule (with_rule serving (option (codes "idle"))) (flag (codes "log"))
+
 abbrev pub command : App
 command =
-    with_rule (with_rule (with_rule (with_rule serving (option (codes "idle")))
-    (option (codes "load"))) (option (codes "export"))) (option (codes "dump"))
+    with_rule (with_rule (with_rule staying (option (codes "load"))) (option (codes "export")))
+    (option (codes "dump"))
 
 -- the text of an option, where it has one
 abbrev pub text_of : Text → List Text → Option Text
@@ -63,6 +73,7 @@ pub record AskedTexts : Type 0 where
   pub connections : Option Text
   pub entries : Option Text
   pub idle : Option Text
+  pub log : Option Text
   pub load : Option Text
   pub exports : Option Text
   pub dump : Option Text
@@ -77,6 +88,7 @@ texts_in words = record {
   connections = text_of (codes "connections") words;
   entries = text_of (codes "entries") words;
   idle = text_of (codes "idle") words;
+  log = text_of (codes "log") words;
   load = text_of (codes "load") words;
   exports = text_of (codes "export") words;
   dump = text_of (codes "dump") words;
@@ -92,6 +104,7 @@ texts_of texts = record {
   connections = option_map (λ text. text.now) texts.connections;
   entries = option_map (λ text. text.now) texts.entries;
   idle = option_map (λ text. text.now) texts.idle;
+  log = option_map (λ text. text.now) texts.log;
   load = option_map (λ text. text.now) texts.load;
   exports = option_map (λ text. text.now) texts.export;
   dump = option_map (λ text. text.now) texts.dump;
@@ -107,6 +120,7 @@ found_texts found = record {
   connections = first_value found (codes "connections");
   entries = first_value found (codes "entries");
   idle = first_value found (codes "idle");
+  log = first_value found (codes "log");
   load = first_value found (codes "load");
   exports = first_value found (codes "export");
   dump = first_value found (codes "dump");
@@ -118,7 +132,7 @@ found_texts found = record {
 -- have, and after how many seconds a connection makes room
 pub data AskedMode : Type 0 where
   Scripts : Option Text → AskedMode
-  Listens : (port : ℕ) (limit : Limit) (entries : ℕ) (idle : Option ℕ) → AskedMode
+  Listens : (port : ℕ) (limit : Limit) (entries : ℕ) (idle : Option ℕ) (log : Bool) → AskedMode
 
 -- decimal digits alone, up to 65535
 abbrev pub port_in : Text → Option ℕ
@@ -166,25 +180,36 @@ idle_by (Some text) None = None
 abbrev pub idle_in : AskedTexts → Option (Option ℕ)
 idle_in texts = idle_by texts.idle texts.connections
 
-abbrev pub listening : (port : Option ℕ) → Option Limit → (entries : Option ℕ) → Option (Option ℕ)
+-- what is given for a flag
+abbrev pub logs_by : Option Text → Bool
+logs_by None = false
+logs_by (Some text) = bytes_eq text (codes "true")
+
+abbrev pub logs_in : AskedTexts → Bool
+logs_in texts = logs_by texts.log
+
+abbrev pub listening : (port : Option ℕ) → Option Limit → (entries : Option ℕ) → Option (Option ℕ) → Bool
     → Option AskedMode
-listening (Some port) (Some limit) (Some entries) (Some idle) = Some (Listens port limit entries idle)
-listening None limit entries idle = None
-listening (Some port) None entries idle = None
-listening (Some port) (Some limit) None idle = None
-listening (Some port) (Some limit) (Some entries) None = None
+listening (Some port) (Some limit) (Some entries) (Some idle) log = Some (Listens port limit entries idle log)
+listening None limit entries idle log = None
+listening (Some port) None entries idle log = None
+listening (Some port) (Some limit) None idle log = None
+listening (Some port) (Some limit) (Some entries) None log = None
 
 abbrev pub script_by : (script sessions connections entries idle : Option Text) → Option AskedMode
 script_by script None None None None = Some (Scripts script)
 script_by script sessions connections entries idle = None
 
 abbrev pub script_in : AskedTexts → Option AskedMode
-script_in texts = script_by texts.script texts.sessions texts.connections texts.entries texts.idle
+script_in texts =
+    if logs_in texts then None
+    else script_by texts.script texts.sessions texts.connections texts.entries texts.idle
 
 -- a port, and no script; or no word of a server
 abbrev pub mode_by : AskedTexts → (script listen : Option Text) → Option AskedMode
 mode_by texts script None = script_in texts
 mode_by texts None (Some listen) = listening (port_in listen) (limit_in texts) (entries_in texts) (idle_in texts)
+    (logs_in texts)
 mode_by texts (Some script) (Some listen) = None
 
 abbrev pub mode_in : AskedTexts → Option AskedMode
@@ -192,7 +217,7 @@ mode_in texts = mode_by texts texts.script texts.listen
 
 abbrev pub mode_of : Mode → AskedMode
 mode_of (Script file) = Scripts (option_map (λ text. text.now) file)
-mode_of (Listen port limit entries idle) = Listens port limit entries idle
+mode_of (Listen port limit entries idle log) = Listens port limit entries idle log
 
 -- what is asked for: the schema's file, what is run, and the texts of the other four options
 pub record Asked : Type 0 where

@@ -1,5 +1,5 @@
 -- What a run of the program leaves, by its words, its standard input and its standard output.
-use Rattle.std.specs.Prelude.{◌≡◌, ◌⊎◌, ◌≤◌, ℕ, List, Option, Some, None, Ok, Err, length}
+use Rattle.std.specs.Prelude.{◌≡◌, ◌⊎◌, ◌≤◌, ℕ, Bool, List, Option, Some, None, Ok, Err, length}
 use Rattle.std.specs.Io.KnownBytes.{Appends, Keeps}
 use Rattle.clap.specs.Words.{Text}
 use Rattle.values.specs.Sample.{sample}
@@ -138,24 +138,24 @@ HaltsAfter fault load script number schema before unread left old new =
 
 -- ---- what is asked for, after a history
 
-abbrev pub plan_of : (port : ℕ) → Limit → (entries : ℕ) → (idle number : Option ℕ) → Plan
-plan_of port limit entries idle number =
-    record { port = port; limit = limit; entries = entries; idle = idle; export = number }
+abbrev pub plan_of : (port : ℕ) → Limit → (entries : ℕ) → (idle : Option ℕ) → (log : Bool) → (number : Option ℕ) → Plan
+plan_of port limit entries idle log number =
+    record { port = port; limit = limit; entries = entries; idle = idle; is_logged = log; export = number }
 
 abbrev pub HasRunMode : AskedMode → Option Text → Option ℕ → Schema → (before end : History)
     → (unread left old new : Option (List ℕ)) → Type 0
 HasRunMode (Scripts script) load number schema before end unread left old new =
     HasRunLoaded load script number schema before end unread left old new
-HasRunMode (Listens port limit entries idle) load number schema before end unread left old new =
+HasRunMode (Listens port limit entries idle log) load number schema before end unread left old new =
     (b : BookState)
-    × HasServedAll load (plan_of port limit entries idle number) schema before end b unread left old new
+    × HasServedAll load (plan_of port limit entries idle log number) schema before end b unread left old new
 
 abbrev pub HaltsMode : Fault → AskedMode → Option Text → Option ℕ → Schema → History
     → (unread left old new : Option (List ℕ)) → Type 0
 HaltsMode fault (Scripts script) load number schema before unread left old new =
     HaltsAfter fault load script number schema before unread left old new
-HaltsMode fault (Listens port limit entries idle) load number schema before unread left old new =
-    HaltsServing fault load (plan_of port limit entries idle number) schema before unread left old new
+HaltsMode fault (Listens port limit entries idle log) load number schema before unread left old new =
+    HaltsServing fault load (plan_of port limit entries idle log number) schema before unread left old new
 
 -- ---- the replay before all else
 

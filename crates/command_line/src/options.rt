@@ -1,10 +1,10 @@
 //! The words of the command line, which `clap` reads.
 ghost use Rattle.std.specs.Prelude.{◌≡◌, ◌↔◌, IfOk, IfErr, IfSome, IsTrue, None, Some, codes, false, map, option_map, List};
 ghost use Rattle.clap.specs.Words.{HasKind, Text, app_of, found_of, rule_of};
-ghost use Rattle.command_line.specs.Options.{Gives, HasFile, Reads, Refuses, bare, command, count_in, entries_by, entries_in, faults, found_texts, idle_in, limit_in, listening, many_in, mode_in, mode_of, option, port_in, reading, script_in, seconds_in, serving, texts_of};
+ghost use Rattle.command_line.specs.Options.{Gives, HasFile, Reads, Refuses, bare, command, count_in, entries_by, entries_in, faults, flag, found_texts, idle_in, limit_in, listening, many_in, logs_in, mode_in, mode_of, option, port_in, reading, script_in, seconds_in, serving, staying, texts_of};
 
 use clap::error::ErrorKind;
-use clap::{Arg, ArgMatches, Command};
+use clap::{Arg, ArgAction, ArgMatches, Command};
 use interchange::whole_within;
 use listening::Limit;
 use std::alloc::{AllocError, Global};
@@ -88,6 +88,10 @@ const NO_CONNECTIONS: &str =
 const NO_LISTEN_FOR_ENTRIES: &str =
     "error: --entries needs --listen\n\nFor more information, try '--help'.\n";
 
+/// What is said where there is to be a log, and no port.
+const NO_LISTEN_FOR_LOG: &str =
+    "error: --log needs --listen\n\nFor more information, try '--help'.\n";
+
 /// What is said of a port that is none.
 const NO_PORT: &str =
     "error: --listen takes a port, 0 to 65535\n\nFor more information, try '--help'.\n";
@@ -130,12 +134,13 @@ pub enum Mode<'a> {
     Script(Option<&'a str>),
     /// Connections are served, at a port, or at one that the system chooses where it is 0: so many, with
     /// so many entries in the journal; and while others wait, none that has sent nothing for so many
-    /// seconds.
+    /// seconds. What happens is written to a log or not.
     Listen {
         port: u16,
         limit: Limit,
         entries: usize,
         idle: Option<u32>,
+        is_logged: bool,
     },
 }
 
@@ -167,6 +172,8 @@ struct Texts<'a> {
     connections: Option<&'a str>,
     entries: Option<&'a str>,
     idle: Option<&'a str>,
+    /// `true` where the word was given.
+    log: Option<&'a str>,
     load: Option<&'a str>,
     export: Option<&'a str>,
     dump: Option<&'a str>,
@@ -193,6 +200,17 @@ fn option<'a>(alloc: Global, name: &'a str, value: &'a str, help: &'a str) -> Ar
     Arg::new(alloc, name)
         .long(name)
         .value_name(value)
+        .help(help)
+}
+
+/// Makes an option that no text follows.
+fn flag<'a>(alloc: Global, name: &'a str, help: &'a str) -> Arg<'a>
+    ensures rule { rule_of result ≡ flag name.entry.now }
+    ensures local { result.global ≡ false }
+{
+    Arg::new(alloc, name)
+        .long(name)
+        .action(ArgAction::SetTrue)
         .help(help)
 }
 
@@ -234,15 +252,24 @@ fn serving_command<'a>(alloc: Global) -> Result<Command<'a>, AllocError>
         .arg(option(alloc, "entries", "NUMBER", entries))
 }
 
+/// Makes the command with the options of a server that stays added.
+fn staying_command<'a>(alloc: Global) -> Result<Command<'a>, AllocError>
+    ensures { IfOk result (λ c. app_of c ≡ staying) }
+{
+    let idle = "While others wait, ends a connection that sent nothing for this many seconds";
+    let log = "Writes to standard error what happens, a line each, and nothing of what users say";
+    serving_command(alloc)?
+        .arg(option(alloc, "idle", "SECONDS", idle))?
+        .arg(flag(alloc, "log", log))
+}
+
 fn tsvd<'a>(alloc: Global) -> Result<Command<'a>, AllocError>
     ensures { IfOk result (λ c. app_of c ≡ command) }
 {
-    let idle = "While others wait, ends a connection that sent nothing for this many seconds";
     let load = "First loads the rows of this CSV file in one transaction";
     let export = "Last writes this table with all its versions as CSV";
     let dump = "Last of all writes what was committed to this file, as a script for --after";
-    serving_command(alloc)?
-        .arg(option(alloc, "idle", "SECONDS", idle))?
+    staying_command(alloc)?
         .arg(option(alloc, "load", "TABLE=FILE", load))?
         .arg(option(alloc, "export", "TABLE", export))?
         .arg(option(alloc, "dump", "FILE", dump))
@@ -260,6 +287,7 @@ fn texts_of<'a>(matches: &ArgMatches<'a>) -> Texts<'a>
         connections: matches.get_str("connections"),
         entries: matches.get_str("entries"),
         idle: matches.get_str("idle"),
+        log: matches.get_str("log"),
         load: matches.get_str("load"),
         export: matches.get_str("export"),
         dump: matches.get_str("dump"),
@@ -349,6 +377,16 @@ fn entries_of(text: Option<&str>) -> Option<usize>
     }
 }
 
+/// Tells whether there is to be a log.
+fn logs(texts: Texts<'_>) -> bool
+    ensures { result ≡ logs_in (texts_of texts.entry) }
+{
+    match texts.log {
+        Some(text) => text == "true",
+        None => false,
+    }
+}
+
 /// Returns after how many seconds a connection makes room, if any does.
 fn idle_of(texts: Texts<'_>) -> Result<Option<u32>, &'static str>
     ensures ok { IfOk result (λ idle. idle_in (texts_of texts.entry) ≡ Some idle) }
@@ -368,10 +406,10 @@ fn idle_of(texts: Texts<'_>) -> Result<Option<u32>, &'static str>
 fn listen_mode<'a>(listen: &str, texts: Texts<'_>) -> Result<Mode<'a>, &'static str>
     ensures ok { IfOk result (λ mode. listening (port_in listen.now)
         (limit_in (texts_of texts.entry)) (entries_in (texts_of texts.entry))
-        (idle_in (texts_of texts.entry)) ≡ Some (mode_of mode)) }
+        (idle_in (texts_of texts.entry)) (logs_in (texts_of texts.entry)) ≡ Some (mode_of mode)) }
     ensures err { IfErr result (λ _. listening (port_in listen.now)
         (limit_in (texts_of texts.entry)) (entries_in (texts_of texts.entry))
-        (idle_in (texts_of texts.entry)) ≡ None) }
+        (idle_in (texts_of texts.entry)) (logs_in (texts_of texts.entry)) ≡ None) }
 {
     let limit = match limit_of(texts) {
         Ok(limit) => limit,
@@ -390,6 +428,7 @@ fn listen_mode<'a>(listen: &str, texts: Texts<'_>) -> Result<Mode<'a>, &'static 
             limit,
             entries,
             idle,
+            is_logged: logs(texts),
         }),
         None => Err(NO_PORT),
     }
@@ -400,6 +439,9 @@ fn script_mode<'a>(texts: Texts<'a>) -> Result<Mode<'a>, &'static str>
     ensures ok { IfOk result (λ mode. script_in (texts_of texts.entry) ≡ Some (mode_of mode)) }
     ensures err { IfErr result (λ _. script_in (texts_of texts.entry) ≡ None) }
 {
+    if logs(texts) {
+        return Err(NO_LISTEN_FOR_LOG);
+    }
     match (texts.sessions, texts.connections, texts.entries, texts.idle) {
         (None, None, None, None) => Ok(Mode::Script(texts.script)),
         (Some(_), _, _, _) => Err(NO_LISTEN),

@@ -47,8 +47,8 @@ pub const DONE: u8 = 0;
 /// the sample, as the words ask for, and writes its transcript, or serves connections; before it
 /// another script may be replayed, and the rows of a file loaded, and after it a table may be
 /// exported, and what was committed dumped to a file. Returns the exit status:
-/// 0 done, 1 a fault, 2 words that are refused; a fault is reported on standard error. Help and the
-/// version are written like other output.
+/// 0 done, 1 a fault, 2 words that are refused; a fault is reported on standard error, and before it
+/// the log of a server, where one is asked for. Help and the version are written like other output.
 pub fn program<R, S, I, O, E>(rt: &R, words: &[S], reader: &mut I, out: &mut O, err: &mut E) -> u8
 where
     R: AllocGlobal
@@ -73,7 +73,7 @@ where
         (O.contents out.old) (O.contents out.new) }
     ensures status { result ≤ WORDS }
 {
-    match run(rt, words, reader, out) {
+    match run(rt, words, reader, out, err) {
         Ok(()) => DONE,
         Err(fault) => tell(err, &fault),
     }
@@ -81,7 +81,13 @@ where
 
 /// Runs the program up to its first fault: of the words, of the schema, of the table to be
 /// exported, of the replay, of the load, of the script, of the export, of the dump.
-fn run<R, S, I, O>(rt: &R, words: &[S], reader: &mut I, out: &mut O) -> Result<(), Fault>
+fn run<R, S, I, O, E>(
+    rt: &R,
+    words: &[S],
+    reader: &mut I,
+    out: &mut O,
+    err: &mut E,
+) -> Result<(), Fault>
 where
     R: AllocGlobal
         + Files
@@ -93,6 +99,7 @@ where
     S: AsStr,
     I: Control + Read,
     O: Write,
+    E: Write,
     ensures done { OnOk result (IsDone (map S.text words.now)
         (I.remaining reader.old) (I.remaining reader.new)
         (O.contents out.old) (O.contents out.new)) }
@@ -106,7 +113,7 @@ where
         (O.contents out.old) (O.contents out.new)) }
 {
     match options::words(rt.alloc(), words) {
-        Ok(options) => run_options(rt, options, reader, out),
+        Ok(options) => run_options(rt, options, reader, out, err),
         Err(fault) => answer(rt.alloc(), out, fault),
     }
 }
@@ -167,11 +174,12 @@ fn answer<O: Write>(alloc: Global, out: &mut O, fault: WordsFault) -> Result<(),
 }
 
 /// Runs what is asked for.
-fn run_options<R, I, O>(
+fn run_options<R, I, O, E>(
     rt: &R,
     options: Options<'_>,
     reader: &mut I,
     out: &mut O,
+    err: &mut E,
 ) -> Result<(), Fault>
 where
     R: AllocGlobal
@@ -183,6 +191,7 @@ where
         + Sync,
     I: Control + Read,
     O: Write,
+    E: Write,
     ensures done { OnOk result (IsComplete (asked_of options.entry)
         (I.remaining reader.old) (I.remaining reader.new)
         (O.contents out.old) (O.contents out.new)) }
@@ -193,17 +202,18 @@ where
     histories_can_be_read();
     dumps_are_replayed();
     match schema_of(rt, options.schema) {
-        Ok(schema) => run_over(rt, options, reader, out, schema),
+        Ok(schema) => run_over(rt, options, reader, out, err, schema),
         Err(fault) => Err(fault),
     }
 }
 
 /// Runs what is asked for over a schema: the table to be exported is looked up first.
-fn run_over<R, I, O>(
+fn run_over<R, I, O, E>(
     rt: &R,
     options: Options<'_>,
     reader: &mut I,
     out: &mut O,
+    err: &mut E,
     schema: Schema,
 ) -> Result<(), Fault>
 where
@@ -216,6 +226,7 @@ where
         + Sync,
     I: Control + Read,
     O: Write,
+    E: Write,
     ensures done { OnOk result (HasDone (asked_of options.entry) schema
         (I.remaining reader.old) (I.remaining reader.new)
         (O.contents out.old) (O.contents out.new)) }
@@ -224,19 +235,20 @@ where
         (O.contents out.old) (O.contents out.new)) }
 {
     match export_number(&schema, options.export) {
-        Ok(number) => run_to_the_dump(rt, options, number, reader, out, schema),
+        Ok(number) => run_to_the_dump(rt, options, number, reader, out, err, schema),
         Err(fault) => Err(fault),
     }
 }
 
 /// Runs all that is asked for, and last of all dumps what was committed, if it is to be. The first
 /// tables are kept for that.
-fn run_to_the_dump<R, I, O>(
+fn run_to_the_dump<R, I, O, E>(
     rt: &R,
     options: Options<'_>,
     number: Option<u8>,
     reader: &mut I,
     out: &mut O,
+    err: &mut E,
     schema: Schema,
 ) -> Result<(), Fault>
 where
@@ -249,6 +261,7 @@ where
         + Sync,
     I: Control + Read,
     O: Write,
+    E: Write,
     requires export { IsExportOf schema number }
     ensures done { OnOk result ((end : History) × HasRunAll (asked_of options.entry).mode
         (asked_of options.entry).after (asked_of options.entry).load number schema end
@@ -259,7 +272,7 @@ where
         (O.contents out.old) (O.contents out.new)) }
 {
     let Some(file) = options.dump else {
-        return match run_all(rt, options, number, reader, out, schema) {
+        return match run_all(rt, options, number, reader, out, err, schema) {
             Ok(_left) => Ok(()),
             Err(fault) => Err(fault),
         };
@@ -267,19 +280,20 @@ where
     let Ok(first) = schema.copy(rt.alloc()) else {
         return Err(Fault::Memory);
     };
-    match run_all(rt, options, number, reader, out, schema) {
+    match run_all(rt, options, number, reader, out, err, schema) {
         Ok(left) => dump_to(rt, file, &first, &left),
         Err(fault) => Err(fault),
     }
 }
 
 /// Runs the replay, and then what is asked for.
-fn run_all<R, I, O>(
+fn run_all<R, I, O, E>(
     rt: &R,
     options: Options<'_>,
     number: Option<u8>,
     reader: &mut I,
     out: &mut O,
+    err: &mut E,
     schema: Schema,
 ) -> Result<Left, Fault>
 where
@@ -292,6 +306,7 @@ where
         + Sync,
     I: Control + Read,
     O: Write,
+    E: Write,
     requires export { IsExportOf schema number }
     ensures done { IfOk result (λ left. HasLeft schema left (λ end.
         HasRunAll (asked_of options.entry).mode
@@ -304,19 +319,29 @@ where
         (O.contents out.old) (O.contents out.new)) }
 {
     match store_after(rt, options.after, schema) {
-        Ok(system) => run_mode(rt, options.mode, options.load, number, reader, out, system),
+        Ok(system) => run_mode(
+            rt,
+            options.mode,
+            options.load,
+            number,
+            reader,
+            out,
+            err,
+            system,
+        ),
         Err(fault) => Err(fault),
     }
 }
 
 /// Runs a script or a server over a store.
-fn run_mode<R, I, O>(
+fn run_mode<R, I, O, E>(
     rt: &R,
     mode: Mode<'_>,
     text: Option<&str>,
     number: Option<u8>,
     reader: &mut I,
     out: &mut O,
+    err: &mut E,
     system: System,
 ) -> Result<Left, Fault>
 where
@@ -329,6 +354,7 @@ where
         + Sync,
     I: Control + Read,
     O: Write,
+    E: Write,
     requires known { (first : Schema) × (before : History) × Stands first system before
         × IsExportOf first number }
     ensures done { IfOk result (λ left. (first : Schema) (before : History)
@@ -350,15 +376,17 @@ where
             limit,
             entries,
             idle,
+            is_logged,
         } => {
             let plan = Plan {
                 port,
                 limit,
                 entries,
                 idle,
+                is_logged,
                 export: number,
             };
-            run_server(rt, text, plan, reader, out, system)
+            run_server(rt, text, plan, reader, out, err, system)
         }
     }
 }

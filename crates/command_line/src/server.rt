@@ -44,14 +44,15 @@ fn first_of<R: AllocGlobal + Files>(
 }
 
 /// Serves connections round a store that begins with what a system has come to, and exports a table
-/// of it at the end, if one is to be. Returns what it leaves. Standard input is read only
-/// where the server goes on until it ends.
-pub fn run_server<R, I, O>(
+/// of it at the end, if one is to be. What happens meanwhile is written to the log, where the plan asks
+/// for one. Returns what it leaves. Standard input is read only where the server goes on until it ends.
+pub fn run_server<R, I, O, L>(
     rt: &R,
     text: Option<&str>,
     plan: Plan,
     reader: &mut I,
     out: &mut O,
+    log: &mut L,
     system: System,
 ) -> Result<Left, Fault>
 where
@@ -64,6 +65,7 @@ where
         + Sync,
     I: Control + Read,
     O: Write,
+    L: Write,
     requires known { (start : Schema) × (before : History) × Stands start system before
         × IsExportOf start plan.export }
     ensures done { IfOk result (λ left. (start : Schema) (before : History)
@@ -83,7 +85,7 @@ where
         Ok(first) => first,
         Err(fault) => return Err(fault),
     };
-    ended(serve(rt, rt.alloc(), reader, out, system, first, plan))
+    ended(serve(rt, rt.alloc(), reader, out, log, system, first, plan))
 }
 
 /// Returns what a server leaves, or the program's fault for the server's.

@@ -1,7 +1,8 @@
 //! Connections as they come and go, under numbers that are used again.
 
-use crate::acceptor::{Acceptor, refuse};
+use crate::acceptor::{Acceptor, Taken};
 use crate::desk::{Desk, Seat};
+use crate::refusals::Cause;
 use crate::round_trigger::Call;
 use crate::service::Service;
 use crossbeam_channel::Sender;
@@ -43,10 +44,16 @@ where
         if service.has_stopped() {
             break;
         }
-        let Some(stream) = taken else {
-            desk.pass_over();
-            thread::sleep(rt, Duration::from_millis(PAUSE));
-            continue;
+        let stream = match taken {
+            Taken::Stream(stream) => stream,
+            Taken::Gone | Taken::Refused => {
+                if matches!(taken, Taken::Refused) {
+                    service.refusals.count(Cause::Descriptor);
+                }
+                desk.pass_over();
+                thread::sleep(rt, Duration::from_millis(PAUSE));
+                continue;
+            }
         };
         let Some(number) = desk.number(rt, &service.is_crowded) else {
             break;
@@ -75,16 +82,18 @@ where
     G: Gate + Sync,
 {
     let Ok((seat, calls)) = seat_with(desk, calls, number) else {
-        refuse(&stream);
+        service.refuse(&stream, Cause::Memory);
         desk.take_back(service.rt, number);
         return;
     };
     // By this a client is answered for which there is no thread.
     let answer = stream.try_clone();
+    service.begin_one();
     let served = scope.spawn(move || service.serve(seat, calls, stream));
     if served.is_err() {
+        service.end_one();
         if let Ok(stream) = answer {
-            refuse(&stream);
+            service.refuse(&stream, Cause::Thread);
         }
         desk.take_back(service.rt, number);
     }

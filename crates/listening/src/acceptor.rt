@@ -11,6 +11,17 @@ pub(crate) fn refuse(stream: &TcpStream) {
     let _ = print_refusal(&mut writer, &Refusal::Memory);
 }
 
+/// What becomes of a connection that is taken.
+#[derive(Debug, Drop)]
+pub(crate) enum Taken {
+    /// It can be served.
+    Stream(TcpStream),
+    /// It is gone.
+    Gone,
+    /// It was refused, since it took the last descriptor.
+    Refused,
+}
+
 /// A listener with a second descriptor, which is let go where there is no other for a connection.
 #[derive(Drop)]
 pub(crate) struct Acceptor {
@@ -25,31 +36,30 @@ impl Acceptor {
         Acceptor { listener, spare }
     }
 
-    /// Takes the next connection; none if it is gone, or was refused since it took the last
-    /// descriptor.
-    pub(crate) fn accept(&mut self) -> Option<TcpStream> {
+    /// Takes the next connection.
+    pub(crate) fn accept(&mut self) -> Taken {
         match self.listener.accept() {
-            Ok((stream, _peer)) => Some(stream),
-            Err(error) if error.kind() == ErrorKind::ConnectionAborted => None,
+            Ok((stream, _peer)) => Taken::Stream(stream),
+            Err(error) if error.kind() == ErrorKind::ConnectionAborted => Taken::Gone,
             Err(_) => self.accept_by_spare(),
         }
     }
 
     /// Takes the next connection by the descriptor that was kept. It is refused if there is still
     /// no other.
-    fn accept_by_spare(&mut self) -> Option<TcpStream> {
+    fn accept_by_spare(&mut self) -> Taken {
         self.spare = Err(io::Error::from(ErrorKind::Other));
         let taken = self.listener.accept();
         self.spare = self.listener.try_clone();
         let Ok((stream, _peer)) = taken else {
-            return None;
+            return Taken::Gone;
         };
         if self.spare.is_ok() {
-            return Some(stream);
+            return Taken::Stream(stream);
         }
         refuse(&stream);
         drop(stream);
         self.spare = self.listener.try_clone();
-        None
+        Taken::Refused
     }
 }

@@ -20,11 +20,12 @@ use crate::pile::Pile;
 use crate::round_trigger::Call;
 use crate::service::Service;
 use crate::stop::Stop;
+use crate::watch::Watch;
 use growlog::StoreName;
 use runs::served_runs_are_histories;
 use sessions::{Closed, Gate, LockedStore, Receipt, Unclosed};
 use std::alloc::{AllocError, Global};
-use std::io::Read;
+use std::io::{Read, Write};
 use std::net::{Net, TcpListener, TcpStream};
 use std::sync::{Mutex, Wait};
 use std::thread;
@@ -53,7 +54,9 @@ pub enum ListenFault {
 /// is `Connections(0)`, the reader is read: when it ends, or fails, the server is stopped, which ends each
 /// session as where its client had ended. The same is done when a line was refused since the journal is
 /// full. Where a number of seconds is given, 1 or more, a client that has sent nothing for so long is at
-/// its end while another waits for a number.
+/// its end while another waits for a number. Where it is logged, the log has a line when the server
+/// listens, for each connection that is refused, for marks that the journal passes, and when all have
+/// ended; nothing of what users said.
 ///
 /// The closed store is a book (`IsBook`), and the receipts of what was done before are of its
 /// entries. Where those are a load's, there is one history (`IsOneRun`), which goes on from any that
@@ -67,13 +70,15 @@ pub enum ListenFault {
 /// Nor is a connection that cannot be served, as there is no memory, no thread or no descriptor for
 /// it: it is answered `E10 memory` where that can be sent, and counts as one of `Sessions`. `Memory`
 /// if there is no room for the receipts before the first connection, or no thread that takes them.
-pub fn listen<J, R, I, G>(
+pub fn listen<J, R, I, L, G>(
     rt: &R,
     alloc: Global,
     bound: (TcpListener, u16),
     limit: Limit,
     idle: Option<u32>,
     reader: &mut I,
+    is_logged: bool,
+    log: &mut L,
     store: LockedStore<J>,
     before: Vec<Receipt<J>>,
     gate: &G,
@@ -82,6 +87,7 @@ where
     J: StoreName,
     R: Net<Listener = TcpListener, Stream = TcpStream> + Clock + Threads + Wait + Sync,
     I: Control + Read,
+    L: Write,
     G: Gate + Sync,
     ensures book { IfOk result (IsBook J.origin) }
     ensures stand { IfOk result (λ c. All (λ r.
@@ -111,7 +117,9 @@ where
         return give_up(store, receipts, ListenFault::Memory);
     };
     let pile = Mutex::new(pile);
-    let served = serve_connections(rt, alloc, bound, limit, idle, reader, &store, gate, &pile);
+    let served = serve_connections(
+        rt, alloc, bound, limit, idle, reader, is_logged, log, &store, gate, &pile,
+    );
     let (mut others, is_run, has_full) = pile.into_inner().into_receipts(limit);
     if served.is_err() || receipts.append(&mut others).is_err() {
         let gone = store.give_up(receipts);
@@ -157,13 +165,15 @@ fn give_up<J: StoreName>(
 
 /// Serves the connections, with rounds beside them, until all have ended, and has all their
 /// receipts handed over. An error comes before the first connection.
-fn serve_connections<J, R, I, G>(
+fn serve_connections<J, R, I, L, G>(
     rt: &R,
     alloc: Global,
     bound: (TcpListener, u16),
     limit: Limit,
     idle: Option<u32>,
     reader: &mut I,
+    is_logged: bool,
+    log: &mut L,
     store: &LockedStore<J>,
     gate: &G,
     pile: &Mutex<Pile<J>>,
@@ -172,13 +182,18 @@ where
     J: StoreName,
     R: Net<Listener = TcpListener, Stream = TcpStream> + Clock + Threads + Wait + Sync,
     I: Control + Read,
+    L: Write,
     G: Gate + Sync,
     ensures read { HasRead limit (I.remaining reader.old) (I.remaining reader.new) }
 {
     let (listener, port) = bound;
+    let mut watch = Watch::start(is_logged, port, store.most_entries(), log);
     match limit {
         Limit::Connections(0) => serve_to_end(
-            rt, alloc, listener, port, idle, reader, store, gate, pile,
+            rt, alloc, listener, port, idle, reader, &mut watch, log, store, gate, pile,
+        ),
+        _ if is_logged => serve_logged(
+            rt, alloc, listener, limit, idle, &mut watch, log, store, gate, pile,
         ),
         _ => serve_limited(rt, alloc, listener, limit, idle, store, gate, pile),
     }
@@ -214,14 +229,55 @@ where
     Ok(())
 }
 
-/// Serves connections until a reader ends, which this thread reads meanwhile.
-fn serve_to_end<J, R, I, G>(
+/// Serves so many connections as a limit has it, while this thread writes the log.
+fn serve_logged<J, R, L, G>(
+    rt: &R,
+    alloc: Global,
+    listener: TcpListener,
+    limit: Limit,
+    idle: Option<u32>,
+    watch: &mut Watch,
+    log: &mut L,
+    store: &LockedStore<J>,
+    gate: &G,
+    pile: &Mutex<Pile<J>>,
+) -> Result<(), AllocError>
+where
+    J: StoreName,
+    R: Net<Listener = TcpListener, Stream = TcpStream> + Clock + Threads + Wait + Sync,
+    L: Write,
+    G: Gate + Sync,
+{
+    let (calls, called) = crossbeam_channel::unbounded::<Call, Global>(alloc)?;
+    let desk = Desk::new(rt, alloc, limit)?;
+    let counts_all = matches!(limit, Limit::Connections(_));
+    let stop = Stop::new(alloc, None, None)?;
+    let service = Service::new(rt, alloc, store, gate, pile, idle, counts_all, stop);
+    let service = &service;
+    thread::scope(thread::scope_env(), rt, move |scope| {
+        // Without a thread for them there are no rounds, which no reply shows.
+        let _ = scope.spawn(move || run_rounds(rt, alloc, store, gate, called, pile));
+        let accepting = scope.spawn(move || take_connections(
+            scope, service, listener, desk, calls,
+        ));
+        if accepting.is_err() {
+            return Err(AllocError);
+        }
+        watch.look_on(service, log);
+        Ok(())
+    })
+}
+
+/// Serves connections until a reader ends, which this thread reads meanwhile, and writes the log.
+fn serve_to_end<J, R, I, L, G>(
     rt: &R,
     alloc: Global,
     listener: TcpListener,
     port: u16,
     idle: Option<u32>,
     reader: &mut I,
+    watch: &mut Watch,
+    log: &mut L,
     store: &LockedStore<J>,
     gate: &G,
     pile: &Mutex<Pile<J>>,
@@ -230,6 +286,7 @@ where
     J: StoreName,
     R: Net<Listener = TcpListener, Stream = TcpStream> + Clock + Threads + Wait + Sync,
     I: Control + Read,
+    L: Write,
     G: Gate + Sync,
 {
     let (calls, called) = crossbeam_channel::unbounded::<Call, Global>(alloc)?;
@@ -246,8 +303,9 @@ where
         if accepting.is_err() {
             return Err(AllocError);
         }
-        await_end(reader, service);
+        await_end(reader, service, watch, log);
         service.stop();
+        watch.look_on(service, log);
         Ok(())
     })
 }

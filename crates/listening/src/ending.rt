@@ -2,9 +2,10 @@
 
 use crate::control::Control;
 use crate::service::Service;
+use crate::watch::Watch;
 use growlog::StoreName;
 use sessions::Gate;
-use std::io::{ErrorKind, Read};
+use std::io::{ErrorKind, Read, Write};
 use std::net::{Net, TcpListener, TcpStream};
 use std::sync::Wait;
 use std::time::{Clock, Duration};
@@ -14,12 +15,18 @@ use std::{io, thread};
 const PAUSE: u64 = 10;
 
 /// Reads a reader until it ends or fails, or the server has been stopped otherwise, which is looked at
-/// while there is nothing to be read.
-pub(crate) fn await_end<J, R, I, G>(reader: &mut I, service: &Service<'_, J, R, G>)
+/// while there is nothing to be read. The log is written meanwhile.
+pub(crate) fn await_end<J, R, I, L, G>(
+    reader: &mut I,
+    service: &Service<'_, J, R, G>,
+    watch: &mut Watch,
+    log: &mut L,
+)
 where
     J: StoreName,
     R: Net<Listener = TcpListener, Stream = TcpStream> + Clock + Wait,
     I: Control + Read,
+    L: Write,
     G: Gate,
 {
     let mut bytes = [0u8; 64];
@@ -27,6 +34,7 @@ where
         if service.has_stopped() {
             return;
         }
+        watch.look(service, log);
         if !reader.is_ready(service.rt, service.alloc) {
             continue;
         }

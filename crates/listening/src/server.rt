@@ -65,15 +65,16 @@ pub struct TableRows {
 }
 
 /// What a server does: the port at which it listens, 0 where the system chooses; how many
-/// connections it takes; how many entries its journal may have; the seconds, 1 or more, after which a client that has sent nothing makes room
-/// for another that waits, where it does; and the number of the table that is exported at the end,
-/// where one is.
+/// connections it takes; how many entries its journal may have; the seconds, 1 or more, after which
+/// a client that has sent nothing makes room for another that waits, where it does; whether what
+/// happens is logged; and the number of the table that is exported at the end, where one is.
 #[derive(Clone, Copy, Debug, PartialEq, Eq)]
 pub struct Plan {
     pub port: u16,
     pub limit: Limit,
     pub entries: usize,
     pub idle: Option<u32>,
+    pub is_logged: bool,
     pub export: Option<u8>,
 }
 
@@ -101,13 +102,15 @@ const OUT_OF_MEMORY: ServerFault = ServerFault::Listen(ListenFault::Memory);
 /// The system is to have no transaction open: one that is, is let go, and nothing is said of what
 /// follows.
 ///
-/// The reader is read only where the limit is `Connections(0)`: the server is stopped when it ends
-/// (`HasRead`).
-pub fn serve<R, I, O>(
+/// Where it is logged, the log has a line when the server listens, for each connection that is refused,
+/// for marks that the journal passes, and when all connections have ended (`log.rt`). The reader is read
+/// only where the limit is `Connections(0)`: the server is stopped when it ends (`HasRead`).
+pub fn serve<R, I, O, L>(
     rt: &R,
     alloc: Global,
     reader: &mut I,
     out: &mut O,
+    log: &mut L,
     system: System,
     first: Option<TableRows>,
     plan: Plan,
@@ -116,6 +119,7 @@ where
     R: Net<Listener = TcpListener, Stream = TcpStream> + Clock + Threads + Wait + Sync,
     I: Control + Read,
     O: Write,
+    L: Write,
     requires export { IsExportOf system.schema plan.export }
     requires known { (start : Schema) × (before : History) × Stands start system before }
     ensures ok { IfOk result (λ s. (start : Schema) (before : History)
@@ -129,11 +133,12 @@ where
 {
     histories_are_of_changes();
     let (schema, engine) = system.into_parts();
-    serve_store::<Brand, R, I, O>(
+    serve_store::<Brand, R, I, O, L>(
         rt,
         alloc,
         reader,
         out,
+        log,
         schema,
         engine,
         first,
@@ -142,11 +147,12 @@ where
     )
 }
 
-fn serve_store<J, R, I, O>(
+fn serve_store<J, R, I, O, L>(
     rt: &R,
     alloc: Global,
     reader: &mut I,
     out: &mut O,
+    log: &mut L,
     schema: Schema,
     engine: Engine,
     first: Option<TableRows>,
@@ -158,6 +164,7 @@ where
     R: Net<Listener = TcpListener, Stream = TcpStream> + Clock + Threads + Wait + Sync,
     I: Control + Read,
     O: Write,
+    L: Write,
     requires log { opened.seen.book ≡ J.book }
     requires tables { schema ≡ J.origin.schema }
     requires holds { Holds J.origin.schema engine (changes J.origin.log) }
@@ -184,7 +191,7 @@ where
             return Err(fault);
         }
     };
-    let closed = match serve_to_close(rt, alloc, reader, out, plan, store, receipts) {
+    let closed = match serve_to_close(rt, alloc, reader, out, log, plan, store, receipts) {
         Ok(closed) => closed,
         Err(fault) => return Err(fault),
     };
@@ -270,11 +277,12 @@ fn report<O: Write>(out: &mut O, label: &[u8], number: u64) -> Result<(), Server
 }
 
 /// Listens, reports the port, and serves connections until the store closes.
-fn serve_to_close<J, R, I, O>(
+fn serve_to_close<J, R, I, O, L>(
     rt: &R,
     alloc: Global,
     reader: &mut I,
     out: &mut O,
+    log: &mut L,
     plan: Plan,
     store: LockedStore<J>,
     receipts: Vec<Receipt<J>>,
@@ -284,6 +292,7 @@ where
     R: Net<Listener = TcpListener, Stream = TcpStream> + Clock + Threads + Wait + Sync,
     I: Control + Read,
     O: Write,
+    L: Write,
     ensures ok { IfOk result (λ closed. HasListened plan.port
         (O.contents out.old) (O.contents out.new) × IsClosedWith J.origin
         (map (λ r. record { number = r.number; entry = r.entry }) receipts.items) closed) }
@@ -319,6 +328,8 @@ where
         plan.limit,
         plan.idle,
         reader,
+        plan.is_logged,
+        log,
         store,
         receipts,
         &AlwaysOpen,

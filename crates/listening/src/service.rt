@@ -1,11 +1,12 @@
 //! What all connections share, and how one of them is served.
 
 use crate::acceptor::refuse;
-use crate::client::serve_client;
+use crate::client::{Unserved, serve_client};
 use crate::clock::Microseconds;
 use crate::desk::Seat;
 use crate::patience::Patience;
 use crate::pile::{Origin, Pile, hand_over};
+use crate::refusals::{Cause, Refusals};
 use crate::round_trigger::{Call, RoundTrigger};
 use crate::session_gate::SessionGate;
 use crate::stop::Stop;
@@ -41,6 +42,9 @@ pub(crate) struct Service<'a, J: StoreName, R, G> {
     pub(crate) is_crowded: AtomicBool,
     /// Whether connections are taken.
     is_listening: AtomicBool,
+    /// How many of those that were taken have not ended.
+    live: AtomicU64,
+    pub(crate) refusals: Refusals,
     stop: Stop,
 }
 
@@ -70,8 +74,42 @@ impl<'a, J: StoreName, R, G> Service<'a, J, R, G> {
             },
             is_crowded: AtomicBool::new(false),
             is_listening: AtomicBool::new(true),
+            live: AtomicU64::new(0),
+            refusals: Refusals::new(),
             stop,
         }
+    }
+}
+
+impl<J: StoreName, R, G> Service<'_, J, R, G> {
+    /// Refuses a connection, and counts it.
+    pub(crate) fn refuse(&self, stream: &TcpStream, cause: Cause) {
+        refuse(stream);
+        self.refusals.count(cause);
+    }
+
+    /// Counts a client that was refused, if that is why it was not served.
+    fn count_unserved(&self, why: Unserved) {
+        match why {
+            Unserved::Memory => self.refusals.count(Cause::Memory),
+            Unserved::Foreign => self.refusals.count(Cause::Foreign),
+            Unserved::Read | Unserved::NoLine => {}
+        }
+    }
+
+    /// Notes that a connection is served from now on.
+    pub(crate) fn begin_one(&self) {
+        self.live.fetch_add(1, Ordering::SeqCst);
+    }
+
+    /// Notes that a connection has ended.
+    pub(crate) fn end_one(&self) {
+        self.live.fetch_sub(1, Ordering::SeqCst);
+    }
+
+    /// Tells whether nobody listens any more, and all connections have ended.
+    pub(crate) fn has_ended(&self) -> bool {
+        !self.is_listening.load(Ordering::SeqCst) && self.live.load(Ordering::SeqCst) == 0
     }
 }
 
@@ -85,6 +123,7 @@ where
     pub(crate) fn serve(&self, seat: Seat, calls: Sender<Call, Global>, stream: TcpStream) {
         self.serve_kept(&seat, calls, &stream);
         seat.leave(self.rt);
+        self.end_one();
     }
 
     /// Serves a connection, of which a second descriptor is kept meanwhile if the server may be stopped.
@@ -95,7 +134,7 @@ where
         }
         if self.stop.keep(self.rt, seat.number, stream).is_err() {
             if !self.has_stopped() {
-                refuse(stream);
+                self.refuse(stream, Cause::Descriptor);
             }
             return;
         }
@@ -108,7 +147,7 @@ where
     fn serve_stream(&self, seat: &Seat, calls: Sender<Call, Global>, stream: &TcpStream) {
         let number = seat.number;
         if number > MAX_SESSION {
-            refuse(stream);
+            self.refuse(stream, Cause::Memory);
             return;
         }
         // A reply is sent at once, whether or not what was sent before has arrived. Where that cannot
@@ -118,7 +157,7 @@ where
             let _ = stream.set_read_timeout(Some(Duration::from_secs(u64::from(seconds))));
         }
         let Ok(mut writer) = BufWriter::new(self.alloc, stream) else {
-            refuse(stream);
+            self.refuse(stream, Cause::Memory);
             return;
         };
         let own = AtomicU64::new(0);
@@ -137,15 +176,16 @@ where
             reader,
             &mut writer,
         );
-        let Ok(
-            Served {
-                receipts,
-                refused,
-                end: _,
-            },
-        ) = served
-        else {
-            return;
+        let Served {
+            receipts,
+            refused,
+            end: _,
+        } = match served {
+            Ok(served) => served,
+            Err(why) => {
+                self.count_unserved(why);
+                return;
+            }
         };
         let origin = Origin::Session {
             number,

@@ -107,6 +107,7 @@ where
 {
     let (store, before) = held.lock(rt).take().expect(rt, "it is held");
     let mut reader = b"".as_slice();
+    let mut log = Vec::new(alloc);
     let closed = listen(
         rt,
         alloc,
@@ -114,6 +115,8 @@ where
         limit,
         None,
         &mut reader,
+        false,
+        &mut log,
         store,
         before,
         gate,

@@ -92,6 +92,7 @@ fn a_server_has_a_port_and_a_number_of_sessions(rt: HostRuntime) {
             limit,
             entries: 1_000_000,
             idle: None,
+            is_logged: false,
         };
         assert!(rt; options.mode == wanted, "{given:?}");
     }
@@ -103,6 +104,7 @@ fn a_server_has_a_journal_and_an_idle_time(rt: HostRuntime) {
         "--idle=0060",
         "--connections",
         "9",
+        "--log",
         "--listen=4",
         "--entries",
         "1000000000",
@@ -113,6 +115,7 @@ fn a_server_has_a_journal_and_an_idle_time(rt: HostRuntime) {
         limit: Limit::Connections(9),
         entries: 1_000_000_000,
         idle: Some(60),
+        is_logged: true,
     };
     assert!(rt; options.mode == wanted);
 }

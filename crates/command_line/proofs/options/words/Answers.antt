@@ -30,6 +30,7 @@ reads_of words texts found taken rows are = record {
     connections = (first_value-rows found (codes "connections") ∙ ap (first_of (codes "connections")) rows) i;
     entries = (first_value-rows found (codes "entries") ∙ ap (first_of (codes "entries")) rows) i;
     idle = (first_value-rows found (codes "idle") ∙ ap (first_of (codes "idle")) rows) i;
+    log = (first_value-rows found (codes "log") ∙ ap (first_of (codes "log")) rows) i;
     load = (first_value-rows found (codes "load") ∙ ap (first_of (codes "load")) rows) i;
     exports = (first_value-rows found (codes "export") ∙ ap (first_of (codes "export")) rows) i;
     dump = (first_value-rows found (codes "dump") ∙ ap (first_of (codes "dump")) rows) i;

@@ -25,3 +25,6 @@ await_end-requires-send-J g c κs within = let named : IsSend g.row.J = search (
 
 pub stop-requires-send-J : goal.stop-requires-send-J
 stop-requires-send-J g c κs within = let named : IsSend g.row.J = search (rules, c.requires) parts 8 in param_send 0 _ named
+
+pub look_on-requires-send-J : goal.look_on-requires-send-J
+look_on-requires-send-J g c κs within = let named : IsSend g.row.J = search (rules, c.requires) parts 8 in param_send 0 _ named
