@@ -5,12 +5,13 @@ from __future__ import annotations
 import sys
 from typing import Callable, Dict, List, Sequence
 
-from . import backup, csv_check, extract, health, load, replay, send, serve, shell, side_by_side, stop, timeline
+from . import (backup, check_run, csv_check, extract, health, load, replay, send, serve, shell, side_by_side, stop,
+               timeline)
 from .errors import Error
 
 COMMANDS: Dict[str, Callable[[Sequence[str]], int]] = {
     "shell": shell.main, "send": send.main, "timeline": timeline.main, "side-by-side": side_by_side.main,
-    "check-csv": csv_check.main, "load": load.main, "extract": extract.main,
+    "check-csv": csv_check.main, "check-run": check_run.main, "load": load.main, "extract": extract.main,
     "backup": backup.main, "replay": replay.main,
     "serve": serve.main, "health": health.main, "stop": stop.main,
 }
@@ -22,6 +23,7 @@ USAGE = """usage: python3 -m tsvd COMMAND
   timeline FILE                   turns an export into an HTML page with a bar for each version
   side-by-side SCRIPT             runs a script and prints each line with its reply
   check-csv FILE                  reports the records and fields that a load would refuse, and why
+  check-run TRANSCRIPT..          checks what sessions kept: whether one order explains every reply
   load FILE                       loads a CSV file of any length into a server, or makes a script of it
   extract PORT TABLE              writes what was on record as of a date, as CSV or JSON
   backup PORT                     writes all versions of all tables as a script that leaves the same history

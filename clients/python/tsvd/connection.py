@@ -2,6 +2,7 @@
 
 from __future__ import annotations
 
+import os
 from typing import Any, Callable, List, Mapping, Optional, Sequence, Type, TypeVar, Union
 
 from . import errors
@@ -12,6 +13,7 @@ from .protocol import Session
 from .refusals import number_of, refusal_error
 from .replies import answers
 from .schema import Schema, schema_of
+from .transcript import Transcript
 
 Answer = TypeVar("Answer")
 
@@ -162,7 +164,7 @@ class Connection:
 
 def connect(port: int, schema: Union[None, str, Schema] = None, wait: float = 5.0,
             timeout: Optional[float] = None, autocommit: bool = False, days: Optional[Mapping[str, str]] = None,
-            datetimes: bool = False) -> Connection:
+            datetimes: bool = False, keep: Union[None, str, "os.PathLike[str]"] = None) -> Connection:
     """Opens a session with the server at a port of this machine.
 
     `schema` is the text of the server's schema file; None means the sample table. A server serves 64
@@ -172,8 +174,10 @@ def connect(port: int, schema: Union[None, str, Schema] = None, wait: float = 5.
     `autocommit` each statement is a transaction by itself. `days` says how columns hold dates:
     {'table.column': form}, or {'table': form} for its period of application time, with a form of
     'yyyymmdd', 'yyyy-mm-dd' and 'microseconds'. With `datetimes` the periods of FROM .. TO and
-    BETWEEN .. AND are datetimes in UTC instead of microseconds since 1970.
+    BETWEEN .. AND are datetimes in UTC instead of microseconds since 1970. `keep` is a file that is
+    made for a transcript of the session, by which `check-run` tells whether its replies were right.
     """
     tables = schema_of(schema)
     Days(days, tables)
-    return Connection(Session(port, wait, timeout), tables, autocommit, days, datetimes)
+    transcript = Transcript(os.fspath(keep), port) if keep is not None else None
+    return Connection(Session(port, wait, timeout, transcript), tables, autocommit, days, datetimes)

@@ -3,6 +3,7 @@
 from __future__ import annotations
 
 import contextlib
+import os
 import threading
 from typing import Any, Iterator, List, Mapping, Optional, Union
 
@@ -13,22 +14,25 @@ from .limits import MOST_SESSIONS
 from .places import Places
 from .protocol import Session
 from .schema import Schema, schema_of
+from .transcript import numbered
 
 
 class Pool:
     """Keeps at most `size` sessions open, and lends each to one thread at a time.
 
     Threads may share a pool. A session that its server has ended is replaced when it is next lent.
+    With `keep` each session has a transcript: FILE.1, FILE.2 and so on, by names that are free.
     """
 
     def __init__(self, port: int, size: int, schema: Union[None, str, Schema] = None, wait: float = 5.0,
                  timeout: Optional[float] = None, autocommit: bool = False, days: Optional[Mapping[str, str]] = None,
-                 datetimes: bool = False) -> None:
+                 datetimes: bool = False, keep: Union[None, str, "os.PathLike[str]"] = None) -> None:
         if not 1 <= size <= MOST_SESSIONS:
             raise DataError(f"a pool has 1 to {MOST_SESSIONS} connections, as many as a server serves at once, not {size}")
         self.port, self.wait, self.timeout = port, wait, timeout
         self.schema = schema_of(schema)
         self.autocommit, self.days, self.datetimes = autocommit, days, datetimes
+        self.keep = None if keep is None else os.fspath(keep)
         Days(days, self.schema)
         self.places = Places(size)
         self.lock = threading.Lock()
@@ -68,8 +72,13 @@ class Pool:
 
     def lend(self) -> Connection:
         """Returns a connection over a session that is kept, or over a new one."""
-        session = self.kept() or Session(self.port, self.wait, self.timeout)
+        session = self.kept() or self.opened()
         return Connection(session, self.schema, self.autocommit, self.days, self.datetimes)
+
+    def opened(self) -> Session:
+        """Opens a session, with a transcript where these are kept: FILE.1, FILE.2 and so on."""
+        transcript = None if self.keep is None else numbered(self.keep, self.port)
+        return Session(self.port, self.wait, self.timeout, transcript)
 
     def kept(self) -> Optional[Session]:
         """Takes the session that was used last of those that have not ended."""

@@ -11,6 +11,7 @@ from .errors import DisconnectError, InterfaceError
 from .lines import checked
 from .opening import open_session
 from .replies import is_reply
+from .transcript import Transcript
 
 
 class Session:
@@ -19,11 +20,18 @@ class Session:
     It is open once the server has answered a first line, which takes no entry of the journal: `wait`
     bounds the time until then. A line is sent only if it has exactly one reply, and only after the
     previous reply was read completely. If reading is interrupted, or a reply has an unknown form,
-    the session ends.
+    the session ends. All lines but the first go into the transcript, if there is one, with their replies.
     """
 
-    def __init__(self, port: int, wait: float = 5.0, timeout: Optional[float] = None) -> None:
-        self.socket, self.replies = open_session(port, wait)
+    def __init__(self, port: int, wait: float = 5.0, timeout: Optional[float] = None,
+                 transcript: Optional[Transcript] = None) -> None:
+        try:
+            self.socket, self.replies = open_session(port, wait)
+        except BaseException:
+            if transcript:
+                transcript.discard()
+            raise
+        self.transcript = transcript
         self.socket.settimeout(timeout)
         self.is_open = True
         self.lock = threading.Lock()
@@ -36,10 +44,18 @@ class Session:
         self.close()
 
     def close(self) -> None:
+        """Ends the session, and raises where the transcript could not be written."""
+        self.end()
+        if self.transcript:
+            self.transcript.check()
+
+    def end(self) -> None:
         """Ends the session."""
         self.is_open = False
         self.replies.close()
         self.socket.close()
+        if self.transcript:
+            self.transcript.close()
 
     def handed_on(self) -> "Session":
         """Returns the session for another holder; whoever still has this object can neither use nor close it."""
@@ -49,6 +65,7 @@ class Session:
         kept.socket.settimeout(timeout)
         kept.replies = kept.socket.makefile("rb")
         self.is_open = False
+        self.transcript = None
         return kept
 
     def has_ended(self) -> bool:
@@ -74,6 +91,7 @@ class Session:
         with self.lock:
             if not self.is_open:
                 raise InterfaceError("the session has ended")
+            self.keep_line(data)
             self.is_open = False
             try:
                 self.socket.sendall(data + b"\n")
@@ -83,10 +101,29 @@ class Session:
                 raise self.disconnected(str(fault), data) from fault
             except EOFError:
                 raise self.disconnected("the server ended the session", data) from None
+            except InterfaceError as fault:
+                self.keep_broken(fault)
+                raise
             finally:
                 if not self.is_open:
-                    self.close()
+                    self.end()
+            self.keep_reply(reply)
             return reply
+
+    def keep_line(self, line: bytes) -> None:
+        """Writes a line into the transcript before it is sent."""
+        if self.transcript:
+            self.transcript.sent(line)
+
+    def keep_reply(self, reply: List[str]) -> None:
+        """Writes a reply into the transcript."""
+        if self.transcript:
+            self.transcript.received(reply)
+
+    def keep_broken(self, fault: InterfaceError) -> None:
+        """Writes into the transcript what came in the place of a reply."""
+        if self.transcript:
+            self.transcript.broken(str(fault))
 
     def disconnected(self, why: str, line: bytes) -> DisconnectError:
         """Makes the exception for a connection that broke after a line was sent."""
