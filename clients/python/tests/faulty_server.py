@@ -5,7 +5,7 @@ import socket
 import threading
 import time
 
-PLAIN = re.compile(rb"SELECT \* FROM (\w+)(?! FOR)(.*)")
+PLAIN = re.compile(rb"SELECT \* FROM (\w+)\b(?! FOR)(.*)")
 INSTANT = re.compile(rb"\b(1\d{15})\b")
 AS_OF = re.compile(rb"(AS OF )(\d+)")
 WRITES = (b"INSERT", b"UPDATE", b"DELETE")
@@ -127,10 +127,10 @@ class AnswerIsStale(Fault):
         self.told = [0]
 
     def answer(self, link, line):
-        if link.lines is None and PLAIN.fullmatch(line):
+        reply = link.ask(line)
+        if link.lines is None and PLAIN.fullmatch(line) and reply.startswith(b"rows "):
             old = self.told[max(0, len(self.told) - 8)]
             return link.ask(PLAIN.sub(rb"SELECT * FROM \1 FOR SYSTEM_TIME AS OF %d\2" % old, line))
-        reply = link.ask(line)
         if reply.startswith(b"committed 1"):
             self.told.append(int(reply.split()[1]))
         return reply

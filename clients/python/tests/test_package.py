@@ -42,5 +42,5 @@ class Package(unittest.TestCase):
                     names.add(node.module)
         self.assertLessEqual(names, {
             "__future__", "argparse", "atexit", "bisect", "collections", "contextlib", "copy", "csv", "datetime", "decimal",
-            "fcntl", "filecmp", "html", "itertools", "json", "numbers", "operator", "os", "pathlib", "re", "readline", "shutil",
-            "signal", "socket", "subprocess", "sys", "threading", "time", "typing", "unicodedata", "uuid"})
+            "fcntl", "filecmp", "heapq", "html", "itertools", "json", "numbers", "operator", "os", "pathlib", "re", "readline",
+            "shutil", "signal", "socket", "subprocess", "sys", "tempfile", "threading", "time", "typing", "unicodedata", "uuid"})

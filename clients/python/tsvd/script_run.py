@@ -45,7 +45,7 @@ def script_line(exchange: Exchange, session: int) -> Optional[ScriptLine]:
     for begin in (f"{session}: ", f"{session}:"):
         if len(begin) + len(line) <= LONGEST_LINE:
             return ScriptLine(begin.encode("ascii") + line, len(begin))
-    if exchange.head().startswith(SYNTAX):
+    if exchange.head.startswith(SYNTAX):
         return None
     text = f"{session}:".encode("ascii") + squeezed(line)
     if len(text) > LONGEST_LINE:

@@ -41,8 +41,10 @@ class Entry(NamedTuple):
 
 
 class Ask(NamedTuple):
-    """Holds a line that is asked of the program for a session: without a text where no script has it, and with no exchange
-    where no session sent it."""
+    """Holds a line that is asked of the program for a session, and what its reply rests on.
+
+    It has no text where no script has the line, and no exchange where no session sent it.
+    """
 
     session: "Session"
     exchange: Optional[Exchange]
@@ -171,9 +173,9 @@ class SerialOrder:
     def is_at_snapshot(self, step: Step) -> bool:
         """Returns whether the last instant is the snapshot of a BEGIN; raises where that is over."""
         if step.instant < self.last:
-            known = step.instant in self.commits or step.instant == self.limits.base
-            raise Wrong(step.exchange, f"begun {self.last} or later", "what was told before this line was sent is later" if
-                        known else "no commit has that instant")
+            anew = ", or the server began anew, and these are transcripts of two runs" if step.instant == self.limits.base else ""
+            raise Wrong(step.exchange, f"begun {self.last} or later",
+                        f"what was told before this line was sent is later than {step.instant}{anew}")
         return step.instant == self.last
 
     def place_begins(self) -> bool:
@@ -302,6 +304,9 @@ class SerialOrder:
             return
         blocking = session if is_own else self.first_read(bound)
         other = blocking.steps[blocking.at]
+        if other.kind in (BEGIN, CONFLICT) and other.instant == instant:
+            raise Wrong(other.exchange, f"an instant up to {self.last}", f"the COMMIT of {instant}, at {exchange.place()}, was sent "
+                        "after this reply was read")
         if other.kind == BEGIN and other.instant > self.last or other.kind in (COMMITTED, CONFLICT):
             raise Wrong(exchange, f"an instant above {other.instant}", f"the instant {other.instant} was told before this line "
                         f"was sent, in the reply to {other.exchange.place()}")

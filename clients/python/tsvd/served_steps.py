@@ -9,28 +9,25 @@ from .refusals import number_of
 from .replies import first_word
 from .transcript_reading import Exchange, Kept
 
-# `BEGIN` and `COMMITTED` have an instant that says where in the history they are, and `CONFLICT` one that it comes behind;
-# `READ` shows the state of some instant. For a `LINE` one place is as good as any other that its session allows.
+# BEGIN and COMMITTED have an instant that says where in the history they are, CONFLICT one that it comes behind, and READ shows
+# the state of some instant. For a LINE, and the ENDING of a transaction that changes nothing, any place that its session
+# allows is as good as another.
 BEGIN, LINE, READ, COMMITTED, CONFLICT, CLOCK_END, LOST, ENDING = range(8)
 
 COMMIT = re.compile(rb"[ \t]*COMMIT(?:[ \t]+WORK)?[ \t]*;?[ \t]*\r?", re.I)
 INSTANT = re.compile(r"(?:begun|committed|E7 conflict .* at) ([0-9]+)", re.S)
 
 OUT_OF_MEMORY, JOURNAL_FULL, CONFLICTS, NO_INSTANT = 10, 13, 7, 8
-# With no transaction open these take no memory, and no entry of the journal; ROLLBACK never does.
+# Only lines that begin with these can take an entry of the journal.
 TAKING_ENTRIES = ("BEGIN", "START", "COMMIT", "SELECT", "SPLIT", "MIGRATE")
 
 
 class Step(NamedTuple):
-    """Holds a line and what it did; `opened` is the transaction that it is in or begins, by a number in its session."""
+    """Holds a line, what it did, and the instant that its reply says, if any."""
 
     kind: int
     exchange: Exchange
     instant: int = 0
-
-    def is_placed(self) -> bool:
-        """Returns whether its reply says something of what others did."""
-        return self.kind not in (LINE, ENDING)
 
 
 class Steps(NamedTuple):
@@ -47,15 +44,10 @@ def instant_in(head: str) -> int:
     return int(found.group(1)) if found else 0
 
 
-def is_commit(line: bytes) -> bool:
-    """Returns whether a line is a COMMIT."""
-    return COMMIT.fullmatch(line) is not None
-
-
 def did_nothing(exchange: Exchange, is_open: bool) -> bool:
     """Returns whether a line was refused for memory or a full journal, and can have been."""
-    number = number_of(exchange.head())
-    word = first_word(exchange.line.decode("utf-8", "replace"))
+    number = number_of(exchange.head) if exchange.head.startswith(("E10", "E13")) else None
+    word = first_word(exchange.line.decode("utf-8", "replace")) if number else ""
     if number == OUT_OF_MEMORY:
         return word != "ROLLBACK" and not (word in ("BEGIN", "START") and is_open) and not (word == "COMMIT" and not is_open)
     return number == JOURNAL_FULL and word in TAKING_ENTRIES
@@ -63,15 +55,15 @@ def did_nothing(exchange: Exchange, is_open: bool) -> bool:
 
 def kind_outside(exchange: Exchange) -> int:
     """Returns what a line with no transaction open did."""
-    if exchange.head().startswith("begun "):
+    if exchange.head.startswith("begun "):
         return BEGIN
-    return READ if exchange.head().startswith("rows ") else LINE
+    return READ if exchange.head.startswith("rows ") else LINE
 
 
 def kind_inside(exchange: Exchange) -> int:
     """Returns what a line in a transaction did."""
-    head = exchange.head()
-    number = number_of(head)
+    head = exchange.head
+    number = number_of(head) if head.startswith("E") else None
     if number == CONFLICTS:
         return CONFLICT
     if number == NO_INSTANT:
@@ -88,14 +80,14 @@ def steps_of(kept: Kept) -> Steps:
     is_open = False
     for exchange in kept.exchanges:
         if not exchange.reply:
-            if is_open and is_commit(exchange.line):
+            if is_open and COMMIT.fullmatch(exchange.line):
                 steps.append(Step(LOST, exchange))
             continue
         if did_nothing(exchange, is_open):
             refused.append(exchange)
             continue
         kind = kind_inside(exchange) if is_open else kind_outside(exchange)
-        steps.append(Step(kind, exchange, instant_in(exchange.head())))
+        steps.append(Step(kind, exchange, instant_in(exchange.head)))
         is_open = kind == BEGIN or is_open and kind == LINE
     return Steps(kept, steps, refused)
 

@@ -50,8 +50,8 @@ def commits_of(runs: Sequence[Steps]) -> Dict[int, Exchange]:
 
 def periods_of(exchange: Exchange) -> Iterator[Tuple[int, Version]]:
     """Yields the instants in a reply whose rows have periods."""
-    query = QUERY.match(exchange.line.decode("utf-8", "replace"))
-    if not query or not exchange.reply or (query.group(2) or "").upper() not in ("FROM", "BETWEEN"):
+    query = QUERY.match(exchange.line.decode("utf-8", "replace")) if len(exchange.reply) > 1 else None
+    if not query or (query.group(2) or "").upper() not in ("FROM", "BETWEEN"):
         return
     for text in exchange.reply[1:]:
         found = PERIOD.fullmatch(text)

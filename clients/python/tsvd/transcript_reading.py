@@ -24,11 +24,9 @@ class Exchange:
         self.path, self.number, self.line, self.sent = path, number, line, sent
         self.reply: List[bytes] = []
         self.received = 0
+        # The first line of the reply; what came in the place of one.
+        self.head = ""
         self.broken: Optional[str] = None
-
-    def head(self) -> str:
-        """Returns the first line of the reply, or an empty text where none was read."""
-        return self.reply[0].decode("utf-8") if self.reply else ""
 
     def place(self) -> str:
         """Returns where it is, for a message."""
@@ -132,6 +130,7 @@ class Reader:
         if len(rows) < count or not all(row.startswith(mark) for row in rows):
             raise self.fault(self.at, f"it is cut off: there are not {count} rows below it")
         exchange.reply = [head, *(row[len(mark):] for row in rows)]
+        exchange.head = head.decode("utf-8")
         exchange.received = self.time
         self.at += count
 
