@@ -321,10 +321,12 @@ class SerialOrder:
     def check_clock(self, exchange: Exchange, instant: int) -> None:
         """Raises where an instant is no reading of the clock between a COMMIT and its reply, and not the one after the last."""
         least, greatest = exchange.sent - self.limits.slack, exchange.received + self.limits.slack
-        if instant < least or instant > greatest and instant != self.last + 1:
-            raise Wrong(exchange, f"an instant from {least} to {greatest}, or {self.last + 1}",
-                        "a commit's instant is the clock's reading between COMMIT and its reply, or the one after the last "
-                        f"instant; this one is {away(instant, least, greatest)}")
+        why = "a commit's instant is the clock's reading between COMMIT and its reply, or the one after the last instant if that " \
+            "is later; this one is"
+        if instant < least:
+            raise Wrong(exchange, f"an instant of {least} or later", f"{why} {seconds(least - instant)} before that")
+        if instant > greatest and instant != self.last + 1:
+            raise Wrong(exchange, f"an instant up to {greatest}, or {self.last + 1}", f"{why} {seconds(instant - greatest)} behind that")
 
     def stuck(self, session: Session, why: str) -> Wrong:
         """Makes the fault for a session whose next step cannot be placed in time."""
@@ -436,7 +438,6 @@ def text_of(reply: Sequence[bytes]) -> str:
     return "\n".join(line.decode("utf-8", "replace") for line in reply)
 
 
-def away(instant: int, least: int, greatest: int) -> str:
-    """Says how far an instant is from where it can be."""
-    seconds = (least - instant if instant < least else instant - greatest) / 1_000_000
-    return f"{seconds:.6f} seconds {'before' if instant < least else 'behind'} these"
+def seconds(microseconds: int) -> str:
+    """Returns a span of time for a message."""
+    return f"{microseconds / 1_000_000:.6f} seconds"
