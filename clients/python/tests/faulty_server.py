@@ -25,6 +25,7 @@ class Link:
         self.replies = self.socket.makefile("rb")
         self.lock = threading.Lock()
         self.lines = None
+        self.early = b""
 
     def ask(self, line):
         """Returns the reply of the program to a line, and follows whether a transaction is open."""
@@ -87,8 +88,33 @@ class ConflictIsMissed(Fault):
             return reply
         for again in (b"BEGIN", *lines):
             link.ask(again)
-        second = link.ask(b"COMMIT")
+        return self.told(reply, link.ask(b"COMMIT"))
+
+    def told(self, reply, second):
+        """Returns what the client is told of both commits."""
         return second if INSTANT.search(second) else reply
+
+
+class ConflictIsToldAndCommitted(ConflictIsMissed):
+    """Does the same, and still says that it was a conflict."""
+
+    def told(self, reply, second):
+        return reply
+
+
+class SnapshotIsOld(Fault):
+    """Begins each transaction when the one before has ended, long before its client asks for it."""
+
+    def answer(self, link, line):
+        early, link.early = link.early, b""
+        if early and line == b"BEGIN":
+            return early
+        if early:
+            link.ask(b"ROLLBACK")
+        reply = link.ask(line)
+        if reply.startswith(b"committed "):
+            link.early = link.ask(b"BEGIN")
+        return reply
 
 
 class CommitIsLost(Fault):
@@ -143,8 +169,8 @@ class ClockIsAnHourAhead(Fault):
         return later(link.ask(later(line, -HOUR)), HOUR)
 
 
-FAULTS = (OwnWritesAreSeenByOthers, ConflictIsMissed, CommitIsLost, CommitIsTorn, AnswerIsOfTheInstantBefore, AnswerIsStale,
-          ClockIsAnHourAhead)
+FAULTS = (OwnWritesAreSeenByOthers, ConflictIsMissed, ConflictIsToldAndCommitted, CommitIsLost, CommitIsTorn, SnapshotIsOld,
+          AnswerIsOfTheInstantBefore, AnswerIsStale, ClockIsAnHourAhead)
 
 
 class FaultyServer:

@@ -188,8 +188,14 @@ class Checks(Files):
         with self.assertRaises(SystemExit) as told, contextlib.redirect_stderr(io.StringIO()):
             check_run.main([])
         self.assertEqual(told.exception.code, 2)
-        with self.assertRaisesRegex(tsvd.OperationalError, "the program ended with status 1: schema"):
-            self.checked(FIRST, words=("--schema", self.file("x", "CREATE")))
+        for words, wanted in ((("--schema", self.file("x", "CREATE")), "the program ended with status 1: schema"),
+                              (("--schema", "/nowhere"), "the program ended with status 1: read fault"),
+                              (("--program", "/nowhere/tsvd"), "No such file")):
+            status, told = self.checked(FIRST, words=words)
+            self.assertEqual((status, wanted in told), (REFUSED, True), told)
+        status, told = self.checked("")
+        self.assertEqual((status, told), (EXPLAINED, "one order explains all replies: 0 of 1 session, 0 commits, 0 conflicts; 1 transcript "
+                                                     "without an end\n"))
 
 
 @needs_program

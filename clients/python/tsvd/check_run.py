@@ -11,7 +11,7 @@ import tempfile
 from typing import Dict, Iterator, List, NamedTuple, Optional, Sequence
 
 from .choices import Choices
-from .errors import DataError
+from .errors import DataError, Error
 from .layout import visible
 from .program import program_path
 from .script_run import ScriptRun
@@ -24,8 +24,8 @@ EXPLAINED, NOT_EXPLAINED, REFUSED, NOT_DECIDED = 0, 1, 2, 3
 # Ways to place lost commits that are tried before it is said that nothing is decided.
 MOST_WAYS = 64
 SHOWN_LINES, SHOWN_BYTES = 4, 200
-STATUSES = """exit status: 0 one order explains every reply; 1 no order explains the reply that is shown; 2 the words or the
-transcripts are refused; 3 not decided, for commits whose replies were not read."""
+STATUSES = """exit status: 0 one order explains every reply; 1 no order explains the reply that is shown; 2 words or files are
+refused, or the program is not found; 3 not decided, for commits whose replies were not read."""
 
 
 class Checked(NamedTuple):
@@ -167,7 +167,7 @@ def summary(runs: Sequence[Steps], order: SerialOrder) -> str:
     if refused:
         notes.append(f"{count(refused, 'line')} refused for memory or a full journal")
     if order.uncompared:
-        notes.append(f"{count(order.uncompared, 'reply').replace('replys', 'replies')} not compared: lines too long for a script")
+        notes.append(f"{count(order.uncompared, 'line')} not compared, too long for a script")
     open_ends = sum(not run.kept.has_end for run in runs)
     if open_ends:
         notes.append(f"{count(open_ends, 'transcript')} without an end")
@@ -216,6 +216,6 @@ def main(words: Sequence[str]) -> int:
     given = parser.parse_args(words)
     try:
         return check(given)
-    except DataError as fault:
+    except (Error, OSError) as fault:
         print(f"check-run: {fault}", file=sys.stderr)
         return REFUSED
