@@ -2,15 +2,14 @@ import contextlib
 import io
 import os
 import pathlib
-import threading
 
 import tsvd
 from tests.faulty_server import FaultyServer, OwnWritesAreSeenByOthers
 from tests.served import LONGEST, Files, needs_program
-from tests.storming import SCHEMA, Lines, audit, client, cut_off
+from tests.storming import SCHEMA, audit, cut_off, storm
 from tsvd import check_run
 from tsvd.check_run import EXPLAINED, NOT_DECIDED, NOT_EXPLAINED, REFUSED
-from tsvd.program import Server, program_path
+from tsvd.program import Server
 from tsvd.transcript import Transcript
 
 HEAD = "tsvd transcript 1 port 7411\n"
@@ -199,41 +198,50 @@ class Checks(Files):
 
 
 @needs_program
-class Storms(Files):
-    def stormed(self, sessions, fault=None):
-        """Runs clients at the program, or at a faulty server before it, and returns what the check says."""
-        schema = self.file("tables.schema", SCHEMA)
-        paths = [str(self.folder / f"client{number}") for number in range(sessions)]
-        faults = []
-        with Server(["--schema", schema], sessions + 1) as server, FaultyServer(server.port, fault or OwnWritesAreSeenByOthers()) as front:
-            port = front.port if fault else server.port
-            threads = [threading.Thread(target=client, args=(port, path, Lines(7, number), 60, False, faults))
-                       for number, path in enumerate(paths)]
-            for thread in threads:
-                thread.start()
-            for thread in threads:
-                thread.join(LONGEST)
-            audit(port, str(self.folder / "audit"))
-        self.assertEqual(faults, [])
+class Served(Files):
+    """A server of the storm's tables, by whose transcripts `check-run` is tried."""
+
+    def setUp(self):
+        super().setUp()
+        self.schema = self.file("tables.schema", SCHEMA)
+        self.paths = []
+
+    def kept(self, port):
+        """Opens a session that keeps a transcript."""
+        self.paths.append(str(self.folder / f"kept{len(self.paths)}"))
+        session = tsvd.Session(port, timeout=LONGEST, transcript=Transcript(self.paths[-1], port))
+        self.addCleanup(session.end)
+        return session
+
+    def checked(self):
+        """Checks what was kept, and returns the status and what was told."""
         with contextlib.redirect_stdout(io.StringIO()) as told:
-            status = check_run.main(["--schema", schema, "--program", program_path(), *paths, str(self.folder / "audit")])
+            status = check_run.main(["--schema", self.schema, *self.paths])
         return status, told.getvalue()
 
-    def test_one_order_explains_a_run_of_the_program(self):
-        self.assertEqual(self.stormed(4)[0], EXPLAINED)
+    def test_one_order_explains_a_run_of_many_clients(self):
+        with Server(["--schema", self.schema], 5) as server:
+            self.paths = storm(server.port, str(self.folder), 4, 60, 7)
+        status, told = self.checked()
+        self.assertEqual((status, told.split(":")[0]), (EXPLAINED, "one order explains all replies"), told)
 
-    def test_a_faulty_server_is_found(self):
-        status, told = self.stormed(4, OwnWritesAreSeenByOthers())
-        self.assertEqual((status, told.split(":")[0]), (NOT_EXPLAINED, "no order explains this reply"))
+    def test_a_server_that_shows_own_writes_to_others_is_found(self):
+        with Server(["--schema", self.schema], 2) as server, FaultyServer(server.port, OwnWritesAreSeenByOthers()) as front:
+            first, second = self.kept(front.port), self.kept(front.port)
+            for line in ("BEGIN", "INSERT INTO thing VALUES (1, 2, 'x')"):
+                first.ask(line)
+            self.assertEqual(second.ask("SELECT * FROM thing"), ["rows 1", "(1, 2, 'x')"])
+            first.ask("ROLLBACK")
+        status, told = self.checked()
+        self.assertEqual((status, told.split("\n")[0]), (NOT_EXPLAINED, f"no order explains this reply: {self.paths[1]}, line 2"))
 
     def test_a_client_that_is_cut_off_behind_its_commit_is_checked(self):
-        schema = self.file("tables.schema", SCHEMA)
-        with Server(["--schema", schema], 2) as server:
-            session = tsvd.Session(server.port, transcript=Transcript(str(self.folder / "cut"), server.port))
+        with Server(["--schema", self.schema], 2) as server:
+            session = self.kept(server.port)
             for line in ("BEGIN", "INSERT INTO thing VALUES (1, 2, 'x')"):
                 session.ask(line)
             cut_off(session)
-            audit(server.port, str(self.folder / "audit"))
-        with contextlib.redirect_stdout(io.StringIO()) as told:
-            status = check_run.main(["--schema", schema, str(self.folder / "cut"), str(self.folder / "audit")])
-        self.assertEqual((status, "1 COMMIT without a reply, of which" in told.getvalue()), (EXPLAINED, True), told.getvalue())
+            self.paths.append(str(self.folder / "audit"))
+            audit(server.port, self.paths[-1])
+        status, told = self.checked()
+        self.assertEqual((status, "1 COMMIT without a reply, of which" in told), (EXPLAINED, True), told)

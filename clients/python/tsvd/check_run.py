@@ -15,10 +15,11 @@ from .errors import DataError, Error
 from .layout import visible
 from .program import program_path
 from .script_run import ScriptRun
-from .serial_order import Entry, Limits, SerialOrder, Wrong, text_of
+from .serial_order import Entry, Limits, SerialOrder
 from .served_steps import COMMITTED, CONFLICT, LOST, Steps, broken_in, steps_of
 from .told_instants import Twice, commits_of, unexplained
 from .transcript_reading import Exchange, read_transcripts
+from .wrong import Wrong, text_of
 
 EXPLAINED, NOT_EXPLAINED, REFUSED, NOT_DECIDED = 0, 1, 2, 3
 # Ways to place lost commits that are tried before it is said that nothing is decided.

@@ -14,22 +14,14 @@ from typing import Dict, List, NamedTuple, Optional, Sequence, Tuple
 from .choices import Choices
 from .limits import GREATEST_INSTANT
 from .script_run import ScriptRun, own_refusal, script_line, served
-from .served_steps import BEGIN, CLOCK_END, COMMITTED, CONFLICT, ENDING, LINE, LOST, READ, Step, Steps
+from .served_steps import BEGIN, CLOCK_END, COMMITTED, CONFLICT, LINE, LOST, READ, Step, Steps
 from .session_numbers import SessionNumbers
 from .told_instants import Mention
 from .transcript_reading import Exchange
+from .walk import Walk
+from .wrong import Wrong, seconds, text_of
 
 NEVER = 2 ** 63
-# A lost commit that nobody has told an instant of is tried in so many places.
-MOST_PLACES = 4
-
-
-class Wrong(Exception):
-    """Reports the first reply that no order explains: what it should have been, and why."""
-
-    def __init__(self, exchange: Exchange, expected: str, why: str) -> None:
-        super().__init__(exchange, expected, why)
-        self.exchange, self.expected, self.why = exchange, expected, why
 
 
 class Entry(NamedTuple):
@@ -46,50 +38,11 @@ class Ask(NamedTuple):
     It has no text where no script has the line, and no exchange where no session sent it.
     """
 
-    session: "Session"
+    session: Walk
     exchange: Optional[Exchange]
     text: bytes
     shift: int
     why: str
-
-
-class Session:
-    """Walks through the steps of one transcript."""
-
-    def __init__(self, index: int, run: Steps) -> None:
-        self.index, self.steps = index, run.steps
-        self.at = 0
-        self.number = 0
-        self.snapshot = 0
-        # The instant at which the SELECT at hand was asked for last, the first such instant, and its answer then.
-        self.asked_at = self.asked_from = -1
-        self.answer: List[bytes] = []
-        self.places_left = MOST_PLACES
-
-    def front(self) -> Optional[Step]:
-        """Returns the next step, or None at the end."""
-        return self.steps[self.at] if self.at < len(self.steps) else None
-
-    def lines_from(self, at: int) -> List[Step]:
-        """Returns the lines from a step on that belong to it alone: up to one with a place of its own."""
-        found: List[Step] = []
-        for step in self.steps[at:]:
-            if step.kind not in (LINE, ENDING):
-                break
-            found.append(step)
-            if step.kind == ENDING:
-                break
-        return found
-
-    def ends_by_itself(self) -> bool:
-        """Returns whether the transaction that begins here ends without a place of its own."""
-        lines = self.lines_from(self.at + 1)
-        return bool(lines and lines[-1].kind == ENDING) or self.is_dropped()
-
-    def is_dropped(self) -> bool:
-        """Returns whether the transaction that begins here is open at the end of the session."""
-        lines = self.lines_from(self.at + 1)
-        return self.at + 1 + len(lines) == len(self.steps) and not (lines and lines[-1].kind == ENDING)
 
 
 class Limits(NamedTuple):
@@ -104,7 +57,7 @@ class SerialOrder:
 
     def __init__(self, runs: Sequence[Steps], commits: Dict[int, Exchange], mentions: Dict[int, Mention],
                  program: ScriptRun, choices: Choices, limits: Limits) -> None:
-        self.sessions = [Session(index, run) for index, run in enumerate(runs)]
+        self.sessions = [Walk(index, run) for index, run in enumerate(runs)]
         self.commits, self.mentions = commits, mentions
         self.program, self.choices, self.limits = program, choices, limits
         self.numbers = SessionNumbers(len(runs))
@@ -155,7 +108,7 @@ class SerialOrder:
                 asks.extend(self.passing_asks(session, step))
         return self.take_all(asks)
 
-    def passing_asks(self, session: Session, step: Step) -> List[Ask]:
+    def passing_asks(self, session: Walk, step: Step) -> List[Ask]:
         """Returns what is to be asked for a step that leaves no transaction open, if it can be placed here."""
         number = session.number or self.numbers.passing(session.index)
         if not number:
@@ -196,14 +149,14 @@ class SerialOrder:
 
     def number_of_lost(self, index: int) -> int:
         """Ends the lost transaction whose COMMIT was sent first, and takes its number, or returns 0."""
-        lost = [session for session in self.sessions if session.number and self.is_lost(session)]
+        lost = [session for session in self.sessions if session.number and session.is_lost()]
         if not lost:
             return 0
         self.drop(min(lost, key=lambda it: it.steps[it.at].exchange.sent))
         self.gave_up_lost = True
         return self.numbers.take(index)
 
-    def asks_of(self, session: Session, steps: Sequence[Step], number: int) -> List[Ask]:
+    def asks_of(self, session: Walk, steps: Sequence[Step], number: int) -> List[Ask]:
         """Returns the lines of steps as a script's session has them; one that no script has keeps its text empty."""
         why = self.why(session, steps[0])
         asks = []
@@ -214,7 +167,7 @@ class SerialOrder:
             asks.append(Ask(session, None, f"{number}: ROLLBACK".encode("ascii"), 0, why))
         return asks
 
-    def why(self, session: Session, step: Step) -> str:
+    def why(self, session: Walk, step: Step) -> str:
         """Says what the replies to a step and the lines behind it rest on."""
         if step.kind == BEGIN:
             return f"the transaction began at the snapshot {step.instant}"
@@ -256,14 +209,14 @@ class SerialOrder:
         elif [expected] != exchange.reply:
             raise Wrong(exchange, expected.decode("ascii"), "the line is not of the grammar of served lines")
 
-    def wait(self, session: Session, reply: List[bytes]) -> bool:
+    def wait(self, session: Walk, reply: List[bytes]) -> bool:
         """Leaves a SELECT for a later instant."""
         if session.asked_from < 0:
             session.asked_from = self.last
         session.asked_at, session.answer = self.last, reply
         return False
 
-    def give_back(self, session: Session) -> None:
+    def give_back(self, session: Walk) -> None:
         """Takes the number of a session whose transaction has ended."""
         self.numbers.give_back(session.number)
         session.number = 0
@@ -284,7 +237,7 @@ class SerialOrder:
         self.give_back(session)
         self.last = instant
 
-    def commit_at(self, session: Session, exchange: Exchange, instant: int) -> List[bytes]:
+    def commit_at(self, session: Walk, exchange: Exchange, instant: int) -> List[bytes]:
         """Commits at an instant, and returns the reply."""
         line = script_line(exchange, session.number)
         assert line
@@ -293,7 +246,7 @@ class SerialOrder:
         self.script += [Entry(clock, [b"ok"]), Entry(line.text, reply, exchange)]
         return reply
 
-    def check_turn(self, session: Session, exchange: Exchange, instant: int) -> None:
+    def check_turn(self, session: Walk, exchange: Exchange, instant: int) -> None:
         """Raises where something that comes before a commit cannot be placed before it."""
         if instant <= self.last:
             raise Wrong(exchange, f"an instant above {self.last}", "the history had come so far when the run began")
@@ -305,15 +258,15 @@ class SerialOrder:
         blocking = session if is_own else self.first_read(bound)
         other = blocking.steps[blocking.at]
         if other.kind in (BEGIN, CONFLICT) and other.instant == instant:
-            raise Wrong(other.exchange, f"an instant up to {self.last}", f"the COMMIT of {instant}, at {exchange.place()}, was sent "
-                        "after this reply was read")
+            raise Wrong(other.exchange, f"an instant up to {self.last}",
+                        f"the COMMIT of {instant}, at {exchange.place()}, was sent after this reply was read")
         if other.kind == BEGIN and other.instant > self.last or other.kind in (COMMITTED, CONFLICT):
             raise Wrong(exchange, f"an instant above {other.instant}", f"the instant {other.instant} was told before this line "
                         f"was sent, in the reply to {other.exchange.place()}")
         comes = "is of the same session, behind it" if is_own else "was sent after this reply was read"
         raise self.stuck(blocking, f"the next commit, of {instant}, {comes}")
 
-    def first_read(self, bound: int) -> Session:
+    def first_read(self, bound: int) -> Walk:
         """Returns the session whose reply was read first of those that are not placed."""
         return next(it for it in self.sessions if it.at < len(it.steps) and it.steps[it.at].exchange.received == bound
                     and it.steps[it.at].kind != LOST)
@@ -321,33 +274,29 @@ class SerialOrder:
     def check_clock(self, exchange: Exchange, instant: int) -> None:
         """Raises where an instant is no reading of the clock between a COMMIT and its reply, and not the one after the last."""
         least, greatest = exchange.sent - self.limits.slack, exchange.received + self.limits.slack
-        why = "a commit's instant is the clock's reading between COMMIT and its reply, or the one after the last instant if that " \
-            "is later; this one is"
+        why = ("a commit's instant is the clock's reading between COMMIT and its reply, or the one after the last instant if "
+               "that is later; this one is")
         if instant < least:
             raise Wrong(exchange, f"an instant of {least} or later", f"{why} {seconds(least - instant)} before that")
         if instant > greatest and instant != self.last + 1:
-            raise Wrong(exchange, f"an instant up to {greatest}, or {self.last + 1}", f"{why} {seconds(instant - greatest)} behind that")
+            raise Wrong(exchange, f"an instant up to {greatest}, or {self.last + 1}",
+                        f"{why} {seconds(instant - greatest)} behind that")
 
-    def stuck(self, session: Session, why: str) -> Wrong:
+    def stuck(self, session: Walk, why: str) -> Wrong:
         """Makes the fault for a session whose next step cannot be placed in time."""
         step = session.steps[session.at]
         if step.kind == READ and session.asked_from >= 0:
-            return Wrong(step.exchange, text_of(session.answer), "no transaction is open; it is the answer at no instant of "
-                         f"the history from {session.asked_from} to {session.asked_at}: {why}")
+            return Wrong(step.exchange, text_of(session.answer), "no transaction is open; it is the answer at no instant of the "
+                         f"history from {session.asked_from} to {session.asked_at}: {why}")
         if step.kind in (READ, BEGIN) and not self.numbers.passing(session.index):
             why = f"64 transactions are open at {self.last}, and a server has no more"
         return Wrong(step.exchange, "another reply", why)
 
     # Commits whose replies were not read.
 
-    def is_lost(self, session: Session) -> bool:
-        """Returns whether the next step is a COMMIT whose reply was not read."""
-        step = session.front()
-        return step is not None and step.kind == LOST
-
-    def can_be_lost(self, session: Session, instant: int) -> bool:
+    def can_be_lost(self, session: Walk, instant: int) -> bool:
         """Returns whether a lost commit can have an instant, by its snapshot, by real time and by the clock."""
-        if not self.is_lost(session) or not session.number:
+        if not session.is_lost() or not session.number:
             return False
         sent = session.steps[session.at].exchange.sent
         return sent <= self.bound() and session.snapshot < instant and sent - self.limits.slack <= instant
@@ -365,7 +314,7 @@ class SerialOrder:
             raise Wrong(mention.exchange, "instants of the history", f"it tells of the instant {instant}, and the COMMIT at "
                         f"{session.steps[session.at].exchange.place()}, whose reply was not read, is refused there")
 
-    def shows(self, session: Session, mention: Mention) -> bool:
+    def shows(self, session: Walk, mention: Mention) -> bool:
         """Returns whether a transaction leaves the rows that were shown to begin and to end at an instant."""
         for table in sorted({version.table for version in mention.versions}):
             view = self.program.ask([f"{session.number}: SELECT * FROM {table}".encode("utf-8")])[0][1:]
@@ -375,7 +324,7 @@ class SerialOrder:
                 return False
         return True
 
-    def commit_lost(self, session: Session, instant: int) -> bool:
+    def commit_lost(self, session: Walk, instant: int) -> bool:
         """Commits a lost transaction at an instant; returns whether that was taken."""
         reply = self.commit_at(session, session.steps[session.at].exchange, instant)
         if reply[0] != f"committed {instant}".encode("ascii"):
@@ -399,12 +348,12 @@ class SerialOrder:
                     self.drop_refused(session)
                 self.fill()
 
-    def drop_refused(self, session: Session) -> None:
+    def drop_refused(self, session: Walk) -> None:
         """Leaves a lost commit out that is refused where it was tried."""
         session.at += 1
         self.give_back(session)
 
-    def drop(self, session: Session) -> None:
+    def drop(self, session: Walk) -> None:
         """Ends a lost transaction that did not commit."""
         text = f"{session.number}: ROLLBACK".encode("ascii")
         self.program.ask([text])
@@ -415,14 +364,14 @@ class SerialOrder:
     def drop_lost(self) -> None:
         """Ends the lost transactions of which nothing was seen."""
         for session in self.sessions:
-            if self.is_lost(session):
+            if session.is_lost():
                 self.drop(session)
 
     # The end.
 
     def check_end(self) -> None:
         """Raises where a step is left that was placed nowhere."""
-        left = [session for session in self.sessions if session.front() and not self.is_lost(session)]
+        left = [session for session in self.sessions if session.front() and not session.is_lost()]
         if left:
             first = min(left, key=lambda it: it.steps[it.at].exchange.received)
             raise self.stuck(first, "there is no later one")
@@ -431,13 +380,3 @@ class SerialOrder:
 def nearness(sent: int, instant: int) -> Tuple[bool, int]:
     """Orders lost commits: those that were sent right before an instant come first."""
     return sent > instant, abs(instant - sent)
-
-
-def text_of(reply: Sequence[bytes]) -> str:
-    """Returns a reply for a message."""
-    return "\n".join(line.decode("utf-8", "replace") for line in reply)
-
-
-def seconds(microseconds: int) -> str:
-    """Returns a span of time for a message."""
-    return f"{microseconds / 1_000_000:.6f} seconds"
