@@ -159,6 +159,22 @@ class Checks(Files):
         status, told = self.checked(FIRST, *lost, asked(1300, "SELECT * FROM emp WHERE no = 9", "rows 1", "(9, 'x')"))
         self.assertEqual((status, told.split(":")[0]), (NOT_DECIDED, "not decided"), told)
 
+    def test_where_all_versions_were_shown_no_lost_commit_is_hidden(self):
+        lost = BEGUN + asked(1119, "INSERT INTO emp VALUES (9, 'x')", "inserted 1") + "> 1170 COMMIT\n"
+        later = "".join(asked(1500 + 10 * number, "BEGIN", f"begun {1150 if number == 0 else 1494 + 10 * number}")
+                        + asked(1502 + 10 * number, f"INSERT INTO emp VALUES ({20 + number}, 'z')", "inserted 1")
+                        + asked(1504 + 10 * number, "COMMIT", f"committed {1504 + 10 * number}") for number in range(6))
+        wrong = asked(1600, "SELECT * FROM emp WHERE no = 8", "rows 1", "(8, 'x')")
+        rows = ["(1, 'Ann') from 1050 to 1150", "(1, 'Bea') from 1150 to forever", "(2, 'Bo') from 1050 to forever",
+                *(f"({20 + number}, 'z') from {1504 + 10 * number} to forever" for number in range(6))]
+        for form, count, wanted in (("BETWEEN 0 AND 1554", 9, NOT_EXPLAINED), ("FROM 1 TO 1555", 9, NOT_EXPLAINED),
+                                    ("FROM 0 TO 1554", 8, NOT_EXPLAINED), ("BETWEEN 1 AND 1150", 3, NOT_DECIDED)):
+            audit = asked(1700, "BEGIN", "begun 1554") + asked(1702, f"SELECT * FROM emp FOR SYSTEM_TIME {form};", f"rows {count}",
+                                                               *rows[:count])
+            status, told = self.checked(FIRST, lost, later, wrong, audit)
+            self.assertEqual(status, wanted, told)
+            self.assertEqual(told.count(f"{self.file('d', '')}, line 2".replace(f"{self.folder}{os.sep}", "")), 1, told)
+
     def test_more_sessions_than_a_script_has_numbers_are_checked(self):
         texts = [asked(2000 + 10 * number, "BEGIN", "begun 0") + asked(2002 + 10 * number, "INSERT INTO emp VALUES (1, 'x')", "inserted 1")
                  + asked(2004 + 10 * number, "ROLLBACK", "rolled back") for number in range(65)]

@@ -14,10 +14,11 @@ from .choices import Choices
 from .errors import DataError, Error
 from .layout import visible
 from .program import program_path
+from .schema import schema_file
 from .script_run import ScriptRun
 from .serial_order import Entry, Limits, SerialOrder
 from .served_steps import COMMITTED, CONFLICT, LOST, Steps, broken_in, steps_of
-from .told_instants import Twice, commits_of, unexplained
+from .told_instants import Twice, audited_to, commits_of, unexplained
 from .transcript_reading import Exchange, read_transcripts
 from .wrong import Wrong, text_of
 
@@ -56,7 +57,8 @@ def place(given: argparse.Namespace, runs: Sequence[Steps], choices: Choices) ->
     commits = commits_of(runs)
     with ScriptRun(words_of(given), 1 if given.load else 0) as program:
         base = base_of(program)
-        limits = Limits(int(given.slack * 1_000_000), base)
+        tables = schema_file(given.schema).tables
+        limits = Limits(int(given.slack * 1_000_000), base, audited_to(runs, tables))
         order = SerialOrder(runs, commits, unexplained(runs, commits, base), program, choices, limits)
         try:
             order.place_all()

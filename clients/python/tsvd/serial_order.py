@@ -46,10 +46,14 @@ class Ask(NamedTuple):
 
 
 class Limits(NamedTuple):
-    """Holds how far a clock may seem to be off, in microseconds, and the last instant before the run."""
+    """Holds how far a clock may seem to be off, in microseconds, and two instants.
+
+    They are the last one before the run, and the one up to which replies show all versions.
+    """
 
     slack: int
     base: int
+    audited: int
 
 
 class SerialOrder:
@@ -65,7 +69,7 @@ class SerialOrder:
         self.script: List[Entry] = []
         self.uncompared = 0
         self.lost_found = 0
-        # Whether a lost commit was left out for its number, before it was known whether it took effect.
+        # Whether a lost commit was not tried in each place that it can have.
         self.gave_up_lost = False
         self.by_exchange = {id(step.exchange): session for session in self.sessions for step in session.steps}
 
@@ -338,11 +342,15 @@ class SerialOrder:
     def place_hidden(self, following: int) -> None:
         """Tries lost commits of which no reply tells the instant, in the first few places that they can have."""
         for session in self.sessions:
-            if not self.can_be_lost(session, following - 1) or following - self.last < 2 or not session.places_left:
+            least = max(self.last, self.limits.audited) + 1
+            if least >= following or not self.can_be_lost(session, following - 1):
+                continue
+            if not session.places_left:
+                self.gave_up_lost = True
                 continue
             session.places_left -= 1
             sent = session.steps[session.at].exchange.sent
-            instant = max(self.last + 1, min(following - 1, sent, GREATEST_INSTANT))
+            instant = max(least, min(following - 1, sent, GREATEST_INSTANT))
             if self.choices.choose(2) == 1:
                 if not self.commit_lost(session, instant):
                     self.drop_refused(session)

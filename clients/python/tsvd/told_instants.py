@@ -3,12 +3,15 @@
 from __future__ import annotations
 
 import re
-from typing import Dict, Iterator, List, NamedTuple, Sequence, Tuple
+from typing import Dict, Iterable, Iterator, List, NamedTuple, Sequence, Tuple
 
 from .cursor import QUERY
-from .served_steps import BEGIN, COMMITTED, CONFLICT, Step, Steps
+from .served_steps import BEGIN, COMMITTED, CONFLICT, LINE, Step, Steps
 from .transcript_reading import Exchange
 
+# A query of all versions of a table up to an instant.
+WHOLE = re.compile(r"\s*SELECT\s*\*\s*FROM\s+(\w+)\s+FOR\s+SYSTEM_TIME\s+(BETWEEN|FROM)\s+0*[01]\s+(?:AND|TO)\s+([0-9]+)\s*;?\s*",
+                   re.I)
 PERIOD = re.compile(rb"(\(.*\)) from ([0-9]+) to ([0-9]+|forever)", re.S)
 
 
@@ -81,3 +84,29 @@ def unexplained(runs: Sequence[Steps], known: Dict[int, Exchange], base: int) ->
                 if instant > base and instant not in known:
                     found.setdefault(instant, Mention(step.exchange)).versions.append(version)
     return found
+
+
+def snapshots_of(run: Steps) -> Iterator[Tuple[Step, int]]:
+    """Yields each step that is in a transaction with the snapshot of that."""
+    snapshot = -1
+    for step in run.steps:
+        if step.kind == BEGIN:
+            snapshot = step.instant
+        elif step.kind != LINE:
+            snapshot = -1
+        elif snapshot >= 0:
+            yield step, snapshot
+
+
+def audited_to(runs: Sequence[Steps], tables: Iterable[str]) -> int:
+    """Returns the last instant up to which replies show all versions of all tables, so that none is hidden; -1 if none do."""
+    shown: Dict[str, int] = {}
+    for run in runs:
+        for step, snapshot in snapshots_of(run):
+            found = WHOLE.fullmatch(step.exchange.line.decode("utf-8", "replace"))
+            if not found or not step.exchange.head.startswith("rows "):
+                continue
+            table, form, end = found.groups()
+            last = int(end) - (form.upper() == "FROM")
+            shown[table.lower()] = max(shown.get(table.lower(), -1), min(last, snapshot))
+    return min((shown.get(table.lower(), -1) for table in tables), default=-1)
