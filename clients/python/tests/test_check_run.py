@@ -158,6 +158,8 @@ class Checks(Files):
         lost = [BEGUN + asked(1119, f"INSERT INTO emp VALUES ({number}, 'x')", "inserted 1") + "> 1170 COMMIT\n" for number in range(10, 18)]
         status, told = self.checked(FIRST, *lost, asked(1300, "SELECT * FROM emp WHERE no = 9", "rows 1", "(9, 'x')"))
         self.assertEqual((status, told.split(":")[0]), (NOT_DECIDED, "not decided"), told)
+        status, told = self.checked(FIRST, *lost, asked(1300, "ROLLBACK", "rolled back"))
+        self.assertEqual((status, "E4 no transaction" in told), (NOT_EXPLAINED, True), told)
 
     def test_where_all_versions_were_shown_no_lost_commit_is_hidden(self):
         lost = BEGUN + asked(1119, "INSERT INTO emp VALUES (9, 'x')", "inserted 1") + "> 1170 COMMIT\n"

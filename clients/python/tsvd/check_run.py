@@ -63,7 +63,7 @@ def place(given: argparse.Namespace, runs: Sequence[Steps], choices: Choices) ->
         try:
             order.place_all()
         except Wrong as wrong:
-            return Checked(order, wrong, not order.gave_up_lost)
+            return Checked(order, wrong, wrong.is_certain or not order.gave_up_lost)
     return Checked(order, None, True)
 
 
@@ -71,16 +71,15 @@ def find_order(given: argparse.Namespace, runs: Sequence[Steps]) -> Checked:
     """Looks for an order, by another choice about lost commits where one does not lead to the end."""
     choices = Choices()
     found: List[Checked] = []
-    for _ in range(MOST_WAYS):
+    is_decided = False
+    while len(found) < MOST_WAYS and not is_decided:
         found.append(place(given, runs, choices))
-        if not found[-1].wrong or not choices.change():
-            break
-    else:
-        found.append(found[-1]._replace(is_decided=False))
-    if not found[-1].wrong:
-        return found[-1]
+        wrong = found[-1].wrong
+        if not wrong or wrong.is_certain:
+            return found[-1]
+        is_decided = not choices.change()
     furthest = max(found, key=lambda it: len(it.order.script))
-    return furthest._replace(is_decided=all(it.is_decided for it in found))
+    return furthest._replace(is_decided=is_decided and all(it.is_decided for it in found))
 
 
 def script_lines(runs: Sequence[Steps], script: Sequence[Entry]) -> Iterator[bytes]:

@@ -43,6 +43,7 @@ class Ask(NamedTuple):
     text: bytes
     shift: int
     why: str
+    is_certain: bool
 
 
 class Limits(NamedTuple):
@@ -162,13 +163,13 @@ class SerialOrder:
 
     def asks_of(self, session: Walk, steps: Sequence[Step], number: int) -> List[Ask]:
         """Returns the lines of steps as a script's session has them; one that no script has keeps its text empty."""
-        why = self.why(session, steps[0])
+        why, is_certain = self.why(session, steps[0]), steps[0].kind == LINE
         asks = []
         for step in steps:
             line = script_line(step.exchange, number)
-            asks.append(Ask(session, step.exchange, line.text if line else b"", line.shift if line else 0, why))
+            asks.append(Ask(session, step.exchange, line.text if line else b"", line.shift if line else 0, why, is_certain))
         if steps[0].kind == BEGIN and session.is_dropped():
-            asks.append(Ask(session, None, f"{number}: ROLLBACK".encode("ascii"), 0, why))
+            asks.append(Ask(session, None, f"{number}: ROLLBACK".encode("ascii"), 0, why, False))
         return asks
 
     def why(self, session: Walk, step: Step) -> str:
@@ -198,7 +199,7 @@ class SerialOrder:
         elif step.kind == READ:
             return self.wait(ask.session, reply)
         else:
-            raise Wrong(ask.exchange, text_of(served(reply, ask.shift)), ask.why)
+            raise Wrong(ask.exchange, text_of(served(reply, ask.shift)), ask.why, ask.is_certain)
         ask.session.at += 1
         ask.session.asked_at = ask.session.asked_from = -1
         if step.kind in (CONFLICT, CLOCK_END):
@@ -211,7 +212,7 @@ class SerialOrder:
         if expected is None:
             self.uncompared += 1
         elif [expected] != exchange.reply:
-            raise Wrong(exchange, expected.decode("ascii"), "the line is not of the grammar of served lines")
+            raise Wrong(exchange, expected.decode("ascii"), "the line is not of the grammar of served lines", True)
 
     def wait(self, session: Walk, reply: List[bytes]) -> bool:
         """Leaves a SELECT for a later instant."""
@@ -281,7 +282,7 @@ class SerialOrder:
         why = ("a commit's instant is the clock's reading between COMMIT and its reply, or the one after the last instant if "
                "that is later; this one is")
         if instant < least:
-            raise Wrong(exchange, f"an instant of {least} or later", f"{why} {seconds(least - instant)} before that")
+            raise Wrong(exchange, f"an instant of {least} or later", f"{why} {seconds(least - instant)} before that", True)
         if instant > greatest and instant != self.last + 1:
             raise Wrong(exchange, f"an instant up to {greatest}, or {self.last + 1}",
                         f"{why} {seconds(instant - greatest)} behind that")

@@ -8,11 +8,14 @@ from .transcript_reading import Exchange
 
 
 class Wrong(Exception):
-    """Reports the first reply that no order explains: what it should have been, and why."""
+    """Reports the first reply that no order explains: what it should have been, and why.
 
-    def __init__(self, exchange: Exchange, expected: str, why: str) -> None:
+    It is certain if it is wrong whatever became of the commits whose replies were not read.
+    """
+
+    def __init__(self, exchange: Exchange, expected: str, why: str, is_certain: bool = False) -> None:
         super().__init__(exchange, expected, why)
-        self.exchange, self.expected, self.why = exchange, expected, why
+        self.exchange, self.expected, self.why, self.is_certain = exchange, expected, why, is_certain
 
 
 def text_of(reply: Sequence[bytes]) -> str:
