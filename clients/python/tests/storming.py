@@ -197,5 +197,5 @@ def killed(port, folder, clients, seed):
 def check(program, schema, transcripts, *words):
     """Runs `check-run`, and returns its status and what it wrote."""
     ran = subprocess.run([sys.executable, "-m", "tsvd", "check-run", "--program", program, "--schema", schema, *words, *transcripts],
-                         stdout=subprocess.PIPE, stderr=subprocess.STDOUT, cwd=str(HERE), check=False)
+                         stdout=subprocess.PIPE, stderr=subprocess.STDOUT, cwd=str(HERE), timeout=5 * PATIENCE, check=False)
     return ran.returncode, ran.stdout.decode("utf-8").rstrip("\n")
