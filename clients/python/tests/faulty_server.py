@@ -42,10 +42,18 @@ class Link:
             self.lines.append(line)
         return reply
 
+    def ask_if_open(self, line):
+        """Returns the reply of the program to a line, or nothing where the session has ended."""
+        try:
+            return self.ask(line)
+        except OSError:
+            return b""
+
     def close(self):
-        """Ends the session of the program."""
-        self.replies.close()
-        self.socket.close()
+        """Ends the session of the program, once nobody asks it any more."""
+        with self.lock:
+            self.replies.close()
+            self.socket.close()
 
 
 class Fault:
@@ -73,8 +81,9 @@ class OwnWritesAreSeenByOthers(Fault):
     def answer(self, link, line):
         if link.lines is None and PLAIN.fullmatch(line):
             for other in list(self.links):
-                if other is not link and other.lines:
-                    return other.ask(line)
+                reply = other.ask_if_open(line) if other is not link and other.lines else b""
+                if reply:
+                    return reply
         return link.ask(line)
 
 
