@@ -326,7 +326,8 @@ exec {find_program()} "$@"
 class ServesFullJournals(Supervised):
     def test_a_full_journal_is_followed_by_the_next_run_with_all_that_was_acknowledged(self):
         serving = self.start("--entries", "40", own=("--keep", "2"))
-        with contextlib.closing(tsvd.pool(serving.port(), 2, schema=SCHEMA, wait=LONGEST)) as pool:
+        # each run has a port of its own, so nobody waits long at that of the run before
+        with contextlib.closing(tsvd.pool(serving.port(), 2, schema=SCHEMA, wait=2)) as pool:
             acknowledged = []
             for number in range(100):
                 pool.port = serving.ports()[-1]
