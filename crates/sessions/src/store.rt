@@ -30,8 +30,10 @@ pub struct LockedStore<J: StoreName> {
     schema: Schema,
     most_entries: usize,
     book: Mutex<Book<J>>,
-    /// How many threads have found the book locked, and wait for it.
-    waiting: AtomicU64,
+    /// How many threads have found the book locked, and waited for it.
+    arrived: AtomicU64,
+    /// How many of them have had it.
+    passed: AtomicU64,
     /// Whose turn it is among commits of many rows.
     turn: Mutex<()>,
     pub ghost named: { schema ≡ J.origin.schema },
@@ -53,6 +55,9 @@ const TRIES_AT_ONCE: u32 = 100;
 
 /// From how many rows on a commit lets others go first.
 const MANY_ROWS: usize = 50;
+
+/// How often such a commit looks whether they have gone, at most: who sleeps has to be woken.
+const MOST_YIELDS: u32 = 100_000;
 
 impl<J: StoreName> LockedStore<J> {
     /// Makes a store of these tables in which nothing was committed, and whose journal may have so many
@@ -92,7 +97,8 @@ impl<J: StoreName> LockedStore<J> {
             schema,
             most_entries,
             book: Mutex::new(book),
-            waiting: AtomicU64::new(0),
+            arrived: AtomicU64::new(0),
+            passed: AtomicU64::new(0),
             turn: Mutex::new(()),
         }
     }
@@ -136,9 +142,9 @@ impl<J: StoreName> LockedStore<J> {
         if let Some(book) = self.book.try_lock() {
             return book;
         }
-        self.waiting.fetch_add(1, Ordering::SeqCst);
+        self.arrived.fetch_add(1, Ordering::SeqCst);
         let book = self.locked_in_time(rt);
-        self.waiting.fetch_sub(1, Ordering::SeqCst);
+        self.passed.fetch_add(1, Ordering::SeqCst);
         book
     }
 
@@ -159,14 +165,15 @@ impl<J: StoreName> LockedStore<J> {
     }
 
     /// Waits until a commit of so many rows may take the lock. One of many rows has it for long: there is
-    /// one at a time, and before it others go that wait already. So nobody waits for two of them.
+    /// one at a time, and before it go as many others as wait already.
     fn turn<R: Wait>(&self, rt: &R, rows: usize) -> Option<MutexGuard<'_, ()>> {
         if rows < MANY_ROWS {
             return None;
         }
         let turn = self.turn.lock(rt);
-        for _ in 0..TRIES {
-            if self.waiting.load(Ordering::SeqCst) == 0 {
+        let arrived = self.arrived.load(Ordering::SeqCst);
+        for _ in 0..MOST_YIELDS {
+            if self.passed.load(Ordering::SeqCst) >= arrived {
                 break;
             }
             yield_now();
@@ -308,7 +315,8 @@ impl<J: StoreName> LockedStore<J> {
             schema,
             most_entries,
             book,
-            waiting: _,
+            arrived: _,
+            passed: _,
             turn: _,
         } = self;
         let book = book.into_inner();
@@ -319,7 +327,8 @@ impl<J: StoreName> LockedStore<J> {
             schema,
             most_entries,
             book: Mutex::new(book),
-            waiting: AtomicU64::new(0),
+            arrived: AtomicU64::new(0),
+            passed: AtomicU64::new(0),
             turn: Mutex::new(()),
         };
         Err(Unclosed { store, receipts })
@@ -333,7 +342,8 @@ impl<J: StoreName> LockedStore<J> {
             schema: _,
             most_entries: _,
             book,
-            waiting: _,
+            arrived: _,
+            passed: _,
             turn: _,
         } = self;
         book.into_inner().give_up(receipts)
