@@ -1,5 +1,6 @@
 //! Blocks are read in place: one row is made at most, and no node.
-ghost use Rattle.std.specs.Prelude.{◌≡◌, List, None, length, IsTrue, IfOk, option_copied};
+ghost use Rattle.std.specs.Prelude.{◌≡◌, List, None, length, IsTrue, IfOk, option_copied, ◌&&◌, nat_lt, nat_le};
+ghost use Rattle.std.specs.Ordering.{is_eq};
 ghost use Rattle.values.specs.Memory.{OnlyMemory};
 ghost use Rattle.values.specs.Events.{row_until, event_since};
 ghost use Rattle.values.specs.RowReading.{Parses};
@@ -8,13 +9,14 @@ ghost use Rattle.datanode.specs.NextChange.{event_after};
 ghost use Rattle.keyrange.specs.Rect.{has_point};
 ghost use Rattle.values.specs.Event.{Event as Change};
 ghost use Rattle.blocks.specs.Block.{IsBlockOf};
-ghost use Rattle.blocks.specs.Lookup.{past_text, past_tagged, past_value, past_values, past_row, past_row_tagged, past_row_field, is_wanted, event_place, first_place, events_place, place_in, first_in, row_of_field};
+ghost use Rattle.blocks.specs.Lookup.{past_text, past_tagged, past_value, past_values, past_row, past_row_tagged, past_row_field, event_place, first_place, events_place, place_in, first_in, row_of_field};
 ghost use Rattle.blocks.specs.Event.{row_field_from};
 
 use crate::event::{Parsed, point_from, row_field_from};
 use crate::field::{byte_from, length_from, part_from};
 use crate::head::head_from;
 use std::alloc::Global;
+use std::cmp::Ordering;
 use values::{Instant, KeyBytes, Mem, Row};
 
 /// The bytes behind a text.
@@ -93,15 +95,16 @@ pub(crate) fn past_row_field(bytes: &[u8]) -> Option<&[u8]>
     past_row_tagged(tag, rest)
 }
 
-#[tactic(auto, unfolding(crate::specs::Lookup::is_wanted))]
-fn is_wanted(key: &[u8], low: Instant, high: Instant, other: &[u8], at: Instant) -> bool
-    ensures { result ≡ is_wanted key.now low high (other.now, at) }
+/// Whether an event is wanted, of a key that compares so with the one that is looked for.
+fn is_wanted(order: Ordering, low: Instant, high: Instant, at: Instant) -> bool
+    ensures { result ≡ (is_eq order && (nat_lt low at && nat_le at high)) }
 {
-    key.cmp(other).is_eq() && low < at && at <= high
+    order.is_eq() && low < at && at <= high
 }
 
 /// The last event of a key above an instant and up to another, among so many events: its instant,
 /// and the bytes from its row on.
+#[tactic(auto, unfolding(crate::specs::Lookup::is_wanted))]
 fn event_place<'a>(
     n: u8,
     bytes: &'a [u8],
@@ -117,13 +120,14 @@ fn event_place<'a>(
         let Some(((other, at), row)) = point_from(rest) else {
             return None;
         };
-        if key.cmp(other).is_lt() {
+        let order = key.cmp(other);
+        if order.is_lt() {
             return found;
         }
         let Some(left) = past_row_field(row) else {
             return None;
         };
-        if is_wanted(key, low, high, other, at) {
+        if is_wanted(order, low, high, at) {
             found = Some((at, row));
         }
         rest = left;
@@ -133,6 +137,7 @@ fn event_place<'a>(
 
 /// The first event of a key above an instant and up to another, among so many events: its instant,
 /// and the bytes from its row on.
+#[tactic(auto, unfolding(crate::specs::Lookup::is_wanted))]
 fn first_place<'a>(
     n: u8,
     bytes: &'a [u8],
@@ -145,10 +150,11 @@ fn first_place<'a>(
     let mut rest = bytes;
     for _ in 0..n {
         let ((other, at), row) = point_from(rest)?;
-        if is_wanted(key, low, high, other, at) {
+        let order = key.cmp(other);
+        if is_wanted(order, low, high, at) {
             return Some((at, row));
         }
-        if key.cmp(other).is_lt() {
+        if order.is_lt() {
             return None;
         }
         rest = past_row_field(row)?;

@@ -7,6 +7,7 @@ use Rattle.blocks.proofs.lookup.event_place.Goals as goal
 use Rattle.blocks.proofs.lookup.event_place.Goals.{then-is_wanted, else-is_wanted}
 
 pub loop-preserved : goal.loop-preserved
+unfolding is_wanted
 loop-preserved c =
     let key = c.args.key.now in
     let other = c.in-Some.other.now in

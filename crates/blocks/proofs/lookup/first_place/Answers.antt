@@ -6,6 +6,7 @@ use Rattle.blocks.proofs.LookupSteps.{first_past}
 use Rattle.blocks.proofs.lookup.first_place.Goals as goal
 
 pub loop-preserved : goal.loop-preserved
+unfolding is_wanted
 loop-preserved c =
     let key = c.args.key.now in
     let other = c.in_ok-other.other.now in
