@@ -146,7 +146,7 @@ impl DataNode {
         events_in(alloc, &self.events, range, from, to)
     }
 
-    /// Copies the node, without copying events.
+    /// Copies the node with room for one event more, without copying events.
     pub fn copy(&self) -> Mem<DataNode>
         ensures ok { IfOk result (λ n. n ≡ self.now) }
         ensures err { OnlyMemory result }
@@ -187,12 +187,13 @@ fn node_of(alloc: Global, rect: Rect, events: Vec<SharedEvent>) -> DataNode
     }
 }
 
-/// The same events, of which none is copied.
+/// The same events, of which none is copied. An event is put into a copy next, so the list has room for
+/// it: it need not grow to twice its length then.
 fn shares_of(alloc: Global, events: &[SharedEvent]) -> Mem<Vec<SharedEvent>>
     ensures ok { IfOk result (λ v. v.items ≡ events.now) }
     ensures err { OnlyMemory result }
 {
-    let mut shares = Vec::with_capacity(alloc, events.len())?;
+    let mut shares = Vec::with_capacity(alloc, events.len().saturating_add(1))?;
     for event in events {
         shares.push(event.share()?)?;
     }
