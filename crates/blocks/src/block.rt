@@ -17,6 +17,9 @@ use keyrange::Rect;
 use std::alloc::Global;
 use values::{Mem, SharedEvent};
 
+/// The room in which a block's bytes are written: most blocks have no more bytes, so it need not grow.
+const ROOM: usize = 4096;
+
 fn are_instants(events: &[SharedEvent]) -> bool
     ensures { IsTrue result ↔ All (λ e. 1 ≤ e.at) events.now }
 {
@@ -50,7 +53,7 @@ pub fn pack(alloc: Global, node: &DataNode) -> Mem<Bytes>
     ensures block { IfOk result (λ bytes. IsBlockOf bytes node.now) }
     ensures err { OnlyMemory result }
 {
-    let mut bytes = Vec::new(alloc);
+    let mut bytes = Vec::with_capacity(alloc, ROOM)?;
     push_start(&mut bytes, greatest_width(node.events()))?;
     push_rect(&mut bytes, node.rect())?;
     bytes.push(node.len() as u8)?;

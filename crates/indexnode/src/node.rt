@@ -89,13 +89,14 @@ impl<C> IndexNode<C> {
 }
 
 impl<C: Share + Drop> IndexNode<C> {
-    /// Copies the node, and shares its children.
+    /// Copies the node with room for one reference more, and shares its children.
     pub fn copy(&self) -> Mem<IndexNode<C>>
         ensures rect { IfOk result (λ n. n.rect ≡ self.now.rect) }
         ensures references { IfOk result (λ n. n.references.items ≡ self.now.references.items) }
         ensures err { OnlyMemory result }
     {
-        let mut references = Vec::new(self.alloc);
+        let room = self.references.len().saturating_add(1);
+        let mut references = Vec::with_capacity(self.alloc, room)?;
         for reference in &self.references {
             references.push(reference.share()?)?;
         }

@@ -98,12 +98,13 @@ impl<C: Share + Drop> IndexNode<C> {
             ≡ filter (λ r. keeps half.entry r.rect) self.now.references.items) }
         ensures err { OnlyMemory result }
     {
-        let mut references = Vec::new(self.alloc);
+        let mut references = Vec::with_capacity(self.alloc, self.references.len())?;
         for reference in &self.references {
             if half.keeps(&reference.rect) {
                 references.push(reference.share()?)?;
             }
         }
+        references.shrink_to_fit();
         Ok(IndexNode {
             alloc: self.alloc,
             rect,

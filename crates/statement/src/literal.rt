@@ -95,7 +95,8 @@ fn quoted_text(alloc: Global, bytes: &[u8]) -> Result<Option<(Vec<u8>, &[u8])>, 
     ensures { IfOk result (λ found.
         option_map (λ x. (x.0.items, x.1.now)) found ≡ quoted bytes.now) }
 {
-    let mut text = Vec::new(alloc);
+    let room = bytes.iter().position(|byte| *byte == b'\'');
+    let mut text = Vec::with_capacity(alloc, room.unwrap_or(0))?;
     let mut closed = false;
     for (i, byte) in bytes.iter().enumerate() {
         if *byte != b'\'' {
