@@ -1,3 +1,4 @@
+mod BesidePlaces
 mod TriePlaces
 mod TrieNodes
 mod TrieOutcomes

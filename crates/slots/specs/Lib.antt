@@ -1,3 +1,4 @@
+pub mod Beside
 pub mod Slots
 pub mod Trie
 pub mod TrieSize

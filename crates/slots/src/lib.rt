@@ -1,6 +1,7 @@
 //! Lists whose copies share what they have in common.
 #![tactic(auto)]
 
+mod beside;
 mod share;
 mod slots;
 mod trie;

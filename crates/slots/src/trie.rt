@@ -74,6 +74,13 @@ impl<T> Trie<T> {
     }
 }
 
+impl<T> Trie<T> {
+    /// Whether others share the tree's node.
+    pub(crate) fn is_shared(&self) -> bool {
+        Arc::strong_count(&self.node) > 1
+    }
+}
+
 impl<T> Share for Trie<T> {
     fn share(&self) -> Mem<Trie<T>> {
         let node = Arc::try_clone(&self.node)?;

@@ -232,3 +232,28 @@ fn an_item_is_changed_and_a_share_keeps_it(rt: HostRuntime) {
     let is = (16, 2000, 3000);
     assert!(rt; are_updated(&rt, rt.alloc(), was, is) == (true, true));
 }
+
+/// Whether each of 40 marks is its place and so much more.
+fn are_marked(list: &Slots<Mark>, more: usize) -> bool {
+    for place in 0..40usize {
+        if !is_mark(list, place, place.saturating_add(more)) {
+            return false;
+        }
+    }
+    true
+}
+
+/// Whether a list, of which each item was updated, and a share from before have these marks.
+fn are_all_updated(rt: &impl Abort, alloc: Global) -> (bool, bool) {
+    let mut list = marks(rt, alloc, 40);
+    let before = list.share().expect(rt, "there is memory");
+    for place in 0..40usize {
+        update_at(rt, &mut list, place, place.saturating_add(1000));
+    }
+    (are_marked(&before, 0), are_marked(&list, 1000))
+}
+
+#[test]
+fn each_item_is_changed_and_a_share_keeps_all(rt: HostRuntime) {
+    assert!(rt; are_all_updated(&rt, rt.alloc()) == (true, true));
+}
