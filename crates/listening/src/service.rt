@@ -162,7 +162,8 @@ where
         };
         let own = AtomicU64::new(0);
         let commits = self.commits.as_ref().unwrap_or(&own);
-        let gate = SessionGate::new(self.gate, &self.stop, RoundTrigger::new(calls, commits));
+        let trigger = RoundTrigger::new(calls, commits);
+        let gate = SessionGate::new(self.alloc, self.gate, &self.stop, trigger);
         let mut readings = Microseconds { rt: self.rt };
         let reader = Patience::new(self.rt, stream, &self.is_crowded, &self.stop.has_stopped);
         let served = serve_client(
