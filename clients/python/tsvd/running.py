@@ -4,6 +4,7 @@ from __future__ import annotations
 
 import os
 import re
+import select
 import subprocess
 import sys
 import threading
@@ -101,10 +102,23 @@ class Running:
         except Error:
             pass
 
-    def attend(self, listens: Callable[[int], None]) -> int:
+    def next_chunk(self, woken: int) -> bytes:
+        """Waits for output, and returns it, or nothing at the end.
+
+        A signal that arrives just before a read does not interrupt it, so its handler would not run until
+        there is output. It writes to the pipe `woken`, for which a `select` waits too.
+        """
+        while True:
+            ready = select.select([self.output, woken], [], [])[0]
+            if woken in ready:
+                os.read(woken, CHUNK)
+            if self.output in ready:
+                return os.read(self.output, CHUNK)
+
+    def attend(self, woken: int, listens: Callable[[int], None]) -> int:
         """Passes standard output on, calls `listens` with the port, and returns the status at the end."""
         head = b""
-        for chunk in iter(lambda: os.read(self.output, CHUNK), b""):
+        for chunk in iter(lambda: self.next_chunk(woken), b""):
             self.pass_on(chunk)
             if self.port is None:
                 head += chunk

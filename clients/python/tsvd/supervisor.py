@@ -2,10 +2,12 @@
 
 from __future__ import annotations
 
+import contextlib
+import os
 import pathlib
 import re
 import signal
-from typing import Any, List, Optional
+from typing import Any, Iterator, List, Optional
 
 from .caretaker import Care, Caretaker
 from .running import Program, Running, tell
@@ -16,6 +18,20 @@ FAULT = 1
 
 # A script that is refused; memory that runs out says nothing of it.
 DAMAGE = re.compile(r"after: (?!.*E10 )")
+
+
+@contextlib.contextmanager
+def wake_up() -> Iterator[int]:
+    """Gives the reading end of a pipe to which each signal writes."""
+    woken, signalled = os.pipe()
+    os.set_blocking(signalled, False)
+    before = signal.set_wakeup_fd(signalled)
+    try:
+        yield woken
+    finally:
+        signal.set_wakeup_fd(before)
+        os.close(woken)
+        os.close(signalled)
 
 
 class Supervisor:
@@ -43,14 +59,15 @@ class Supervisor:
         try:
             self.folder.make_state()
             status = 0
-            while not self.stops and status == 0:
-                status = self.run_once()
+            with wake_up() as woken:
+                while not self.stops and status == 0:
+                    status = self.run_once(woken)
             return status
         finally:
             for number, handler in zip(SIGNALS, before):
                 signal.signal(number, handler)
 
-    def run_once(self) -> int:
+    def run_once(self, woken: int) -> int:
         """Runs the program once, from the state on, and returns its status."""
         self.folder.copy_state()
         if self.stops:
@@ -59,7 +76,7 @@ class Supervisor:
         self.running = Running(self.program, self.folder)
         if self.stops:
             self.running.end(self.stops)
-        status = self.running.attend(self.begin_care)
+        status = self.running.attend(woken, self.begin_care)
         if self.caretaker:
             self.caretaker.end()
         listened, self.running, self.caretaker = self.running.port is not None, None, None
