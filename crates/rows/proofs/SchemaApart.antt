@@ -11,15 +11,10 @@ use Rattle.tokens.specs.Word.{is_name_byte, word_length}
 use Rattle.tokens.specs.Word.{is_word_at as is_word_after}
 use Rattle.tokens.specs.Name.{is_name, reserved_words, is_reserved, longest_name}
 use Rattle.tokens.specs.Run.{AllBytes}
-use Rattle.tokens.proofs.WordCases.{Refused, some_written, none_same, not_same, same_length}
+use Rattle.tokens.proofs.WordCases.{Refused, some_written, none_same, same_length}
 use Rattle.rows.specs.SchemaToken.{symbol_at, is_word_at}
 use Rattle.rows.specs.SchemaGrammar.{Symbol, Word, Name}
 use Rattle.rows.proofs.SchemaRead.{next_reads, front_of}
-
--- where one word stands no other does
-pub other_word : (v w : List ℕ) → same_name v w ≡ false → (x : Unit {0}) (bytes rest : List ℕ) → Word w x bytes rest → is_word_at v bytes ≡ false
-unfolding is_word_after
-other_word v w apart x bytes rest is = ap (same_name v) (front_of is.name bytes rest is.letters) ∙ not_same v w is.name (same_name v is.name) refl apart is.spelled
 
 -- no name is a word of the grammars
 any_behind : (p : List ℕ → Bool) (front rest : List (List ℕ)) → list_any p rest ≡ true → list_any p (front ++ rest) ≡ true

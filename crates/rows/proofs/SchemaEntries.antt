@@ -28,13 +28,6 @@ use Rattle.values.specs.Each.{Each}
 use Rattle.rows.specs.GoodTable.{IsElement, IsTheOne, NoTwo, SameName, is_user, IsGenerated, IsPeriod, IsApplication, HasApplication, GivesKeys, GivesOneKey, Declares, ShareAName, HasUserColumn, IsOfPeriod, IsColumnOf, IsNumberOf, AreColumnsOf, AreNumbersOf, TypeIsGood, DigitsAreGood, EntryIsGood}
 use Rattle.rows.proofs.SchemaPlaces.{each_placed, each_at, each_to, Apart, apart_no_two, no_two_apart, one_same, only_is, flat_of, Tells, none_given, none_stands, one_stands, one_given}
 
--- tests
-equal : (a b : ℕ) → (a == b) ≡ true → a ≡ b
-equal a b e = grind (arith, nat_tests)
-
-same_number : (a b : ℕ) → a ≡ b → (a == b) ≡ true
-same_number a b e = grind (arith, nat_tests)
-
 pub le_from : (a b : ℕ) → nat_le a b ≡ true → a ≤ b
 le_from a b e = grind (arith, nat_tests)
 

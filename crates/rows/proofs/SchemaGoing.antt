@@ -15,7 +15,7 @@ use Rattle.tokens.specs.Name.{reserved_words, is_reserved, is_name}
 use Rattle.tokens.specs.Name.{name_at as name_after}
 use Rattle.tokens.specs.Run.{AllBytes, Ends}
 use Rattle.tokens.proofs.TokenFollows.{Spelling, IsClean, ends_so, Moved, Moves, all_from, all_test, is_plain_word}
-use Rattle.tokens.proofs.TokenGoing.{Usual, Goes, Reads, ReadsAfter}
+use Rattle.tokens.proofs.TokenGoing.{Goes, Reads, ReadsAfter}
 use Rattle.rows.specs.SchemaToken.{is_separator, next, symbol_at, is_word_at, after_word, word_at, name_at, number_from, digits_at}
 use Rattle.rows.specs.SchemaGrammar.{Piece, blank, comment, last_comment, Gap, BeginsToken, IsNext, Symbol, Letters, Word, Name, Digits}
 use Rattle.rows.proofs.SchemaSpelled.{next_is, symbol_says, word_says, name_says, digits_says}
@@ -158,14 +158,6 @@ pub record UsualToken {A : Type 0} (P : A → Spelling) : Type 0 where
   pub begins : (tail : List ℕ) → BeginsToken (text ++ tail)
   pub holds : (bytes tail : List ℕ) → IsNext bytes (text ++ tail) → IsClean tail → P value bytes tail
 
-pub usual_of : {A : Type 0} {P : A → Spelling} → UsualToken P → Usual P
-usual_of t = record {
-  text = 10 ∷ t.text;
-  value = t.value;
-  clean = λ tail clean. inr refl;
-  holds = λ tail clean. t.holds (10 ∷ (t.text ++ tail)) tail (record { gap = blank 10 ∷ []; skipped = (t.text ++ tail, (refl, (refl, refl))); begins = t.begins tail }) clean;
-}
-
 pub token_goes : {A : Type 0} {P : A → Spelling} (bytes : List ℕ) → UsualToken P → Goes P bytes (next bytes)
 token_goes bytes t =
     let n = next_is bytes (next bytes) refl in
@@ -233,7 +225,7 @@ reads_token {P} bytes (Err at) says stops t =
     let c = token_goes bytes t in
     record { it = subst (λ (l : List ℕ). Goes {A = Unit {0}} (λ _. P tt) bytes l) (sym (stops at refl)) (record { front = c.front; place = c.place; more = c.more; value = tt; clean = c.clean; goes = c.goes }) }
 
-symbol_stops : (symbol : ℕ) (bytes at : List ℕ) → symbol_at symbol bytes ≡ Err at → at ≡ next bytes
+pub symbol_stops : (symbol : ℕ) (bytes at : List ℕ) → symbol_at symbol bytes ≡ Err at → at ≡ next bytes
 unfolding symbol_after
 symbol_stops symbol bytes at e = found (next bytes) e
   where
@@ -252,7 +244,7 @@ symbol_stops symbol bytes at e = found (next bytes) e
 pub symbol_reads : (symbol : ℕ) → is_separator symbol ≡ false → (symbol ≡ 45 → ⊥) → (bytes : List ℕ) → ReadsAfter (Plain (Symbol symbol)) bytes (symbol_at symbol bytes)
 symbol_reads symbol separates hyphen bytes = reads_token bytes _ (λ rest e. symbol_says symbol tt bytes rest e) (λ at e. symbol_stops symbol bytes at e) (symbol_usual symbol separates hyphen)
 
-word_stops : (word bytes at : List ℕ) → word_at word bytes ≡ Err at → at ≡ next bytes
+pub word_stops : (word bytes at : List ℕ) → word_at word bytes ≡ Err at → at ≡ next bytes
 unfolding word_after
 word_stops word bytes at e = by_test (is_word_at word bytes) e
   where
@@ -275,7 +267,7 @@ value_at : {A : Type 0} → Read A → List ℕ
 value_at (Ok x) = x.1
 value_at (Err at) = at
 
-name_stops : (bytes at : List ℕ) → name_at bytes ≡ Err at → at ≡ next bytes
+pub name_stops : (bytes at : List ℕ) → name_at bytes ≡ Err at → at ≡ next bytes
 unfolding name_after value_at
 name_stops bytes at e = by_test (is_name (prefix_while is_name_byte (next bytes))) e
   where
@@ -283,7 +275,7 @@ name_stops bytes at e = by_test (is_name (prefix_while is_name_byte (next bytes)
     by_test true e = cc
     by_test false e = sym (ap value_at e)
 
-digits_stop : (bytes at : List ℕ) → digits_at bytes ≡ Err at → at ≡ next bytes
+pub digits_stop : (bytes at : List ℕ) → digits_at bytes ≡ Err at → at ≡ next bytes
 unfolding digits_at value_at
 digits_stop bytes at e = by_test (prefix_len is_ascii_digit (next bytes) == 0) e
   where

@@ -2,22 +2,17 @@
 use Rattle.std.proofs.Common.{◌≡◌, ◌<◌, ◌≤◌, ◌⊎◌, ◌-◌, ℕ, Bool, true, false, List, [], ◌∷◌, ◌++◌, ◌+◌, Option, Some, None, length, Ok, Err, inl, inr, refl, ap, sym, ◌∙◌, arith, nat_lt, if◌then◌else◌}
 use Rattle.std.specs.Prelude.{Result}
 use Rattle.std.proofs.lemmas.Bool.Decides.{nat_tests}
-use Rattle.std.proofs.lemmas.List.{length-append}
 use Rattle.values.specs.Tables.{Schema}
 use Rattle.values.specs.declared.table.Table.{Table}
 use Rattle.rows.specs.declared.declaration.Declaration.{Declaration}
 use Rattle.rows.specs.declared.schema_reading.SchemaFault.{SchemaFault}
 use Rattle.rows.specs.declared.schema_reading.SchemaFault.TheVariants.{Syntax, BadTable}
-use Rattle.tokens.specs.Place.{TokenAt}
 use Rattle.tokens.specs.Token.{Read}
 use Rattle.rows.specs.Declaration.{creates_at}
 use Rattle.rows.specs.SchemaTable.{next_table, tables_from, read_schema}
-use Rattle.rows.specs.SchemaGrammar.{BeginsToken}
-use Rattle.rows.specs.SchemaGrammarLaw.{HasSyntaxFault, OfTheGrammar, SaysNothing, TheGrammarIsRead, TextsSayOneThing, OnlyTheGrammarIsRead, FaultsAreAtTokens}
+use Rattle.rows.specs.SchemaGrammarLaw.{HasSyntaxFault, OfTheGrammar, SaysNothing, TheGrammarIsRead, TextsSayOneThing, OnlyTheGrammarIsRead}
 use Rattle.rows.specs.GoodTableLaw.{GoodTextsAreRead, SaysSchema, OnlySchemasAreRead}
-use Rattle.rows.proofs.SchemaSays.{of_the_grammar}
-use Rattle.rows.proofs.SchemaWhole.{text_read}
-use Rattle.rows.proofs.SchemaStops.{creates_stop}
+use Rattle.rows.proofs.SchemaProduction.{text_says, text_read}
 use Rattle.rows.proofs.SchemaGood.{good_tables, exact_tables}
 
 pub short : (n : ℕ) → n ≤ 65536 → nat_lt 65536 n ≡ false
@@ -39,6 +34,19 @@ those_of other r = elim r [ Ok x ↦ x.0 | Err at ↦ other ]
 
 pub one_thing : TextsSayOneThing
 one_thing text these those e f = ap (those_of these) (sym (text_read these text e).1 ∙ (text_read those text f).1)
+
+-- a text has a fault of syntax, or it is of the grammar
+pub of_the_grammar : (text : List ℕ) → HasSyntaxFault (read_schema text) ⊎ OfTheGrammar text (read_schema text)
+unfolding read_schema
+of_the_grammar text = by_length (nat_lt 65536 (length text))
+  where
+    by_reading : (r : Read (List Declaration)) → creates_at text ≡ r → HasSyntaxFault (read_as text r) ⊎ OfTheGrammar text (read_as text r)
+    by_reading (Err at) e = inl (length text - length at, refl)
+    by_reading (Ok (ds, rest)) e = inr (record { declarations = ds; spelled = text_says ds text rest e; decided = refl })
+
+    by_length : (t : Bool) → HasSyntaxFault (if t then Err (Syntax 65536) else read_as text (creates_at text)) ⊎ OfTheGrammar text (if t then Err (Syntax 65536) else read_as text (creates_at text))
+    by_length true = inl (65536, refl)
+    by_length false = by_reading (creates_at text) refl
 
 -- declarations that make no schema have a bad table, and no fault of syntax
 pub no_syntax : (ds : List Declaration) (tables : List Table) (at : ℕ) → tables_from tables ds ≡ Err (Syntax at) → ⊥
@@ -94,21 +102,3 @@ texts text schema = (found, λ s. read text s.declarations s.short s.spelled ∙
         by_grammar (inr is) =
             let exact = (exact_tables is.declarations schema).0 (sym is.decided ∙ e) in
             record { declarations = is.declarations; short = is_short e (nat_lt 65536 (length text)) refl; spelled = is.spelled; good = exact.0; tables = exact.1 }
-
--- the byte of a fault of syntax
-pub at_tokens : FaultsAreAtTokens
-unfolding read_schema
-at_tokens text n h e = by_reading (creates_at text) refl (sym (ap (λ t. if t then Err (Syntax 65536) else read_as text (creates_at text)) (short (length text) h)) ∙ e)
-  where
-    number : Result Schema SchemaFault → ℕ
-    number (Err (Syntax k)) = k
-    number _ = n
-
-    told : (at front : List ℕ) → length text ≡ length (front ++ at) → length text - length at ≡ n → n ≡ length front
-    told at front whole e = omega (arith, whole, e, length-append front at)
-
-    by_reading : (r : Read (List Declaration)) → creates_at text ≡ r → read_as text r ≡ Err (Syntax n) → TokenAt BeginsToken text n
-    by_reading (Ok ds) at e = absurd (no_syntax ds.0 [] n e)
-    by_reading (Err at) is e =
-        let p = (creates_stop text).stopped at is in
-        record { before = p.0.front; from = at; place = p.0.place; counted = told at p.0.front (ap length p.0.place) (ap number e); begins = p.1 }

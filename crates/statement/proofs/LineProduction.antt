@@ -171,8 +171,8 @@ module _ (schema : Schema) where
       stands : (w : Written) (bytes rest : List ℕ) → OfSession w bytes rest → begins_digit (next bytes) ≡ true
       stands w bytes rest t = let f = number_first t.value bytes t.between t.first in ap begins_digit f.spelled ∙ f.digit
 
-      fails : (w : Written) (bytes rest : List ℕ) → Service w bytes rest → begins_digit (next bytes) ≡ false
-      fails w bytes rest is = let l = first_letter (codes "SPLIT" ∷ codes "MIGRATE" ∷ codes "CLOCK" ∷ []) refl bytes (service.first w bytes rest is) in ap begins_digit l.here ∙ letter_is_no_digit l.first l.low
+      fails : (w : Written) (bytes rest : List ℕ) → Service w bytes rest → AtEnd rest → begins_digit (next bytes) ≡ false
+      fails w bytes rest is at_end = let l = first_letter (codes "SPLIT" ∷ codes "MIGRATE" ∷ codes "CLOCK" ∷ []) refl bytes (service.first w bytes rest is) in ap begins_digit l.here ∙ letter_is_no_digit l.first l.low
 
       at : (w v : Written) (bytes rest : List ℕ) → w ≡ v → LinePiece v bytes rest → LinePiece w bytes rest
       at w v bytes rest e is = subst (λ (u : Written). LinePiece u bytes rest) (sym e) is

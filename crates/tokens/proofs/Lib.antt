@@ -10,4 +10,5 @@ pub mod NameLetters
 pub mod WordLetters
 pub mod TokenProduction
 pub mod TokenProductionParts
+pub mod TokenProductionTurns
 pub mod TokenNothingLeft

@@ -61,8 +61,8 @@ module _ (w : Texts) where
   within_then (Ok x) f i go = wider (f x) i.it (go x.0 x.1 refl)
   within_then (Err at) f i go = record { it = i.it }
 
-  pub within_after : {B : Type 0} {bytes : List ℕ} (r : After) (f : List ℕ → Read B) → WithinAfter bytes r → ((m : List ℕ) → Within m (f m)) → Within bytes (r >>= f)
-  within_after (Ok m) f i go = wider (f m) i.it (go m)
+  pub within_after : {B : Type 0} {bytes : List ℕ} (r : After) (f : List ℕ → Read B) → WithinAfter bytes r → ((m : List ℕ) → r ≡ Ok m → Within m (f m)) → Within bytes (r >>= f)
+  within_after (Ok m) f i go = wider (f m) i.it (go m refl)
   within_after (Err at) f i go = record { it = i.it }
 
   -- ---- what is read of both
@@ -102,6 +102,11 @@ module _ (w : Texts) where
   past_after (Err a) (Ok n) h i = record { it = λ n. omega (arith, h, n, i.it) }
   past_after (Err a) (Err c) h i = record { it = tt }
 
+  -- near the token, or behind it
+  pub same_place : {A : Type 0} {m n : List ℕ} (r u : Read A) → Near m n ⊎ IsPast m → Within m r → (Near m n → Same r u) → Same r u
+  same_place r u (inl near) i same = same near
+  same_place r u (inr less) i same = past r u less i
+
   pub same_then : {A B : Type 0} (r u : Read A) (f g : A × List ℕ → Read B) → Same r u → ((x : A) (m : List ℕ) → r ≡ Ok (x, m) → Within m (f (x, m)))
       → ((x : A) (m n : List ℕ) → Near m n → r ≡ Ok (x, m) → u ≡ Ok (x, n) → Same (f (x, m)) (g (x, n))) → Same (r >>= f) (u >>= g)
   same_then (Err a) (Err c) f g s i go = record { it = tt }
@@ -137,7 +142,7 @@ module _ (w : Texts) where
   }
 
   pub good_after : {B : Type 0} (R : List ℕ → After) (f : List ℕ → Read B) → GoodAfter R → Good f → Good (λ bytes. R bytes >>= f)
-  good_after {B} R f g h = record { within = λ bytes. within_after (R bytes) f (g.leaves bytes) h.within; same = λ a c near. joined (R a) (R c) (g.alike a c near) }
+  good_after {B} R f g h = record { within = λ bytes. within_after (R bytes) f (g.leaves bytes) (λ m e. h.within m); same = λ a c near. joined (R a) (R c) (g.alike a c near) }
     where
       joined : (r u : After) → SameAfter r u → Same (r >>= f) (u >>= f)
       joined (Err a) (Err c) s = record { it = tt }
@@ -189,12 +194,11 @@ module _ (w : Texts) where
   same_if true false e r u p q s z = cc
   same_if false true e r u p q s z = cc
 
+  pub same_test : {A : Type 0} (test : List ℕ → Bool) → Tells test → (a c : List ℕ) → Near a c → (r u p q : Read A) → Within a (if test a then r else u) → Same r p → Same u q → Same (if test a then r else u) (if test c then p else q)
+  same_test test d a c near r u p q i s z = elim (d.tells a c near) [ inl e ↦ same_if (test a) (test c) e r u p q s z | inr less ↦ past _ _ less i ]
+
   pub good_if : {A : Type 0} (test : List ℕ → Bool) (f g : List ℕ → Read A) → Tells test → Good f → Good g → Good (λ bytes. if test bytes then f bytes else g bytes)
-  good_if test f g d h i = record { within = inside; same = λ a c near. by_test a c near (d.tells a c near) }
+  good_if test f g d h i = record { within = inside; same = λ a c near. same_test test d a c near (f a) (g a) (f c) (g c) (inside a) (h.same a c near) (i.same a c near) }
     where
       inside : (bytes : List ℕ) → Within bytes (if test bytes then f bytes else g bytes)
       inside bytes = within_if (test bytes) (f bytes) (g bytes) (h.within bytes) (i.within bytes)
-
-      by_test : (a c : List ℕ) → Near a c → (test a ≡ test c) ⊎ IsPast a → Same (if test a then f a else g a) (if test c then f c else g c)
-      by_test a c near (inl e) = same_if (test a) (test c) e (f a) (g a) (f c) (g c) (h.same a c near) (i.same a c near)
-      by_test a c near (inr less) = past _ _ less (inside a)

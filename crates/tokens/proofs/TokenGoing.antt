@@ -44,21 +44,6 @@ pub record Then {A B : Type 0} (P : A → Spelling) (Q : A → B → Spelling) (
   pub first : P value bytes between
   pub second : Q value y between rest
 
-pub usual_then : {A B : Type 0} {P : A → Spelling} {Q : A → B → Spelling} → Usual P → ((x : A) → Usual (Q x)) → Usual (Then P Q)
-usual_then {A} {B} {P} {Q} u v =
-    let w = v u.value in
-    record {
-      text = u.text ++ w.text;
-      value = w.value;
-      clean = λ tail clean. subst IsClean (sym (append_assoc u.text w.text tail)) (u.clean (w.text ++ tail) (w.clean tail clean));
-      holds = λ tail clean. subst (λ (l : List ℕ). Then P Q w.value l tail) (sym (append_assoc u.text w.text tail)) (record {
-        value = u.value;
-        between = w.text ++ tail;
-        first = u.holds (w.text ++ tail) (w.clean tail clean);
-        second = w.holds tail clean;
-      });
-    }
-
 module _ {A B : Type 0} {P : A → Spelling} {Q : A → B → Spelling} where
   -- after the first piece reading stopped in the second
   goes_behind : {bytes m at : List ℕ} (x : A) → Moved (P x) bytes m → Goes (Q x) m at → Goes (Then P Q) bytes at
@@ -155,8 +140,21 @@ module _ {B : Type 0} {P : Spelling} {Q : B → Spelling} where
   after_then (Ok m) f moves usual s go = reads_past s.it moves (f m) (go m)
   after_then (Err at) f moves usual s go = weaken (Err at) (record { it = goes_first s.it usual })
 
-  pub usual_next : Usual {A = Unit {0}} (λ _. P) → Usual Q → Usual (Next P Q)
-  usual_next u v = usual_weaker (λ y. y) (usual_then {P = λ _. P} {Q = λ _. Q} u (λ _. v)) (λ y b rest t. next_of t)
+-- two pieces without values, one after the other
+pub valued : {P : Spelling} {bytes : List ℕ} (r : After) → ReadsAfter P bytes r → Reads {A = Unit {0}} (λ _. P) bytes (r >>= λ rest. Ok (tt, rest))
+valued (Ok rest) s = record { it = s.it }
+valued (Err at) s = record { it = s.it }
+
+unvalued : {P : Spelling} {bytes : List ℕ} (r : After) → Reads {A = Unit {0}} (λ _. P) bytes (r >>= λ rest. Ok (tt, rest)) → ReadsAfter P bytes r
+unvalued (Ok rest) s = record { it = s.it }
+unvalued (Err at) s = record { it = s.it }
+
+pub after_both : {P Q Z : Spelling} {bytes : List ℕ} (r : After) (f : List ℕ → After) → Moves P → Usual {A = Unit {0}} (λ _. Q) → ((b m rest : List ℕ) → P b m → Q m rest → Z b rest)
+    → ReadsAfter P bytes r → ((m : List ℕ) → ReadsAfter Q m (f m)) → ReadsAfter Z bytes (r >>= f)
+after_both {P} {Q} (Ok m) f moves usual to s go =
+    unvalued (f m) (reads_weaker _ (reads_past {B = Unit {0}} {Q = λ _. Q} s.it moves _ (valued (f m) (go m))) (λ _ b rest n. to b n.between rest n.first n.second))
+after_both {P} {Q} (Err at) f moves usual to s go =
+    unvalued (Err at) (reads_weaker (Err at) (after_then {B = Unit {0}} {Q = λ _. Q} (Err at) (λ m. f m >>= λ rest. Ok (tt, rest)) moves usual s (λ m. valued (f m) (go m))) (λ _ b rest n. to b n.between rest n.first n.second))
 
 pub reads_either : {B : Type 0} {P : Spelling} {Q R : B → Spelling} {bytes : List ℕ} (r : After) (f g : List ℕ → Read B) → Moves P → ReadsAfter P bytes r
     → ((y : B) (b rest : List ℕ) → Next P Q y b rest → R y b rest) → ((m : List ℕ) → Reads Q m (f m)) → ((at : List ℕ) → Goes {A = Unit {0}} (λ _. P) bytes at → Reads R bytes (g at))
@@ -183,9 +181,6 @@ Last v P y bytes rest = (y ≡ v) × P bytes rest
 
 pub usual_by : {A B : Type 0} {P : A → Spelling} (f : A → B) → Usual P → Usual (By f P)
 usual_by f u = usual_weaker f u (λ x b r is. (x, (refl, is)))
-
-pub usual_last : {B : Type 0} {P : Spelling} (v : B) → Usual {A = Unit {0}} (λ _. P) → Usual (Last v P)
-usual_last v u = usual_weaker (λ _. v) u (λ x b r is. (refl, is))
 
 pub reads_by : {A B : Type 0} {P : A → Spelling} {bytes : List ℕ} (f : A → B) (r : Read A) → Reads P bytes r → Reads (By f P) bytes (r >>= λ x. Ok (f x.0, x.1))
 reads_by f r s = reads_map f r s (λ x b rest is. (x, (refl, is)))

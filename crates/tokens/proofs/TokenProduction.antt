@@ -1,12 +1,12 @@
 -- A production with its laws, and the ways to make one of others.
-use Rattle.std.proofs.Common.{◌≡◌, ◌⊎◌, ℕ, Bool, true, false, List, [], ◌∷◌, ◌++◌, inl, inr, Ok, Err, Some, None, refl, ap, sym, ◌∙◌, subst}
+use Rattle.std.proofs.Common.{◌≡◌, ◌⊎◌, ◌<◌, ◌≤◌, ℕ, Bool, true, false, List, [], ◌∷◌, ◌++◌, inl, inr, Ok, Err, Some, None, length, refl, ap, sym, ◌∙◌, subst, arith}
 use Rattle.std.specs.Prelude.{Option, Result, if◌then◌else◌}
-use Rattle.std.proofs.lemmas.List.{append_assoc}
+use Rattle.std.proofs.lemmas.List.{append_assoc, length-append}
 use Rattle.tokens.specs.Token.{After, Read, ◌>>=◌}
 use Rattle.tokens.proofs.WordCases.{Refused}
 use Rattle.tokens.proofs.TokenFollows.{Spelling, Follows, front_follows, clean_follows, Moves}
-use Rattle.tokens.proofs.TokenGoing.{Usual, Goes, Reads, ReadsAfter, Then, Next, By, Last, reads_then, after_then, after_read, reads_weaker, reads_either, reads_whether, reads_by, reads_last, reads_past}
-use Rattle.tokens.proofs.PlaceSame.{Texts, Tells, good_if, Good, good_ok, good_then, good_after}
+use Rattle.tokens.proofs.TokenGoing.{Usual, Goes, Reads, ReadsAfter, Then, Next, By, Last, reads_then, after_then, after_read, after_both, valued, reads_weaker, reads_either, reads_whether, reads_by, reads_last, reads_past}
+use Rattle.tokens.proofs.PlaceSame.{Texts, Tells, good_if, Good, GoodAfter, good_ok, good_then, good_after, after_after}
 use Rattle.tokens.proofs.TokenSame.{GoodToken, good_by, good_token, good_optional, good_either, good_peek}
 
 -- what stands between the tokens of a text: where a token begins or the text ends, and two texts that are the same up to a token and in it
@@ -30,6 +30,14 @@ pub record Token (gaps : Gaps) (P : Spelling) (R : List ℕ → After) : Type 0 
   pub begins : (bytes : List ℕ) → Begins gaps (R bytes)
   pub whole : (bytes rest : List ℕ) → P bytes rest → R bytes ≡ Ok rest
   pub same : (s : gaps.Parting) → GoodToken (gaps.texts_of s) R
+
+-- tokens that say nothing, one after the other
+pub record Phrase (gaps : Gaps) (P : Spelling) (R : List ℕ → After) : Type 0 where
+  pub moves : Moves P
+  pub reads : (bytes : List ℕ) → ReadsAfter P bytes (R bytes)
+  pub begins : (bytes : List ℕ) → Begins gaps (R bytes)
+  pub whole : (bytes rest : List ℕ) → P bytes rest → R bytes ≡ Ok rest
+  pub same : (s : gaps.Parting) → GoodAfter (gaps.texts_of s) R
 
 -- spellings by their values, what may follow them, and their reader
 pub record Production (gaps : Gaps) {A : Type 0} (P : A → Spelling) (C : List ℕ → Type 0) (R : List ℕ → Read A) : Type 0 where
@@ -56,11 +64,19 @@ abbrev pub Maybe : {A : Type 0} → Spelling → (A → Spelling) → Option A �
 Maybe P Q None = Empty
 Maybe P Q (Some x) = λ bytes rest. (between : List ℕ) × (P bytes between × Q x between rest)
 
+-- whichever way a test goes
+pub if_both : {A : Type 0} (F : A → Type 0) (t : Bool) {x y : A} → F x → F y → F (if t then x else y)
+if_both F true one two = one
+if_both F false one two = two
+
 -- one step of a chain
 pub ok_then : {A B : Type 0} {x : A} {y : Result B (List ℕ)} (r : Result A (List ℕ)) (f : A → Result B (List ℕ)) → r ≡ Ok x → f x ≡ y → (r >>= f) ≡ y
 ok_then r f is go = ap (λ r. r >>= f) is ∙ go
 
 -- ---- one after another, and one or another, keep to their bytes
+
+pub moves_alike : {P Q : Spelling} → ((bytes rest : List ℕ) → P bytes rest → Q bytes rest) → ((bytes rest : List ℕ) → Q bytes rest → P bytes rest) → Moves P → Moves Q
+moves_alike to from p bytes rest is = let a = p bytes rest (from bytes rest is) in record { taken = a.taken; place = a.place; stays = λ other follows. to _ other (a.stays other follows) }
 
 then_moves : {A B : Type 0} {P : A → Spelling} {Q : A → B → Spelling} → ((x : A) → Moves (P x)) → ((x : A) (y : B) → Moves (Q x y)) → (y : B) → Moves (Then P Q y)
 then_moves {A} {B} {P} {Q} p q y bytes rest t =
@@ -80,6 +96,12 @@ next_moves {B} {P} {Q} p q y bytes rest n =
     let a = then_moves {A = Unit {0}} {P = λ _. P} {Q = λ _. Q} (λ _. p) (λ _. q) y bytes rest (record { value = tt; between = n.between; first = n.first; second = n.second }) in
     record { taken = a.taken; place = a.place; stays = λ other follows. let t = a.stays other follows in record { between = t.between; first = t.first; second = t.second } }
 
+-- two pieces without values
+pub both_move : {P Q Z : Spelling} → ((bytes m rest : List ℕ) → P bytes m → Q m rest → Z bytes rest) → ((bytes rest : List ℕ) → Z bytes rest → (m : List ℕ) × (P bytes m × Q m rest)) → Moves P → Moves Q → Moves Z
+both_move {P} {Q} to from p q =
+    moves_alike {P = Next P (λ (_ : Unit {0}). Q) tt} (λ bytes rest n. to bytes n.between rest n.first n.second) (λ bytes rest is. let both = from bytes rest is in record { between = both.0; first = both.1.0; second = both.1.1 })
+    (next_moves p (λ _. q) tt)
+
 or_moves : {A : Type 0} {P Q : A → Spelling} → ((x : A) → Moves (P x)) → ((x : A) → Moves (Q x)) → (x : A) → Moves (Or P Q x)
 or_moves p q x bytes rest (inl is) = let a = p x bytes rest is in record { taken = a.taken; place = a.place; stays = λ other follows. inl (a.stays other follows) }
 or_moves p q x bytes rest (inr is) = let a = q x bytes rest is in record { taken = a.taken; place = a.place; stays = λ other follows. inr (a.stays other follows) }
@@ -98,18 +120,55 @@ usual_of {A} {P} (Err at) moves s =
     let g : Goes P [] at = s.it in
     record { text = g.more; value = g.value; clean = g.clean; holds = λ tail clean. subst (λ (l : List ℕ). P g.value (l ++ (g.more ++ tail)) tail) (nothing_taken g.front at g.place) (g.goes tail clean) }
 
+-- ---- what is left: no more bytes, and fewer where no bytes are refused
+
+pub no_longer : {P : Spelling} → Moves P → (bytes rest : List ℕ) → P bytes rest → length rest ≤ length bytes
+no_longer moves bytes rest is = let a = moves bytes rest is in omega (arith, ap length a.place, length-append a.taken rest)
+
+taken_less : {P : Spelling} → Moves P → (P [] [] → ⊥) → (bytes rest : List ℕ) → P bytes rest → length rest < length bytes
+taken_less {P} moves none bytes rest is = let a = moves bytes rest is in by_taken a.taken a.place (a.stays [] tt)
+  where
+    by_taken : (taken : List ℕ) → bytes ≡ taken ++ rest → P (taken ++ []) [] → length rest < length bytes
+    by_taken [] place stays = absurd (none stays)
+    by_taken (b ∷ taken) place stays = omega (arith, ap length place, length-append taken rest)
+
 module _ {gaps : Gaps} where
+  pub token_takes : {P : Spelling} {R : List ℕ → After} → Token gaps P R → Refused (R []) → (bytes rest : List ℕ) → P bytes rest → length rest < length bytes
+  token_takes {P} {R} t none = taken_less t.moves (λ is. clash (t.whole [] [] is) none.is)
+    where
+      clash : {at : List ℕ} → R [] ≡ Ok [] → R [] ≡ Err at → ⊥
+      clash e f = cc
+
+  pub takes : {A : Type 0} {P : A → Spelling} {C : List ℕ → Type 0} {R : List ℕ → Read A} → Production gaps P C R → C [] → Refused (R []) → (x : A) (bytes rest : List ℕ) → P x bytes rest → length rest < length bytes
+  takes {P = P} {R = R} p end none x = taken_less (p.moves x) (λ is. clash (p.whole x [] [] is end) none.is)
+    where
+      clash : {at : List ℕ} → R [] ≡ Ok (x, []) → R [] ≡ Err at → ⊥
+      clash e f = cc
+
+  -- what is read is a spelling
+  pub sound : {A : Type 0} {P : A → Spelling} {C : List ℕ → Type 0} {R : List ℕ → Read A} → Production gaps P C R → (x : A) (bytes rest : List ℕ) → R bytes ≡ Ok (x, rest) → P x bytes rest
+  sound {P = P} p x bytes rest is = let s : Reads P bytes (Ok (x, rest)) = subst (Reads P bytes) is (p.reads bytes) in s.it
+
+  pub leaves : {A : Type 0} {P : A → Spelling} {C : List ℕ → Type 0} {R : List ℕ → Read A} → Production gaps P C R → (x : A) (bytes rest : List ℕ) → R bytes ≡ Ok (x, rest) → length rest ≤ length bytes
+  leaves p x bytes rest is = no_longer (p.moves x) bytes rest (sound p x bytes rest is)
+
+  pub takes_read : {A : Type 0} {P : A → Spelling} {C : List ℕ → Type 0} {R : List ℕ → Read A} → Production gaps P C R → C [] → Refused (R []) → (x : A) (bytes rest : List ℕ) → R bytes ≡ Ok (x, rest) → length rest < length bytes
+  takes_read p end none x bytes rest is = takes p end none x bytes rest (sound p x bytes rest is)
+
   pub usual : {A : Type 0} {P : A → Spelling} {C : List ℕ → Type 0} {R : List ℕ → Read A} → Production gaps P C R → Usual P
   usual {R = R} p = usual_of (R []) p.moves (p.reads [])
 
   -- ---- where a token begins
 
-  pub begins_then : {X B : Type 0} (r : Result X (List ℕ)) (f : X → Read B) → Begins gaps r → ((x : X) → Begins gaps (f x)) → Begins gaps (r >>= f)
-  begins_then (Ok x) f b go = go x
-  begins_then (Err at) f b go = record { it = b.it }
+  pub begins_where : {X B : Type 0} (r : Result X (List ℕ)) (f : X → Result B (List ℕ)) → Begins gaps r → ((x : X) → r ≡ Ok x → Begins gaps (f x)) → Begins gaps (r >>= f)
+  begins_where (Ok x) f b go = go x refl
+  begins_where (Err at) f b go = record { it = b.it }
 
-  begins_either : {B : Type 0} (r : After) (f h : List ℕ → Read B) → ((m : List ℕ) → Begins gaps (f m)) → ((at : List ℕ) → Begins gaps (h at)) → Begins gaps (elim r [ Ok m ↦ f m | Err at ↦ h at ])
-  begins_either (Ok m) f h one two = one m
+  pub begins_then : {X B : Type 0} (r : Result X (List ℕ)) (f : X → Result B (List ℕ)) → Begins gaps r → ((x : X) → Begins gaps (f x)) → Begins gaps (r >>= f)
+  begins_then r f b go = begins_where r f b (λ x e. go x)
+
+  pub begins_either : {B : Type 0} (r : After) (f h : List ℕ → Read B) → ((m : List ℕ) → r ≡ Ok m → Begins gaps (f m)) → ((at : List ℕ) → Begins gaps (h at)) → Begins gaps (elim r [ Ok m ↦ f m | Err at ↦ h at ])
+  begins_either (Ok m) f h one two = one m refl
   begins_either (Err at) f h one two = two at
 
   begins_read : {B : Type 0} (r : After) (f : List ℕ → Read B) → Begins gaps r → ((m : List ℕ) → Begins gaps (f m)) → Begins gaps (elim r [ Ok m ↦ f m | Err at ↦ Err at ])
@@ -134,14 +193,32 @@ module _ {gaps : Gaps} where
       → Production gaps P Any R → ((x : A) → Production gaps (Q x) D (S x)) → Production gaps (Then P Q) D (λ bytes. R bytes >>= λ x. S x.0 x.1)
   seq p q = chain p (λ x y bytes rest is c. tt) q
 
-  pub after : {B : Type 0} {P : Spelling} {Q : B → Spelling} {C : List ℕ → Type 0} {R : List ℕ → After} {S : List ℕ → Read B}
-      → Token gaps P R → Production gaps Q C S → Production gaps (Next P Q) C (λ bytes. R bytes >>= S)
-  after {R = R} {S = S} t q = record {
+  pub after_phrase : {B : Type 0} {P : Spelling} {Q : B → Spelling} {C : List ℕ → Type 0} {R : List ℕ → After} {S : List ℕ → Read B}
+      → Phrase gaps P R → Production gaps Q C S → Production gaps (Next P Q) C (λ bytes. R bytes >>= S)
+  after_phrase {R = R} {S = S} t q = record {
     moves = next_moves t.moves q.moves;
     reads = λ bytes. after_then (R bytes) S t.moves (usual q) (t.reads bytes) q.reads;
     begins = λ bytes. begins_then (R bytes) S (t.begins bytes) q.begins;
     whole = λ y bytes rest n c. ok_then (R bytes) S (t.whole bytes n.between n.first) (q.whole y n.between rest n.second c);
-    same = λ s. good_after (gaps.texts_of s) R S (good_by (gaps.texts_of s) R (t.same s)) (q.same s);
+    same = λ s. good_after (gaps.texts_of s) R S (t.same s) (q.same s);
+  }
+
+  pub phrase : {P : Spelling} {R : List ℕ → After} → Token gaps P R → Phrase gaps P R
+  phrase {R = R} t = record { moves = t.moves; reads = t.reads; begins = t.begins; whole = t.whole; same = λ s. good_by (gaps.texts_of s) R (t.same s) }
+
+  pub after : {B : Type 0} {P : Spelling} {Q : B → Spelling} {C : List ℕ → Type 0} {R : List ℕ → After} {S : List ℕ → Read B}
+      → Token gaps P R → Production gaps Q C S → Production gaps (Next P Q) C (λ bytes. R bytes >>= S)
+  after t q = after_phrase (phrase t) q
+
+  -- two phrases, by what they are together
+  pub phrases : {P Q Z : Spelling} {R S : List ℕ → After} → ((bytes m rest : List ℕ) → P bytes m → Q m rest → Z bytes rest) → ((bytes rest : List ℕ) → Z bytes rest → (m : List ℕ) × (P bytes m × Q m rest))
+      → Phrase gaps P R → Phrase gaps Q S → Phrase gaps Z (λ bytes. R bytes >>= S)
+  phrases {R = R} {S = S} to from p q = record {
+    moves = both_move to from p.moves q.moves;
+    reads = λ bytes. after_both (R bytes) S p.moves (usual_of _ (λ _. q.moves) (valued (S []) (q.reads []))) to (p.reads bytes) q.reads;
+    begins = λ bytes. begins_then (R bytes) S (p.begins bytes) q.begins;
+    whole = λ bytes rest is. let both = from bytes rest is in ok_then (R bytes) S (p.whole bytes both.0 both.1.0) (q.whole both.0 rest both.1.1);
+    same = λ s. after_after (gaps.texts_of s) R S (p.same s) (q.same s);
   }
 
   -- the same, where reading is by cases
@@ -176,25 +253,32 @@ module _ {gaps : Gaps} where
     same = λ s. good_then (gaps.texts_of s) R (λ x rest. Ok (f x, rest)) (p.same s) (λ x. good_ok (gaps.texts_of s) (f x));
   }
 
-  pub last : {B : Type 0} {P : Spelling} {R : List ℕ → After} (v : B) → Token gaps P R → Production gaps (Last v P) Any (λ bytes. R bytes >>= λ rest. Ok (v, rest))
-  last {R = R} v t = record {
+  pub last_phrase : {B : Type 0} {P : Spelling} {R : List ℕ → After} (v : B) → Phrase gaps P R → Production gaps (Last v P) Any (λ bytes. R bytes >>= λ rest. Ok (v, rest))
+  last_phrase {R = R} v t = record {
     moves = λ y bytes rest is. let a = t.moves bytes rest is.1 in record { taken = a.taken; place = a.place; stays = λ other follows. (is.0, a.stays other follows) };
     reads = λ bytes. reads_last v (R bytes) (t.reads bytes);
     begins = λ bytes. begins_then (R bytes) _ (t.begins bytes) (λ x. record { it = tt });
     whole = λ y bytes rest is c. ok_then (R bytes) _ (t.whole bytes rest is.1) (λ k. Ok (sym is.0 k, rest));
-    same = λ s. good_after (gaps.texts_of s) R (λ rest. Ok (v, rest)) (good_by (gaps.texts_of s) R (t.same s)) (good_ok (gaps.texts_of s) v);
+    same = λ s. good_after (gaps.texts_of s) R (λ rest. Ok (v, rest)) (t.same s) (good_ok (gaps.texts_of s) v);
   }
+
+  pub last : {B : Type 0} {P : Spelling} {R : List ℕ → After} (v : B) → Token gaps P R → Production gaps (Last v P) Any (λ bytes. R bytes >>= λ rest. Ok (v, rest))
+  last v t = last_phrase v (phrase t)
 
   -- the same spellings under another description
   pub alike : {A : Type 0} {P Q : A → Spelling} {C : List ℕ → Type 0} {R : List ℕ → Read A}
       → ((x : A) (bytes rest : List ℕ) → P x bytes rest → Q x bytes rest) → ((x : A) (bytes rest : List ℕ) → Q x bytes rest → P x bytes rest) → Production gaps P C R → Production gaps Q C R
   alike {R = R} to from p = record {
-    moves = λ x bytes rest is. let a = p.moves x bytes rest (from x bytes rest is) in record { taken = a.taken; place = a.place; stays = λ other follows. to x _ other (a.stays other follows) };
+    moves = λ x. moves_alike (to x) (from x) (p.moves x);
     reads = λ bytes. reads_weaker (R bytes) (p.reads bytes) to;
     begins = p.begins;
     whole = λ x bytes rest is c. p.whole x bytes rest (from x bytes rest is) c;
     same = p.same;
   }
+
+  -- the same reader under another description
+  pub read_alike : {A : Type 0} {P : A → Spelling} {C : List ℕ → Type 0} {R S : List ℕ → Read A} → ((bytes : List ℕ) → R bytes ≡ S bytes) → Production gaps P C R → Production gaps P C S
+  read_alike {P = P} {C = C} same p = subst (Production gaps P C) (λ i. λ bytes. same bytes i) p
 
   -- less may follow
   pub closing : {A : Type 0} {P : A → Spelling} {C D : List ℕ → Type 0} {R : List ℕ → Read A} → ((rest : List ℕ) → D rest → C rest) → Production gaps P C R → Production gaps P D R
@@ -209,7 +293,7 @@ module _ {gaps : Gaps} where
   choice {B} {P} {Q} {Z} {C} {R} {S} {T} t q apart z = record {
     moves = or_moves (next_moves t.moves q.moves) z.moves;
     reads = λ bytes. reads_either (R bytes) S (λ at. T bytes) t.moves (t.reads bytes) (λ y b rest n. inl n) q.reads (λ at g. reads_weaker (T bytes) (z.reads bytes) (λ y b rest is. inr is));
-    begins = λ bytes. begins_either (R bytes) S (λ at. T bytes) q.begins (λ at. z.begins bytes);
+    begins = λ bytes. begins_either (R bytes) S (λ at. T bytes) (λ m e. q.begins m) (λ at. z.begins bytes);
     whole = whole;
     same = λ s. good_either (gaps.texts_of s) R S T (t.same s) (q.same s) (z.same s);
   }
@@ -225,7 +309,7 @@ module _ {gaps : Gaps} where
   peek {B} {P} {Q} {Z} {C} {R} {S} {T} t first q apart z = record {
     moves = or_moves q.moves z.moves;
     reads = λ bytes. reads_whether (R bytes) (S bytes) (T bytes) (reads_weaker (S bytes) (q.reads bytes) (λ y b rest is. inl is)) (reads_weaker (T bytes) (z.reads bytes) (λ y b rest is. inr is));
-    begins = λ bytes. begins_either (R bytes) (λ m. S bytes) (λ at. T bytes) (λ m. q.begins bytes) (λ at. z.begins bytes);
+    begins = λ bytes. begins_either (R bytes) (λ m. S bytes) (λ at. T bytes) (λ m e. q.begins bytes) (λ at. z.begins bytes);
     whole = whole;
     same = λ s. good_peek (gaps.texts_of s) R S T (t.same s) (q.same s) (z.same s);
   }
@@ -236,23 +320,19 @@ module _ {gaps : Gaps} where
 
   -- by a test of what comes next
   pub tested : {B : Type 0} {P Q : B → Spelling} {C : List ℕ → Type 0} {S T : List ℕ → Read B} (test : List ℕ → Bool)
-      → ((s : gaps.Parting) → Tells (gaps.texts_of s) test) → ((y : B) (bytes rest : List ℕ) → P y bytes rest → test bytes ≡ true) → ((y : B) (bytes rest : List ℕ) → Q y bytes rest → test bytes ≡ false)
+      → ((s : gaps.Parting) → Tells (gaps.texts_of s) test) → ((y : B) (bytes rest : List ℕ) → P y bytes rest → test bytes ≡ true) → ((y : B) (bytes rest : List ℕ) → Q y bytes rest → C rest → test bytes ≡ false)
       → Production gaps P C S → Production gaps Q C T → Production gaps (Or P Q) C (λ bytes. if test bytes then S bytes else T bytes)
   tested {B} {P} {Q} {C} {S} {T} test tells stands fails p q = record {
     moves = or_moves p.moves q.moves;
-    reads = λ bytes. by_test (λ r. Reads (Or P Q) bytes r) bytes (test bytes) (reads_weaker (S bytes) (p.reads bytes) (λ y b rest is. inl is)) (reads_weaker (T bytes) (q.reads bytes) (λ y b rest is. inr is));
-    begins = λ bytes. by_test (λ r. Begins gaps r) bytes (test bytes) (p.begins bytes) (q.begins bytes);
+    reads = λ bytes. if_both (Reads (Or P Q) bytes) (test bytes) (reads_weaker (S bytes) (p.reads bytes) (λ y b rest is. inl is)) (reads_weaker (T bytes) (q.reads bytes) (λ y b rest is. inr is));
+    begins = λ bytes. if_both (Begins gaps) (test bytes) (p.begins bytes) (q.begins bytes);
     whole = whole;
     same = λ s. good_if (gaps.texts_of s) test S T (tells s) (p.same s) (q.same s);
   }
     where
-      by_test : (F : Read B → Type 0) (bytes : List ℕ) (t : Bool) → F (S bytes) → F (T bytes) → F (if t then S bytes else T bytes)
-      by_test F bytes true one two = one
-      by_test F bytes false one two = two
-
       whole : (y : B) (bytes rest : List ℕ) → Or P Q y bytes rest → C rest → ◌≡◌ {A = Read B} (if test bytes then S bytes else T bytes) (Ok (y, rest))
       whole y bytes rest (inl is) c = ap (λ t. if t then S bytes else T bytes) (stands y bytes rest is) ∙ p.whole y bytes rest is c
-      whole y bytes rest (inr is) c = ap (λ t. if t then S bytes else T bytes) (fails y bytes rest is) ∙ q.whole y bytes rest is c
+      whole y bytes rest (inr is) c = ap (λ t. if t then S bytes else T bytes) (fails y bytes rest is c) ∙ q.whole y bytes rest is c
 
   -- a token that may be missing, and then one
   pub optional : {B : Type 0} {P : Spelling} {Q : B → Spelling} {C : List ℕ → Type 0} {R : List ℕ → After} {S : List ℕ → Read B}

@@ -10,7 +10,7 @@ use Rattle.tokens.specs.Run.{Ends}
 use Rattle.tokens.specs.Place.{IsToken}
 use Rattle.tokens.specs.Word.{is_name_byte, is_word_at, after_word, word_at}
 use Rattle.tokens.specs.Name.{is_name, name_at}
-use Rattle.tokens.proofs.PlaceSame.{Texts, Near, IsPast, Left, left_of, Within, WithinAfter, wider, Same, SameAfter, past, Good, GoodAfter, good_here, Tells}
+use Rattle.tokens.proofs.PlaceSame.{Texts, Near, IsPast, Left, left_of, Within, WithinAfter, wider, Same, SameAfter, past, same_place, Good, GoodAfter, good_here, Tells}
 
 -- ---- runs of bytes at the front
 
@@ -128,18 +128,21 @@ module _ (w : Texts) where
       by_token (Err x) (Err y) d e s = neither x y
 
   pub same_behind : {B : Type 0} (f : List ℕ → Read B) → Good w f → (m n : List ℕ) → Near w m n ⊎ IsPast w m → Same w (f m) (f n)
-  same_behind f h m n (inl near) = h.same m n near
-  same_behind f h m n (inr less) = past w (f m) (f n) less (h.within m)
+  same_behind f h m n at = same_place w (f m) (f n) at (h.within m) (h.same m n)
+
+  pub within_either : {B : Type 0} {bytes : List ℕ} (r : After) (f g : List ℕ → Read B) → WithinAfter w bytes r → ((m : List ℕ) → r ≡ Ok m → Within w m (f m)) → ((at : List ℕ) → Within w bytes (g at))
+      → Within w bytes (elim r [ Ok rest ↦ f rest | Err at ↦ g at ])
+  within_either (Ok m) f g l one two = wider w (f m) l.it (one m refl)
+  within_either (Err at) f g l one two = two at
 
   pub good_either : {B : Type 0} (R : List ℕ → After) (f g : List ℕ → Read B) → GoodToken R → Good w f → Good w g → Good w (λ bytes. elim (R bytes) [ Ok rest ↦ f rest | Err at ↦ g bytes ])
   good_either {B} R f g k h i = record {
-    within = λ bytes. inside bytes (R bytes) (k.leaves bytes);
-    same = λ a c near. same_by R k a c near (λ r. elim r [ Ok rest ↦ f rest | Err at ↦ g a ]) (λ r. elim r [ Ok rest ↦ f rest | Err at ↦ g c ]) (inside a (R a) (k.leaves a)) (λ m n e _ _. same_behind f h m n e) (λ _ _. i.same a c near);
+    within = inside;
+    same = λ a c near. same_by R k a c near (λ r. elim r [ Ok rest ↦ f rest | Err at ↦ g a ]) (λ r. elim r [ Ok rest ↦ f rest | Err at ↦ g c ]) (inside a) (λ m n e _ _. same_behind f h m n e) (λ _ _. i.same a c near);
   }
     where
-      inside : (bytes : List ℕ) (r : After) → WithinAfter w bytes r → Within w bytes (elim r [ Ok rest ↦ f rest | Err at ↦ g bytes ])
-      inside bytes (Ok rest) l = wider w (f rest) l.it (h.within rest)
-      inside bytes (Err at) l = i.within bytes
+      inside : (bytes : List ℕ) → Within w bytes (elim (R bytes) [ Ok rest ↦ f rest | Err at ↦ g bytes ])
+      inside bytes = within_either (R bytes) f (λ at. g bytes) (k.leaves bytes) (λ m e. h.within m) (λ at. i.within bytes)
 
   -- what comes after a token, or a refusal at it
   pub good_token : {B : Type 0} (R : List ℕ → After) (f : List ℕ → Read B) → GoodToken R → Good w f → Good w (λ bytes. elim (R bytes) [ Ok rest ↦ f rest | Err at ↦ Err at ])
@@ -236,11 +239,6 @@ module _ (w : Texts) where
   pub tells_word : (word : List ℕ) → Tells w (is_word_at w.next word)
   unfolding is_word_at
   tells_word word = record { tells = λ a c near. elim (w.reaches a c near) [ inl here ↦ inl (ap (same_name word) (names (w.next a) (w.next c) here).fronts) | inr less ↦ inr less ] }
-
-  -- a word is taken unseen
-  pub good_after_word : {A : Type 0} (x : A) → Good w (λ bytes. Ok (x, after_word w.next bytes))
-  unfolding after_word
-  good_after_word x = good_here w _ (λ bytes. record { it = skip_left is_name_byte bytes }) (λ a c here. record { it = elim (names (w.next a) (w.next c) here).left [ inl near ↦ inl (refl, near) | inr less ↦ inr less ] })
 
   pub good_name : Good w (name_at w.next)
   unfolding name_at

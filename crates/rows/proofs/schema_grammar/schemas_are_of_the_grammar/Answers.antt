@@ -1,6 +1,6 @@
 use Rattle.rows.proofs.SchemaSpelled.{symbol_says, word_says, name_says, digits_says}
 use Rattle.rows.proofs.SchemaRead.{symbol_read, word_read, name_read, digits_read}
-use Rattle.rows.proofs.SchemaSays.{of_the_grammar}
+use Rattle.rows.proofs.SchemaReads.{of_the_grammar}
 use Rattle.rows.proofs.schema_grammar.schemas_are_of_the_grammar.Goals as goal
 
 pub returns-clause-grammar : goal.returns-clause-grammar
