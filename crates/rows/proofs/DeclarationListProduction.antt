@@ -13,7 +13,7 @@ use Rattle.rows.specs.declared.declaration.Mark.{Mark}
 use Rattle.rows.specs.SchemaToken.{symbol_at}
 use Rattle.rows.specs.Declaration.{prepend, list_at, mark_at, is_mark_at, marks_upto, marks_at}
 use Rattle.rows.specs.SchemaGrammar.{Says, Symbol, Listed, Many, MarkWords}
-use Rattle.rows.proofs.SchemaSpelled.{symbol_says}
+use Rattle.rows.proofs.SchemaSpelled.{said, symbol_found}
 use Rattle.rows.proofs.SchemaRead.{symbol_read}
 use Rattle.rows.proofs.SchemaTokenProduction.{Parting, texts_of, gaps, symbol_token}
 
@@ -107,7 +107,7 @@ unfolding symbol_after
 comma_takes = token_takes comma (record { at = []; is = refl })
 
 comma_less : (bytes rest : List ℕ) → symbol_at 44 bytes ≡ Ok rest → length rest < length bytes
-comma_less bytes rest is = comma_takes bytes rest (symbol_says 44 tt bytes rest is)
+comma_less bytes rest is = comma_takes bytes rest (said (symbol_at 44 bytes) rest (symbol_found 44 bytes) is)
 
 module _ {A : Type 0} {R : Says A} {C : List ℕ → Type 0} {item : List ℕ → Read A} (p : Production gaps R C item) (comma_ends : (bytes rest : List ℕ) → Symbol 44 tt bytes rest → C bytes) where
   abbrev on_comma : A → (List ℕ → Read (List A)) → List ℕ → After → Read (List A)

@@ -1,24 +1,20 @@
 -- Tokens of a schema that other bytes follow, and tokens that are missing.
-use Rattle.std.proofs.Common.{◌≡◌, ◌≤◌, ℕ, Bool, true, false, List, [], ◌∷◌, ◌++◌, ◌==◌, Ok, Err, inr, length, refl, ap, sym, ◌∙◌, subst, arith, if◌then◌else◌}
+use Rattle.std.proofs.Common.{◌≡◌, ◌≤◌, ℕ, true, false, List, [], ◌∷◌, ◌++◌, Ok, Err, inr, length, refl, ap, sym, ◌∙◌, subst, arith}
 use Rattle.std.specs.Prelude.{codes}
 use Rattle.std.specs.Char.{is_ascii_digit}
-use Rattle.std.specs.List.{prefix_len}
 use Rattle.std.proofs.lemmas.List.{append_assoc, append-nil}
 use Rattle.std.proofs.lemmas.Bool.{and_parts}
 use Rattle.std.proofs.lemmas.Bool.Decides.{nat_tests}
 use Rattle.values.specs.Names.{same_name}
-use Rattle.tokens.specs.Token.{After, Read, prefix_while, skip_while}
-use Rattle.tokens.specs.Token.{symbol_at as symbol_after}
+use Rattle.tokens.specs.Token.{After, Read}
 use Rattle.tokens.specs.Word.{is_name_byte}
-use Rattle.tokens.specs.Word.{word_at as word_after}
 use Rattle.tokens.specs.Name.{reserved_words, is_reserved, is_name}
-use Rattle.tokens.specs.Name.{name_at as name_after}
 use Rattle.tokens.specs.Run.{AllBytes, Ends}
 use Rattle.tokens.proofs.TokenFollows.{Spelling, IsClean, ends_so, Moved, Moves, all_from, all_test, is_plain_word}
 use Rattle.tokens.proofs.TokenGoing.{Goes, Reads, ReadsAfter}
-use Rattle.rows.specs.SchemaToken.{is_separator, next, symbol_at, is_word_at, after_word, word_at, name_at, number_from, digits_at}
+use Rattle.rows.specs.SchemaToken.{is_separator, next, symbol_at, word_at, name_at, number_from, digits_at}
 use Rattle.rows.specs.SchemaGrammar.{Piece, blank, comment, last_comment, Gap, BeginsToken, IsNext, Symbol, Letters, Word, Name, Digits}
-use Rattle.rows.proofs.SchemaSpelled.{next_is, symbol_says, word_says, name_says, digits_says}
+use Rattle.rows.proofs.SchemaSpelled.{next_is, Found, symbol_found, word_found, name_found, digits_found}
 
 -- ---- gaps
 
@@ -158,7 +154,7 @@ pub record UsualToken {A : Type 0} (P : A → Spelling) : Type 0 where
   pub begins : (tail : List ℕ) → BeginsToken (text ++ tail)
   pub holds : (bytes tail : List ℕ) → IsNext bytes (text ++ tail) → IsClean tail → P value bytes tail
 
-pub token_goes : {A : Type 0} {P : A → Spelling} (bytes : List ℕ) → UsualToken P → Goes P bytes (next bytes)
+token_goes : {A : Type 0} {P : A → Spelling} (bytes : List ℕ) → UsualToken P → Goes P bytes (next bytes)
 token_goes bytes t =
     let n = next_is bytes (next bytes) refl in
     let w = before_fault n.gap bytes (next bytes) n.skipped in
@@ -171,7 +167,7 @@ token_goes bytes t =
       goes = λ tail clean. t.holds (w.front ++ 10 ∷ (t.text ++ tail)) tail (record { gap = w.gap; skipped = w.goes (t.text ++ tail); begins = t.begins tail }) clean;
     }
 
-pub symbol_usual : (symbol : ℕ) → is_separator symbol ≡ false → (symbol ≡ 45 → ⊥) → UsualToken (Symbol symbol)
+symbol_usual : (symbol : ℕ) → is_separator symbol ≡ false → (symbol ≡ 45 → ⊥) → UsualToken (Symbol symbol)
 symbol_usual symbol separates hyphen = record {
   text = symbol ∷ [];
   value = tt;
@@ -182,7 +178,7 @@ symbol_usual symbol separates hyphen = record {
 letters_hold : (b : ℕ) (others bytes tail : List ℕ) → AllBytes is_name_byte (b ∷ others) → IsNext bytes ((b ∷ others) ++ tail) → IsClean tail → Letters (b ∷ others) bytes tail
 letters_hold b others bytes tail all n clean = record { next = n; are_letters = all; as_many = ends_so is_name_byte refl refl [] tail clean tt }
 
-pub word_usual : (b : ℕ) (others : List ℕ) → is_plain_word (b ∷ others) ≡ true → UsualToken (Word (b ∷ others))
+word_usual : (b : ℕ) (others : List ℕ) → is_plain_word (b ∷ others) ≡ true → UsualToken (Word (b ∷ others))
 word_usual b others is =
     let both = and_parts (all_test is_name_byte (b ∷ others)) (same_name (b ∷ others) (b ∷ others)) is in
     let all = all_from is_name_byte (b ∷ others) both.0 in
@@ -197,7 +193,7 @@ a_name : is_name (codes "t") ≡ true
 unfolding is_name is_reserved reserved_words
 a_name = refl
 
-pub name_usual : UsualToken Name
+name_usual : UsualToken Name
 name_usual = record {
   text = codes "t";
   value = codes "t";
@@ -205,7 +201,7 @@ name_usual = record {
   holds = λ bytes tail n clean. record { letters = letters_hold 116 [] bytes tail (refl, tt) n clean; fits = a_name };
 }
 
-pub digits_usual : UsualToken Digits
+digits_usual : UsualToken Digits
 digits_usual = record {
   text = 49 ∷ [];
   value = 1;
@@ -215,76 +211,24 @@ digits_usual = record {
 
 -- ---- how they are read
 
--- a token that says nothing, as a spelling
-abbrev pub Plain : (Unit {0} → Spelling) → Spelling
-Plain P = P tt
-
-reads_token : {P : Unit {0} → Spelling} (bytes : List ℕ) (r : After) → ((rest : List ℕ) → r ≡ Ok rest → P tt bytes rest) → ((at : List ℕ) → r ≡ Err at → at ≡ next bytes) → UsualToken P → ReadsAfter (Plain P) bytes r
-reads_token bytes (Ok rest) says stops t = record { it = says rest refl }
-reads_token {P} bytes (Err at) says stops t =
+reads_token : {P : Unit {0} → Spelling} (bytes : List ℕ) (r : After) → Found (P tt bytes) bytes r → UsualToken P → ReadsAfter (P tt) bytes r
+reads_token bytes (Ok rest) f t = record { it = f.it }
+reads_token {P} bytes (Err at) f t =
     let c = token_goes bytes t in
-    record { it = subst (λ (l : List ℕ). Goes {A = Unit {0}} (λ _. P tt) bytes l) (sym (stops at refl)) (record { front = c.front; place = c.place; more = c.more; value = tt; clean = c.clean; goes = c.goes }) }
+    record { it = subst (λ (l : List ℕ). Goes {A = Unit {0}} (λ _. P tt) bytes l) (sym f.it) (record { front = c.front; place = c.place; more = c.more; value = tt; clean = c.clean; goes = c.goes }) }
 
-pub symbol_stops : (symbol : ℕ) (bytes at : List ℕ) → symbol_at symbol bytes ≡ Err at → at ≡ next bytes
-unfolding symbol_after
-symbol_stops symbol bytes at e = found (next bytes) e
-  where
-    at_of : After → List ℕ
-    at_of (Ok rest) = rest
-    at_of (Err at) = at
+pub symbol_reads : (symbol : ℕ) → is_separator symbol ≡ false → (symbol ≡ 45 → ⊥) → (bytes : List ℕ) → ReadsAfter (Symbol symbol tt) bytes (symbol_at symbol bytes)
+symbol_reads symbol separates hyphen bytes = reads_token bytes _ (symbol_found symbol bytes) (symbol_usual symbol separates hyphen)
 
-    by_byte : (b : ℕ) (bs : List ℕ) (t : Bool) → ◌≡◌ {A = After} (if t then Ok bs else Err (b ∷ bs)) (Err at) → at ≡ b ∷ bs
-    by_byte b bs true e = cc
-    by_byte b bs false e = sym (ap at_of e)
+pub word_reads : (b : ℕ) (others : List ℕ) → is_plain_word (b ∷ others) ≡ true → (bytes : List ℕ) → ReadsAfter (Word (b ∷ others) tt) bytes (word_at (b ∷ others) bytes)
+word_reads b others is bytes = reads_token bytes _ (word_found (b ∷ others) bytes) (word_usual b others is)
 
-    found : (here : List ℕ) → ◌≡◌ {A = After} (elim here [ [] ↦ Err [] | b ∷ bs ↦ if b == symbol then Ok bs else Err (b ∷ bs) ]) (Err at) → at ≡ here
-    found [] e = sym (ap at_of e)
-    found (b ∷ bs) e = by_byte b bs (b == symbol) e
-
-pub symbol_reads : (symbol : ℕ) → is_separator symbol ≡ false → (symbol ≡ 45 → ⊥) → (bytes : List ℕ) → ReadsAfter (Plain (Symbol symbol)) bytes (symbol_at symbol bytes)
-symbol_reads symbol separates hyphen bytes = reads_token bytes _ (λ rest e. symbol_says symbol tt bytes rest e) (λ at e. symbol_stops symbol bytes at e) (symbol_usual symbol separates hyphen)
-
-pub word_stops : (word bytes at : List ℕ) → word_at word bytes ≡ Err at → at ≡ next bytes
-unfolding word_after
-word_stops word bytes at e = by_test (is_word_at word bytes) e
-  where
-    at_of : After → List ℕ
-    at_of (Ok rest) = rest
-    at_of (Err at) = at
-
-    by_test : (t : Bool) → ◌≡◌ {A = After} (if t then Ok (after_word bytes) else Err (next bytes)) (Err at) → at ≡ next bytes
-    by_test true e = cc
-    by_test false e = sym (ap at_of e)
-
-pub word_reads : (b : ℕ) (others : List ℕ) → is_plain_word (b ∷ others) ≡ true → (bytes : List ℕ) → ReadsAfter (Plain (Word (b ∷ others))) bytes (word_at (b ∷ others) bytes)
-word_reads b others is bytes = reads_token bytes _ (λ rest e. word_says (b ∷ others) tt bytes rest e) (λ at e. word_stops (b ∷ others) bytes at e) (word_usual b others is)
-
-reads_value : {A : Type 0} {P : A → Spelling} (bytes : List ℕ) (r : Read A) → ((x : A) (rest : List ℕ) → r ≡ Ok (x, rest) → P x bytes rest) → ((at : List ℕ) → r ≡ Err at → at ≡ next bytes) → UsualToken P → Reads P bytes r
-reads_value bytes (Ok (x, rest)) says stops t = record { it = says x rest refl }
-reads_value {P = P} bytes (Err at) says stops t = record { it = subst (λ (l : List ℕ). Goes P bytes l) (sym (stops at refl)) (token_goes bytes t) }
-
-value_at : {A : Type 0} → Read A → List ℕ
-value_at (Ok x) = x.1
-value_at (Err at) = at
-
-pub name_stops : (bytes at : List ℕ) → name_at bytes ≡ Err at → at ≡ next bytes
-unfolding name_after value_at
-name_stops bytes at e = by_test (is_name (prefix_while is_name_byte (next bytes))) e
-  where
-    by_test : (t : Bool) → ◌≡◌ {A = Read (List ℕ)} (if t then Ok (prefix_while is_name_byte (next bytes), skip_while is_name_byte (next bytes)) else Err (next bytes)) (Err at) → at ≡ next bytes
-    by_test true e = cc
-    by_test false e = sym (ap value_at e)
-
-pub digits_stop : (bytes at : List ℕ) → digits_at bytes ≡ Err at → at ≡ next bytes
-unfolding digits_at value_at
-digits_stop bytes at e = by_test (prefix_len is_ascii_digit (next bytes) == 0) e
-  where
-    by_test : (t : Bool) → ◌≡◌ {A = Read ℕ} (if t then Err (next bytes) else Ok (number_from 0 (prefix_while is_ascii_digit (next bytes)), skip_while is_ascii_digit (next bytes))) (Err at) → at ≡ next bytes
-    by_test true e = sym (ap value_at e)
-    by_test false e = cc
+reads_value : {A : Type 0} {P : A → Spelling} (bytes : List ℕ) (r : Read A) → Found (λ x. P x.0 bytes x.1) bytes r → UsualToken P → Reads P bytes r
+reads_value bytes (Ok x) f t = record { it = f.it }
+reads_value {P = P} bytes (Err at) f t = record { it = subst (λ (l : List ℕ). Goes P bytes l) (sym f.it) (token_goes bytes t) }
 
 pub name_reads : (bytes : List ℕ) → Reads Name bytes (name_at bytes)
-name_reads bytes = reads_value bytes _ (λ name rest e. name_says name bytes rest e) (λ at e. name_stops bytes at e) name_usual
+name_reads bytes = reads_value bytes _ (name_found bytes) name_usual
 
 pub digits_reads : (bytes : List ℕ) → Reads Digits bytes (digits_at bytes)
-digits_reads bytes = reads_value bytes _ (λ n rest e. digits_says n bytes rest e) (λ at e. digits_stop bytes at e) digits_usual
+digits_reads bytes = reads_value bytes _ (digits_found bytes) digits_usual

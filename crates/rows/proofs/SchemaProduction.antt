@@ -17,7 +17,7 @@ use Rattle.tokens.proofs.TokenNothingLeft.{Leaving, all_then}
 use Rattle.rows.specs.SchemaToken.{next, symbol_at}
 use Rattle.rows.specs.Declaration.{prepend, create_at, is_nothing, is_end_at, more_at, creates_upto, creates_at}
 use Rattle.rows.specs.SchemaGrammar.{Symbol, CreateText, IsEnd, SchemaText}
-use Rattle.rows.proofs.SchemaSpelled.{next_is, symbol_says}
+use Rattle.rows.proofs.SchemaSpelled.{next_is, said, symbol_found}
 use Rattle.rows.proofs.SchemaRead.{next_reads, symbol_read, word_is_at}
 use Rattle.rows.proofs.SchemaSame.{tells_end}
 use Rattle.rows.proofs.SchemaTokenProduction.{Parting, texts_of, gaps, symbol_token}
@@ -32,7 +32,7 @@ unfolding symbol_after
 semicolon_takes = token_takes semicolon (record { at = []; is = refl })
 
 semicolon_less : (bytes rest : List ℕ) → symbol_at 59 bytes ≡ Ok rest → length rest < length bytes
-semicolon_less bytes rest is = semicolon_takes bytes rest (symbol_says 59 tt bytes rest is)
+semicolon_less bytes rest is = semicolon_takes bytes rest (said (symbol_at 59 bytes) rest (symbol_found 59 bytes) is)
 
 -- ---- the end of a text
 

@@ -1,12 +1,12 @@
 -- What is read is of the grammar: tokens.
 use Rattle.std.proofs.Common.{◌≡◌, ℕ, ◌≤◌, List, [], ◌∷◌, ◌++◌, ◌==◌, ◌&&◌, ◌⊎◌, inl, inr, Bool, true, false, Ok, Err, length, refl, sym, subst, ap, ◌∙◌, arith, if◌then◌else◌}
-use Rattle.std.specs.Prelude.{not}
+use Rattle.std.specs.Prelude.{Result, not}
 use Rattle.std.specs.List.{prefix_len}
 use Rattle.std.proofs.lemmas.List.{take-append-drop}
 use Rattle.std.proofs.lemmas.List.Folds.{length-prefix_len}
 use Rattle.std.proofs.lemmas.Bool.Decides.{nat_tests}
 use Rattle.std.specs.Char.{is_ascii_digit}
-use Rattle.tokens.specs.Token.{After, Read, prefix_while, skip_while}
+use Rattle.tokens.specs.Token.{prefix_while, skip_while}
 use Rattle.tokens.specs.Token.{symbol_at as symbol_after}
 use Rattle.tokens.specs.Word.{is_name_byte}
 use Rattle.tokens.specs.Word.{is_word_at as is_word_after, after_word as rest_of_word, word_at as word_after}
@@ -122,70 +122,68 @@ letters_at bytes = record {
   as_many = rest_ends is_name_byte (next bytes);
 }
 
-pub same_read : {A : Type 0} (x y : A) (r s : List ℕ) → ◌≡◌ {A = Read A} (Ok (x, r)) (Ok (y, s)) → (x ≡ y) × (r ≡ s)
-same_read x y r s e = (ap (λ o. elim o [ Ok p ↦ p.0 | Err e ↦ x ]) e, ap (λ o. elim o [ Ok p ↦ p.1 | Err e ↦ r ]) e)
+-- ---- what is read at the next token: it, or the bytes from it on
 
-pub same_rest : (r s : List ℕ) → ◌≡◌ {A = After} (Ok r) (Ok s) → r ≡ s
-same_rest r s e = ap (λ (o : After). elim o as (λ _. List ℕ) [ Ok p ↦ p | Err e ↦ r ]) e
+abbrev IsFound : {X : Type 0} → (X → Type 0) → List ℕ → Result X (List ℕ) → Type 0
+IsFound Q bytes (Ok x) = Q x
+IsFound Q bytes (Err at) = at ≡ next bytes
 
-pub symbol_says : (symbol : ℕ) (x : Unit {0}) (bytes rest : List ℕ) → symbol_at symbol bytes ≡ Ok rest → Symbol symbol x bytes rest
+pub record Found {X : Type 0} (Q : X → Type 0) (bytes : List ℕ) (r : Result X (List ℕ)) : Type 0 where
+  pub it : IsFound Q bytes r
+
+pub said : {X : Type 0} {Q : X → Type 0} {bytes : List ℕ} (r : Result X (List ℕ)) (x : X) → Found Q bytes r → r ≡ Ok x → Q x
+said {Q = Q} {bytes = bytes} r x f is = let g : Found Q bytes (Ok x) = subst (Found Q bytes) is f in g.it
+
+pub symbol_found : (symbol : ℕ) (bytes : List ℕ) → Found (Symbol symbol tt bytes) bytes (symbol_at symbol bytes)
 unfolding symbol_after
-symbol_says symbol x bytes rest e = found (next bytes) refl e
+symbol_found symbol bytes = by_next (next bytes) refl
   where
-    by_byte : (b : ℕ) (bs : List ℕ) (t : Bool) → (b == symbol) ≡ t → next bytes ≡ b ∷ bs → ◌≡◌ {A = After} (if t then Ok bs else Err (b ∷ bs)) (Ok rest) → Symbol symbol x bytes rest
-    by_byte b bs true q at e = record { next = next_is bytes (symbol ∷ rest) (at ∙ ap (λ n. n ∷ bs) (equal b symbol q) ∙ ap (λ l. symbol ∷ l) (same_rest bs rest e)) }
-    by_byte b bs false q at e = cc
+    by_byte : (b : ℕ) (bs : List ℕ) (t : Bool) → (b == symbol) ≡ t → next bytes ≡ b ∷ bs → Found {X = List ℕ} (Symbol symbol tt bytes) bytes (if t then Ok bs else Err (b ∷ bs))
+    by_byte b bs true is at = record { it = record { next = next_is bytes (symbol ∷ bs) (at ∙ ap (λ n. n ∷ bs) (equal b symbol is)) } }
+    by_byte b bs false is at = record { it = sym at }
 
-    found : (at : List ℕ) → next bytes ≡ at → ◌≡◌ {A = After} (elim at [ [] ↦ Err [] | b ∷ bs ↦ if b == symbol then Ok bs else Err (b ∷ bs) ]) (Ok rest) → Symbol symbol x bytes rest
-    found [] at e = cc
-    found (b ∷ bs) at e = by_byte b bs (b == symbol) refl at e
+    by_next : (at : List ℕ) → next bytes ≡ at → Found {X = List ℕ} (Symbol symbol tt bytes) bytes (elim at [ [] ↦ Err [] | b ∷ bs ↦ if b == symbol then Ok bs else Err (b ∷ bs) ])
+    by_next [] at = record { it = sym at }
+    by_next (b ∷ bs) at = by_byte b bs (b == symbol) refl at
 
 pub word_next : (word bytes : List ℕ) → is_word_at word bytes ≡ true → Word word tt bytes (after_word bytes)
 unfolding is_word_after rest_of_word
 word_next word bytes e = record { name = prefix_while is_name_byte (next bytes); letters = letters_at bytes; spelled = e }
 
-pub word_says : (word : List ℕ) (x : Unit {0}) (bytes rest : List ℕ) → word_at word bytes ≡ Ok rest → Word word x bytes rest
+pub word_found : (word bytes : List ℕ) → Found (Word word tt bytes) bytes (word_at word bytes)
 unfolding word_after
-word_says word x bytes rest e = by_test (is_word_at word bytes) refl e
+word_found word bytes = by_test (is_word_at word bytes) refl
   where
-    by_test : (t : Bool) → is_word_at word bytes ≡ t → ◌≡◌ {A = After} (if t then Ok (after_word bytes) else Err (next bytes)) (Ok rest) → Word word x bytes rest
-    by_test true q e = subst (λ r. Word word tt bytes r) (same_rest (after_word bytes) rest e) (word_next word bytes q)
-    by_test false q e = cc
+    by_test : (t : Bool) → is_word_at word bytes ≡ t → Found {X = List ℕ} (Word word tt bytes) bytes (if t then Ok (after_word bytes) else Err (next bytes))
+    by_test true is = record { it = word_next word bytes is }
+    by_test false is = record { it = refl }
 
-pub name_says : (name bytes rest : List ℕ) → name_at bytes ≡ Ok (name, rest) → Name name bytes rest
+pub name_found : (bytes : List ℕ) → Found (λ x. Name x.0 bytes x.1) bytes (name_at bytes)
 unfolding name_after
-name_says name bytes rest e = by_test (is_name (prefix_while is_name_byte (next bytes))) refl e
+name_found bytes = by_test (is_name (prefix_while is_name_byte (next bytes))) refl
   where
     by_test : (t : Bool) → is_name (prefix_while is_name_byte (next bytes)) ≡ t
-        → ◌≡◌ {A = Read (List ℕ)} (if t then Ok (prefix_while is_name_byte (next bytes), skip_while is_name_byte (next bytes)) else Err (next bytes)) (Ok (name, rest)) → Name name bytes rest
-    by_test true q e =
-        let parts = same_read (prefix_while is_name_byte (next bytes)) name (skip_while is_name_byte (next bytes)) rest e in
-        subst (λ n. Name n bytes rest) parts.0 (subst (λ r. Name (prefix_while is_name_byte (next bytes)) bytes r) parts.1 (record { letters = letters_at bytes; fits = q }))
-    by_test false q e = cc
+        → Found {X = List ℕ × List ℕ} (λ x. Name x.0 bytes x.1) bytes (if t then Ok (prefix_while is_name_byte (next bytes), skip_while is_name_byte (next bytes)) else Err (next bytes))
+    by_test true is = record { it = record { letters = letters_at bytes; fits = is } }
+    by_test false is = record { it = refl }
 
 some_digits : (bs : List ℕ) → (prefix_len is_ascii_digit bs == 0) ≡ false → 1 ≤ length (prefix_while is_ascii_digit bs)
 some_digits bs is = let e = length-prefix_len is_ascii_digit bs in grind (arith, nat_tests, e)
 
-pub digits_says : (n : ℕ) (bytes rest : List ℕ) → digits_at bytes ≡ Ok (n, rest) → Digits n bytes rest
+pub digits_found : (bytes : List ℕ) → Found (λ x. Digits x.0 bytes x.1) bytes (digits_at bytes)
 unfolding digits_at
-digits_says n bytes rest e = by_test (prefix_len is_ascii_digit at == 0) refl e
+digits_found bytes = by_test (prefix_len is_ascii_digit (next bytes) == 0) refl
   where
-    at : List ℕ
-    at = next bytes
-
-    digits : List ℕ
-    digits = prefix_while is_ascii_digit at
-
-    by_test : (t : Bool) → (prefix_len is_ascii_digit at == 0) ≡ t
-        → ◌≡◌ {A = Read ℕ} (if t then Err at else Ok (number_from 0 digits, skip_while is_ascii_digit at)) (Ok (n, rest)) → Digits n bytes rest
-    by_test true q e = cc
-    by_test false q e =
-        let parts = same_read (number_from 0 digits) n (skip_while is_ascii_digit at) rest e in
-        subst (λ m. Digits m bytes rest) parts.0 (subst (λ r. Digits (number_from 0 digits) bytes r) parts.1 (record {
-          digits = digits;
-          next = next_is bytes _ (sym (front-skip is_ascii_digit at));
-          some = some_digits at q;
-          are_digits = front_passes is_ascii_digit at;
-          as_many = rest_ends is_ascii_digit at;
-          number = refl;
-        }))
+    by_test : (t : Bool) → (prefix_len is_ascii_digit (next bytes) == 0) ≡ t
+        → Found {X = ℕ × List ℕ} (λ x. Digits x.0 bytes x.1) bytes (if t then Err (next bytes) else Ok (number_from 0 (prefix_while is_ascii_digit (next bytes)), skip_while is_ascii_digit (next bytes)))
+    by_test true is = record { it = refl }
+    by_test false is = record {
+      it = record {
+        digits = prefix_while is_ascii_digit (next bytes);
+        next = next_is bytes _ (sym (front-skip is_ascii_digit (next bytes)));
+        some = some_digits (next bytes) is;
+        are_digits = front_passes is_ascii_digit (next bytes);
+        as_many = rest_ends is_ascii_digit (next bytes);
+        number = refl;
+      };
+    }

@@ -9,10 +9,10 @@ use Rattle.tokens.proofs.TokenSame.{good_by, good_symbol, good_word, good_name}
 use Rattle.tokens.proofs.TokenProduction.{Gaps, Begins, Token, Phrase, Production, Any, phrase}
 use Rattle.rows.specs.SchemaToken.{is_separator, next, symbol_at, word_at, name_at, digits_at}
 use Rattle.rows.specs.SchemaGrammar.{BeginsToken, Symbol, Word, Name, Digits}
-use Rattle.rows.proofs.SchemaSpelled.{next_is}
+use Rattle.rows.proofs.SchemaSpelled.{next_is, Found, symbol_found, word_found, name_found, digits_found}
 use Rattle.rows.proofs.SchemaRead.{symbol_read, word_read, name_read, digits_read}
 use Rattle.rows.proofs.SchemaSame.{Tokens, texts, good_digits}
-use Rattle.rows.proofs.SchemaGoing.{symbol_moves, word_moves, name_moves, digits_move, symbol_reads, word_reads, name_reads, digits_reads, symbol_stops, word_stops, name_stops, digits_stop}
+use Rattle.rows.proofs.SchemaGoing.{symbol_moves, word_moves, name_moves, digits_move, symbol_reads, word_reads, name_reads, digits_reads}
 
 -- two schemas that are the same up to a token and in it
 pub record Parting : Type 0 where
@@ -28,9 +28,9 @@ texts_of s = texts s.first s.rest s.other s.tokens
 abbrev pub gaps : Gaps
 gaps = record { Starts = BeginsToken; Parting = Parting; texts_of = texts_of }
 
-begins_next : {X : Type 0} (bytes : List ℕ) (r : Result X (List ℕ)) → ((at : List ℕ) → r ≡ Err at → at ≡ next bytes) → Begins gaps r
-begins_next bytes (Ok x) stops = record { it = tt }
-begins_next bytes (Err at) stops = record { it = subst BeginsToken (sym (stops at refl)) (next_is bytes (next bytes) refl).begins }
+begins_next : {X : Type 0} {Q : X → Type 0} (bytes : List ℕ) (r : Result X (List ℕ)) → Found Q bytes r → Begins gaps r
+begins_next bytes (Ok x) f = record { it = tt }
+begins_next bytes (Err at) f = record { it = subst BeginsToken (sym f.it) (next_is bytes (next bytes) refl).begins }
 
 -- a byte that begins no gap
 abbrev pub begins_gap : ℕ → Bool
@@ -46,7 +46,7 @@ pub symbol_token : (c : ℕ) → begins_gap c ≡ false → Token gaps (Symbol c
 symbol_token c is = record {
   moves = symbol_moves c (separates c is) (hyphen c is) tt;
   reads = symbol_reads c (separates c is) (hyphen c is);
-  begins = λ bytes. begins_next bytes (symbol_at c bytes) (symbol_stops c bytes);
+  begins = λ bytes. begins_next bytes (symbol_at c bytes) (symbol_found c bytes);
   whole = symbol_read c tt;
   same = λ s. good_symbol (texts_of s) c;
 }
@@ -63,7 +63,7 @@ word [] is = cc
 word (b ∷ others) is = record {
   moves = word_moves (b ∷ others) refl tt;
   reads = word_reads b others (and_parts (is_plain_word (b ∷ others)) (nat_lt 0 (length (b ∷ others))) is).0;
-  begins = λ bytes. begins_next bytes (word_at (b ∷ others) bytes) (word_stops (b ∷ others) bytes);
+  begins = λ bytes. begins_next bytes (word_at (b ∷ others) bytes) (word_found (b ∷ others) bytes);
   whole = word_read (b ∷ others) tt;
   same = λ s. good_by (texts_of s) (word_at (b ∷ others)) (good_word (texts_of s) (b ∷ others));
 }
@@ -72,7 +72,7 @@ pub name : Production gaps Name Any name_at
 name = record {
   moves = name_moves;
   reads = name_reads;
-  begins = λ bytes. begins_next bytes (name_at bytes) (name_stops bytes);
+  begins = λ bytes. begins_next bytes (name_at bytes) (name_found bytes);
   whole = λ x bytes rest is c. name_read x bytes rest is;
   same = λ s. good_name (texts_of s);
 }
@@ -81,7 +81,7 @@ pub digits : Production gaps Digits Any digits_at
 digits = record {
   moves = digits_move;
   reads = digits_reads;
-  begins = λ bytes. begins_next bytes (digits_at bytes) (digits_stop bytes);
+  begins = λ bytes. begins_next bytes (digits_at bytes) (digits_found bytes);
   whole = λ x bytes rest is c. digits_read x bytes rest is;
   same = λ s. good_digits s.first s.rest s.other s.tokens;
 }
