@@ -110,7 +110,7 @@ impl<T: Drop> Slots<T> {
 }
 
 impl<T: Share + Drop> Slots<T> {
-    /// Replaces the item at a place.
+    /// Replaces the item at a place. Of a shared tree the item stands beside it then.
     pub fn set(&mut self, place: usize, item: T) -> Mem<()>
         requires { place < length self.old }
         ensures ok { OnOk result (self.new ≡ slice_set self.old place item) }
@@ -119,6 +119,9 @@ impl<T: Share + Drop> Slots<T> {
     {
         if let Some(at) = find(&self.beside, place) {
             return set_at(&mut self.beside, self.alloc, at, item);
+        }
+        if is_shared(&self.root) {
+            return self.put(place, item);
         }
         set_in(&mut self.root, self.alloc, place, item)
     }
